@@ -1,0 +1,93 @@
+-- What a device is at one moment, and what each of its calls may do to that (the disk model, docs/THEOREM.md).
+use Rattle.std.specs.Prelude.{◌≡◌, ◌≢◌, ◌⊎◌, ◌≤◌, ℕ, ◌+◌, ◌%◌, ◌^◌, Bool, IsTrue, List, Result, OnOk, IfErr}
+use Rattle.disk.specs.Image.{Torn}
+use Rattle.disk.specs.declared.DiskError.{DiskError}
+use Rattle.disk.specs.declared.DiskError.TheVariants.{Fault}
+
+-- a device at one moment
+pub record Device : Type 1 where
+  -- how many octets it has
+  pub size : ℕ
+  -- whether it tells its octets; where it doesn't, nothing is said of its content and images
+  pub tells : Bool
+  -- the octets that a read gives
+  pub content : List ℕ
+  -- the images that a crash at this moment may leave
+  pub may_leave : List ℕ → Type 0
+  -- the time, which never falls
+  pub clock : ℕ
+  -- the images that a crash at some moment since that time might have left
+  pub left_since : ℕ → List ℕ → Type 0
+  -- how many reads, writes and syncs were asked and how many calls have failed, each as a u64 that wraps
+  pub reads : ℕ
+  pub writes : ℕ
+  pub syncs : ℕ
+  pub failures : ℕ
+
+-- one more, as a u64 counts
+abbrev pub one_more : ℕ → ℕ
+one_more n = (n + 1) % 2 ^ 64
+
+-- a crash leaves this image and no other
+abbrev pub LeavesOnly : Device → List ℕ → Type 0
+LeavesOnly device image = (c : List ℕ) → device.may_leave c → c ≡ image
+
+-- a crash leaves nothing that it could not have left before
+abbrev pub LeavesNoMore : Device → Device → Type 0
+LeavesNoMore old new = (c : List ℕ) → new.may_leave c → old.may_leave c
+
+-- an image that might have been left has any octets in the n from that place on
+abbrev pub IsTornImage : ℕ → ℕ → Device → List ℕ → Type 0
+IsTornImage at n old c = (d : List ℕ) × old.may_leave d × Torn at n d c
+
+-- each image is an earlier one with any octets in the n from that place on
+abbrev pub TearsAt : ℕ → ℕ → Device → Device → Type 0
+TearsAt at n old new = (c : List ℕ) → new.may_leave c → IsTornImage at n old c
+
+-- what no call changes, and that time goes on
+pub record Elapses (old new : Device) : Type 0 where
+  pub size : new.size ≡ old.size
+  pub tells : new.tells ≡ old.tells
+  pub later : old.clock ≤ new.clock
+
+-- a crash since an earlier time might have left what it might have left before
+abbrev pub LeftNoMore : Device → Device → Type 0
+LeftNoMore old new = (t : ℕ) (c : List ℕ) → t ≤ old.clock → new.left_since t c → old.left_since t c
+
+-- or, within or after a write, an image torn where that wrote
+abbrev pub LeftTornAt : ℕ → ℕ → Device → Device → Type 0
+LeftTornAt at n old new = (t : ℕ) (c : List ℕ) → t ≤ old.clock → new.left_since t c → old.left_since t c ⊎ IsTornImage at n old c
+
+-- the count of failures stays at `Ok` and changes at a fault
+pub record HasCause {T : Type 0} (result : Result T DiskError) (old new : Device) : Type 0 where
+  pub ok : OnOk result (new.failures ≡ old.failures)
+  pub fault : IfErr result (λ error. error ≡ Fault → new.failures ≢ old.failures)
+
+-- which calls were asked: one read, one write or one sync, and no other
+pub record IsRead (old new : Device) : Type 0 where
+  pub reads : new.reads ≡ one_more old.reads
+  pub writes : new.writes ≡ old.writes
+  pub syncs : new.syncs ≡ old.syncs
+
+pub record IsWrite (old new : Device) : Type 0 where
+  pub reads : new.reads ≡ old.reads
+  pub writes : new.writes ≡ one_more old.writes
+  pub syncs : new.syncs ≡ old.syncs
+
+pub record IsSync (old new : Device) : Type 0 where
+  pub reads : new.reads ≡ old.reads
+  pub writes : new.writes ≡ old.writes
+  pub syncs : new.syncs ≡ one_more old.syncs
+
+-- all that a device means is as it was
+pub record IsUnchanged (old new : Device) : Type 0 where
+  pub size : new.size ≡ old.size
+  pub tells : new.tells ≡ old.tells
+  pub content : new.content ≡ old.content
+  pub may_leave : (c : List ℕ) → (new.may_leave c → old.may_leave c) × (old.may_leave c → new.may_leave c)
+  pub clock : new.clock ≡ old.clock
+  pub left_since : (t : ℕ) (c : List ℕ) → (new.left_since t c → old.left_since t c) × (old.left_since t c → new.left_since t c)
+  pub reads : new.reads ≡ old.reads
+  pub writes : new.writes ≡ old.writes
+  pub syncs : new.syncs ≡ old.syncs
+  pub failures : new.failures ≡ old.failures

@@ -1,0 +1,74 @@
+//! A block device: an array of octets that a crash may leave torn where it was written since the last good sync.
+//! `specs/Device.antt` says what a device is at one moment; the clauses of `Disk` say what each call does to that.
+#![tactic(auto)]
+
+ghost use Rattle.std.specs.Prelude.{◌≡◌, ◌+◌, ◌≤◌, List, ℕ, IsTrue, length, OnOk};
+ghost use Rattle.disk.specs.Device.{Device, Elapses, HasCause, IsRead, IsSync, IsUnchanged, IsWrite, LeavesOnly, LeavesNoMore, LeftNoMore, LeftTornAt, TearsAt};
+ghost use Rattle.disk.specs.Image.{part, overwritten};
+
+/// Why a device call was refused.
+#[derive(Clone, Copy, Debug, PartialEq, Eq)]
+pub enum DiskError {
+    /// The device failed in this call.
+    Fault,
+}
+
+pub trait Disk {
+    /// What the device is at this moment.
+    ghost device: { Self → Device };
+
+    /// How many octets there are.
+    fn len(&self) -> u64
+        ensures { result ≡ (device self.now).size };
+
+    /// Reads the octets from `at` on, as many as there is room for. A fault leaves the room with any octets.
+    fn read(&mut self, at: u64, into: &mut [u8]) -> Result<(), DiskError>
+        requires { at + length into.old ≤ (device self.old).size }
+        ensures value { IsTrue (device self.old).tells → OnOk result (into.new ≡ part at (length into.old) (device self.old).content) }
+        ensures content { IsTrue (device self.old).tells → OnOk result ((device self.new).content ≡ (device self.old).content) }
+        ensures crash { IsTrue (device self.old).tells → LeavesNoMore (device self.old) (device self.new) }
+        ensures since { IsTrue (device self.old).tells → LeftNoMore (device self.old) (device self.new) }
+        ensures time { Elapses (device self.old) (device self.new) }
+        ensures call { IsRead (device self.old) (device self.new) }
+        ensures cause { HasCause result (device self.old) (device self.new) };
+
+    /// Writes octets from `at` on. Until a good sync, a crash may leave any octets there, also after a fault.
+    fn write(&mut self, at: u64, from: &[u8]) -> Result<(), DiskError>
+        requires { at + length from.now ≤ (device self.old).size }
+        ensures content { IsTrue (device self.old).tells → OnOk result ((device self.new).content ≡ overwritten at from.now (device self.old).content) }
+        ensures crash { IsTrue (device self.old).tells → TearsAt at (length from.now) (device self.old) (device self.new) }
+        ensures since { IsTrue (device self.old).tells → LeftTornAt at (length from.now) (device self.old) (device self.new) }
+        ensures time { Elapses (device self.old) (device self.new) }
+        ensures call { IsWrite (device self.old) (device self.new) }
+        ensures cause { HasCause result (device self.old) (device self.new) };
+
+    /// After a good one, a crash leaves exactly what a read gives. A fault makes nothing durable.
+    fn sync(&mut self) -> Result<(), DiskError>
+        ensures durable { IsTrue (device self.old).tells → OnOk result (LeavesOnly (device self.new) (device self.old).content) }
+        ensures content { IsTrue (device self.old).tells → OnOk result ((device self.new).content ≡ (device self.old).content) }
+        ensures crash { IsTrue (device self.old).tells → LeavesNoMore (device self.old) (device self.new) }
+        ensures since { IsTrue (device self.old).tells → LeftNoMore (device self.old) (device self.new) }
+        ensures time { Elapses (device self.old) (device self.new) }
+        ensures call { IsSync (device self.old) (device self.new) }
+        ensures cause { HasCause result (device self.old) (device self.new) };
+
+    /// Each image has as many octets as the device.
+    ghost image_size: { (d : Self) (c : List ℕ) → IsTrue (device d).tells → (device d).may_leave c → length c ≡ (device d).size };
+
+    /// What a read gives is one of the images that a crash may leave.
+    ghost counts_content: { (d : Self) → IsTrue (device d).tells → (device d).may_leave (device d).content };
+
+    /// This moment is one of those since an earlier one.
+    ghost counts_now: { (d : Self) (t : ℕ) (c : List ℕ) → IsTrue (device d).tells → t ≤ (device d).clock → (device d).may_leave c → (device d).left_since t c };
+
+    /// Since this moment there is no other.
+    ghost only_now: { (d : Self) (c : List ℕ) → IsTrue (device d).tells → (device d).left_since (device d).clock c → (device d).may_leave c };
+}
+
+/// A device that can be told to fail.
+pub trait Faults: Disk {
+    /// The n-th call of the device from now on, counted from 1, answers `Fault`; 0 takes an earlier plan back.
+    /// All that the device means stays as it was.
+    fn fail_at(&mut self, n: u64)
+        ensures { IsUnchanged (Self.device self.old) (Self.device self.new) };
+}

@@ -1,0 +1,3 @@
+mod Picking
+mod Syncing
+mod Torn

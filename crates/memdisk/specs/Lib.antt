@@ -1,0 +1,5 @@
+pub mod Calls
+pub mod MemDisk
+pub mod Memory
+pub mod Picks
+pub mod Plans

@@ -1,0 +1,219 @@
+//! A device in memory whose crashes can be picked, and that can be told to fail.
+//! `specs/Calls.antt` says what each call leaves of it.
+#![tactic(auto)]
+
+mod blocks;
+#[cfg(test)]
+mod tests;
+
+ghost use Rattle.std.specs.Prelude.{◌≡◌, ◌+◌, ◌≤◌, ◌↔◌, ℕ, IsTrue, length, IfOk, OnOk, IsErrOf, if◌then◌else◌};
+ghost use Rattle.memdisk.specs.Calls.{after_read, after_sync, after_write, all_synced, blank, picked};
+ghost use Rattle.memdisk.specs.Memory.{IsSound};
+ghost use Rattle.memdisk.specs.Plans.{fails_next, plan_after, plan_for};
+ghost use Rattle.disk.specs.Device.{IsUnchanged, LeavesNoMore, LeavesOnly, LeftNoMore, LeftTornAt, TearsAt, one_more};
+ghost use Rattle.disk.specs.Image.{part};
+
+use blocks::{BLOCK, Marks, put, settle_marked, sync_marked};
+use disk::{Disk, DiskError, Faults};
+use std::alloc::{AllocError, Global};
+
+/// What a crash makes of a touched octet.
+#[derive(Clone, Copy, Debug, PartialEq, Eq)]
+pub enum Pick {
+    /// The octet of the last good sync.
+    Old,
+    /// The octet that was written last.
+    New,
+    /// This octet.
+    Fill(u8),
+}
+
+/// Which call fails: reads, writes and syncs are calls.
+#[derive(Clone, Copy, Debug, PartialEq, Eq)]
+pub enum Plan {
+    Never,
+    /// A call of any kind, once, after so many others.
+    Any(u64),
+}
+
+impl Plan {
+    // Whether the call that is asked now fails.
+    fn fails(&mut self) -> bool
+        ensures fails { result ≡ fails_next self.old }
+        ensures plan { self.new ≡ plan_after self.old }
+    {
+        match *self {
+            Plan::Never => false,
+            Plan::Any(0) => {
+                *self = Plan::Never;
+                true
+            }
+            Plan::Any(n) => {
+                *self = Plan::Any(n - 1);
+                false
+            }
+        }
+    }
+
+    // The answer of that call, where a failure is counted.
+    fn ask(&mut self, failures: &mut u64) -> Result<(), DiskError>
+        ensures fails { IsErrOf result DiskError.Fault ↔ IsTrue (fails_next self.old) }
+        ensures plan { self.new ≡ plan_after self.old }
+        ensures failures { failures.new ≡ (if fails_next self.old then one_more failures.old else failures.old) }
+    {
+        if self.fails() {
+            *failures = failures.wrapping_add(1);
+            return Err(DiskError::Fault);
+        }
+        Ok(())
+    }
+}
+
+/// An array of octets in memory. After `new` it takes no memory.
+#[derive(Drop)]
+pub struct MemDisk {
+    synced: Vec<u8>,
+    present: Vec<u8>,
+    touched: Vec<bool>,
+    // the blocks that may have touched octets
+    marks: Marks,
+    plan: Plan,
+    reads: u64,
+    writes: u64,
+    syncs: u64,
+    failures: u64,
+    ghost sound: { IsSound synced.items present.items touched.items marks.blocks.items },
+}
+
+impl MemDisk {
+    ghost use Rattle.memdisk.specs.MemDisk.{memory_device, view};
+
+    /// A device of `len` octets, zeros that count as synced. No failure is pending and the counts are 0.
+    pub fn new(alloc: Global, len: u64) -> Result<MemDisk, AllocError>
+        ensures memory { IfOk result (λ m. view m ≡ blank len) }
+        ensures synced { IfOk result (λ m. LeavesOnly (memory_device m) (memory_device m).content) }
+    {
+        let len = len as usize;
+        Ok(MemDisk {
+            synced: vec![in alloc; 0; len]?,
+            present: vec![in alloc; 0; len]?,
+            touched: vec![in alloc; false; len]?,
+            marks: Marks::new(alloc, len / BLOCK + 1)?,
+            plan: Plan::Never,
+            reads: 0,
+            writes: 0,
+            syncs: 0,
+            failures: 0,
+        })
+    }
+
+    /// How many writes and syncs were asked since `new`, each as a u64 that wraps.
+    pub fn counts(&self) -> (u64, u64)
+        ensures writes { result.0 ≡ (view self.now).writes }
+        ensures syncs { result.1 ≡ (view self.now).syncs }
+    {
+        (self.writes, self.syncs)
+    }
+
+    /// The k-th touched octet, counted from 0 in rising place, becomes what `picks[k % picks.len()]` says; where there
+    /// are no picks, `Old`. The result counts as synced. A failure that is pending stays so.
+    pub fn crash(&mut self, picks: &[Pick])
+        ensures memory { view self.new ≡ all_synced (picked picks.now (view self.old)) (view self.old) }
+        ensures lawful { (memory_device self.old).may_leave (view self.new).present }
+        ensures synced { LeavesOnly (memory_device self.new) (memory_device self.new).content }
+    {
+        settle_marked(
+            &mut self.present,
+            &self.synced,
+            &self.touched,
+            &self.marks,
+            picks,
+        );
+        sync_marked(
+            &mut self.synced,
+            &mut self.touched,
+            &self.present,
+            &self.marks,
+        );
+        self.marks.clear();
+    }
+}
+
+impl Disk for MemDisk {
+    ghost use Rattle.memdisk.specs.MemDisk.{memory_device, counts_content, view};
+
+    ghost device = { memory_device };
+
+    fn len(&self) -> u64 {
+        self.present.len() as u64
+    }
+
+    fn read(&mut self, at: u64, into: &mut [u8]) -> Result<(), DiskError>
+        requires { at + length into.old ≤ (memory_device self.old).size }
+        ensures fails { IsErrOf result DiskError.Fault ↔ IsTrue (fails_next (view self.old).plan) }
+        ensures value { OnOk result (into.new ≡ part at (length into.old) (view self.old).present) }
+        ensures memory { view self.new ≡ after_read (view self.old) }
+    {
+        self.reads = self.reads.wrapping_add(1);
+        self.plan.ask(&mut self.failures)?;
+        let at = at as usize;
+        let end = at + into.len();
+        into.copy_from_slice(&self.present[at..end]);
+        Ok(())
+    }
+
+    fn write(&mut self, at: u64, from: &[u8]) -> Result<(), DiskError>
+        requires { at + length from.now ≤ (memory_device self.old).size }
+        ensures fails { IsErrOf result DiskError.Fault ↔ IsTrue (fails_next (view self.old).plan) }
+        ensures memory { view self.new ≡ after_write at from.now (view self.old) }
+        ensures crash { TearsAt at (length from.now) (memory_device self.old) (memory_device self.new) }
+        ensures since { LeftTornAt at (length from.now) (memory_device self.old) (memory_device self.new) }
+    {
+        self.writes = self.writes.wrapping_add(1);
+        let at = at as usize;
+        put(&mut self.present, &mut self.touched, at, from);
+        self.marks.mark(at, at + from.len());
+        self.plan.ask(&mut self.failures)
+    }
+
+    fn sync(&mut self) -> Result<(), DiskError>
+        ensures fails { IsErrOf result DiskError.Fault ↔ IsTrue (fails_next (view self.old).plan) }
+        ensures memory { view self.new ≡ after_sync (view self.old) }
+        ensures durable { OnOk result (LeavesOnly (memory_device self.new) (view self.old).present) }
+        ensures crash { LeavesNoMore (memory_device self.old) (memory_device self.new) }
+        ensures since { LeftNoMore (memory_device self.old) (memory_device self.new) }
+    {
+        self.syncs = self.syncs.wrapping_add(1);
+        self.plan.ask(&mut self.failures)?;
+        sync_marked(
+            &mut self.synced,
+            &mut self.touched,
+            &self.present,
+            &self.marks,
+        );
+        self.marks.clear();
+        Ok(())
+    }
+
+    ghost image_size = { λ m c tells left. left.size };
+
+    ghost counts_content = { λ m tells. counts_content m };
+
+    ghost counts_now = { λ m t c tells le now. now };
+
+    ghost only_now = { λ m c tells left. left };
+}
+
+impl Faults for MemDisk {
+    ghost use Rattle.memdisk.specs.MemDisk.{memory_device, view};
+
+    fn fail_at(&mut self, n: u64)
+        ensures unchanged { IsUnchanged (memory_device self.old) (memory_device self.new) }
+        ensures plan { view self.new ≡ record (view self.old) { plan = plan_for n } }
+    {
+        self.plan = match n.checked_sub(1) {
+            None => Plan::Never,
+            Some(others) => Plan::Any(others),
+        };
+    }
+}
