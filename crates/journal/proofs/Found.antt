@@ -1,0 +1,248 @@
+-- What an opening finds.
+use Rattle.std.proofs.Common.{◌≡◌, ◌≢◌, ◌⊎◌, inl, inr, ⊎_elim, ◌<◌, ◌≤◌, ℕ, ◌+◌, ◌*◌, Bool, true, false, IsTrue, Option, Some, None, List, length, take, refl, sym, ◌∙◌, ap, subst, arith, length-take, Result, Ok, Err, IfOk, IfErr, MatchResult}
+use Rattle.disk.specs.Device.{Device, Elapses, LeavesOnly}
+use Rattle.disk.specs.Image.{part}
+use Rattle.journal.specs.Inside.{IsFound, IsKept, IsQuiet, IsStaged, IsStill, LeftAs, IsWritten, Touched}
+use Rattle.journal.specs.Opening.{AreSameVolume, IsNoVolume, LeftKept, Opens, Refuses, SyncsFirst}
+use Rattle.journal.specs.Journal.{AreWhole, HasWholeBlocks, IsDuring, IsReady, JournalView, LeavesAdmitted}
+use Rattle.journal.specs.declared.JournalError.{JournalError}
+use Rattle.journal.specs.declared.JournalError.TheVariants.{Fault, Memory, NotAVolume, Halted}
+use Rattle.model.specs.Volume.{block, blocks_from, home_size, label_of, number_at, is_open, IsSuperblock, IsDescriptor, listed, StandsFor, logical_blocks}
+use Rattle.journal.specs.declared.Next.TheVariants.{Idle, Home}
+use Rattle.journal.proofs.Blocks.{same_but_equal}
+use Rattle.journal.proofs.Transitions.{told_after}
+use Rattle.journal.proofs.Volumes.{stands_closed, is_opened}
+
+module _ (device : Device) (superblock descriptor numbers octets : List ℕ) (blocks : ℕ) (superblock_size : length superblock ≡ 4096) (descriptor_size : length descriptor ≡ 4096) (numbers_size : length numbers ≡ 512) (octets_size : length octets ≡ 2097152) (image_size : IsTrue device.tells → length device.content ≡ device.size) (now : IsTrue device.tells → device.may_leave device.content) where
+  module _ (count : Option ℕ) (found : IsFound device superblock descriptor numbers octets blocks count) where
+    pub device_size : device.size ≡ 4096 * (515 + blocks)
+    device_size = omega (arith, found.valid.exactly, found.valid.segments, found.blocks_are)
+
+    pub content_superblock : IsTrue device.tells → IsSuperblock (block 0 device.content) (length device.content)
+    content_superblock t =
+        subst (λ (n : ℕ). IsSuperblock (block 0 device.content) n) (sym (image_size t))
+        (subst (λ (b : List ℕ). IsSuperblock b device.size) (found.superblock_is t) found.valid)
+
+    pub content_size : IsTrue device.tells → home_size device.content ≡ blocks
+    content_size t = ap (number_at 12 4) (sym (found.superblock_is t)) ∙ found.blocks_are
+
+    pub content_label : IsTrue device.tells → label_of device.content ≡ part 20 128 superblock
+    content_label t = ap (λ (b : List ℕ). part 20 128 b) (sym (found.superblock_is t))
+
+  -- with the segment closed
+  module _ (found : IsFound device superblock descriptor numbers octets blocks None) where
+    shut : IsTrue device.tells → is_open 0 device.content ≡ false
+    shut t = sym (found.gate t)
+
+    pub rest_stands : IsTrue device.tells → StandsFor device.content (part 20 128 superblock) (logical_blocks device.content)
+    rest_stands t =
+        let stands = stands_closed device.content (content_superblock None found t) (shut t) in
+        subst (λ (l : List ℕ). StandsFor device.content l (logical_blocks device.content)) (content_label None found t)
+        (subst (λ (bs : List (List ℕ)). StandsFor device.content (label_of device.content) bs) (sym stands.has_blocks) stands)
+
+    pub rest_kept : IsKept device blocks superblock Idle false 0 0 descriptor numbers octets
+    rest_kept = record {
+      size = device_size None found;
+      low = omega (arith, found.valid.low, found.blocks_are);
+      high = omega (arith, found.valid.high, found.blocks_are);
+      superblock_size = superblock_size;
+      descriptor_size = descriptor_size;
+      numbers_size = numbers_size;
+      octets_size = octets_size;
+      few = omega arith;
+      within = tt;
+      staged = tt;
+      described = λ e. cc;
+      told = λ t. record {
+        superblock = content_superblock None found t;
+        size = content_size None found t;
+        label = content_label None found t;
+        admits = λ c left. inl (subst (λ (x : List ℕ). StandsFor x (part 20 128 superblock) (logical_blocks device.content)) (sym (found.synced t c left)) (rest_stands t));
+        holds = λ runs. shut t;
+        same = λ runs c left. same_but_equal (Touched (take 0 numbers) Idle) device.content c (found.synced t c left);
+      };
+    }
+
+  -- with the segment open
+  module _ (count : ℕ) (found : IsFound device superblock descriptor numbers octets blocks (Some count)) where
+    abbrev ns : List ℕ
+    ns = take count numbers
+
+    few : count ≤ 512
+    few = omega (arith, found.batch.0.few, found.batch.1)
+
+    length-ns : length ns ≡ count
+    length-ns = omega (arith, length-take count numbers, numbers_size, few)
+
+    staged : (b : ℕ) → b ≡ blocks → IsStaged b descriptor (number_at 8 8 descriptor) ns octets
+    staged b is = record {
+      size = descriptor_size;
+      last_is = refl;
+      count = found.batch.1 ∙ sym length-ns;
+      zero = found.batch.0.zero;
+      lists = sym found.batch.2;
+      some = omega (arith, found.batch.0.some, found.batch.1, length-ns);
+      few = omega (arith, few, length-ns);
+      below = subst (λ (l : List ℕ). Rattle.std.specs.List.All (λ n. n < b) l) (sym found.batch.2) (subst (λ (m : ℕ). Rattle.std.specs.List.All (λ n. n < m) (listed descriptor)) (sym is) found.batch.0.below);
+      distinct = subst (λ (l : List ℕ). Rattle.model.specs.Volume.AreDistinct l) (sym found.batch.2) found.batch.0.distinct;
+      room = omega (arith, length-ns, few, octets_size);
+    }
+
+    written : IsTrue device.tells → IsWritten descriptor ns octets device.content
+    written t = record {
+      descriptor_is = sym (found.descriptor_is t);
+      images_are = λ k within. found.images_are t k (omega (arith, length-ns));
+    }
+
+    opened : IsTrue device.tells → is_open 0 device.content ≡ true
+    opened t = sym (found.gate t)
+
+    pub replay_stands : IsTrue device.tells → StandsFor device.content (part 20 128 superblock) (logical_blocks device.content)
+    replay_stands t =
+        let stands = is_opened device.content descriptor ns octets blocks (number_at 8 8 descriptor) (staged blocks refl) (written t) (content_superblock (Some count) found t) (content_size (Some count) found t) (opened t) in
+        subst (λ (l : List ℕ). StandsFor device.content l (logical_blocks device.content)) (content_label (Some count) found t)
+        (subst (λ (bs : List (List ℕ)). StandsFor device.content (label_of device.content) bs) (sym stands.has_blocks) stands)
+
+    pub replay_kept : IsKept device blocks superblock (Home 0) false (number_at 8 8 descriptor) count descriptor numbers octets
+    replay_kept = record {
+      size = device_size (Some count) found;
+      low = omega (arith, found.valid.low, found.blocks_are);
+      high = omega (arith, found.valid.high, found.blocks_are);
+      superblock_size = superblock_size;
+      descriptor_size = descriptor_size;
+      numbers_size = numbers_size;
+      octets_size = octets_size;
+      few = few;
+      within = omega (arith, found.batch.0.some, found.batch.1);
+      staged = staged blocks refl;
+      described = λ e. cc;
+      told = λ t.
+          told_after descriptor ns octets (number_at 8 8 descriptor) device.content (content_superblock (Some count) found t) (staged (home_size device.content) (content_size (Some count) found t)) device blocks (part 20 128 superblock) (Home 0) false (content_size (Some count) found t) (content_label (Some count) found t) (opened t, written t)
+          (λ c left. same_but_equal (Touched ns (Home 0)) device.content c (found.synced t c left)) (now t) (λ runs. (opened t, written t, λ k low. absurd (omega arith)));
+    }
+
+-- a journal that was found, and a run of calls from it, after calls that changed nothing
+module _ {D : Type 0} (device : D → Device) (first : D) (journal : JournalView D) (quiet : IsQuiet (device first) (device journal.disk)) (still : IsStill (device first) (device journal.disk)) (stands : IsTrue (device journal.disk).tells → StandsFor (device journal.disk).content journal.label journal.blocks) (whole : HasWholeBlocks device journal) where
+  here : IsTrue (device first).tells → IsTrue (device journal.disk).tells
+  here t = subst (λ (b : Bool). IsTrue b) (sym quiet.tells) t
+
+  read : IsTrue (device first).tells → StandsFor (device first).content journal.label journal.blocks
+  read t = subst (λ (x : List ℕ). StandsFor x journal.label journal.blocks) (still.content t) (stands (here t))
+
+  pub opens_found : IsReady journal → LeavesAdmitted device journal → Opens device first journal
+  opens_found ready now = record {
+    ready = ready;
+    stands = read;
+    whole = whole;
+    now = now;
+    since = λ t time c before left. inl (quiet.since t time c before left);
+    time = record { size = quiet.size; tells = quiet.tells; later = quiet.later };
+    failures = still.failures;
+  }
+
+  kept_then : (last : Device) → LeftAs (device journal.disk) last journal.label journal.blocks → LeftKept (device first) last
+  kept_then last left t time c before now =
+      ⊎_elim (λ earlier. inl (quiet.since t time c before earlier)) (λ s. inr (journal.label, (journal.blocks, (read t, s)))) (left (here t) time c (omega (arith, before, quiet.later)) now)
+
+  pub opens_replayed : (after : JournalView D) → IsReady after → IsDuring device journal after → (device after.disk).failures ≡ (device journal.disk).failures → Opens device first after
+  opens_replayed after ready during failures = record {
+    ready = ready;
+    stands = λ t.
+        subst (λ (l : List ℕ). StandsFor (device first).content l after.blocks) (sym during.same.label)
+        (subst (λ (bs : List (List ℕ)). StandsFor (device first).content journal.label bs) (sym (during.blocks (here t))) (read t));
+    whole = λ t.
+        let t' = subst (λ (b : Bool). IsTrue b) during.tells t in
+        subst (λ (n : ℕ). AreWhole n after.blocks) (sym during.same.size)
+        (subst (λ (bs : List (List ℕ)). AreWhole journal.size bs) (sym (during.blocks t')) (whole t'));
+    now = λ t c left.
+        let t' = subst (λ (b : Bool). IsTrue b) during.tells t in
+        inl
+        (subst (λ (l : List ℕ). StandsFor c l after.blocks) (sym during.same.label)
+        (subst (λ (bs : List (List ℕ)). StandsFor c journal.label bs) (sym (during.blocks t')) (during.now t' c left)));
+    since = kept_then (device after.disk) during.since;
+    time = record { size = during.size ∙ quiet.size; tells = during.tells ∙ quiet.tells; later = omega (arith, quiet.later, during.later) };
+    failures = failures ∙ still.failures;
+  }
+
+  pub refuses_replayed : (last : D) (error : JournalError) → error ≡ Fault → (device last).failures ≢ (device journal.disk).failures → Elapses (device journal.disk) (device last) → LeftAs (device journal.disk) (device last) journal.label journal.blocks → Refuses device first last error
+  refuses_replayed last error is failures time left = record {
+    since = kept_then (device last) left;
+    time = record { size = time.size ∙ quiet.size; tells = time.tells ∙ quiet.tells; later = omega (arith, quiet.later, time.later) };
+    fault = λ e same. failures (same ∙ sym still.failures);
+    no_volume = λ e. absurd (let two : Fault ≡ NotAVolume = sym is ∙ e in cc);
+    memory = λ e. absurd (let two : Fault ≡ Memory = sym is ∙ e in cc);
+    not_halted = λ e. (let two : Fault ≡ Halted = sym is ∙ e in cc);
+  }
+
+-- a refusal after calls that changed nothing
+pub refuses_found : {D : Type 0} (device : D → Device) (first last : D) (error : JournalError) → IsQuiet (device first) (device last) → (error ≡ Fault → (device last).failures ≢ (device first).failures) → (error ≡ NotAVolume → IsTrue (device first).tells → IsNoVolume (device first).content) → error ≢ Memory → error ≢ Halted → Refuses device first last error
+refuses_found device first last error quiet fault no_volume no_memory not_halted = record {
+  since = λ t time c before left. inl (quiet.since t time c before left);
+  time = record { size = quiet.size; tells = quiet.tells; later = quiet.later };
+  fault = fault;
+  no_volume = no_volume;
+  memory = λ e. absurd (no_memory e);
+  not_halted = not_halted;
+}
+
+-- an opening that synced first
+module _ {D : Type 0} (device : D → Device) (first synced : D) (quiet : IsQuiet (device first) (device synced)) (still : IsStill (device first) (device synced)) (only : IsTrue (device first).tells → LeavesOnly (device synced) (device first).content) where
+  synced_tells : IsTrue (device first).tells → IsTrue (device synced).tells
+  synced_tells t = subst (λ (b : Bool). IsTrue b) (sym quiet.tells) t
+
+  kept_since : (last : Device) → LeftKept (device synced) last → IsTrue (device first).tells → (t : ℕ) (c : List ℕ) → t ≤ (device synced).clock → last.left_since t c → (device synced).left_since t c ⊎ AreSameVolume (device first).content c
+  kept_since last left t time c before now =
+      subst (λ (x : List ℕ). (device synced).left_since time c ⊎ AreSameVolume x c) (still.content t) (left (synced_tells t) time c before now)
+
+  kept_all : (last : Device) → LeftKept (device synced) last → LeftKept (device first) last
+  kept_all last left t time c before now =
+      ⊎_elim (λ earlier. inl (quiet.since t time c before earlier)) (λ same. inr same) (kept_since last left t time c (omega (arith, before, quiet.later)) now)
+
+  pub syncs_first : (last : D) → (device synced).clock ≤ (device last).clock → LeftKept (device synced) (device last) → SyncsFirst device first last
+  syncs_first last later left = record {
+    synced = synced;
+    no_write = quiet.writes;
+    before = quiet.later;
+    later = later;
+    until = λ t. quiet.since t;
+    content = still.content;
+    only = only;
+    after = kept_since (device last) left;
+  }
+
+  time_all : (last : Device) → Elapses (device synced) last → Elapses (device first) last
+  time_all last time = record { size = time.size ∙ quiet.size; tells = time.tells ∙ quiet.tells; later = omega (arith, quiet.later, time.later) }
+
+  pub opens_synced : (journal : JournalView D) → Opens device synced journal → Opens device first journal
+  opens_synced journal opens = record {
+    ready = opens.ready;
+    stands = λ t. subst (λ (x : List ℕ). StandsFor x journal.label journal.blocks) (still.content t) (opens.stands (synced_tells t));
+    whole = opens.whole;
+    now = opens.now;
+    since = kept_all (device journal.disk) opens.since;
+    time = time_all (device journal.disk) opens.time;
+    failures = opens.failures ∙ still.failures;
+  }
+
+  pub refuses_synced : (last : D) (error : JournalError) → error ≢ Memory → Refuses device synced last error → Refuses device first last error
+  refuses_synced last error no_memory refuses = record {
+    since = kept_all (device last) refuses.since;
+    time = time_all (device last) refuses.time;
+    fault = λ e same. refuses.fault e (same ∙ sym still.failures);
+    no_volume = λ e t. subst (λ (x : List ℕ). IsNoVolume x) (still.content t) (refuses.no_volume e (synced_tells t));
+    memory = λ e. absurd (no_memory e);
+    not_halted = refuses.not_halted;
+  }
+
+pub match_both : {T E : Type 0} (r : Result T E) (P P' : T → Type 0) (Q Q' : E → Type 0) → IfOk r P → IfErr r Q → ((x : T) → P x → P' x) → ((y : E) → Q y → Q' y) → MatchResult r P' Q'
+match_both (Ok x) P P' Q Q' ok err f h = f x ok
+match_both (Err y) P P' Q Q' ok err f h = h y err
+
+pub err_weaker : {T E : Type 0} (r : Result T E) (P Q : E → Type 0) → ((y : E) → P y → Q y) → IfErr r P → IfErr r Q
+err_weaker (Ok x) P Q f h = h
+err_weaker (Err y) P Q f h = f y h
+
+-- an opening's end, where both of two facts of a refusal are known
+pub err_weaker_both : {T E : Type 0} (r : Result T E) (P P' Q : E → Type 0) → ((y : E) → P y → P' y → Q y) → IfErr r P → IfErr r P' → IfErr r Q
+err_weaker_both (Ok x) P P' Q f h h' = h
+err_weaker_both (Err y) P P' Q f h h' = f y h h'

@@ -1,0 +1,34 @@
+use Rattle.journal.proofs.Made.{kept_ok, kept_err, made_ok, made_err, the_fault}
+use Rattle.journal.proofs.Journal.step.Goals as goal
+
+pub invariant_of-self : goal.invariant_of-self
+invariant_of-self g c = rw c.if-self.false
+    (kept_ok g.row.D.Denot g.D.Disk.device c.self.inside.disk c.ask.new.disk _ _ _ _ _ _ _ c.ask.ensures.time (g.met.D.Disk.counts_content c.ask.new.disk) c.self.inside.next c.call_after-self-inside.result c.self.inside.halted c.in-Ok.field-0 c.if-self.false (c.is_idle.ensures.no c.if-is_idle.false) c.self.invariant c.call_after-self-inside.ensures c.in-Ok.ensures.does).is_kept
+
+pub invariant_of-self-in-Err-Fault : goal.invariant_of-self-in-Err-Fault
+invariant_of-self-in-Err-Fault g c =
+    (kept_err g.row.D.Denot g.D.Disk.device c.self.inside.disk c.ask.new.disk _ _ _ _ _ _ _ c.ask.ensures.time (g.met.D.Disk.counts_content c.ask.new.disk) c.self.inside.next c.call_at_fault-self-inside.result c.self.inside.halted c.in-Err-Fault.field-0 c.if-self.false (c.is_idle.ensures.no c.if-is_idle.false) c.self.invariant c.call_at_fault-self-inside.ensures c.in-Err-Fault.ensures.does).is_kept
+
+pub returns-in-Ok-clause-call : goal.returns-in-Ok-clause-call
+returns-in-Ok-clause-call g c =
+    rw (← c.self.view_is)
+    (λ running other. made_ok g.row.D.Denot g.D.Disk.device c.self.inside.disk c.ask.new.disk _ _ _ _ _ _ _ c.ask.ensures.time (g.met.D.Disk.counts_content c.ask.new.disk) c.self.inside.next c.call_after-self-inside.result c.self.inside.halted c.in-Ok.field-0 c.answer_to.result c.if-self.false (c.is_idle.ensures.no c.if-is_idle.false) c.self.invariant c.call_after-self-inside.ensures c.answer_to.ensures c.in-Ok.ensures.does c.in-Ok.ensures.cause.ok)
+
+pub returns-in-Ok-clause-now : goal.returns-in-Ok-clause-now
+returns-in-Ok-clause-now g c = (made_ok g.row.D.Denot g.D.Disk.device c.self.inside.disk c.ask.new.disk _ _ _ _ _ _ _ c.ask.ensures.time (g.met.D.Disk.counts_content c.ask.new.disk) c.self.inside.next c.call_after-self-inside.result c.self.inside.halted c.in-Ok.field-0 c.answer_to.result c.if-self.false (c.is_idle.ensures.no c.if-is_idle.false) c.self.invariant c.call_after-self-inside.ensures c.answer_to.ensures c.in-Ok.ensures.does c.in-Ok.ensures.cause.ok).now
+
+pub returns-in-Ok-clause-since : goal.returns-in-Ok-clause-since
+returns-in-Ok-clause-since g c =
+    rw (← c.self.view_is) (made_ok g.row.D.Denot g.D.Disk.device c.self.inside.disk c.ask.new.disk _ _ _ _ _ _ _ c.ask.ensures.time (g.met.D.Disk.counts_content c.ask.new.disk) c.self.inside.next c.call_after-self-inside.result c.self.inside.halted c.in-Ok.field-0 c.answer_to.result c.if-self.false (c.is_idle.ensures.no c.if-is_idle.false) c.self.invariant c.call_after-self-inside.ensures c.answer_to.ensures c.in-Ok.ensures.does c.in-Ok.ensures.cause.ok).since
+
+pub returns-in-Err-Fault-clause-call : goal.returns-in-Err-Fault-clause-call
+returns-in-Err-Fault-clause-call g c =
+    rw (← c.self.view_is)
+    (λ running other. made_err g.row.D.Denot g.D.Disk.device c.self.inside.disk c.ask.new.disk _ _ _ _ _ _ _ c.ask.ensures.time (g.met.D.Disk.counts_content c.ask.new.disk) c.self.inside.next c.call_at_fault-self-inside.result c.self.inside.halted c.in-Err-Fault.field-0 c.if-self.false (c.is_idle.ensures.no c.if-is_idle.false) c.self.invariant c.call_at_fault-self-inside.ensures c.in-Err-Fault.ensures.does (c.in-Err-Fault.ensures.cause.fault (the_fault c.in-Err-Fault.field-0)))
+
+pub returns-in-Err-Fault-clause-now : goal.returns-in-Err-Fault-clause-now
+returns-in-Err-Fault-clause-now g c = (made_err g.row.D.Denot g.D.Disk.device c.self.inside.disk c.ask.new.disk _ _ _ _ _ _ _ c.ask.ensures.time (g.met.D.Disk.counts_content c.ask.new.disk) c.self.inside.next c.call_at_fault-self-inside.result c.self.inside.halted c.in-Err-Fault.field-0 c.if-self.false (c.is_idle.ensures.no c.if-is_idle.false) c.self.invariant c.call_at_fault-self-inside.ensures c.in-Err-Fault.ensures.does (c.in-Err-Fault.ensures.cause.fault (the_fault c.in-Err-Fault.field-0))).now
+
+pub returns-in-Err-Fault-clause-since : goal.returns-in-Err-Fault-clause-since
+returns-in-Err-Fault-clause-since g c =
+    rw (← c.self.view_is) (made_err g.row.D.Denot g.D.Disk.device c.self.inside.disk c.ask.new.disk _ _ _ _ _ _ _ c.ask.ensures.time (g.met.D.Disk.counts_content c.ask.new.disk) c.self.inside.next c.call_at_fault-self-inside.result c.self.inside.halted c.in-Err-Fault.field-0 c.if-self.false (c.is_idle.ensures.no c.if-is_idle.false) c.self.invariant c.call_at_fault-self-inside.ensures c.in-Err-Fault.ensures.does (c.in-Err-Fault.ensures.cause.fault (the_fault c.in-Err-Fault.field-0))).since

@@ -1,0 +1,92 @@
+-- The journal as those who use it see it, and what a crash leaves of it.
+use Rattle.std.specs.Prelude.{◌≡◌, ◌≢◌, ◌⊎◌, ℕ, ◌≤◌, Bool, false, IsTrue, List, length, Result, OnOk, IfErr}
+use Rattle.std.specs.List.{All}
+use Rattle.disk.specs.Device.{Device}
+use Rattle.journal.specs.Inside.{IsAdmitted}
+use Rattle.journal.specs.Order.{calls_made}
+use Rattle.model.specs.Volume.{StandsFor, laid_over}
+use Rattle.journal.specs.declared.JournalError.{JournalError}
+use Rattle.journal.specs.declared.JournalError.TheVariants.{Fault}
+use Rattle.journal.specs.declared.Next.{Next}
+use Rattle.journal.specs.declared.Next.TheVariants.{Idle}
+
+-- a journal over a device of the type D
+pub record JournalView (D : Type 0) : Type 0 where
+  pub disk : D
+  pub label : List ℕ
+  -- how many logical blocks there are
+  pub size : ℕ
+  -- the logical blocks, without the batch in flight until it is committed
+  pub blocks : List (List ℕ)
+  -- the device call that comes next
+  pub next : Next
+  -- a device call has failed
+  pub halted : Bool
+  -- the batch in flight: its number, its last serial, and its images by their numbers
+  pub number : ℕ
+  pub last : ℕ
+  pub numbers : List ℕ
+  pub images : List (List ℕ)
+
+-- no batch is in flight, and a batch may begin
+abbrev pub IsIdle : {D : Type 0} → JournalView D → Type 0
+IsIdle journal = journal.next ≡ Idle
+
+abbrev pub IsReady : {D : Type 0} → JournalView D → Type 0
+IsReady journal = (journal.halted ≡ false) × IsIdle journal
+
+-- how many device calls of the batch in flight were made
+abbrev pub calls : {D : Type 0} → JournalView D → ℕ
+calls journal = calls_made (length journal.numbers) journal.next
+
+-- the logical blocks with the batch in flight laid over
+abbrev pub with_batch : {D : Type 0} → JournalView D → List (List ℕ)
+with_batch journal = laid_over journal.blocks journal.numbers journal.images
+
+-- an image that a crash may leave: it stands for the blocks or, once the gate's opening was asked and
+-- until it is committed, for those with the batch
+abbrev pub Admits : {D : Type 0} → JournalView D → List ℕ → Type 0
+Admits journal image = IsAdmitted journal.next journal.label journal.blocks (with_batch journal) image
+
+-- each image that a crash at this moment may leave is one that the journal admits
+abbrev pub LeavesAdmitted : {D : Type 0} → (D → Device) → JournalView D → Type 0
+LeavesAdmitted device journal = IsTrue (device journal.disk).tells → (c : List ℕ) → (device journal.disk).may_leave c → Admits journal c
+
+-- a crash since an earlier time might have left what it might have left before, or what the journal admits
+abbrev pub LeftAdmitted : {D : Type 0} → (D → Device) → JournalView D → JournalView D → Type 0
+LeftAdmitted device old new =
+    IsTrue (device old.disk).tells → (t : ℕ) (c : List ℕ) → t ≤ (device old.disk).clock → (device new.disk).left_since t c
+    → (device old.disk).left_since t c ⊎ Admits new c
+
+-- the logical blocks of a device that tells are as many as the journal says, of 4,096 octets each
+pub record AreWhole (size : ℕ) (blocks : List (List ℕ)) : Type 0 where
+  pub count : length blocks ≡ size
+  pub whole : All (λ block. length block ≡ 4096) blocks
+
+abbrev pub HasWholeBlocks : {D : Type 0} → (D → Device) → JournalView D → Type 0
+HasWholeBlocks device journal = IsTrue (device journal.disk).tells → AreWhole journal.size journal.blocks
+
+-- no call changes the label, the size or the batch in flight
+pub record IsSameBatch {D : Type 0} (old new : JournalView D) : Type 0 where
+  pub label : new.label ≡ old.label
+  pub size : new.size ≡ old.size
+  pub number : new.number ≡ old.number
+  pub last : new.last ≡ old.last
+  pub numbers : new.numbers ≡ old.numbers
+  pub images : new.images ≡ old.images
+
+-- `Ok` leaves the device's count of failures, and a fault changes it
+pub record CountsFailures {T : Type 0} (result : Result T JournalError) (old new : Device) : Type 0 where
+  pub ok : OnOk result (new.failures ≡ old.failures)
+  pub fault : IfErr result (λ error. error ≡ Fault → new.failures ≢ old.failures)
+
+-- from one moment to a later one the logical blocks stay, and so they do in each image that a crash between might have left
+pub record IsDuring {D : Type 0} (device : D → Device) (old new : JournalView D) : Type 0 where
+  pub tells : (device new.disk).tells ≡ (device old.disk).tells
+  pub size : (device new.disk).size ≡ (device old.disk).size
+  pub later : (device old.disk).clock ≤ (device new.disk).clock
+  pub same : IsSameBatch old new
+  pub blocks : IsTrue (device old.disk).tells → new.blocks ≡ old.blocks
+  pub since : IsTrue (device old.disk).tells → (t : ℕ) (c : List ℕ) → t ≤ (device old.disk).clock → (device new.disk).left_since t c
+      → (device old.disk).left_since t c ⊎ StandsFor c old.label old.blocks
+  pub now : IsTrue (device old.disk).tells → (c : List ℕ) → (device new.disk).may_leave c → StandsFor c old.label old.blocks

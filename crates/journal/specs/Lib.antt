@@ -1,0 +1,6 @@
+pub mod Calls
+pub mod Formatting
+pub mod Inside
+pub mod Journal
+pub mod Opening
+pub mod Order

@@ -1,0 +1,56 @@
+-- What an opening leaves, and what a crash during it might have left.
+use Rattle.std.specs.Prelude.{◌≡◌, ◌≢◌, ◌⊎◌, ℕ, ◌≤◌, IsTrue, List}
+use Rattle.disk.specs.Device.{Device, Elapses, LeavesOnly, LeftNoMore}
+use Rattle.journal.specs.Journal.{HasWholeBlocks, IsReady, JournalView, LeavesAdmitted}
+use Rattle.model.specs.Volume.{StandsFor}
+use Rattle.journal.specs.declared.JournalError.{JournalError}
+use Rattle.journal.specs.declared.JournalError.TheVariants.{Fault, Memory, NotAVolume, Halted}
+
+-- two images of volumes with the same label and logical blocks
+abbrev pub AreSameVolume : List ℕ → List ℕ → Type 0
+AreSameVolume old new = (its_label : List ℕ) × ((blocks : List (List ℕ)) × (StandsFor old its_label blocks × StandsFor new its_label blocks))
+
+-- no volume stands there
+abbrev pub IsNoVolume : List ℕ → Type 0
+IsNoVolume image = (its_label : List ℕ) (blocks : List (List ℕ)) → StandsFor image its_label blocks → ⊥
+
+-- a crash since an earlier time might have left what it might have left before, or the same volume as was read
+abbrev pub LeftKept : Device → Device → Type 0
+LeftKept old new =
+    IsTrue old.tells → (t : ℕ) (c : List ℕ) → t ≤ old.clock → new.left_since t c → old.left_since t c ⊎ AreSameVolume old.content c
+
+-- a journal that was opened over what stood there
+pub record Opens {D : Type 0} (device : D → Device) (first : D) (journal : JournalView D) : Type 0 where
+  pub ready : IsReady journal
+  pub stands : IsTrue (device first).tells → StandsFor (device first).content journal.label journal.blocks
+  pub whole : HasWholeBlocks device journal
+  pub now : LeavesAdmitted device journal
+  pub since : LeftKept (device first) (device journal.disk)
+  pub time : Elapses (device first) (device journal.disk)
+  pub failures : (device journal.disk).failures ≡ (device first).failures
+
+-- a refused opening doesn't give up by itself, and hands the device back
+pub record Refuses {D : Type 0} (device : D → Device) (first last : D) (error : JournalError) : Type 0 where
+  pub since : LeftKept (device first) (device last)
+  pub time : Elapses (device first) (device last)
+  pub fault : error ≡ Fault → (device last).failures ≢ (device first).failures
+  pub no_volume : error ≡ NotAVolume → IsTrue (device first).tells → IsNoVolume (device first).content
+  pub memory : error ≡ Memory → last ≡ first
+  pub not_halted : error ≢ Halted
+
+-- The first good sync comes before every write. Until it a crash leaves what it might have left at the start,
+-- at that moment it leaves what a read gives, and from then on the same volume as that.
+pub record SyncsFirst {D : Type 0} (device : D → Device) (first last : D) : Type 0 where
+  pub synced : D
+  pub no_write : (device synced).writes ≡ (device first).writes
+  pub before : (device first).clock ≤ (device synced).clock
+  pub later : (device synced).clock ≤ (device last).clock
+  pub until : IsTrue (device first).tells → LeftNoMore (device first) (device synced)
+  pub content : IsTrue (device first).tells → (device synced).content ≡ (device first).content
+  pub only : IsTrue (device first).tells → LeavesOnly (device synced) (device first).content
+  pub after : IsTrue (device first).tells → (t : ℕ) (c : List ℕ) → t ≤ (device synced).clock → (device last).left_since t c
+      → (device synced).left_since t c ⊎ AreSameVolume (device first).content c
+
+-- or no sync was good, and nothing was written
+abbrev pub NeverSyncs : {D : Type 0} → (D → Device) → D → D → Type 0
+NeverSyncs device first last = ((device last).writes ≡ (device first).writes) × (IsTrue (device first).tells → LeftNoMore (device first) (device last))

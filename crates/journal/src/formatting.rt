@@ -1,0 +1,150 @@
+//! A new volume.
+
+ghost use Rattle.std.specs.Prelude.{◌≡◌, ◌^◌, ◌⊎◌, ◌+◌, ◌*◌, ◌<◌, ◌≤◌, ℕ, length, OnOk, IfOk, IfErr, IsTrue};
+ghost use Rattle.std.specs.List.{All};
+ghost use Rattle.disk.specs.Device.{Elapses, LeavesOnly};
+ghost use Rattle.disk.specs.Image.{overwritten, part};
+ghost use Rattle.model.specs.Volume.{IsSuperblock, StandsFor, block, home_place, number_at};
+ghost use Rattle.journal.specs.Journal.{CountsFailures};
+ghost use Rattle.journal.specs.Formatting.{zeroed};
+
+use crate::JournalError;
+use crate::layout::{
+    BLOCK, LABEL_AT, MAGIC, SEGMENTS, VERSION, home_block, put_octets, put32, start_of,
+};
+use disk::{Disk, DiskError};
+use std::alloc::{AllocError, Global};
+
+/// Writes a volume of zeroed logical blocks with this label and a closed segment, and syncs.
+/// `label` has 128 octets, which the journal doesn't read, and there are 1,024 to 65,536 blocks.
+///
+/// A refusal for memory leaves the device as it was. A fault may leave anything there.
+pub fn format<D: Disk>(
+    alloc: Global,
+    disk: &mut D,
+    blocks: u64,
+    label: &[u8],
+) -> Result<(), JournalError>
+    requires low { 1024 ≤ blocks }
+    requires high { blocks ≤ 65536 }
+    requires label { length label.now ≡ 128 }
+    requires size { (D.device disk.old).size ≡ 4096 * home_place 1 blocks }
+    ensures volume { IsTrue (D.device disk.old).tells → OnOk result (StandsFor (D.device disk.new).content label.now (zeroed blocks)) }
+    ensures synced { IsTrue (D.device disk.old).tells → OnOk result (LeavesOnly (D.device disk.new) (D.device disk.new).content) }
+    ensures time { Elapses (D.device disk.old) (D.device disk.new) }
+    ensures failures { CountsFailures result (D.device disk.old) (D.device disk.new) }
+    ensures memory { IfErr result (λ error. error ≡ JournalError.Memory → disk.new ≡ disk.old) }
+    ensures no_other { IfErr result (λ error. (error ≡ JournalError.Fault) ⊎ (error ≡ JournalError.Memory)) }
+{
+    match zeros(alloc, BLOCK) {
+        Ok(octets) => write_volume(disk, blocks, label, octets),
+        Err(_) => Err(JournalError::Memory),
+    }
+}
+
+// Writes the volume, in which each block but the first is the given one of zeros.
+fn write_volume<D: Disk>(
+    disk: &mut D,
+    blocks: u64,
+    label: &[u8],
+    mut octets: Vec<u8>,
+) -> Result<(), JournalError>
+    requires low { 1024 ≤ blocks }
+    requires high { blocks ≤ 65536 }
+    requires label { length label.now ≡ 128 }
+    requires size { (D.device disk.old).size ≡ 4096 * home_place 1 blocks }
+    requires whole { length octets.items ≡ 4096 }
+    requires zero { All (λ octet. octet ≡ 0) octets.items }
+    ensures volume { IsTrue (D.device disk.old).tells → OnOk result (StandsFor (D.device disk.new).content label.now (zeroed blocks)) }
+    ensures synced { IsTrue (D.device disk.old).tells → OnOk result (LeavesOnly (D.device disk.new) (D.device disk.new).content) }
+    ensures time { Elapses (D.device disk.old) (D.device disk.new) }
+    ensures failures { CountsFailures result (D.device disk.old) (D.device disk.new) }
+    ensures no_other { IfErr result (λ error. error ≡ JournalError.Fault) }
+{
+    write_blocks(disk, home_block(SEGMENTS, blocks), octets.as_slice())?;
+    describe_in(&mut octets, blocks as u32, label);
+    write_part(disk, 0, octets.as_slice())?;
+    sync_last(disk)
+}
+
+// Writes these octets into each block from the second on.
+fn write_blocks<D: Disk>(disk: &mut D, end: u64, octets: &[u8]) -> Result<(), JournalError>
+    requires low { end < 2 ^ 40 }
+    requires whole { length octets.now ≡ 4096 }
+    requires size { (D.device disk.old).size ≡ 4096 * end }
+    ensures blocks { IsTrue (D.device disk.old).tells → OnOk result ((k : ℕ) → 0 < k → k < end → block k (D.device disk.new).content ≡ octets.now) }
+    ensures time { Elapses (D.device disk.old) (D.device disk.new) }
+    ensures failures { CountsFailures result (D.device disk.old) (D.device disk.new) }
+    ensures no_other { IfErr result (λ error. error ≡ JournalError.Fault) }
+{
+    for k in 1..end {
+        write_part(disk, start_of(k), octets)?;
+    }
+    Ok(())
+}
+
+fn describe_in(octets: &mut Vec<u8>, blocks: u32, label: &[u8])
+    requires low { 1024 ≤ blocks }
+    requires high { blocks ≤ 65536 }
+    requires whole { length octets.old.items ≡ 4096 }
+    requires zero { All (λ octet. octet ≡ 0) octets.old.items }
+    requires label { length label.now ≡ 128 }
+    ensures valid { IsSuperblock octets.new.items (4096 * home_place 1 blocks) }
+    ensures blocks { number_at 12 4 octets.new.items ≡ blocks }
+    ensures label { part 20 128 octets.new.items ≡ label.now }
+    ensures size { length octets.new.items ≡ 4096 }
+{
+    describe_volume(octets.as_mut_slice(), blocks, label);
+}
+
+// Makes a superblock of a block of zeros.
+fn describe_volume(octets: &mut [u8], blocks: u32, label: &[u8])
+    requires low { 1024 ≤ blocks }
+    requires high { blocks ≤ 65536 }
+    requires whole { length octets.old ≡ 4096 }
+    requires zero { All (λ octet. octet ≡ 0) octets.old }
+    requires label { length label.now ≡ 128 }
+    ensures valid { IsSuperblock octets.new (4096 * home_place 1 blocks) }
+    ensures blocks { number_at 12 4 octets.new ≡ blocks }
+    ensures label { part 20 128 octets.new ≡ label.now }
+    ensures size { length octets.new ≡ 4096 }
+{
+    put_octets(octets, 0, &MAGIC);
+    put32(octets, 8, VERSION);
+    put32(octets, 12, blocks);
+    put32(octets, 16, SEGMENTS);
+    put_octets(octets, LABEL_AT, label);
+}
+
+fn write_part<D: Disk>(disk: &mut D, at: u64, from: &[u8]) -> Result<(), JournalError>
+    requires { at + length from.now ≤ (D.device disk.old).size }
+    ensures content { IsTrue (D.device disk.old).tells → OnOk result ((D.device disk.new).content ≡ overwritten at from.now (D.device disk.old).content) }
+    ensures time { Elapses (D.device disk.old) (D.device disk.new) }
+    ensures failures { CountsFailures result (D.device disk.old) (D.device disk.new) }
+    ensures no_other { IfErr result (λ error. error ≡ JournalError.Fault) }
+{
+    match disk.write(at, from) {
+        Ok(()) => Ok(()),
+        Err(DiskError::Fault) => Err(JournalError::Fault),
+    }
+}
+
+fn sync_last<D: Disk>(disk: &mut D) -> Result<(), JournalError>
+    ensures content { IsTrue (D.device disk.old).tells → OnOk result ((D.device disk.new).content ≡ (D.device disk.old).content) }
+    ensures synced { IsTrue (D.device disk.old).tells → OnOk result (LeavesOnly (D.device disk.new) (D.device disk.old).content) }
+    ensures time { Elapses (D.device disk.old) (D.device disk.new) }
+    ensures failures { CountsFailures result (D.device disk.old) (D.device disk.new) }
+    ensures no_other { IfErr result (λ error. error ≡ JournalError.Fault) }
+{
+    match disk.sync() {
+        Ok(()) => Ok(()),
+        Err(DiskError::Fault) => Err(JournalError::Fault),
+    }
+}
+
+pub(crate) fn zeros(alloc: Global, size: usize) -> Result<Vec<u8>, AllocError>
+    ensures size { IfOk result (λ octets. length octets.items ≡ size) }
+    ensures zero { IfOk result (λ octets. All (λ octet. octet ≡ 0) octets.items) }
+{
+    vec![in alloc; 0; size]
+}

@@ -1,0 +1,206 @@
+//! A journal on a block device: a batch of block images becomes durable as a whole or not at all.
+//! `specs/Journal.antt` says what a journal is to those who use it, `specs/Calls.antt` what each step does.
+#![tactic(auto)]
+
+mod batch;
+mod formatting;
+mod layout;
+mod opening;
+mod stepping;
+
+ghost use Rattle.std.specs.Prelude.{◌≡◌, ◌≢◌, ◌≤◌, ◌<◌, ◌↔◌, ℕ, List, length, true, false, OnOk, IfErr, IsTrue};
+
+use disk::{Disk, DiskError, Faults};
+pub use formatting::format;
+use layout::{LABEL_AT, SEGMENTS, SUPERBLOCK_USED, home_block, start_of};
+use std::marker::Model;
+pub use stepping::each_call_is_the_next;
+use thiserror::Error;
+
+/// The device call that comes next.
+#[derive(Clone, Copy, Debug, PartialEq, Eq)]
+pub enum Next {
+    /// None: no batch is in flight.
+    Idle,
+    Descriptor,
+    Image(usize),
+    /// The sync after descriptor and images.
+    Seal,
+    OpenGate,
+    /// The sync that commits.
+    Commit,
+    Home(usize),
+    /// The sync after the home writes.
+    Settle,
+    CloseGate,
+    /// The sync that ends the batch.
+    Finish,
+}
+
+/// What a step did.
+#[derive(Clone, Copy, Debug, PartialEq, Eq)]
+pub enum Progress {
+    Working,
+    /// The batch is durable. This is the last serial that its `begin` was given.
+    Committed(u64),
+    /// No batch is in flight.
+    Idle,
+}
+
+/// Why the journal refused a call.
+#[derive(Clone, Copy, Debug, PartialEq, Eq, Error)]
+pub enum JournalError {
+    /// The device failed in this call. A journal is halted by it for good.
+    #[error("E1 Fault")]
+    Fault,
+    /// A growth was refused in this call, and nothing changed.
+    #[error("E2 Memory")]
+    Memory,
+    /// The length, the superblock or an open segment's descriptor isn't valid.
+    #[error("E3 NotAVolume")]
+    NotAVolume,
+    /// An earlier fault of the device has halted the journal.
+    #[error("E4 Halted")]
+    Halted,
+}
+
+// What a segment holds, in memory: the descriptor block, and the numbers and images of its batch.
+#[derive(Drop)]
+struct Segment {
+    last: u64,
+    count: usize,
+    descriptor: Vec<u8>,
+    numbers: Vec<u32>,
+    images: Vec<u8>,
+}
+
+/// A journal over a device.
+#[derive(Drop)]
+pub struct Journal<D: Disk> {
+    disk: D,
+    superblock: Vec<u8>,
+    blocks: u64,
+    next: Next,
+    halted: bool,
+    segment: Segment,
+}
+
+impl<D: Disk> Model for Journal<D> {
+    ghost use Rattle.std.specs.Prelude.{take, length};
+    ghost use Rattle.disk.specs.Image.{part};
+    ghost use Rattle.model.specs.Volume.{blocks_from, number_at};
+    ghost use Rattle.journal.specs.Inside.{IsKept, blocks_without};
+    ghost use Rattle.journal.specs.Journal.{JournalView};
+
+    ghost Value = { JournalView D };
+
+    ghost view = { λ j. record {
+      disk = j.disk;
+      label = part 20 128 j.superblock.items;
+      size = j.blocks;
+      blocks = blocks_without j.next (D.device j.disk).content;
+      next = j.next;
+      halted = j.halted;
+      number = number_at 0 8 j.segment.descriptor.items;
+      last = j.segment.last;
+      numbers = take j.segment.count j.segment.numbers.items;
+      images = blocks_from 0 (length (take j.segment.count j.segment.numbers.items)) j.segment.images.items;
+    } };
+
+    ghost invariant = { λ j. IsKept (D.device j.disk) j.blocks j.superblock.items j.next j.halted j.segment.last j.segment.count j.segment.descriptor.items j.segment.numbers.items j.segment.images.items };
+}
+
+/// A refused opening, with the device as it was left.
+#[derive(Drop)]
+pub struct Refused<D> {
+    pub disk: D,
+    pub error: JournalError,
+}
+
+impl<D: Disk> Journal<D> {
+    ghost use Rattle.disk.specs.Device.{Elapses, IsRead};
+    ghost use Rattle.std.specs.Prelude.{slice_index_or, [], ◌*◌};
+    ghost use Rattle.model.specs.Volume.{home_place};
+    ghost use Rattle.journal.specs.Journal.{CountsFailures, HasWholeBlocks, IsIdle, IsReady, IsSameBatch, LeavesAdmitted, LeftAdmitted};
+
+    /// The 128 octets of the volume's label.
+    pub fn label(&self) -> &[u8]
+        ensures label { result.now ≡ self.now.label }
+        ensures size { length result.now ≡ 128 }
+    {
+        &self.superblock[LABEL_AT..SUPERBLOCK_USED]
+    }
+
+    /// How many logical blocks there are, 1,024 to 65,536.
+    pub fn blocks(&self) -> u64
+        ensures size { result ≡ self.now.size }
+        ensures low { 1024 ≤ result }
+        ensures high { result ≤ 65536 }
+        ensures device { (D.device self.now.disk).size ≡ 4096 * home_place 1 result }
+    {
+        self.blocks
+    }
+
+    /// Whether a batch may begin. It also tells what the journal keeps.
+    pub fn is_idle(&self) -> bool
+        ensures idle { IsTrue result ↔ IsReady self.now }
+        ensures now { LeavesAdmitted D.device self.now }
+        ensures whole { HasWholeBlocks D.device self.now }
+        ensures some { 1024 ≤ self.now.size }
+        ensures few { self.now.size ≤ 65536 }
+    {
+        !self.halted && stepping::is_idle(self.next)
+    }
+
+    /// Reads a logical block of 4,096 octets, behind `open` and before the first batch, by one read of the device.
+    ///
+    /// A fault leaves the room with any octets and halts the journal for good.
+    pub fn load(&mut self, block: u64, into: &mut [u8]) -> Result<(), JournalError>
+        requires idle { IsIdle self.old }
+        requires running { self.old.halted ≡ false }
+        requires below { block < self.old.size }
+        requires room { length into.old ≡ 4096 }
+        ensures value { IsTrue (D.device self.old.disk).tells → OnOk result (into.new ≡ slice_index_or self.old.blocks block []) }
+        ensures same { IsSameBatch self.old self.new }
+        ensures blocks { IsTrue (D.device self.old.disk).tells → self.new.blocks ≡ self.old.blocks }
+        ensures next { IsIdle self.new }
+        ensures ok { OnOk result (self.new.halted ≡ false) }
+        ensures no_other { IfErr result (λ error. error ≡ JournalError.Fault) }
+        ensures halts { IfErr result (λ error. error ≡ JournalError.Fault → self.new.halted ≡ true) }
+        ensures failures { CountsFailures result (D.device self.old.disk) (D.device self.new.disk) }
+        ensures call { IsRead (D.device self.old.disk) (D.device self.new.disk) }
+        ensures time { Elapses (D.device self.old.disk) (D.device self.new.disk) }
+        ensures whole { HasWholeBlocks D.device self.new }
+        ensures now { LeavesAdmitted D.device self.new }
+        ensures since { LeftAdmitted D.device self.old self.new }
+    {
+        match self.disk.read(start_of(home_block(SEGMENTS, block)), into) {
+            Ok(()) => Ok(()),
+            Err(DiskError::Fault) => {
+                self.halted = true;
+                Err(JournalError::Fault)
+            }
+        }
+    }
+
+    /// The device, as the journal leaves it.
+    pub fn into_disk(self) -> D
+        ensures { result ≡ self.disk }
+    {
+        let Journal { disk, .. } = self;
+        disk
+    }
+}
+
+impl<D: Faults> Journal<D> {
+    ghost use Rattle.disk.specs.Device.{IsUnchanged};
+
+    /// The n-th call of the device from now on, counted from 1, answers `Fault`; 0 takes an earlier plan back.
+    /// All else stays as it was.
+    pub fn fail_at(&mut self, n: u64)
+        ensures view { self.new ≡ record self.old { disk = self.new.disk } }
+        ensures device { IsUnchanged (D.device self.old.disk) (D.device self.new.disk) }
+    {
+        self.disk.fail_at(n);
+    }
+}
