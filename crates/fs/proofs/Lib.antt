@@ -1,0 +1,10 @@
+pub mod Contents
+pub mod Counts
+pub mod Creating
+pub mod Emptying
+pub mod Entries
+pub mod Keeps
+pub mod Naming
+pub mod Parts
+pub mod Puts
+pub mod Tables

@@ -1,0 +1,10 @@
+use Rattle.std.proofs.Common.{ℕ, List, None, sym, subst, arith, replicate}
+use Rattle.fs.specs.Calls.{Makes}
+use Rattle.fs.proofs.Emptying.{makes_empty}
+use Rattle.fs.proofs.whole.make_empty.Goals as goal
+
+pub returns-clause-made : goal.returns-clause-made
+returns-clause-made g c =
+    let old = g.B.Blocks.blocks c.args.blocks.now in
+    subst (λ (bs : List (List ℕ)). Makes c.args.inodes (replicate c.args.inodes None) bs) (sym c.in_ok-put.ensures.put)
+    (makes_empty c.args.inodes old c.set_front.new.octets c.requires.room c.requires.zeros (omega arith) c.set_front.ensures)

@@ -1,0 +1,48 @@
+//! The bits of octets, the lowest of each octet first.
+
+ghost use Rattle.std.specs.Prelude.{◌≡◌, ℕ, ◌*◌, ◌/◌, ◌<◌, ◌≤◌, length, true, false, count_by, not};
+ghost use Rattle.std.specs.List.{All, range_with_len};
+ghost use Rattle.fs.specs.Bits.{bit_of, SetsBit, IsFront};
+
+// Whether a bit is set.
+pub fn is_set(octets: &[u8], bit: usize) -> bool
+    requires { bit / 8 < length octets.now }
+    ensures { result ≡ bit_of octets.now bit }
+{
+    (octets[bit / 8] >> (bit % 8)) & 1 == 1
+}
+
+// Sets a bit.
+pub fn set(octets: &mut [u8], bit: usize)
+    requires { bit / 8 < length octets.old }
+    ensures { SetsBit bit true octets.old octets.new }
+{
+    octets[bit / 8] |= 1 << (bit % 8);
+}
+
+// Sets the first so many bits of octets of which none is set.
+pub fn set_front(octets: &mut [u8], count: usize)
+    requires room { count ≤ 8 * length octets.old }
+    requires clear { All (λ octet. octet ≡ 0) octets.old }
+    ensures { IsFront count octets.new }
+{
+    for bit in 0..count {
+        set(octets, bit);
+    }
+}
+
+// How many of the first bits are clear.
+pub fn count_clear(octets: &[u8], count: usize) -> u32
+    requires room { count ≤ 8 * length octets.now }
+    requires few { count ≤ 65536 }
+    ensures clear { result ≡ count_by (λ bit. not (bit_of octets.now bit)) (range_with_len 0 count) }
+    ensures few { result ≤ count }
+{
+    let mut clear = 0;
+    for bit in 0..count {
+        if !is_set(octets, bit) {
+            clear += 1;
+        }
+    }
+    clear
+}

@@ -1,0 +1,7 @@
+pub mod Applying
+pub mod Copied
+pub mod Index
+pub mod Laid
+pub mod Loading
+pub mod Octets
+pub mod Seen

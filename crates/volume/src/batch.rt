@@ -1,0 +1,84 @@
+//! The room for a batch.
+
+ghost use Rattle.std.specs.Prelude.{◌≡◌, ℕ, ◌+◌, ◌*◌, ◌<◌, ◌≤◌, List, [], length, take, IfOk};
+ghost use Rattle.std.specs.List.{All, flat_map};
+ghost use Rattle.model.specs.Volume.{block};
+ghost use Rattle.volume.specs.Volume.{BatchView};
+
+use crate::BATCH_BLOCKS;
+use crate::blocks::{BLOCK_SIZE, block_of, put_block};
+use std::alloc::{AllocError, Global};
+use std::marker::Model;
+
+/// Numbers and octets of up to 512 blocks.
+#[derive(Drop)]
+pub struct BatchBuf {
+    numbers: Vec<u32>,
+    images: Vec<u8>,
+    count: usize,
+}
+
+impl Model for BatchBuf {
+    ghost Value = { BatchView };
+
+    ghost view = { λ b. record { numbers = take b.count b.numbers.items; images = take (4096 * b.count) b.images.items } };
+
+    ghost invariant = { λ b. (b.count ≤ 512) × (length b.numbers.items ≡ 512) × (length b.images.items ≡ 512 * 4096) };
+}
+
+impl BatchBuf {
+    /// An empty batch with room for 512 blocks.
+    pub fn new(alloc: Global) -> Result<BatchBuf, AllocError>
+        ensures { IfOk result (λ b. b ≡ record { numbers = []; images = [] }) }
+    {
+        Ok(BatchBuf {
+            numbers: vec![in alloc; 0; BATCH_BLOCKS]?,
+            images: vec![in alloc; 0; BATCH_BLOCKS * BLOCK_SIZE]?,
+            count: 0,
+        })
+    }
+
+    /// The numbers of its blocks.
+    pub fn numbers(&self) -> &[u32]
+        ensures { result.now ≡ self.now.numbers }
+    {
+        &self.numbers[..self.count]
+    }
+
+    /// The octets of its blocks, in the order of their numbers, laid end to end.
+    pub fn images(&self) -> &[u8]
+        ensures { result.now ≡ self.now.images }
+    {
+        &self.images[..self.count * BLOCK_SIZE]
+    }
+
+    // Takes the blocks with these numbers, in place of those that it has.
+    pub(crate) fn fill(&mut self, numbers: &[u32], octets: &[u8])
+        requires few { length numbers.now ≤ 512 }
+        requires there { All (λ n. 4096 * n + 4096 ≤ length octets.now) numbers.now }
+        ensures { self.new ≡ record { numbers = numbers.now; images = flat_map (λ n. block n octets.now) numbers.now } }
+    {
+        copy_front(&mut self.numbers, numbers);
+        gather(&mut self.images, numbers, octets);
+        self.count = numbers.len();
+    }
+}
+
+// Copies the numbers to the front.
+fn copy_front(into: &mut [u32], from: &[u32])
+    requires { length from.now ≤ length into.old }
+    ensures { take (length from.now) into.new ≡ from.now }
+{
+    into[..from.len()].copy_from_slice(from);
+}
+
+// Copies the blocks with these numbers to the front.
+fn gather(images: &mut [u8], numbers: &[u32], octets: &[u8])
+    requires room { 4096 * length numbers.now ≤ length images.old }
+    requires there { All (λ n. 4096 * n + 4096 ≤ length octets.now) numbers.now }
+    ensures { take (4096 * length numbers.now) images.new ≡ flat_map (λ n. block n octets.now) numbers.now }
+{
+    for (place, number) in numbers.iter().enumerate() {
+        put_block(images, place, block_of(octets, *number as usize));
+    }
+}

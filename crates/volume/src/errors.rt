@@ -1,0 +1,24 @@
+ghost use Rattle.std.specs.Prelude.{◌≡◌};
+ghost use Rattle.volume.specs.declared.errors.OpenError.TheVariants.{Memory};
+
+use std::alloc::AllocError;
+use thiserror::Error;
+
+/// Why a volume can't be loaded.
+#[derive(Clone, Copy, Debug, Drop, PartialEq, Eq, Error)]
+pub enum OpenError {
+    /// The device failed in this call. The journal is halted by it for good.
+    #[error("E1 Fault")]
+    Fault,
+    /// A growth was refused in this call, and nothing changed.
+    #[error("E2 Memory")]
+    Memory,
+}
+
+impl From<AllocError> for OpenError {
+    ghost from_gives = { λ _ e. e ≡ Memory };
+
+    fn from(_error: AllocError) -> OpenError {
+        OpenError::Memory
+    }
+}

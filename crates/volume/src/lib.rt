@@ -1,0 +1,16 @@
+//! The logical blocks in memory: a stage over a cache, and the blocks that changed since the last batch.
+#![tactic(auto)]
+
+mod batch;
+mod blocks;
+mod errors;
+mod numbers;
+mod volume;
+
+pub use batch::BatchBuf;
+pub use blocks::{BLOCK_SIZE, Blocks};
+pub use errors::OpenError;
+pub use volume::Volume;
+
+/// How many blocks a batch has at most.
+pub const BATCH_BLOCKS: usize = 512;
