@@ -1,0 +1,88 @@
+-- Message-ID and Newsgroups, over the fields of a text.
+use Rattle.std.specs.Prelude.{◌≡◌, ℕ, zero, suc, ◌+◌, ◌-◌, ◌<◌, ◌≤◌, Bool, true, false, not, ◌||◌, ◌&&◌, ◌==◌, List, [], ◌∷◌, ◌++◌, length, take, drop, get_or, map, find, count_by, codes, Option, Some, None, option_map, unwrap_or, bytes_eq, slice_index_or}
+use Rattle.std.specs.List.{list_any, onto_first}
+use Rattle.std.proofs.Common.{sym, ◌∙◌, ap, refl, arith, Bor}
+use Rattle.std.proofs.lemmas.Bool.{cond-true, cond-false, eqb-true, eq-eqb}
+use Rattle.std.proofs.lemmas.List.{append_assoc, drop-drop, nil_from_length, take_all}
+use Rattle.std.proofs.lemmas.List.Sums.{length-filter}
+use Rattle.memchr.specs.Find.{Nowhere, NoneBefore, Passes, is_byte}
+use Rattle.model.specs.Stream.{Octets}
+use Rattle.model.specs.Names.{parts}
+use Rattle.model.specs.Article.{Origin, allows_id, are_distinct, id_in_field, is_named, trimmed}
+use Rattle.model.proofs.Ids.{none_kept, none_found}
+use Rattle.article.specs.Causes.{has_good_id}
+use Rattle.article.proofs.LineLaws.{is_false}
+
+abbrev is_id_field : Octets → Bool
+is_id_field = is_named (codes "Message-ID")
+
+-- without the field there is no message-id
+pub good_id-none : (origin : Origin) (fields : List Octets) → find is_id_field fields ≡ None → true ≡ has_good_id origin fields
+good_id-none origin fields none =
+    sym (ap (λ b. b || allows_id origin (unwrap_or (option_map id_in_field (find is_id_field fields)) [])) (eq-eqb (count_by is_id_field fields) 0 (sym (length-filter is_id_field fields) ∙ none_found is_id_field fields none)))
+
+-- with one it decides
+pub good_id-some : (origin : Origin) (fields : List Octets) (field : Octets) (good : Bool) → find is_id_field fields ≡ Some field → good ≡ allows_id origin (id_in_field field) → good ≡ has_good_id origin fields
+good_id-some origin fields field good some is =
+    is ∙ ap (λ (o : Option Octets). allows_id origin (unwrap_or (option_map id_in_field o) [])) (sym some)
+    ∙ sym (ap (λ b. b || allows_id origin (unwrap_or (option_map id_in_field (find is_id_field fields)) [])) (is_false (count_by is_id_field fields == 0) (λ none.
+    let nothing : find is_id_field fields ≡ None = none_kept is_id_field fields (length-filter is_id_field fields ∙ eqb-true _ _ none) in cc)))
+
+-- ---- parts
+
+-- the first part ends at the first mark
+part_found : (text : Octets) (end : ℕ) → end < length text → ((k : ℕ) → k < end → (get_or text k 0 == 44) ≡ false) → (get_or text end 0 == 44) ≡ true → parts 44 text ≡ take end text ∷ parts 44 (drop (suc end) text)
+part_found [] end within before at = absurd (omega arith)
+part_found (x ∷ rest) zero within before at = cond-true (x == 44) ([] ∷ parts 44 rest) (onto_first x (parts 44 rest)) at
+part_found (x ∷ rest) (suc end) within before at =
+    cond-false (x == 44) ([] ∷ parts 44 rest) (onto_first x (parts 44 rest)) (before 0 (omega arith))
+    ∙ ap (onto_first x) (part_found rest end (omega arith) (λ k below. before (suc k) (omega arith)) at)
+
+-- without a mark there is one part
+part_none : (text : Octets) → ((k : ℕ) → k < length text → (get_or text k 0 == 44) ≡ false) → parts 44 text ≡ text ∷ []
+part_none [] none = refl
+part_none (x ∷ rest) none =
+    cond-false (x == 44) ([] ∷ parts 44 rest) (onto_first x (parts 44 rest)) (none 0 (omega arith))
+    ∙ ap (onto_first x) (part_none rest (λ k below. none (suc k) (omega arith)))
+
+pub groups-more : (rest group later after : Octets) (end : ℕ) (before all : List Octets) → NoneBefore (Passes (is_byte 44) rest) 0 (length rest) end → Passes (is_byte 44) rest end
+    → group ≡ take end rest → later ≡ drop end rest → after ≡ drop 1 later → before ++ map trimmed (parts 44 rest) ≡ all → (before ++ trimmed group ∷ []) ++ map trimmed (parts 44 after) ≡ all
+groups-more rest group later after end before all first found front back next so_far =
+    append_assoc before (trimmed group ∷ []) (map trimmed (parts 44 after))
+    ∙ ap (λ l. before ++ l) (ap (λ g. trimmed g ∷ map trimmed (parts 44 after)) front
+    ∙ ap (λ l. trimmed (take end rest) ∷ map trimmed (parts 44 l)) (next ∙ ap (drop 1) back ∙ drop-drop 1 end rest ∙ ap (λ n. drop n rest) (let e : end + 1 ≡ suc end = omega arith in e))
+    ∙ ap (map trimmed) (sym (part_found rest end first.high (λ k below. is_false _ (first.before k (omega arith) below)) found)))
+    ∙ so_far
+
+pub groups-last : (rest : Octets) (before all : List Octets) → Nowhere (Passes (is_byte 44) rest) 0 (length rest) → before ++ map trimmed (parts 44 rest) ≡ all → before ++ trimmed rest ∷ [] ≡ all
+groups-last rest before all none so_far =
+    ap (λ l. before ++ map trimmed l) (sym (part_none rest (λ k below. is_false _ (none k (omega arith) below)))) ∙ so_far
+
+-- ---- distinct names
+
+distinct-cons : (name : Octets) (names : List Octets) → are_distinct (name ∷ names) ≡ (not (list_any (bytes_eq name) names) && are_distinct names)
+unfolding are_distinct
+distinct-cons name names = refl
+
+-- one name further
+pub distinct-more : (rest : List (Bor Octets)) (d : Bor Octets) → 1 ≤ length rest → list_any (bytes_eq (slice_index_or rest 0 d).now) (map (λ (x : Bor Octets). x.now) (take (length rest - 1) (drop 1 rest))) ≡ false
+    → are_distinct (map (λ (x : Bor Octets). x.now) (take (length rest - 1) (drop 1 rest))) ≡ are_distinct (map (λ (x : Bor Octets). x.now) rest)
+distinct-more [] d some other = absurd (omega arith)
+distinct-more (x ∷ rest) d some other =
+    let all : take (length (x ∷ rest) - 1) rest ≡ rest = take_all (length (x ∷ rest) - 1) rest (omega arith) in
+    ap (λ l. are_distinct (map (λ (y : Bor Octets). y.now) l)) all
+    ∙ sym (distinct-cons x.now (map (λ (y : Bor Octets). y.now) rest)
+    ∙ ap (λ b. not b && are_distinct (map (λ (y : Bor Octets). y.now) rest)) (ap (λ l. list_any (bytes_eq x.now) (map (λ (y : Bor Octets). y.now) l)) (sym all) ∙ other))
+
+-- the same name again
+pub distinct-twice : (rest : List (Bor Octets)) (d : Bor Octets) → 1 ≤ length rest → list_any (bytes_eq (slice_index_or rest 0 d).now) (map (λ (x : Bor Octets). x.now) (take (length rest - 1) (drop 1 rest))) ≡ true
+    → are_distinct (map (λ (x : Bor Octets). x.now) rest) ≡ false
+distinct-twice [] d some same = absurd (omega arith)
+distinct-twice (x ∷ rest) d some same =
+    let all : take (length (x ∷ rest) - 1) rest ≡ rest = take_all (length (x ∷ rest) - 1) rest (omega arith) in
+    distinct-cons x.now (map (λ (y : Bor Octets). y.now) rest)
+    ∙ ap (λ b. not b && are_distinct (map (λ (y : Bor Octets). y.now) rest)) (ap (λ l. list_any (bytes_eq x.now) (map (λ (y : Bor Octets). y.now) l)) (sym all) ∙ same)
+
+pub distinct-none : (rest : List (Bor Octets)) → length rest < 1 → are_distinct (map (λ (x : Bor Octets). x.now) rest) ≡ true
+unfolding are_distinct
+distinct-none rest none = ap (λ l. are_distinct (map (λ (y : Bor Octets). y.now) l)) (nil_from_length rest (omega arith))

@@ -1,0 +1,11 @@
+use Rattle.std.proofs.Common.{◌≡◌, length}
+use Rattle.std.specs.Prelude.{reverse}
+use Rattle.model.specs.Article.{trimmed_start}
+use Rattle.article.proofs.contents.trim_end.Given as goal
+
+-- the octets so far are blank
+abbrev pub invariant-loop-rest : goal.invariant-loop-rest
+invariant-loop-rest l = reverse (trimmed_start (reverse l.rest)) ≡ reverse (trimmed_start (reverse l.text))
+
+abbrev pub decreases-loop-rest : goal.decreases-loop-rest
+decreases-loop-rest l = length l.rest

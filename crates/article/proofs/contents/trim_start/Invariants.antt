@@ -1,0 +1,10 @@
+use Rattle.std.proofs.Common.{◌≡◌, length}
+use Rattle.model.specs.Article.{trimmed_start}
+use Rattle.article.proofs.contents.trim_start.Given as goal
+
+-- the octets so far are blank
+abbrev pub invariant-loop-rest : goal.invariant-loop-rest
+invariant-loop-rest l = trimmed_start l.rest ≡ trimmed_start l.text
+
+abbrev pub decreases-loop-rest : goal.decreases-loop-rest
+decreases-loop-rest l = length l.rest

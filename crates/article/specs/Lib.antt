@@ -1,0 +1,5 @@
+pub mod Header
+pub mod Origins
+pub mod Causes
+pub mod Stored
+pub mod Kept

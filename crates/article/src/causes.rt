@@ -1,0 +1,239 @@
+ghost use Rattle.std.specs.Prelude.{◌≡◌, ℕ, ◌==◌, ◌≤◌, nat_lt, length, map, codes, count_by, bytes_eq, option_map, IfOk, OnOk};
+ghost use Rattle.std.specs.List.{list_all, list_any};
+ghost use Rattle.model.specs.Article as article;
+ghost use Rattle.model.specs.Names as model_names;
+ghost use Rattle.article.specs.Causes as causes;
+ghost use Rattle.article.specs.Header.{IsHeader};
+ghost use Rattle.article.specs.Origins.{HasSmallSerial, cause_of, origin_of};
+
+use crate::contents::{count, find_field, id_in_field, is_blank_field, trim, unfold, value_of};
+use crate::fields::has_fields_alone;
+use crate::lines::has_lines_alone;
+use crate::origin::{Cause, Origin};
+use crate::stored::front;
+use memchr::memchr;
+use names::{is_group_name, is_message_id, is_of_host};
+use std::alloc::{AllocError, Global};
+
+/// The octets of the longest header that is stored (this project's rule).
+pub const HEADER_LIMIT: usize = 8_192;
+
+/// The octets of the longest text that is stored (this project's rule).
+pub const TEXT_LIMIT: usize = 262_144;
+
+/// The most groups of an article (this project's rule).
+const GROUP_LIMIT: usize = 16;
+
+/// The fields that stand once at most (RFC 5536, 3.1 and 3.2).
+const SINGLE_FIELDS: [&[u8]; 7] = [
+    b"Date",
+    b"From",
+    b"Message-ID",
+    b"Newsgroups",
+    b"Path",
+    b"Subject",
+    b"References",
+];
+
+/// The fields that a client writes.
+const WRITTEN_FIELDS: [&[u8]; 3] = [b"From", b"Newsgroups", b"Subject"];
+
+/// The fields that each article has (RFC 5536, 3.1).
+const MANDATORY_FIELDS: [&[u8]; 6] = [
+    b"From",
+    b"Newsgroups",
+    b"Subject",
+    b"Date",
+    b"Message-ID",
+    b"Path",
+];
+
+/// Whether one of the names stands on two fields.
+fn any_twice(fields: &[&[u8]], names: &[&[u8]]) -> bool
+    ensures { result ≡ list_any (λ name. nat_lt 1 (count_by (article.is_named name) (map (λ field. field.now) fields.now))) (map (λ name. name.now) names.now) }
+{
+    names.iter().any(|name| count(fields, name) > 1)
+}
+
+/// Whether one of the names stands on no field.
+fn any_missing(fields: &[&[u8]], names: &[&[u8]]) -> bool
+    ensures { result ≡ list_any (λ name. count_by (article.is_named name) (map (λ field. field.now) fields.now) == 0) (map (λ name. name.now) names.now) }
+{
+    names.iter().any(|name| count(fields, name) == 0)
+}
+
+/// Whether one of the names stands on a field with nothing in it.
+fn any_blank(fields: &[&[u8]], names: &[&[u8]]) -> bool
+    ensures { result ≡ list_any (causes.is_blank_in (map (λ field. field.now) fields.now)) (map (λ name. name.now) names.now) }
+{
+    names.iter().any(|name| is_blank_field(fields, name))
+}
+
+/// Whether a field stands twice that stands once at most.
+fn has_twice(fields: &[&[u8]]) -> bool
+    ensures { result ≡ causes.has_twice (map (λ field. field.now) fields.now) }
+{
+    any_twice(fields, &SINGLE_FIELDS)
+}
+
+/// Whether a field is missing that has to be there, or a mandatory one has nothing in it.
+fn lacks_field(origin: Origin<'_>, fields: &[&[u8]]) -> bool
+    ensures { result ≡ causes.lacks_field (origin_of origin.entry) (map (λ field. field.now) fields.now) }
+{
+    let missing = match origin {
+        Origin::Posted { .. } => any_missing(fields, &WRITTEN_FIELDS),
+        Origin::Carried => any_missing(fields, &MANDATORY_FIELDS),
+    };
+    missing || any_blank(fields, &MANDATORY_FIELDS)
+}
+
+/// Whether the text is a message-id that may come from there.
+fn allows_id(origin: Origin<'_>, id: &[u8]) -> bool
+    ensures { result ≡ article.allows_id (origin_of origin.entry) id.now }
+{
+    match origin {
+        Origin::Posted { host, .. } => is_message_id(id) && !is_of_host(host, id),
+        Origin::Carried => is_message_id(id),
+    }
+}
+
+/// Whether there is no message-id, or one that may come from there.
+fn has_good_id(origin: Origin<'_>, fields: &[&[u8]]) -> bool
+    ensures { result ≡ causes.has_good_id (origin_of origin.entry) (map (λ field. field.now) fields.now) }
+{
+    match find_field(fields, b"Message-ID") {
+        Some(field) => allows_id(origin, id_in_field(field)),
+        None => true,
+    }
+}
+
+/// The groups that a content lists, which commas part.
+pub(crate) fn groups_in(alloc: Global, content: &[u8]) -> Result<Vec<&[u8]>, AllocError>
+    ensures { IfOk result (λ groups. map (λ group. group.now) groups.items ≡ map article.trimmed (model_names.parts 44 content.now)) }
+{
+    let mut groups = Vec::new(alloc);
+    let mut rest = content;
+    while let Some(end) = memchr(b',', rest) {
+        let (group, later) = rest.split_at(end);
+        groups.push(trim(group))?;
+        rest = &later[1..];
+    }
+    groups.push(trim(rest))?;
+    Ok(groups)
+}
+
+/// Whether the name is one of these.
+fn is_among(name: &[u8], names: &[&[u8]]) -> bool
+    ensures { result ≡ list_any (bytes_eq name.now) (map (λ other. other.now) names.now) }
+{
+    names.iter().any(|other| name == *other)
+}
+
+/// Whether no two of the names are equal. There are few.
+fn are_distinct(names: &[&[u8]]) -> bool
+    ensures { result ≡ article.are_distinct (map (λ name. name.now) names.now) }
+{
+    let mut rest = names;
+    while let [name, later @ ..] = rest {
+        if is_among(name, later) {
+            return false;
+        }
+        rest = later;
+    }
+    true
+}
+
+/// Whether each text is a group name.
+fn are_group_names(names: &[&[u8]]) -> bool
+    ensures { result ≡ list_all model_names.is_group_name (map (λ name. name.now) names.now) }
+{
+    names.iter().all(|name| is_group_name(name))
+}
+
+/// Whether a content lists 1 to 16 distinct group names.
+fn has_good_groups(alloc: Global, content: &[u8]) -> Result<bool, AllocError>
+    ensures { IfOk result (λ good. good ≡ causes.has_good_groups content.now) }
+{
+    let groups = groups_in(alloc, content)?;
+    Ok(groups.len() <= GROUP_LIMIT && are_group_names(&groups) && are_distinct(&groups))
+}
+
+/// What Newsgroups says, nothing where it is missing.
+pub(crate) fn newsgroups_in(alloc: Global, fields: &[&[u8]]) -> Result<Vec<u8>, AllocError>
+    ensures { IfOk result (λ content. content.items ≡ causes.content_in (codes "Newsgroups") (map (λ field. field.now) fields.now)) }
+{
+    match find_field(fields, b"Newsgroups") {
+        Some(field) => unfold(alloc, value_of(field)),
+        None => Ok(Vec::new(alloc)),
+    }
+}
+
+/// How many octets would be put in front of a text.
+pub(crate) fn front_length(
+    alloc: Global,
+    origin: Origin<'_>,
+    fields: &[&[u8]],
+) -> Result<usize, AllocError>
+    ensures length { IfOk result (λ added. added ≡ length (causes.front_for (origin_of origin.entry) (map (λ field. field.now) fields.now))) }
+    ensures small { OnOk result (HasSmallSerial (origin_of origin.entry)) }
+{
+    match origin {
+        Origin::Posted { host, serial } => Ok(front(alloc, fields, serial, host, 0)?.len()),
+        Origin::Carried => Ok(0),
+    }
+}
+
+/// Whether a text with such a header and so many octets is not too long with so many octets in front.
+pub(crate) fn is_short(header: usize, text: usize, added: usize) -> bool
+    ensures { result ≡ causes.is_short header text added }
+{
+    header <= HEADER_LIMIT
+        && text <= TEXT_LIMIT
+        && added <= HEADER_LIMIT - header
+        && added <= TEXT_LIMIT - text
+}
+
+/// The first cause that the lines of a text have, whose header ends at `header`.
+pub(crate) fn shape_cause(text: &[u8], header: usize) -> Option<Cause>
+    requires { IsHeader text.now header }
+    ensures { option_map cause_of result ≡ causes.shape_cause text.now }
+{
+    if !has_lines_alone(text) {
+        return Some(Cause::Octets);
+    }
+    if header == text.len() {
+        return Some(Cause::NoEnd);
+    }
+    if !has_fields_alone(text) {
+        return Some(Cause::Field);
+    }
+    None
+}
+
+/// The first cause that the fields of a text have, which is short or not.
+pub(crate) fn field_cause(
+    alloc: Global,
+    origin: Origin<'_>,
+    fields: &[&[u8]],
+    newsgroups: &[u8],
+    is_short: bool,
+) -> Result<Option<Cause>, AllocError>
+    ensures { IfOk result (λ found. option_map cause_of found ≡ causes.field_cause (origin_of origin.entry) (map (λ field. field.now) fields.now) newsgroups.now is_short) }
+{
+    if has_twice(fields) {
+        return Ok(Some(Cause::Twice));
+    }
+    if lacks_field(origin, fields) {
+        return Ok(Some(Cause::Missing));
+    }
+    if !has_good_id(origin, fields) {
+        return Ok(Some(Cause::Id));
+    }
+    if !has_good_groups(alloc, newsgroups)? {
+        return Ok(Some(Cause::Groups));
+    }
+    if !is_short {
+        return Ok(Some(Cause::Long));
+    }
+    Ok(None)
+}

@@ -1,0 +1,138 @@
+ghost use Rattle.std.specs.Prelude.{◌≡◌, ℕ, ◌+◌, length, drop, map, find, count_by, option_map, reverse, IfOk, OnOk};
+ghost use Rattle.std.specs.List.{list_all};
+ghost use Rattle.model.specs.Article as article;
+ghost use Rattle.model.specs.Names as names;
+ghost use Rattle.article.specs.Causes.{is_blank_in};
+
+use crate::fields::{is_blank, name_of};
+use crate::lines::line_length;
+use std::alloc::{AllocError, Global};
+
+/// Whether the field has this name, in capitals or small letters (RFC 5536, 2.2).
+fn is_named(name: &[u8], field: &[u8]) -> bool
+    ensures { result ≡ article.is_named name.now field.now }
+{
+    name_of(field).eq_ignore_ascii_case(name)
+}
+
+/// How many of the fields have this name.
+pub(crate) fn count(fields: &[&[u8]], name: &[u8]) -> usize
+    ensures { result ≡ count_by (article.is_named name.now) (map (λ field. field.now) fields.now) }
+{
+    fields.iter().filter(|field| is_named(name, field)).count()
+}
+
+/// The first of the fields that has this name.
+pub(crate) fn find_field<'t>(fields: &[&'t [u8]], name: &[u8]) -> Option<&'t [u8]>
+    ensures { option_map (λ field. field.now) result ≡ find (article.is_named name.now) (map (λ field. field.now) fields.now) }
+{
+    fields.iter().find(|field| is_named(name, field)).copied()
+}
+
+/// What stands behind name, colon and one SP.
+pub(crate) fn value_of(field: &[u8]) -> &[u8]
+    ensures { result.now ≡ drop (length (article.name_of field.now) + 2) field.now }
+{
+    let start = name_of(field).len() + 2;
+    if start <= field.len() {
+        &field[start..]
+    } else {
+        &field[..0]
+    }
+}
+
+/// A line without its CRLF.
+fn line_text(line: &[u8]) -> &[u8]
+    ensures { result.now ≡ article.line_text line.now }
+{
+    if line.ends_with(b"\r\n") {
+        &line[..line.len() - 2]
+    } else {
+        line
+    }
+}
+
+/// Whether each octet is SP or TAB.
+fn are_blank(octets: &[u8]) -> bool
+    ensures { result ≡ list_all names.is_blank octets.now }
+{
+    octets.iter().all(|octet| is_blank(*octet))
+}
+
+/// Whether nothing but SP, TAB and line ends stands in a text.
+fn is_blank_text(text: &[u8]) -> bool
+    ensures { result ≡ list_all names.is_blank (article.unfolded text.now) }
+{
+    let mut rest = text;
+    while !rest.is_empty() {
+        let (line, later) = rest.split_at(line_length(rest));
+        if !are_blank(line_text(line)) {
+            return false;
+        }
+        rest = later;
+    }
+    true
+}
+
+/// Whether one of the fields has this name and nothing but SP, TAB and line ends in it.
+pub(crate) fn is_blank_field(fields: &[&[u8]], name: &[u8]) -> bool
+    ensures { result ≡ is_blank_in (map (λ field. field.now) fields.now) name.now }
+{
+    fields.iter().any(|field| is_named(name, field) && is_blank_text(value_of(field)))
+}
+
+/// A text without its line ends (RFC 5322, 2.2.3).
+pub(crate) fn unfold(alloc: Global, text: &[u8]) -> Result<Vec<u8>, AllocError>
+    ensures { IfOk result (λ unfolded. unfolded.items ≡ article.unfolded text.now) }
+{
+    let mut unfolded = Vec::new(alloc);
+    let mut rest = text;
+    while !rest.is_empty() {
+        let (line, later) = rest.split_at(line_length(rest));
+        unfolded.extend_from_slice(line_text(line))?;
+        rest = later;
+    }
+    Ok(unfolded)
+}
+
+/// A text less the octets in front that are SP or TAB.
+fn trim_start(text: &[u8]) -> &[u8]
+    ensures { result.now ≡ article.trimmed_start text.now }
+{
+    let mut rest = text;
+    while let [first, later @ ..] = rest {
+        if !is_blank(*first) {
+            return rest;
+        }
+        rest = later;
+    }
+    rest
+}
+
+/// A text less the octets at its end that are SP or TAB.
+fn trim_end(text: &[u8]) -> &[u8]
+    ensures { result.now ≡ reverse (article.trimmed_start (reverse text.now)) }
+{
+    let mut rest = text;
+    while let [front @ .., last] = rest {
+        if !is_blank(*last) {
+            return rest;
+        }
+        rest = front;
+    }
+    rest
+}
+
+/// A text without the SP and TAB round it.
+pub(crate) fn trim(text: &[u8]) -> &[u8]
+    ensures { result.now ≡ article.trimmed text.now }
+{
+    trim_end(trim_start(text))
+}
+
+/// The message-id that a field says. It is never folded (RFC 5536, 3.1.3), so no line end in it is taken out.
+pub(crate) fn id_in_field(field: &[u8]) -> &[u8]
+    ensures { result.now ≡ article.id_in_field field.now }
+{
+    trim(line_text(value_of(field)))
+}

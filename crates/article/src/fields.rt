@@ -1,0 +1,138 @@
+ghost use Rattle.std.specs.Prelude.{◌≡◌, ℕ, ◌+◌, ◌≤◌, ◌||◌, ◌∷◌, length, take, drop, map, find, count_by, option_map, IfOk, OnOk};
+ghost use Rattle.std.specs.List.{list_all};
+ghost use Rattle.model.specs.Article as article;
+ghost use Rattle.model.specs.Names as names;
+ghost use Rattle.article.specs.Header.{EndsField};
+
+use crate::lines::{is_empty_line, line_length};
+use memchr::memchr;
+use std::alloc::{AllocError, Global};
+use std::cmp::min;
+
+/// Whether the octet is SP or TAB.
+pub(crate) fn is_blank(octet: u8) -> bool
+    ensures { result ≡ names.is_blank octet }
+{
+    octet == b' ' || octet == b'\t'
+}
+
+/// Whether the octet is printable and no space.
+fn is_visible(octet: u8) -> bool
+    ensures { result ≡ names.is_visible octet }
+{
+    33 <= octet && octet <= 126
+}
+
+/// Whether a line goes on with the field of the line before it.
+fn begins_blank(line: &[u8]) -> bool
+    ensures { result ≡ names.begins names.is_blank line.now }
+{
+    match line {
+        [first, ..] => is_blank(*first),
+        [] => false,
+    }
+}
+
+/// What stands before the colon, or all where there is none.
+pub(crate) fn name_of(field: &[u8]) -> &[u8]
+    ensures { result.now ≡ article.name_of field.now }
+{
+    match memchr(b':', field) {
+        Some(end) => &field[..end],
+        None => field,
+    }
+}
+
+/// Whether a line begins a field: name, colon, SP (RFC 5536, 2.2).
+fn begins_field(line: &[u8]) -> bool
+    ensures { result ≡ article.begins_field line.now }
+{
+    let name = name_of(line);
+    is_visible_run(name) && line[name.len()..].starts_with(b": ")
+}
+
+fn are_visible(octets: &[u8]) -> bool
+    ensures { result ≡ list_all names.is_visible octets.now }
+{
+    octets.iter().all(|octet| is_visible(*octet))
+}
+
+fn is_visible_run(name: &[u8]) -> bool
+    ensures { result ≡ names.is_run_of names.is_visible name.now }
+{
+    !name.is_empty() && are_visible(name)
+}
+
+/// Whether a header line behind the first is one of fields.
+fn is_field_line(line: &[u8]) -> bool
+    ensures { result ≡ (names.begins names.is_blank line.now || article.begins_field line.now) }
+{
+    begins_blank(line) || begins_field(line)
+}
+
+/// Whether each header line of a text begins a field or goes on with one.
+fn are_fields_or_go_on(text: &[u8]) -> bool
+    ensures { result ≡ list_all (λ line. names.begins names.is_blank line || article.begins_field line) (article.header_lines text.now) }
+{
+    let mut rest = text;
+    while !rest.is_empty() {
+        let (line, later) = rest.split_at(line_length(rest));
+        if is_empty_line(line) {
+            return true;
+        }
+        if !is_field_line(line) {
+            return false;
+        }
+        rest = later;
+    }
+    true
+}
+
+/// Whether the header of a text is fields: the first line begins one, each other begins one or goes on with one.
+pub(crate) fn has_fields_alone(text: &[u8]) -> bool
+    ensures { result ≡ article.has_fields_alone (article.header_lines text.now) }
+{
+    if text.is_empty() {
+        return true;
+    }
+    let (first, later) = text.split_at(line_length(text));
+    if is_empty_line(first) {
+        return true;
+    }
+    begins_field(first) && are_fields_or_go_on(later)
+}
+
+/// How far the lines reach that go on with the field of the first line, which ends at `first`.
+fn field_end(text: &[u8], first: usize) -> usize
+    requires { first ≤ length text.now }
+    ensures low { first ≤ result }
+    ensures within { result ≤ length text.now }
+    ensures field { EndsField text.now first result }
+{
+    let mut end = first;
+    let mut rest = &text[first..];
+    while begins_blank(rest) {
+        let (line, later) = rest.split_at(line_length(rest));
+        end += line.len();
+        rest = later;
+    }
+    end
+}
+
+/// The fields of a text's header, each with the lines that go on with it.
+pub(crate) fn fields_of<'t>(alloc: Global, text: &'t [u8]) -> Result<Vec<&'t [u8]>, AllocError>
+    ensures { IfOk result (λ fields. map (λ field. field.now) fields.items ≡ article.fields text.now) }
+{
+    let mut fields = Vec::new(alloc);
+    let mut rest = text;
+    while !rest.is_empty() {
+        let first = line_length(rest);
+        if is_empty_line(&rest[..first]) {
+            return Ok(fields);
+        }
+        let (field, later) = rest.split_at(field_end(rest, first));
+        fields.push(field)?;
+        rest = later;
+    }
+    Ok(fields)
+}

@@ -1,0 +1,160 @@
+//! News articles (RFC 5536): reading a text as an article, what its fields say, and the text that is stored of a posted
+//! one. What each word means stands in `specs/Article.antt` of the crate `model`.
+#![tactic(auto)]
+
+ghost use Rattle.std.specs.Prelude.{◌≡◌, ◌<◌, IfOk, IfErr, OnOk, IsTrue, Some, None, map, option_map};
+ghost use Rattle.model.specs.Calendar.{moment_limit};
+ghost use Rattle.model.specs.Article as model_article;
+ghost use Rattle.article.specs.Origins.{cause_of, names_host, origin_of};
+ghost use Rattle.article.specs.declared.origin.Cause.{Cause as Told};
+
+mod causes;
+mod contents;
+mod fields;
+mod lines;
+mod origin;
+mod stored;
+
+use causes::{field_cause, front_length, groups_in, is_short, newsgroups_in, shape_cause};
+pub use causes::{HEADER_LIMIT, TEXT_LIMIT};
+use contents::{find_field, id_in_field, unfold, value_of};
+use fields::fields_of;
+use lines::header_length;
+use model::Text;
+pub use origin::{Cause, Origin, ReadError};
+use std::alloc::{AllocError, Global};
+use std::marker::Model;
+use stored::front;
+
+/// A text that is an article, seen by contracts as its octets.
+#[derive(Drop)]
+pub struct Article<'t> {
+    text: &'t [u8],
+    header: usize,
+    fields: Vec<&'t [u8]>,
+    newsgroups: Vec<u8>,
+}
+
+impl<'t> Model for Article<'t> {
+    ghost use Rattle.std.specs.Prelude.{List, ℕ};
+
+    ghost Value = { List ℕ };
+
+    ghost use Rattle.article.specs.Kept.{IsKept};
+
+    ghost view = { λ a. a.text.now };
+
+    ghost invariant = { IsKept };
+}
+
+impl<'t> Article<'t> {
+    /// Reads a text as an article from there. `Bad` comes exactly where the text has a cause, and has the first one;
+    /// `Memory` may come for each text. The host of a posted text is a host, which is the caller's condition.
+    pub fn read(alloc: Global, text: &'t [u8], origin: Origin<'_>) -> Result<Article<'t>, ReadError>
+        requires { IsTrue (names_host (origin_of origin)) }
+        ensures ok { IfOk result (λ article. article ≡ text.now) }
+        ensures no_cause { OnOk result (model_article.cause (origin_of origin.entry) text.now ≡ None) }
+        ensures bad { IfErr result (λ error. (cause : Told) → error ≡ ReadError.Bad cause → model_article.cause (origin_of origin.entry) text.now ≡ Some (cause_of cause)) }
+    {
+        let header = header_length(text);
+        if let Some(cause) = shape_cause(text, header) {
+            return Err(ReadError::Bad(cause));
+        }
+        let fields = fields_of(alloc, text)?;
+        let newsgroups = newsgroups_in(alloc, &fields)?;
+        let added = front_length(alloc, origin, &fields)?;
+        let short = is_short(header, text.len(), added);
+        let found = field_cause(alloc, origin, &fields, &newsgroups, short)?;
+        if let Some(cause) = found {
+            return Err(ReadError::Bad(cause));
+        }
+        Ok(Article {
+            text,
+            header,
+            fields,
+            newsgroups,
+        })
+    }
+
+    /// The text.
+    pub fn text(&self) -> &[u8]
+        ensures { result.now ≡ self.now }
+    {
+        self.text
+    }
+
+    /// The header, without the empty line.
+    pub fn header(&self) -> &[u8]
+        ensures { result.now ≡ model_article.header self.now }
+    {
+        &self.text[..self.header]
+    }
+
+    /// What follows the empty line.
+    pub fn body(&self) -> &[u8]
+        ensures { result.now ≡ model_article.body self.now }
+    {
+        &self.text[self.header + 2..]
+    }
+
+    /// The content of the first field of this name, in capitals or small letters: what stands behind name, colon and one
+    /// SP, with the lines that go on with it, and each CRLF taken out. An `Err` is out of memory.
+    pub fn field(&self, alloc: Global, name: &[u8]) -> Result<Option<Vec<u8>>, AllocError>
+        ensures { IfOk result (λ content. option_map (λ octets. octets.items) content ≡ model_article.field name.now self.now) }
+    {
+        match find_field(&self.fields, name) {
+            Some(field) => Ok(Some(unfold(alloc, value_of(field))?)),
+            None => Ok(None),
+        }
+    }
+
+    /// The message-id. An article that was posted may have none.
+    pub fn id(&self) -> Option<&[u8]>
+        ensures { option_map (λ id. id.now) result ≡ model_article.own_id self.now }
+    {
+        match find_field(&self.fields, b"Message-ID") {
+            Some(field) => Some(id_in_field(field)),
+            None => None,
+        }
+    }
+
+    /// The names of its groups, in the order of Newsgroups. An `Err` is out of memory.
+    pub fn groups(&self, alloc: Global) -> Result<Vec<Text>, AllocError>
+        ensures { IfOk result (λ groups. groups.items ≡ model_article.groups_of self.now) }
+    {
+        let groups = groups_in(alloc, &self.newsgroups)?;
+        copies(alloc, &groups)
+    }
+
+    /// The text that is stored of it where it is posted to this host at this moment and gets this serial: Path, Date and
+    /// Message-ID stand in front, where they are missing. A moment is whole seconds since 1970, below 253,402,300,800,
+    /// which is the caller's condition. An `Err` is out of memory.
+    pub fn inject(
+        &self,
+        alloc: Global,
+        serial: u64,
+        host: &[u8],
+        moment: u64,
+    ) -> Result<Vec<u8>, AllocError>
+        requires { moment < moment_limit }
+        ensures { IfOk result (λ stored. stored.items ≡ model_article.injected host.now serial moment self.now) }
+    {
+        let mut stored = front(alloc, &self.fields, serial, host, moment)?;
+        stored.extend_from_slice(self.text)?;
+        Ok(stored)
+    }
+}
+
+/// The texts in memory of their own.
+fn copies(alloc: Global, texts: &[&[u8]]) -> Result<Vec<Text>, AllocError>
+    ensures { IfOk result (λ copies. copies.items ≡ map (λ text. text.now) texts.now) }
+{
+    let mut copies = Vec::new(alloc);
+    for text in texts {
+        copies.push(Text::new(text.to_vec(alloc)?))?;
+    }
+    Ok(copies)
+}
+
+#[cfg(test)]
+mod tests;

@@ -1,0 +1,73 @@
+ghost use Rattle.std.specs.Prelude.{◌≡◌, ◌<◌, ◌≤◌, ◌∷◌, length, take, drop, bytes_eq};
+ghost use Rattle.std.specs.List.{list_all};
+ghost use Rattle.model.specs.Stream.{crlf, lines};
+ghost use Rattle.model.specs.Article as article;
+ghost use Rattle.article.specs.Header.{IsHeader, is_plain};
+
+use memchr::{memchr3, memmem};
+
+/// The length of a text's first line, with its CRLF where it has one.
+pub(crate) fn line_length(text: &[u8]) -> usize
+    requires { 0 < length text.now }
+    ensures some { 0 < result }
+    ensures within { result ≤ length text.now }
+    ensures first { lines text.now ≡ take result text.now ∷ lines (drop result text.now) }
+{
+    match memmem::find(text, b"\r\n") {
+        Some(at) => at + 2,
+        None => text.len(),
+    }
+}
+
+/// Whether a line is the empty one.
+pub(crate) fn is_empty_line(line: &[u8]) -> bool
+    ensures { result ≡ bytes_eq line.now crlf }
+{
+    line == b"\r\n".as_slice()
+}
+
+/// Whether none of the octets is NUL, CR or LF.
+fn are_plain(octets: &[u8]) -> bool
+    ensures { result ≡ list_all is_plain octets.now }
+{
+    memchr3(0, b'\r', b'\n', octets).is_none()
+}
+
+/// Whether a line ends in CRLF and has no NUL, CR or LF before it.
+fn is_whole_line(line: &[u8]) -> bool
+    ensures { result ≡ article.is_whole_line line.now }
+{
+    line.ends_with(b"\r\n") && are_plain(&line[..line.len() - 2])
+}
+
+/// Whether a text is whole lines, at least one.
+pub(crate) fn has_lines_alone(text: &[u8]) -> bool
+    ensures { result ≡ article.has_lines_alone text.now }
+{
+    let mut rest = text;
+    while !rest.is_empty() {
+        let (line, later) = rest.split_at(line_length(rest));
+        if !is_whole_line(line) {
+            return false;
+        }
+        rest = later;
+    }
+    !text.is_empty()
+}
+
+/// The length of a text's header: of the lines before the first empty one, or of all where there is none.
+pub(crate) fn header_length(text: &[u8]) -> usize
+    ensures { IsHeader text.now result }
+{
+    let mut at = 0;
+    let mut rest = text;
+    while !rest.is_empty() {
+        let (line, later) = rest.split_at(line_length(rest));
+        if is_empty_line(line) {
+            return at;
+        }
+        at += line.len();
+        rest = later;
+    }
+    at
+}

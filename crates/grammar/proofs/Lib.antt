@@ -1,0 +1,4 @@
+pub mod ArgumentLaws
+pub mod KeywordLaws
+pub mod WordLaws
+pub mod ReadLaws

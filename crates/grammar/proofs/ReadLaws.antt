@@ -1,0 +1,91 @@
+-- What a line is, by its first word and the words behind it.
+use Rattle.std.specs.Prelude.{◌≡◌, ℕ, Bool, true, false, ◌||◌, List, [], ◌∷◌, Option, Some, None, option_map, unwrap_or}
+use Rattle.std.specs.List.{list_all}
+use Rattle.std.proofs.Common.{◌∙◌, ap, sym, refl}
+use Rattle.std.proofs.lemmas.Bool.{cond-true, cond-false}
+use Rattle.model.specs.Commands as commands
+use Rattle.model.specs.Commands.{parsed_by, parsed_line, parsed_words, words, command_of}
+use Rattle.model.specs.Names.{begins, is_blank, is_visible}
+use Rattle.model.specs.declared.command.Command.{Command}
+use Rattle.model.specs.declared.command.Parsed.TheVariants as parsed
+use Rattle.grammar.specs.declared.lines.Arguments.{Arguments}
+use Rattle.grammar.specs.declared.lines.Arguments.TheVariants as arguments
+use Rattle.grammar.specs.Words.{Says, words_of}
+
+-- too many words are as good as five
+five_words : (keyword : commands.Keyword) (a b c d e : List ℕ) (more : List (List ℕ)) → command_of keyword (a ∷ b ∷ c ∷ d ∷ e ∷ more) ≡ None
+five_words commands.article a b c d e more = refl
+five_words commands.body a b c d e more = refl
+five_words commands.capabilities a b c d e more = refl
+five_words commands.date a b c d e more = refl
+five_words commands.group a b c d e more = refl
+five_words commands.head a b c d e more = refl
+five_words commands.help a b c d e more = refl
+five_words commands.ihave a b c d e more = refl
+five_words commands.last a b c d e more = refl
+five_words commands.list a b c d e more = refl
+five_words commands.listgroup a b c d e more = refl
+five_words commands.mode a b c d e more = refl
+five_words commands.newgroups a b c d e more = refl
+five_words commands.newnews a b c d e more = refl
+five_words commands.next a b c d e more = refl
+five_words commands.over a b c d e more = refl
+five_words commands.post a b c d e more = refl
+five_words commands.quit a b c d e more = refl
+five_words commands.stat a b c d e more = refl
+
+-- the arguments give the command of their words
+pub command_of_words : (keyword : commands.Keyword) (given : Arguments) (ws : List (List ℕ)) → Says given ws → command_of keyword (words_of given) ≡ command_of keyword ws
+command_of_words keyword arguments.None ws says = ap (command_of keyword) (sym says)
+command_of_words keyword (arguments.One a) ws says = ap (command_of keyword) (sym says)
+command_of_words keyword (arguments.Two a b) ws says = ap (command_of keyword) (sym says)
+command_of_words keyword (arguments.Three a b c) ws says = ap (command_of keyword) (sym says)
+command_of_words keyword (arguments.Four a b c d) ws says = ap (command_of keyword) (sym says)
+command_of_words keyword arguments.More ws says =
+    five_words keyword [] [] [] [] [] []
+    ∙ sym (five_words keyword says.first says.second says.third says.fourth says.fifth says.more)
+    ∙ ap (command_of keyword) (sym says.is)
+
+module _ (line : List ℕ) where
+  abbrev clean : Bool
+  clean = list_all (λ c. is_blank c || is_visible c) line
+
+  -- a line with a blank in front is unknown
+  pub line-blank : true ≡ begins is_blank line → parsed.Unknown ≡ parsed_line line
+  unfolding parsed_line
+  line-blank blank = sym (cond-true (begins is_blank line) parsed.Unknown (parsed_words clean (words line)) (sym blank))
+
+  line-words : false ≡ begins is_blank line → parsed_line line ≡ parsed_words clean (words line)
+  unfolding parsed_line
+  line-words plain = cond-false (begins is_blank line) parsed.Unknown (parsed_words clean (words line)) (sym plain)
+
+  module _ (plain : false ≡ begins is_blank line) where
+    -- one without words too
+    pub line-empty : words line ≡ [] → parsed.Unknown ≡ parsed_line line
+    line-empty none = sym (line-words plain ∙ ap (parsed_words clean) none)
+
+    module _ (word : List ℕ) (rest : List (List ℕ)) (is : words line ≡ word ∷ rest) where
+      -- and one whose first word is no keyword
+      pub line-unknown : None ≡ commands.keyword_of word → parsed.Unknown ≡ parsed_line line
+      line-unknown none =
+          ap (λ o. unwrap_or (option_map (λ keyword. parsed_by clean keyword rest) o) parsed.Unknown) none
+          ∙ sym (line-words plain ∙ ap (parsed_words clean) is)
+
+      module _ (keyword : commands.Keyword) (known : Some keyword ≡ commands.keyword_of word) where
+        line-known : parsed_by clean keyword rest ≡ parsed_line line
+        line-known =
+            ap (λ o. unwrap_or (option_map (λ k. parsed_by clean k rest) o) parsed.Unknown) known
+            ∙ sym (line-words plain ∙ ap (parsed_words clean) is)
+
+        -- an octet that may not stand in a line makes a line with a keyword bad
+        pub line-unclean : false ≡ clean → parsed.Bad ≡ parsed_line line
+        line-unclean unclean =
+            sym (cond-false clean (unwrap_or (option_map parsed.Command (command_of keyword rest)) parsed.Bad) parsed.Bad (sym unclean))
+            ∙ line-known
+
+        -- else the line is the command of its keyword and words, or bad
+        pub line-clean : true ≡ clean → (found : Option Command) → found ≡ command_of keyword rest → unwrap_or (option_map parsed.Command found) parsed.Bad ≡ parsed_line line
+        line-clean all found same =
+            ap (λ o. unwrap_or (option_map parsed.Command o) parsed.Bad) same
+            ∙ sym (cond-true clean (unwrap_or (option_map parsed.Command (command_of keyword rest)) parsed.Bad) parsed.Bad (sym all))
+            ∙ line-known

@@ -1,0 +1,41 @@
+-- What a command holds is in the grammar of its arguments.
+use Rattle.std.specs.Prelude.{ℕ, List, Option, IfSome, IsTrue}
+use Rattle.model.specs.Commands.{parsed_line, is_date_word, is_time_word}
+use Rattle.model.specs.Names.{is_group_name, is_message_id, is_wildmat}
+use Rattle.model.specs.declared.command.Command.{Command}
+use Rattle.model.specs.declared.command.Command.TheVariants as command
+use Rattle.model.specs.declared.command.Parsed.{Parsed}
+use Rattle.model.specs.declared.command.Parsed.TheVariants as parsed
+use Rattle.model.specs.declared.command.Selector.{Selector}
+use Rattle.model.specs.declared.command.Selector.TheVariants as selector
+
+abbrev pub IsSelector : Selector → Type 0
+IsSelector (selector.Id id) = IsTrue (is_message_id id)
+IsSelector other = Unit {0}
+
+-- a listing has no wildmat, or one
+abbrev pub IsListing : Option (List ℕ) → Type 0
+IsListing wildmat = IfSome wildmat (λ w. IsTrue (is_wildmat w))
+
+-- the texts of a command are group names, message-ids, wildmats, dates and times
+abbrev pub IsInGrammar : Command → Type 0
+IsInGrammar (command.Group name) = IsTrue (is_group_name name)
+IsInGrammar (command.ListGroup name) = IsTrue (is_group_name name)
+IsInGrammar (command.ListGroupRange name range) = IsTrue (is_group_name name)
+IsInGrammar (command.Fetch part s) = IsSelector s
+IsInGrammar (command.OverId id) = IsTrue (is_message_id id)
+IsInGrammar (command.Ihave id) = IsTrue (is_message_id id)
+IsInGrammar (command.ListActive wildmat) = IsListing wildmat
+IsInGrammar (command.ListTimes wildmat) = IsListing wildmat
+IsInGrammar (command.ListNewsgroups wildmat) = IsListing wildmat
+IsInGrammar (command.NewGroups date time) = IsTrue (is_date_word date) × IsTrue (is_time_word time)
+IsInGrammar (command.NewNews wildmat date time) = IsTrue (is_wildmat wildmat) × IsTrue (is_date_word date) × IsTrue (is_time_word time)
+IsInGrammar other = Unit {0}
+
+abbrev pub IsParsed : Parsed → Type 0
+IsParsed (parsed.Command c) = IsInGrammar c
+IsParsed other = Unit {0}
+
+-- each line
+abbrev pub LinesAreInGrammar : Type 0
+LinesAreInGrammar = (line : List ℕ) → IsParsed (parsed_line line)

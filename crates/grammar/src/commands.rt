@@ -1,0 +1,255 @@
+ghost use Rattle.std.specs.Prelude.{◌≡◌, IfOk, ◌&&◌};
+ghost use Rattle.model.specs.Commands as commands;
+ghost use Rattle.model.specs.Calendar as calendar;
+ghost use Rattle.model.specs.declared.command.Command.TheVariants as made;
+ghost use Rattle.grammar.specs.Keywords.{meant};
+ghost use Rattle.grammar.specs.Words.{words_of};
+ghost use Rattle.grammar.specs.Commands.{alone_of};
+
+use crate::keywords::{Keyword, is_word};
+use crate::lines::Arguments;
+use model::{Command, Part, Selector, Text};
+use names::{is_group_name, is_message_id, is_wildmat, number_of, range_of};
+use std::alloc::{AllocError, Global};
+
+/// The digits of a date without its century, of one with it, and of a time.
+const SHORT_DATE: usize = 6;
+
+const LONG_DATE: usize = 8;
+
+const TIME: usize = 6;
+
+/// The command of a keyword and its arguments, if they are in its grammar.
+pub fn command(
+    alloc: Global,
+    keyword: Keyword,
+    arguments: Arguments,
+) -> Result<Option<Command>, AllocError>
+    ensures { IfOk result (λ found. found ≡ commands.command_of (meant keyword) (words_of arguments.entry)) }
+{
+    match keyword {
+        Keyword::Article => fetch(alloc, Part::Whole, arguments),
+        Keyword::Head => fetch(alloc, Part::Head, arguments),
+        Keyword::Body => fetch(alloc, Part::Body, arguments),
+        Keyword::Stat => fetch(alloc, Part::Nothing, arguments),
+        Keyword::Capabilities => Ok(capabilities(arguments)),
+        Keyword::Mode => Ok(mode(arguments)),
+        Keyword::Quit => Ok(alone(arguments, Command::Quit)),
+        Keyword::Help => Ok(alone(arguments, Command::Help)),
+        Keyword::Date => Ok(alone(arguments, Command::Date)),
+        Keyword::Next => Ok(alone(arguments, Command::Next)),
+        Keyword::Last => Ok(alone(arguments, Command::Last)),
+        Keyword::Post => Ok(alone(arguments, Command::Post)),
+        Keyword::Group => group(alloc, arguments),
+        Keyword::ListGroup => list_group(alloc, arguments),
+        Keyword::Over => over(alloc, arguments),
+        Keyword::List => list(alloc, arguments),
+        Keyword::NewGroups => new_groups(alloc, arguments),
+        Keyword::NewNews => new_news(alloc, arguments),
+        Keyword::Ihave => ihave(alloc, arguments),
+    }
+}
+
+/// A word in memory of its own.
+fn text(alloc: Global, word: &[u8]) -> Result<Text, AllocError>
+    ensures { IfOk result (λ text. text ≡ word.now) }
+{
+    Ok(Text::new(word.to_vec(alloc)?))
+}
+
+/// A command that has no arguments.
+fn alone(arguments: Arguments, command: Command) -> Option<Command>
+    ensures { result ≡ alone_of command (words_of arguments.entry) }
+{
+    match arguments {
+        Arguments::None => Some(command),
+        _ => None,
+    }
+}
+
+fn capabilities(arguments: Arguments) -> Option<Command>
+    ensures { result ≡ commands.command_of commands.capabilities (words_of arguments.entry) }
+{
+    match arguments {
+        Arguments::None | Arguments::One(_) => Some(Command::Capabilities),
+        _ => None,
+    }
+}
+
+fn mode(arguments: Arguments) -> Option<Command>
+    ensures { result ≡ commands.command_of commands.mode (words_of arguments.entry) }
+{
+    match arguments {
+        Arguments::One(word) if is_word(b"READER", word) => Some(Command::ModeReader),
+        _ => None,
+    }
+}
+
+/// The article that a word asks for, by its number or id.
+fn selector(alloc: Global, word: &[u8]) -> Result<Option<Selector>, AllocError>
+    ensures { IfOk result (λ found. found ≡ commands.selector_of word.now) }
+{
+    if is_message_id(word) {
+        return Ok(Some(Selector::Id(text(alloc, word)?)));
+    }
+    Ok(number_of(word).map(Selector::Number))
+}
+
+/// ARTICLE, HEAD, BODY and STAT.
+fn fetch(alloc: Global, part: Part, arguments: Arguments) -> Result<Option<Command>, AllocError>
+    ensures { IfOk result (λ found. found ≡ commands.fetch part (words_of arguments.entry)) }
+{
+    match arguments {
+        Arguments::None => Ok(Some(Command::Fetch(part, Selector::Current))),
+        Arguments::One(word) => match selector(alloc, word)? {
+            Some(selector) => Ok(Some(Command::Fetch(part, selector))),
+            None => Ok(None),
+        },
+        _ => Ok(None),
+    }
+}
+
+fn group(alloc: Global, arguments: Arguments) -> Result<Option<Command>, AllocError>
+    ensures { IfOk result (λ found. found ≡ commands.command_of commands.group (words_of arguments.entry)) }
+{
+    match arguments {
+        Arguments::One(name) if is_group_name(name) => Ok(Some(Command::Group(text(alloc, name)?))),
+        _ => Ok(None),
+    }
+}
+
+fn list_group(alloc: Global, arguments: Arguments) -> Result<Option<Command>, AllocError>
+    ensures { IfOk result (λ found. found ≡ commands.command_of commands.listgroup (words_of arguments.entry)) }
+{
+    match arguments {
+        Arguments::None => Ok(Some(Command::ListGroupSelected)),
+        Arguments::One(name) if is_group_name(name) => {
+            Ok(Some(Command::ListGroup(text(alloc, name)?)))
+        }
+        Arguments::Two(name, range) if is_group_name(name) => match range_of(range) {
+            Some(range) => Ok(Some(Command::ListGroupRange(text(alloc, name)?, range))),
+            None => Ok(None),
+        },
+        _ => Ok(None),
+    }
+}
+
+fn over(alloc: Global, arguments: Arguments) -> Result<Option<Command>, AllocError>
+    ensures { IfOk result (λ found. found ≡ commands.command_of commands.over (words_of arguments.entry)) }
+{
+    match arguments {
+        Arguments::None => Ok(Some(Command::OverCurrent)),
+        Arguments::One(id) if is_message_id(id) => Ok(Some(Command::OverId(text(alloc, id)?))),
+        Arguments::One(range) => Ok(range_of(range).map(Command::OverRange)),
+        _ => Ok(None),
+    }
+}
+
+fn ihave(alloc: Global, arguments: Arguments) -> Result<Option<Command>, AllocError>
+    ensures { IfOk result (λ found. found ≡ commands.command_of commands.ihave (words_of arguments.entry)) }
+{
+    match arguments {
+        Arguments::One(id) if is_message_id(id) => Ok(Some(Command::Ihave(text(alloc, id)?))),
+        _ => Ok(None),
+    }
+}
+
+fn list(alloc: Global, arguments: Arguments) -> Result<Option<Command>, AllocError>
+    ensures { IfOk result (λ found. found ≡ commands.command_of commands.list (words_of arguments.entry)) }
+{
+    match arguments {
+        Arguments::None => Ok(Some(Command::ListActive(None))),
+        Arguments::One(word) => Ok(listed(word, None)),
+        Arguments::Two(word, wildmat) if is_wildmat(wildmat) => {
+            Ok(listed(word, Some(text(alloc, wildmat)?)))
+        }
+        _ => Ok(None),
+    }
+}
+
+/// LIST with a keyword of its own, and a wildmat if there is one.
+fn listed(word: &[u8], wildmat: Option<Text>) -> Option<Command>
+    ensures { result ≡ commands.list_with wildmat word.now }
+{
+    if is_word(b"ACTIVE", word) {
+        return Some(Command::ListActive(wildmat));
+    }
+    if is_word(b"ACTIVE.TIMES", word) {
+        return Some(Command::ListTimes(wildmat));
+    }
+    if is_word(b"NEWSGROUPS", word) {
+        return Some(Command::ListNewsgroups(wildmat));
+    }
+    if is_word(b"OVERVIEW.FMT", word) && wildmat.is_none() {
+        return Some(Command::ListOverviewFormat);
+    }
+    None
+}
+
+/// Whether the word is so many digits.
+fn are_digits(count: usize, word: &[u8]) -> bool
+    ensures { result ≡ calendar.are_digits count word.now }
+{
+    word.len() == count && word.iter().all(|octet| octet.is_ascii_digit())
+}
+
+/// Whether the words are a date and a time by their digits.
+fn is_moment(date: &[u8], time: &[u8]) -> bool
+    ensures { result ≡ (commands.is_date_word date.now && commands.is_time_word time.now) }
+{
+    (are_digits(SHORT_DATE, date) || are_digits(LONG_DATE, date)) && are_digits(TIME, time)
+}
+
+fn new_groups(alloc: Global, arguments: Arguments) -> Result<Option<Command>, AllocError>
+    ensures { IfOk result (λ found. found ≡ commands.command_of commands.newgroups (words_of arguments.entry)) }
+{
+    match arguments {
+        Arguments::Two(date, time) => new_groups_since(alloc, date, time),
+        Arguments::Three(date, time, zone) if is_word(b"GMT", zone) => {
+            new_groups_since(alloc, date, time)
+        }
+        _ => Ok(None),
+    }
+}
+
+fn new_groups_since(alloc: Global, date: &[u8], time: &[u8]) -> Result<Option<Command>, AllocError>
+    ensures { IfOk result (λ found. found ≡ commands.newgroups_of date.now time.now) }
+{
+    if !is_moment(date, time) {
+        return Ok(None);
+    }
+    Ok(Some(Command::NewGroups {
+        date: text(alloc, date)?,
+        time: text(alloc, time)?,
+    }))
+}
+
+fn new_news(alloc: Global, arguments: Arguments) -> Result<Option<Command>, AllocError>
+    ensures { IfOk result (λ found. found ≡ commands.command_of commands.newnews (words_of arguments.entry)) }
+{
+    match arguments {
+        Arguments::Three(wildmat, date, time) => new_news_since(alloc, wildmat, date, time),
+        Arguments::Four(wildmat, date, time, zone) if is_word(b"GMT", zone) => {
+            new_news_since(alloc, wildmat, date, time)
+        }
+        _ => Ok(None),
+    }
+}
+
+fn new_news_since(
+    alloc: Global,
+    wildmat: &[u8],
+    date: &[u8],
+    time: &[u8],
+) -> Result<Option<Command>, AllocError>
+    ensures { IfOk result (λ found. found ≡ commands.newnews_of wildmat.now date.now time.now) }
+{
+    if !is_wildmat(wildmat) || !is_moment(date, time) {
+        return Ok(None);
+    }
+    Ok(Some(Command::NewNews {
+        wildmat: text(alloc, wildmat)?,
+        date: text(alloc, date)?,
+        time: text(alloc, time)?,
+    }))
+}

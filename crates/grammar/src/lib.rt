@@ -1,0 +1,49 @@
+//! The command of a line (RFC 3977, 3.1). `specs/Commands.antt` of the crate `model` says what each line is.
+#![tactic(auto)]
+
+ghost use Rattle.std.specs.Prelude.{◌≡◌, IfOk};
+ghost use Rattle.model.specs.Commands.{parsed_line};
+ghost use Rattle.grammar.specs.Arguments.{LinesAreInGrammar};
+
+mod commands;
+mod keywords;
+mod lines;
+#[cfg(test)]
+mod tests;
+
+use commands::command;
+use keywords::keyword_of;
+use lines::{arguments_of, begins_blank, is_clean, next_word};
+use model::Parsed;
+use std::alloc::{AllocError, Global};
+
+/// What a command line is, without its CRLF: a command, `Unknown` where its keyword is none, or `Bad` where what
+/// stands behind the keyword isn't in its grammar. An empty line and one that begins with a blank are `Unknown`, and a
+/// line with an octet other than SP, TAB and 33 to 126 is `Bad` where its keyword is known (both this project's rule).
+/// Dates and times are read as digits, whatever they say.
+pub fn read(alloc: Global, line: &[u8]) -> Result<Parsed, AllocError>
+    ensures { IfOk result (λ parsed. parsed ≡ parsed_line line.now) }
+{
+    if begins_blank(line) {
+        return Ok(Parsed::Unknown);
+    }
+    let Some((word, rest)) = next_word(line) else {
+        return Ok(Parsed::Unknown);
+    };
+    let Some(keyword) = keyword_of(word) else {
+        return Ok(Parsed::Unknown);
+    };
+    if !is_clean(line) {
+        return Ok(Parsed::Bad);
+    }
+    match command(alloc, keyword, arguments_of(rest))? {
+        Some(command) => Ok(Parsed::Command(command)),
+        None => Ok(Parsed::Bad),
+    }
+}
+
+/// What the command of a line holds is in the grammar of its arguments: group names, message-ids, wildmats, dates and
+/// times.
+pub fn arguments_are_in_grammar()
+    ensures { LinesAreInGrammar }
+{}

@@ -1,0 +1,14 @@
+-- What a pattern of a wildmat says of a name.
+use Rattle.std.specs.Prelude.{ℕ, Bool, true, false, ◌||◌, ◌==◌, if◌then◌else◌, List, [], ◌∷◌, map, Option, Some, None}
+use Rattle.model.specs.Names.{takes, item_of}
+
+-- whether an item for one octet takes it: ? takes each, another itself (RFC 3977, section 4.2)
+abbrev pub fits : ℕ → ℕ → Bool
+fits item octet = item == 63 || octet == item
+
+-- yes where the pattern takes the name, no where it stands behind !, and nothing where it doesn't take the name
+abbrev pub verdict_of : List ℕ → List ℕ → Option Bool
+verdict_of name [] = if takes [] name then Some true else None
+verdict_of name (x ∷ items) =
+    if x == 33 then (if takes (map item_of items) name then Some false else None)
+    else (if takes (map item_of (x ∷ items)) name then Some true else None)

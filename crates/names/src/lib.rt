@@ -1,0 +1,16 @@
+//! The names and patterns that stand in commands and header fields: group names, message-ids, hosts, numbers, ranges
+//! and wildmats. What each is stands in `specs/Names.antt` of the crate `model`.
+#![tactic(auto)]
+
+mod checks;
+mod patterns;
+#[cfg(test)]
+mod tests;
+mod values;
+
+pub use checks::{
+    GROUP_NAME_LIMIT, HOST_LIMIT, MESSAGE_ID_LIMIT, NUMBER_LIMIT, is_group_name, is_host,
+    is_message_id, is_of_host, is_visible, number_of, range_of,
+};
+pub use patterns::{is_wildmat, wildmat_matches};
+pub use values::{GroupName, MessageId, NameError, Wildmat};

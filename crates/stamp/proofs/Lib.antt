@@ -1,0 +1,2 @@
+pub mod CivilDates
+pub mod SinceLaws
