@@ -1,0 +1,249 @@
+-- Each call keeps what the lock keeps.
+use Rattle.std.proofs.Common.{◌≡◌, ◌≢◌, inl, inr, ℕ, zero, suc, ◌+◌, ◌≤◌, ◌<◌, ◌==◌, Bool, true, false, List, [], ◌∷◌, ◌++◌, length, refl, ap, sym, ◌∙◌, subst, arith, get_or, set, length-append, append-nil, eq-eqb}
+use Rattle.std.specs.Prelude.{Result, Ok, Err, MatchResult, find, take, drop, Option, Some, None, is_some, IsSome, IfSome, filter, not, slice_get, All, if◌then◌else◌}
+use Rattle.std.specs.Option.{option_to_list}
+use Rattle.std.proofs.lemmas.List.{length-set}
+use Rattle.std.proofs.lemmas.List.Elements.{All-cons, All-head, All-tail, All-nil, All-weaker, All-push, All-set, All-filter}
+use Rattle.model.specs.Stream.{Octets}
+use Rattle.model.specs.Spool.{Spool}
+use Rattle.model.specs.Answer.{full_answer}
+use Rattle.model.specs.Replies.{greeting}
+use Rattle.model.specs.FirstPath.{answer, line_answer, request_line, served}
+use Rattle.model.specs.Service.{mode_of}
+use Rattle.model.proofs.FirstPathLaws.{first_path_lawful}
+use Rattle.model.specs.declared.change.Change.{Change}
+use Rattle.model.specs.declared.message.Message.{Message}
+use Rattle.model.specs.declared.message.Message.TheVariants.{Line, Block, TooLong}
+use Rattle.model.specs.declared.message.Mark.{Mark}
+use Rattle.model.specs.declared.message.Mode.{Mode}
+use Rattle.model.specs.declared.message.Mark.TheVariants as mark
+use Rattle.model.specs.declared.session.Awaits.{Awaits}
+use Rattle.model.specs.declared.session.Awaits.TheVariants as awaits
+use Rattle.model.specs.declared.session.Session.{Session}
+use Rattle.outbox.specs.Queue.{Held, last_dependency}
+use Rattle.spool.specs.View.{SpoolView, Adds}
+use Rattle.kernel.specs.Kernel.{KernelView, Seat, answered_by, is_block, mode_at, new_seat, ready, with_seat}
+use Rattle.kernel.specs.Kept.{IsKept, IsSeat, RiseFrom, SeatIsKept, StillAwaits}
+use Rattle.kernel.specs.Serving.{answer_in, Grows}
+use Rattle.kernel.specs.Stored.{kernel_of}
+use Rattle.kernel.proofs.Keeping.{SeatIsKept-answered}
+use Rattle.kernel.proofs.Releasing.{ready_seats, ready_rises, ready_few}
+use Rattle.kernel.proofs.SeatsLaws.{RiseFrom-filter, RiseFrom-push, RiseFrom-set, below_differs, filter_above, find_at, seats_more}
+use Rattle.kernel.proofs.ServeLaws.{line_changes_nothing}
+
+-- what holds of each session holds of the one at a place
+pub all_at : (P : Seat → Type 0) (at : ℕ) (seats : List Seat) (seat : Seat) → All P seats → slice_get seats at ≡ Some seat → P seat
+all_at P at [] seat h is = absurd (cc is)
+all_at P zero (first ∷ seats) seat h is = let same : first ≡ seat = cc is in subst P same (All-head P first seats h)
+all_at P (suc at) (first ∷ seats) seat h is = all_at P at seats seat (All-tail P first seats h) is
+
+pub place_within : (at : ℕ) (seats : List Seat) (seat : Seat) → slice_get seats at ≡ Some seat → at < length seats
+place_within at [] seat is = absurd (cc is)
+place_within zero (first ∷ seats) seat is = omega arith
+place_within (suc at) (first ∷ seats) seat is = omega (arith, place_within at seats seat is)
+
+-- ---- the spool grows
+
+pub record Grown (s s' : SpoolView) (more : List Change) : Type 0 where
+  pub host : s'.host ≡ s.host
+  pub changes : s'.changes ≡ s.changes ++ more
+
+pub grown : (s s' : SpoolView) (c : Option Change) → Grows s s' c → Grown s s' (option_to_list c)
+grown s s' None is = record { host = ap (λ (r : SpoolView). r.host) is; changes = ap (λ (r : SpoolView). r.changes) is ∙ sym (append-nil s.changes) }
+grown s s' (Some c) adds = record { host = adds.host; changes = adds.changes }
+
+flying_more : (f : Option ℕ) (d n m : ℕ) → n ≤ m → IfSome f (λ last. (d ≤ last) × (last ≤ n)) → IfSome f (λ last. (d ≤ last) × (last ≤ m))
+flying_more None d n m le h = tt
+flying_more (Some last) d n m le h = (h.0, omega (arith, h.1))
+
+-- all but the sessions, behind a change or none
+pub kept_grown : (s s' : SpoolView) (d : ℕ) (f : Option ℕ) (halted : Bool) (j : ℕ) (seats : List Seat) (c : Option Change) → (IsSome c → length s.dirty ≤ 256) → Grows s s' c
+    → IsKept (kernel_of s d f halted j seats) → IsKept (kernel_of s' d f halted j seats)
+kept_grown s s' d f halted j seats None room is h = subst (λ (r : SpoolView). IsKept (kernel_of r d f halted j seats)) (sym is) h
+kept_grown s s' d f halted j seats (Some c) room adds h =
+    let size : length s'.changes ≡ length s.changes + 1 = omega (arith, ap length adds.changes, length-append s.changes (c ∷ [])) in
+    let clean = room refl in
+    record {
+      cache = adds.sound.held;
+      durable = omega (arith, h.durable);
+      flying = flying_more f d (length s.changes) (length s'.changes) (omega arith) h.flying;
+      few_dirty = omega (arith, adds.dirties.few);
+      below = adds.sound.below;
+      distinct = adds.sound.distinct;
+      few_seats = h.few_seats;
+      seats = subst (λ (p : Octets × Spool). All (IsSeat p.0 p.1 j) seats) (λ i. (sym adds.host i, sym adds.changes i)) (seats_more s.host s.changes (c ∷ []) j seats h.seats);
+      rising = h.rising;
+    }
+
+-- ---- exec
+
+some_awaits : (held : List Held) (output : Held) (x : Session) → StillAwaits (held ++ output ∷ []) x
+some_awaits [] output x = tt
+some_awaits (first ∷ held) output x = tt
+
+filled : (xs : Octets) → xs ≢ [] → 0 < length xs
+filled [] h = absurd (h refl)
+filled (x ∷ xs) h = omega arith
+
+pub kept_served : (s s' : SpoolView) (d : ℕ) (f : Option ℕ) (halted : Bool) (j : ℕ) (seats : List Seat) (at : ℕ) (seat seat' : Seat) (m : Message) (t : ℕ) (mark : Mark)
+    → slice_get seats at ≡ Some seat → IsSome (mode_of seat.session.awaits) → (IsSome (answer_in s seat.session m t mark).change → length s.dirty ≤ 256) → Grows s s' (answer_in s seat.session m t mark).change
+    → seat' ≡ answered_by s.host s.changes m t mark seat → IsKept (kernel_of s d f halted j seats) → IsKept (kernel_of s' d f halted j (set seats at seat'))
+kept_served s s' d f halted j seats at seat seat' m t mark place awaited room grows is h =
+    let k = kept_grown s s' d f halted j seats (answer_in s seat.session m t mark).change room grows h in
+    let g = grown s s' (answer_in s seat.session m t mark).change grows in
+    let was = all_at (IsSeat s.host s.changes j) at seats seat h.seats place in
+    let full = filled (answer_in s seat.session m t mark).reply ((first_path_lawful s.host).replies s.changes seat.session m t mark) in
+    let outputs = SeatIsKept-answered s.host s.changes seat.session m t mark seat.given seat.held awaited full was.outputs in
+    let now : IsSeat s.host (s.changes ++ option_to_list (answer_in s seat.session m t mark).change) j (answered_by s.host s.changes m t mark seat) =
+    record { outputs = outputs; awaits = some_awaits seat.held _ _; some = was.some; spent = was.spent } in
+    let here : IsSeat s'.host s'.changes j seat' = subst (λ (p : Octets × Spool × Seat). IsSeat p.0 p.1 j p.2) (λ i. (sym g.host i, sym g.changes i, sym is i)) now in
+    record {
+      cache = k.cache;
+      durable = k.durable;
+      flying = k.flying;
+      few_dirty = k.few_dirty;
+      below = k.below;
+      distinct = k.distinct;
+      few_seats = omega (arith, k.few_seats, length-set seats at seat');
+      seats = All-set (IsSeat s'.host s'.changes j) seats at seat' here k.seats;
+      rising = RiseFrom-set 0 at seats seat seat' h.rising place (ap (λ (x : Seat). x.number) is);
+    }
+
+full_none : (x : Session) (what : Awaits) → IsSome (full_answer x what).change → ⊥
+full_none x awaits.Line got = cc got
+full_none x awaits.PostBlock got = cc got
+full_none x (awaits.IhaveBlock id) got = cc got
+full_none x awaits.Nothing got = cc got
+
+-- only a block makes a change
+pub only_blocks_change : (s : SpoolView) (x : Session) (m : Message) (t : ℕ) (mark : Mark) → is_block m ≡ false → IsSome (answer_in s x m t mark).change → ⊥
+unfolding answer served
+only_blocks_change s x m t mark.Served other some = no_change x.awaits m refl other some
+  where
+    line_none : (text : Octets) → IsSome (line_answer s.changes x (request_line text)).change → ⊥
+    line_none text is = let none = line_changes_nothing s x t (request_line text) in cc (is, ap (λ (o : Option Change). is_some o) none)
+
+    no_change : (what : Awaits) (n : Message) → what ≡ x.awaits → is_block n ≡ false → IsSome (served s.host s.changes x t what n).change → ⊥
+    no_change awaits.Line (Line text) same is got = line_none text got
+    no_change awaits.Line (Block text) same is got = cc is
+    no_change awaits.Line TooLong same is got = cc got
+    no_change awaits.PostBlock (Line text) same is got = cc got
+    no_change awaits.PostBlock (Block text) same is got = cc is
+    no_change awaits.PostBlock TooLong same is got = cc got
+    no_change (awaits.IhaveBlock id) n same is got = cc got
+    no_change awaits.Nothing n same is got = cc got
+only_blocks_change s x m t mark.Full other some = full_none x x.awaits some
+only_blocks_change s x m t mark.Long other some = full_none x x.awaits some
+only_blocks_change s x m t mark.Stopped other some = cc some
+
+-- ---- join, leave, take_ready
+
+-- a session that has just begun
+new_is_kept : (host : Octets) (S : Spool) (j : ℕ) → IsSeat host S (j + 1) (new_seat host (j + 1))
+new_is_kept host S j =
+    record {
+      outputs = inl (0, record { cut_within = filled (greeting host) (first_path_lawful host).greets; octets = refl; dependency = refl; ends = refl; first_output = refl }, refl);
+      awaits = tt;
+      some = omega arith;
+      spent = omega arith;
+    }
+
+length-filter-le : (p : Seat → Bool) (seats : List Seat) → length (filter p seats) ≤ length seats
+length-filter-le p [] = omega arith
+length-filter-le p (seat ∷ seats) = go (p seat) (length-filter-le p seats)
+  where
+    go : (b : Bool) → length (filter p seats) ≤ length seats → length (if b then seat ∷ filter p seats else filter p seats) ≤ suc (length seats)
+    go true le = omega arith
+    go false le = omega arith
+
+pub kept_joined : (s : SpoolView) (d : ℕ) (f : Option ℕ) (halted : Bool) (j : ℕ) (seats : List Seat) (new : Seat) → new ≡ new_seat s.host (j + 1) → length seats < 64
+    → IsKept (kernel_of s d f halted j seats) → IsKept (kernel_of s d f halted (j + 1) (seats ++ new ∷ []))
+kept_joined s d f halted j seats new is few h =
+    let this : IsSeat s.host s.changes (j + 1) new = subst (IsSeat s.host s.changes (j + 1)) (sym is) (new_is_kept s.host s.changes j) in
+    let others : All (IsSeat s.host s.changes (j + 1)) seats =
+    All-weaker (IsSeat s.host s.changes j) (IsSeat s.host s.changes (j + 1)) (λ seat k. record { outputs = k.outputs; awaits = k.awaits; some = k.some; spent = omega (arith, k.spent) }) seats h.seats in
+    record {
+      cache = h.cache;
+      durable = h.durable;
+      flying = h.flying;
+      few_dirty = h.few_dirty;
+      below = h.below;
+      distinct = h.distinct;
+      few_seats = omega (arith, length-append seats (new ∷ []));
+      seats = All-push (IsSeat s.host s.changes (j + 1)) seats new others this;
+      rising = RiseFrom-push 0 seats new h.rising (omega (arith, ap (λ (x : Seat). x.number) is)) (λ k seat place. omega (arith, (all_at (IsSeat s.host s.changes j) k seats seat h.seats place).spent, ap (λ (x : Seat). x.number) is));
+    }
+
+pub kept_left : (s : SpoolView) (d : ℕ) (f : Option ℕ) (halted : Bool) (j : ℕ) (seats : List Seat) (p : Seat → Bool) → IsKept (kernel_of s d f halted j seats) → IsKept (kernel_of s d f halted j (filter p seats))
+kept_left s d f halted j seats p h =
+    record {
+      cache = h.cache;
+      durable = h.durable;
+      flying = h.flying;
+      few_dirty = h.few_dirty;
+      below = h.below;
+      distinct = h.distinct;
+      few_seats = omega (arith, length-filter-le p seats, h.few_seats);
+      seats = All-filter p (IsSeat s.host s.changes j) seats h.seats;
+      rising = RiseFrom-filter p 0 seats h.rising;
+    }
+
+pub kept_released : (s : SpoolView) (d : ℕ) (f : Option ℕ) (halted : Bool) (j : ℕ) (seats : List Seat) → IsKept (kernel_of s d f halted j seats) → IsKept (kernel_of s d f halted j (ready d 65536 seats).seats)
+kept_released s d f halted j seats h =
+    record {
+      cache = h.cache;
+      durable = h.durable;
+      flying = h.flying;
+      few_dirty = h.few_dirty;
+      below = h.below;
+      distinct = h.distinct;
+      few_seats = omega (arith, ready_few d 65536 seats, h.few_seats);
+      seats = ready_seats s.host s.changes j d 65536 seats h.seats;
+      rising = ready_rises 0 d 65536 seats h.rising;
+    }
+
+-- behind a change that was accepted, or refused with nothing changed
+pub kept_added : (E : Type 0) (R : Type 0) (Q : E → Type 0) (T : ℕ → Type 0) (s s' : SpoolView) (d : ℕ) (f : Option ℕ) (halted : Bool) (j : ℕ) (seats : List Seat) (c : Change) (result : Result ℕ E)
+    → MatchResult result (λ n. R × (T n × Adds s s' c)) (λ e. Q e × (s' ≡ s)) → length s.dirty ≤ 256 → IsKept (kernel_of s d f halted j seats) → IsKept (kernel_of s' d f halted j seats)
+kept_added E R Q T s s' d f halted j seats c (Ok n) h few k = kept_grown s s' d f halted j seats (Some c) (λ _. few) h.1.1 k
+kept_added E R Q T s s' d f halted j seats c (Err e) h few k = subst (λ (r : SpoolView). IsKept (kernel_of r d f halted j seats)) (sym h.1) k
+
+-- a read gives the session at a place
+pub same_place : (at : ℕ) (seats : List Seat) (a b : Seat) → slice_get seats at ≡ Some b → a ≡ get_or seats at a → a ≡ b
+same_place at [] a b is read = absurd (cc is)
+same_place zero (first ∷ seats) a b is read = let same : first ≡ b = cc is in read ∙ same
+same_place (suc at) (first ∷ seats) a b is read = same_place at seats a b is read
+
+-- ---- one session found, or none
+
+abbrev mode_by : Option Seat → Option Mode
+mode_by None = None
+mode_by (Some seat) = mode_of seat.session.awaits
+
+pub mode_found : (k : KernelView) (at : ℕ) (seat : Seat) → RiseFrom 0 k.seats → slice_get k.seats at ≡ Some seat → mode_at k seat.number ≡ mode_of seat.session.awaits
+mode_found k at seat rise place = ap mode_by (find_at 0 at k.seats seat rise place)
+
+pub mode_missing : (k : KernelView) (sid : ℕ) → find (λ (s : Seat). s.number == sid) k.seats ≡ None → mode_at k sid ≡ None
+mode_missing k sid none = ap mode_by none
+
+-- the session at a place dropped
+pub filter_at : (n at : ℕ) (seats : List Seat) (seat : Seat) → RiseFrom n seats → slice_get seats at ≡ Some seat → take at seats ++ drop (suc at) seats ≡ filter (λ (s : Seat). not (s.number == seat.number)) seats
+filter_at n at [] seat rise is = absurd (cc is)
+filter_at n zero (first ∷ seats) seat rise is =
+    let same : first ≡ seat = cc is in
+    let here : (first.number == seat.number) ≡ true = eq-eqb first.number seat.number (ap (λ (s : Seat). s.number) same) in
+    let rest = filter_above first.number seats seat rise.1 (omega (arith, ap (λ (s : Seat). s.number) same)) in
+    sym (ap (λ (b : Bool). if not b then first ∷ filter (λ (s : Seat). not (s.number == seat.number)) seats else filter (λ (s : Seat). not (s.number == seat.number)) seats) here ∙ rest)
+filter_at n (suc at) (first ∷ seats) seat rise is =
+    let other : (first.number == seat.number) ≡ false = below_differs first.number at seats seat rise.1 is in
+    ap (λ (ss : List Seat). first ∷ ss) (filter_at first.number at seats seat rise.1 is)
+    ∙ sym (ap (λ (b : Bool). if not b then first ∷ filter (λ (s : Seat). not (s.number == seat.number)) seats else filter (λ (s : Seat). not (s.number == seat.number)) seats) other)
+
+pub filter_missing : (sid : ℕ) (seats : List Seat) → find (λ (s : Seat). s.number == sid) seats ≡ None → filter (λ (s : Seat). not (s.number == sid)) seats ≡ seats
+filter_missing sid [] none = refl
+filter_missing sid (first ∷ seats) none = go (λ h. filter_missing sid seats h) (first.number == sid) refl none
+  where
+    go : (find (λ (s : Seat). s.number == sid) seats ≡ None → filter (λ (s : Seat). not (s.number == sid)) seats ≡ seats) → (b : Bool) → (first.number == sid) ≡ b → (if b then Some first else find (λ (s : Seat). s.number == sid) seats) ≡ None
+        → (if not (first.number == sid) then first ∷ filter (λ (s : Seat). not (s.number == sid)) seats else filter (λ (s : Seat). not (s.number == sid)) seats) ≡ first ∷ seats
+    go later true is h = absurd (cc h)
+    go later false is h = ap (λ (b : Bool). if not b then first ∷ filter (λ (s : Seat). not (s.number == sid)) seats else filter (λ (s : Seat). not (s.number == sid)) seats) is ∙ ap (λ (ss : List Seat). first ∷ ss) (later h)

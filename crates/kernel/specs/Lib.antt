@@ -1,0 +1,8 @@
+pub mod Kernel
+pub mod Errors
+pub mod Kept
+pub mod Serving
+pub mod Stored
+pub mod Laws
+pub mod Label
+pub mod Opening

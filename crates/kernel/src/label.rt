@@ -1,0 +1,81 @@
+// The label of a volume: how many inodes there are, and the host.
+ghost use Rattle.std.specs.Prelude.{◌≡◌, ◌==◌, ◌↔◌, IsTrue, IsNone, IfSome};
+ghost use Rattle.std.specs.List.{list_all};
+ghost use Rattle.kernel.specs.Label.{HasRoom, IsNoLabel, is_host_octet};
+ghost use Rattle.model.specs.Layout.{IsLabel};
+ghost use Rattle.model.specs.Names as model;
+
+use byteorder::{ByteOrder, LittleEndian};
+
+// The octets of a label, and where its host begins.
+const LABEL: usize = 128;
+
+const HOST_AT: usize = 5;
+
+// The octets of the longest host.
+const HOST_LIMIT: usize = 64;
+
+/// What a label says.
+#[derive(Clone, Copy)]
+pub(crate) struct Label<'a> {
+    pub(crate) inodes: u64,
+    pub(crate) host: &'a [u8],
+}
+
+/// Reads the label of a volume of so many logical blocks; `None` where it isn't one.
+pub(crate) fn read_label(octets: &[u8], blocks: u64) -> Option<Label<'_>>
+    ensures some { IfSome result (λ label. IsLabel octets.now blocks label.inodes label.host.now) }
+    ensures none { IsNone result → IsNoLabel octets.now blocks }
+{
+    if octets.len() != LABEL {
+        return None;
+    }
+    let inodes = u64::from(LittleEndian::read_u32(octets));
+    let size = octets[HOST_AT - 1] as usize;
+    if size > HOST_LIMIT || !has_room(inodes, blocks) {
+        return None;
+    }
+    let end = HOST_AT + size;
+    let host = &octets[HOST_AT..end];
+    if !is_host(host) || !are_zeros(&octets[end..]) {
+        return None;
+    }
+    Some(Label { inodes, host })
+}
+
+// Whether a volume of so many blocks may have so many inodes.
+fn has_room(inodes: u64, blocks: u64) -> bool
+    ensures { IsTrue result ↔ HasRoom inodes blocks }
+{
+    64 <= inodes && inodes <= 32768 && inodes % 64 == 0 && 2 + 2 * inodes / 64 + 256 <= blocks
+}
+
+fn are_zeros(octets: &[u8]) -> bool
+    ensures { result ≡ list_all (λ octet. octet == 0) octets.now }
+{
+    octets.iter().all(|octet| *octet == 0)
+}
+
+// Whether the octet may stand in a host.
+fn is_host_octet(octet: u8) -> bool
+    ensures { result ≡ is_host_octet octet }
+{
+    octet.is_ascii_alphanumeric() || octet == b'-'
+}
+
+// Whether the octets are what stands between two dots of a host.
+fn is_host_component(part: &[u8]) -> bool
+    ensures { result ≡ model.is_run_of is_host_octet part.now }
+{
+    !part.is_empty() && part.iter().all(|octet| is_host_octet(*octet))
+}
+
+// Whether the text is a host: components of letters, digits and `-` that dots part, at most 64 octets.
+fn is_host(text: &[u8]) -> bool
+    ensures { result ≡ model.is_host text.now }
+{
+    text.len() <= HOST_LIMIT
+        && text
+            .split(|octet| *octet == b'.')
+            .all(|part| is_host_component(part))
+}

@@ -1,0 +1,188 @@
+// One session and its outputs.
+ghost use Rattle.std.specs.Prelude.{Some, None, IfSome, IsNone, find, slice_get, ◌==◌, ◌≡◌, ◌<◌, ◌≤◌, ◌+◌, ◌^◌, ◌++◌, ◌∷◌, [], max, ℕ, IfOk, OnErr, OnOk, IsSome, length};
+ghost use Rattle.kernel.specs.Kernel.{FitsMode, Seat as SeatView, answered_by, given_of, new_seat, ready, seat_given};
+ghost use Rattle.kernel.specs.Serving.{SeatServed, turned};
+ghost use Rattle.model.specs.Calendar.{moment_limit};
+ghost use Rattle.model.specs.News.{mode_of};
+ghost use Rattle.outbox.specs.Queue.{buffered, entry_of, last_dependency};
+
+use crate::serve::{Reply, serve};
+use model::{Awaits, Mark, Message, Mode, Session};
+use outbox::{Queue, ReadyBuf};
+use spool::Spool;
+use std::alloc::{AllocError, Global};
+use std::marker::Model;
+
+/// A session that is there.
+#[derive(Drop)]
+pub(crate) struct Seat {
+    number: u64,
+    session: Session,
+    queue: Queue,
+}
+
+impl Model for Seat {
+    ghost use Rattle.kernel.specs.Kernel.{Seat as SeatView};
+
+    ghost Value = { SeatView };
+
+    ghost view = { λ s. record { number = s.number; session = s.session; given = s.queue.given; held = s.queue.held } };
+}
+
+impl Seat {
+    /// A session that has just begun, with its greeting.
+    pub(crate) fn new(alloc: Global, number: u64, host: &[u8]) -> Result<Seat, AllocError>
+        ensures { IfOk result (λ seat. seat ≡ new_seat host.now number) }
+    {
+        let greeting = session::greeting(alloc, host)?;
+        let mut queue = Queue::new(alloc);
+        queue.reserve(1)?;
+        queue.push(greeting, 0, false);
+        Ok(Seat {
+            number,
+            session: Session {
+                awaits: Awaits::Line,
+                group: None,
+                current: None,
+            },
+            queue,
+        })
+    }
+
+    pub(crate) fn number(&self) -> u64
+        ensures { result ≡ self.now.number }
+    {
+        self.number
+    }
+
+    /// What the session sends next.
+    pub(crate) fn mode(&self) -> Option<Mode>
+        ensures { result ≡ mode_of self.now.session.awaits }
+    {
+        mode_of(&self.session.awaits)
+    }
+
+    /// How many octets are held.
+    pub(crate) fn buffered(&self) -> u64
+        ensures { result ≡ buffered self.now.held }
+    {
+        self.queue.buffered()
+    }
+
+    /// Serves a message. A refusal changes nothing.
+    pub(crate) fn serve(
+        &mut self,
+        alloc: Global,
+        spool: &mut Spool,
+        message: &Message,
+        moment: u64,
+    ) -> Result<(Option<Mode>, Mark), AllocError>
+        requires kind { FitsMode (mode_of self.old.session.awaits) message.now }
+        requires awaits { IsSome (mode_of self.old.session.awaits) }
+        requires moment { moment < moment_limit }
+        requires room { buffered self.old.held < 1_048_576 }
+        ensures ok { IfOk result (SeatServed spool.old spool.new self.old self.new message.now moment) }
+        ensures seat { OnErr result (self.new ≡ self.old) }
+        ensures spool { OnErr result (spool.new ≡ spool.old) }
+    {
+        self.queue.reserve(1)?;
+        let reply = serve(alloc, spool, &self.session, message, moment)?;
+        let Reply { octets, next, mark } = reply;
+        turn(&mut self.session, next);
+        let mode = mode_of(&self.session.awaits);
+        hold(&mut self.queue, octets, spool.len(), mode.is_none());
+        Ok((mode, mark))
+    }
+
+    /// Moves the outputs that depend on `durable` changes at most into the buffer, as this session's entry. Whether the
+    /// session ends with them.
+    pub(crate) fn give(&mut self, durable: u64, into: &mut ReadyBuf) -> bool
+        requires { length into.old < 64 }
+        ensures ended { result ≡ (given_of durable into.old self.old).ended }
+        ensures entries { into.new ≡ into.old ++ entry_of self.old.number (given_of durable into.old self.old) }
+        ensures seat { self.new ≡ seat_given self.old (given_of durable into.old self.old) }
+    {
+        self.queue.give(self.number, durable, into)
+    }
+
+    /// Tells the session that the service ends, whatever its message says. A refusal changes nothing.
+    pub(crate) fn stop(
+        &mut self,
+        alloc: Global,
+        spool: &Spool,
+        message: &Message,
+        moment: u64,
+    ) -> Result<(), AllocError>
+        requires room { buffered self.old.held < 1_048_576 }
+        ensures ok { OnOk result (self.new ≡ answered_by spool.now.host spool.now.changes message.now moment Mark.Stopped self.old) }
+        ensures seat { OnErr result (self.new ≡ self.old) }
+    {
+        self.queue.reserve(1)?;
+        let octets = session::reply_service_ends(alloc)?;
+        turn(&mut self.session, Some(Awaits::Nothing));
+        hold(&mut self.queue, octets, spool.len(), true);
+        Ok(())
+    }
+}
+
+/// The session awaits this from now on, or what it did.
+fn turn(session: &mut Session, next: Option<Awaits>)
+    ensures { session.new ≡ turned session.old next }
+{
+    if let Some(awaits) = next {
+        session.awaits = awaits;
+    }
+}
+
+/// Holds a reply behind the others, with the greater of what it reads and what the one before it depends on.
+fn hold(queue: &mut Queue, octets: Vec<u8>, reads: u64, ends: bool)
+    requires room { 1 ≤ queue.old.room }
+    requires countable { buffered queue.old.held + length octets.items < 2 ^ 64 }
+    ensures given { queue.new.given ≡ queue.old.given }
+    ensures held { queue.new.held ≡ queue.old.held ++ record { octets = octets.items; dependency = max (last_dependency queue.old.given queue.old.held) reads; ends = ends } ∷ [] }
+{
+    let dependency = queue.last_dependency().max(reads);
+    queue.push(octets, dependency, ends);
+}
+
+/// What is read next of a session's stream.
+fn mode_of(awaits: &Awaits) -> Option<Mode>
+    ensures { result ≡ mode_of awaits.now }
+{
+    match awaits {
+        Awaits::Line => Some(Mode::Line),
+        Awaits::PostBlock | Awaits::IhaveBlock(_) => Some(Mode::Block),
+        Awaits::Nothing => None,
+    }
+}
+
+/// The place of a session among those that are there, in rising number.
+pub(crate) fn position(seats: &[Seat], sid: u64) -> Option<usize>
+    ensures some { IfSome result (λ at. (seat : SeatView) × (slice_get seats.now at ≡ Some seat) × (seat.number ≡ sid)) }
+    ensures none { IsNone result → find (λ (seat : SeatView). seat.number == sid) seats.now ≡ None }
+{
+    for (at, seat) in seats.iter().enumerate() {
+        if seat.number() == sid {
+            return Some(at);
+        }
+    }
+    None
+}
+
+/// Goes through the sessions in order, each giving what is ready, and drops those that end.
+pub(crate) fn release(seats: &mut Vec<Seat>, durable: u64, into: &mut ReadyBuf)
+    requires few { length seats.old.items ≤ 64 }
+    requires empty { into.old ≡ [] }
+    ensures given { into.new ≡ (ready durable 65536 seats.old.items).entries }
+    ensures kept { seats.new.items ≡ (ready durable 65536 seats.old.items).seats }
+{
+    let mut at = 0;
+    while at < seats.len() {
+        let seat = &mut seats[at];
+        if seat.give(durable, into) {
+            seats.remove(at);
+        } else {
+            at += 1;
+        }
+    }
+}

@@ -1,0 +1,3 @@
+pub mod GivingLaws
+pub mod LoopLaws
+pub mod BufferLaws

@@ -1,0 +1,33 @@
+-- What the fields of a queue and of a buffer stand for.
+use Rattle.std.specs.Prelude.{◌≡◌, ℕ, ◌-◌, ◌≤◌, Bool, List, ◌++◌, length, All, vec_len, vec_capacity}
+use Rattle.std.specs.VecDeque.{deque_len, deque_capacity}
+use Rattle.outbox.specs.Queue.{Held, QueueView, Giving, Entry, buffered, octets_in}
+use Rattle.outbox.specs.declared.queue.Queue.TheInside as queue
+use Rattle.outbox.specs.declared.ready.ReadyBuf.TheInside as buffer
+use Rattle.outbox.specs.Slots.{LiesWithin, entries_in}
+
+abbrev pub queue_of : queue.Inside → QueueView
+queue_of q = record { given = q.given; held = q.outputs.items; room = deque_capacity q.outputs - deque_len q.outputs }
+
+-- the octets are counted
+abbrev pub IsSoundQueue : queue.Inside → Type 0
+IsSoundQueue q = q.buffered ≡ buffered q.outputs.items
+
+abbrev pub entries_of : buffer.Inside → List Entry
+entries_of b = entries_in b.octets.items b.slots.items
+
+-- each octet stands in one entry, and there is room for a release
+pub record IsSoundBuffer (b : buffer.Inside) : Type 0 where
+  pub within : All (LiesWithin (length b.octets.items)) b.slots.items
+  pub counted : octets_in (entries_of b) ≡ length b.octets.items
+  pub octets : vec_len b.octets ≤ 65_536
+  pub octet_room : 65_536 ≤ vec_capacity b.octets
+  pub few : vec_len b.slots ≤ 64
+  pub room : 64 ≤ vec_capacity b.slots
+
+-- what the loop over the front outputs leaves, of them and behind the octets that were there
+pub record IsGiven (g : Giving) (ended : Bool) (given : ℕ) (held : List Held) (before after : List ℕ) : Type 0 where
+  pub ended_is : ended ≡ g.ended
+  pub given_is : given ≡ g.given
+  pub held_is : held ≡ g.held
+  pub octets_are : after ≡ before ++ g.octets

@@ -1,0 +1,72 @@
+-- The outputs of one session that are not handed out whole yet, and what a release hands out of them. All of this is this
+-- project's rule.
+use Rattle.std.specs.Prelude.{◌≡◌, ℕ, ◌-◌, Bool, true, false, not, ◌&&◌, ◌||◌, ◌==◌, nat_lt, if◌then◌else◌, List, [], ◌∷◌, ◌++◌, length, take, drop, sum_by}
+
+-- An output that is not handed out whole yet: the octets that are still to go, the number of changes that have to be durable
+-- before any of them may, and whether the session ends behind them.
+pub record Held : Type 0 where
+  pub octets : List ℕ
+  pub dependency : ℕ
+  pub ends : Bool
+
+-- The dependency of the last output that was handed out whole, 0 at first; the outputs that are held, the next to go in front;
+-- and how many more can be put behind them with no memory taken.
+pub record QueueView : Type 0 where
+  pub given : ℕ
+  pub held : List Held
+  pub room : ℕ
+
+-- how many octets are held
+abbrev pub buffered : List Held → ℕ
+buffered held = sum_by (λ (h : Held). length h.octets) held
+
+-- the dependency of the last output, held or given
+abbrev pub last_dependency : ℕ → List Held → ℕ
+last_dependency given [] = given
+last_dependency given (held ∷ rest) = last_dependency held.dependency rest
+
+-- where an output ends the session, it is the last
+abbrev pub OnlyLastEnds : List Held → Type 0
+OnlyLastEnds [] = Unit {0}
+OnlyLastEnds (held ∷ rest) = (held.ends ≡ true → rest ≡ []) × OnlyLastEnds rest
+
+-- What is given where there is room for so many octets: the room that is left, the octets, whether the session ends behind
+-- them, and what is kept of `given` and `held`.
+pub record Giving : Type 0 where
+  pub room : ℕ
+  pub octets : List ℕ
+  pub ended : Bool
+  pub given : ℕ
+  pub held : List Held
+
+abbrev pub nothing_more : ℕ → ℕ → List Held → Giving
+nothing_more room given held = record { room = room; octets = []; ended = false; given = given; held = held }
+
+-- an output without its first octets
+abbrev pub cut_at : ℕ → Held → Held
+cut_at count held = record { octets = drop count held.octets; dependency = held.dependency; ends = held.ends }
+
+-- a whole output, and what is given behind it
+abbrev pub behind : Held → Giving → Giving
+behind held later = record { room = later.room; octets = held.octets ++ later.octets; ended = held.ends || later.ended; given = later.given; held = later.held }
+
+-- The front outputs that depend on p changes at most, in order, while there is room. The last may be cut: then its rest stays
+-- in front, and its end with it.
+abbrev pub give : ℕ → ℕ → ℕ → List Held → Giving
+give p room given [] = nothing_more room given []
+give p room given (held ∷ rest) =
+    if nat_lt p held.dependency || room == 0 then nothing_more room given (held ∷ rest)
+    else if nat_lt room (length held.octets) then record { room = 0; octets = take room held.octets; ended = false; given = given; held = cut_at room held ∷ rest }
+    else behind held (give p (room - length held.octets) held.dependency rest)
+
+-- an entry of the buffer that a release fills: a session's number, its octets, and whether it ends behind them
+abbrev pub Entry : Type 0
+Entry = ℕ × List ℕ × Bool
+
+-- a session's entry, where octets are given or it ends
+abbrev pub entry_of : ℕ → Giving → List Entry
+entry_of number g = if length g.octets == 0 && not g.ended then [] else (number, g.octets, g.ended) ∷ []
+
+-- how many octets stand in these entries
+abbrev pub octets_in : List Entry → ℕ
+octets_in entries = sum_by (λ (e : Entry). length e.1) entries

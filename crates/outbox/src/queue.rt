@@ -1,0 +1,227 @@
+// The outputs of one session.
+ghost use Rattle.std.specs.Prelude.{◌≡◌, ℕ, ◌+◌, ◌-◌, ◌^◌, ◌<◌, ◌≤◌, ◌∷◌, ◌++◌, [], length, drop, vec_len, vec_capacity, OnOk, OnErr, ◌==◌};
+ghost use Rattle.std.specs.VecDeque.{deque_len, deque_capacity};
+ghost use Rattle.outbox.specs.Queue.{Held, QueueView, buffered, last_dependency, cut_at, give, entry_of, octets_in};
+ghost use Rattle.outbox.specs.Fields.{IsGiven};
+
+use crate::RELEASE_OCTETS;
+use crate::ready::{ReadyBuf, end_entry};
+use std::alloc::{AllocError, Global};
+use std::collections::VecDeque;
+use std::marker::Model;
+
+/// An output of which the octets from `start` on are still to go.
+#[derive(Drop)]
+struct Output {
+    octets: Vec<u8>,
+    start: usize,
+    dependency: u64,
+    ends: bool,
+}
+
+impl Model for Output {
+    ghost use Rattle.std.specs.Prelude.{◌≤◌, drop, vec_len};
+    ghost use Rattle.outbox.specs.Queue.{Held};
+
+    ghost Value = { Held };
+
+    ghost view = { λ o. record { octets = drop o.start o.octets.items; dependency = o.dependency; ends = o.ends } };
+
+    ghost invariant = { λ o. o.start ≤ vec_len o.octets };
+}
+
+impl Output {
+    fn new(octets: Vec<u8>, dependency: u64, ends: bool) -> Output
+        ensures octets { result.octets ≡ octets.items }
+        ensures dependency { result.dependency ≡ dependency }
+        ensures ends { result.ends ≡ ends }
+    {
+        Output {
+            octets,
+            start: 0,
+            dependency,
+            ends,
+        }
+    }
+
+    fn dependency(&self) -> u64
+        ensures { result ≡ self.now.dependency }
+    {
+        self.dependency
+    }
+
+    fn ends(&self) -> bool
+        ensures { result ≡ self.now.ends }
+    {
+        self.ends
+    }
+
+    /// The octets that are still to go.
+    fn rest(&self) -> &[u8]
+        ensures { result.now ≡ self.now.octets }
+    {
+        &self.octets[self.start..]
+    }
+
+    /// Takes the first n octets away.
+    fn cut(&mut self, n: usize)
+        requires { n ≤ length self.old.octets }
+        ensures { self.new ≡ cut_at n self.old }
+    {
+        self.start += n;
+    }
+}
+
+/// The outputs of one session that are not handed out whole yet, in order, and the dependency of the last that was.
+#[derive(Drop)]
+pub struct Queue {
+    given: u64,
+    outputs: VecDeque<Output>,
+    /// How many octets are still to go.
+    buffered: u64,
+}
+
+impl Model for Queue {
+    ghost use Rattle.outbox.specs.Queue.{QueueView};
+
+    ghost Value = { QueueView };
+
+    ghost use Rattle.outbox.specs.Fields.{queue_of, IsSoundQueue};
+
+    ghost view = { queue_of };
+
+    ghost invariant = { IsSoundQueue };
+}
+
+impl Queue {
+    /// The queue of a session that was given nothing yet.
+    pub fn new(alloc: Global) -> Queue
+        ensures given { result.given ≡ 0 }
+        ensures held { result.held ≡ [] }
+    {
+        Queue {
+            given: 0,
+            outputs: VecDeque::new(alloc),
+            buffered: 0,
+        }
+    }
+
+    /// Makes room for n more outputs. A refusal comes only where room is missing, and leaves the outputs as they were.
+    pub fn reserve(&mut self, n: usize) -> Result<(), AllocError>
+        ensures given { self.new.given ≡ self.old.given }
+        ensures held { self.new.held ≡ self.old.held }
+        ensures room { self.old.room ≤ self.new.room }
+        ensures ok { OnOk result (n ≤ self.new.room) }
+        ensures full { OnErr result (self.old.room < n) }
+    {
+        self.outputs.reserve(n)
+    }
+
+    /// Puts an output behind the others. It takes no memory.
+    pub fn push(&mut self, octets: Vec<u8>, dependency: u64, ends: bool)
+        requires room { 1 ≤ self.old.room }
+        requires countable { buffered self.old.held + vec_len octets < 2 ^ 64 }
+        ensures given { self.new.given ≡ self.old.given }
+        ensures held { self.new.held ≡ self.old.held ++ record { octets = octets.items; dependency = dependency; ends = ends } ∷ [] }
+        ensures room { self.new.room + 1 ≡ self.old.room }
+    {
+        self.buffered += octets.len() as u64;
+        self.outputs
+            .push_back_reserved(Output::new(octets, dependency, ends));
+    }
+
+    /// How many octets are still to go.
+    pub fn buffered(&self) -> u64
+        ensures { result ≡ buffered self.now.held }
+    {
+        self.buffered
+    }
+
+    /// The dependency of the last output, also where that was handed out; 0 where there was none.
+    pub fn last_dependency(&self) -> u64
+        ensures { result ≡ last_dependency self.now.given self.now.held }
+    {
+        match self.outputs.back() {
+            Some(last) => last.dependency(),
+            None => self.given,
+        }
+    }
+
+    /// Whether no output is held.
+    pub fn is_empty(&self) -> bool
+        ensures { result ≡ (length self.now.held == 0) }
+    {
+        self.outputs.is_empty()
+    }
+
+    /// Moves the front outputs that depend on `durable` changes at most into the buffer, in order and as this session's
+    /// entry, until the buffer has no room for octets; the last one may be cut. Says whether the session ends. It takes no memory.
+    pub fn give(&mut self, number: u64, durable: u64, into: &mut ReadyBuf) -> bool
+        requires { length into.old < 64 }
+        ensures ended { result ≡ (give durable (65_536 - octets_in into.old) self.old.given self.old.held).ended }
+        ensures entries { into.new ≡ into.old ++ entry_of number (give durable (65_536 - octets_in into.old) self.old.given self.old.held) }
+        ensures given { self.new.given ≡ (give durable (65_536 - octets_in into.old) self.old.given self.old.held).given }
+        ensures held { self.new.held ≡ (give durable (65_536 - octets_in into.old) self.old.given self.old.held).held }
+        ensures room { self.new.room + length self.new.held ≡ self.old.room + length self.old.held }
+    {
+        let start = into.octets.len();
+        let ended = give_front(
+            &mut self.outputs,
+            &mut self.given,
+            durable,
+            &mut into.octets,
+        );
+        let end = into.octets.len();
+        self.buffered -= (end - start) as u64;
+        end_entry(&mut into.slots, number, start, end, ended);
+        ended
+    }
+}
+
+/// Moves the octets of the front outputs that depend on `durable` changes at most behind the others, until there are
+/// `RELEASE_OCTETS`, and keeps the dependency of the last that went whole. Says whether one that ends the session did.
+fn give_front(
+    outputs: &mut VecDeque<Output>,
+    given: &mut u64,
+    durable: u64,
+    octets: &mut Vec<u8>,
+) -> bool
+    requires few { vec_len octets.old ≤ 65_536 }
+    requires room { 65_536 ≤ vec_capacity octets.old }
+    ensures gives { IsGiven (give durable (65_536 - length octets.old.items) given.old outputs.old.items) result given.new outputs.new.items octets.old.items octets.new.items }
+    ensures bound { vec_len octets.new ≤ 65_536 }
+    ensures room { 65_536 ≤ vec_capacity octets.new }
+    ensures capacity { deque_capacity outputs.new ≡ deque_capacity outputs.old }
+{
+    let mut ended = false;
+    while let Some(front) = outputs.front() {
+        let room = RELEASE_OCTETS - octets.len();
+        if front.dependency() > durable || room == 0 {
+            break;
+        }
+        let rest = front.rest();
+        if rest.len() > room {
+            append(octets, &rest[..room]);
+            outputs[0].cut(room);
+            break;
+        }
+        append(octets, rest);
+        *given = front.dependency();
+        ended = ended || front.ends();
+        outputs.pop_front();
+    }
+    ended
+}
+
+/// Adds octets that there is room for.
+fn append(octets: &mut Vec<u8>, more: &[u8])
+    requires { vec_len octets.old + length more.now ≤ vec_capacity octets.old }
+    ensures items { octets.new.items ≡ octets.old.items ++ more.now }
+    ensures len { vec_len octets.new ≡ vec_len octets.old + length more.now }
+    ensures capacity { vec_capacity octets.old ≤ vec_capacity octets.new }
+{
+    match octets.extend_from_slice(more) {
+        Ok(()) => {}
+        Err(_) => unreachable!(),
+    }
+}

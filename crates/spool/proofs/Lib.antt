@@ -1,0 +1,17 @@
+pub mod Places
+pub mod Notes
+pub mod Written
+pub mod Batches
+pub mod Lists
+pub mod Octets
+pub mod Encoded
+pub mod Adding
+pub mod Indexed
+pub mod Texts
+pub mod Filing
+pub mod Rooms
+pub mod Empty
+pub mod Articles
+pub mod ReadingFields
+pub mod ReadingSteps
+pub mod ReadingWhole

@@ -1,0 +1,8 @@
+-- Batches.
+use Rattle.std.specs.Prelude.{ℕ, List}
+use Rattle.model.specs.Stream.{Octets}
+
+-- block numbers, and the images of these blocks, one behind the other
+pub record Images : Type 0 where
+  pub numbers : List ℕ
+  pub octets : Octets

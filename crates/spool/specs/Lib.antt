@@ -1,0 +1,10 @@
+pub mod Index
+pub mod Dirty
+pub mod Batch
+pub mod Cached
+pub mod Kept
+pub mod Fields
+pub mod View
+pub mod Refusals
+pub mod Laws
+pub mod Reading
