@@ -1,0 +1,10 @@
+pub mod Giving
+pub mod Seats
+pub mod Sessions
+pub mod Lawful
+pub mod Standing
+pub mod Events
+pub mod Inputs
+pub mod Peers
+pub mod Sound
+pub mod Room

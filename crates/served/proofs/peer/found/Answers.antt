@@ -1,0 +1,12 @@
+use Rattle.std.proofs.Common.{◌≡◌, Option, Some, None, ap, ◌∙◌, sym, refl, subst, rules}
+use Rattle.std.specs.Prelude.{MatchOption}
+use Rattle.model.specs.declared.message.Message.{Message}
+use Rattle.served.specs.declared.input.Input.{Input}
+use Rattle.served.proofs.Peers.{AtPeer, at_peer}
+use Rattle.served.proofs.peer.found.Goals as goal
+
+pub returns : goal.returns
+returns c input is =
+    let at : AtPeer c.args.peers.now.items c.args.number c.index.result.now = at_peer c.args.peers.now.items c.args.number c.index.result.now c.requires.some c.requires.within c.index.ensures in
+    let same : c.index.result.now.input ≡ input = cc (sym at.input ∙ is) in
+    subst (λ (x : Input). MatchOption c.as_ref.result (x.message ≡ None) (λ message. x.message ≡ Some message.now)) same (search rules)

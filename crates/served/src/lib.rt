@@ -1,0 +1,295 @@
+//! The kernel beside the plain server: what each session sent and was sent since the opening, and the trace of what was
+//! served. `specs/Served.antt` says what callers see and what ties the two, `specs/Events.antt` what each call does.
+#![tactic(auto)]
+
+ghost use Rattle.std.specs.Prelude.{◌≡◌, ◌≢◌, ◌⊎◌, ◌↔◌, ◌+◌, ◌*◌, ◌≤◌, ◌<◌, [], ◌∷◌, ◌++◌, ℕ, List, Option, Some, None, Ok, IsTrue, IsSome, IsNone, IfOk, IfErr, IfSome, OnOk, OnErr, length, true, false, is_none, MatchResult, map};
+ghost use Rattle.std.specs.List.{list_all};
+ghost use Rattle.kernel.specs.Errors.{of_join, of_exec, of_admin};
+ghost use Rattle.served.specs.Errors.{of_arrive};
+ghost use Rattle.kernel.specs.Kept.{IsKept};
+ghost use Rattle.kernel.specs.Kernel.{KernelView, Takes, Tested, TestedOrMemory, admin_refusal, exec_refusal, halted_for_good, has_batch, join_refusal, made_durable, mode_at};
+ghost use Rattle.model.specs.Calendar.{moment_limit};
+ghost use Rattle.model.specs.Lawful.{is_description_octet};
+ghost use Rattle.model.specs.Names.{is_group_name};
+ghost use Rattle.model.specs.News.{is_full};
+ghost use Rattle.model.specs.Spool.{is_here};
+ghost use Rattle.model.specs.Volume.{blocks_from};
+ghost use Rattle.model.specs.declared.change.Change.TheVariants.{Group};
+ghost use Rattle.served.specs.Events.{DidExec, Makes, arrive_refusal, arrives, joins, leaves, opens, releases, with_kernel};
+ghost use Rattle.synchrony.specs.Server.{Admin};
+ghost use Rattle.served.specs.Served.{IsServed, ServedView, arrived_at, next_of, released_at};
+
+mod entry;
+mod errors;
+mod input;
+mod peer;
+
+pub use entry::{Entry, Happened};
+pub use errors::ArriveError;
+pub use input::Input;
+use kernel::{AdminError, ExecError, JoinError, Kernel, Stale, Ticket};
+use model::{Change, Mark, Mode, Text};
+use outbox::ReadyBuf;
+pub use peer::Peer;
+use spool::{BatchBuf, Spool};
+use std::alloc::{AllocError, Global};
+use std::marker::Model;
+
+/// The kernel, with what its sessions sent and were sent, and the trace.
+#[derive(Drop)]
+pub struct Served {
+    kernel: Kernel,
+    first: u64,
+    // Session n has place n - 1.
+    peers: Vec<Peer>,
+    trace: Vec<Entry>,
+    ready: ReadyBuf,
+}
+
+impl Model for Served {
+    ghost use Rattle.std.specs.Prelude.{map};
+    ghost use Rattle.served.specs.Served.{ServedView};
+
+    ghost Value = { ServedView };
+
+    ghost use Rattle.served.specs.Fields.{IsSound, inputs, sents};
+
+    ghost view = { λ s. record { kernel = s.kernel; first = s.first; sessions = sents s.peers.items; trace = s.trace.items; ready = s.ready } };
+
+    ghost invariant = { λ s. IsSound (record { kernel = s.kernel; first = s.first; sessions = sents s.peers.items; trace = s.trace.items; ready = s.ready }) (inputs s.peers.items) };
+}
+
+impl Served {
+    /// A kernel that was just opened: all its changes are durable, and no session joined. Refused for memory alone.
+    pub fn new(alloc: Global, kernel: Kernel) -> Result<Served, AllocError>
+        requires durable { kernel.durable ≡ length kernel.spool }
+        requires joined { kernel.joined ≡ 0 }
+        requires nobody { kernel.seats ≡ [] }
+        ensures { IfOk result (λ served. served ≡ opens kernel) }
+    {
+        let first = kernel.len();
+        Ok(Served {
+            kernel,
+            first,
+            peers: Vec::new(alloc),
+            trace: Vec::new(alloc),
+            ready: ReadyBuf::new(alloc)?,
+        })
+    }
+
+    /// What is kept: the kernel stands beside the plain server, and keeps what its lock keeps.
+    pub fn kept(&self)
+        ensures served { IsServed self.now }
+        ensures kernel { IsKept self.now.kernel }
+    {
+        self.kernel.kept();
+    }
+
+    /// A session joins. Refused as by the kernel, but `Memory` may come first; a refusal changes nothing.
+    pub fn join(&mut self, alloc: Global) -> Result<u64, JoinError>
+        ensures { TestedOrMemory of_join JoinError.Memory (join_refusal self.old.kernel) self.old self.new result (λ number. (number ≡ self.old.kernel.joined + 1) × (self.new ≡ joins self.old)) }
+    {
+        if self.peers.reserve(1).is_err() {
+            return Err(JoinError::Memory);
+        }
+        let number = self.kernel.join(alloc)?;
+        self.peers.push_reserved(Peer::new(alloc));
+        Ok(number)
+    }
+
+    /// A session leaves; nothing where it isn't there.
+    pub fn leave(&mut self, number: u64)
+        ensures { self.new ≡ leaves self.old number }
+    {
+        if !self.kernel.has(number) {
+            return;
+        }
+        peer::leave(&mut self.peers, number);
+        self.kernel.leave(number);
+    }
+
+    /// Octets arrive for a session. Refused as `NoSession` (E10) where it isn't there or was closed, or `Memory` (E2), in that
+    /// order; a refusal changes nothing.
+    pub fn arrive(&mut self, number: u64, octets: &[u8]) -> Result<(), ArriveError>
+        ensures { Tested of_arrive ArriveError.Memory (arrive_refusal self.old.kernel number) self.old self.new result (λ done. self.new ≡ arrives self.old number octets.now) }
+    {
+        if self.kernel.mode(number).is_none() {
+            return Err(ArriveError::NoSession);
+        }
+        if peer::hear(&mut self.peers, number, octets).is_err() {
+            return Err(ArriveError::Memory);
+        }
+        Ok(())
+    }
+
+    /// A session's next whole message is served at a moment, in seconds since 1970; `None` where none has come whole. Refused as
+    /// by the kernel, but `Memory` may come before all but `NoSession`; a refusal changes nothing, and the message is the
+    /// session's next one still.
+    pub fn exec(
+        &mut self,
+        alloc: Global,
+        number: u64,
+        moment: u64,
+    ) -> Result<Option<(Option<Mode>, Mark)>, ExecError>
+        requires { moment < moment_limit }
+        ensures { DidExec self.old number moment (mode_at self.old.kernel number) (next_of self.old number) result self.new }
+    {
+        let Some(mode) = self.kernel.mode(number) else {
+            return Err(ExecError::NoSession);
+        };
+        let Ok(is_found) = peer::find(&mut self.peers, number, mode) else {
+            return Err(ExecError::Memory);
+        };
+        if !is_found {
+            return Ok(None);
+        }
+        if self.trace.reserve(1).is_err() {
+            return Err(ExecError::Memory);
+        }
+        let Some(message) = peer::found(&self.peers, number) else {
+            return Ok(None);
+        };
+        let answered = self.kernel.exec(alloc, number, message, moment)?;
+        peer::forget(&mut self.peers, number);
+        self.trace
+            .push_reserved(Entry::new(Happened::Command(number, moment, answered.1)));
+        Ok(Some(answered))
+    }
+
+    /// The operator makes a group, and is told its serial. Refused as by the kernel, but `Memory` may come first; a refusal
+    /// changes nothing.
+    pub fn admin(
+        &mut self,
+        alloc: Global,
+        name: &[u8],
+        status: u8,
+        description: &[u8],
+        moment: u64,
+    ) -> Result<u64, AdminError>
+        requires name { IsTrue (is_group_name name.now) }
+        requires status { (status ≡ 121) ⊎ (status ≡ 110) }
+        requires short { length description.now ≤ 200 }
+        requires printable { IsTrue (list_all is_description_octet description.now) }
+        requires moment { moment < moment_limit }
+        ensures { TestedOrMemory of_admin AdminError.Memory
+            (admin_refusal (is_here self.old.kernel.spool name.now) (is_full (length self.old.kernel.blocks) self.old.kernel.inodes self.old.kernel.spool (Some (Group name.now status description.now moment))) self.old.kernel)
+            self.old self.new result (Makes self.old self.new (Group name.now status description.now moment)) }
+    {
+        let Ok(entry) = group_entry(alloc, name, status, description, moment) else {
+            return Err(AdminError::Memory);
+        };
+        if self.trace.reserve(1).is_err() {
+            return Err(AdminError::Memory);
+        }
+        let serial = self.kernel.admin(alloc, name, status, description, moment)?;
+        self.trace.push_reserved(entry);
+        Ok(serial)
+    }
+
+    /// What is ready is handed out, and counts as released: `ready` tells it. Refused for memory alone, with nothing changed.
+    pub fn release(&mut self) -> Result<(), AllocError>
+        ensures ok { OnOk result (self.new ≡ releases self.old) }
+        ensures err { OnErr result (self.new ≡ self.old) }
+    {
+        self.kernel.kept();
+        peer::make_room(&self.kernel, &mut self.peers)?;
+        self.kernel.take_ready(&mut self.ready);
+        peer::file(&mut self.peers, &self.ready);
+        Ok(())
+    }
+
+    /// The number of changes at the opening.
+    pub fn opened(&self) -> u64
+        ensures { result ≡ self.now.first }
+    {
+        self.first
+    }
+
+    /// What was served, in order.
+    pub fn trace(&self) -> &[Entry]
+        ensures { result.now ≡ self.now.trace }
+    {
+        self.trace.as_slice()
+    }
+
+    /// The octets that arrived for a session; none for one that never joined.
+    pub fn arrived(&self, number: u64) -> &[u8]
+        ensures { result.now ≡ arrived_at self.now number }
+    {
+        peer::arrived(&self.peers, number)
+    }
+
+    /// The octets that were released to a session; none to one that never joined.
+    pub fn released(&self, number: u64) -> &[u8]
+        ensures { result.now ≡ released_at self.now number }
+    {
+        peer::released(&self.peers, number)
+    }
+
+    /// What the last release handed out.
+    pub fn ready(&self) -> &ReadyBuf
+        ensures { result.now ≡ self.now.ready }
+    {
+        &self.ready
+    }
+
+    /// How many changes are durable.
+    pub fn durable(&self) -> u64
+        ensures { result ≡ self.now.kernel.durable }
+    {
+        self.kernel.durable()
+    }
+
+    /// What is accepted.
+    pub fn spool(&self) -> &Spool
+        ensures { result.now.changes ≡ self.now.kernel.spool }
+    {
+        self.kernel.spool()
+    }
+
+    /// The kernel's dirty blocks, as the batch in flight; `None` exactly where the kernel has none.
+    pub fn take_batch(&mut self, into: &mut BatchBuf) -> Option<Ticket>
+        ensures when { IsSome result ↔ IsTrue (has_batch self.old.kernel) }
+        ensures nothing { IsNone result → (self.new ≡ self.old) × (into.new ≡ into.old) }
+        ensures takes { IfSome result (λ ticket. Takes self.old.kernel self.new.kernel into.new.numbers (blocks_from 0 (length into.new.numbers) into.new.octets) ticket.last) }
+        ensures size { IsSome result → length into.new.octets ≡ 4096 * length into.new.numbers }
+        ensures same { IsSome result → self.new ≡ with_kernel self.old self.new.kernel }
+    {
+        self.kernel.take_batch(into)
+    }
+
+    /// The batch in flight is on disk: its changes are durable. `Stale` (E13) exactly where the ticket isn't the batch in
+    /// flight or the kernel is halted, and then nothing changes.
+    pub fn committed(&mut self, ticket: Ticket) -> Result<(), Stale>
+        ensures ok { IfOk result (λ done. (self.old.kernel.in_flight ≡ Some ticket.last) × (self.old.kernel.halted ≡ false) × (self.new ≡ with_kernel self.old (made_durable self.old.kernel ticket.last))) }
+        ensures stale { OnErr result (((self.old.kernel.in_flight ≢ Some ticket.last) ⊎ (self.old.kernel.halted ≡ true)) × (self.new ≡ self.old)) }
+    {
+        self.kernel.kept();
+        self.kernel.committed(ticket)
+    }
+
+    /// The kernel halts for good.
+    pub fn halt(&mut self)
+        ensures { self.new ≡ with_kernel self.old (halted_for_good self.old.kernel) }
+    {
+        self.kernel.halt();
+    }
+}
+
+/// The entry of a group that the operator makes.
+fn group_entry(
+    alloc: Global,
+    name: &[u8],
+    status: u8,
+    description: &[u8],
+    moment: u64,
+) -> Result<Entry, AllocError>
+    ensures { IfOk result (λ entry. entry ≡ Admin (Group name.now status description.now moment)) }
+{
+    Ok(Entry::new(Happened::Admin(Change::Group {
+        name: Text::new(name.to_vec(alloc)?),
+        status,
+        description: Text::new(description.to_vec(alloc)?),
+        moment,
+    })))
+}

@@ -1,0 +1,175 @@
+-- An opening, and what a crash during it might have left.
+use Rattle.std.proofs.Common.{◌≡◌, ◌≢◌, ◌⊎◌, inl, inr, ⊎_elim, ℕ, ◌≤◌, Bool, true, false, List, [], length, take, None, refl, ap, sym, ◌∙◌, subst, arith}
+use Rattle.std.specs.Prelude.{IsTrue, ◌-◌, slice_index_or}
+use Rattle.std.proofs.Common.{replicate}
+use Rattle.model.proofs.Strings.{counted_split, little_split}
+use Rattle.std.proofs.lemmas.List.{take_all}
+use Rattle.disk.specs.Device.{Device}
+use Rattle.journal.specs.Journal.{Admits, JournalView}
+use Rattle.journal.specs.Opening.{AreSameVolume, IsNoVolume, LeftKept, Opens}
+use Rattle.journal.specs.declared.JournalError.{JournalError}
+use Rattle.journal.specs.declared.JournalError.TheVariants as journal
+use Rattle.journal.specs.declared.Next.TheVariants.{Commit, Idle}
+use Rattle.kernel.specs.Kernel.{KernelView}
+use Rattle.kernel.specs.Label.{IsNoLabel}
+use Rattle.kernel.specs.Opening.{IsDamaged, IsFresh, IsOpened, OnlyReads}
+use Rattle.kernel.specs.declared.opening.OpenError.{OpenError}
+use Rattle.kernel.specs.declared.opening.OpenError.TheVariants as open_errors
+use Rattle.model.specs.Layout.{IsLabel}
+use Rattle.model.specs.News.{Holds, Stands}
+use Rattle.model.specs.Spool.{Spool}
+use Rattle.model.specs.Stream.{Octets}
+use Rattle.model.specs.Volume.{StandsFor}
+use Rattle.served.specs.Events.{opens}
+use Rattle.served.specs.Served.{ServedView}
+use Rattle.world.specs.Fields.{IsSound}
+use Rattle.world.specs.Images.{KeepsSpools, StandsForNone}
+use Rattle.world.specs.Opening.{IsNew, open_error}
+use Rattle.world.specs.Tied.{AreFaults, IsQuiet, Quiet, is_to_commit}
+use Rattle.world.specs.World.{WorldView}
+
+-- a volume's label and blocks are those of its image
+same_volume : (host image other its_label : Octets) (blocks : List Octets) (S : Spool) → StandsFor image its_label blocks → StandsFor other its_label blocks → Stands host image S → Stands host other S
+same_volume host image other its_label blocks S here there s =
+    let label : its_label ≡ s.label = sym here.has_label ∙ s.volume.has_label in
+    let same : blocks ≡ s.blocks = sym here.has_blocks ∙ s.volume.has_blocks in
+    record {
+      label = s.label;
+      inodes = s.inodes;
+      blocks = s.blocks;
+      volume = subst (λ (t : Octets × List Octets). StandsFor other t.0 t.1) (λ i. (label i, same i)) there;
+      labelled = s.labelled;
+      held = s.held;
+    }
+
+module _ {D : Type 0} (device : D → Device) (only_now : (d : D) (image : Octets) → IsTrue (device d).tells → (device d).left_since (device d).clock image → (device d).may_leave image)
+    (counts_content : (d : D) → IsTrue (device d).tells → (device d).may_leave (device d).content) where
+  pub keeps_left : (first last : D) → LeftKept (device first) (device last) → KeepsSpools (device first) (device last)
+  keeps_left first last kept tells image left =
+      ⊎_elim
+      (λ (was : (device first).left_since (device first).clock image). (image, only_now first image tells was, λ host S s. s))
+      (λ (same : AreSameVolume (device first).content image).
+      ((device first).content, counts_content first tells, λ host S s. same_volume host (device first).content image same.0 same.1.0 S same.1.1.0 same.1.1.1 s))
+      (kept tells (device first).clock image (omega arith) left)
+
+  idle_admits : (j : JournalView D) (image : Octets) → j.next ≡ Idle → Admits j image → StandsFor image j.label j.blocks
+  idle_admits j image idle admits =
+      ⊎_elim (λ (s : StandsFor image j.label j.blocks). s)
+      (λ (b : (j.next ≡ Commit) × _). absurd (let both : Idle ≡ Commit = sym idle ∙ b.0 in cc))
+      admits
+
+  pub keeps_both : (first : D) (one two : JournalView D) → Opens device first one → OnlyReads device one two → KeepsSpools (device first) (device two.disk)
+  keeps_both first one two o r tells image left =
+      let tells_one : IsTrue (device one.disk).tells = subst IsTrue (sym o.time.tells) tells in
+      ⊎_elim
+      (λ (was : (device one.disk).left_since (device first).clock image). keeps_left first one.disk o.since tells image was)
+      (λ (admits : Admits two image).
+      let here : StandsFor image one.label one.blocks = subst (λ (t : Octets × List Octets). StandsFor image t.0 t.1) (λ i. (r.same.label i, r.blocks tells_one i)) (idle_admits two image r.idle admits) in
+      ((device first).content, counts_content first tells, λ host S s. same_volume host (device first).content image one.label one.blocks S (o.stands tells) here s))
+      (r.since tells_one (device first).clock image o.time.later left)
+
+-- ---- what stood there
+
+pub stands_opened : {D : Type 0} (device : D → Device) (first : D) (one : JournalView D) (kernel : KernelView) → Opens device first one → IsOpened device one kernel → IsTrue (device first).tells → Stands kernel.host (device first).content kernel.spool
+stands_opened device first one kernel o k tells =
+    let same : kernel.blocks ≡ one.blocks = k.blocks (subst IsTrue (sym o.time.tells) tells) in
+    record {
+      label = one.label;
+      inodes = kernel.inodes;
+      blocks = kernel.blocks;
+      volume = subst (StandsFor (device first).content one.label) (sym same) (o.stands tells);
+      labelled = subst (λ n. IsLabel one.label n kernel.inodes kernel.host) (sym k.size) k.labelled;
+      held = k.holds;
+    }
+
+pub none_volume : (content : Octets) → IsNoVolume content → StandsForNone content
+none_volume content never host S s = never s.label s.blocks s.volume
+
+pub none_label : {D : Type 0} (device : D → Device) (first : D) (one : JournalView D) → Opens device first one → IsNoLabel one.label one.size → IsTrue (device first).tells → StandsForNone (device first).content
+none_label device first one o never tells host S s =
+    let v = o.stands tells in
+    let label : s.label ≡ one.label = sym s.volume.has_label ∙ v.has_label in
+    let blocks : s.blocks ≡ one.blocks = sym s.volume.has_blocks ∙ v.has_blocks in
+    never s.inodes host (subst (λ (t : Octets × ℕ). IsLabel t.0 t.1 s.inodes host) (λ i. (label i, (ap length blocks ∙ (o.whole (subst IsTrue (sym o.time.tells) tells)).count) i)) s.labelled)
+
+-- a label says one host and one number of inodes
+label_same : (label : Octets) (n inodes inodes' : ℕ) (host other : Octets) → IsLabel label n inodes host → IsLabel label n inodes' other → (inodes ≡ inodes') × (host ≡ other)
+label_same label n inodes inodes' host other a b =
+    let same = sym a.octets ∙ b.octets in
+    let parts = little_split 4 inodes inodes' _ _ (omega (arith, a.few)) (omega (arith, b.few)) same in
+    let hosts = counted_split host other (replicate (123 - length host) 0) (replicate (123 - length other) 0) parts.1 in
+    (parts.0, hosts.0)
+
+pub none_damaged : {D : Type 0} (device : D → Device) (first : D) (one : JournalView D) → Opens device first one → IsDamaged device one → IsTrue (device first).tells → StandsForNone (device first).content
+none_damaged device first one o d tells host S s =
+    let tells_one : IsTrue (device one.disk).tells = subst IsTrue (sym o.time.tells) tells in
+    let v = o.stands tells in
+    let label : s.label ≡ one.label = sym s.volume.has_label ∙ v.has_label in
+    let blocks : s.blocks ≡ one.blocks = sym s.volume.has_blocks ∙ v.has_blocks in
+    let its_label : IsLabel one.label one.size s.inodes host = subst (λ (t : Octets × ℕ). IsLabel t.0 t.1 s.inodes host) (λ i. (label i, (ap length blocks ∙ (o.whole tells_one).count) i)) s.labelled in
+    let same = label_same one.label one.size s.inodes d.inodes host d.host its_label d.labelled in
+    d.holds_none tells_one S (subst (λ (t : Octets × ℕ × List Octets). Holds t.0 t.1 t.2 S) (λ i. (same.1 i, same.0 i, blocks i)) s.held)
+
+-- a volume is missed only by the journal
+pub journal_missed : (e : JournalError) (r : OpenError) → r ≡ open_error e → (r ≡ open_errors.NotAVolume) ⊎ (r ≡ open_errors.Damaged) → e ≡ journal.NotAVolume
+journal_missed journal.Fault r is h = absurd (⊎_elim (λ (a : r ≡ open_errors.NotAVolume). fault_a (sym is ∙ a)) (λ (b : r ≡ open_errors.Damaged). fault_b (sym is ∙ b)) h)
+  where
+    fault_a : open_errors.Fault ≡ open_errors.NotAVolume → ⊥
+    fault_a e = absurd (cc e)
+
+    fault_b : open_errors.Fault ≡ open_errors.Damaged → ⊥
+    fault_b e = absurd (cc e)
+journal_missed journal.Memory r is h = absurd (⊎_elim (λ (a : r ≡ open_errors.NotAVolume). memory_a (sym is ∙ a)) (λ (b : r ≡ open_errors.Damaged). memory_b (sym is ∙ b)) h)
+  where
+    memory_a : open_errors.Memory ≡ open_errors.NotAVolume → ⊥
+    memory_a e = absurd (cc e)
+
+    memory_b : open_errors.Memory ≡ open_errors.Damaged → ⊥
+    memory_b e = absurd (cc e)
+journal_missed journal.NotAVolume r is h = refl
+journal_missed journal.Halted r is h = absurd (⊎_elim (λ (a : r ≡ open_errors.NotAVolume). halted_a (sym is ∙ a)) (λ (b : r ≡ open_errors.Damaged). halted_b (sym is ∙ b)) h)
+  where
+    halted_a : open_errors.Memory ≡ open_errors.NotAVolume → ⊥
+    halted_a e = absurd (cc e)
+
+    halted_b : open_errors.Memory ≡ open_errors.Damaged → ⊥
+    halted_b e = absurd (cc e)
+
+-- ---- the new world
+
+pub sound_new : {D : Type 0} (device : D → Device) (one two : JournalView D) (kernel : KernelView) (served : ServedView) → served ≡ opens kernel → IsOpened device one kernel → OnlyReads device one two → two.halted ≡ false → IsSound (device two.disk).tells (record { journal = two; served = served; untold = [] }) None
+sound_new {D} device one two kernel served is k r runs = subst (λ s. IsSound (device two.disk).tells (record { journal = two; served = s; untold = [] }) None) (sym is) now
+  where
+    lies : IsTrue (device two.disk).tells → two.blocks ≡ kernel.blocks
+    lies tells = let one_tells : IsTrue (device one.disk).tells = subst IsTrue r.time.tells tells in r.blocks one_tells ∙ sym (k.blocks one_tells)
+
+    all : take kernel.durable kernel.spool ≡ kernel.spool
+    all = take_all kernel.durable kernel.spool (omega (arith, k.fresh.durable))
+
+    quiet : IsQuiet (device two.disk).tells two kernel []
+    quiet =
+        record {
+          none = k.fresh.in_flight;
+          past = ap is_to_commit r.idle;
+          blocks = λ t. record {
+            agrees = record { size = ap length (lies t); clean = λ n lt clean. ap (λ xs. slice_index_or xs n []) (lies t) };
+            holds = subst (λ (t : List Octets × Spool). Holds kernel.host kernel.inodes t.0 t.1) (λ i. (sym (lies t) i, sym all i)) k.holds;
+          };
+          faults = subst (λ b. AreFaults b kernel.halted []) (sym runs) (k.fresh.halted, refl);
+        }
+
+    now : IsSound (device two.disk).tells (record { journal = two; served = opens kernel; untold = [] }) None
+    now =
+        record {
+          tied = record {
+            label = subst (λ (t : Octets × ℕ). IsLabel t.0 t.1 kernel.inodes kernel.host) (λ i. (sym r.same.label i, sym k.size i)) k.labelled;
+            size = r.same.size ∙ sym k.size;
+            phase = Quiet quiet;
+          };
+          flies = sym k.fresh.in_flight;
+        }
+
+pub is_new : {D : Type 0} (two : JournalView D) (kernel : KernelView) (served : ServedView) → served ≡ opens kernel → IsFresh kernel → IsNew (record { journal = two; served = served; untold = [] })
+is_new {D} two kernel served is f =
+    subst (λ s. IsNew {D = D} (record { journal = two; served = s; untold = [] })) (sym is)
+    (record { first = refl; durable = f.durable; in_flight = f.in_flight; halted = f.halted; dirty = f.dirty; joined = f.joined; seats = f.seats; sessions = refl; trace = refl; ready = refl; untold = refl })

@@ -1,0 +1,79 @@
+-- Events done one after another.
+use Rattle.std.proofs.Common.{◌≡◌, ◌≢◌, ◌⊎◌, inl, inr, ⊎_elim, ℕ, zero, suc, ◌+◌, ◌≤◌, ◌<◌, Bool, true, false, List, [], ◌∷◌, ◌++◌, length, take, Option, Some, None, refl, ap, sym, ◌∙◌, subst, arith, length-take}
+use Rattle.std.specs.Prelude.{IsTrue, Result, Ok, Err, slice_get}
+use Rattle.disk.specs.Device.{Device}
+use Rattle.model.specs.Stream.{Octets}
+use Rattle.world.specs.Events.{Did, Went, for_memory, more, none}
+use Rattle.world.specs.Images.{EachSince, Fits, LeftFits}
+use Rattle.world.specs.Tied.{IsWorld}
+use Rattle.world.specs.World.{WorldView}
+use Rattle.world.specs.declared.events.Answer.{Answer}
+use Rattle.world.specs.declared.events.Event.{Event}
+use Rattle.world.specs.declared.events.StepError.{StepError}
+use Rattle.world.specs.declared.events.StepError.TheVariants as error
+use Rattle.world.proofs.Fitting.{now_fits}
+use Rattle.world.proofs.Since.{memory_stays, step_goes_on}
+
+module _ {D : Type 0} (device : D → Device) where
+  went_more : (old middle new : WorldView D) (events : List Event) (event : Event) (result : Result Answer StepError) → Went device old events middle → result ≢ Err error.Memory → Did device middle event result new → Went device old (events ++ event ∷ []) new
+  went_more old middle new events event result (none world) fine did = more world new new event [] result fine did (none new)
+  went_more old middle new events event result (more first second last one others r ok d rest) fine did = more first second new one (others ++ event ∷ []) r ok d (went_more second last new others event result rest fine did)
+
+  -- the first i events are done
+  pub record Running (old now : WorldView D) (events : List Event) (i : ℕ) : Type 0 where
+    pub went : Went device old (take i events) now
+    pub world : IsWorld device now
+    pub tells : (device now.journal.disk).tells ≡ (device old.journal.disk).tells
+    pub later : (device old.journal.disk).clock ≤ (device now.journal.disk).clock
+    pub during : EachSince (device old.journal.disk) (device now.journal.disk) (λ image. (j : ℕ) × (middle : WorldView D) × (j ≤ i) × Went device old (take j events) middle × Fits middle image)
+
+  pub running_none : ((d : D) (image : Octets) → IsTrue (device d).tells → (device d).left_since (device d).clock image → (device d).may_leave image) → (old : WorldView D) (events : List Event) → IsWorld device old → Running old old events 0
+  running_none only_now old events h =
+      record {
+        went = none old;
+        world = h;
+        tells = refl;
+        later = omega arith;
+        during = λ tells image left. (0, old, omega arith, none old, now_fits device old h tells image (only_now old.journal.disk image tells left));
+      }
+
+  take_next : (events : List Event) (i : ℕ) (event : Event) → slice_get events i ≡ Some event → take (i + 1) events ≡ take i events ++ event ∷ []
+  take_next [] i event is = absurd (cc is)
+  take_next (first ∷ events) zero event is = let same : first ≡ event = cc is in ap (λ e. e ∷ []) same
+  take_next (first ∷ events) (suc i) event is = let e : suc i + 1 ≡ suc (i + 1) = omega arith in ap (λ n. take n (first ∷ events)) e ∙ ap (λ xs. first ∷ xs) (take_next events i event is)
+
+  pub running_more : (old now new : WorldView D) (events : List Event) (i : ℕ) (event : Event) (result : Result Answer StepError) → Running old now events i → slice_get events i ≡ Some event → result ≢ Err error.Memory → Did device now event result new → IsWorld device new
+      → LeftFits (device now.journal.disk) (device new.journal.disk) (Fits now) → Running old new events (i + 1)
+  running_more old now new events i event result h at fine did world since =
+      let on = step_goes_on device now new event result world did in
+      record {
+        went = subst (λ es. Went device old es new) (sym (take_next events i event at)) (went_more old now new (take i events) event result h.went fine did);
+        world = world;
+        tells = on.0 ∙ h.tells;
+        later = omega (arith, h.later, on.1);
+        during = λ tells image left. ⊎_elim
+            (λ (was : (device now.journal.disk).left_since (device old.journal.disk).clock image). let d = h.during tells image was in (d.0, d.1, omega (arith, d.2), d.3, d.4))
+            (λ (fits : Fits now image). (i, now, omega arith, h.went, fits))
+            (since (subst IsTrue (sym h.tells) tells) (device old.journal.disk).clock image h.later left);
+      }
+
+-- a refusal for memory leaves all as it was
+pub running_refused : {D : Type 0} (device : D → Device) (old now new : WorldView D) (events : List Event) (i : ℕ) (event : Event) (result : Result Answer StepError) → Running device old now events i → result ≡ Err error.Memory → Did device now event result new → Running device old new events i
+running_refused device old now new events i event result h is did =
+    subst (λ w. Running device old w events i) (sym (memory_stays device now new event (subst (λ r. Did device now event r new) is did))) h
+
+-- whether memory was refused
+pub memory_is : (r : Result Answer StepError) → for_memory r ≡ true → r ≡ Err error.Memory
+memory_is (Ok a) is = absurd (cc is)
+memory_is (Err error.Fault) is = absurd (cc is)
+memory_is (Err error.Memory) is = refl
+memory_is (Err error.Halted) is = absurd (cc is)
+memory_is (Err error.Full) is = absurd (cc is)
+memory_is (Err error.TooManySessions) is = absurd (cc is)
+memory_is (Err error.LaterDirty) is = absurd (cc is)
+memory_is (Err error.LaterOut) is = absurd (cc is)
+memory_is (Err error.NoSession) is = absurd (cc is)
+memory_is (Err error.Exists) is = absurd (cc is)
+
+pub memory_not : (r : Result Answer StepError) → for_memory r ≡ false → r ≢ Err error.Memory
+memory_not r is e = absurd (let both : true ≡ false = sym (ap for_memory e) ∙ is in cc)

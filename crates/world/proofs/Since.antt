@@ -1,0 +1,203 @@
+-- What a crash at some moment of an event might have left.
+use Rattle.std.proofs.Common.{◌≡◌, ◌⊎◌, inl, inr, ⊎_elim, ℕ, ◌≤◌, Bool, true, false, List, [], ◌∷◌, ◌++◌, length, take, Option, Some, None, refl, ap, sym, ◌∙◌, subst, arith}
+use Rattle.std.specs.Prelude.{IsTrue, MatchResult, Result, Ok, Err}
+use Rattle.disk.specs.Device.{Device}
+use Rattle.journal.specs.Calls.{MakesCall}
+use Rattle.journal.specs.Journal.{Admits, IsReady, JournalView}
+use Rattle.journal.specs.declared.JournalError.{JournalError}
+use Rattle.journal.specs.declared.Next.{Next}
+use Rattle.journal.specs.declared.Next.TheVariants as next
+use Rattle.journal.specs.declared.Progress.{Progress}
+use Rattle.kernel.specs.Kernel.{Refusal, Tested, TestedOrMemory, has_batch, mode_at}
+use Rattle.model.specs.Stream.{Octets}
+use Rattle.model.specs.declared.message.Message.{Message}
+use Rattle.model.specs.declared.message.Mode.{Mode}
+use Rattle.served.specs.Events.{arrive_refusal, arrives}
+use Rattle.served.specs.Served.{ServedView, arrived_at, first_spool, next_of, released_at}
+use Rattle.world.specs.Events.{Did, DidDev, DidExec, DidTake, Steps, dev_answer, of_kernel}
+use Rattle.world.specs.declared.events.Answer.TheVariants as answer
+use Rattle.journal.specs.declared.JournalError.TheVariants as journal
+use Rattle.world.specs.Images.{EachNow, EachSince, Fits, IsSynchronous, LeftFits, MayBeLeft}
+use Rattle.world.specs.Tied.{IsWorld}
+use Rattle.world.specs.World.{WorldView, kernel_of, with_served}
+use Rattle.world.specs.declared.events.Answer.{Answer}
+use Rattle.world.specs.declared.events.Event.{Event}
+use Rattle.world.specs.declared.events.Event.TheVariants as event
+use Rattle.world.specs.declared.events.StepError.{StepError}
+use Rattle.world.specs.declared.events.StepError.TheVariants as error
+use Rattle.world.proofs.Fitting.{admits_fits, now_fits}
+use Rattle.world.proofs.Sound.{tested_or}
+
+-- an image fits by what is served alone
+FitsAt : ServedView → Octets → Type 0
+FitsAt served image = (p : ℕ) × MayBeLeft served.kernel p × IsSynchronous served.kernel.host (first_spool served) (arrived_at served) served.trace (released_at served) p image
+
+module _ {D : Type 0} (device : D → Device) (old new : WorldView D) where
+  Left : Type 0
+  Left =
+      LeftFits (device old.journal.disk) (device new.journal.disk) (Fits old)
+      × (((device new.journal.disk).tells ≡ (device old.journal.disk).tells) × ((device old.journal.disk).clock ≤ (device new.journal.disk).clock))
+
+  -- an event without a device call
+  same_disk : new.journal.disk ≡ old.journal.disk → Left
+  unfolding Left
+  same_disk same = (
+    λ tells t image le left. inl (subst (λ d. (device d).left_since t image) same left),
+    (ap (λ d. (device d).tells) same, subst (λ d. (device old.journal.disk).clock ≤ (device d).clock) (sym same) (omega arith)),
+  )
+
+  by_world : new ≡ old → Left
+  by_world is = same_disk (ap (λ (w : WorldView D). w.journal.disk) is)
+
+  by_served : (served : ServedView) → new ≡ with_served old served → Left
+  by_served served is = same_disk (ap (λ (w : WorldView D). w.journal.disk) is)
+
+  by_tests : {A E : Type 0} (as_error : Refusal → E) (memory : E) (refusal : Option Refusal) (r : Result A E) (done : A → Type 0) → ((x : A) → done x → Left) → TestedOrMemory as_error memory refusal old new r done → Left
+  by_tests as_error memory refusal (Ok x) done f h = f x h.1
+  by_tests as_error memory refusal (Err e) done f h = by_world h.1
+
+  left_exec : (number moment : ℕ) (m : Option Mode) (found : Option (Message × Octets)) (r : Result Answer StepError) → DidExec old number moment m found r new → Left
+  left_exec number moment None found r d = by_world d.1
+  left_exec number moment (Some mode) None (Ok a) d = by_world d.1
+  left_exec number moment (Some mode) None (Err e) d = by_world d.1
+  left_exec number moment (Some mode) (Some found) (Ok a) d = by_served new.served d.1.3
+  left_exec number moment (Some mode) (Some found) (Err e) d = by_world d.1
+
+  left_take : (r : Result Answer StepError) → DidTake old r new → Left
+  left_take r d = go old.journal.halted refl old.journal.next refl (has_batch (kernel_of old)) refl
+    where
+      begins : old.journal.halted ≡ false → old.journal.next ≡ next.Idle → has_batch (kernel_of old) ≡ true → Left
+      begins runs idle has = same_disk (ap (λ (w : WorldView D). w.journal.disk) (d.takes (runs, idle) has).1)
+
+      busy : (call : Next) → old.journal.next ≡ call → (next.Idle ≡ call → ⊥) → Left
+      busy call at differs = by_world (d.stays (λ ready has. differs (sym ready.1 ∙ at))).1
+
+      go : (halted : Bool) → old.journal.halted ≡ halted → (call : Next) → old.journal.next ≡ call → (has : Bool) → has_batch (kernel_of old) ≡ has → Left
+      go true is call at has is_there = by_world (d.stays (λ ready b. absurd (let both : true ≡ false = sym is ∙ ready.0 in cc))).1
+      go false is call at false is_there = by_world (d.stays (λ ready b. absurd (let both : false ≡ true = sym is_there ∙ b in cc))).1
+      go false is next.Idle at true is_there = begins is at is_there
+      go false is next.Descriptor at true is_there = busy next.Descriptor at (λ e. absurd (cc e))
+      go false is (next.Image j) at true is_there = busy (next.Image j) at (λ e. absurd (cc e))
+      go false is next.Seal at true is_there = busy next.Seal at (λ e. absurd (cc e))
+      go false is next.OpenGate at true is_there = busy next.OpenGate at (λ e. absurd (cc e))
+      go false is next.Commit at true is_there = busy next.Commit at (λ e. absurd (cc e))
+      go false is (next.Home j) at true is_there = busy (next.Home j) at (λ e. absurd (cc e))
+      go false is next.Settle at true is_there = busy next.Settle at (λ e. absurd (cc e))
+      go false is next.CloseGate at true is_there = busy next.CloseGate at (λ e. absurd (cc e))
+      go false is next.Finish at true is_there = busy next.Finish at (λ e. absurd (cc e))
+
+  -- a device call
+  left_dev : (r : Result Answer StepError) → IsWorld device new → DidDev device old r new → Left
+  unfolding Left FitsAt
+  left_dev r h d = go old.journal.halted refl old.journal.next refl
+    where
+      same : new.journal ≡ old.journal → Left
+      same is = same_disk (ap (λ (j : JournalView D). j.disk) is)
+
+      called : MakesCall device old.journal new.journal d.answered → Left
+      called m = (
+        λ tells t image le left. ⊎_elim (λ (was : (device old.journal.disk).left_since t image). inl was)
+            (λ (admits : Admits new.journal image). inr (subst (λ s. FitsAt s image) d.served (admits_fits device new h (subst IsTrue (sym m.time.tells) tells) image admits)))
+            (m.since tells t image le left),
+        (m.time.tells, m.time.later),
+      )
+
+      calls : old.journal.halted ≡ false → (old.journal.next ≡ next.Idle → ⊥) → Left
+      calls runs busy = called (d.steps.call runs busy)
+
+      go : (halted : Bool) → old.journal.halted ≡ halted → (call : Next) → old.journal.next ≡ call → Left
+      go true is call at = same (d.steps.halted is).1
+      go false is next.Idle at = same (d.steps.idle is at).1
+      go false is next.Descriptor at = calls is (λ e. absurd (let both : next.Idle ≡ next.Descriptor = sym e ∙ at in cc))
+      go false is (next.Image j) at = calls is (λ e. absurd (let both : next.Idle ≡ next.Image j = sym e ∙ at in cc))
+      go false is next.Seal at = calls is (λ e. absurd (let both : next.Idle ≡ next.Seal = sym e ∙ at in cc))
+      go false is next.OpenGate at = calls is (λ e. absurd (let both : next.Idle ≡ next.OpenGate = sym e ∙ at in cc))
+      go false is next.Commit at = calls is (λ e. absurd (let both : next.Idle ≡ next.Commit = sym e ∙ at in cc))
+      go false is (next.Home j) at = calls is (λ e. absurd (let both : next.Idle ≡ next.Home j = sym e ∙ at in cc))
+      go false is next.Settle at = calls is (λ e. absurd (let both : next.Idle ≡ next.Settle = sym e ∙ at in cc))
+      go false is next.CloseGate at = calls is (λ e. absurd (let both : next.Idle ≡ next.CloseGate = sym e ∙ at in cc))
+      go false is next.Finish at = calls is (λ e. absurd (let both : next.Idle ≡ next.Finish = sym e ∙ at in cc))
+
+  left_release : (r : Result Answer StepError) (P : Answer → Type 0) → ((a : Answer) → P a → Left) → MatchResult r P (λ e. (e ≡ error.Memory) × (new ≡ old)) → Left
+  left_release (Ok a) P f h = f a h
+  left_release (Err e) P f h = by_world h.1
+
+  did_left : (e : Event) (r : Result Answer StepError) → IsWorld device new → Did device old e r new → Left
+  did_left event.Join r h d = by_tests of_kernel error.Memory _ r _ (λ a done. by_served _ done.1) d
+  did_left (event.Leave number) r h d = by_served _ d.1
+  did_left (event.Arrive number octets) r h d = by_tests of_kernel error.Memory (arrive_refusal (kernel_of old) number) r _ (λ a done. by_served _ done.1) (tested_or of_kernel error.Memory (arrive_refusal (kernel_of old) number) old new r _ d)
+  did_left (event.Exec number moment) r h d = left_exec number moment (mode_at (kernel_of old) number) (next_of old.served number) r d
+  did_left (event.Admin name status description moment) r h d = by_tests of_kernel error.Memory _ r _ (λ a done. by_served new.served done.3) d
+  did_left event.Take r h d = left_take r d
+  did_left event.Dev r h d = left_dev r h d
+  did_left event.Told r h d = same_disk (ap (λ (w : WorldView D). w.journal.disk) d.1)
+  did_left event.Release r h d = left_release r _ (λ a done. by_served _ done.1) d
+
+  -- a crash at some moment of the event leaves what fits the world before it
+  pub step_since : (e : Event) (r : Result Answer StepError) → IsWorld device new → Did device old e r new → LeftFits (device old.journal.disk) (device new.journal.disk) (Fits old)
+  unfolding Left
+  step_since e r h d = (did_left e r h d).0
+
+  -- the device tells as before, and time goes on
+  pub step_goes_on : (e : Event) (r : Result Answer StepError) → IsWorld device new → Did device old e r new → ((device new.journal.disk).tells ≡ (device old.journal.disk).tells) × ((device old.journal.disk).clock ≤ (device new.journal.disk).clock)
+  unfolding Left
+  step_goes_on e r h d = (did_left e r h d).1
+
+  -- ---- a refusal for memory
+
+  memory_take : (r : Result Answer StepError) → DidTake old r new → r ≡ Err error.Memory → ⊥
+  memory_take r d is = go old.journal.halted refl old.journal.next refl (has_batch (kernel_of old)) refl
+    where
+      begins : old.journal.halted ≡ false → old.journal.next ≡ next.Idle → has_batch (kernel_of old) ≡ true → ⊥
+      begins runs idle has = let both : Err error.Memory ≡ Ok (answer.Took (Some (length (kernel_of old).spool))) = sym is ∙ (d.takes (runs, idle) has).0 in absurd (cc both)
+
+      stays : (IsReady old.journal → has_batch (kernel_of old) ≡ true → ⊥) → ⊥
+      stays never = let both : Err error.Memory ≡ Ok (answer.Took None) = sym is ∙ (d.stays never).0 in absurd (cc both)
+
+      busy : (call : Next) → old.journal.next ≡ call → (next.Idle ≡ call → ⊥) → ⊥
+      busy call at differs = stays (λ ready has. differs (sym ready.1 ∙ at))
+
+      go : (halted : Bool) → old.journal.halted ≡ halted → (call : Next) → old.journal.next ≡ call → (has : Bool) → has_batch (kernel_of old) ≡ has → ⊥
+      go true e call at has is_there = stays (λ ready b. absurd (let both : true ≡ false = sym e ∙ ready.0 in cc))
+      go false e call at false is_there = stays (λ ready b. absurd (let both : false ≡ true = sym is_there ∙ b in cc))
+      go false e next.Idle at true is_there = begins e at is_there
+      go false e next.Descriptor at true is_there = busy next.Descriptor at (λ f. absurd (cc f))
+      go false e (next.Image j) at true is_there = busy (next.Image j) at (λ f. absurd (cc f))
+      go false e next.Seal at true is_there = busy next.Seal at (λ f. absurd (cc f))
+      go false e next.OpenGate at true is_there = busy next.OpenGate at (λ f. absurd (cc f))
+      go false e next.Commit at true is_there = busy next.Commit at (λ f. absurd (cc f))
+      go false e (next.Home j) at true is_there = busy (next.Home j) at (λ f. absurd (cc f))
+      go false e next.Settle at true is_there = busy next.Settle at (λ f. absurd (cc f))
+      go false e next.CloseGate at true is_there = busy next.CloseGate at (λ f. absurd (cc f))
+      go false e next.Finish at true is_there = busy next.Finish at (λ f. absurd (cc f))
+
+  never_memory : (a : Result Progress JournalError) → Err error.Memory ≡ dev_answer a → ⊥
+  never_memory (Ok p) is = absurd (cc is)
+  never_memory (Err journal.Fault) is = absurd (cc is)
+  never_memory (Err journal.Memory) is = absurd (cc is)
+  never_memory (Err journal.NotAVolume) is = absurd (cc is)
+  never_memory (Err journal.Halted) is = absurd (cc is)
+
+  memory_exec : (number moment : ℕ) (m : Option Mode) (found : Option (Message × Octets)) → DidExec old number moment m found (Err error.Memory) new → new ≡ old
+  memory_exec number moment None found d = d.1
+  memory_exec number moment (Some mode) None d = d.1
+  memory_exec number moment (Some mode) (Some found) d = d.1
+
+  -- it changes nothing
+  pub memory_stays : (e : Event) → Did device old e (Err error.Memory) new → new ≡ old
+  memory_stays event.Join d = d.1
+  memory_stays (event.Leave number) d = absurd (cc (d.0))
+  memory_stays (event.Arrive number octets) d = (tested_or of_kernel error.Memory (arrive_refusal (kernel_of old) number) old new (Err error.Memory) (λ a. (a ≡ answer.Done) × (new ≡ with_served old (arrives old.served number octets.items))) d).1
+  memory_stays (event.Exec number moment) d = memory_exec number moment (mode_at (kernel_of old) number) (next_of old.served number) d
+  memory_stays (event.Admin name status description moment) d = d.1
+  memory_stays event.Take d = absurd (memory_take (Err error.Memory) d refl)
+  memory_stays event.Dev d = absurd (never_memory d.answered d.result_is)
+  memory_stays event.Told d = absurd (cc (d.0))
+  memory_stays event.Release d = d.1
+
+  pub step_during : ((d : D) (image : Octets) → IsTrue (device d).tells → (device d).left_since (device d).clock image → (device d).may_leave image) → IsWorld device old → LeftFits (device old.journal.disk) (device new.journal.disk) (Fits old)
+      → EachSince (device old.journal.disk) (device new.journal.disk) (Fits old)
+  step_during only_now h since tells image left =
+      ⊎_elim (λ (was : (device old.journal.disk).left_since (device old.journal.disk).clock image). now_fits device old h tells image (only_now old.journal.disk image tells was))
+      (λ (fits : Fits old image). fits)
+      (since tells (device old.journal.disk).clock image (omega arith) left)

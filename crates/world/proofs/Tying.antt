@@ -1,0 +1,526 @@
+-- Each event keeps the tie between journal and kernel.
+use Rattle.std.proofs.Common.{◌≡◌, ◌≢◌, ◌⊎◌, inl, inr, ⊎_elim, ℕ, ◌+◌, ◌≤◌, ◌<◌, ◌==◌, Bool, true, false, List, [], ◌∷◌, ◌++◌, length, take, get_or, Option, Some, None, refl, ap, sym, ◌∙◌, subst, arith, length-append}
+use Rattle.std.specs.Prelude.{bytes_eq, slice_index_or, not, ◌||◌, is_some, IsTrue, IsNone, map, if◌then◌else◌, Result, Ok, Err}
+use Rattle.std.specs.Option.{option_to_list}
+use Rattle.std.proofs.lemmas.List.{append-nil, take-append-le, take_all}
+use Rattle.std.proofs.lemmas.Slice.Eq.{bytes_eq-Decides}
+use Rattle.disk.specs.Device.{Device}
+use Rattle.journal.specs.Calls.{MakesCall, blocks_after}
+use Rattle.journal.specs.Journal.{JournalView, IsIdle, IsReady, with_batch}
+use Rattle.journal.specs.Order.{answer, at_fault, following}
+use Rattle.journal.specs.declared.JournalError.{JournalError}
+use Rattle.journal.specs.declared.JournalError.TheVariants as journal_error
+use Rattle.journal.specs.declared.Next.{Next}
+use Rattle.journal.specs.declared.Next.TheVariants as next
+use Rattle.journal.specs.declared.Progress.{Progress}
+use Rattle.journal.specs.declared.Progress.TheVariants.{Working, Committed}
+use Rattle.kernel.specs.Kernel.{KernelView, Seat, AgreesBehind, Dirties, Executed, Administers, has_batch, halted_for_good, is_dirty, made_durable, taken}
+use Rattle.kernel.specs.Kept.{IsKept}
+use Rattle.model.specs.Layout.{IsLabel}
+use Rattle.model.specs.News.{Holds, answer as answer_to}
+use Rattle.model.specs.Spool.{Spool}
+use Rattle.model.specs.Stream.{Octets}
+use Rattle.model.specs.Volume.{laid_over}
+use Rattle.model.specs.declared.change.Change.{Change}
+use Rattle.model.specs.declared.message.Mark.{Mark}
+use Rattle.model.specs.declared.message.Message.{Message}
+use Rattle.served.specs.Served.{ServedView}
+use Rattle.served.specs.Events.{with_kernel}
+use Rattle.world.specs.World.{News, IsDurable, HasFailed, WorldView, kernel_of, with_served}
+use Rattle.world.specs.Events.{begun, news_of, Steps}
+use Rattle.world.specs.Tied.{AreFaults, IsTied, IsQuiet, IsFlying, IsCommitted, LieBehind, Phase, Quiet, Flying, IsToBeTold, is_to_commit}
+use Rattle.world.proofs.Fitting.{flying_last}
+
+-- ---- the kernel accepts more
+
+-- the kernel has perhaps more changes, and nothing else of it that the tie speaks of has changed
+pub record Grows (old new : KernelView) : Type 0 where
+  pub host : new.host ≡ old.host
+  pub inodes : new.inodes ≡ old.inodes
+  pub durable : new.durable ≡ old.durable
+  pub in_flight : new.in_flight ≡ old.in_flight
+  pub halted : new.halted ≡ old.halted
+  pub more : Spool
+  pub spool : new.spool ≡ old.spool ++ more
+  pub size : length new.blocks ≡ length old.blocks
+  pub agrees : (base : List Octets) → AgreesBehind old base → AgreesBehind new base
+
+or_false : (a b : Bool) → (a || b) ≡ false → (a ≡ false) × (b ≡ false)
+or_false true b is = absurd (cc is)
+or_false false b is = (refl, is)
+
+not_false : (b : Bool) → not b ≡ false → b ≡ true
+not_false true is = refl
+not_false false is = absurd (cc is)
+
+-- blocks that the old cache had but for its dirty ones, the new one has but for its own
+agrees_still : (old new : KernelView) (base : List Octets) → Dirties old new → AgreesBehind old base → AgreesBehind new base
+agrees_still old new base d h = record { size = h.size ∙ sym d.size; clean = clean }
+  where
+    clean : (k : ℕ) → k < length new.blocks → is_dirty new k ≡ false → slice_index_or base k [] ≡ slice_index_or new.blocks k []
+    clean k lt is =
+        let parts = or_false (is_dirty old k) (not (bytes_eq (slice_index_or old.blocks k []) (slice_index_or new.blocks k []))) (sym (d.exactly k lt) ∙ is) in
+        let same : slice_index_or old.blocks k [] ≡ slice_index_or new.blocks k [] =
+        (bytes_eq-Decides (slice_index_or old.blocks k []) (slice_index_or new.blocks k [])).0 (not_false _ parts.1) in
+        h.clean k (omega (arith, d.size)) parts.0 ∙ same
+
+pub Grows-refl : (kernel : KernelView) (joined : ℕ) (seats : List Seat) → Grows kernel (record kernel { joined = joined; seats = seats })
+Grows-refl kernel joined seats =
+    record { host = refl; inodes = refl; durable = refl; in_flight = refl; halted = refl; more = []; spool = sym (append-nil kernel.spool); size = refl; agrees = λ base h. record { size = h.size; clean = h.clean } }
+
+pub Grows-executed : (old new : KernelView) (seat : Seat) (m : Message) (t : ℕ) (mark : Mark) → Executed old new seat m t mark → Grows old new
+Grows-executed old new seat m t mark e =
+    record {
+      host = e.host;
+      inodes = e.inodes;
+      durable = e.durable;
+      in_flight = e.in_flight;
+      halted = e.halted;
+      more = option_to_list (answer_to old.host old.spool seat.session m t mark).change;
+      spool = e.spool;
+      size = e.blocks.size;
+      agrees = λ base h. agrees_still old new base e.blocks h;
+    }
+
+pub Grows-administers : (old new : KernelView) (change : Change) (serial : ℕ) → Administers old new change serial → Grows old new
+Grows-administers old new change serial a =
+    record {
+      host = a.rest.0;
+      inodes = a.rest.1;
+      durable = a.rest.3;
+      in_flight = a.rest.4;
+      halted = a.rest.5;
+      more = change ∷ [];
+      spool = a.spool;
+      size = a.blocks.size;
+      agrees = λ base h. agrees_still old new base a.blocks h;
+    }
+
+module _ (old new : KernelView) (g : Grows old new) where
+  first_stays : (p : ℕ) → p ≤ length old.spool → take p new.spool ≡ take p old.spool
+  first_stays p le = ap (take p) g.spool ∙ take-append-le p old.spool g.more le
+
+  holds_still : (blocks : List Octets) (p : ℕ) → p ≤ length old.spool → Holds old.host old.inodes blocks (take p old.spool) → Holds new.host new.inodes blocks (take p new.spool)
+  holds_still blocks p le h =
+      subst (λ (t : Octets × ℕ × Spool). Holds t.0 t.1 blocks t.2) (λ i. (sym g.host i, sym g.inodes i, sym (first_stays p le) i)) h
+
+  lie_still : (blocks : List Octets) (p : ℕ) → p ≤ length old.spool → LieBehind old blocks p → LieBehind new blocks p
+  lie_still blocks p le h = record { agrees = g.agrees blocks h.agrees; holds = holds_still blocks p le h.holds }
+
+  phase_grows : {D : Type 0} (tells : Bool) (journal : JournalView D) (untold : List News) → IsKept old → Phase tells journal old untold → Phase tells journal new untold
+  phase_grows tells journal untold kept (Quiet q) =
+      Quiet (record {
+        none = g.in_flight ∙ q.none;
+        past = q.past;
+        blocks = λ t. subst (LieBehind new journal.blocks) (sym g.durable) (lie_still journal.blocks old.durable kept.durable (q.blocks t));
+        faults = subst (λ b. AreFaults journal.halted b untold) (sym g.halted) q.faults;
+      })
+  phase_grows tells journal untold kept (Flying last f) =
+      let le = flying_last old last kept f.flies in
+      Flying last (record {
+        flies = g.in_flight ∙ f.flies;
+        last_is = f.last_is;
+        waits = f.waits;
+        size = λ t. f.size t ∙ sym g.size;
+        before = λ t. subst (λ p. Holds new.host new.inodes journal.blocks (take p new.spool)) (sym g.durable) (holds_still journal.blocks old.durable kept.durable (f.before t));
+        after = λ t. lie_still (with_batch journal) last le.1 (f.after t);
+        faults = subst (λ b. AreFaults journal.halted b untold) (sym g.halted) f.faults;
+      })
+  phase_grows tells journal untold kept (IsToBeTold last c) =
+      let le = flying_last old last kept c.flies in
+      IsToBeTold last (record {
+        flies = g.in_flight ∙ c.flies;
+        past = c.past;
+        blocks = λ t. lie_still journal.blocks last le.1 (c.blocks t);
+        running = g.halted ∙ c.running;
+        later = c.later;
+        told = c.told;
+        faults = c.faults;
+      })
+
+-- the sessions and the kernel's changes go on
+pub IsTied-grows : {D : Type 0} (tells : Bool) (world : WorldView D) (served : ServedView) → IsKept (kernel_of world) → Grows (kernel_of world) served.kernel → IsTied tells world → IsTied tells (with_served world served)
+IsTied-grows tells world served kept g h =
+    record {
+      label = subst (λ (t : ℕ × ℕ × Octets). IsLabel world.journal.label t.0 t.1 t.2) (λ i. (sym g.size i, sym g.inodes i, sym g.host i)) h.label;
+      size = h.size ∙ sym g.size;
+      phase = phase_grows (kernel_of world) served.kernel g tells world.journal world.untold kept h.phase;
+    }
+
+-- ---- Take
+
+none_flies : (o : Option ℕ) → is_some o ≡ false → o ≡ None
+none_flies None is = refl
+none_flies (Some n) is = absurd (cc is)
+
+not_true : (b : Bool) → not b ≡ true → b ≡ false
+not_true true is = absurd (cc is)
+not_true false is = refl
+
+-- where there is a batch, none is in flight, and the kernel runs
+pub batch_parts : (kernel : KernelView) → has_batch kernel ≡ true → (kernel.in_flight ≡ None) × (kernel.halted ≡ false)
+batch_parts kernel is =
+    let all = or_false ((length kernel.dirty == 0) || is_some kernel.in_flight) kernel.halted (not_true _ is) in
+    let some = or_false (length kernel.dirty == 0) (is_some kernel.in_flight) all.0 in
+    (none_flies kernel.in_flight some.1, all.1)
+
+faults_none : (halted : Bool) (news : List News) → AreFaults false halted news → news ≡ []
+faults_none halted news h = h.1
+
+pub IsTied-takes : {D : Type 0} (tells : Bool) (world : WorldView D) → IsKept (kernel_of world) → IsReady world.journal → has_batch (kernel_of world) ≡ true
+    → ((base : List Octets) → AgreesBehind (kernel_of world) base → laid_over base (kernel_of world).dirty (map (λ n. slice_index_or (kernel_of world).blocks n []) (kernel_of world).dirty) ≡ (kernel_of world).blocks)
+    → IsTied tells world → IsTied tells (record { journal = begun world.journal (kernel_of world); served = with_kernel world.served (taken (kernel_of world)); untold = world.untold })
+IsTied-takes {D} tells world kept ready has lays h = record { label = h.label; size = h.size; phase = go h.phase }
+  where
+    kernel : KernelView
+    kernel = kernel_of world
+
+    journal : JournalView D
+    journal = world.journal
+
+    parts : (kernel.in_flight ≡ None) × (kernel.halted ≡ false)
+    parts = batch_parts kernel has
+
+    all : take (length kernel.spool) kernel.spool ≡ kernel.spool
+    all = take_all (length kernel.spool) kernel.spool (omega arith)
+
+    lies : (blocks : List Octets) → blocks ≡ kernel.blocks → LieBehind (taken kernel) blocks (length kernel.spool)
+    lies blocks is =
+        record {
+          agrees = record { size = ap length is; clean = λ k lt clean. ap (λ xs. slice_index_or xs k []) is };
+          holds = subst (λ (t : List Octets × Spool). Holds kernel.host kernel.inodes t.0 t.1) (λ i. (sym is i, sym all i)) kept.cache;
+        }
+
+    go : Phase tells journal kernel world.untold → Phase tells (begun journal kernel) (taken kernel) world.untold
+    go (Quiet q) =
+        Flying (length kernel.spool) (record {
+          flies = refl;
+          last_is = refl;
+          waits = refl;
+          size = λ t. let b : LieBehind kernel journal.blocks kernel.durable = q.blocks t in b.agrees.size;
+          before = λ t. let b : LieBehind kernel journal.blocks kernel.durable = q.blocks t in b.holds;
+          after = λ t. let b : LieBehind kernel journal.blocks kernel.durable = q.blocks t in lies (with_batch (begun journal kernel)) (lays journal.blocks b.agrees);
+          faults = q.faults;
+        })
+    go (Flying last f) = absurd (let both : Some last ≡ None = sym f.flies ∙ parts.0 in cc)
+    go (IsToBeTold last c) = absurd (let both : Some last ≡ None = sym c.flies ∙ parts.0 in cc)
+
+-- ---- Dev
+
+-- behind the commit, each call stays behind it
+past_following : (n : ℕ) (call : Next) → is_to_commit call ≡ false → is_to_commit (following n call) ≡ false
+past_following n next.Idle is = refl
+past_following n next.Descriptor is = absurd (cc is)
+past_following n (next.Image j) is = absurd (cc is)
+past_following n next.Seal is = absurd (cc is)
+past_following n next.OpenGate is = absurd (cc is)
+past_following n next.Commit is = absurd (cc is)
+past_following n (next.Home j) is = go (j + 1 == n)
+  where
+    go : (b : Bool) → is_to_commit (if b then next.Settle else next.Home (j + 1)) ≡ false
+    go true = refl
+    go false = refl
+past_following n next.Settle is = refl
+past_following n next.CloseGate is = refl
+past_following n next.Finish is = refl
+
+past_at_fault : (n : ℕ) (call : Next) → is_to_commit call ≡ false → is_to_commit (at_fault n call) ≡ false
+past_at_fault n next.Idle is = refl
+past_at_fault n next.Descriptor is = absurd (cc is)
+past_at_fault n (next.Image j) is = absurd (cc is)
+past_at_fault n next.Seal is = absurd (cc is)
+past_at_fault n next.OpenGate is = absurd (cc is)
+past_at_fault n next.Commit is = absurd (cc is)
+past_at_fault n (next.Home j) is = past_following n (next.Home j) is
+past_at_fault n next.Settle is = refl
+past_at_fault n next.CloseGate is = refl
+past_at_fault n next.Finish is = refl
+
+-- such a call commits nothing
+past_news : (last : ℕ) (call : Next) → is_to_commit call ≡ false → news_of (Ok (answer last call)) ≡ []
+past_news last next.Idle is = refl
+past_news last next.Descriptor is = refl
+past_news last (next.Image j) is = refl
+past_news last next.Seal is = refl
+past_news last next.OpenGate is = refl
+past_news last next.Commit is = absurd (cc is)
+past_news last (next.Home j) is = refl
+past_news last next.Settle is = refl
+past_news last next.CloseGate is = refl
+past_news last next.Finish is = refl
+
+past_blocks : {D : Type 0} (journal : JournalView D) (call : Next) → is_to_commit call ≡ false → blocks_after journal (answer journal.last call) ≡ journal.blocks
+past_blocks journal next.Idle is = refl
+past_blocks journal next.Descriptor is = refl
+past_blocks journal (next.Image j) is = refl
+past_blocks journal next.Seal is = refl
+past_blocks journal next.OpenGate is = refl
+past_blocks journal next.Commit is = absurd (cc is)
+past_blocks journal (next.Home j) is = refl
+past_blocks journal next.Settle is = refl
+past_blocks journal next.CloseGate is = refl
+past_blocks journal next.Finish is = refl
+
+-- before it, a call commits, or the batch waits on
+WaitsOn : {D : Type 0} → JournalView D → ℕ → Next → Type 0
+WaitsOn journal n call = (is_to_commit (following n call) ≡ true) × ((last : ℕ) → news_of (Ok (answer last call)) ≡ []) × (blocks_after journal (answer journal.last call) ≡ journal.blocks)
+
+image_waits : {D : Type 0} (journal : JournalView D) (n j : ℕ) (b : Bool) → is_to_commit (if b then next.Seal else next.Image (j + 1)) ≡ true
+image_waits journal n j true = refl
+image_waits journal n j false = refl
+
+waits_or_commits : {D : Type 0} (journal : JournalView D) (n : ℕ) (call : Next) → is_to_commit call ≡ true → (call ≡ next.Commit) ⊎ WaitsOn journal n call
+unfolding WaitsOn
+waits_or_commits journal n next.Idle is = absurd (cc is)
+waits_or_commits journal n next.Descriptor is = inr (refl, λ last. refl, refl)
+waits_or_commits journal n (next.Image j) is = inr (image_waits journal n j (j + 1 == n), λ last. refl, refl)
+waits_or_commits journal n next.Seal is = inr (refl, λ last. refl, refl)
+waits_or_commits journal n next.OpenGate is = inr (refl, λ last. refl, refl)
+waits_or_commits journal n next.Commit is = inl refl
+waits_or_commits journal n (next.Home j) is = absurd (cc is)
+waits_or_commits journal n next.Settle is = absurd (cc is)
+waits_or_commits journal n next.CloseGate is = absurd (cc is)
+waits_or_commits journal n next.Finish is = absurd (cc is)
+
+waits_at_fault : {D : Type 0} (journal : JournalView D) (n : ℕ) (call : Next) → is_to_commit call ≡ true → is_to_commit (at_fault n call) ≡ true
+waits_at_fault journal n next.Idle is = absurd (cc is)
+waits_at_fault journal n next.Descriptor is = refl
+waits_at_fault journal n (next.Image j) is = image_waits journal n j (j + 1 == n)
+waits_at_fault journal n next.Seal is = refl
+waits_at_fault journal n next.OpenGate is = refl
+waits_at_fault journal n next.Commit is = refl
+waits_at_fault journal n (next.Home j) is = absurd (cc is)
+waits_at_fault journal n next.Settle is = absurd (cc is)
+waits_at_fault journal n next.CloseGate is = absurd (cc is)
+waits_at_fault journal n next.Finish is = absurd (cc is)
+
+-- what a call leaves of what the tie speaks of
+module _ {D : Type 0} (tells : Bool) (old new : JournalView D) (kernel : KernelView) (runs : old.halted ≡ false) where
+  -- the blocks stay, and so do they with the batch
+  lies_on : (p : ℕ) → (IsTrue tells → new.blocks ≡ old.blocks) → (IsTrue tells → LieBehind kernel old.blocks p) → IsTrue tells → LieBehind kernel new.blocks p
+  lies_on p same h t = subst (λ blocks. LieBehind kernel blocks p) (sym (same t)) (h t)
+
+  -- a good call that commits nothing, of a batch that is committed, or of none
+  phase_past : (untold : List News) → is_to_commit new.next ≡ false → new.halted ≡ false → (IsTrue tells → new.blocks ≡ old.blocks) → is_to_commit old.next ≡ false → Phase tells old kernel untold → Phase tells new kernel untold
+  phase_past untold past halted same was (Quiet q) =
+      Quiet (record { none = q.none; past = past; blocks = lies_on kernel.durable same q.blocks; faults = subst (λ b. AreFaults b kernel.halted untold) (runs ∙ sym halted) q.faults })
+  phase_past untold past halted same was (Flying last f) = absurd (let both : true ≡ false = sym f.waits ∙ was in cc)
+  phase_past untold past halted same was (IsToBeTold last c) =
+      IsToBeTold last (record {
+        flies = c.flies;
+        past = past;
+        blocks = lies_on last same c.blocks;
+        running = c.running;
+        later = c.later;
+        told = c.told;
+        faults = subst (λ b. AreFaults b false c.later) (runs ∙ sym halted) c.faults;
+      })
+
+  -- the journal runs, so no fault is untold
+  no_faults : (halted : Bool) (news : List News) → AreFaults old.halted halted news → (halted ≡ false) × (news ≡ [])
+  no_faults halted news h = subst (λ b. AreFaults b halted news) runs h
+
+  faulted : (halted : Bool) (news : List News) → AreFaults old.halted halted news → new.halted ≡ true → AreFaults new.halted halted (news ++ HasFailed ∷ [])
+  faulted halted news h is =
+      let f = no_faults halted news h in
+      subst (λ (t : Bool × Bool × List News). AreFaults t.0 t.1 (t.2 ++ HasFailed ∷ [])) (λ i. (sym is i, sym f.0 i, sym f.1 i)) refl
+
+  with_batch_on : new.numbers ≡ old.numbers → new.images ≡ old.images → (IsTrue tells → new.blocks ≡ old.blocks) → IsTrue tells → with_batch new ≡ with_batch old
+  with_batch_on numbers images same t = λ i. laid_over (same t i) (numbers i) (images i)
+
+  -- a batch that waits on
+  flies_on : (last : ℕ) (untold news : List News) → IsFlying tells old kernel untold last → new.last ≡ old.last → new.numbers ≡ old.numbers → new.images ≡ old.images → (IsTrue tells → new.blocks ≡ old.blocks) → is_to_commit new.next ≡ true
+      → AreFaults new.halted kernel.halted news → IsFlying tells new kernel news last
+  flies_on last untold news f last_is numbers images same waits faults =
+      record {
+        flies = f.flies;
+        last_is = last_is ∙ f.last_is;
+        waits = waits;
+        size = λ t. ap length (same t) ∙ f.size t;
+        before = λ t. subst (λ blocks. Holds kernel.host kernel.inodes blocks (take kernel.durable kernel.spool)) (sym (same t)) (f.before t);
+        after = λ t. subst (λ blocks. LieBehind kernel blocks last) (sym (with_batch_on numbers images same t)) (f.after t);
+        faults = faults;
+      }
+
+  -- a call that failed
+  phase_faulted : (untold : List News) (n : ℕ) → new.next ≡ at_fault n old.next → new.halted ≡ true → new.last ≡ old.last → new.numbers ≡ old.numbers → new.images ≡ old.images → (IsTrue tells → new.blocks ≡ old.blocks)
+      → Phase tells old kernel untold → Phase tells new kernel (untold ++ HasFailed ∷ [])
+  phase_faulted untold n call halted last_is numbers images same (Quiet q) =
+      Quiet (record { none = q.none; past = ap is_to_commit call ∙ past_at_fault n old.next q.past; blocks = lies_on kernel.durable same q.blocks; faults = faulted kernel.halted untold q.faults halted })
+  phase_faulted untold n call halted last_is numbers images same (Flying last f) =
+      Flying last (flies_on last untold (untold ++ HasFailed ∷ []) f last_is numbers images same (ap is_to_commit call ∙ waits_at_fault old n old.next f.waits) (faulted kernel.halted untold f.faults halted))
+  phase_faulted untold n call halted last_is numbers images same (IsToBeTold last c) =
+      IsToBeTold last (record {
+        flies = c.flies;
+        past = ap is_to_commit call ∙ past_at_fault n old.next c.past;
+        blocks = lies_on last same c.blocks;
+        running = c.running;
+        later = c.later ++ HasFailed ∷ [];
+        told = ap (λ xs. xs ++ HasFailed ∷ []) c.told;
+        faults = faulted false c.later c.faults halted;
+      })
+
+  -- a call that went well
+  phase_went : (untold : List News) (n : ℕ) → new.next ≡ following n old.next → new.halted ≡ false → new.last ≡ old.last → new.numbers ≡ old.numbers → new.images ≡ old.images → (IsTrue tells → new.blocks ≡ blocks_after old (answer old.last old.next))
+      → Phase tells old kernel untold → Phase tells new kernel (untold ++ news_of (Ok (answer old.last old.next)))
+  unfolding WaitsOn
+  phase_went untold n call halted last_is numbers images blocks phase = go (is_to_commit old.next) refl
+    where
+      goes_past : is_to_commit old.next ≡ false → Phase tells new kernel (untold ++ news_of (Ok (answer old.last old.next)))
+      goes_past was =
+          subst (Phase tells new kernel) (sym (ap (λ xs. untold ++ xs) (past_news old.last old.next was) ∙ append-nil untold))
+          (phase_past untold (ap is_to_commit call ∙ past_following n old.next was) halted (λ t. blocks t ∙ past_blocks old old.next was) was phase)
+
+      commits : old.next ≡ next.Commit → Phase tells old kernel untold → Phase tells new kernel (untold ++ news_of (Ok (answer old.last old.next)))
+      commits is (Quiet q) = absurd (let both : true ≡ false = sym (ap is_to_commit is) ∙ q.past in cc)
+      commits is (IsToBeTold last c) = absurd (let both : true ≡ false = sym (ap is_to_commit is) ∙ c.past in cc)
+      commits is (Flying last f) =
+          let quiet = no_faults kernel.halted untold f.faults in
+          IsToBeTold last (record {
+            flies = f.flies;
+            past = ap is_to_commit (call ∙ ap (following n) is);
+            blocks = λ t. subst (λ blocks. LieBehind kernel blocks last) (sym (blocks t ∙ ap (λ (c : Next). blocks_after old (answer old.last c)) is)) (f.after t);
+            running = quiet.0;
+            later = [];
+            told = (λ i. quiet.1 i ++ news_of (Ok (answer (f.last_is i) (is i))));
+            faults = subst (λ b. AreFaults b false []) (sym halted) (refl, refl);
+          })
+
+      waits_on : WaitsOn old n old.next → Phase tells old kernel untold → is_to_commit old.next ≡ true → Phase tells new kernel (untold ++ news_of (Ok (answer old.last old.next)))
+      waits_on w (Quiet q) was = absurd (let both : true ≡ false = sym was ∙ q.past in cc)
+      waits_on w (IsToBeTold last c) was = absurd (let both : true ≡ false = sym was ∙ c.past in cc)
+      waits_on w (Flying last f) was =
+          subst (Phase tells new kernel) (sym (ap (λ xs. untold ++ xs) (w.1 old.last) ∙ append-nil untold))
+          (Flying last (flies_on last untold untold f last_is numbers images (λ t. blocks t ∙ w.2) (ap is_to_commit call ∙ w.0) (subst (λ b. AreFaults b kernel.halted untold) (runs ∙ sym halted) f.faults)))
+
+      go : (b : Bool) → is_to_commit old.next ≡ b → Phase tells new kernel (untold ++ news_of (Ok (answer old.last old.next)))
+      go false was = goes_past was
+      go true was = ⊎_elim (λ (is : old.next ≡ next.Commit). commits is phase) (λ (w : WaitsOn old n old.next). waits_on w phase was) (waits_or_commits old n old.next was)
+
+-- one call of a batch in flight
+phase_calls : {D : Type 0} (device : D → Device) (tells : Bool) (old new : JournalView D) (kernel : KernelView) (untold : List News) (answered : Result Progress JournalError) → tells ≡ (device old.disk).tells → old.halted ≡ false → MakesCall device old new answered
+    → Phase tells old kernel untold → Phase tells new kernel (untold ++ news_of answered)
+phase_calls device tells old new kernel untold (Ok progress) same runs m phase =
+    subst (λ p. Phase tells new kernel (untold ++ news_of (Ok p))) (sym m.answers)
+    (phase_went tells old new kernel runs untold (length old.numbers) m.next.0 m.next.1 m.same.last m.same.numbers m.same.images (λ t. m.blocks (subst IsTrue same t) ∙ ap (blocks_after old) m.answers) phase)
+phase_calls device tells old new kernel untold (Err error) same runs m phase =
+    let halts = m.halts m.no_other in
+    subst (λ e. Phase tells new kernel (untold ++ news_of (Err e))) (sym m.no_other)
+    (phase_faulted tells old new kernel runs untold (length old.numbers) halts.1 halts.0 m.same.last m.same.numbers m.same.images (λ t. m.blocks (subst IsTrue same t)) phase)
+
+-- what a step leaves: a device that tells as before, and the tie
+pub IsTied-steps : {D : Type 0} (device : D → Device) (world : WorldView D) (new : JournalView D) (answered : Result Progress JournalError) → Steps device world.journal answered new → IsTied (device world.journal.disk).tells world
+    → IsTied (device new.disk).tells (record { journal = new; served = world.served; untold = world.untold ++ news_of answered })
+IsTied-steps {D} device world new answered s h = go world.journal.halted refl world.journal.next refl
+  where
+    kernel : KernelView
+    kernel = kernel_of world
+
+    old : JournalView D
+    old = world.journal
+
+    Goal : Type 0
+    Goal = IsTied (device new.disk).tells (record { journal = new; served = world.served; untold = world.untold ++ news_of answered })
+
+    -- nothing was done, and there is no news
+    nothing : new ≡ old → news_of answered ≡ [] → Goal
+    nothing same none =
+        subst (λ (t : JournalView D × List News). IsTied (device t.0.disk).tells (record { journal = t.0; served = world.served; untold = t.1 })) (λ i. (sym same i, (sym (append-nil world.untold) ∙ ap (λ xs. world.untold ++ xs) (sym none)) i)) h
+
+    called : old.halted ≡ false → MakesCall device old new answered → Goal
+    called runs m =
+        subst (λ tells. IsTied tells (record { journal = new; served = world.served; untold = world.untold ++ news_of answered })) (sym m.time.tells)
+        (record {
+          label = subst (λ l. IsLabel l (length kernel.blocks) kernel.inodes kernel.host) (sym m.same.label) h.label;
+          size = m.same.size ∙ h.size;
+          phase = phase_calls device (device old.disk).tells old new kernel world.untold answered refl runs m h.phase;
+        })
+
+    idles : old.halted ≡ false → old.next ≡ next.Idle → Goal
+    idles runs is = let i = s.idle runs is in nothing i.1 (ap news_of i.0)
+
+    calls : old.halted ≡ false → (old.next ≡ next.Idle → ⊥) → Goal
+    calls runs not_idle = called runs (s.call runs not_idle)
+
+    go : (halted : Bool) → old.halted ≡ halted → (call : Next) → old.next ≡ call → Goal
+    go true is call at = let stays = s.halted is in nothing stays.1 (ap news_of stays.0)
+    go false is next.Idle at = idles is at
+    go false is next.Descriptor at = calls is (λ e. absurd (let both : next.Idle ≡ next.Descriptor = sym e ∙ at in cc))
+    go false is (next.Image j) at = calls is (λ e. absurd (let both : next.Idle ≡ next.Image j = sym e ∙ at in cc))
+    go false is next.Seal at = calls is (λ e. absurd (let both : next.Idle ≡ next.Seal = sym e ∙ at in cc))
+    go false is next.OpenGate at = calls is (λ e. absurd (let both : next.Idle ≡ next.OpenGate = sym e ∙ at in cc))
+    go false is next.Commit at = calls is (λ e. absurd (let both : next.Idle ≡ next.Commit = sym e ∙ at in cc))
+    go false is (next.Home j) at = calls is (λ e. absurd (let both : next.Idle ≡ next.Home j = sym e ∙ at in cc))
+    go false is next.Settle at = calls is (λ e. absurd (let both : next.Idle ≡ next.Settle = sym e ∙ at in cc))
+    go false is next.CloseGate at = calls is (λ e. absurd (let both : next.Idle ≡ next.CloseGate = sym e ∙ at in cc))
+    go false is next.Finish at = calls is (λ e. absurd (let both : next.Idle ≡ next.Finish = sym e ∙ at in cc))
+
+-- ---- Told
+
+-- nothing is untold
+pub IsTied-told_durable : {D : Type 0} (tells : Bool) (world : WorldView D) (last : ℕ) (later : List News) → world.untold ≡ IsDurable last ∷ later → IsTied tells world
+    → ((kernel_of world).in_flight ≡ Some last) × ((kernel_of world).halted ≡ false) × IsTied tells (record { journal = world.journal; served = with_kernel world.served (made_durable (kernel_of world) last); untold = later })
+IsTied-told_durable {D} tells world last later is h = go h.phase
+  where
+    kernel : KernelView
+    kernel = kernel_of world
+
+    journal : JournalView D
+    journal = world.journal
+
+    Told : Type 0
+    Told = (kernel.in_flight ≡ Some last) × (kernel.halted ≡ false) × IsTied tells (record { journal = world.journal; served = with_kernel world.served (made_durable kernel last); untold = later })
+
+    no_fault : (halted other : Bool) → AreFaults halted other world.untold → Told
+    no_fault false other f = absurd (let both : IsDurable last ∷ later ≡ [] = sym is ∙ f.1 in cc)
+    no_fault true false f = absurd (let both : IsDurable last ∷ later ≡ HasFailed ∷ [] = sym is ∙ f in cc)
+    no_fault true true f = absurd (let both : IsDurable last ∷ later ≡ [] = sym is ∙ f in cc)
+
+    go : Phase tells journal kernel world.untold → Told
+    go (Quiet q) = no_fault journal.halted kernel.halted q.faults
+    go (Flying n f) = no_fault journal.halted kernel.halted f.faults
+    go (IsToBeTold n c) =
+        let news : IsDurable n ∷ c.later ≡ IsDurable last ∷ later = sym c.told ∙ is in
+        let same : n ≡ last = cc news in
+        let rest : c.later ≡ later = cc news in
+        let quiet : IsQuiet tells journal (made_durable kernel last) later =
+        record {
+          none = refl;
+          past = c.past;
+          blocks = λ t. let b : LieBehind kernel journal.blocks n = c.blocks t in
+              record { agrees = record { size = b.agrees.size; clean = b.agrees.clean }; holds = subst (λ p. Holds kernel.host kernel.inodes journal.blocks (take p kernel.spool)) same b.holds };
+          faults = subst (λ (t : Bool × List News). AreFaults journal.halted t.0 t.1) (λ i. (sym c.running i, rest i)) c.faults;
+        } in
+        (c.flies ∙ ap Some same, c.running, record { label = h.label; size = h.size; phase = Quiet quiet })
+
+pub IsTied-told_failed : {D : Type 0} (tells : Bool) (world : WorldView D) (later : List News) → world.untold ≡ HasFailed ∷ later → IsTied tells world
+    → IsTied tells (record { journal = world.journal; served = with_kernel world.served (halted_for_good (kernel_of world)); untold = later })
+IsTied-told_failed {D} tells world later is h = record { label = h.label; size = h.size; phase = go h.phase }
+  where
+    kernel : KernelView
+    kernel = kernel_of world
+
+    journal : JournalView D
+    journal = world.journal
+
+    halts : (halted other : Bool) → journal.halted ≡ halted → AreFaults halted other world.untold → AreFaults journal.halted true later
+    halts false other e f = absurd (let both : HasFailed ∷ later ≡ [] = sym is ∙ f.1 in cc)
+    halts true false e f = let none : HasFailed ∷ later ≡ HasFailed ∷ [] = sym is ∙ f in subst (λ b. AreFaults b true later) (sym e) (cc none)
+    halts true true e f = absurd (let both : HasFailed ∷ later ≡ [] = sym is ∙ f in cc)
+
+    lies : (blocks : List Octets) (p : ℕ) → LieBehind kernel blocks p → LieBehind (halted_for_good kernel) blocks p
+    lies blocks p b = record { agrees = record { size = b.agrees.size; clean = b.agrees.clean }; holds = b.holds }
+
+    go : Phase tells journal kernel world.untold → Phase tells journal (halted_for_good kernel) later
+    go (Quiet q) = Quiet (record { none = q.none; past = q.past; blocks = λ t. lies journal.blocks kernel.durable (q.blocks t); faults = halts journal.halted kernel.halted refl q.faults })
+    go (Flying last f) =
+        Flying last (record {
+          flies = f.flies;
+          last_is = f.last_is;
+          waits = f.waits;
+          size = f.size;
+          before = f.before;
+          after = λ t. lies (with_batch journal) last (f.after t);
+          faults = halts journal.halted kernel.halted refl f.faults;
+        })
+    go (IsToBeTold last c) = absurd (let both : HasFailed ∷ later ≡ IsDurable last ∷ c.later = sym is ∙ c.told in cc)

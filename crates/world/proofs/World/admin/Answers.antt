@@ -1,0 +1,15 @@
+use Rattle.std.proofs.Common.{◌≡◌, ap, ◌∙◌, sym, refl}
+use Rattle.served.specs.Served.{ServedView}
+use Rattle.world.specs.Fields.{news_in}
+use Rattle.world.specs.World.{WorldView, kernel_of}
+use Rattle.kernel.specs.Errors.{of_admin}
+use Rattle.kernel.specs.declared.errors.AdminError.TheVariants.{Memory}
+use Rattle.world.proofs.Tying.{Grows-administers}
+use Rattle.world.proofs.Sound.{sound_tested}
+use Rattle.world.proofs.World.admin.Goals as goal
+
+pub invariant_of-self : goal.invariant_of-self
+invariant_of-self g c =
+    let old : WorldView g.row.D.Denot = record { journal = c.self.inside.journal; served = c.self.inside.served; untold = news_in c.self.inside.ticket c.self.inside.is_committed c.self.inside.has_failed } in
+    sound_tested of_admin Memory _ (g.D.Disk.device c.self.inside.journal.disk).tells old c.admin.new.self c.self.inside.ticket c.admin.result _
+    (λ serial done. Grows-administers (kernel_of old) c.admin.new.self.kernel _ serial done.kernel) c.kept.ensures.kernel c.admin.ensures c.self.invariant

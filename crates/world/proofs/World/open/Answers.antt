@@ -1,0 +1,44 @@
+use Rattle.std.proofs.Common.{◌≡◌, ◌⊎◌, ⊎_elim, ap, ◌∙◌, sym, refl, subst}
+use Rattle.std.specs.Prelude.{IsTrue}
+use Rattle.kernel.specs.declared.opening.OpenError.TheVariants.{NotAVolume, Damaged}
+use Rattle.model.specs.News.{Stands}
+use Rattle.served.specs.Served.{ServedView}
+use Rattle.world.specs.Images.{KeepsSpools}
+use Rattle.std.proofs.Common.{[]}
+use Rattle.world.proofs.Fitting.{now_fits}
+use Rattle.world.proofs.Opening.{journal_missed, keeps_both, keeps_left, none_damaged, none_label, none_volume, stands_opened}
+use Rattle.world.proofs.World.open.Goals as goal
+
+pub returns-in-Err-clause-during : goal.returns-in-Err-clause-during
+returns-in-Err-clause-during g c = keeps_left g.D.Disk.device g.met.D.Disk.only_now g.met.D.Disk.counts_content c.args.disk c.in-Err.refused.disk c.in-Err.ensures.err.since
+
+pub returns-in-Err-clause-no_spool : goal.returns-in-Err-clause-no_spool
+returns-in-Err-clause-no_spool g c missed tells =
+    none_volume (g.D.Disk.device c.args.disk).content (c.in-Err.ensures.err.no_volume (journal_missed c.in-Err.refused.error c.journal_error.result c.journal_error.ensures missed) tells)
+
+pub returns-in-Err-open-clause-during : goal.returns-in-Err-open-clause-during
+returns-in-Err-open-clause-during g c = subst (λ d. KeepsSpools (g.D.Disk.device c.args.disk) (g.D.Disk.device d)) (sym c.into_disk.ensures) (keeps_both g.D.Disk.device g.met.D.Disk.only_now g.met.D.Disk.counts_content c.args.disk c.in-Ok.journal c.open-2.new.journal c.in-Ok.ensures.ok c.open-2.ensures.reads)
+
+pub returns-in-Err-open-clause-no_spool : goal.returns-in-Err-open-clause-no_spool
+returns-in-Err-open-clause-no_spool g c missed tells =
+    ⊎_elim
+    (λ (a : c.in-Err-open.error ≡ NotAVolume). none_label g.D.Disk.device c.args.disk c.in-Ok.journal c.in-Ok.ensures.ok (c.in-Err-open.ensures.no_label a) tells)
+    (λ (b : c.in-Err-open.error ≡ Damaged). none_damaged g.D.Disk.device c.args.disk c.in-Ok.journal c.in-Ok.ensures.ok (c.in-Err-open.ensures.damaged b) tells)
+    missed
+
+pub returns-in_default-clause-during : goal.returns-in_default-clause-during
+returns-in_default-clause-during g c = subst (λ d. KeepsSpools (g.D.Disk.device c.args.disk) (g.D.Disk.device d)) (sym c.into_disk-in_default.ensures) (keeps_both g.D.Disk.device g.met.D.Disk.only_now g.met.D.Disk.counts_content c.args.disk c.in-Ok.journal c.open-2.new.journal c.in-Ok.ensures.ok c.open-2.ensures.reads)
+
+pub returns-in_default-new-clause-during : goal.returns-in_default-new-clause-during
+returns-in_default-new-clause-during g c = subst (λ d. KeepsSpools (g.D.Disk.device c.args.disk) (g.D.Disk.device d)) (sym c.into_disk-in_default-new.ensures) (keeps_both g.D.Disk.device g.met.D.Disk.only_now g.met.D.Disk.counts_content c.args.disk c.in-Ok.journal c.open-2.new.journal c.in-Ok.ensures.ok c.open-2.ensures.reads)
+
+pub returns-clause-spool : goal.returns-clause-spool
+returns-clause-spool g c tells =
+    subst (λ (s : ServedView). Stands s.kernel.host (g.D.Disk.device c.args.disk).content s.kernel.spool) (sym c.in-Ok-new.ensures)
+    (stands_opened g.D.Disk.device c.args.disk c.in-Ok.journal c.in-Ok-open.kernel c.in-Ok.ensures.ok c.in-Ok-open.ensures.ok tells)
+
+pub returns-clause-during : goal.returns-clause-during
+returns-clause-during g c = keeps_both g.D.Disk.device g.met.D.Disk.only_now g.met.D.Disk.counts_content c.args.disk c.in-Ok.journal c.open-2.new.journal c.in-Ok.ensures.ok c.open-2.ensures.reads
+
+pub returns-clause-now : goal.returns-clause-now
+returns-clause-now g c = now_fits g.D.Disk.device (record { journal = c.open-2.new.journal; served = c.in-Ok-new.served; untold = [] }) c.kept.ensures

@@ -1,0 +1,5 @@
+use Rattle.world.proofs.Running.{Running}
+use Rattle.world.proofs.World.run.Given as goal
+
+abbrev pub invariant-loop-place : goal.invariant-loop-place
+invariant-loop-place g l = Running g.D.Disk.device l.fn.self l.self l.events l.place

@@ -1,0 +1,181 @@
+-- What each event does, by its answer.
+use Rattle.std.specs.List.{list_all}
+use Rattle.model.specs.Calendar.{moment_limit}
+use Rattle.model.specs.Lawful.{is_description_octet}
+use Rattle.model.specs.Names.{is_group_name}
+use Rattle.std.specs.Prelude.{◌⊎◌, ◌<◌, ◌≤◌, IsTrue, ◌≡◌, ◌≢◌, ℕ, ◌+◌, Bool, true, false, List, [], ◌∷◌, ◌++◌, length, drop, map, slice_index_or, Option, Some, None, is_none, Result, Ok, Err, MatchResult}
+use Rattle.disk.specs.Device.{Device}
+use Rattle.journal.specs.Calls.{MakesCall}
+use Rattle.journal.specs.Journal.{IsIdle, IsReady, JournalView}
+use Rattle.journal.specs.declared.JournalError.{JournalError}
+use Rattle.journal.specs.declared.JournalError.TheVariants as journal
+use Rattle.journal.specs.declared.Next.TheVariants.{Descriptor}
+use Rattle.journal.specs.declared.Progress.{Progress}
+use Rattle.journal.specs.declared.Progress.TheVariants as progress
+use Rattle.kernel.specs.Kernel.{KernelView, Refusal, Tested, TestedOrMemory, admin_refusal, exec_refusal, first_failing, halted_for_good, has_batch, join_refusal, made_durable, mode_at, taken}
+use Rattle.kernel.specs.Kernel as refusal
+use Rattle.kernel.specs.declared.errors.AdminError.{AdminError}
+use Rattle.kernel.specs.declared.errors.AdminError.TheVariants as admin
+use Rattle.kernel.specs.declared.errors.ExecError.{ExecError}
+use Rattle.kernel.specs.declared.errors.ExecError.TheVariants as exec
+use Rattle.kernel.specs.declared.errors.JoinError.{JoinError}
+use Rattle.kernel.specs.declared.errors.JoinError.TheVariants as join
+use Rattle.served.specs.declared.errors.ArriveError.{ArriveError}
+use Rattle.served.specs.declared.errors.ArriveError.TheVariants as arrive
+use Rattle.model.specs.News.{is_full}
+use Rattle.model.specs.Spool.{is_here}
+use Rattle.model.specs.Stream.{Octets}
+use Rattle.model.specs.declared.change.Change.{Change}
+use Rattle.model.specs.declared.change.Change.TheVariants.{Group}
+use Rattle.model.specs.declared.message.Mark.{Mark}
+use Rattle.model.specs.declared.message.Message.{Message}
+use Rattle.model.specs.declared.message.Mode.{Mode}
+use Rattle.served.specs.Events.{Makes, Serves, arrive_refusal, arrives, joins, leaves, releases, with_kernel}
+use Rattle.served.specs.Served.{next_of}
+use Rattle.world.specs.World.{HasFailed, IsDurable, News, WorldView, kernel_of, with_served}
+use Rattle.world.specs.declared.events.Answer.{Answer}
+use Rattle.world.specs.declared.events.Answer.TheVariants as answer
+use Rattle.world.specs.declared.events.Event.{Event}
+use Rattle.world.specs.declared.events.Event.TheVariants as event
+use Rattle.world.specs.declared.events.StepError.{StepError}
+use Rattle.world.specs.declared.events.StepError.TheVariants as error
+
+abbrev pub of_kernel : Refusal → StepError
+of_kernel refusal.Halted = error.Halted
+of_kernel refusal.TooManySessions = error.TooManySessions
+of_kernel refusal.LaterDirty = error.LaterDirty
+of_kernel refusal.LaterOut = error.LaterOut
+of_kernel refusal.NoSession = error.NoSession
+of_kernel refusal.Exists = error.Exists
+of_kernel refusal.Full = error.Full
+
+-- ---- Arrive and Exec
+
+-- a message is served, or refused and still the session's next one; where none has come whole, nothing happens
+abbrev pub DidExec : {D : Type 0} → WorldView D → ℕ → ℕ → Option Mode → Option (Message × Octets) → Result Answer StepError → WorldView D → Type 0
+DidExec old number moment None found result new = (result ≡ Err error.NoSession) × (new ≡ old)
+DidExec old number moment (Some mode) None result new = MatchResult result (λ a. (a ≡ answer.Served None) × (new ≡ old)) (λ e. (e ≡ error.Memory) × (new ≡ old))
+DidExec old number moment (Some mode) (Some found) result new =
+    TestedOrMemory of_kernel error.Memory (exec_refusal (kernel_of old) number found.0) old new result
+    (λ a. (reads_next : Option Mode × Mark) × (a ≡ answer.Served (Some reads_next)) × Serves old.served new.served number moment found.0 reads_next × (new ≡ with_served old new.served))
+
+-- ---- Take, Dev and Told
+
+-- the journal with the kernel's dirty blocks as its batch
+abbrev pub begun : {D : Type 0} → JournalView D → KernelView → JournalView D
+begun journal kernel =
+    record journal { next = Descriptor; number = 1; last = length kernel.spool; numbers = kernel.dirty; images = map (λ n. slice_index_or kernel.blocks n []) kernel.dirty }
+
+-- a batch begins exactly where the journal is idle, and not halted, and the kernel has one
+pub record DidTake {D : Type 0} (old : WorldView D) (result : Result Answer StepError) (new : WorldView D) : Type 0 where
+  pub takes : IsReady old.journal → has_batch (kernel_of old) ≡ true →
+      (result ≡ Ok (answer.Took (Some (length (kernel_of old).spool))))
+      × (new ≡ record { journal = begun old.journal (kernel_of old); served = with_kernel old.served (taken (kernel_of old)); untold = old.untold })
+  pub stays : (IsReady old.journal → has_batch (kernel_of old) ≡ true → ⊥) → (result ≡ Ok (answer.Took None)) × (new ≡ old)
+
+-- one step of the journal
+pub record Steps {D : Type 0} (device : D → Device) (old : JournalView D) (answered : Result Progress JournalError) (new : JournalView D) : Type 0 where
+  pub halted : old.halted ≡ true → (answered ≡ Err journal.Halted) × (new ≡ old)
+  pub idle : old.halted ≡ false → IsIdle old → (answered ≡ Ok progress.Idle) × (new ≡ old)
+  pub call : old.halted ≡ false → (IsIdle old → ⊥) → MakesCall device old new answered
+
+abbrev pub news_of : Result Progress JournalError → List News
+news_of (Ok (progress.Committed last)) = IsDurable last ∷ []
+news_of (Ok p) = []
+news_of (Err journal.Fault) = HasFailed ∷ []
+news_of (Err e) = []
+
+-- whether it commits the batch, and whether the device failed
+abbrev pub commits : Result Progress JournalError → Bool
+commits (Ok (progress.Committed last)) = true
+commits other = false
+
+abbrev pub fails : Result Progress JournalError → Bool
+fails (Err journal.Fault) = true
+fails other = false
+
+-- its answer
+abbrev pub dev_answer : Result Progress JournalError → Result Answer StepError
+dev_answer (Ok p) = Ok (answer.Progressed p)
+dev_answer (Err journal.Fault) = Err error.Fault
+dev_answer (Err e) = Err error.Halted
+
+pub record DidDev {D : Type 0} (device : D → Device) (old : WorldView D) (result : Result Answer StepError) (new : WorldView D) : Type 0 where
+  pub answered : Result Progress JournalError
+  pub steps : Steps device old.journal answered new.journal
+  pub result_is : result ≡ dev_answer answered
+  pub untold : new.untold ≡ old.untold ++ news_of answered
+  pub served : new.served ≡ old.served
+
+-- the oldest news is handed on to the kernel
+abbrev pub told : KernelView → List News → KernelView
+told kernel [] = kernel
+told kernel (IsDurable last ∷ later) = made_durable kernel last
+told kernel (HasFailed ∷ later) = halted_for_good kernel
+
+-- ---- all events
+
+-- What an event does, by its answer. A refusal changes nothing, but that a failed device call halts the journal.
+abbrev pub Did : {D : Type 0} → (D → Device) → WorldView D → Event → Result Answer StepError → WorldView D → Type 0
+Did device old event.Join result new =
+    TestedOrMemory of_kernel error.Memory (join_refusal (kernel_of old)) old new result (λ a. (a ≡ answer.Joined ((kernel_of old).joined + 1)) × (new ≡ with_served old (joins old.served)))
+Did device old (event.Leave number) result new = (result ≡ Ok answer.Done) × (new ≡ with_served old (leaves old.served number))
+Did device old (event.Arrive number octets) result new =
+    Tested of_kernel error.Memory (arrive_refusal (kernel_of old) number) old new result (λ a. (a ≡ answer.Done) × (new ≡ with_served old (arrives old.served number octets.items)))
+Did device old (event.Exec number moment) result new = DidExec old number moment (mode_at (kernel_of old) number) (next_of old.served number) result new
+Did device old (event.Admin name status description moment) result new =
+    TestedOrMemory of_kernel error.Memory
+    (admin_refusal (is_here (kernel_of old).spool name.items) (is_full (length (kernel_of old).blocks) (kernel_of old).inodes (kernel_of old).spool (Some (Group name.items status description.items moment))) (kernel_of old))
+    old new result
+    (λ a. (serial : ℕ) × (a ≡ answer.Made serial) × Makes old.served new.served (Group name.items status description.items moment) serial × (new ≡ with_served old new.served))
+Did device old event.Take result new = DidTake old result new
+Did device old event.Dev result new = DidDev device old result new
+Did device old event.Told result new =
+    (result ≡ Ok answer.Done) × (new ≡ record { journal = old.journal; served = with_kernel old.served (told (kernel_of old) old.untold); untold = drop 1 old.untold })
+Did device old event.Release result new =
+    MatchResult result (λ a. (a ≡ answer.Done) × (new ≡ with_served old (releases old.served))) (λ e. (e ≡ error.Memory) × (new ≡ old))
+
+-- whether a result is a refusal for memory
+abbrev pub for_memory : Result Answer StepError → Bool
+for_memory (Err error.Memory) = true
+for_memory other = false
+
+-- these events were done one after another, those refused but for memory passed over
+pub data Went {D : Type 0} (device : D → Device) : WorldView D → List Event → WorldView D → Type 0 where
+  none : (world : WorldView D) → Went device world [] world
+  more : (old middle new : WorldView D) (first : Event) (events : List Event) (result : Result Answer StepError)
+      → result ≢ Err error.Memory → Did device old first result middle → Went device middle events new → Went device old (first ∷ events) new
+
+-- the kernel's refusals, as the errors that they are told by
+abbrev pub of_join_error : JoinError → StepError
+of_join_error join.Halted = error.Halted
+of_join_error join.TooManySessions = error.TooManySessions
+of_join_error join.Memory = error.Memory
+
+abbrev pub of_exec_error : ExecError → StepError
+of_exec_error exec.NoSession = error.NoSession
+of_exec_error exec.LaterOut = error.LaterOut
+of_exec_error exec.LaterDirty = error.LaterDirty
+of_exec_error exec.Memory = error.Memory
+
+abbrev pub exec_answer : Result (Option (Option Mode × Mark)) ExecError → Result Answer StepError
+exec_answer (Ok answered) = Ok (answer.Served answered)
+exec_answer (Err e) = Err (of_exec_error e)
+
+abbrev pub of_admin_error : AdminError → StepError
+of_admin_error admin.Halted = error.Halted
+of_admin_error admin.LaterDirty = error.LaterDirty
+of_admin_error admin.Exists = error.Exists
+of_admin_error admin.Full = error.Full
+of_admin_error admin.Memory = error.Memory
+
+abbrev pub of_arrive_error : ArriveError → StepError
+of_arrive_error arrive.NoSession = error.NoSession
+of_arrive_error arrive.Memory = error.Memory
+
+-- the conditions of an event: moments, and what a group is named and said to be, are in their ranges
+abbrev pub MayHappen : Event → Type 0
+MayHappen (event.Exec number moment) = moment < moment_limit
+MayHappen (event.Admin name status description moment) =
+    IsTrue (is_group_name name.items) × ((status ≡ 121) ⊎ (status ≡ 110)) × (length description.items ≤ 200) × IsTrue (list_all is_description_octet description.items) × (moment < moment_limit)
+MayHappen e = Unit {0}

@@ -1,0 +1,6 @@
+pub mod World
+pub mod Images
+pub mod Tied
+pub mod Events
+pub mod Fields
+pub mod Opening

@@ -1,0 +1,28 @@
+-- What an opening answers.
+use Rattle.std.specs.Prelude.{◌≡◌, ℕ, None, [], false, length}
+use Rattle.journal.specs.declared.JournalError.{JournalError}
+use Rattle.journal.specs.declared.JournalError.TheVariants as journal
+use Rattle.kernel.specs.declared.opening.OpenError.{OpenError}
+use Rattle.kernel.specs.declared.opening.OpenError.TheVariants.{Fault, Memory, NotAVolume}
+use Rattle.world.specs.World.{WorldView, kernel_of}
+
+-- all changes are durable, and nothing has happened yet
+pub record IsNew {D : Type 0} (world : WorldView D) : Type 0 where
+  pub first : world.served.first ≡ length (kernel_of world).spool
+  pub durable : (kernel_of world).durable ≡ length (kernel_of world).spool
+  pub in_flight : (kernel_of world).in_flight ≡ None
+  pub halted : (kernel_of world).halted ≡ false
+  pub dirty : (kernel_of world).dirty ≡ []
+  pub joined : (kernel_of world).joined ≡ 0
+  pub seats : (kernel_of world).seats ≡ []
+  pub sessions : world.served.sessions ≡ []
+  pub trace : world.served.trace ≡ []
+  pub ready : world.served.ready ≡ []
+  pub untold : world.untold ≡ []
+
+-- the journal's refusals, as the opening tells them
+abbrev pub open_error : JournalError → OpenError
+open_error journal.Fault = Fault
+open_error journal.Memory = Memory
+open_error journal.NotAVolume = NotAVolume
+open_error journal.Halted = Memory

@@ -1,0 +1,78 @@
+-- What ties the journal to the kernel.
+use Rattle.std.specs.Prelude.{◌≡◌, ℕ, Bool, true, false, IsTrue, List, [], ◌∷◌, length, take, Option, Some, None}
+use Rattle.disk.specs.Device.{Device}
+use Rattle.journal.specs.Journal.{JournalView, LeavesAdmitted, with_batch}
+use Rattle.journal.specs.declared.Next.{Next}
+use Rattle.journal.specs.declared.Next.TheVariants.{Descriptor, Image, Seal, OpenGate, Commit}
+use Rattle.kernel.specs.Kernel.{KernelView, AgreesBehind}
+use Rattle.kernel.specs.Kept.{IsKept}
+use Rattle.model.specs.Stream.{Octets}
+use Rattle.model.specs.Layout.{IsLabel}
+use Rattle.model.specs.News.{Holds}
+use Rattle.served.specs.Served.{IsServed}
+use Rattle.world.specs.World.{News, IsDurable, HasFailed, WorldView, kernel_of}
+
+-- whether the batch whose call this is still has to be committed
+abbrev pub is_to_commit : Next → Bool
+is_to_commit Descriptor = true
+is_to_commit (Image j) = true
+is_to_commit Seal = true
+is_to_commit OpenGate = true
+is_to_commit Commit = true
+is_to_commit next = false
+
+-- blocks that hold the first p changes, and are the cached ones but for the dirty ones
+pub record LieBehind (kernel : KernelView) (blocks : List Octets) (p : ℕ) : Type 0 where
+  pub agrees : AgreesBehind kernel blocks
+  pub holds : Holds kernel.host kernel.inodes blocks (take p kernel.spool)
+
+-- whether the journal and the kernel are halted: a fault halts the journal at once, and the kernel when it is told
+abbrev pub AreFaults : Bool → Bool → List News → Type 0
+AreFaults false halted news = (halted ≡ false) × (news ≡ [])
+AreFaults true false news = news ≡ HasFailed ∷ []
+AreFaults true true news = news ≡ []
+
+-- no batch is in flight: the journal's blocks hold the durable changes
+pub record IsQuiet {D : Type 0} (tells : Bool) (journal : JournalView D) (kernel : KernelView) (untold : List News) : Type 0 where
+  pub none : kernel.in_flight ≡ None
+  pub past : is_to_commit journal.next ≡ false
+  pub blocks : IsTrue tells → LieBehind kernel journal.blocks kernel.durable
+  pub faults : AreFaults journal.halted kernel.halted untold
+
+-- a batch is in flight, and is not committed: the journal's blocks hold the durable changes, and with the batch those up to its last
+pub record IsFlying {D : Type 0} (tells : Bool) (journal : JournalView D) (kernel : KernelView) (untold : List News) (last : ℕ) : Type 0 where
+  pub flies : kernel.in_flight ≡ Some last
+  pub last_is : journal.last ≡ last
+  pub waits : is_to_commit journal.next ≡ true
+  pub size : IsTrue tells → length journal.blocks ≡ length kernel.blocks
+  pub before : IsTrue tells → Holds kernel.host kernel.inodes journal.blocks (take kernel.durable kernel.spool)
+  pub after : IsTrue tells → LieBehind kernel (with_batch journal) last
+  pub faults : AreFaults journal.halted kernel.halted untold
+
+-- it is committed, and the kernel is still to be told
+pub record IsCommitted {D : Type 0} (tells : Bool) (journal : JournalView D) (kernel : KernelView) (untold : List News) (last : ℕ) : Type 0 where
+  pub flies : kernel.in_flight ≡ Some last
+  pub past : is_to_commit journal.next ≡ false
+  pub blocks : IsTrue tells → LieBehind kernel journal.blocks last
+  pub running : kernel.halted ≡ false
+  pub later : List News
+  pub told : untold ≡ IsDurable last ∷ later
+  pub faults : AreFaults journal.halted false later
+
+pub data Phase {D : Type 0} (tells : Bool) (journal : JournalView D) (kernel : KernelView) (untold : List News) : Type 0 where
+  Quiet : IsQuiet tells journal kernel untold → Phase tells journal kernel untold
+  Flying : (last : ℕ) → IsFlying tells journal kernel untold last → Phase tells journal kernel untold
+  IsToBeTold : (last : ℕ) → IsCommitted tells journal kernel untold last → Phase tells journal kernel untold
+
+pub record IsTied (tells : Bool) {D : Type 0} (world : WorldView D) : Type 0 where
+  pub label : IsLabel world.journal.label (length (kernel_of world).blocks) (kernel_of world).inodes (kernel_of world).host
+  pub size : world.journal.size ≡ length (kernel_of world).blocks
+  pub phase : Phase tells world.journal (kernel_of world) world.untold
+
+-- What the whole system keeps, whatever happens: what is served stands beside the plain server, the kernel keeps what its lock
+-- keeps, the journal is tied to the kernel, and admits what a crash may leave.
+pub record IsWorld {D : Type 0} (device : D → Device) (world : WorldView D) : Type 0 where
+  pub served : IsServed world.served
+  pub kernel : IsKept (kernel_of world)
+  pub tied : IsTied (device world.journal.disk).tells world
+  pub admits : LeavesAdmitted device world.journal

@@ -1,0 +1,79 @@
+use journal::Progress;
+use model::{Mark, Mode};
+use thiserror::Error;
+
+/// What may happen. Sessions are named by their numbers; a moment is in seconds since 1970.
+#[derive(Drop)]
+pub enum Event {
+    /// A session begins.
+    Join,
+    /// A session leaves.
+    Leave(u64),
+    /// Octets arrive for a session.
+    Arrive(u64, Vec<u8>),
+    /// A session's next whole message is served, if there is one, at a moment.
+    Exec(u64, u64),
+    /// The operator makes a group.
+    Admin {
+        name: Vec<u8>,
+        /// `y` or `n`
+        status: u8,
+        description: Vec<u8>,
+        moment: u64,
+    },
+    /// The journal begins a batch of the changed blocks, if it is idle and there is one.
+    Take,
+    /// The journal makes its next device call.
+    Dev,
+    /// The kernel is told what a device call answered.
+    Told,
+    /// What is ready is handed out.
+    Release,
+}
+
+/// What an event was answered.
+#[derive(Clone, Copy)]
+pub enum Answer {
+    Done,
+    /// the session's number
+    Joined(u64),
+    /// what the session sends next, and how the message was served; none where no message has come whole
+    Served(Option<(Option<Mode>, Mark)>),
+    /// the group's serial
+    Made(u64),
+    /// the last serial of the batch that begins, if one does
+    Took(Option<u64>),
+    Progressed(Progress),
+}
+
+/// Why an event was refused.
+#[derive(Clone, Copy, Debug, Drop, PartialEq, Eq, Error)]
+pub enum StepError {
+    /// The device failed in this call. The journal is halted by it for good.
+    #[error("E1 Fault")]
+    Fault,
+    /// A growth was refused in this call, and nothing changed.
+    #[error("E2 Memory")]
+    Memory,
+    /// An earlier device fault has halted the journal or the kernel.
+    #[error("E4 Halted")]
+    Halted,
+    /// There is no room for the group.
+    #[error("E6 Full")]
+    Full,
+    /// 64 sessions are there, or the greatest u64 was given as a session's number.
+    #[error("E7 TooManySessions")]
+    TooManySessions,
+    /// More than 256 blocks are dirty: ask again after a take.
+    #[error("E8 LaterDirty")]
+    LaterDirty,
+    /// The session has 1,048,576 or more buffered octets: ask again after a release.
+    #[error("E9 LaterOut")]
+    LaterOut,
+    /// No session of this number is there, or it was closed.
+    #[error("E10 NoSession")]
+    NoSession,
+    /// A group of this name is there.
+    #[error("E11 Exists")]
+    Exists,
+}

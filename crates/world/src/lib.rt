@@ -1,0 +1,484 @@
+//! The whole system under any list of events: at each moment, also within a device call, a crash leaves a disk that is
+//! externally synchronous with what was released. `specs/Images.antt` says what that is, `specs/Events.antt` what each
+//! event does, `specs/Tied.antt` what the system keeps.
+#![tactic(auto)]
+
+ghost use Rattle.std.specs.Prelude.{◌≢◌, IfOk, IfErr, ◌≡◌, ◌⊎◌, ◌≤◌, ◌<◌, ℕ, List, Some, Ok, Err, true, [], take, slice_get, MatchOption, ◌||◌, IsTrue, length, MatchResult};
+ghost use Rattle.std.specs.List.{list_all};
+ghost use Rattle.kernel.specs.Kernel.{Tested, TestedOrMemory, admin_refusal, join_refusal, mode_at};
+ghost use Rattle.model.specs.Calendar.{moment_limit};
+ghost use Rattle.model.specs.Lawful.{is_description_octet};
+ghost use Rattle.model.specs.Names.{is_group_name};
+ghost use Rattle.model.specs.News.{is_full};
+ghost use Rattle.model.specs.Spool.{is_here};
+ghost use Rattle.model.specs.declared.change.Change.TheVariants.{Group};
+ghost use Rattle.served.specs.Events.{Makes, arrive_refusal, arrives, joins, leaves, releases, with_kernel};
+ghost use Rattle.served.specs.Served.{arrived_at, next_of, released_at};
+ghost use Rattle.world.specs.Events.{Did, DidDev, DidExec, DidTake, MayHappen, Went, commits, dev_answer, exec_answer, fails, for_memory, of_admin_error, of_arrive_error, of_join_error, of_kernel, told};
+ghost use Rattle.world.specs.Fields.{durable_news};
+ghost use Rattle.model.specs.News.{Stands};
+ghost use Rattle.world.specs.Images.{EachNow, EachSince, Fits, KeepsSpools, LeftFits, StandsForNone};
+ghost use Rattle.world.specs.Opening.{IsNew, open_error};
+ghost use Rattle.world.specs.Tied.{IsWorld};
+ghost use Rattle.world.specs.World.{WorldView, kernel_of, with_served};
+ghost use Rattle.world.specs.declared.events.Event.{Event as ItsEvent};
+
+mod events;
+
+use disk::{Disk, Faults};
+pub use events::{Answer, Event, StepError};
+use journal::{Journal, JournalError, Progress};
+pub use kernel::OpenError;
+use kernel::{AdminError, ExecError, JoinError, Kernel, Ticket};
+use model::{Mark, Mode};
+use outbox::ReadyBuf;
+use served::{ArriveError, Entry, Served};
+use spool::{BatchBuf, Spool};
+use std::alloc::Global;
+use std::marker::Model;
+
+/// A journal over a device, and what is served.
+#[derive(Drop)]
+pub struct World<D: Disk> {
+    journal: Journal<D>,
+    served: Served,
+    batch: BatchBuf,
+    // The batch in flight.
+    ticket: Option<Ticket>,
+    // It is on disk, and the kernel was not told.
+    is_committed: bool,
+    // The device failed, and the kernel was not told.
+    has_failed: bool,
+}
+
+/// A refused opening, with the device as it was left.
+#[derive(Drop)]
+pub struct Refused<D> {
+    pub disk: D,
+    pub error: OpenError,
+}
+
+impl<D: Disk> Model for World<D> {
+    ghost use Rattle.world.specs.World.{WorldView};
+
+    ghost Value = { WorldView D };
+
+    ghost use Rattle.world.specs.Fields.{IsSound, news_in};
+
+    ghost view = { λ w. record { journal = w.journal; served = w.served; untold = news_in w.ticket w.is_committed w.has_failed } };
+
+    ghost invariant = { λ w. IsSound (D.device w.journal.disk).tells (record { journal = w.journal; served = w.served; untold = news_in w.ticket w.is_committed w.has_failed }) w.ticket };
+}
+
+impl<D: Disk> World<D> {
+    /// What the whole system keeps.
+    pub fn kept(&self)
+        ensures { IsWorld D.device self.now }
+    {
+        self.served.kept();
+        let _ = self.journal.is_idle();
+    }
+
+    /// Opens what stands on the device: all its changes are durable, and nothing has happened yet. A crash during it leaves
+    /// a disk that stands for the spool of an image that a crash at its start might have left. A refusal hands the device back:
+    /// `Fault` (E1) where the device failed, `Memory` (E2), `NotAVolume` (E3) and `Damaged` (E5) where it stands for no spool.
+    pub fn open(alloc: Global, disk: D) -> Result<World<D>, Refused<D>>
+        ensures new { IfOk result (λ w. IsNew w) }
+        ensures spool { IsTrue (D.device disk).tells → IfOk result (λ w. Stands (kernel_of w).host (D.device disk).content (kernel_of w).spool) }
+        ensures during { MatchResult result (λ w. KeepsSpools (D.device disk) (D.device w.journal.disk)) (λ refused. KeepsSpools (D.device disk) (D.device refused.disk)) }
+        ensures keeps { IfOk result (λ w. IsWorld D.device w) }
+        ensures now { IfOk result (λ w. EachNow (D.device w.journal.disk) (Fits w)) }
+        ensures fault { IfErr result (λ refused. refused.error ≡ OpenError.Fault → (D.device refused.disk).failures ≢ (D.device disk).failures) }
+        ensures no_spool { IfErr result (λ refused. (refused.error ≡ OpenError.NotAVolume) ⊎ (refused.error ≡ OpenError.Damaged) → IsTrue (D.device disk).tells → StandsForNone (D.device disk).content) }
+    {
+        let mut journal = match Journal::open(alloc, disk) {
+            Ok(journal) => journal,
+            Err(refused) => {
+                let journal::Refused { disk, error } = refused;
+                return Err(Refused {
+                    disk,
+                    error: journal_error(error),
+                });
+            }
+        };
+        let kernel = match Kernel::open(alloc, &mut journal) {
+            Ok(kernel) => kernel,
+            Err(error) => return Err(Refused {
+                disk: journal.into_disk(),
+                error,
+            }),
+        };
+        let Ok(served) = Served::new(alloc, kernel) else {
+            return Err(Refused {
+                disk: journal.into_disk(),
+                error: OpenError::Memory,
+            });
+        };
+        let Ok(batch) = BatchBuf::new(alloc) else {
+            return Err(Refused {
+                disk: journal.into_disk(),
+                error: OpenError::Memory,
+            });
+        };
+        let world = World {
+            journal,
+            served,
+            batch,
+            ticket: None,
+            is_committed: false,
+            has_failed: false,
+        };
+        world.kept();
+        Ok(world)
+    }
+
+    /// One event. A crash at any moment of it, also within a device call, leaves a disk that is externally synchronous with
+    /// the trace and the released octets that stood at its start; and one behind it, with those that stand then.
+    pub fn step(&mut self, alloc: Global, event: &Event) -> Result<Answer, StepError>
+        requires { MayHappen event.now }
+        ensures did { Did D.device self.old event.now result self.new }
+        ensures during { EachSince (D.device self.old.journal.disk) (D.device self.new.journal.disk) (Fits self.old) }
+        ensures now { EachNow (D.device self.new.journal.disk) (Fits self.new) }
+        ensures since { LeftFits (D.device self.old.journal.disk) (D.device self.new.journal.disk) (Fits self.old) }
+        ensures keeps { IsWorld D.device self.new }
+    {
+        self.kept();
+        let result = self.happen(alloc, event);
+        self.kept();
+        result
+    }
+
+    /// One event after another, those refused passed over; at a refusal for memory it stops before that event. Answers how many
+    /// events it went through. A crash at any moment leaves a disk that is externally synchronous with what stood after some
+    /// of them, and one behind the last with what stands then.
+    pub fn run(&mut self, alloc: Global, events: &[Event]) -> u64
+        requires { (k : ℕ) (event : ItsEvent) → slice_get events.now k ≡ Some event → MayHappen event }
+        ensures count { result ≤ length events.now }
+        ensures went { Went D.device self.old (take result events.now) self.new }
+        ensures during { EachSince (D.device self.old.journal.disk) (D.device self.new.journal.disk)
+            (λ image. (j : ℕ) × (middle : WorldView D) × (j ≤ result) × Went D.device self.old (take j events.now) middle × Fits middle image) }
+        ensures now { EachNow (D.device self.new.journal.disk) (Fits self.new) }
+    {
+        self.kept();
+        for place in 0..events.len() {
+            let result = self.step(alloc, &events[place]);
+            if is_for_memory(&result) {
+                return place as u64;
+            }
+        }
+        events.len() as u64
+    }
+
+    /// The number of changes at the opening.
+    pub fn opened(&self) -> u64
+        ensures { result ≡ self.now.served.first }
+    {
+        self.served.opened()
+    }
+
+    /// How many changes are durable.
+    pub fn durable(&self) -> u64
+        ensures { result ≡ (kernel_of self.now).durable }
+    {
+        self.served.durable()
+    }
+
+    /// What was served since the opening, in order.
+    pub fn trace(&self) -> &[Entry]
+        ensures { result.now ≡ self.now.served.trace }
+    {
+        self.served.trace()
+    }
+
+    /// What the last release handed out.
+    pub fn ready(&self) -> &ReadyBuf
+        ensures { result.now ≡ self.now.served.ready }
+    {
+        self.served.ready()
+    }
+
+    /// The octets that arrived for a session.
+    pub fn arrived(&self, number: u64) -> &[u8]
+        ensures { result.now ≡ arrived_at self.now.served number }
+    {
+        self.served.arrived(number)
+    }
+
+    /// The octets that were released to a session.
+    pub fn released(&self, number: u64) -> &[u8]
+        ensures { result.now ≡ released_at self.now.served number }
+    {
+        self.served.released(number)
+    }
+
+    /// What is accepted.
+    pub fn spool(&self) -> &Spool
+        ensures { result.now.changes ≡ (kernel_of self.now).spool }
+    {
+        self.served.spool()
+    }
+
+    /// Hands the device back.
+    pub fn into_disk(self) -> D
+        ensures { result ≡ self.journal.disk }
+    {
+        let World { journal, .. } = self;
+        journal.into_disk()
+    }
+
+    fn happen(&mut self, alloc: Global, event: &Event) -> Result<Answer, StepError>
+        requires { MayHappen event.now }
+        ensures { Did D.device self.old event.now result self.new }
+    {
+        match event {
+            Event::Join => self.join(alloc),
+            Event::Leave(number) => self.leave(*number),
+            Event::Arrive(number, octets) => self.arrive(*number, octets.as_slice()),
+            Event::Exec(number, moment) => self.exec(alloc, *number, *moment),
+            Event::Admin {
+                name,
+                status,
+                description,
+                moment,
+            } => self.admin(
+                alloc,
+                name.as_slice(),
+                *status,
+                description.as_slice(),
+                *moment,
+            ),
+            Event::Take => self.take(),
+            Event::Dev => self.dev(),
+            Event::Told => self.told(),
+            Event::Release => self.release(),
+        }
+    }
+
+    fn join(&mut self, alloc: Global) -> Result<Answer, StepError>
+        ensures { Did D.device self.old Event.Join result self.new }
+    {
+        self.served.kept();
+        match self.served.join(alloc) {
+            Ok(number) => Ok(Answer::Joined(number)),
+            Err(error) => Err(join_error(error)),
+        }
+    }
+
+    fn leave(&mut self, number: u64) -> Result<Answer, StepError>
+        ensures { Did D.device self.old (Event.Leave number) result self.new }
+    {
+        self.served.kept();
+        self.served.leave(number);
+        Ok(Answer::Done)
+    }
+
+    fn arrive(&mut self, number: u64, octets: &[u8]) -> Result<Answer, StepError>
+        ensures { Tested of_kernel StepError.Memory (arrive_refusal (kernel_of self.old) number) self.old self.new result (λ a. (a ≡ Answer.Done) × (self.new ≡ with_served self.old (arrives self.old.served number octets.now))) }
+    {
+        self.served.kept();
+        match self.served.arrive(number, octets) {
+            Ok(()) => Ok(Answer::Done),
+            Err(error) => Err(arrive_error(error)),
+        }
+    }
+
+    fn exec(&mut self, alloc: Global, number: u64, moment: u64) -> Result<Answer, StepError>
+        requires { moment < moment_limit }
+        ensures { DidExec self.old number moment (mode_at (kernel_of self.old) number) (next_of self.old.served number) result self.new }
+    {
+        self.served.kept();
+        exec_answer(self.served.exec(alloc, number, moment))
+    }
+
+    fn admin(
+        &mut self,
+        alloc: Global,
+        name: &[u8],
+        status: u8,
+        description: &[u8],
+        moment: u64,
+    ) -> Result<Answer, StepError>
+        requires name { IsTrue (is_group_name name.now) }
+        requires status { (status ≡ 121) ⊎ (status ≡ 110) }
+        requires short { length description.now ≤ 200 }
+        requires printable { IsTrue (list_all is_description_octet description.now) }
+        requires moment { moment < moment_limit }
+        ensures { TestedOrMemory of_kernel StepError.Memory
+            (admin_refusal (is_here (kernel_of self.old).spool name.now) (is_full (length (kernel_of self.old).blocks) (kernel_of self.old).inodes (kernel_of self.old).spool (Some (Group name.now status description.now moment))) (kernel_of self.old))
+            self.old self.new result
+            (λ a. (serial : ℕ) × (a ≡ Answer.Made serial) × Makes self.old.served self.new.served (Group name.now status description.now moment) serial × (self.new ≡ with_served self.old self.new.served)) }
+    {
+        self.served.kept();
+        match self.served.admin(alloc, name, status, description, moment) {
+            Ok(serial) => Ok(Answer::Made(serial)),
+            Err(error) => Err(admin_error(error)),
+        }
+    }
+
+    fn take(&mut self) -> Result<Answer, StepError>
+        ensures { DidTake self.old result self.new }
+    {
+        self.served.kept();
+        if !self.journal.is_idle() {
+            return Ok(Answer::Took(None));
+        }
+        let Some(ticket) = self.served.take_batch(&mut self.batch) else {
+            return Ok(Answer::Took(None));
+        };
+        self.journal
+            .begin(ticket.last(), self.batch.numbers(), self.batch.images());
+        self.ticket = Some(ticket);
+        self.is_committed = false;
+        Ok(Answer::Took(Some(ticket.last())))
+    }
+
+    fn dev(&mut self) -> Result<Answer, StepError>
+        ensures { DidDev D.device self.old result self.new }
+    {
+        let answered = self.journal.step();
+        self.is_committed = commits_too(self.is_committed, &answered);
+        self.has_failed = fails_too(self.has_failed, &answered);
+        dev_answer(answered)
+    }
+
+    fn told(&mut self) -> Result<Answer, StepError>
+        ensures { Did D.device self.old Event.Told result self.new }
+    {
+        let Some(ticket) = committed_ticket(self.ticket, self.is_committed) else {
+            if !self.has_failed {
+                return Ok(Answer::Done);
+            }
+            self.served.halt();
+            self.has_failed = false;
+            return Ok(Answer::Done);
+        };
+        let _ = self.served.committed(ticket);
+        self.ticket = None;
+        self.is_committed = false;
+        Ok(Answer::Done)
+    }
+
+    fn release(&mut self) -> Result<Answer, StepError>
+        ensures { Did D.device self.old Event.Release result self.new }
+    {
+        self.served.kept();
+        match self.served.release() {
+            Ok(()) => Ok(Answer::Done),
+            Err(_) => Err(StepError::Memory),
+        }
+    }
+}
+
+impl<D: Faults> World<D> {
+    ghost use Rattle.disk.specs.Device.{IsUnchanged};
+
+    /// The n-th call of the device from now on, counted from 1, answers `Fault`; 0 takes an earlier plan back.
+    /// All else stays as it was.
+    pub fn fail_at(&mut self, n: u64)
+        ensures view { self.new ≡ record self.old { journal = record self.old.journal { disk = self.new.journal.disk } } }
+        ensures device { IsUnchanged (D.device self.old.journal.disk) (D.device self.new.journal.disk) }
+    {
+        self.journal.fail_at(n);
+    }
+}
+
+fn join_error(error: JoinError) -> StepError
+    ensures { result ≡ of_join_error error }
+{
+    match error {
+        JoinError::Halted => StepError::Halted,
+        JoinError::TooManySessions => StepError::TooManySessions,
+        JoinError::Memory => StepError::Memory,
+    }
+}
+
+fn arrive_error(error: ArriveError) -> StepError
+    ensures { result ≡ of_arrive_error error }
+{
+    match error {
+        ArriveError::NoSession => StepError::NoSession,
+        ArriveError::Memory => StepError::Memory,
+    }
+}
+
+/// The answer to an exec.
+fn exec_answer(served: Result<Option<(Option<Mode>, Mark)>, ExecError>) -> Result<Answer, StepError>
+    ensures { result ≡ exec_answer served }
+{
+    match served {
+        Ok(answered) => Ok(Answer::Served(answered)),
+        Err(ExecError::NoSession) => Err(StepError::NoSession),
+        Err(ExecError::LaterOut) => Err(StepError::LaterOut),
+        Err(ExecError::LaterDirty) => Err(StepError::LaterDirty),
+        Err(ExecError::Memory) => Err(StepError::Memory),
+    }
+}
+
+/// Whether a commit is untold, after this answer of the journal.
+fn commits_too(committed: bool, answered: &Result<Progress, JournalError>) -> bool
+    ensures { result ≡ (committed || commits answered.now) }
+{
+    match answered {
+        Ok(Progress::Committed(_)) => true,
+        _ => committed,
+    }
+}
+
+/// Whether a fault is untold, after this answer of the journal.
+fn fails_too(failed: bool, answered: &Result<Progress, JournalError>) -> bool
+    ensures { result ≡ (failed || fails answered.now) }
+{
+    match answered {
+        Err(JournalError::Fault) => true,
+        _ => failed,
+    }
+}
+
+/// The answer to a device call.
+fn dev_answer(answered: Result<Progress, JournalError>) -> Result<Answer, StepError>
+    ensures { result ≡ dev_answer answered }
+{
+    match answered {
+        Ok(progress) => Ok(Answer::Progressed(progress)),
+        Err(JournalError::Fault) => Err(StepError::Fault),
+        Err(_) => Err(StepError::Halted),
+    }
+}
+
+fn admin_error(error: AdminError) -> StepError
+    ensures { result ≡ of_admin_error error }
+{
+    match error {
+        AdminError::Halted => StepError::Halted,
+        AdminError::LaterDirty => StepError::LaterDirty,
+        AdminError::Exists => StepError::Exists,
+        AdminError::Full => StepError::Full,
+        AdminError::Memory => StepError::Memory,
+    }
+}
+
+/// The ticket of a batch that is committed.
+fn committed_ticket(ticket: Option<Ticket>, committed: bool) -> Option<Ticket>
+    ensures { MatchOption result (durable_news ticket committed ≡ []) (λ t. (ticket ≡ Some t) × (committed ≡ true)) }
+{
+    if committed { ticket } else { None }
+}
+
+/// Whether an event was refused for memory.
+fn is_for_memory(answered: &Result<Answer, StepError>) -> bool
+    ensures { result ≡ for_memory answered.now }
+{
+    matches!(answered, Err(StepError::Memory))
+}
+
+/// Why the journal was not opened, as the world tells it. A journal that is opened is not halted.
+fn journal_error(error: JournalError) -> OpenError
+    ensures { result ≡ open_error error }
+{
+    match error {
+        JournalError::Fault => OpenError::Fault,
+        JournalError::Memory => OpenError::Memory,
+        JournalError::NotAVolume => OpenError::NotAVolume,
+        JournalError::Halted => OpenError::Memory,
+    }
+}
