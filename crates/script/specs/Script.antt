@@ -1,0 +1,138 @@
+-- What each line of a script means (this project's rule).
+use Rattle.std.specs.Prelude.{◌≡◌, ℕ, ◌<◌, ◌≤◌, Bool, true, false, not, ◌||◌, ◌&&◌, ◌==◌, ◌⊎◌, nat_le, if◌then◌else◌, List, [], ◌∷◌, ◌++◌, length, IsTrue, Option, Some, None, option_map, option_and_then, bytes_eq, codes}
+use Rattle.std.specs.List.{list_all}
+use Rattle.model.specs.Stream.{Octets}
+use Rattle.model.specs.Names.{is_group_name}
+use Rattle.model.specs.Lawful.{is_description_octet}
+use Rattle.model.specs.Calendar.{moment_limit}
+use Rattle.memdisk.specs.declared.Pick.{Pick}
+use Rattle.memdisk.specs.declared.Pick.TheVariants.{Old, New, Fill}
+use Rattle.script.specs.Words.{hex_byte, hex_octets, moment_of, number_of, split_word}
+use Rattle.script.specs.declared.lines.Line.{Line}
+use Rattle.script.specs.declared.lines.Line.TheVariants.{Group, Join, Leave, Arrive, Exec, Take, Dev, Told, Release, Commit, Settle, FailAt, Crash, Spool}
+
+-- what a line asks for, its texts as lists: a group is made, octets come for a session, anything else
+pub data Said : Type 0 where
+  Made : (name : Octets) (status moment : ℕ) (description : Octets) → Said
+  Came : (session : ℕ) (octets : Octets) → Said
+  Asked : Line → Said
+
+abbrev pub said : Line → Said
+said (Group name status moment description) = Made name.items status moment description.items
+said (Arrive session octets) = Came session octets.items
+said Join = Asked Join
+said (Leave session) = Asked (Leave session)
+said (Exec session moment) = Asked (Exec session moment)
+said Take = Asked Take
+said Dev = Asked Dev
+said Told = Asked Told
+said Release = Asked Release
+said Commit = Asked Commit
+said Settle = Asked Settle
+said (FailAt call) = Asked (FailAt call)
+said (Crash pick) = Asked (Crash pick)
+said Spool = Asked Spool
+
+-- a text that may describe a group
+abbrev pub is_description : Octets → Bool
+is_description text = nat_le (length text) 200 && list_all is_description_octet text
+
+-- the words of a line are in the ranges of the event that it asks for
+abbrev pub IsLawful : Line → Type 0
+IsLawful (Group name status moment description) =
+    IsTrue (is_group_name name.items) × ((status ≡ 121) ⊎ (status ≡ 110)) × IsTrue (is_description description.items) × (moment < moment_limit)
+IsLawful (Exec session moment) = moment < moment_limit
+IsLawful (Arrive session octets) = Unit {0}
+IsLawful Join = Unit {0}
+IsLawful (Leave session) = Unit {0}
+IsLawful Take = Unit {0}
+IsLawful Dev = Unit {0}
+IsLawful Told = Unit {0}
+IsLawful Release = Unit {0}
+IsLawful Commit = Unit {0}
+IsLawful Settle = Unit {0}
+IsLawful (FailAt call) = Unit {0}
+IsLawful (Crash pick) = Unit {0}
+IsLawful Spool = Unit {0}
+
+infixl 10 ◌>>=◌
+abbrev pub ◌>>=◌ : {A B : Type 0} → Option A → (A → Option B) → Option B
+o >>= f = option_and_then f o
+
+-- a line of one word
+unfoldable pub alone_of : Octets → Option Said
+alone_of word =
+    if bytes_eq word (codes "join") then Some (Asked Join)
+    else (if bytes_eq word (codes "take") then Some (Asked Take)
+    else (if bytes_eq word (codes "dev") then Some (Asked Dev)
+    else (if bytes_eq word (codes "told") then Some (Asked Told)
+    else (if bytes_eq word (codes "release") then Some (Asked Release)
+    else (if bytes_eq word (codes "commit") then Some (Asked Commit)
+    else (if bytes_eq word (codes "settle") then Some (Asked Settle)
+    else (if bytes_eq word (codes "spool") then Some (Asked Spool) else None)))))))
+
+-- what a crash makes of the touched octets
+unfoldable pub pick_of : Octets → Option Pick
+pick_of word =
+    if bytes_eq word (codes "old") then Some Old else (if bytes_eq word (codes "new") then Some New else filled word)
+  where
+    filled : Octets → Option Pick
+    filled [] = None
+    filled (high ∷ []) = None
+    filled (high ∷ low ∷ []) = option_map Fill (hex_byte high low)
+    filled (high ∷ low ∷ other ∷ more) = None
+
+-- a line whose words are numbers or name a pick
+unfoldable pub numbered_of : Octets → Octets → Option Said
+numbered_of keyword words =
+    if bytes_eq keyword (codes "leave") then option_map (λ session. Asked (Leave session)) (number_of words)
+    else (if bytes_eq keyword (codes "exec") then (do
+      parts ← split_word words
+      session ← number_of parts.0
+      moment ← moment_of parts.1
+      Some (Asked (Exec session moment)))
+    else (if bytes_eq keyword (codes "fail") then option_map (λ call. Asked (FailAt call)) (number_of words)
+    else (if bytes_eq keyword (codes "crash") then option_map (λ pick. Asked (Crash pick)) (pick_of words) else None)))
+
+-- `y` or `n`
+unfoldable pub status_of : Octets → Option ℕ
+status_of [] = None
+status_of (octet ∷ []) = if octet == 121 || octet == 110 then Some octet else None
+status_of (octet ∷ other ∷ more) = None
+
+-- NAME STATUS MOMENT TEXT
+unfoldable pub group_of : Octets → Option Said
+group_of words = do
+  name ← split_word words
+  status ← split_word name.1
+  time ← split_word status.1
+  yes_or_no ← status_of status.0
+  moment ← moment_of time.0
+  if is_group_name name.0 && is_description time.1 then Some (Made name.0 yes_or_no moment time.1) else None
+
+-- S TEXT, or S alone: the text and CRLF
+unfoldable pub arrival_of : Octets → Option Said
+arrival_of words = came (split_word words)
+  where
+    came : Option (Octets × Octets) → Option Said
+    came None = option_map (λ session. Came session (13 ∷ 10 ∷ [])) (number_of words)
+    came (Some parts) = option_map (λ session. Came session (parts.1 ++ 13 ∷ 10 ∷ [])) (number_of parts.0)
+
+-- S HEX
+unfoldable pub hex_of : Octets → Option Said
+hex_of words = do
+  parts ← split_word words
+  session ← number_of parts.0
+  octets ← hex_octets parts.1
+  if nat_le 1 (length parts.1) then Some (Came session octets) else None
+
+-- what a line asks for, by its first word
+unfoldable pub meaning : Octets → Option Said
+meaning line = by_words (split_word line)
+  where
+    by_words : Option (Octets × Octets) → Option Said
+    by_words None = alone_of line
+    by_words (Some parts) =
+        if bytes_eq parts.0 (codes "group") then group_of parts.1
+        else (if bytes_eq parts.0 (codes "line") then arrival_of parts.1
+        else (if bytes_eq parts.0 (codes "hex") then hex_of parts.1 else numbered_of parts.0 parts.1))

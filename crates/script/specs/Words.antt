@@ -1,0 +1,40 @@
+-- Words of a script's line (this project's rule).
+use Rattle.std.specs.Prelude.{ℕ, ◌+◌, ◌-◌, ◌*◌, ◌^◌, Bool, true, ◌&&◌, ◌==◌, nat_le, nat_lt, if◌then◌else◌, List, [], ◌∷◌, take, drop, Option, Some, None, option_map, option_and_then}
+use Rattle.std.specs.List.{position}
+use Rattle.std.specs.Char.{is_ascii_digit}
+use Rattle.std.specs.Str.Parse.{digits_value}
+use Rattle.model.specs.Stream.{Octets}
+use Rattle.model.specs.Names.{is_run_of}
+use Rattle.model.specs.Calendar.{moment_limit}
+
+-- what stands before the first SP, and what behind it
+abbrev pub split_word : Octets → Option (Octets × Octets)
+split_word text = option_map (λ i. (take i text, drop (i + 1) text)) (position (λ x. x == 32) text)
+
+-- the number that digits write, if it is below 2^64
+abbrev pub within_u64 : Octets → Option ℕ
+within_u64 digits = if nat_lt (digits_value 10 digits) (2 ^ 64) then Some (digits_value 10 digits) else None
+
+-- the number below 2^64 that one or more digits write
+abbrev pub number_of : Octets → Option ℕ
+number_of word = if is_run_of is_ascii_digit word then within_u64 word else None
+
+-- the moment that digits write, before the year 10000
+abbrev pub moment_of : Octets → Option ℕ
+moment_of word = option_and_then (λ n. if nat_lt n moment_limit then Some n else None) (number_of word)
+
+-- what a hexadecimal digit means, in either case
+abbrev pub hex_digit : ℕ → Option ℕ
+hex_digit x =
+    if nat_le 48 x && nat_le x 57 then Some (x - 48)
+    else (if nat_le 97 x && nat_le x 102 then Some (x - 97 + 10) else (if nat_le 65 x && nat_le x 70 then Some (x - 65 + 10) else None))
+
+-- the octet that two hexadecimal digits write
+abbrev pub hex_byte : ℕ → ℕ → Option ℕ
+hex_byte x y = option_and_then (λ high. option_map (λ low. 16 * high + low) (hex_digit y)) (hex_digit x)
+
+-- the octets that pairs of hexadecimal digits write
+abbrev pub hex_octets : Octets → Option Octets
+hex_octets [] = Some []
+hex_octets (x ∷ []) = None
+hex_octets (x ∷ y ∷ later) = option_and_then (λ octet. option_map (λ more. octet ∷ more) (hex_octets later)) (hex_byte x y)

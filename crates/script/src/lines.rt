@@ -1,0 +1,331 @@
+// The lines of a script.
+ghost use Rattle.std.specs.Prelude.{◌≡◌, ◌⊎◌, ◌<◌, IsTrue, IfOk, IfErr, IfSome, Some, None, option_map};
+ghost use Rattle.model.specs.Names.{is_group_name};
+ghost use Rattle.model.specs.Calendar.{moment_limit};
+ghost use Rattle.script.specs.Words.{hex_octets, hex_byte};
+ghost use Rattle.script.specs.Script.{IsLawful, Made, Came, alone_of, arrival_of, group_of, hex_of, is_description, meaning, numbered_of, pick_of, said, status_of};
+ghost use Rattle.script.specs.declared.lines.ParseError.TheVariants.{Memory};
+
+use crate::checks::is_group_name;
+use crate::words::{hex_digit, moment, number, split_word};
+use memdisk::Pick;
+use std::alloc::{AllocError, AllocFailed, Global};
+use thiserror::Error;
+
+/// The octets of the longest description.
+pub const DESCRIPTION_LIMIT: usize = 200;
+
+/// What a line of a script asks for. Sessions are named by their numbers; a moment is in seconds since 1970.
+#[derive(Debug, Drop, PartialEq, Eq)]
+pub enum Line {
+    /// The operator makes a group.
+    Group {
+        name: Vec<u8>,
+        /// `y` or `n`
+        status: u8,
+        moment: u64,
+        description: Vec<u8>,
+    },
+    /// A session begins.
+    Join,
+    /// A session leaves.
+    Leave(u64),
+    /// Octets arrive for a session.
+    Arrive {
+        session: u64,
+        octets: Vec<u8>,
+    },
+    /// A session's next message is served.
+    Exec {
+        session: u64,
+        moment: u64,
+    },
+    /// The journal begins a batch.
+    Take,
+    /// The journal makes its next device call.
+    Dev,
+    /// The kernel is told what a device call answered.
+    Told,
+    /// What is ready is handed out.
+    Release,
+    /// A batch is taken and carried to its commit.
+    Commit,
+    /// The batch in flight is carried to its end.
+    Settle,
+    /// The n-th device call from now on fails.
+    FailAt(u64),
+    /// The device crashes, each touched octet by this pick, and is opened again.
+    Crash(Pick),
+    /// The accepted changes are printed.
+    Spool,
+}
+
+/// Why a line was not read. Nothing has changed then.
+#[derive(Clone, Copy, Debug, PartialEq, Eq, Error)]
+pub enum ParseError {
+    /// The line isn't in the grammar.
+    #[error("bad event")]
+    Bad,
+    /// A growth was refused.
+    #[error("E2 Memory")]
+    Memory,
+}
+
+impl<T: Drop> From<AllocFailed<T>> for ParseError {
+    ghost from_gives = { λ _ e. e ≡ Memory };
+
+    fn from(_error: AllocFailed<T>) -> ParseError {
+        ParseError::Memory
+    }
+}
+
+impl From<AllocError> for ParseError {
+    ghost from_gives = { λ _ e. e ≡ Memory };
+
+    fn from(_error: AllocError) -> ParseError {
+        ParseError::Memory
+    }
+}
+
+/// What a line asks for, without the LF that ends it. Words are parted by one space; the text of `group` and of `line`
+/// may hold any octets but LF.
+#[tactic(auto, unfolding(crate::specs::Script::meaning))]
+pub fn parse(alloc: Global, line: &[u8]) -> Result<Line, ParseError>
+    ensures ok { IfOk result (λ read. meaning line.now ≡ Some (said read)) }
+    ensures lawful { IfOk result IsLawful }
+    ensures bad { IfErr result (λ error. error ≡ ParseError.Bad → meaning line.now ≡ None) }
+{
+    let Some((keyword, words)) = split_word(line) else {
+        return alone(line).ok_or(ParseError::Bad);
+    };
+    if keyword == b"group".as_slice() {
+        return group(alloc, words);
+    }
+    if keyword == b"line".as_slice() {
+        return arrival(alloc, words);
+    }
+    if keyword == b"hex".as_slice() {
+        return hex_arrival(alloc, words);
+    }
+    numbered(keyword, words).ok_or(ParseError::Bad)
+}
+
+/// A line of one word.
+#[tactic(auto, unfolding(crate::specs::Script::alone_of))]
+fn alone(word: &[u8]) -> Option<Line>
+    ensures value { option_map said result ≡ alone_of word.now }
+    ensures lawful { IfSome result IsLawful }
+{
+    if word == b"join".as_slice() {
+        return Some(Line::Join);
+    }
+    if word == b"take".as_slice() {
+        return Some(Line::Take);
+    }
+    if word == b"dev".as_slice() {
+        return Some(Line::Dev);
+    }
+    if word == b"told".as_slice() {
+        return Some(Line::Told);
+    }
+    if word == b"release".as_slice() {
+        return Some(Line::Release);
+    }
+    if word == b"commit".as_slice() {
+        return Some(Line::Commit);
+    }
+    if word == b"settle".as_slice() {
+        return Some(Line::Settle);
+    }
+    if word == b"spool".as_slice() {
+        return Some(Line::Spool);
+    }
+    None
+}
+
+/// A line whose words are numbers or name a pick.
+#[tactic(auto, unfolding(crate::specs::Script::numbered_of))]
+fn numbered(keyword: &[u8], words: &[u8]) -> Option<Line>
+    ensures value { option_map said result ≡ numbered_of keyword.now words.now }
+    ensures lawful { IfSome result IsLawful }
+{
+    if keyword == b"leave".as_slice() {
+        let session = number(words)?;
+        return Some(Line::Leave(session));
+    }
+    if keyword == b"exec".as_slice() {
+        let (session, time) = split_word(words)?;
+        let session = number(session)?;
+        let moment = moment(time)?;
+        return Some(Line::Exec { session, moment });
+    }
+    if keyword == b"fail".as_slice() {
+        let call = number(words)?;
+        return Some(Line::FailAt(call));
+    }
+    if keyword == b"crash".as_slice() {
+        let pick = pick(words)?;
+        return Some(Line::Crash(pick));
+    }
+    None
+}
+
+/// What a crash makes of the touched octets: `old`, `new`, or an octet by two hexadecimal digits.
+#[tactic(auto, unfolding(crate::specs::Script::pick_of))]
+fn pick(word: &[u8]) -> Option<Pick>
+    ensures { result ≡ pick_of word.now }
+{
+    if word == b"old".as_slice() {
+        return Some(Pick::Old);
+    }
+    if word == b"new".as_slice() {
+        return Some(Pick::New);
+    }
+    let [high, low] = word else {
+        return None;
+    };
+    let octet = hex_byte(*high, *low)?;
+    Some(Pick::Fill(octet))
+}
+
+/// The octet that two hexadecimal digits write.
+fn hex_byte(high: u8, low: u8) -> Option<u8>
+    ensures { result ≡ hex_byte high low }
+{
+    let high = hex_digit(high)?;
+    let low = hex_digit(low)?;
+    Some(16 * high + low)
+}
+
+// The words of a group's line.
+#[derive(Clone, Copy)]
+struct GroupWords<'a> {
+    name: &'a [u8],
+    status: u8,
+    moment: u64,
+    description: &'a [u8],
+}
+
+/// The words of a group's line, if each is in its grammar.
+#[tactic(auto, unfolding(crate::specs::Script::group_of))]
+fn group_words(words: &[u8]) -> Option<GroupWords<'_>>
+    ensures value { option_map (λ read. Made read.name.now read.status read.moment read.description.now) result ≡ group_of words.now }
+    ensures name { IfSome result (λ read. IsTrue (is_group_name read.name.now)) }
+    ensures status { IfSome result (λ read. (read.status ≡ 121) ⊎ (read.status ≡ 110)) }
+    ensures description { IfSome result (λ read. IsTrue (is_description read.description.now)) }
+    ensures moment { IfSome result (λ read. read.moment < moment_limit) }
+{
+    let (name, words) = split_word(words)?;
+    let (status, words) = split_word(words)?;
+    let (time, description) = split_word(words)?;
+    let status = status_octet(status)?;
+    let moment = moment(time)?;
+    if !is_group_name(name) || !is_description(description) {
+        return None;
+    }
+    Some(GroupWords {
+        name,
+        status,
+        moment,
+        description,
+    })
+}
+
+/// The status that `y` or `n` writes.
+#[tactic(auto, unfolding(crate::specs::Script::status_of))]
+fn status_octet(word: &[u8]) -> Option<u8>
+    ensures value { result ≡ status_of word.now }
+    ensures yes_or_no { IfSome result (λ status. (status ≡ 121) ⊎ (status ≡ 110)) }
+{
+    let [octet] = word else {
+        return None;
+    };
+    if *octet == b'y' || *octet == b'n' {
+        Some(*octet)
+    } else {
+        None
+    }
+}
+
+/// Whether a text may describe a group: 0 to 200 octets of 32 to 126.
+fn is_description(text: &[u8]) -> bool
+    ensures { result ≡ is_description text.now }
+{
+    text.len() <= DESCRIPTION_LIMIT && text.iter().all(|octet| 32 <= *octet && *octet <= 126)
+}
+
+/// `group NAME STATUS MOMENT TEXT`, behind its first word.
+fn group(alloc: Global, words: &[u8]) -> Result<Line, ParseError>
+    ensures ok { IfOk result (λ read. group_of words.now ≡ Some (said read)) }
+    ensures lawful { IfOk result IsLawful }
+    ensures bad { IfErr result (λ error. error ≡ ParseError.Bad → group_of words.now ≡ None) }
+{
+    let Some(words) = group_words(words) else {
+        return Err(ParseError::Bad);
+    };
+    let name = Vec::from_slice(alloc, words.name)?;
+    let description = Vec::from_slice(alloc, words.description)?;
+    Ok(Line::Group {
+        name,
+        status: words.status,
+        moment: words.moment,
+        description,
+    })
+}
+
+/// `line S TEXT`, behind its first word: the text and CRLF arrive, without a text CRLF alone.
+#[tactic(auto, unfolding(crate::specs::Script::arrival_of))]
+fn arrival(alloc: Global, words: &[u8]) -> Result<Line, ParseError>
+    ensures ok { IfOk result (λ read. arrival_of words.now ≡ Some (said read)) }
+    ensures lawful { IfOk result IsLawful }
+    ensures bad { IfErr result (λ error. error ≡ ParseError.Bad → arrival_of words.now ≡ None) }
+{
+    let (session, text) = match split_word(words) {
+        Some((session, text)) => (session, text),
+        None => (words, b"".as_slice()),
+    };
+    let Some(session) = number(session) else {
+        return Err(ParseError::Bad);
+    };
+    let mut octets = Vec::from_slice(alloc, text)?;
+    octets.extend_from_slice(b"\r\n")?;
+    Ok(Line::Arrive { session, octets })
+}
+
+/// `hex S HEX`, behind its first word: one or more octets arrive, each written by two hexadecimal digits.
+#[tactic(auto, unfolding(crate::specs::Script::hex_of))]
+fn hex_arrival(alloc: Global, words: &[u8]) -> Result<Line, ParseError>
+    ensures ok { IfOk result (λ read. hex_of words.now ≡ Some (said read)) }
+    ensures lawful { IfOk result IsLawful }
+    ensures bad { IfErr result (λ error. error ≡ ParseError.Bad → hex_of words.now ≡ None) }
+{
+    let Some((session, digits)) = split_word(words) else {
+        return Err(ParseError::Bad);
+    };
+    let Some(session) = number(session) else {
+        return Err(ParseError::Bad);
+    };
+    if digits.is_empty() {
+        return Err(ParseError::Bad);
+    }
+    let octets = hex_octets(alloc, digits)?;
+    Ok(Line::Arrive { session, octets })
+}
+
+/// The octets that pairs of hexadecimal digits write.
+fn hex_octets(alloc: Global, digits: &[u8]) -> Result<Vec<u8>, ParseError>
+    ensures ok { IfOk result (λ octets. hex_octets digits.now ≡ Some octets.items) }
+    ensures bad { IfErr result (λ error. error ≡ ParseError.Bad → hex_octets digits.now ≡ None) }
+{
+    if digits.len() % 2 == 1 {
+        return Err(ParseError::Bad);
+    }
+    let mut octets = Vec::new(alloc);
+    for at in 0..digits.len() / 2 {
+        let Some(octet) = hex_byte(digits[2 * at], digits[2 * at + 1]) else {
+            return Err(ParseError::Bad);
+        };
+        octets.push(octet)?;
+    }
+    Ok(octets)
+}

@@ -1,0 +1,43 @@
+// The printed form of octets.
+ghost use Rattle.std.specs.Prelude.{◌≡◌, ◌<◌, ◌++◌, IfOk, OnOk};
+ghost use Rattle.script.specs.Printed.{escape, escaped, hex_text};
+
+use std::alloc::{AllocError, Global};
+
+/// The octets as they are printed: CR as `\r`, LF as `\n`, a backslash as `\\`, any other octet outside 32 to 126 as
+/// `\xHH` in lower case, all others as they are.
+pub fn escaped(alloc: Global, octets: &[u8]) -> Result<Vec<u8>, AllocError>
+    ensures { IfOk result (λ text. text.items ≡ escaped octets.now) }
+{
+    let mut text = Vec::new(alloc);
+    for octet in octets {
+        push_escaped(&mut text, *octet)?;
+    }
+    Ok(text)
+}
+
+/// Adds the printed form of an octet.
+#[tactic(auto, unfolding(crate::specs::Printed::escape))]
+fn push_escaped(text: &mut Vec<u8>, octet: u8) -> Result<(), AllocError>
+    ensures { OnOk result (text.new.items ≡ text.old.items ++ escape octet) }
+{
+    match octet {
+        b'\r' => text.extend_from_slice(b"\\r"),
+        b'\n' => text.extend_from_slice(b"\\n"),
+        b'\\' => text.extend_from_slice(b"\\\\"),
+        32..=126 => text.extend_from_slice(&[octet]),
+        _ => text.extend_from_slice(&[b'\\', b'x', hex_text(octet / 16), hex_text(octet % 16)]),
+    }
+}
+
+/// A hexadecimal digit in lower case.
+fn hex_text(value: u8) -> u8
+    requires { value < 16 }
+    ensures { result ≡ hex_text value }
+{
+    if value < 10 {
+        b'0' + value
+    } else {
+        b'a' + (value - 10)
+    }
+}

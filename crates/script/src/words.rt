@@ -1,0 +1,75 @@
+// The words of a line: where they are parted, and the numbers that they write.
+ghost use Rattle.std.specs.Prelude.{◌≡◌, ◌<◌, IfSome, option_map, true};
+ghost use Rattle.std.specs.Char.{is_ascii_digit};
+ghost use Rattle.std.specs.List.{list_all};
+ghost use Rattle.model.specs.Calendar.{moment_limit};
+ghost use Rattle.model.specs.Names.{is_run_of};
+ghost use Rattle.script.specs.Words.{hex_digit, moment_of, number_of, split_word, within_u64};
+
+/// The first moment of the year 10000, before which each moment lies, in seconds since 1970.
+pub const MOMENT_LIMIT: u64 = 253_402_300_800;
+
+/// What stands before the first space, and what behind it.
+pub(crate) fn split_word(text: &[u8]) -> Option<(&[u8], &[u8])>
+    ensures { option_map (λ parts. (parts.0.now, parts.1.now)) result ≡ split_word text.now }
+{
+    let at = text.iter().position(|octet| *octet == b' ')?;
+    Some((&text[..at], &text[at + 1..]))
+}
+
+/// The number below 2^64 that one or more digits write.
+pub fn number(word: &[u8]) -> Option<u64>
+    ensures { result ≡ number_of word.now }
+{
+    if is_numeral(word) {
+        value_of(word)
+    } else {
+        None
+    }
+}
+
+/// Whether the octets are digits, at least one.
+fn is_numeral(word: &[u8]) -> bool
+    ensures { result ≡ is_run_of is_ascii_digit word.now }
+{
+    !word.is_empty() && word.iter().all(|octet| octet.is_ascii_digit())
+}
+
+/// The number that the digits write, if it is below 2^64.
+fn value_of(digits: &[u8]) -> Option<u64>
+    requires { list_all is_ascii_digit digits.now ≡ true }
+    ensures { result ≡ within_u64 digits.now }
+{
+    let mut value = 0u64;
+    for octet in digits {
+        let digit = u64::from(*octet - b'0');
+        value = value.checked_mul(10)?.checked_add(digit)?;
+    }
+    Some(value)
+}
+
+/// The moment that digits write: seconds since 1970, before the year 10000.
+pub(crate) fn moment(word: &[u8]) -> Option<u64>
+    ensures value { result ≡ moment_of word.now }
+    ensures in_time { IfSome result (λ moment. moment < moment_limit) }
+{
+    let value = number(word)?;
+    if value < MOMENT_LIMIT {
+        Some(value)
+    } else {
+        None
+    }
+}
+
+/// What a hexadecimal digit means, in either case.
+pub(crate) fn hex_digit(octet: u8) -> Option<u8>
+    ensures value { result ≡ hex_digit octet }
+    ensures small { IfSome result (λ value. value < 16) }
+{
+    match octet {
+        b'0'..=b'9' => Some(octet - b'0'),
+        b'a'..=b'f' => Some(octet - b'a' + 10),
+        b'A'..=b'F' => Some(octet - b'A' + 10),
+        _ => None,
+    }
+}
