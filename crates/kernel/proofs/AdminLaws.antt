@@ -1,19 +1,15 @@
 -- What `admin` answers, from what the spool answers.
-use Rattle.std.proofs.Common.{◌≡◌, ◌⊎◌, inl, inr, ℕ, ◌+◌, ◌≤◌, ◌<◌, Bool, true, false, List, [], ◌∷◌, ◌++◌, length, refl, ap, sym, ◌∙◌, subst, arith}
-use Rattle.std.specs.Prelude.{Option, Some, None, Result, Ok, Err, MatchResult, nat_lt, if◌then◌else◌}
+use Rattle.std.proofs.Common.{◌≡◌, ◌⊎◌, inl, inr, ℕ, ◌+◌, ◌≤◌, Bool, true, false, List, [], ◌∷◌, length, refl, ap, sym, ◌∙◌, arith}
+use Rattle.std.specs.Prelude.{Option, Some, None, nat_lt, if◌then◌else◌}
 use Rattle.std.proofs.lemmas.Bool.{ltb-true}
 use Rattle.model.specs.Stream.{Octets}
 use Rattle.model.specs.Spool.{is_here}
-use Rattle.model.specs.News.{is_full}
 use Rattle.model.specs.declared.change.Change.{Change}
 use Rattle.spool.specs.View.{SpoolView, Adds}
 use Rattle.spool.specs.Refusals.{group_refusal, is_full_for}
 use Rattle.spool.specs.declared.errors.AddError.TheVariants as add
-use Rattle.kernel.specs.Kernel.{Administers, Exists, Full, Halted, KernelView, LaterDirty, Refusal, Seat, TestedOrMemory, admin_refusal, first_failing}
-use Rattle.kernel.specs.Errors.{of_admin}
+use Rattle.kernel.specs.Kernel.{Administers, Exists, Full, Halted, KernelView, LaterDirty, Refusal, Seat, admin_refusal, first_failing}
 use Rattle.kernel.specs.Stored.{kernel_of}
-use Rattle.kernel.specs.declared.errors.AdminError.{AdminError}
-use Rattle.kernel.specs.declared.errors.AdminError.TheVariants as admin
 use Rattle.kernel.proofs.ExecLaws.{changed_dirties}
 
 few_dirty : (n : ℕ) → n ≤ 256 → nat_lt 256 n ≡ false

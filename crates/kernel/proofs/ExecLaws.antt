@@ -1,7 +1,6 @@
 -- What `exec` does, from its parts.
-use Rattle.std.proofs.Common.{◌≡◌, ◌≢◌, ℕ, zero, suc, ◌+◌, ◌≤◌, ◌<◌, ◌==◌, Bool, true, false, List, [], ◌∷◌, ◌++◌, length, refl, ap, sym, ◌∙◌, subst, arith, rules, eq-eqb, set, append-nil}
-use Rattle.std.specs.Prelude.{Option, Some, None, Result, Ok, Err, MatchResult, IfOk, OnOk, OnErr, IsSome, is_none, is_some, not, ◌||◌, ◌&&◌, bytes_eq, nat_le, nat_lt, slice_get, slice_index_or, find, if◌then◌else◌}
-use Rattle.std.specs.Option.{option_to_list}
+use Rattle.std.proofs.Common.{◌≡◌, ℕ, zero, suc, ◌≤◌, ◌<◌, ◌==◌, Bool, true, false, List, [], ◌∷◌, length, refl, ap, sym, ◌∙◌, subst, arith, rules, eq-eqb, set}
+use Rattle.std.specs.Prelude.{Option, Some, None, Result, Ok, Err, MatchResult, IsSome, is_none, is_some, not, ◌||◌, ◌&&◌, bytes_eq, nat_le, nat_lt, slice_get, slice_index_or, if◌then◌else◌}
 use Rattle.std.proofs.Math.Bool.{or-false}
 use Rattle.std.proofs.lemmas.Bool.{eqb-false, eqb-true, le-leb, leb-true, ltb-false}
 use Rattle.model.specs.declared.session.Session.{Session}
@@ -11,7 +10,6 @@ use Rattle.kernel.specs.declared.errors.ExecError.{ExecError}
 use Rattle.kernel.specs.declared.errors.ExecError.TheVariants.{Memory}
 use Rattle.std.proofs.lemmas.Slice.Eq.{bytes_eq-Decides}
 use Rattle.model.specs.Stream.{Octets}
-use Rattle.model.specs.News.{is_long, is_full}
 use Rattle.model.specs.Service.{mode_of}
 use Rattle.model.specs.FirstPath.{answer}
 use Rattle.model.specs.declared.change.Change.{Change}
@@ -19,17 +17,15 @@ use Rattle.model.specs.declared.message.Message.{Message}
 use Rattle.model.specs.declared.message.Mark.{Mark}
 use Rattle.model.specs.declared.message.Mark.TheVariants as mark
 use Rattle.model.specs.declared.message.Mode.{Mode}
-use Rattle.model.specs.declared.session.Awaits.TheVariants.{Nothing}
 use Rattle.spool.specs.View.{SpoolView, Adds}
 use Rattle.spool.specs.View as changed
 use Rattle.spool.specs.Dirty.{is_among}
 use Rattle.std.specs.List.{list_any}
 use Rattle.kernel.specs.Kernel.{KernelView, Seat, Refusal, NoSession, LaterOut, LaterDirty, Dirties, Executed, Execs, Tested, answered_by, exec_refusal, first_failing, is_block, is_dirty, mark_for, mode_at, seat_of, buffered, with_seat}
-use Rattle.kernel.specs.Kept.{IsKept, RiseFrom}
-use Rattle.kernel.specs.Serving.{Grows, SeatServed, answer_in, mark_in}
+use Rattle.kernel.specs.Kept.{RiseFrom}
+use Rattle.kernel.specs.Serving.{Grows, answer_in, mark_in}
 use Rattle.kernel.specs.Stored.{kernel_of}
-use Rattle.kernel.proofs.KernelLaws.{Grown, grown, kept_served, mode_found, only_blocks_change, place_within, all_at}
-use Rattle.kernel.proofs.SeatLaws.{stopped_answer}
+use Rattle.kernel.proofs.KernelLaws.{grown, mode_found, only_blocks_change}
 use Rattle.kernel.proofs.SeatsLaws.{RiseFrom-set, find_at, with_seat_set}
 
 -- ---- tests in their order

@@ -1,19 +1,19 @@
 -- The outputs that a session holds stay what the lock keeps of them: on a longer spool, with one reply more, and when a
 -- release takes their front.
-use Rattle.std.proofs.Common.{◌≡◌, ◌⊎◌, inl, inr, ⊎_elim, ℕ, ◌≤◌, ◌<◌, ◌+◌, ◌-◌, ◌==◌, Bool, true, false, List, [], ◌∷◌, ◌++◌, length, take, drop, refl, ap, sym, ◌∙◌, subst, arith, length-append, length-take}
-use Rattle.std.specs.Prelude.{max, nat_lt, ◌||◌, ◌&&◌, if◌then◌else◌, Option, Some, None, IsSome, is_none}
+use Rattle.std.proofs.Common.{◌≡◌, inl, inr, ⊎_elim, ℕ, ◌≤◌, ◌<◌, ◌+◌, List, [], ◌∷◌, ◌++◌, length, drop, refl, ap, sym, ◌∙◌, subst, arith, length-append, length-take}
+use Rattle.std.specs.Prelude.{max, IsSome, is_none}
 use Rattle.std.specs.Option.{option_to_list}
 use Rattle.std.proofs.lemmas.List.{take-append-le, take_all, take_at}
 use Rattle.model.specs.Stream.{Octets}
 use Rattle.model.specs.Spool.{Spool, first}
-use Rattle.model.specs.News.{greeting, new_session, answer, reads, mode_of}
+use Rattle.model.specs.News.{new_session, answer, reads, mode_of}
 use Rattle.model.specs.declared.change.Change.{Change}
 use Rattle.model.specs.declared.message.Message.{Message}
 use Rattle.model.specs.declared.message.Mark.{Mark}
 use Rattle.model.specs.declared.session.Answer.{Answer}
 use Rattle.model.specs.declared.session.Session.{Session}
 use Rattle.outbox.specs.Queue.{Held, last_dependency}
-use Rattle.kernel.specs.Kept.{Origin, answer_at, reads_at, made_at, IsReply, IsGreeting, AreReplies, SeatIsKept, StillAwaits}
+use Rattle.kernel.specs.Kept.{Origin, answer_at, made_at, IsReply, IsGreeting, AreReplies, SeatIsKept}
 
 module _ (host : Octets) where
   -- what a front and its change take of the spool is there

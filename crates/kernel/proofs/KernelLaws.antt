@@ -1,9 +1,9 @@
 -- Each call keeps what the lock keeps.
-use Rattle.std.proofs.Common.{◌≡◌, ◌≢◌, inl, inr, ℕ, zero, suc, ◌+◌, ◌≤◌, ◌<◌, ◌==◌, Bool, true, false, List, [], ◌∷◌, ◌++◌, length, refl, ap, sym, ◌∙◌, subst, arith, get_or, set, length-append, append-nil, eq-eqb}
+use Rattle.std.proofs.Common.{◌≡◌, ◌≢◌, inl, ℕ, zero, suc, ◌+◌, ◌≤◌, ◌<◌, ◌==◌, Bool, true, false, List, [], ◌∷◌, ◌++◌, length, refl, ap, sym, ◌∙◌, subst, arith, get_or, set, length-append, append-nil, eq-eqb}
 use Rattle.std.specs.Prelude.{Result, Ok, Err, MatchResult, find, take, drop, Option, Some, None, is_some, IsSome, IfSome, filter, not, slice_get, All, if◌then◌else◌}
 use Rattle.std.specs.Option.{option_to_list}
 use Rattle.std.proofs.lemmas.List.{length-set}
-use Rattle.std.proofs.lemmas.List.Elements.{All-cons, All-head, All-tail, All-nil, All-weaker, All-push, All-set, All-filter}
+use Rattle.std.proofs.lemmas.List.Elements.{All-head, All-tail, All-weaker, All-push, All-set, All-filter}
 use Rattle.model.specs.Stream.{Octets}
 use Rattle.model.specs.Spool.{Spool}
 use Rattle.model.specs.Answer.{full_answer}
@@ -20,10 +20,10 @@ use Rattle.model.specs.declared.message.Mark.TheVariants as mark
 use Rattle.model.specs.declared.session.Awaits.{Awaits}
 use Rattle.model.specs.declared.session.Awaits.TheVariants as awaits
 use Rattle.model.specs.declared.session.Session.{Session}
-use Rattle.outbox.specs.Queue.{Held, last_dependency}
+use Rattle.outbox.specs.Queue.{Held}
 use Rattle.spool.specs.View.{SpoolView, Adds}
-use Rattle.kernel.specs.Kernel.{KernelView, Seat, answered_by, is_block, mode_at, new_seat, ready, with_seat}
-use Rattle.kernel.specs.Kept.{IsKept, IsSeat, RiseFrom, SeatIsKept, StillAwaits}
+use Rattle.kernel.specs.Kernel.{KernelView, Seat, answered_by, is_block, mode_at, new_seat, ready}
+use Rattle.kernel.specs.Kept.{IsKept, IsSeat, RiseFrom, StillAwaits}
 use Rattle.kernel.specs.Serving.{answer_in, Grows}
 use Rattle.kernel.specs.Stored.{kernel_of}
 use Rattle.kernel.proofs.Keeping.{SeatIsKept-answered}

@@ -8,7 +8,7 @@ pub mod KernelLaws
 pub mod TakingLaws
 pub mod ExecLaws
 pub mod OneSpool
-pub mod Runs
+pub mod AnImage
 pub mod LabelLaws
 pub mod Reading
 pub mod AdminLaws

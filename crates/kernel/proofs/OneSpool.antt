@@ -1,12 +1,11 @@
 -- An image stands for one spool.
-use Rattle.std.proofs.Common.{◌≡◌, ℕ, ◌+◌, ◌*◌, ◌^◌, ◌<◌, ◌≤◌, List, [], ◌∷◌, ◌++◌, length, replicate, refl, sym, ◌∙◌, ap, subst, arith, length-append}
+use Rattle.std.proofs.Common.{◌≡◌, ℕ, ◌*◌, List, [], ◌∷◌, length, replicate, refl, sym, ◌∙◌, subst, arith, length-append}
 use Rattle.std.specs.Prelude.{◌-◌}
 use Rattle.std.specs.List.{All, concat}
 use Rattle.std.proofs.lemmas.List.Elements.{All-head, All-tail}
 use Rattle.model.specs.Stream.{Octets}
-use Rattle.model.specs.Spool.{Spool}
 use Rattle.model.specs.Layout.{IsLabel}
-use Rattle.model.specs.News.{Holds, Stands}
+use Rattle.model.specs.News.{Holds}
 use Rattle.model.specs.Volume.{home_size}
 use Rattle.model.proofs.Strings.{counted_split, little_split}
 use Rattle.journal.specs.Journal.{AreWhole}
@@ -15,7 +14,7 @@ use Rattle.spool.proofs.Rooms.{one_spool}
 use Rattle.kernel.specs.Laws.{ImagesStandForOne}
 
 -- a label says one host and one number of inodes
-label_same : (label : Octets) (n inodes inodes' : ℕ) (host other : Octets) → IsLabel label n inodes host → IsLabel label n inodes' other → (inodes ≡ inodes') × (host ≡ other)
+pub label_same : (label : Octets) (n inodes inodes' : ℕ) (host other : Octets) → IsLabel label n inodes host → IsLabel label n inodes' other → (inodes ≡ inodes') × (host ≡ other)
 label_same label n inodes inodes' host other a b =
     let same = sym a.octets ∙ b.octets in
     let parts = little_split 4 inodes inodes' _ _ (omega (arith, a.few)) (omega (arith, b.few)) same in

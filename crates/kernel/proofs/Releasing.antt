@@ -1,17 +1,16 @@
 -- What a session keeps when a release takes the front of its outputs.
-use Rattle.std.proofs.Common.{◌≡◌, ◌⊎◌, inl, inr, ⊎_elim, ℕ, suc, ◌≤◌, ◌<◌, ◌+◌, ◌-◌, ◌==◌, Bool, true, false, List, [], ◌∷◌, ◌++◌, length, take, drop, refl, ap, sym, ◌∙◌, subst, arith, length-drop}
-use Rattle.std.specs.Prelude.{max, nat_lt, ◌||◌, ◌&&◌, if◌then◌else◌, Option, Some, None, IsSome, is_none, is_some, All}
+use Rattle.std.proofs.Common.{◌≡◌, inl, inr, ⊎_elim, ℕ, suc, ◌≤◌, ◌<◌, ◌+◌, ◌-◌, ◌==◌, Bool, true, false, List, [], ◌∷◌, length, take, drop, refl, ap, sym, ◌∙◌, subst, arith, length-drop}
+use Rattle.std.specs.Prelude.{nat_lt, ◌||◌, if◌then◌else◌, Option, Some, None, IsSome, is_none, All}
 use Rattle.std.proofs.lemmas.List.{drop-drop}
-use Rattle.std.proofs.lemmas.List.Elements.{All-cons, All-head, All-tail, All-nil}
+use Rattle.std.proofs.lemmas.List.Elements.{All-cons, All-head, All-tail}
 use borrow.Author.Tests.{ltb-true}
 use Rattle.model.specs.Stream.{Octets}
-use Rattle.model.specs.Spool.{Spool, first}
-use Rattle.model.specs.News.{greeting, new_session, answer, reads, mode_of}
+use Rattle.model.specs.Spool.{Spool}
+use Rattle.model.specs.News.{greeting, new_session, mode_of}
 use Rattle.model.specs.declared.session.Session.{Session}
-use Rattle.model.specs.declared.message.Mode.{Mode}
-use Rattle.outbox.specs.Queue.{Held, Giving, give, nothing_more, cut_at, behind, last_dependency}
-use Rattle.kernel.specs.Kernel.{Seat, Ready, ready, given_by}
-use Rattle.kernel.specs.Kept.{Origin, answer_at, reads_at, made_at, IsReply, IsGreeting, AreReplies, SeatIsKept, StillAwaits, IsSeat, RiseFrom}
+use Rattle.outbox.specs.Queue.{Held, Giving, give, nothing_more, cut_at, behind}
+use Rattle.kernel.specs.Kernel.{Seat, ready}
+use Rattle.kernel.specs.Kept.{Origin, answer_at, made_at, IsReply, IsGreeting, AreReplies, SeatIsKept, StillAwaits, IsSeat, RiseFrom}
 
 -- `give` at an output, by its two tests
 abbrev give_by : Bool → Bool → ℕ → ℕ → ℕ → Held → List Held → Giving

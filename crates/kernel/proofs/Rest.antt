@@ -1,13 +1,13 @@
 -- A release in its middle: some sessions have given, the others are still to give.
-use Rattle.std.proofs.Common.{◌≡◌, ℕ, zero, suc, ◌+◌, ◌-◌, ◌≤◌, ◌<◌, Bool, true, false, List, [], ◌∷◌, ◌++◌, length, take, drop, refl, ap, sym, ◌∙◌, subst, arith, append_assoc, length-append, length-drop, drop-cons, get_or, set, zero-add}
+use Rattle.std.proofs.Common.{◌≡◌, ℕ, suc, ◌+◌, ◌-◌, ◌≤◌, ◌<◌, Bool, true, false, List, [], ◌∷◌, ◌++◌, length, take, drop, refl, ap, sym, ◌∙◌, arith, append_assoc, length-append, length-drop, drop-cons, get_or, set, zero-add}
 use Rattle.std.specs.Prelude.{◌==◌, ◌&&◌, not, if◌then◌else◌}
 use Rattle.std.proofs.lemmas.Bool.{eqb-true}
 use Rattle.std.proofs.lemmas.List.{length-take-le, take_at, drop_at, drop-set-lt, length-set}
 use Rattle.std.proofs.lemmas.List.Sums.{sum_by-append}
 use Rattle.std.proofs.Math.Seq.{take-suc-set}
 use Rattle.outbox.proofs.GivingLaws.{give-room}
-use Rattle.outbox.specs.Queue.{Entry, Giving, entry_of, give, octets_in}
-use Rattle.kernel.specs.Kernel.{Seat, Ready, given_by, given_of, ready, seat_given}
+use Rattle.outbox.specs.Queue.{Entry, Giving, entry_of, octets_in}
+use Rattle.kernel.specs.Kernel.{Seat, Ready, given_of, ready, seat_given}
 
 -- the release of all sessions gives the entries that stand there and those of the rest, and leaves the sessions up to this place and what the rest leaves
 pub record IsRest (p : ℕ) (all : List Seat) (entries : List Entry) (at : ℕ) (seats : List Seat) : Type 0 where

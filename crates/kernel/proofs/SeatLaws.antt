@@ -1,7 +1,6 @@
 -- A session behind its reply.
-use Rattle.std.proofs.Common.{◌≡◌, ℕ, ◌+◌, ◌≤◌, List, [], ◌∷◌, ◌++◌, length, refl, ap, sym, ◌∙◌, subst, arith, length-append}
+use Rattle.std.proofs.Common.{◌≡◌, ℕ, ◌+◌, List, [], ◌∷◌, ◌++◌, length, refl, ap, ◌∙◌, arith, length-append}
 use Rattle.std.specs.Prelude.{Bool, true, false, not, max, Option, Some, None, is_none, is_some}
-use Rattle.std.specs.Option.{option_to_list}
 use Rattle.model.specs.Stream.{Octets}
 use Rattle.model.specs.Spool.{Spool}
 use Rattle.model.specs.FirstPath.{answer, reads}
@@ -13,13 +12,11 @@ use Rattle.model.specs.declared.message.Mark.{Mark}
 use Rattle.model.specs.Replies.{service_ends}
 use Rattle.model.specs.declared.message.Mark.TheVariants.{Stopped}
 use Rattle.model.specs.declared.session.Awaits.TheVariants.{Nothing}
-use Rattle.model.specs.declared.session.Answer.{Answer}
 use Rattle.model.specs.declared.session.Session.{Session}
 use Rattle.outbox.specs.Queue.{Held, last_dependency}
 use Rattle.spool.specs.View.{SpoolView}
 use Rattle.kernel.specs.Kernel.{Seat, answered_by}
-use Rattle.kernel.specs.Serving.{answer_in, Grows, IsReplyTo, turned}
-use Rattle.kernel.specs.declared.serve.Reply.{Reply}
+use Rattle.kernel.specs.Serving.{answer_in, Grows, turned}
 
 -- what an answer reads is the count of the changes behind it
 pub reads_behind : (old new : SpoolView) (x : Session) (m : Message) (t : ℕ) (mark : Mark) → Grows old new (answer_in old x m t mark).change → reads old.host old.changes x m t mark ≡ length new.changes

@@ -1,8 +1,8 @@
 -- The sessions of a kernel as a list: one of them found, changed, added or dropped.
-use Rattle.std.proofs.Common.{◌≡◌, ℕ, zero, suc, ◌+◌, ◌≤◌, ◌<◌, ◌==◌, Bool, true, false, List, [], ◌∷◌, ◌++◌, length, refl, ap, sym, ◌∙◌, subst, arith, set, length-append, eq-eqb}
-use Rattle.std.specs.Prelude.{Option, Some, None, find, filter, map, not, if◌then◌else◌, slice_get, All}
-use Rattle.std.proofs.lemmas.Bool.{eqb-true, eqb-false}
-use Rattle.std.proofs.lemmas.List.Elements.{All-cons, All-head, All-tail, All-nil, All-weaker, All-push, All-set, All-filter}
+use Rattle.std.proofs.Common.{◌≡◌, ℕ, zero, suc, ◌≤◌, ◌<◌, ◌==◌, Bool, true, false, List, [], ◌∷◌, ◌++◌, refl, ap, sym, ◌∙◌, subst, arith, set, eq-eqb}
+use Rattle.std.specs.Prelude.{Some, find, filter, not, if◌then◌else◌, slice_get, All}
+use Rattle.std.proofs.lemmas.Bool.{eqb-true}
+use Rattle.std.proofs.lemmas.List.Elements.{All-weaker}
 use Rattle.model.specs.Stream.{Octets}
 use Rattle.model.specs.Spool.{Spool}
 use Rattle.kernel.specs.Kernel.{Seat, with_seat}

@@ -3,7 +3,7 @@ use Rattle.std.proofs.Common.{◌≡◌, ◌≢◌, ◌⊎◌, inl, inr, ℕ, Bo
 use Rattle.std.specs.Prelude.{Result, Ok, Err, IfOk, Option, Some, None, if◌then◌else◌, find}
 use Rattle.model.specs.Stream.{Octets}
 use Rattle.model.specs.Spool.{Spool, NewsArticle}
-use Rattle.model.specs.Replies.{received, not_accepted, service_ends, syntax_error}
+use Rattle.model.specs.Replies.{received, not_accepted, syntax_error}
 use Rattle.model.specs.Answer.{Outcome, not_an_article, article_answer, awaiting, full_answer, is_closed, says, spool_outcome}
 use Rattle.model.specs.FirstPath.{answer, by_id, groups_here, groups_of, id, is_article, is_full, line_answer, post_outcome, request_line, served, stat_answer}
 use Rattle.model.specs.declared.change.Change.{Change}
@@ -12,17 +12,16 @@ use Rattle.model.specs.declared.first_path.Request.{Request}
 use Rattle.model.specs.declared.first_path.Request.TheVariants as request
 use Rattle.model.specs.declared.message.Message.{Message}
 use Rattle.model.specs.declared.message.Message.TheVariants.{Line, Block, TooLong}
-use Rattle.model.specs.declared.message.Mark.{Mark}
 use Rattle.model.specs.declared.message.Mark.TheVariants as mark
 use Rattle.model.specs.declared.session.Answer.{Answer}
 use Rattle.model.specs.declared.session.Awaits.{Awaits}
 use Rattle.model.specs.declared.session.Awaits.TheVariants as awaits
 use Rattle.model.specs.declared.session.Session.{Session}
 use Rattle.spool.specs.View.{SpoolView, Adds}
-use Rattle.spool.specs.Refusals.{filed, group_serial, is_full_for, post_refusal, refusal_of}
+use Rattle.spool.specs.Refusals.{filed, is_full_for, post_refusal, refusal_of}
 use Rattle.spool.specs.declared.errors.PostError.{PostError}
 use Rattle.spool.specs.declared.errors.PostError.TheVariants as error
-use Rattle.kernel.specs.Serving.{answer_in, mark_in, Grows, turned, IsReplyTo, IsSyntaxError}
+use Rattle.kernel.specs.Serving.{answer_in, Grows, turned, IsReplyTo, IsSyntaxError}
 use Rattle.kernel.specs.declared.serve.Reply.{Reply}
 
 -- what comes of a posted text

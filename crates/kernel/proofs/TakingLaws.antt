@@ -1,15 +1,14 @@
 -- A batch of the dirty blocks, laid over blocks that are the cached ones but for these, gives the cached ones.
-use Rattle.std.proofs.Common.{◌≡◌, ◌≢◌, ℕ, zero, suc, ◌+◌, ◌*◌, ◌≤◌, ◌<◌, ◌==◌, Bool, true, false, List, [], ◌∷◌, ◌++◌, length, refl, ap, sym, ◌∙◌, subst, arith, get_or, set, eq-eqb}
-use Rattle.std.specs.Prelude.{Option, Some, None, map, not, ◌||◌, ◌&&◌, All, slice_index_or}
+use Rattle.std.proofs.Common.{◌≡◌, ◌≢◌, ℕ, ◌<◌, ◌==◌, Bool, true, false, List, [], ◌∷◌, length, refl, ap, sym, ◌∙◌, subst, arith, get_or, set}
+use Rattle.std.specs.Prelude.{Option, Some, map, ◌||◌, All, slice_index_or}
 use Rattle.std.specs.List.{list_any}
 use Rattle.std.proofs.lemmas.Bool.{eqb-true, eqb-false}
-use Rattle.std.proofs.lemmas.List.{length-set, length-map, ext_get_or, get_or-set_same, get_or-set_other}
-use Rattle.std.proofs.lemmas.List.Elements.{All-tail, All-head}
+use Rattle.std.proofs.lemmas.List.{length-set, ext_get_or, get_or-set_same, get_or-set_other}
 use Rattle.model.specs.Stream.{Octets}
 use Rattle.model.specs.Volume.{AreDistinct, blocks_from, laid_over}
 use Rattle.spool.specs.View.{SpoolView, AreDirty}
 use Rattle.spool.specs.Batch.{Images}
-use Rattle.kernel.specs.Kernel.{KernelView, Seat, AgreesBehind, Takes, is_dirty, taken}
+use Rattle.kernel.specs.Kernel.{Seat, Takes}
 use Rattle.kernel.specs.Kept.{IsKept}
 use Rattle.kernel.specs.Stored.{kernel_of}
 

@@ -1,5 +1,5 @@
 -- The kernel as its callers see it, and what each call does.
-use Rattle.std.specs.Prelude.{All, bytes_eq, slice_index_or, ◌≡◌, ◌⊎◌, ℕ, ◌+◌, ◌-◌, ◌^◌, ◌≤◌, ◌<◌, max, Bool, true, false, not, ◌&&◌, ◌||◌, ◌==◌, nat_lt, nat_le, if◌then◌else◌, List, [], ◌∷◌, ◌++◌, map, filter, find, length, take, drop, Option, Some, None, is_none, is_some, option_map, sum_by, Result, Ok, Err, MatchOption, MatchResult, ◌↔◌, slice_get, slice_index, ◌≢◌}
+use Rattle.std.specs.Prelude.{All, bytes_eq, slice_index_or, ◌≡◌, ◌⊎◌, ℕ, ◌+◌, ◌-◌, ◌^◌, ◌≤◌, ◌<◌, max, Bool, true, false, not, ◌&&◌, ◌||◌, ◌==◌, nat_lt, nat_le, if◌then◌else◌, List, [], ◌∷◌, ◌++◌, map, filter, find, length, Option, Some, None, is_none, is_some, Result, Err, MatchResult}
 use Rattle.std.specs.List.{list_any}
 use Rattle.std.specs.Option.{option_to_list}
 use Rattle.model.specs.Stream.{Octets}

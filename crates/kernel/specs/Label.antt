@@ -1,12 +1,7 @@
 -- What a label says, and when it says nothing.
-use Rattle.std.specs.Prelude.{◌≡◌, ◌≤◌, ℕ, ◌+◌, ◌*◌, ◌/◌, ◌%◌, Bool, ◌||◌, ◌==◌}
-use Rattle.std.specs.Char.{is_ascii_alphanumeric}
+use Rattle.std.specs.Prelude.{◌≡◌, ◌≤◌, ℕ, ◌+◌, ◌*◌, ◌/◌, ◌%◌}
 use Rattle.model.specs.Stream.{Octets}
 use Rattle.model.specs.Layout.{IsLabel}
-
--- an octet of a host: a letter, a digit or - (this project's rule)
-abbrev pub is_host_octet : ℕ → Bool
-is_host_octet x = is_ascii_alphanumeric x || x == 45
 
 -- a volume of so many blocks may have so many inodes
 pub record HasRoom (inodes blocks : ℕ) : Type 0 where

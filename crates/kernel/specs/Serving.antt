@@ -1,8 +1,6 @@
 -- What serving a message does to the spool and to the session.
-use Rattle.std.specs.Prelude.{◌≡◌, ℕ, ◌+◌, max, false, List, [], ◌∷◌, ◌++◌, length, Option, Some, None, is_none, if◌then◌else◌}
-use Rattle.std.specs.Option.{option_to_list}
-use Rattle.model.specs.Stream.{Octets}
-use Rattle.model.specs.News.{answer, is_long, is_full, mode_of, reads}
+use Rattle.std.specs.Prelude.{◌≡◌, ℕ, length, Option, Some, None, if◌then◌else◌}
+use Rattle.model.specs.News.{answer, is_long, is_full, mode_of}
 use Rattle.model.specs.Replies.{syntax_error}
 use Rattle.model.specs.declared.change.Change.{Change}
 use Rattle.model.specs.declared.message.Message.{Message}
@@ -12,7 +10,6 @@ use Rattle.model.specs.declared.message.Mode.{Mode}
 use Rattle.model.specs.declared.session.Answer.{Answer}
 use Rattle.model.specs.declared.session.Awaits.{Awaits}
 use Rattle.model.specs.declared.session.Session.{Session}
-use Rattle.outbox.specs.Queue.{Held, last_dependency}
 use Rattle.spool.specs.View.{SpoolView, Adds}
 use Rattle.kernel.specs.Kernel.{Seat, answered_by}
 use Rattle.kernel.specs.declared.serve.Reply.{Reply}

@@ -1,19 +1,16 @@
 // The label of a volume: how many inodes there are, and the host.
 ghost use Rattle.std.specs.Prelude.{◌≡◌, ◌==◌, ◌↔◌, IsTrue, IsNone, IfSome};
 ghost use Rattle.std.specs.List.{list_all};
-ghost use Rattle.kernel.specs.Label.{HasRoom, IsNoLabel, is_host_octet};
+ghost use Rattle.kernel.specs.Label.{HasRoom, IsNoLabel};
 ghost use Rattle.model.specs.Layout.{IsLabel};
-ghost use Rattle.model.specs.Names as model;
 
 use byteorder::{ByteOrder, LittleEndian};
+use names::{HOST_LIMIT, is_host};
 
 // The octets of a label, and where its host begins.
 const LABEL: usize = 128;
 
 const HOST_AT: usize = 5;
-
-// The octets of the longest host.
-const HOST_LIMIT: usize = 64;
 
 /// What a label says.
 #[derive(Clone, Copy)]
@@ -54,28 +51,4 @@ fn are_zeros(octets: &[u8]) -> bool
     ensures { result ≡ list_all (λ octet. octet == 0) octets.now }
 {
     octets.iter().all(|octet| *octet == 0)
-}
-
-// Whether the octet may stand in a host.
-fn is_host_octet(octet: u8) -> bool
-    ensures { result ≡ is_host_octet octet }
-{
-    octet.is_ascii_alphanumeric() || octet == b'-'
-}
-
-// Whether the octets are what stands between two dots of a host.
-fn is_host_component(part: &[u8]) -> bool
-    ensures { result ≡ model.is_run_of is_host_octet part.now }
-{
-    !part.is_empty() && part.iter().all(|octet| is_host_octet(*octet))
-}
-
-// Whether the text is a host: components of letters, digits and `-` that dots part, at most 64 octets.
-fn is_host(text: &[u8]) -> bool
-    ensures { result ≡ model.is_host text.now }
-{
-    text.len() <= HOST_LIMIT
-        && text
-            .split(|octet| *octet == b'.')
-            .all(|part| is_host_component(part))
 }

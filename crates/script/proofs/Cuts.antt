@@ -1,7 +1,7 @@
 -- Where a text is parted.
-use Rattle.std.specs.Prelude.{◌≡◌, ℕ, ◌+◌, ◌-◌, ◌==◌, ◌≤◌, List, length, take, drop, Option, Some, None, option_map}
+use Rattle.std.specs.Prelude.{◌≡◌, ℕ, ◌+◌, ◌-◌, ◌==◌, List, length, take, drop, Some, None, option_map}
 use Rattle.std.specs.List.{position}
-use Rattle.std.proofs.Common.{◌∙◌, ap, sym, arith, length-drop}
+use Rattle.std.proofs.Common.{◌∙◌, ap, arith, length-drop}
 use Rattle.std.proofs.lemmas.List.{take_all}
 use Rattle.script.specs.Words.{split_word}
 

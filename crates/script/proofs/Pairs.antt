@@ -1,5 +1,5 @@
 -- Octets that pairs of hexadecimal digits write.
-use Rattle.std.specs.Prelude.{◌≡◌, ℕ, suc, ◌+◌, ◌*◌, ◌%◌, ◌<◌, ◌≤◌, List, [], ◌∷◌, ◌++◌, length, drop, get_or, Option, Some, None, option_map, option_and_then}
+use Rattle.std.specs.Prelude.{◌≡◌, ℕ, suc, ◌+◌, ◌%◌, ◌<◌, List, [], ◌∷◌, ◌++◌, length, drop, get_or, Option, Some, None, option_map, option_and_then}
 use Rattle.std.proofs.Common.{◌∙◌, ap, sym, refl, arith, append_assoc, add-one, drop-cons}
 use Rattle.script.specs.Words.{hex_byte, hex_octets}
 

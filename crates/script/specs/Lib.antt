@@ -1,4 +1,3 @@
-pub mod Hosts
 pub mod Words
 pub mod Script
 pub mod Printed

@@ -1,5 +1,5 @@
 -- How octets are printed (this project's rule).
-use Rattle.std.specs.Prelude.{ℕ, ◌+◌, ◌/◌, ◌%◌, ◌&&◌, ◌==◌, nat_le, nat_lt, if◌then◌else◌, List, [], ◌∷◌}
+use Rattle.std.specs.Prelude.{ℕ, ◌+◌, ◌/◌, ◌%◌, ◌&&◌, ◌==◌, nat_le, nat_lt, if◌then◌else◌, [], ◌∷◌}
 use Rattle.std.specs.List.{flat_map}
 use Rattle.model.specs.Stream.{Octets}
 

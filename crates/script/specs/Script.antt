@@ -1,5 +1,5 @@
 -- What each line of a script means (this project's rule).
-use Rattle.std.specs.Prelude.{◌≡◌, ℕ, ◌<◌, ◌≤◌, Bool, true, false, not, ◌||◌, ◌&&◌, ◌==◌, ◌⊎◌, nat_le, if◌then◌else◌, List, [], ◌∷◌, ◌++◌, length, IsTrue, Option, Some, None, option_map, option_and_then, bytes_eq, codes}
+use Rattle.std.specs.Prelude.{◌≡◌, ℕ, ◌<◌, Bool, ◌||◌, ◌&&◌, ◌==◌, ◌⊎◌, nat_le, if◌then◌else◌, [], ◌∷◌, ◌++◌, length, IsTrue, Option, Some, None, option_map, option_and_then, bytes_eq, codes}
 use Rattle.std.specs.List.{list_all}
 use Rattle.model.specs.Stream.{Octets}
 use Rattle.model.specs.Names.{is_group_name}

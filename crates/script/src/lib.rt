@@ -2,14 +2,12 @@
 //! `specs/Script.antt` says what each line means, `specs/Printed.antt` how octets are printed.
 #![tactic(auto)]
 
-mod checks;
 mod lines;
 mod printed;
 #[cfg(test)]
 mod tests;
 mod words;
 
-pub use checks::{GROUP_NAME_LIMIT, HOST_LIMIT, is_group_name, is_host};
 pub use lines::{DESCRIPTION_LIMIT, Line, ParseError, parse};
 pub use printed::escaped;
 pub use words::{MOMENT_LIMIT, number};

@@ -6,9 +6,9 @@ ghost use Rattle.script.specs.Words.{hex_octets, hex_byte};
 ghost use Rattle.script.specs.Script.{IsLawful, Made, Came, alone_of, arrival_of, group_of, hex_of, is_description, meaning, numbered_of, pick_of, said, status_of};
 ghost use Rattle.script.specs.declared.lines.ParseError.TheVariants.{Memory};
 
-use crate::checks::is_group_name;
 use crate::words::{hex_digit, moment, number, split_word};
 use memdisk::Pick;
+use names::is_group_name;
 use std::alloc::{AllocError, AllocFailed, Global};
 use thiserror::Error;
 

@@ -1,4 +1,4 @@
-use crate::{Line, ParseError, escaped, is_group_name, is_host, parse};
+use crate::{Line, ParseError, escaped, parse};
 use memdisk::Pick;
 use std::alloc::{AllocError, Global};
 use std::test::Fail;
@@ -154,22 +154,6 @@ fn ranges_of_a_group(rt: HostRuntime) -> Result<(), Fail> {
         );
     }
     Ok(())
-}
-
-#[test]
-fn names_and_hosts(rt: HostRuntime) {
-    for (text, name, host) in [
-        ("x.a", true, true),
-        ("news.example", true, true),
-        ("c++._", true, false),
-        ("", false, false),
-        (".x", false, false),
-        ("x.", false, false),
-        ("a b", false, false),
-    ] {
-        assert!(rt; is_group_name(text.as_bytes()) == name, "{text}");
-        assert!(rt; is_host(text.as_bytes()) == host, "{text}");
-    }
 }
 
 #[test]

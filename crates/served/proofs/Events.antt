@@ -1,24 +1,23 @@
 -- Each event keeps what is served beside the plain server.
-use Rattle.std.proofs.Common.{◌≡◌, ◌≢◌, ℕ, ◌≤◌, ◌<◌, ◌+◌, ◌==◌, Bool, true, false, List, [], ◌∷◌, ◌++◌, length, take, Option, Some, None, refl, ap, sym, ◌∙◌, subst, arith, length-append, length-take}
-use Rattle.std.specs.Prelude.{max, All, unwrap_or, option_map, is_none, is_some, if◌then◌else◌}
+use Rattle.std.proofs.Common.{◌≡◌, ◌≢◌, ℕ, ◌≤◌, ◌+◌, ◌==◌, Bool, true, false, List, [], ◌∷◌, ◌++◌, length, take, Option, Some, None, refl, ap, sym, ◌∙◌, subst, arith, length-append}
+use Rattle.std.specs.Prelude.{max, unwrap_or, option_map, is_none, is_some, if◌then◌else◌}
 use Rattle.std.specs.Option.{IsSome, option_to_list}
 use Rattle.std.proofs.lemmas.List.{append-nil, take-append-le}
 use Rattle.model.specs.Stream.{Octets, next}
 use Rattle.model.specs.Spool.{Spool}
-use Rattle.model.specs.News.{service, greeting, answer, reads, mode_of}
+use Rattle.model.specs.News.{service, answer, reads, mode_of}
 use Rattle.model.specs.declared.change.Change.{Change}
 use Rattle.model.specs.declared.message.Message.{Message}
 use Rattle.model.specs.declared.message.Mark.{Mark}
 use Rattle.model.specs.declared.message.Mode.{Mode}
 use Rattle.model.specs.declared.session.Session.{Session}
-use Rattle.outbox.specs.Queue.{Held, last_dependency, Entry as Given}
-use Rattle.kernel.specs.Kernel.{KernelView, Seat, new_seat, seat_of, joined, left, released, ready, made_durable, answered, with_seat, Execs, Executed, Administers}
-use Rattle.kernel.specs.Kept.{IsKept, RiseFrom}
+use Rattle.outbox.specs.Queue.{Entry as Given}
+use Rattle.kernel.specs.Kernel.{KernelView, Seat, new_seat, seat_of, joined, left, released, ready, answered, Executed}
+use Rattle.kernel.specs.Kept.{IsKept}
 use Rattle.synchrony.specs.Framing.{next_in}
-use Rattle.synchrony.specs.Service.{Service}
-use Rattle.synchrony.specs.Server.{Entry, Command, Admin, Connection, Server, opened, updated}
+use Rattle.synchrony.specs.Server.{Entry, Command, Admin, Connection, opened, updated}
 use Rattle.synchrony.specs.Dependency.{Output, greatest, Account, account_of, account_step}
-use Rattle.synchrony.specs.Progress.{EachFindsMessage, HasMore, with_more}
+use Rattle.synchrony.specs.Progress.{EachFindsMessage, HasMore}
 use Rattle.synchrony.proofs.Fronts.{same_functions}
 use Rattle.synchrony.proofs.GoingOn.{account_served, arrivals_only_wait, entries_are_steps}
 use Rattle.synchrony.proofs.Filled.{outputs_are_filled}
@@ -26,7 +25,7 @@ use Rattle.served.specs.Served.{Sent, ServedView, Trace, nobody, session_at, sen
 use Rattle.served.specs.Events.{joins, arrives, leaves, releases, with_kernel, with_released, Serves, Makes}
 use Rattle.served.specs.Fields.{given_in}
 use Rattle.served.proofs.Lawful.{lawful}
-use Rattle.served.proofs.Seats.{seat_in, seat_in-number, seat_in-below, seat_in-joined, seat_in-left, seat_in-answered, ready_gives, by_number, updated-same, updated-other, eqb-other, eqb-same}
+use Rattle.served.proofs.Seats.{seat_in, seat_in-number, seat_in-joined, seat_in-left, seat_in-answered, ready_gives, by_number, updated-same, updated-other, eqb-other, eqb-same}
 use Rattle.served.proofs.Sessions.{session_at-joined, session_at-with, session_at-past, length-with_sent, with_released-at, length-with_released, ready_known, sent_more}
 use Rattle.served.proofs.Standing.{IsSession-along, IsSession-raise, IsSession-joins, IsSession-arrives, IsSession-left, IsSession-served, IsSession-releases, there_joined, sent_arrived}
 

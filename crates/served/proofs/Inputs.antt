@@ -1,8 +1,8 @@
 -- An input stands for its session's stream.
-use Rattle.std.proofs.Common.{◌≡◌, ℕ, ◌≤◌, ◌-◌, Bool, true, false, List, [], ◌∷◌, ◌++◌, length, take, drop, Option, Some, None, refl, ap, sym, ◌∙◌, subst, arith, length-take}
+use Rattle.std.proofs.Common.{◌≡◌, ℕ, ◌≤◌, ◌-◌, Bool, true, false, List, ◌++◌, length, take, drop, Option, Some, None, refl, ap, sym, ◌∙◌, subst, arith, length-take}
 use Rattle.std.specs.Prelude.{IfSome, OnOk, Result, Ok, Err, is_some, nat_le, option_map, if◌then◌else◌}
 use Rattle.std.proofs.lemmas.Bool.Decides.{nat_tests}
-use Rattle.framing.specs.Held.{Held, StandsFor}
+use Rattle.framing.specs.Held.{Held}
 use Rattle.framing.proofs.StandsLaws.{stands_when_fed, stands_when_found, stands_when_none}
 use Rattle.kernel.specs.Kernel.{FitsMode}
 use Rattle.model.specs.Stream.{ReadsAlike, limited, message_length, message_of, next, unstuffed}

@@ -2,6 +2,7 @@ pub mod Giving
 pub mod Seats
 pub mod Sessions
 pub mod Lawful
+pub mod Plain
 pub mod Standing
 pub mod Events
 pub mod Inputs

@@ -1,9 +1,9 @@
 -- A write to one of the peers.
-use Rattle.std.proofs.Common.{◌≡◌, ℕ, zero, suc, ◌+◌, ◌-◌, ◌≤◌, ◌<◌, List, [], ◌∷◌, length, set, get_or, Option, Some, None, refl, ap, sym, ◌∙◌, subst, arith}
+use Rattle.std.proofs.Common.{◌≡◌, ℕ, zero, suc, ◌-◌, ◌≤◌, ◌<◌, List, [], ◌∷◌, length, set, get_or, Option, Some, None, refl, ap, sym, ◌∙◌, subst, arith}
 use Rattle.std.specs.Prelude.{map, slice_get, unwrap_or, option_map, IfSome, IfOk, OnOk, OnErr, Result, Ok, Err}
 use Rattle.std.proofs.lemmas.Option.{slice_get-get_or}
 use Rattle.served.specs.Fields.{Becomes, inputs, sent_of, sents}
-use Rattle.served.specs.Served.{Sent, nobody, numbered, sent_at, with_numbered}
+use Rattle.served.specs.Served.{nobody, numbered, sent_at, with_numbered}
 use Rattle.served.specs.declared.input.Input.{Input}
 use Rattle.served.specs.declared.peer.Peer.{Peer}
 use Rattle.served.proofs.Sessions.{numbered-map, session_at-past}

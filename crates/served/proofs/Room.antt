@@ -1,6 +1,6 @@
 -- Room for what a release hands out.
 use Rattle.std.proofs.Common.{◌≡◌, ◌≢◌, ℕ, zero, suc, ◌+◌, ◌-◌, ◌≤◌, ◌<◌, ◌==◌, Bool, true, false, List, [], ◌∷◌, ◌++◌, length, take, drop, set, Option, Some, None, refl, ap, sym, ◌∙◌, subst, arith, length-append}
-use Rattle.std.specs.Prelude.{slice_get, vec_len, vec_capacity, if◌then◌else◌, option_map, unwrap_or}
+use Rattle.std.specs.Prelude.{slice_get, vec_len, vec_capacity, if◌then◌else◌, option_map}
 use Rattle.std.proofs.Common.{⊎_elim}
 use Rattle.std.proofs.lemmas.Bool.{cases_lt}
 use Rattle.kernel.specs.Kept.{RiseFrom}
@@ -14,7 +14,7 @@ use Rattle.served.specs.Served.{Sent, numbered, sent_at, with_numbered, with_sen
 use Rattle.served.specs.declared.peer.Peer.{Peer}
 use Rattle.served.proofs.Peers.{AtPeer}
 use Rattle.served.proofs.Seats.{Given, by_number, eqb-other, eqb-same, ready_gives, ready_short, seat_in, seat_in-number, updated-other, updated-same}
-use Rattle.served.proofs.Sessions.{AreKnown-given, numbered-within, ready_known}
+use Rattle.served.proofs.Sessions.{AreKnown-given, numbered-within}
 use Rattle.served.proofs.Sound.{numbered-with}
 
 module _ (peers : List Peer) (number : ℕ) (was p : Peer) (at : AtPeer peers number was) where

@@ -1,11 +1,11 @@
 -- The sessions that are there, by their numbers, before and after each call.
-use Rattle.std.proofs.Common.{◌≡◌, ◌≢◌, ℕ, zero, suc, ◌≤◌, ◌<◌, ◌+◌, ◌==◌, Bool, true, false, List, [], ◌∷◌, ◌++◌, length, Option, Some, None, refl, ap, sym, ◌∙◌, subst, arith, append_assoc, length-append}
-use Rattle.std.specs.Prelude.{not, ◌&&◌, find, filter, map, if◌then◌else◌}
+use Rattle.std.proofs.Common.{◌≡◌, ◌≢◌, ℕ, ◌≤◌, ◌==◌, Bool, true, false, List, [], ◌∷◌, ◌++◌, length, Option, Some, None, refl, ap, sym, ◌∙◌, subst, arith, append_assoc, length-append}
+use Rattle.std.specs.Prelude.{not, ◌&&◌, find, filter, if◌then◌else◌}
 use Rattle.std.proofs.lemmas.Bool.{eqb-true, eqb-false, eq-eqb}
 use Rattle.std.proofs.lemmas.Bool.Decides.{nat_tests}
 use Rattle.std.proofs.lemmas.List.{append-nil}
-use Rattle.outbox.specs.Queue.{Held, Giving, Entry, give, entry_of}
-use Rattle.kernel.specs.Kernel.{Seat, Ready, given_by, ready, with_seat}
+use Rattle.outbox.specs.Queue.{Giving, Entry, give, entry_of}
+use Rattle.kernel.specs.Kernel.{Seat, Ready, ready, with_seat}
 use Rattle.kernel.specs.Kept.{RiseFrom}
 use Rattle.served.specs.Fields.{given_in}
 use Rattle.served.proofs.Giving.{give_room}

@@ -1,9 +1,8 @@
 -- What the fields keep, through each call.
-use Rattle.std.proofs.Common.{◌≡◌, ◌≢◌, ◌⊎◌, inl, inr, ℕ, zero, suc, ◌+◌, ◌≤◌, ◌<◌, ◌==◌, Bool, true, false, List, [], ◌∷◌, ◌++◌, length, take, set, Option, Some, None, refl, ap, sym, ◌∙◌, subst, arith, length-append}
-use Rattle.std.specs.Prelude.{filter, is_err, not, OnOk, IfOk, IfSome, IsNone, MatchOption, OnErr, Result, Ok, Err, map, unwrap_or, is_some, is_none, if◌then◌else◌}
-use Rattle.std.specs.Option.{IsSome}
+use Rattle.std.proofs.Common.{◌≡◌, ◌≢◌, ◌⊎◌, inl, inr, ℕ, zero, suc, ◌+◌, ◌≤◌, ◌==◌, Bool, true, false, List, [], ◌∷◌, ◌++◌, length, take, Option, Some, None, refl, ap, sym, ◌∙◌, subst, arith, length-append}
+use Rattle.std.specs.Prelude.{filter, is_err, not, OnOk, IfOk, IfSome, IsNone, MatchOption, OnErr, Result, Ok, Err, unwrap_or, is_some, if◌then◌else◌}
 use Rattle.std.proofs.lemmas.List.{append-nil, length-set, take_all}
-use Rattle.kernel.specs.Kernel.{FitsMode, KernelView, Refusal, Seat, Tested, answered, exec_refusal, halted_for_good, joined, left, made_durable, mode_at, new_seat, ready, released, seat_of, taken}
+use Rattle.kernel.specs.Kernel.{FitsMode, KernelView, Refusal, Seat, Tested, answered, exec_refusal, halted_for_good, joined, made_durable, mode_at, new_seat, ready, released, seat_of, taken}
 use Rattle.kernel.specs.Errors.{of_exec}
 use Rattle.kernel.specs.declared.errors.ExecError.{ExecError}
 use Rattle.kernel.specs.declared.errors.ExecError.TheVariants as exec
@@ -15,7 +14,7 @@ use Rattle.model.specs.declared.message.Message.{Message}
 use Rattle.model.specs.declared.message.Mark.{Mark}
 use Rattle.model.specs.declared.message.Mode.{Mode}
 use Rattle.model.specs.declared.session.Session.{Session}
-use Rattle.synchrony.specs.Dependency.{Account, account_step}
+use Rattle.synchrony.specs.Dependency.{Account}
 use Rattle.synchrony.specs.Service.{Answer}
 use Rattle.synchrony.specs.Progress.{HasMore, with_more}
 use Rattle.synchrony.specs.Server.{Connection, updated}
@@ -24,7 +23,7 @@ use Rattle.synchrony.proofs.GoingOn.{account_served}
 use Rattle.served.specs.Events.{arrives, joins, leaves, opens, releases, with_kernel, DidExec, Makes, Serves}
 use Rattle.served.specs.Fields.{Becomes, InputsStand, IsSound}
 use Rattle.served.specs.Input.{Found, HoldsMessage, MayAsk, Waits}
-use Rattle.served.specs.Served.{IsPresent, IsServed, IsSession, IsThere, IsUnknown, ServedView, account, arrived_at, first_spool, nobody, sent_at, next_of, numbered, session_at, with_numbered}
+use Rattle.served.specs.Served.{IsPresent, IsServed, IsSession, IsThere, IsUnknown, ServedView, account, arrived_at, nobody, sent_at, next_of, numbered, session_at, with_numbered}
 use Rattle.served.specs.declared.input.Input.{Input}
 use Rattle.served.proofs.Events.{account_in, IsServed-arrives, IsServed-joins, IsServed-kernel, IsServed-leaves, IsServed-makes, IsServed-releases, IsServed-serves, more_at}
 use Rattle.synchrony.specs.Framing.{next_in}

@@ -1,11 +1,11 @@
 -- One session beside the plain server's, before and after each event.
-use Rattle.std.proofs.Common.{◌≡◌, ◌≢◌, ℕ, ◌≤◌, ◌+◌, Bool, true, false, List, [], ◌∷◌, ◌++◌, length, drop, Option, Some, None, refl, ap, sym, ◌∙◌, subst, arith, length-append}
-use Rattle.std.specs.Prelude.{max, map, option_map, is_none, if◌then◌else◌}
+use Rattle.std.proofs.Common.{◌≡◌, ◌≢◌, ℕ, ◌≤◌, Bool, true, false, List, [], ◌∷◌, ◌++◌, length, drop, Option, Some, None, refl, ap, sym, ◌∙◌, subst, arith}
+use Rattle.std.specs.Prelude.{max, option_map, is_none, if◌then◌else◌}
 use Rattle.std.proofs.lemmas.List.{append-nil, map-append}
 use Rattle.std.proofs.Math.Seq.{drop-append_seam}
 use mathlib.Core.List.{IsPrefix}
 use Rattle.model.specs.Stream.{Octets}
-use Rattle.model.specs.News.{greeting, new_session, mode_of}
+use Rattle.model.specs.News.{greeting, mode_of}
 use Rattle.model.specs.declared.session.Session.{Session}
 use Rattle.outbox.specs.Queue.{Held, Giving, give, last_dependency}
 use Rattle.kernel.specs.Kernel.{Seat, new_seat}

@@ -1,12 +1,12 @@
 -- What each event does to what is served.
-use Rattle.std.specs.Prelude.{Result, Err, MatchResult, ◌≡◌, ℕ, ◌++◌, Bool, true, false, List, [], ◌∷◌, length, Option, Some, None, is_some, is_none, if◌then◌else◌}
+use Rattle.std.specs.Prelude.{Result, Err, MatchResult, ◌≡◌, ℕ, ◌++◌, true, List, [], ◌∷◌, length, Option, Some, None, is_some, is_none, if◌then◌else◌}
 use Rattle.model.specs.Stream.{Octets}
 use Rattle.model.specs.declared.change.Change.{Change}
 use Rattle.model.specs.declared.message.Message.{Message}
 use Rattle.model.specs.declared.message.Mark.{Mark}
 use Rattle.model.specs.declared.message.Mode.{Mode}
 use Rattle.outbox.specs.Queue.{Entry as Given}
-use Rattle.kernel.specs.Kernel.{KernelView, Seat, seat_of, mode_at, joined, left, released, ready, exec_refusal, first_failing, Refusal, NoSession, Execs, Administers, TestedOrMemory}
+use Rattle.kernel.specs.Kernel.{KernelView, seat_of, mode_at, joined, left, released, ready, exec_refusal, first_failing, Refusal, NoSession, Execs, Administers, TestedOrMemory}
 use Rattle.kernel.specs.Errors.{of_exec}
 use Rattle.kernel.specs.declared.errors.ExecError.{ExecError}
 use Rattle.kernel.specs.declared.errors.ExecError.TheVariants as exec

@@ -1,7 +1,7 @@
 -- What the fields of the code stand for, and what they keep.
 use Rattle.std.specs.Option.{IsSome}
-use Rattle.std.specs.Prelude.{◌≡◌, ◌+◌, ◌≤◌, ◌++◌, ◌==◌, ℕ, zero, suc, List, [], ◌∷◌, if◌then◌else◌, length, map, slice_get, Option, Some, None, vec_len, vec_capacity}
-use Rattle.kernel.specs.Kernel.{KernelView, Seat, seat_of}
+use Rattle.std.specs.Prelude.{◌≡◌, ◌+◌, ◌≤◌, ◌++◌, ◌==◌, ℕ, List, [], ◌∷◌, if◌then◌else◌, length, map, Option, Some, vec_len, vec_capacity}
+use Rattle.kernel.specs.Kernel.{Seat, seat_of}
 use Rattle.model.specs.News.{mode_of}
 use Rattle.model.specs.declared.change.Change.{Change}
 use Rattle.model.specs.declared.message.Mark.{Mark}

@@ -1,5 +1,5 @@
 -- What the program holds of a session's stream.
-use Rattle.std.specs.Prelude.{◌≡◌, ◌++◌, ℕ, Bool, true, false, List, Option, Some, None, IfSome}
+use Rattle.std.specs.Prelude.{◌≡◌, ℕ, Bool, true, false, List, Option, Some, None, IfSome}
 use Rattle.framing.specs.Held.{StandsFor}
 use Rattle.model.specs.Stream.{next}
 use Rattle.model.specs.declared.message.Message.{Message}

@@ -1,5 +1,6 @@
 -- The kernel beside the plain server: what each session sent and was sent since the opening, the trace, and what ties the two.
-use Rattle.std.specs.Prelude.{◌≡◌, ℕ, zero, suc, ◌+◌, ◌≤◌, Bool, true, false, List, [], ◌∷◌, ◌++◌, length, take, map, slice_get, slice_set, Option, Some, None, is_none, unwrap_or}
+use Rattle.std.specs.Prelude.{◌≡◌, ℕ, zero, suc, ◌≤◌, Bool, false, List, [], ◌∷◌, ◌++◌, length, take, map, slice_get, slice_set, Option, Some, None, is_none, unwrap_or}
+use Rattle.std.specs.List.{concat}
 use Rattle.model.specs.Stream.{Octets}
 use Rattle.model.specs.Spool.{Spool}
 use Rattle.model.specs.News.{service, greeting, new_session, mode_of}
@@ -9,7 +10,7 @@ use Rattle.model.specs.declared.message.Mark.{Mark}
 use Rattle.model.specs.declared.session.Session.{Session}
 use Rattle.outbox.specs.Queue.{Held, Entry as Given, last_dependency}
 use Rattle.kernel.specs.Kernel.{Seat, KernelView, seat_of}
-use Rattle.synchrony.specs.Server.{Entry, Connection, opened, taken}
+use Rattle.synchrony.specs.Server.{Entry, Connection, Server, opened, sync, taken}
 use Rattle.synchrony.specs.Dependency.{Output, Account, greatest, account_of, octets_of}
 use Rattle.synchrony.specs.Progress.{EachFindsMessage, unreleased}
 use Rattle.synchrony.specs.Synchrony.{IsReleased}
@@ -128,3 +129,23 @@ pub record IsServed (served : ServedView) : Type 0 where
   -- each command of the trace found its message
   pub finds : EachFindsMessage (service served.kernel.host) (opened (service served.kernel.host) (first_spool served) (arrived_at served)) served.trace
   pub each : (number : ℕ) → IsSession served.kernel.host served.kernel.durable (session_at served.sessions number) (seat_of served.kernel number) ((account served).server.connections number) ((account served).outputs number)
+
+-- ---- the same in the plain server's words
+
+-- the plain server after the trace
+abbrev pub plain : ServedView → Server Session Change
+plain served = sync (service served.kernel.host) (first_spool served) (arrived_at served) served.trace
+
+-- all that a session is to be sent
+abbrev pub replies_to : ServedView → ℕ → Octets
+replies_to served number = concat ((plain served).connections number).replies
+
+abbrev pub octets_of_held : List Held → Octets
+octets_of_held held = concat (map (λ (h : Held). h.octets) held)
+
+-- The kernel has the plain server's spool. Of a session that is there, what was released and behind it what is held are its
+-- replies, and of one that ended all its replies were released.
+pub record FollowsPlain (served : ServedView) : Type 0 where
+  pub spool : served.kernel.spool ≡ (plain served).spool
+  pub there : (number : ℕ) (seat : Seat) → seat_of served.kernel number ≡ Some seat → released_at served number ++ octets_of_held seat.held ≡ replies_to served number
+  pub ended : (number : ℕ) (sent : Sent) → session_at served.sessions number ≡ Some sent → sent.left ≡ false → seat_of served.kernel number ≡ None → sent.released ≡ replies_to served number

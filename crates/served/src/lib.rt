@@ -17,7 +17,7 @@ ghost use Rattle.model.specs.Volume.{blocks_from};
 ghost use Rattle.model.specs.declared.change.Change.TheVariants.{Group};
 ghost use Rattle.served.specs.Events.{DidExec, Makes, arrive_refusal, arrives, joins, leaves, opens, releases, with_kernel};
 ghost use Rattle.synchrony.specs.Server.{Admin};
-ghost use Rattle.served.specs.Served.{IsServed, ServedView, arrived_at, next_of, released_at};
+ghost use Rattle.served.specs.Served.{FollowsPlain, IsServed, ServedView, arrived_at, next_of, released_at};
 
 mod entry;
 mod errors;
@@ -78,8 +78,10 @@ impl Served {
     }
 
     /// What is kept: the kernel stands beside the plain server, and keeps what its lock keeps.
+    #[tactic(auto, using(crate::proofs::Plain::follows_plain))]
     pub fn kept(&self)
         ensures served { IsServed self.now }
+        ensures plain { FollowsPlain self.now }
         ensures kernel { IsKept self.now.kernel }
     {
         self.kernel.kept();

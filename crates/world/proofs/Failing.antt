@@ -1,5 +1,5 @@
 -- A device that is told to fail: nothing else changes.
-use Rattle.std.proofs.Common.{◌≡◌, Bool, List, Option, refl, sym, subst}
+use Rattle.std.proofs.Common.{◌≡◌, Bool, List, Option, sym, subst}
 use Rattle.disk.specs.Device.{Device, IsUnchanged}
 use Rattle.journal.specs.Journal.{JournalView}
 use Rattle.kernel.specs.Kernel.{KernelView}

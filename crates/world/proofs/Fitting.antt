@@ -1,9 +1,9 @@
 -- An image that stands for enough changes is externally synchronous, and each that the journal admits is one.
-use Rattle.std.proofs.Common.{◌≡◌, ◌⊎◌, inl, inr, ⊎_elim, ℕ, ◌≤◌, Bool, true, false, List, [], ◌∷◌, length, take, set, Option, Some, None, refl, ap, sym, ◌∙◌, subst, arith, length-take}
+use Rattle.std.proofs.Common.{◌≡◌, inl, inr, ⊎_elim, ℕ, ◌≤◌, Bool, true, false, List, [], ◌∷◌, length, take, set, Option, Some, None, refl, ap, sym, ◌∙◌, subst, arith, length-take}
 use Rattle.std.specs.Prelude.{unwrap_or, IsTrue, IfSome}
 use Rattle.std.proofs.lemmas.List.{length-set}
 use Rattle.disk.specs.Device.{Device}
-use Rattle.journal.specs.Journal.{JournalView, Admits, LeavesAdmitted, with_batch}
+use Rattle.journal.specs.Journal.{JournalView, Admits, with_batch}
 use Rattle.journal.specs.declared.Next.TheVariants.{Commit}
 use Rattle.model.specs.Stream.{Octets}
 use Rattle.model.specs.Spool.{Spool}
@@ -22,7 +22,7 @@ use Rattle.served.specs.Served.{Sent, ServedView, IsServed, IsSession, account, 
 use Rattle.served.proofs.Lawful.{lawful}
 use Rattle.world.specs.World.{WorldView, kernel_of}
 use Rattle.world.specs.Images.{Fits, IsSynchronous, MayBeLeft}
-use Rattle.world.specs.Tied.{IsTied, IsWorld, IsQuiet, IsFlying, IsCommitted, LieBehind, Phase, Quiet, Flying, IsToBeTold, is_to_commit}
+use Rattle.world.specs.Tied.{IsTied, IsWorld, LieBehind, Phase, Quiet, Flying, IsToBeTold, is_to_commit}
 
 -- what was released to a session, also to one that never joined
 released_of : (host : Octets) (durable : ℕ) (sent : Option Sent) (seat : Option Seat) (connection : Connection Session) (outputs : List Output) → IsSession host durable sent seat connection outputs → IsReleased durable (unwrap_or sent nobody).released outputs

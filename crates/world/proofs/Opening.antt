@@ -1,8 +1,6 @@
 -- An opening, and what a crash during it might have left.
-use Rattle.std.proofs.Common.{◌≡◌, ◌≢◌, ◌⊎◌, inl, inr, ⊎_elim, ℕ, ◌≤◌, Bool, true, false, List, [], length, take, None, refl, ap, sym, ◌∙◌, subst, arith}
-use Rattle.std.specs.Prelude.{IsTrue, ◌-◌, slice_index_or}
-use Rattle.std.proofs.Common.{replicate}
-use Rattle.model.proofs.Strings.{counted_split, little_split}
+use Rattle.std.proofs.Common.{◌≡◌, ◌≢◌, ⊎_elim, ℕ, false, List, [], length, take, None, refl, ap, sym, ◌∙◌, subst, arith}
+use Rattle.std.specs.Prelude.{IsTrue, slice_index_or}
 use Rattle.std.proofs.lemmas.List.{take_all}
 use Rattle.disk.specs.Device.{Device}
 use Rattle.journal.specs.Journal.{Admits, JournalView}
@@ -13,6 +11,7 @@ use Rattle.journal.specs.declared.Next.TheVariants.{Commit, Idle}
 use Rattle.kernel.specs.Kernel.{KernelView}
 use Rattle.kernel.specs.Label.{IsNoLabel}
 use Rattle.kernel.specs.Opening.{IsDamaged, IsFresh, IsOpened, OnlyReads}
+use Rattle.kernel.proofs.OneSpool.{label_same}
 use Rattle.kernel.specs.declared.opening.OpenError.{OpenError}
 use Rattle.kernel.specs.declared.opening.OpenError.TheVariants as open_errors
 use Rattle.model.specs.Layout.{IsLabel}
@@ -23,10 +22,9 @@ use Rattle.model.specs.Volume.{StandsFor}
 use Rattle.served.specs.Events.{opens}
 use Rattle.served.specs.Served.{ServedView}
 use Rattle.world.specs.Fields.{IsSound}
-use Rattle.world.specs.Images.{KeepsSpools, StandsForNone}
+use Rattle.world.specs.Images.{IsDamagedVolume, IsNoNewsVolume, KeepsSpools, StandsForNone}
 use Rattle.world.specs.Opening.{IsNew, open_error}
 use Rattle.world.specs.Tied.{AreFaults, IsQuiet, Quiet, is_to_commit}
-use Rattle.world.specs.World.{WorldView}
 
 -- a volume's label and blocks are those of its image
 same_volume : (host image other its_label : Octets) (blocks : List Octets) (S : Spool) → StandsFor image its_label blocks → StandsFor other its_label blocks → Stands host image S → Stands host other S
@@ -82,58 +80,59 @@ stands_opened device first one kernel o k tells =
       held = k.holds;
     }
 
-pub none_volume : (content : Octets) → IsNoVolume content → StandsForNone content
-none_volume content never host S s = never s.label s.blocks s.volume
+pub no_volume : (content : Octets) → IsNoVolume content → IsNoNewsVolume content
+no_volume content never label blocks inodes host volume labelled = never label blocks volume
 
-pub none_label : {D : Type 0} (device : D → Device) (first : D) (one : JournalView D) → Opens device first one → IsNoLabel one.label one.size → IsTrue (device first).tells → StandsForNone (device first).content
-none_label device first one o never tells host S s =
+pub no_label : {D : Type 0} (device : D → Device) (first : D) (one : JournalView D) → Opens device first one → IsNoLabel one.label one.size → IsTrue (device first).tells → IsNoNewsVolume (device first).content
+no_label device first one o never tells label blocks inodes host volume labelled =
     let v = o.stands tells in
-    let label : s.label ≡ one.label = sym s.volume.has_label ∙ v.has_label in
-    let blocks : s.blocks ≡ one.blocks = sym s.volume.has_blocks ∙ v.has_blocks in
-    never s.inodes host (subst (λ (t : Octets × ℕ). IsLabel t.0 t.1 s.inodes host) (λ i. (label i, (ap length blocks ∙ (o.whole (subst IsTrue (sym o.time.tells) tells)).count) i)) s.labelled)
+    let its_label : label ≡ one.label = sym volume.has_label ∙ v.has_label in
+    let its_blocks : blocks ≡ one.blocks = sym volume.has_blocks ∙ v.has_blocks in
+    never inodes host (subst (λ (t : Octets × ℕ). IsLabel t.0 t.1 inodes host) (λ i. (its_label i, (ap length its_blocks ∙ (o.whole (subst IsTrue (sym o.time.tells) tells)).count) i)) labelled)
 
--- a label says one host and one number of inodes
-label_same : (label : Octets) (n inodes inodes' : ℕ) (host other : Octets) → IsLabel label n inodes host → IsLabel label n inodes' other → (inodes ≡ inodes') × (host ≡ other)
-label_same label n inodes inodes' host other a b =
-    let same = sym a.octets ∙ b.octets in
-    let parts = little_split 4 inodes inodes' _ _ (omega (arith, a.few)) (omega (arith, b.few)) same in
-    let hosts = counted_split host other (replicate (123 - length host) 0) (replicate (123 - length other) 0) parts.1 in
-    (parts.0, hosts.0)
-
-pub none_damaged : {D : Type 0} (device : D → Device) (first : D) (one : JournalView D) → Opens device first one → IsDamaged device one → IsTrue (device first).tells → StandsForNone (device first).content
-none_damaged device first one o d tells host S s =
+pub is_damaged : {D : Type 0} (device : D → Device) (first : D) (one : JournalView D) → Opens device first one → IsDamaged device one → IsTrue (device first).tells → IsDamagedVolume (device first).content
+is_damaged device first one o d tells =
     let tells_one : IsTrue (device one.disk).tells = subst IsTrue (sym o.time.tells) tells in
-    let v = o.stands tells in
-    let label : s.label ≡ one.label = sym s.volume.has_label ∙ v.has_label in
-    let blocks : s.blocks ≡ one.blocks = sym s.volume.has_blocks ∙ v.has_blocks in
-    let its_label : IsLabel one.label one.size s.inodes host = subst (λ (t : Octets × ℕ). IsLabel t.0 t.1 s.inodes host) (λ i. (label i, (ap length blocks ∙ (o.whole tells_one).count) i)) s.labelled in
-    let same = label_same one.label one.size s.inodes d.inodes host d.host its_label d.labelled in
-    d.holds_none tells_one S (subst (λ (t : Octets × ℕ × List Octets). Holds t.0 t.1 t.2 S) (λ i. (same.1 i, same.0 i, blocks i)) s.held)
+    record {
+      label = one.label;
+      blocks = one.blocks;
+      inodes = d.inodes;
+      host = d.host;
+      volume = o.stands tells;
+      labelled = subst (λ n. IsLabel one.label n d.inodes d.host) (sym (o.whole tells_one).count) d.labelled;
+      holds_none = d.holds_none tells_one;
+    }
 
--- a volume is missed only by the journal
-pub journal_missed : (e : JournalError) (r : OpenError) → r ≡ open_error e → (r ≡ open_errors.NotAVolume) ⊎ (r ≡ open_errors.Damaged) → e ≡ journal.NotAVolume
-journal_missed journal.Fault r is h = absurd (⊎_elim (λ (a : r ≡ open_errors.NotAVolume). fault_a (sym is ∙ a)) (λ (b : r ≡ open_errors.Damaged). fault_b (sym is ∙ b)) h)
-  where
-    fault_a : open_errors.Fault ≡ open_errors.NotAVolume → ⊥
-    fault_a e = absurd (cc e)
+-- neither stands for a spool
+pub none_unlabelled : (content : Octets) → IsNoNewsVolume content → StandsForNone content
+none_unlabelled content never host S s = never s.label s.blocks s.inodes host s.volume s.labelled
 
-    fault_b : open_errors.Fault ≡ open_errors.Damaged → ⊥
-    fault_b e = absurd (cc e)
-journal_missed journal.Memory r is h = absurd (⊎_elim (λ (a : r ≡ open_errors.NotAVolume). memory_a (sym is ∙ a)) (λ (b : r ≡ open_errors.Damaged). memory_b (sym is ∙ b)) h)
-  where
-    memory_a : open_errors.Memory ≡ open_errors.NotAVolume → ⊥
-    memory_a e = absurd (cc e)
+pub none_damaged : (content : Octets) → IsDamagedVolume content → StandsForNone content
+none_damaged content d host S s =
+    let label : s.label ≡ d.label = sym s.volume.has_label ∙ d.volume.has_label in
+    let blocks : s.blocks ≡ d.blocks = sym s.volume.has_blocks ∙ d.volume.has_blocks in
+    let its_label : IsLabel d.label (length d.blocks) s.inodes host = subst (λ (t : Octets × List Octets). IsLabel t.0 (length t.1) s.inodes host) (λ i. (label i, blocks i)) s.labelled in
+    let same = label_same d.label (length d.blocks) s.inodes d.inodes host d.host its_label d.labelled in
+    d.holds_none S (subst (λ (t : Octets × ℕ × List Octets). Holds t.0 t.1 t.2 S) (λ i. (same.1 i, same.0 i, blocks i)) s.held)
 
-    memory_b : open_errors.Memory ≡ open_errors.Damaged → ⊥
-    memory_b e = absurd (cc e)
-journal_missed journal.NotAVolume r is h = refl
-journal_missed journal.Halted r is h = absurd (⊎_elim (λ (a : r ≡ open_errors.NotAVolume). halted_a (sym is ∙ a)) (λ (b : r ≡ open_errors.Damaged). halted_b (sym is ∙ b)) h)
-  where
-    halted_a : open_errors.Memory ≡ open_errors.NotAVolume → ⊥
-    halted_a e = absurd (cc e)
+-- the journal's refusals, by what the opening answers
+pub journal_missed : (e : JournalError) (r : OpenError) → r ≡ open_error e → r ≡ open_errors.NotAVolume → e ≡ journal.NotAVolume
+journal_missed journal.Fault r is a = absurd (let both : open_errors.Fault ≡ open_errors.NotAVolume = sym is ∙ a in cc)
+journal_missed journal.Memory r is a = absurd (let both : open_errors.Memory ≡ open_errors.NotAVolume = sym is ∙ a in cc)
+journal_missed journal.NotAVolume r is a = refl
+journal_missed journal.Halted r is a = absurd (let both : open_errors.Memory ≡ open_errors.NotAVolume = sym is ∙ a in cc)
 
-    halted_b : open_errors.Memory ≡ open_errors.Damaged → ⊥
-    halted_b e = absurd (cc e)
+pub journal_finds_no_damage : (e : JournalError) (r : OpenError) → r ≡ open_error e → r ≢ open_errors.Damaged
+journal_finds_no_damage journal.Fault r is a = (let both : open_errors.Fault ≡ open_errors.Damaged = sym is ∙ a in cc)
+journal_finds_no_damage journal.Memory r is a = (let both : open_errors.Memory ≡ open_errors.Damaged = sym is ∙ a in cc)
+journal_finds_no_damage journal.NotAVolume r is a = (let both : open_errors.NotAVolume ≡ open_errors.Damaged = sym is ∙ a in cc)
+journal_finds_no_damage journal.Halted r is a = (let both : open_errors.Memory ≡ open_errors.Damaged = sym is ∙ a in cc)
+
+pub journal_lacked_memory : (e : JournalError) (r : OpenError) → r ≡ open_error e → e ≢ journal.Halted → r ≡ open_errors.Memory → e ≡ journal.Memory
+journal_lacked_memory journal.Fault r is runs a = absurd (let both : open_errors.Fault ≡ open_errors.Memory = sym is ∙ a in cc)
+journal_lacked_memory journal.Memory r is runs a = refl
+journal_lacked_memory journal.NotAVolume r is runs a = absurd (let both : open_errors.NotAVolume ≡ open_errors.Memory = sym is ∙ a in cc)
+journal_lacked_memory journal.Halted r is runs a = absurd (runs refl)
 
 -- ---- the new world
 

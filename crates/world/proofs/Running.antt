@@ -1,10 +1,10 @@
 -- Events done one after another.
-use Rattle.std.proofs.Common.{◌≡◌, ◌≢◌, ◌⊎◌, inl, inr, ⊎_elim, ℕ, zero, suc, ◌+◌, ◌≤◌, ◌<◌, Bool, true, false, List, [], ◌∷◌, ◌++◌, length, take, Option, Some, None, refl, ap, sym, ◌∙◌, subst, arith, length-take}
+use Rattle.std.proofs.Common.{◌≡◌, ◌≢◌, ⊎_elim, ℕ, zero, suc, ◌+◌, ◌≤◌, true, false, List, [], ◌∷◌, ◌++◌, take, Some, refl, ap, sym, ◌∙◌, subst, arith}
 use Rattle.std.specs.Prelude.{IsTrue, Result, Ok, Err, slice_get}
 use Rattle.disk.specs.Device.{Device}
 use Rattle.model.specs.Stream.{Octets}
 use Rattle.world.specs.Events.{Did, Went, for_memory, more, none}
-use Rattle.world.specs.Images.{EachSince, Fits, LeftFits}
+use Rattle.world.specs.Images.{EachNow, EachSince, Fits, LeftFits}
 use Rattle.world.specs.Tied.{IsWorld}
 use Rattle.world.specs.World.{WorldView}
 use Rattle.world.specs.declared.events.Answer.{Answer}
@@ -23,6 +23,7 @@ module _ {D : Type 0} (device : D → Device) where
   pub record Running (old now : WorldView D) (events : List Event) (i : ℕ) : Type 0 where
     pub went : Went device old (take i events) now
     pub world : IsWorld device now
+    pub now_fits : EachNow (device now.journal.disk) (Fits now)
     pub tells : (device now.journal.disk).tells ≡ (device old.journal.disk).tells
     pub later : (device old.journal.disk).clock ≤ (device now.journal.disk).clock
     pub during : EachSince (device old.journal.disk) (device now.journal.disk) (λ image. (j : ℕ) × (middle : WorldView D) × (j ≤ i) × Went device old (take j events) middle × Fits middle image)
@@ -32,6 +33,7 @@ module _ {D : Type 0} (device : D → Device) where
       record {
         went = none old;
         world = h;
+        now_fits = now_fits device old h;
         tells = refl;
         later = omega arith;
         during = λ tells image left. (0, old, omega arith, none old, now_fits device old h tells image (only_now old.journal.disk image tells left));
@@ -49,6 +51,7 @@ module _ {D : Type 0} (device : D → Device) where
       record {
         went = subst (λ es. Went device old es new) (sym (take_next events i event at)) (went_more old now new (take i events) event result h.went fine did);
         world = world;
+        now_fits = now_fits device new world;
         tells = on.0 ∙ h.tells;
         later = omega (arith, h.later, on.1);
         during = λ tells image left. ⊎_elim
@@ -61,6 +64,12 @@ module _ {D : Type 0} (device : D → Device) where
 pub running_refused : {D : Type 0} (device : D → Device) (old now new : WorldView D) (events : List Event) (i : ℕ) (event : Event) (result : Result Answer StepError) → Running device old now events i → result ≡ Err error.Memory → Did device now event result new → Running device old new events i
 running_refused device old now new events i event result h is did =
     subst (λ w. Running device old w events i) (sym (memory_stays device now new event (subst (λ r. Did device now event r new) is did))) h
+
+-- and may come again there
+pub refused_there : {D : Type 0} (device : D → Device) (now new : WorldView D) (event : Event) (result : Result Answer StepError) → result ≡ Err error.Memory → Did device now event result new → Did device new event (Err error.Memory) new
+refused_there device now new event result is did =
+    let refused : Did device now event (Err error.Memory) new = subst (λ r. Did device now event r new) is did in
+    subst (λ w. Did device w event (Err error.Memory) new) (sym (memory_stays device now new event refused)) refused
 
 -- whether memory was refused
 pub memory_is : (r : Result Answer StepError) → for_memory r ≡ true → r ≡ Err error.Memory

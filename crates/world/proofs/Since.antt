@@ -1,5 +1,5 @@
 -- What a crash at some moment of an event might have left.
-use Rattle.std.proofs.Common.{◌≡◌, ◌⊎◌, inl, inr, ⊎_elim, ℕ, ◌≤◌, Bool, true, false, List, [], ◌∷◌, ◌++◌, length, take, Option, Some, None, refl, ap, sym, ◌∙◌, subst, arith}
+use Rattle.std.proofs.Common.{◌≡◌, inl, inr, ⊎_elim, ℕ, ◌≤◌, Bool, true, false, length, Option, Some, None, refl, ap, sym, ◌∙◌, subst, arith}
 use Rattle.std.specs.Prelude.{IsTrue, MatchResult, Result, Ok, Err}
 use Rattle.disk.specs.Device.{Device}
 use Rattle.journal.specs.Calls.{MakesCall}
@@ -8,16 +8,16 @@ use Rattle.journal.specs.declared.JournalError.{JournalError}
 use Rattle.journal.specs.declared.Next.{Next}
 use Rattle.journal.specs.declared.Next.TheVariants as next
 use Rattle.journal.specs.declared.Progress.{Progress}
-use Rattle.kernel.specs.Kernel.{Refusal, Tested, TestedOrMemory, has_batch, mode_at}
+use Rattle.kernel.specs.Kernel.{Refusal, TestedOrMemory, has_batch, mode_at}
 use Rattle.model.specs.Stream.{Octets}
 use Rattle.model.specs.declared.message.Message.{Message}
 use Rattle.model.specs.declared.message.Mode.{Mode}
 use Rattle.served.specs.Events.{arrive_refusal, arrives}
 use Rattle.served.specs.Served.{ServedView, arrived_at, first_spool, next_of, released_at}
-use Rattle.world.specs.Events.{Did, DidDev, DidExec, DidTake, Steps, dev_answer, of_kernel}
+use Rattle.world.specs.Events.{Did, DidDev, DidExec, DidTake, dev_answer, of_kernel}
 use Rattle.world.specs.declared.events.Answer.TheVariants as answer
 use Rattle.journal.specs.declared.JournalError.TheVariants as journal
-use Rattle.world.specs.Images.{EachNow, EachSince, Fits, IsSynchronous, LeftFits, MayBeLeft}
+use Rattle.world.specs.Images.{EachSince, Fits, IsSynchronous, LeftFits, MayBeLeft}
 use Rattle.world.specs.Tied.{IsWorld}
 use Rattle.world.specs.World.{WorldView, kernel_of, with_served}
 use Rattle.world.specs.declared.events.Answer.{Answer}

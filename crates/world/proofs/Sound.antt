@@ -1,5 +1,5 @@
 -- What the fields keep, through each event.
-use Rattle.std.proofs.Common.{◌≡◌, ◌≢◌, ◌⊎◌, inl, inr, ⊎_elim, ℕ, ◌+◌, Bool, true, false, List, [], ◌∷◌, ◌++◌, length, Option, Some, None, refl, ap, sym, ◌∙◌, subst}
+use Rattle.std.proofs.Common.{◌≡◌, ◌≢◌, ◌⊎◌, inl, inr, ⊎_elim, ℕ, Bool, true, false, List, [], ◌∷◌, ◌++◌, length, Option, Some, None, refl, ap, sym, ◌∙◌, subst}
 use Rattle.std.proofs.lemmas.List.{append-nil}
 use Rattle.disk.specs.Device.{Device}
 use Rattle.journal.specs.Calls.{MakesCall}
@@ -14,7 +14,7 @@ use Rattle.journal.specs.declared.Progress.TheVariants.{Committed}
 use Rattle.kernel.specs.Kernel as refusal
 use Rattle.kernel.specs.declared.errors.ExecError.TheVariants as exec
 use Rattle.world.specs.declared.events.Answer.TheVariants as answer
-use Rattle.std.specs.Prelude.{drop, ◌||◌, ◌&&◌, not, is_none, nat_le, nat_lt, IfOk, map, option_map, slice_index_or, MatchResult, OnErr, OnOk, Result, Ok, Err}
+use Rattle.std.specs.Prelude.{drop, ◌||◌, ◌&&◌, not, is_none, nat_le, nat_lt, IfOk, map, option_map, slice_index_or, OnErr, OnOk, Result, Ok, Err}
 use Rattle.journal.specs.Journal.{IsReady, JournalView}
 use Rattle.journal.specs.declared.Next.TheVariants.{Descriptor}
 use Rattle.kernel.specs.Errors.{of_exec}
@@ -24,17 +24,16 @@ use Rattle.kernel.specs.declared.Ticket.{Ticket}
 use Rattle.kernel.specs.declared.errors.ExecError.{ExecError}
 use Rattle.model.specs.Stream.{Octets}
 use Rattle.model.specs.Volume.{laid_over}
-use Rattle.model.specs.declared.change.Change.{Change}
 use Rattle.model.specs.declared.message.Mark.{Mark}
 use Rattle.model.specs.declared.message.Message.{Message}
 use Rattle.model.specs.declared.message.Mode.{Mode}
-use Rattle.served.specs.Events.{Makes, Serves, DidExec as ServedExec, arrives, joins, leaves, releases, with_kernel}
+use Rattle.served.specs.Events.{DidExec as ServedExec, releases, with_kernel}
 use Rattle.served.specs.Served.{ServedView}
 use Rattle.world.specs.Events.{DidExec, Steps, begun, commits, exec_answer, fails, news_of, of_exec_error, of_kernel, told}
 use Rattle.world.specs.Fields.{IsSound, durable_news, failed_news, news_in}
 use Rattle.world.specs.Tied.{AreFaults, IsTied, Phase, Quiet, Flying, IsToBeTold, is_to_commit}
 use Rattle.world.specs.World.{IsDurable, HasFailed, News, WorldView, kernel_of, with_served}
-use Rattle.world.proofs.Tying.{Grows, Grows-administers, Grows-executed, Grows-refl, IsTied-grows, IsTied-steps, IsTied-takes, IsTied-told_durable, IsTied-told_failed, batch_parts}
+use Rattle.world.proofs.Tying.{Grows, Grows-executed, Grows-refl, IsTied-grows, IsTied-steps, IsTied-takes, IsTied-told_durable, IsTied-told_failed, batch_parts}
 
 -- ---- the sessions and the kernel's changes go on
 

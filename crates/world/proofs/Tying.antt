@@ -1,19 +1,17 @@
 -- Each event keeps the tie between journal and kernel.
-use Rattle.std.proofs.Common.{◌≡◌, ◌≢◌, ◌⊎◌, inl, inr, ⊎_elim, ℕ, ◌+◌, ◌≤◌, ◌<◌, ◌==◌, Bool, true, false, List, [], ◌∷◌, ◌++◌, length, take, get_or, Option, Some, None, refl, ap, sym, ◌∙◌, subst, arith, length-append}
-use Rattle.std.specs.Prelude.{bytes_eq, slice_index_or, not, ◌||◌, is_some, IsTrue, IsNone, map, if◌then◌else◌, Result, Ok, Err}
+use Rattle.std.proofs.Common.{◌≡◌, ◌⊎◌, inl, inr, ⊎_elim, ℕ, ◌+◌, ◌≤◌, ◌<◌, ◌==◌, Bool, true, false, List, [], ◌∷◌, ◌++◌, length, take, Option, Some, None, refl, ap, sym, ◌∙◌, subst, arith}
+use Rattle.std.specs.Prelude.{bytes_eq, slice_index_or, not, ◌||◌, is_some, IsTrue, map, if◌then◌else◌, Result, Ok, Err}
 use Rattle.std.specs.Option.{option_to_list}
 use Rattle.std.proofs.lemmas.List.{append-nil, take-append-le, take_all}
 use Rattle.std.proofs.lemmas.Slice.Eq.{bytes_eq-Decides}
 use Rattle.disk.specs.Device.{Device}
 use Rattle.journal.specs.Calls.{MakesCall, blocks_after}
-use Rattle.journal.specs.Journal.{JournalView, IsIdle, IsReady, with_batch}
+use Rattle.journal.specs.Journal.{JournalView, IsReady, with_batch}
 use Rattle.journal.specs.Order.{answer, at_fault, following}
 use Rattle.journal.specs.declared.JournalError.{JournalError}
-use Rattle.journal.specs.declared.JournalError.TheVariants as journal_error
 use Rattle.journal.specs.declared.Next.{Next}
 use Rattle.journal.specs.declared.Next.TheVariants as next
 use Rattle.journal.specs.declared.Progress.{Progress}
-use Rattle.journal.specs.declared.Progress.TheVariants.{Working, Committed}
 use Rattle.kernel.specs.Kernel.{KernelView, Seat, AgreesBehind, Dirties, Executed, Administers, has_batch, halted_for_good, is_dirty, made_durable, taken}
 use Rattle.kernel.specs.Kept.{IsKept}
 use Rattle.model.specs.Layout.{IsLabel}
@@ -28,7 +26,7 @@ use Rattle.served.specs.Served.{ServedView}
 use Rattle.served.specs.Events.{with_kernel}
 use Rattle.world.specs.World.{News, IsDurable, HasFailed, WorldView, kernel_of, with_served}
 use Rattle.world.specs.Events.{begun, news_of, Steps}
-use Rattle.world.specs.Tied.{AreFaults, IsTied, IsQuiet, IsFlying, IsCommitted, LieBehind, Phase, Quiet, Flying, IsToBeTold, is_to_commit}
+use Rattle.world.specs.Tied.{AreFaults, IsTied, IsQuiet, IsFlying, LieBehind, Phase, Quiet, Flying, IsToBeTold, is_to_commit}
 use Rattle.world.proofs.Fitting.{flying_last}
 
 -- ---- the kernel accepts more

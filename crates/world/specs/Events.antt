@@ -3,7 +3,7 @@ use Rattle.std.specs.List.{list_all}
 use Rattle.model.specs.Calendar.{moment_limit}
 use Rattle.model.specs.Lawful.{is_description_octet}
 use Rattle.model.specs.Names.{is_group_name}
-use Rattle.std.specs.Prelude.{◌⊎◌, ◌<◌, ◌≤◌, IsTrue, ◌≡◌, ◌≢◌, ℕ, ◌+◌, Bool, true, false, List, [], ◌∷◌, ◌++◌, length, drop, map, slice_index_or, Option, Some, None, is_none, Result, Ok, Err, MatchResult}
+use Rattle.std.specs.Prelude.{◌⊎◌, ◌<◌, ◌≤◌, IsTrue, ◌≡◌, ◌≢◌, ℕ, ◌+◌, Bool, true, false, List, [], ◌∷◌, ◌++◌, length, drop, map, slice_index_or, Option, Some, None, Result, Ok, Err, MatchResult}
 use Rattle.disk.specs.Device.{Device}
 use Rattle.journal.specs.Calls.{MakesCall}
 use Rattle.journal.specs.Journal.{IsIdle, IsReady, JournalView}
@@ -25,7 +25,6 @@ use Rattle.served.specs.declared.errors.ArriveError.TheVariants as arrive
 use Rattle.model.specs.News.{is_full}
 use Rattle.model.specs.Spool.{is_here}
 use Rattle.model.specs.Stream.{Octets}
-use Rattle.model.specs.declared.change.Change.{Change}
 use Rattle.model.specs.declared.change.Change.TheVariants.{Group}
 use Rattle.model.specs.declared.message.Mark.{Mark}
 use Rattle.model.specs.declared.message.Message.{Message}

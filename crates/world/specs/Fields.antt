@@ -1,5 +1,5 @@
 -- What the fields of the code stand for, and what they keep.
-use Rattle.std.specs.Prelude.{◌≡◌, ℕ, Bool, true, false, List, [], ◌∷◌, ◌++◌, Option, Some, None, option_map}
+use Rattle.std.specs.Prelude.{◌≡◌, Bool, true, false, List, [], ◌∷◌, ◌++◌, Option, Some, None, option_map}
 use Rattle.kernel.specs.declared.Ticket.{Ticket}
 use Rattle.world.specs.Tied.{IsTied}
 use Rattle.world.specs.World.{HasFailed, IsDurable, News, WorldView, kernel_of}

@@ -1,5 +1,5 @@
 -- What an opening answers.
-use Rattle.std.specs.Prelude.{◌≡◌, ℕ, None, [], false, length}
+use Rattle.std.specs.Prelude.{◌≡◌, None, [], false, length}
 use Rattle.journal.specs.declared.JournalError.{JournalError}
 use Rattle.journal.specs.declared.JournalError.TheVariants as journal
 use Rattle.kernel.specs.declared.opening.OpenError.{OpenError}

@@ -1,5 +1,5 @@
 -- What ties the journal to the kernel.
-use Rattle.std.specs.Prelude.{◌≡◌, ℕ, Bool, true, false, IsTrue, List, [], ◌∷◌, length, take, Option, Some, None}
+use Rattle.std.specs.Prelude.{◌≡◌, ℕ, Bool, true, false, IsTrue, List, [], ◌∷◌, length, take, Some, None}
 use Rattle.disk.specs.Device.{Device}
 use Rattle.journal.specs.Journal.{JournalView, LeavesAdmitted, with_batch}
 use Rattle.journal.specs.declared.Next.{Next}
@@ -9,7 +9,7 @@ use Rattle.kernel.specs.Kept.{IsKept}
 use Rattle.model.specs.Stream.{Octets}
 use Rattle.model.specs.Layout.{IsLabel}
 use Rattle.model.specs.News.{Holds}
-use Rattle.served.specs.Served.{IsServed}
+use Rattle.served.specs.Served.{FollowsPlain, IsServed}
 use Rattle.world.specs.World.{News, IsDurable, HasFailed, WorldView, kernel_of}
 
 -- whether the batch whose call this is still has to be committed
@@ -69,9 +69,10 @@ pub record IsTied (tells : Bool) {D : Type 0} (world : WorldView D) : Type 0 whe
   pub size : world.journal.size ≡ length (kernel_of world).blocks
   pub phase : Phase tells world.journal (kernel_of world) world.untold
 
--- What the whole system keeps, whatever happens: what is served stands beside the plain server, the kernel keeps what its lock
+-- What the whole system keeps, whatever happens: what is served is what the plain server serves, the kernel keeps what its lock
 -- keeps, the journal is tied to the kernel, and admits what a crash may leave.
 pub record IsWorld {D : Type 0} (device : D → Device) (world : WorldView D) : Type 0 where
+  pub plain : FollowsPlain world.served
   pub served : IsServed world.served
   pub kernel : IsKept (kernel_of world)
   pub tied : IsTied (device world.journal.disk).tells world

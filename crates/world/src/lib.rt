@@ -17,7 +17,7 @@ ghost use Rattle.served.specs.Served.{arrived_at, next_of, released_at};
 ghost use Rattle.world.specs.Events.{Did, DidDev, DidExec, DidTake, MayHappen, Went, commits, dev_answer, exec_answer, fails, for_memory, of_admin_error, of_arrive_error, of_join_error, of_kernel, told};
 ghost use Rattle.world.specs.Fields.{durable_news};
 ghost use Rattle.model.specs.News.{Stands};
-ghost use Rattle.world.specs.Images.{EachNow, EachSince, Fits, KeepsSpools, LeftFits, StandsForNone};
+ghost use Rattle.world.specs.Images.{EachNow, EachSince, Fits, IsDamagedVolume, IsNoNewsVolume, KeepsSpools, LeftFits, StandsForNone};
 ghost use Rattle.world.specs.Opening.{IsNew, open_error};
 ghost use Rattle.world.specs.Tied.{IsWorld};
 ghost use Rattle.world.specs.World.{WorldView, kernel_of, with_served};
@@ -81,14 +81,19 @@ impl<D: Disk> World<D> {
 
     /// Opens what stands on the device: all its changes are durable, and nothing has happened yet. A crash during it leaves
     /// a disk that stands for the spool of an image that a crash at its start might have left. A refusal hands the device back:
-    /// `Fault` (E1) where the device failed, `Memory` (E2), `NotAVolume` (E3) and `Damaged` (E5) where it stands for no spool.
+    /// `Fault` (E1) where the device failed, `Memory` (E2) where it did not, `NotAVolume` (E3) where no volume with a label of its
+    /// size stands there, and `Damaged` (E5) where one does, and holds no lawful spool of the label's host.
     pub fn open(alloc: Global, disk: D) -> Result<World<D>, Refused<D>>
         ensures new { IfOk result (λ w. IsNew w) }
         ensures spool { IsTrue (D.device disk).tells → IfOk result (λ w. Stands (kernel_of w).host (D.device disk).content (kernel_of w).spool) }
         ensures during { MatchResult result (λ w. KeepsSpools (D.device disk) (D.device w.journal.disk)) (λ refused. KeepsSpools (D.device disk) (D.device refused.disk)) }
         ensures keeps { IfOk result (λ w. IsWorld D.device w) }
         ensures now { IfOk result (λ w. EachNow (D.device w.journal.disk) (Fits w)) }
+        ensures still { IfOk result (λ w. (D.device w.journal.disk).failures ≡ (D.device disk).failures) }
         ensures fault { IfErr result (λ refused. refused.error ≡ OpenError.Fault → (D.device refused.disk).failures ≢ (D.device disk).failures) }
+        ensures memory { IfErr result (λ refused. refused.error ≡ OpenError.Memory → (D.device refused.disk).failures ≡ (D.device disk).failures) }
+        ensures no_volume { IfErr result (λ refused. refused.error ≡ OpenError.NotAVolume → IsTrue (D.device disk).tells → IsNoNewsVolume (D.device disk).content) }
+        ensures damaged { IfErr result (λ refused. refused.error ≡ OpenError.Damaged → IsTrue (D.device disk).tells → IsDamagedVolume (D.device disk).content) }
         ensures no_spool { IfErr result (λ refused. (refused.error ≡ OpenError.NotAVolume) ⊎ (refused.error ≡ OpenError.Damaged) → IsTrue (D.device disk).tells → StandsForNone (D.device disk).content) }
     {
         let mut journal = match Journal::open(alloc, disk) {
@@ -148,16 +153,18 @@ impl<D: Disk> World<D> {
         result
     }
 
-    /// One event after another, those refused passed over; at a refusal for memory it stops before that event. Answers how many
-    /// events it went through. A crash at any moment leaves a disk that is externally synchronous with what stood after some
+    /// One event after another, those refused passed over; only at a refusal for memory it stops before that event. Answers how
+    /// many events it went through. A crash at any moment leaves a disk that is externally synchronous with what stood after some
     /// of them, and one behind the last with what stands then.
     pub fn run(&mut self, alloc: Global, events: &[Event]) -> u64
         requires { (k : ℕ) (event : ItsEvent) → slice_get events.now k ≡ Some event → MayHappen event }
         ensures count { result ≤ length events.now }
         ensures went { Went D.device self.old (take result events.now) self.new }
+        ensures stops { result < length events.now → (event : ItsEvent) × (slice_get events.now result ≡ Some event) × Did D.device self.new event (Err StepError.Memory) self.new }
         ensures during { EachSince (D.device self.old.journal.disk) (D.device self.new.journal.disk)
             (λ image. (j : ℕ) × (middle : WorldView D) × (j ≤ result) × Went D.device self.old (take j events.now) middle × Fits middle image) }
         ensures now { EachNow (D.device self.new.journal.disk) (Fits self.new) }
+        ensures keeps { IsWorld D.device self.new }
     {
         self.kept();
         for place in 0..events.len() {

@@ -1,4 +1,4 @@
-use Rattle.std.proofs.Common.{◌≡◌, ◌<◌, ◌≤◌, inl, inr, refl, ap, sym, subst, ◌∙◌, arith, rules}
+use Rattle.std.proofs.Common.{◌≡◌, ◌<◌, ◌≤◌, inr, refl, ap, sym, subst, ◌∙◌, arith}
 use Rattle.model.specs.declared.change.Change.TheVariants.{Group}
 use Rattle.std.proofs.lemmas.Bool.{lt-ltb}
 use Rattle.std.specs.Prelude.{Bool, true, false, nat_lt, length, Some, None}

@@ -1,13 +1,11 @@
-use Rattle.std.proofs.Common.{◌≡◌, ◌<◌, List, Bool, true, false, length, refl, ap, sym, subst, ◌∙◌, arith}
+use Rattle.std.proofs.Common.{◌≡◌, List, true, false, length, refl, ap, sym, subst, ◌∙◌, arith}
 use Rattle.std.specs.Prelude.{Option, Some, None, IsSome, is_none, not, ◌&&◌, nat_le, nat_lt, slice_get}
-use Rattle.std.proofs.lemmas.Bool.{lt-ltb}
 use Rattle.model.specs.Service.{mode_of}
 use Rattle.model.specs.declared.message.Mode.{Mode}
 use Rattle.model.specs.declared.message.Mark.TheVariants as mark
 use Rattle.outbox.specs.Queue.{buffered as octets_held}
 use Rattle.spool.specs.View.{SpoolView}
-use Rattle.kernel.specs.Kernel.{FitsMode, KernelView, answered_by, LaterDirty, LaterOut, NoSession, Seat, buffered, exec_refusal, is_block, mode_at}
-use Rattle.kernel.specs.Kept.{IsKept}
+use Rattle.kernel.specs.Kernel.{FitsMode, KernelView, answered_by, LaterDirty, LaterOut, NoSession, Seat, buffered, is_block, mode_at}
 use Rattle.kernel.specs.Serving.{Grows, answer_in, mark_in}
 use Rattle.kernel.specs.Stored.{kernel_of}
 use Rattle.kernel.specs.declared.errors.ExecError.TheVariants as exec

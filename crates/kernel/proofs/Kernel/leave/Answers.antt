@@ -1,4 +1,4 @@
-use Rattle.std.proofs.Common.{◌≡◌, ◌++◌, List, suc, take, drop, ap, refl, sym, subst, ◌∙◌}
+use Rattle.std.proofs.Common.{◌≡◌, List, ap, refl, sym, subst, ◌∙◌}
 use Rattle.std.specs.Prelude.{Some, None, ◌==◌, filter, find, not, slice_get}
 use Rattle.kernel.specs.Kept.{IsKept}
 use Rattle.kernel.specs.Kernel.{KernelView, Seat, left}

@@ -1,5 +1,5 @@
 use Rattle.std.proofs.Common.{◌≡◌, List, ap, sym, subst, ◌∙◌}
-use Rattle.std.specs.Prelude.{Some, None, slice_get}
+use Rattle.std.specs.Prelude.{Some, slice_get}
 use Rattle.kernel.specs.Kernel.{KernelView, Seat, mode_at}
 use Rattle.kernel.specs.Stored.{kernel_of}
 use Rattle.kernel.proofs.KernelLaws.{mode_found, same_place}

@@ -1,4 +1,4 @@
-use Rattle.std.proofs.Common.{◌≡◌, ◌≢◌, length, subst, sym, ◌∙◌}
+use Rattle.std.proofs.Common.{◌≢◌, length, subst, ◌∙◌}
 use Rattle.std.specs.Prelude.{Some}
 use Rattle.model.specs.Volume.{blocks_from}
 use Rattle.kernel.specs.Kernel.{KernelView, Takes}

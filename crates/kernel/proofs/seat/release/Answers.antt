@@ -1,7 +1,7 @@
-use Rattle.std.proofs.Common.{◌≡◌, ◌<◌, ◌+◌, ◌++◌, List, length, set, get_or, take, drop, suc, ap, sym, subst, ◌∙◌, arith, rules, add-one}
+use Rattle.std.proofs.Common.{◌≡◌, ◌<◌, ◌++◌, List, length, set, get_or, take, drop, suc, ap, sym, subst, ◌∙◌, arith, rules, add-one}
 use Rattle.std.proofs.lemmas.List.{drop-set-lt, take-set}
-use Rattle.outbox.specs.Queue.{Entry, entry_of}
-use Rattle.kernel.specs.Kernel.{Seat, given_of, seat_given}
+use Rattle.outbox.specs.Queue.{Entry}
+use Rattle.kernel.specs.Kernel.{Seat}
 use Rattle.kernel.proofs.Rest.{IsRest, rest_ended, rest_stays}
 use Rattle.kernel.proofs.seat.release.Goals as goal
 

@@ -1,6 +1,4 @@
-use Rattle.std.proofs.Common.{◌≡◌, ◌≤◌, ◌<◌, ◌+◌, ◌-◌, ◌++◌, length, take, drop}
-use Rattle.outbox.specs.Queue.{octets_in}
-use Rattle.kernel.specs.Kernel.{ready}
+use Rattle.std.proofs.Common.{◌-◌, length}
 use Rattle.kernel.proofs.Rest.{IsRest}
 use Rattle.kernel.proofs.seat.release.Given as goal
 

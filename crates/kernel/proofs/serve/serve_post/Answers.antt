@@ -1,5 +1,4 @@
 use Rattle.std.proofs.Common.{◌≡◌, ◌≢◌, sym, ap, ◌∙◌}
-use Rattle.model.specs.declared.session.Awaits.TheVariants as awaits
 use Rattle.kernel.specs.declared.serve.Reply.{Reply}
 use Rattle.kernel.proofs.ServeLaws.{post_not_an_article, post_accepted, post_full, post_refused, full_refusal, other_refusal}
 use Rattle.std.proofs.Common.{subst}

@@ -1,6 +1,5 @@
-use Rattle.std.proofs.Common.{◌≡◌, ◌∙◌, ap, sym, rules, tests, ◌==◌}
+use Rattle.std.proofs.Common.{◌≡◌, ◌∙◌, sym, rules, tests, ◌==◌}
 use Rattle.std.specs.List.{position}
-use Rattle.std.specs.Prelude.{option_map}
 use Rattle.std.proofs.lemmas.Iterator.{YieldsList-from_slice}
 use Rattle.std.proofs.lemmas.Iterator.Search.{position_from_yields_List}
 use Rattle.script.proofs.Cuts.{parted, unparted}

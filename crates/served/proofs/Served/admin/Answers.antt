@@ -1,4 +1,4 @@
-use Rattle.std.proofs.Common.{ap, ◌++◌, ◌∷◌, [], ◌∙◌, refl}
+use Rattle.std.proofs.Common.{◌++◌, ◌∷◌, [], ◌∙◌, refl}
 use Rattle.served.specs.Fields.{inputs, sents}
 use Rattle.served.specs.Served.{ServedView}
 use Rattle.served.proofs.Sound.{sound_makes}

@@ -1,5 +1,5 @@
-use Rattle.std.proofs.Common.{◌≡◌, ap, ◌∙◌, sym, refl, Option, Some, false, rules}
-use Rattle.std.specs.Prelude.{is_err, is_some, Ok, Result}
+use Rattle.std.proofs.Common.{◌≡◌, ◌∙◌, sym, refl, Some, false, rules}
+use Rattle.std.specs.Prelude.{is_err}
 use Rattle.kernel.specs.Kernel.{mode_at}
 use Rattle.served.specs.Events.{arrives}
 use Rattle.served.specs.Fields.{inputs, sents}

@@ -1,21 +1,17 @@
-use Rattle.std.proofs.Common.{◌≡◌, ap, ◌∙◌, sym, refl, subst, Option, Some, None, true, false, arith, length, rules, ◌++◌, ◌∷◌, [], ◌≤◌}
-use Rattle.std.specs.Prelude.{not, MatchOption, Ok, Err, Result}
+use Rattle.std.proofs.Common.{◌≡◌, ap, ◌∙◌, sym, refl, subst, Option, Some, None, arith, ◌++◌, ◌∷◌, []}
+use Rattle.std.specs.Prelude.{Ok, Err, Result}
 use Rattle.std.proofs.lemmas.Result.{err_from_is_err_and}
 use Rattle.kernel.specs.Errors.{of_exec}
-use Rattle.kernel.specs.Kernel.{mode_at, exec_refusal, Execs, KernelView}
+use Rattle.kernel.specs.Kernel.{mode_at, exec_refusal}
 use Rattle.kernel.specs.declared.errors.ExecError.{ExecError}
 use Rattle.kernel.specs.declared.errors.ExecError.TheVariants.{Memory}
-use Rattle.model.specs.declared.message.Message.{Message}
 use Rattle.model.specs.declared.message.Mark.{Mark}
 use Rattle.model.specs.declared.message.Mode.{Mode}
-use Rattle.model.specs.Stream.{next}
-use Rattle.synchrony.specs.Server.{Command}
-use Rattle.served.specs.Events.{Serves}
-use Rattle.served.specs.Fields.{inputs, sents, IsSound}
+use Rattle.served.specs.Fields.{inputs, sents}
 use Rattle.served.specs.Input.{Found}
 use Rattle.served.specs.Served.{ServedView, account, next_of}
 use Rattle.served.proofs.Peers.{same-length}
-use Rattle.served.proofs.Sound.{DidAt, FoundThere, IsSound-along, did_none, did_refused, did_serve, found_message, found_some, look_none, look_some, next_by_mode, mode_there, sound_found, sound_serves, tested_err, tested_ok, there_numbered}
+use Rattle.served.proofs.Sound.{DidAt, IsSound-along, did_none, did_refused, did_serve, found_message, found_some, look_none, look_some, next_by_mode, mode_there, sound_found, sound_serves, tested_err, tested_ok, there_numbered}
 use Rattle.served.proofs.Served.exec.Goals as goal
 
 pub invariant_of-self-then-not-is_found : goal.invariant_of-self-then-not-is_found

@@ -1,12 +1,11 @@
-use Rattle.std.proofs.Common.{◌≡◌, ap, ◌++◌, ◌∷◌, [], ◌∙◌, refl, List}
+use Rattle.std.proofs.Common.{◌≡◌, ap, ◌++◌, ◌∷◌, [], ◌∙◌, List}
 use Rattle.std.proofs.lemmas.List.{map-append}
 use Rattle.kernel.specs.Errors.{of_join}
-use Rattle.kernel.specs.Kernel.{join_refusal, joined, KernelView}
+use Rattle.kernel.specs.Kernel.{join_refusal, joined}
 use Rattle.kernel.specs.declared.errors.JoinError.TheVariants.{Memory}
 use Rattle.served.specs.Events.{joins}
 use Rattle.served.specs.Fields.{inputs, sent_of, sents}
 use Rattle.served.specs.Served.{Sent, ServedView, nobody}
-use Rattle.served.specs.declared.input.Input.{Input}
 use Rattle.served.specs.declared.peer.Peer.{Peer}
 use Rattle.served.proofs.Sound.{IsSound-along, sound_joins, tested_ok}
 use Rattle.served.proofs.Served.join.Goals as goal

@@ -1,5 +1,4 @@
-use Rattle.std.proofs.Common.{◌≡◌, ap, ◌∙◌, sym, refl, subst, Option, Some, None, true, false, arith, length, rules}
-use Rattle.std.specs.Prelude.{is_some}
+use Rattle.std.proofs.Common.{◌≡◌, ◌∙◌, sym, subst, None, arith}
 use Rattle.kernel.specs.Kernel.{seat_of}
 use Rattle.served.specs.Events.{leaves}
 use Rattle.served.specs.Fields.{inputs, sents}

@@ -1,5 +1,4 @@
-use Rattle.std.proofs.Common.{◌≡◌, ap, ◌∙◌, sym, refl, subst, List, ℕ, length}
-use Rattle.kernel.specs.Kernel.{ready}
+use Rattle.std.proofs.Common.{◌∙◌, sym, subst, List, length}
 use Rattle.outbox.specs.Queue.{Entry}
 use Rattle.served.specs.Events.{releases, with_released}
 use Rattle.served.specs.Fields.{AreKnown, HaveRoom, given_in, inputs, sents}

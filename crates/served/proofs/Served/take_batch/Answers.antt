@@ -1,4 +1,3 @@
-use Rattle.std.proofs.Common.{sym, subst}
 use Rattle.served.specs.Fields.{inputs, sents}
 use Rattle.served.specs.Served.{ServedView}
 use Rattle.served.proofs.Peers.{IfSome-map}

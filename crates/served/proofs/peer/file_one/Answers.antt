@@ -1,5 +1,5 @@
 use Rattle.std.proofs.Common.{◌≡◌, ap, ◌∙◌, sym, refl, true, ◌++◌, ◌+◌, length}
-use Rattle.std.specs.Prelude.{Ok, Err, Result, is_ok, vec_len, if◌then◌else◌}
+use Rattle.std.specs.Prelude.{is_ok, vec_len, if◌then◌else◌}
 use Rattle.served.specs.Served.{Sent, with_numbered}
 use Rattle.served.specs.Fields.{sents}
 use Rattle.served.proofs.Peers.{AtPeer, at_peer, keeps_input, sent_here}

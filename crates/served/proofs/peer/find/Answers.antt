@@ -1,5 +1,5 @@
-use Rattle.std.proofs.Common.{◌≡◌, ap, ◌∙◌, sym, refl}
-use Rattle.served.proofs.Peers.{AtPeer, at_peer, keeps_sent, keeps_input, input_becomes, IfOk-map}
+use Rattle.std.proofs.Common.{refl}
+use Rattle.served.proofs.Peers.{AtPeer, at_peer, keeps_sent, input_becomes, IfOk-map}
 use Rattle.served.proofs.peer.find.Goals as goal
 
 pub find-requires : goal.find-requires

@@ -1,5 +1,5 @@
-use Rattle.std.proofs.Common.{◌≡◌, ap, ◌∙◌, sym, refl}
-use Rattle.served.proofs.Peers.{AtPeer, at_peer, keeps_sent, input_becomes}
+use Rattle.std.proofs.Common.{refl}
+use Rattle.served.proofs.Peers.{at_peer, keeps_sent, input_becomes}
 use Rattle.served.proofs.peer.forget.Goals as goal
 
 pub returns-clause-sent : goal.returns-clause-sent

@@ -1,6 +1,5 @@
-use Rattle.std.proofs.Common.{◌≡◌, Option, Some, None, ap, ◌∙◌, sym, refl, subst, rules}
+use Rattle.std.proofs.Common.{◌≡◌, Some, None, ◌∙◌, sym, subst, rules}
 use Rattle.std.specs.Prelude.{MatchOption}
-use Rattle.model.specs.declared.message.Message.{Message}
 use Rattle.served.specs.declared.input.Input.{Input}
 use Rattle.served.proofs.Peers.{AtPeer, at_peer}
 use Rattle.served.proofs.peer.found.Goals as goal

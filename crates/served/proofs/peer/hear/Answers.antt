@@ -1,4 +1,4 @@
-use Rattle.std.proofs.Common.{◌≡◌, ap, ◌∙◌, sym, refl, ◌++◌}
+use Rattle.std.proofs.Common.{ap, ◌∙◌, sym, ◌++◌}
 use Rattle.served.specs.Served.{Sent, with_numbered}
 use Rattle.served.specs.Fields.{sents}
 use Rattle.served.proofs.Peers.{AtPeer, at_peer, keeps_input, keeps_sent, input_becomes, sent_here, OnOk-map, OnErr-map}

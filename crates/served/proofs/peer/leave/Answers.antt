@@ -1,5 +1,5 @@
-use Rattle.std.proofs.Common.{◌≡◌, ap, ◌∙◌, sym, refl, true}
-use Rattle.served.specs.Served.{Sent, sent_at, with_numbered}
+use Rattle.std.proofs.Common.{ap, ◌∙◌, sym, refl, true}
+use Rattle.served.specs.Served.{Sent, with_numbered}
 use Rattle.served.specs.Fields.{sents}
 use Rattle.served.proofs.Peers.{AtPeer, at_peer, keeps_input, sent_here}
 use Rattle.served.proofs.peer.leave.Goals as goal

@@ -1,4 +1,4 @@
-use Rattle.std.proofs.Common.{◌≡◌, ◌≤◌, ap, ◌∙◌, sym, refl, length, arith}
+use Rattle.std.proofs.Common.{ap, ◌∙◌, sym, arith}
 use Rattle.served.specs.Served.{Sent}
 use Rattle.served.proofs.Peers.{AtPeer, at_peer, sent_here}
 use Rattle.served.proofs.peer.released.Goals as goal

@@ -1,5 +1,5 @@
-use Rattle.std.proofs.Common.{◌≡◌, ap, ◌∙◌, sym, refl}
-use Rattle.served.proofs.Peers.{AtPeer, at_peer, keeps_input, keeps_sent, OnOk-map}
+use Rattle.std.proofs.Common.{refl}
+use Rattle.served.proofs.Peers.{at_peer, keeps_input, keeps_sent, OnOk-map}
 use Rattle.served.proofs.Room.{room_here, room_stays}
 use Rattle.served.proofs.peer.reserve.Goals as goal
 

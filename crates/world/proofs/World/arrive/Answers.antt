@@ -1,4 +1,4 @@
-use Rattle.std.proofs.Common.{◌≡◌, ap, ◌∙◌, sym, refl}
+use Rattle.std.proofs.Common.{ap}
 use Rattle.served.specs.Served.{ServedView}
 use Rattle.world.specs.Fields.{news_in}
 use Rattle.world.specs.World.{WorldView, kernel_of}

@@ -1,9 +1,7 @@
-use Rattle.std.proofs.Common.{◌≡◌, ap, ◌∙◌, sym, refl, subst, true, rules, List, ℕ}
-use Rattle.served.specs.Served.{ServedView}
+use Rattle.std.proofs.Common.{◌∙◌, refl, subst}
 use Rattle.world.specs.Fields.{news_in}
-use Rattle.world.specs.World.{WorldView, kernel_of}
-use Rattle.std.specs.Prelude.{Bool, ◌++◌, ◌||◌}
-use Rattle.world.specs.Events.{DidDev, Steps, commits, fails, news_of}
+use Rattle.world.specs.World.{WorldView}
+use Rattle.world.specs.Events.{DidDev, Steps}
 use Rattle.world.proofs.Sound.{dev_news, sound_dev}
 use Rattle.world.proofs.World.dev.Goals as goal
 

@@ -1,5 +1,4 @@
-use Rattle.std.proofs.Common.{◌≡◌, ap, ◌∙◌, sym, refl}
-use Rattle.served.specs.Served.{ServedView}
+use Rattle.std.proofs.Common.{sym}
 use Rattle.world.specs.Fields.{news_in}
 use Rattle.world.specs.World.{WorldView, kernel_of}
 use Rattle.kernel.specs.Kernel.{mode_at}

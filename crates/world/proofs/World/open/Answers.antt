@@ -1,29 +1,48 @@
-use Rattle.std.proofs.Common.{◌≡◌, ◌⊎◌, ⊎_elim, ap, ◌∙◌, sym, refl, subst}
-use Rattle.std.specs.Prelude.{IsTrue}
+use Rattle.std.proofs.Common.{◌≡◌, ⊎_elim, ap, sym, subst}
 use Rattle.kernel.specs.declared.opening.OpenError.TheVariants.{NotAVolume, Damaged}
 use Rattle.model.specs.News.{Stands}
 use Rattle.served.specs.Served.{ServedView}
 use Rattle.world.specs.Images.{KeepsSpools}
 use Rattle.std.proofs.Common.{[]}
 use Rattle.world.proofs.Fitting.{now_fits}
-use Rattle.world.proofs.Opening.{journal_missed, keeps_both, keeps_left, none_damaged, none_label, none_volume, stands_opened}
+use Rattle.world.proofs.Opening.{is_damaged, journal_finds_no_damage, journal_lacked_memory, journal_missed, keeps_both, keeps_left, no_label, no_volume, none_damaged, none_unlabelled, stands_opened}
 use Rattle.world.proofs.World.open.Goals as goal
 
 pub returns-in-Err-clause-during : goal.returns-in-Err-clause-during
 returns-in-Err-clause-during g c = keeps_left g.D.Disk.device g.met.D.Disk.only_now g.met.D.Disk.counts_content c.args.disk c.in-Err.refused.disk c.in-Err.ensures.err.since
 
+pub returns-in-Err-clause-no_volume : goal.returns-in-Err-clause-no_volume
+returns-in-Err-clause-no_volume g c missed tells =
+    no_volume (g.D.Disk.device c.args.disk).content (c.in-Err.ensures.err.no_volume (journal_missed c.in-Err.refused.error c.journal_error.result c.journal_error.ensures missed) tells)
+
+pub returns-in-Err-clause-damaged : goal.returns-in-Err-clause-damaged
+returns-in-Err-clause-damaged g c damaged tells = absurd (journal_finds_no_damage c.in-Err.refused.error c.journal_error.result c.journal_error.ensures damaged)
+
+pub returns-in-Err-clause-memory : goal.returns-in-Err-clause-memory
+returns-in-Err-clause-memory g c lacked =
+    ap (λ d. (g.D.Disk.device d).failures) (c.in-Err.ensures.err.memory (journal_lacked_memory c.in-Err.refused.error c.journal_error.result c.journal_error.ensures c.in-Err.ensures.err.not_halted lacked))
+
 pub returns-in-Err-clause-no_spool : goal.returns-in-Err-clause-no_spool
 returns-in-Err-clause-no_spool g c missed tells =
-    none_volume (g.D.Disk.device c.args.disk).content (c.in-Err.ensures.err.no_volume (journal_missed c.in-Err.refused.error c.journal_error.result c.journal_error.ensures missed) tells)
+    ⊎_elim
+    (λ (a : c.journal_error.result ≡ NotAVolume). none_unlabelled (g.D.Disk.device c.args.disk).content (returns-in-Err-clause-no_volume g c a tells))
+    (λ (b : c.journal_error.result ≡ Damaged). none_damaged (g.D.Disk.device c.args.disk).content (returns-in-Err-clause-damaged g c b tells))
+    missed
 
 pub returns-in-Err-open-clause-during : goal.returns-in-Err-open-clause-during
 returns-in-Err-open-clause-during g c = subst (λ d. KeepsSpools (g.D.Disk.device c.args.disk) (g.D.Disk.device d)) (sym c.into_disk.ensures) (keeps_both g.D.Disk.device g.met.D.Disk.only_now g.met.D.Disk.counts_content c.args.disk c.in-Ok.journal c.open-2.new.journal c.in-Ok.ensures.ok c.open-2.ensures.reads)
 
+pub returns-in-Err-open-clause-no_volume : goal.returns-in-Err-open-clause-no_volume
+returns-in-Err-open-clause-no_volume g c missed tells = no_label g.D.Disk.device c.args.disk c.in-Ok.journal c.in-Ok.ensures.ok (c.in-Err-open.ensures.no_label missed) tells
+
+pub returns-in-Err-open-clause-damaged : goal.returns-in-Err-open-clause-damaged
+returns-in-Err-open-clause-damaged g c damaged tells = is_damaged g.D.Disk.device c.args.disk c.in-Ok.journal c.in-Ok.ensures.ok (c.in-Err-open.ensures.damaged damaged) tells
+
 pub returns-in-Err-open-clause-no_spool : goal.returns-in-Err-open-clause-no_spool
 returns-in-Err-open-clause-no_spool g c missed tells =
     ⊎_elim
-    (λ (a : c.in-Err-open.error ≡ NotAVolume). none_label g.D.Disk.device c.args.disk c.in-Ok.journal c.in-Ok.ensures.ok (c.in-Err-open.ensures.no_label a) tells)
-    (λ (b : c.in-Err-open.error ≡ Damaged). none_damaged g.D.Disk.device c.args.disk c.in-Ok.journal c.in-Ok.ensures.ok (c.in-Err-open.ensures.damaged b) tells)
+    (λ (a : c.in-Err-open.error ≡ NotAVolume). none_unlabelled (g.D.Disk.device c.args.disk).content (returns-in-Err-open-clause-no_volume g c a tells))
+    (λ (b : c.in-Err-open.error ≡ Damaged). none_damaged (g.D.Disk.device c.args.disk).content (returns-in-Err-open-clause-damaged g c b tells))
     missed
 
 pub returns-in_default-clause-during : goal.returns-in_default-clause-during

@@ -1,7 +1,5 @@
-use Rattle.std.proofs.Common.{◌≡◌, ap, ◌∙◌, sym, refl}
-use Rattle.served.specs.Served.{ServedView}
 use Rattle.world.specs.Fields.{news_in}
-use Rattle.world.specs.World.{WorldView, kernel_of}
+use Rattle.world.specs.World.{WorldView}
 use Rattle.world.proofs.Sound.{sound_release}
 use Rattle.world.proofs.World.release.Goals as goal
 

@@ -1,5 +1,5 @@
-use Rattle.std.proofs.Common.{◌≡◌, ap, ◌∙◌, sym, refl, subst, true, false, rules, List, ℕ, [], length, Some}
-use Rattle.std.specs.Prelude.{map, slice_index_or, Ok, Result}
+use Rattle.std.proofs.Common.{◌≡◌, ap, ◌∙◌, sym, refl, subst, true, false, rules, [], length, Some}
+use Rattle.std.specs.Prelude.{map, slice_index_or, Ok}
 use Rattle.journal.specs.Journal.{IsReady, JournalView}
 use Rattle.kernel.specs.Kernel.{Takes, has_batch, taken}
 use Rattle.model.specs.Volume.{blocks_from}

@@ -1,7 +1,7 @@
-use Rattle.std.proofs.Common.{◌≡◌, ap, ◌∙◌, sym, refl, subst, true, false, rules, List, ℕ, []}
+use Rattle.std.proofs.Common.{◌≡◌, refl, rules, []}
 use Rattle.world.specs.Fields.{durable_news, news_in}
-use Rattle.world.specs.World.{WorldView, kernel_of}
-use Rattle.world.proofs.Sound.{sound_told_durable, sound_told_failed, told_nothing}
+use Rattle.world.specs.World.{WorldView}
+use Rattle.world.proofs.Sound.{sound_told_failed}
 use Rattle.world.proofs.World.told.Goals as goal
 
 pub invariant_of-self : goal.invariant_of-self

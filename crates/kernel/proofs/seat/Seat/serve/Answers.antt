@@ -1,10 +1,8 @@
-use Rattle.std.proofs.Common.{◌≡◌, ◌++◌, ◌∷◌, [], List, ℕ, ap, refl, sym, subst, ◌∙◌}
-use Rattle.std.specs.Prelude.{max, is_none, Bool, true}
+use Rattle.std.proofs.Common.{◌≡◌, ◌++◌, ◌∷◌, [], ap, refl, sym, subst, ◌∙◌}
+use Rattle.std.specs.Prelude.{max, is_none}
 use Rattle.outbox.specs.Queue.{Held, last_dependency}
-use Rattle.model.specs.FirstPath.{answer, reads}
+use Rattle.model.specs.FirstPath.{reads}
 use Rattle.model.specs.Service.{mode_of}
-use Rattle.model.specs.declared.message.Mark.TheVariants.{Stopped}
-use Rattle.model.specs.declared.session.Session.{Session}
 use Rattle.kernel.specs.Kernel.{Seat, answered_by}
 use Rattle.kernel.specs.Serving.{SeatServed}
 use Rattle.kernel.proofs.SeatLaws.{answered_is, none_by, reads_behind}

@@ -1,12 +1,11 @@
-use Rattle.std.proofs.Common.{◌≡◌, ◌++◌, ◌∷◌, [], List, ℕ, ap, refl, sym, subst, ◌∙◌}
-use Rattle.std.specs.Prelude.{max, is_none, Bool, true}
+use Rattle.std.proofs.Common.{◌≡◌, ◌++◌, ◌∷◌, [], ap, refl, sym, ◌∙◌}
+use Rattle.std.specs.Prelude.{max, is_none, true}
 use Rattle.outbox.specs.Queue.{Held, last_dependency}
-use Rattle.model.specs.FirstPath.{answer, reads}
+use Rattle.model.specs.FirstPath.{reads}
 use Rattle.model.specs.Service.{mode_of}
 use Rattle.model.specs.declared.message.Mark.TheVariants.{Stopped}
 use Rattle.model.specs.declared.session.Session.{Session}
 use Rattle.kernel.specs.Kernel.{Seat, answered_by}
-use Rattle.kernel.specs.Serving.{SeatServed}
 use Rattle.kernel.proofs.SeatLaws.{answered_is, stopped_answer, stopped_reads}
 use Rattle.kernel.proofs.seat.Seat.stop.Goals as goal
 

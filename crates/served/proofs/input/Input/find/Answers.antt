@@ -1,7 +1,6 @@
-use Rattle.std.proofs.Common.{◌≡◌, Some, None, false, ap, ◌∙◌, sym, refl, rules}
+use Rattle.std.proofs.Common.{◌≡◌, Some, None, false, rules}
 use Rattle.std.specs.Prelude.{is_some}
 use Rattle.model.specs.Stream.{next}
-use Rattle.model.specs.declared.message.Message.{Message}
 use Rattle.served.proofs.Inputs.{found_new, found_none}
 use Rattle.served.proofs.input.Input.find.Goals as goal
 
