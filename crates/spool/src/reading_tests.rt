@@ -1,7 +1,8 @@
 ghost use Rattle.std.specs.Prelude.{◌≡◌};
 
-use crate::{OpenError, Spool};
-use model::Text;
+use crate::tests::{A1, MOMENT, filed};
+use crate::{BatchBuf, OpenError, PostError, Spool};
+use model::{Change, Text};
 use std::alloc::Global;
 use std::test::Fail;
 
@@ -19,6 +20,10 @@ const TWICE: &[u8] =
 /// One article with 146 octets in the group x.a, which is not here.
 const ALONE: &[u8] =
     b"\x01\0\0\0\0\0\0\0\x01\xab\0\0\0\x01\0\0\0\0\0\0\0\0\xca\x9a\x3b\0\0\0\0\x92\0\0\0\x01\x03x.aPath: p!not-for-mail\r\nDate: Sun, 09 Sep 2001 01:46:40 +0000\r\nMessage-ID: <1@a.example>\r\nFrom: a@example.org\r\nNewsgroups: x.a\r\nSubject: one\r\n\r\nhi\r\n";
+
+/// That group, and behind it the article in it, made at the same moment.
+const BOTH: &[u8] =
+    b"\x02\0\0\0\0\0\0\0\0\x19\0\0\0\x03x.a\x01\0\0\0\0\0\0\0\0\xca\x9a\x3b\0\0\0\0ytest\x01\xab\0\0\0\x02\0\0\0\0\0\0\0\0\xca\x9a\x3b\0\0\0\0\x92\0\0\0\x01\x03x.aPath: p!not-for-mail\r\nDate: Sun, 09 Sep 2001 01:46:40 +0000\r\nMessage-ID: <1@a.example>\r\nFrom: a@example.org\r\nNewsgroups: x.a\r\nSubject: one\r\n\r\nhi\r\n";
 
 /// Opens blocks that begin with this string.
 fn opened(alloc: Global, string: &[u8]) -> Result<Result<Spool, OpenError>, Fail> {
@@ -52,6 +57,64 @@ fn a_string_is_read(rt: HostRuntime) -> Result<(), Fail> {
     assert_eq!(rt; spool.group(b"x.a"), Some(1));
     assert!(rt; !spool.is_closed(b"x.a"));
     assert_eq!(rt; spool.dirty_len(), 0);
+    Ok(())
+}
+
+/// Whether the second change of two is this text, filed in x.a alone.
+fn has_article(spool: &Spool, text: &[u8]) -> bool {
+    if spool.len() != 2 || spool.by_id(b"<1@a.example>") != Some(2) {
+        return false;
+    }
+    match spool.change(2) {
+        Change::Article {
+            text: read,
+            groups,
+            moment,
+        } => match groups.as_slice() {
+            [name] => read.as_slice() == text
+                && name.as_slice() == b"x.a".as_slice()
+                && *moment == MOMENT,
+            _ => false,
+        },
+        Change::Group { .. } => false,
+    }
+}
+
+#[test]
+fn an_article_is_read(rt: HostRuntime) -> Result<(), Fail> {
+    let Ok(spool) = opened(rt.alloc(), BOTH)? else {
+        return Err("not opened")?;
+    };
+    assert!(rt; has_article(&spool, A1));
+    assert_eq!(rt; spool.dirty_len(), 0);
+    Ok(())
+}
+
+#[test]
+fn a_filed_article_is_read_back(rt: HostRuntime) -> Result<(), Fail> {
+    let alloc = rt.alloc();
+    let Ok(mut spool) = opened(alloc, ONE)? else {
+        return Err("not opened")?;
+    };
+    // with the 68 octets in front of it three blocks and one octet
+    let mut text = Vec::from_slice(alloc, A1)?;
+    text.resize(12_221 - 2, b'a')?;
+    text.extend_from_slice(b"\r\n")?;
+    let mut batch = BatchBuf::new(alloc)?;
+    assert!(rt; filed(alloc, &mut spool, &text, true)? == Ok(2));
+    let dirty = spool.dirty_len();
+    assert!(rt; dirty == 4);
+    spool.copy_dirty(&mut batch);
+    assert_eq!(rt; batch.numbers(), [0, 1, 2, 3].as_slice());
+    let Ok(mut again) = opened(alloc, batch.images())? else {
+        return Err("not opened again")?;
+    };
+    assert!(rt; has_article(&again, &text));
+    assert!(rt; filed(alloc, &mut again, A1, false)? == Err(PostError::Duplicate(2)));
+    // what is made next stands behind the article
+    assert!(rt; again.add_group(b"x.b", b'n', b"", MOMENT) == Ok(3));
+    let dirty = again.dirty_len();
+    assert!(rt; dirty == 2);
     Ok(())
 }
 

@@ -7,10 +7,10 @@ use std::alloc::{AllocError, Global};
 use std::test::Fail;
 
 /// The first worked article, with 146 octets.
-const A1: &[u8] =
+pub(crate) const A1: &[u8] =
     b"Path: p!not-for-mail\r\nDate: Sun, 09 Sep 2001 01:46:40 +0000\r\nMessage-ID: <1@a.example>\r\nFrom: a@example.org\r\nNewsgroups: x.a\r\nSubject: one\r\n\r\nhi\r\n";
 
-const MOMENT: u64 = 1_000_000_000;
+pub(crate) const MOMENT: u64 = 1_000_000_000;
 
 /// The spool of so many zeroed blocks.
 fn new_spool(alloc: Global, blocks: usize) -> Result<Spool, AllocError>
@@ -24,7 +24,7 @@ fn new_spool(alloc: Global, blocks: usize) -> Result<Spool, AllocError>
 }
 
 /// What becomes of a text that comes from a client, or else from another server.
-fn filed(
+pub(crate) fn filed(
     alloc: Global,
     spool: &mut Spool,
     text: &[u8],
