@@ -3,7 +3,7 @@ use std::alloc::{AllocError, Global};
 use std::test::Fail;
 
 /// A group is made and is durable, and a session's post is served.
-const POSTED: &str = "group x.a y 1000000000 test
+pub(crate) const POSTED: &str = "group x.a y 1000000000 test
 commit
 settle
 join
@@ -22,22 +22,22 @@ exec 1 1000000000
 ";
 
 /// What it prints.
-const POSTED_OUT: &str = "durable 1\njoin 1\n";
+pub(crate) const POSTED_OUT: &str = "durable 1\njoin 1\n";
 
 /// What the first release behind it prints.
-const FIRST_RELEASE: &str =
+pub(crate) const FIRST_RELEASE: &str =
     "out 1 200 news.example ready, posting permitted\\r\\n340 Send article\\r\\n\n";
 
 /// What a run leaves: its status, what it printed, and its faults.
 #[derive(Drop)]
-struct Ran {
-    status: u8,
-    output: Vec<u8>,
-    faults: Vec<u8>,
+pub(crate) struct Ran {
+    pub(crate) status: u8,
+    pub(crate) output: Vec<u8>,
+    pub(crate) faults: Vec<u8>,
 }
 
 /// Plays these parts of a script, one behind the other.
-fn play(alloc: Global, parts: &[&str]) -> Result<Ran, AllocError> {
+pub(crate) fn play(alloc: Global, parts: &[&str]) -> Result<Ran, AllocError> {
     let mut script = String::new(alloc);
     for part in parts {
         script.push_str(part)?;
@@ -61,7 +61,7 @@ fn play(alloc: Global, parts: &[&str]) -> Result<Ran, AllocError> {
 }
 
 /// Whether a run printed these parts, one behind the other, and was done.
-fn printed(alloc: Global, ran: &Ran, parts: &[&str]) -> Result<bool, AllocError> {
+pub(crate) fn printed(alloc: Global, ran: &Ran, parts: &[&str]) -> Result<bool, AllocError> {
     let mut want = String::new(alloc);
     for part in parts {
         want.push_str(part)?;
