@@ -143,3 +143,11 @@ IsHeader-rest text rest at before none =
       ends = before.ends ∙ ap has_empty_line empty ∙ ap (list_any (λ line. bytes_eq line crlf)) lines-empty ∙ sym (le-ltb _ _ short);
       room = λ below. absurd (omega arith);
     }
+
+-- the lines of the text behind some of its lines
+pub lines-drop : (k : ℕ) (text : Octets) → lines (concat (drop k (lines text))) ≡ drop k (lines text)
+lines-drop zero text = ap lines (concat-lines text)
+lines-drop (suc k) [] = ap (λ l. lines (concat (drop (suc k) l))) lines-empty ∙ lines-empty ∙ sym (ap (drop (suc k)) lines-empty)
+lines-drop (suc k) (x ∷ rest) =
+    let first = least_line (x ∷ rest) (omega arith) in
+    ap (λ l. lines (concat (drop (suc k) l))) first.2 ∙ lines-drop k (drop first.0 (x ∷ rest)) ∙ sym (ap (drop (suc k)) first.2)

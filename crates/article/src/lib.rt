@@ -2,7 +2,7 @@
 //! one. What each word means stands in `specs/Article.antt` of the crate `model`.
 #![tactic(auto)]
 
-ghost use Rattle.std.specs.Prelude.{◌≡◌, ◌<◌, IfOk, IfErr, OnOk, IsTrue, Some, None, map, option_map};
+ghost use Rattle.std.specs.Prelude.{◌≡◌, ◌<◌, IfOk, IfErr, OnOk, IsTrue, Some, None, length, map, option_map};
 ghost use Rattle.model.specs.Calendar.{moment_limit};
 ghost use Rattle.model.specs.Article as model_article;
 ghost use Rattle.article.specs.Origins.{cause_of, names_host, origin_of};
@@ -19,7 +19,7 @@ use causes::{field_cause, front_length, groups_in, is_short, newsgroups_in, shap
 pub use causes::{HEADER_LIMIT, TEXT_LIMIT};
 use contents::{find_field, id_in_field, unfold, value_of};
 use fields::fields_of;
-use lines::header_length;
+use lines::{header_length, line_count};
 use model::Text;
 pub use origin::{Cause, Origin, ReadError};
 use std::alloc::{AllocError, Global};
@@ -95,6 +95,13 @@ impl<'t> Article<'t> {
         ensures { result.now ≡ model_article.body self.now }
     {
         &self.text[self.header + 2..]
+    }
+
+    /// How many lines the body has.
+    pub fn line_count(&self) -> usize
+        ensures { result ≡ length (model_article.body_lines self.now) }
+    {
+        line_count(self.body())
     }
 
     /// The content of the first field of this name, in capitals or small letters: what stands behind name, colon and one

@@ -71,3 +71,16 @@ pub(crate) fn header_length(text: &[u8]) -> usize
     }
     at
 }
+
+/// How many lines a text has.
+pub(crate) fn line_count(text: &[u8]) -> usize
+    ensures { result ≡ length (lines text.now) }
+{
+    let mut count = 0;
+    let mut rest = text;
+    while !rest.is_empty() {
+        rest = &rest[line_length(rest)..];
+        count += 1;
+    }
+    count
+}
