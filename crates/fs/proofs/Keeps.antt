@@ -23,7 +23,7 @@ elsewhere : (first k n : ℕ) (old new : List Octets) → get_or new n [] ≡ ge
 elsewhere first k n old new same is =
     ap (λ (b : Octets). part (k % 64 * 64) 64 b) (ap (λ (m : ℕ). get_or new m []) is ∙ same ∙ ap (λ (m : ℕ). get_or old m []) (sym is))
 
-marks_same : (old new : List Octets) → get_or new 0 [] ≡ get_or old 0 [] → get_or new 1 [] ≡ get_or old 1 [] → (b : ℕ) → b < 65536 → is_marked_used new b ≡ is_marked_used old b
+pub marks_same : (old new : List Octets) → get_or new 0 [] ≡ get_or old 0 [] → get_or new 1 [] ≡ get_or old 1 [] → (b : ℕ) → b < 65536 → is_marked_used new b ≡ is_marked_used old b
 marks_same old new zeroth first b small =
     ap (λ (bits : Octets). eqb (get_or bits (b / 8 % 4096) 0 / 2 ^ (b % 8) % 2) 1) (elim (cases_eq (b / 8 / 4096) 0) [
       | inl is ↦ ap (λ (m : ℕ). get_or new m []) is ∙ zeroth ∙ ap (λ (m : ℕ). get_or old m []) (sym is)

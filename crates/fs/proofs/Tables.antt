@@ -8,7 +8,7 @@ use Rattle.model.specs.Files.{File, IsFile, IsFree, name_in, slot_octets, conten
 use Rattle.fs.specs.Calls.{IsFileAt, IsThere}
 use Rattle.fs.proofs.Entries.{free_kind, free_slot, name_in-slot_octets}
 
-abbrev file_or : Option File → File
+abbrev pub file_or : Option File → File
 file_or None = record { name = []; content = [] }
 file_or (Some f) = f
 
@@ -66,6 +66,14 @@ module _ (inodes : ℕ) (blocks : List Octets) where
 
     pub no_slot : (name : Octets) → ((k : ℕ) → k < inodes → slot_of inodes blocks k ≢ slot_octets name) → ¬ (IsThere (table inodes blocks) name)
     no_slot name none (k, content, is) = let named = named_from_there k name content is in none k named.below named.slot
+
+-- a name has one file
+pub there_once : (inodes : ℕ) (blocks : List Octets) → IsFileSystem inodes blocks → (k l : ℕ) (name c d : Octets) → IsFileAt (table inodes blocks) k name c → IsFileAt (table inodes blocks) l name d → c ≡ d
+there_once inodes blocks fs k l name c d first second =
+    let one = named_from_there inodes blocks fs k name c first in
+    let other = named_from_there inodes blocks fs l name d second in
+    let same = fs.names_distinct k l one.below other.below one.file other.file (ap name_in (one.slot ∙ sym other.slot)) in
+    one.content_is ∙ ap (λ (n : ℕ). content_of blocks (entry inodes blocks n)) same ∙ sym other.content_is
 
 -- one inode has another file
 pub table_set : (inodes k : ℕ) (old new : List Octets) (file : Option File) → k < inodes → ((l : ℕ) → l < inodes → l ≢ k → file_at inodes new l ≡ file_at inodes old l) → file_at inodes new k ≡ file → table inodes new ≡ set (table inodes old) k file

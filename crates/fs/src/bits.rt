@@ -1,8 +1,9 @@
 //! The bits of octets, the lowest of each octet first.
 
-ghost use Rattle.std.specs.Prelude.{◌≡◌, ℕ, ◌*◌, ◌/◌, ◌<◌, ◌≤◌, length, true, false, count_by, not};
+ghost use Rattle.std.specs.Prelude.{◌≡◌, ℕ, ◌*◌, ◌/◌, ◌<◌, ◌≤◌, length, true, false, count_by, not, MatchOption};
 ghost use Rattle.std.specs.List.{All, range_with_len};
 ghost use Rattle.fs.specs.Bits.{bit_of, SetsBit, IsFront};
+ghost use Rattle.fs.specs.Marks.{IsLowestClear};
 
 // Whether a bit is set.
 pub fn is_set(octets: &[u8], bit: usize) -> bool
@@ -45,4 +46,29 @@ pub fn count_clear(octets: &[u8], count: usize) -> u32
         }
     }
     clear
+}
+
+// The lowest of the first bits that is clear.
+pub fn lowest_clear(octets: &[u8], count: usize) -> Option<usize>
+    requires room { count ≤ 8 * length octets.now }
+    requires few { length octets.now ≤ 4096 }
+    ensures { MatchOption result
+        ((b : ℕ) → b < count → bit_of octets.now b ≡ true)
+        (IsLowestClear octets.now count) }
+{
+    for (place, octet) in octets.iter().enumerate() {
+        if *octet < u8::MAX {
+            let bit = 8 * place + octet.trailing_ones() as usize;
+            return if bit < count { Some(bit) } else { None };
+        }
+    }
+    None
+}
+
+// Clears a bit.
+pub fn unset(octets: &mut [u8], bit: usize)
+    requires { bit / 8 < length octets.old }
+    ensures { SetsBit bit false octets.old octets.new }
+{
+    octets[bit / 8] &= !(1 << (bit % 8));
 }

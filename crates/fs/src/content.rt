@@ -13,16 +13,16 @@ use std::alloc::{AllocError, Global};
 use volume::{BLOCK_SIZE, Blocks};
 
 /// How many pointers stand in an inode.
-const DIRECT_POINTERS: u32 = 10;
+pub const DIRECT_POINTERS: u32 = 10;
 
 /// Where the pointers of an inode begin.
-const POINTERS_AT: usize = 12;
+pub const POINTERS_AT: usize = 12;
 
 /// Where the pointer to the indirect block stands in an inode.
-const INDIRECT_AT: usize = 52;
+pub const INDIRECT_AT: usize = 52;
 
 // The number of a file's i-th block.
-fn pointer_at<B: Blocks>(blocks: &B, inode: &[u8], i: u32) -> u32
+pub fn pointer_at<B: Blocks>(blocks: &B, inode: &[u8], i: u32) -> u32
     requires whole { length inode.now ≡ 64 }
     requires few { i < 1034 }
     requires indirect { 10 ≤ i → (number_at 52 4 inode.now ≢ 0) × (number_at 52 4 inode.now < length (B.blocks blocks.now)) }

@@ -9,15 +9,13 @@ ghost use Rattle.fs.specs.Calls.{Makes};
 use crate::bits::{count_clear, set_front};
 use crate::directory::INODES_AT;
 use crate::errors::FsError;
+use crate::marks::BLOCK_BITS;
 use crate::numbers::number32;
 use crate::records::RECORD_SIZE;
 use volume::{BLOCK_SIZE, Blocks};
 
 /// How many records stand in a block.
 const RECORDS: usize = 64;
-
-/// The bits of a block.
-const BLOCK_BITS: usize = 8 * BLOCK_SIZE;
 
 /// Makes the empty file system on zeroed blocks. After `Memory` the caller drops the stage.
 pub fn make_empty<B: Blocks>(blocks: &mut B, inodes: u32) -> Result<(), FsError>
