@@ -1,12 +1,12 @@
 -- A change that grows a file behind one that doesn't.
-use Rattle.std.proofs.Common.{◌≡◌, ◌≢◌, ◌⊎◌, ◌↔◌, inl, inr, ◌<◌, ◌≤◌, ℕ, ◌+◌, ◌-◌, Bool, IsTrue, true, false, Option, List, ◌++◌, length, take, drop, replicate, refl, sym, ◌∙◌, ap, subst, arith, length-drop}
+use Rattle.std.proofs.Common.{◌≡◌, ◌<◌, ◌≤◌, ℕ, ◌+◌, ◌-◌, Option, List, ◌++◌, length, take, drop, sym, ◌∙◌, ap, subst, arith, length-drop}
 use Rattle.std.proofs.lemmas.List.{length-take-le, take_all}
-use Rattle.std.proofs.lemmas.Bool.{cases_lt, false≢true}
+use Rattle.std.proofs.lemmas.Bool.{false≢true}
 use Rattle.disk.specs.Image.{overwritten}
 use Rattle.disk.proofs.Images.{length-overwritten}
 use Rattle.model.specs.Stream.{Octets}
-use Rattle.model.specs.Files.{File, HasRoom, IsFile, IsFileSystem, entry, size, content_of, table, is_marked_used, free_blocks}
-use Rattle.fs.specs.Calls.{IsFileAt, HasNoRoomFor, blocks_for}
+use Rattle.model.specs.Files.{File, HasRoom, IsFile, IsFileSystem, entry, size, content_of, table, free_blocks}
+use Rattle.fs.specs.Calls.{IsFileAt, blocks_for}
 use Rattle.fs.specs.Changes.{ReplacesContent, SameMarks, TakesNone}
 use Rattle.fs.specs.Growing.{TakesLowest, GrowsBy, HasRoomFor}
 use Rattle.fs.proofs.Entries.{length-content}

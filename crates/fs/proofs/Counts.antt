@@ -6,7 +6,7 @@ use Rattle.model.specs.Stream.{Octets}
 use Rattle.model.specs.Files.{is_marked_used}
 use Rattle.fs.specs.Bits.{bit_of}
 
-count_cons : (p : ℕ → Bool) (x : ℕ) (xs : List ℕ) → count_by p (x ∷ xs) ≡ cond (p x) 1 0 + count_by p xs
+pub count_cons : (p : ℕ → Bool) (x : ℕ) (xs : List ℕ) → count_by p (x ∷ xs) ≡ cond (p x) 1 0 + count_by p xs
 count_cons p x xs = sum_by-cons (λ n. cond (p n) 1 0) x xs
 
 pub count_same : (p q : ℕ → Bool) (a b n : ℕ) → ((i : ℕ) → i < n → p (a + i) ≡ q (b + i)) → count_by p (range_with_len a n) ≡ count_by q (range_with_len b n)
@@ -39,14 +39,16 @@ count_split p a (suc n) m =
     sums : (t : ℕ) → count_by p (range_with_len (a + 1) (n + m)) ≡ count_by p (range_with_len (a + 1) n) + count_by p (range_with_len (a + 1 + n) m) → count_by p (range_with_len (a + 1 + n) m) ≡ count_by p (range_with_len (a + suc n) m) → count_by p (a ∷ range_with_len (a + 1) n) ≡ t + count_by p (range_with_len (a + 1) n) → t + count_by p (range_with_len (a + 1) (n + m)) ≡ count_by p (a ∷ range_with_len (a + 1) n) + count_by p (range_with_len (a + suc n) m)
     sums t e f g = omega arith
 
+pub count_next : (p : ℕ → Bool) (a n : ℕ) → count_by p (range_with_len a (n + 1)) ≡ count_by p (range_with_len a n) + cond (p (a + n)) 1 0
+count_next p a n =
+    let one = count_cons p (a + n) [] in
+    let last : cond (p (a + n)) 1 0 + 0 ≡ cond (p (a + n)) 1 0 = omega arith in
+    count_split p a n 1 ∙ ap (λ (k : ℕ). count_by p (range_with_len a n) + k) (one ∙ last)
+
 pub count_more : (p : ℕ → Bool) (n : ℕ) → count_by p (range_with_len 0 (n + 1)) ≡ count_by p (range_with_len 0 n) + cond (p n) 1 0
 count_more p n =
     let none : 0 + n ≡ n = omega arith in
-    let one = count_cons p (0 + n) [] in
-    let is : cond {A = ℕ} (p (0 + n)) 1 0 ≡ cond {A = ℕ} (p n) 1 0 = ap (λ (k : ℕ). cond (p k) 1 0) none in
-    let split = count_split p 0 n 1 in
-    let last : cond (p (0 + n)) 1 0 + 0 ≡ cond (p (0 + n)) 1 0 = omega arith in
-    split ∙ ap (λ (k : ℕ). count_by p (range_with_len 0 n) + k) (one ∙ last ∙ is)
+    count_next p 0 n ∙ ap (λ (k : ℕ). count_by p (range_with_len 0 n) + cond (p k) 1 0) none
 
 -- a block's bits are the marks of its blocks
 pub mark_is_bit : (blocks : List Octets) (n b : ℕ) → b < 32768 → is_marked_used blocks (32768 * n + b) ≡ bit_of (get_or blocks n []) b

@@ -1,5 +1,5 @@
 -- The numbers of an inode, after some of them were put there.
-use Rattle.std.proofs.Common.{◌≡◌, ◌≢◌, inl, inr, ◌<◌, ◌≤◌, ℕ, ◌+◌, ◌-◌, ◌*◌, ◌/◌, ◌%◌, cond, eqb, Bool, List, [], length, get_or, map, take, sym, ◌∙◌, ap, arith}
+use Rattle.std.proofs.Common.{◌≡◌, ◌≢◌, inl, inr, ◌<◌, ◌≤◌, ℕ, ◌+◌, ◌*◌, ◌/◌, ◌%◌, cond, eqb, Bool, List, [], length, get_or, map, take, sym, ◌∙◌, ap, arith}
 use Rattle.std.specs.List.{All, Contains, range_with_len}
 use Rattle.std.proofs.lemmas.List.{ext_get_or, get_or-take, length-take-le}
 use Rattle.std.proofs.lemmas.List.FromFn.{length-map-range_with_len, get_or-map-range_with_len}

@@ -21,6 +21,7 @@ pub mod Keeps
 pub mod MarkedLists
 pub mod Marking
 pub mod Naming
+pub mod OctetBits
 pub mod Overwriting
 pub mod Owned
 pub mod Owners

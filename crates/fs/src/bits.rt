@@ -1,11 +1,11 @@
 //! The bits of octets, the lowest of each octet first.
 
-ghost use Rattle.std.specs.Prelude.{◌≡◌, ℕ, ◌*◌, ◌/◌, ◌<◌, ◌≤◌, length, true, false, count_by, not, MatchOption};
+ghost use Rattle.std.specs.Prelude.{◌≡◌, ℕ, ◌-◌, ◌*◌, ◌/◌, ◌%◌, ◌^◌, ◌==◌, ◌<◌, ◌≤◌, length, true, false, count_by, not, MatchOption};
 ghost use Rattle.std.specs.List.{All, range_with_len};
 ghost use Rattle.fs.specs.Bits.{bit_of, SetsBit, IsFront};
 ghost use Rattle.fs.specs.Marks.{IsLowestClear};
 
-// Whether a bit is set.
+/// Whether a bit is set.
 pub fn is_set(octets: &[u8], bit: usize) -> bool
     requires { bit / 8 < length octets.now }
     ensures { result ≡ bit_of octets.now bit }
@@ -13,7 +13,7 @@ pub fn is_set(octets: &[u8], bit: usize) -> bool
     (octets[bit / 8] >> (bit % 8)) & 1 == 1
 }
 
-// Sets a bit.
+/// Sets a bit.
 pub fn set(octets: &mut [u8], bit: usize)
     requires { bit / 8 < length octets.old }
     ensures { SetsBit bit true octets.old octets.new }
@@ -21,7 +21,7 @@ pub fn set(octets: &mut [u8], bit: usize)
     octets[bit / 8] |= 1 << (bit % 8);
 }
 
-// Sets the first so many bits of octets of which none is set.
+/// Sets the first so many bits of octets of which none is set.
 pub fn set_front(octets: &mut [u8], count: usize)
     requires room { count ≤ 8 * length octets.old }
     requires clear { All (λ octet. octet ≡ 0) octets.old }
@@ -32,15 +32,39 @@ pub fn set_front(octets: &mut [u8], count: usize)
     }
 }
 
-// How many of the first bits are clear.
+/// How many of the first bits are clear.
 pub fn count_clear(octets: &[u8], count: usize) -> u32
     requires room { count ≤ 8 * length octets.now }
     requires few { count ≤ 65536 }
     ensures clear { result ≡ count_by (λ bit. not (bit_of octets.now bit)) (range_with_len 0 count) }
     ensures few { result ≤ count }
 {
+    let whole = count / 8;
     let mut clear = 0;
-    for bit in 0..count {
+    for place in 0..whole {
+        clear += clear_bits(octets[place]);
+    }
+    clear + clear_between(octets, 8 * whole, count)
+}
+
+/// How many bits of an octet are clear.
+fn clear_bits(octet: u8) -> u32
+    ensures clear { result ≡ count_by (λ bit. not (octet / 2 ^ bit % 2 == 1)) (range_with_len 0 8) }
+    ensures few { result ≤ 8 }
+{
+    u8::BITS - octet.count_ones()
+}
+
+/// How many bits are clear from one up to another.
+fn clear_between(octets: &[u8], from: usize, to: usize) -> u32
+    requires order { from ≤ to }
+    requires room { to ≤ 8 * length octets.now }
+    requires few { to ≤ 65536 }
+    ensures clear { result ≡ count_by (λ bit. not (bit_of octets.now bit)) (range_with_len from (to - from)) }
+    ensures few { result ≤ to - from }
+{
+    let mut clear = 0;
+    for bit in from..to {
         if !is_set(octets, bit) {
             clear += 1;
         }
@@ -48,7 +72,7 @@ pub fn count_clear(octets: &[u8], count: usize) -> u32
     clear
 }
 
-// The lowest of the first bits that is clear.
+/// The lowest of the first bits that is clear.
 pub fn lowest_clear(octets: &[u8], count: usize) -> Option<usize>
     requires room { count ≤ 8 * length octets.now }
     requires few { length octets.now ≤ 4096 }
@@ -65,7 +89,7 @@ pub fn lowest_clear(octets: &[u8], count: usize) -> Option<usize>
     None
 }
 
-// Clears a bit.
+/// Clears a bit.
 pub fn unset(octets: &mut [u8], bit: usize)
     requires { bit / 8 < length octets.old }
     ensures { SetsBit bit false octets.old octets.new }

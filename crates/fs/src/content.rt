@@ -1,6 +1,6 @@
 //! The octets of files.
 
-ghost use Rattle.std.specs.Prelude.{◌≡◌, ◌≢◌, ℕ, ◌+◌, ◌*◌, ◌<◌, ◌≤◌, List, [], length, take, drop, IfErr, IfOk};
+ghost use Rattle.std.specs.Prelude.{◌≡◌, ◌≢◌, ℕ, ◌+◌, ◌*◌, ◌/◌, ◌<◌, ◌≤◌, List, [], length, take, drop, IfErr, IfOk};
 ghost use Rattle.model.specs.Volume.{number_at};
 ghost use Rattle.model.specs.Files.{HasRoom, IsFileSystem, IsFile, table, entry, pointer, size, content_of, inode_of, indirect_of};
 ghost use Rattle.fs.specs.Calls.{IsName, IsThere, IsFileAt};
@@ -21,7 +21,7 @@ pub const POINTERS_AT: usize = 12;
 /// Where the pointer to the indirect block stands in an inode.
 pub const INDIRECT_AT: usize = 52;
 
-// The number of a file's i-th block.
+/// The number of a file's i-th block.
 pub fn pointer_at<B: Blocks>(blocks: &B, inode: &[u8], i: u32) -> u32
     requires whole { length inode.now ≡ 64 }
     requires few { i < 1034 }
@@ -92,4 +92,12 @@ fn read_entry<B: Blocks>(
         from += some as u64;
     }
     Ok(octets)
+}
+
+/// How many blocks the content of so many octets takes.
+pub fn content_blocks(octets: u64) -> u32
+    requires { octets ≤ 4235264 }
+    ensures { result ≡ (octets + 4095) / 4096 }
+{
+    ((octets + BLOCK_SIZE as u64 - 1) / BLOCK_SIZE as u64) as u32
 }

@@ -1,7 +1,8 @@
 //! Names, and the inodes that they name.
 
 ghost use Rattle.std.specs.Prelude.{◌≡◌, ◌≢◌, ℕ, ◌+◌, ◌*◌, ◌<◌, ◌≤◌, List, [], length, map, slice_index, IfErr, OnOk, IfOk};
-ghost use Rattle.model.specs.Files.{HasRoom, IsFileSystem, table, slot_octets, name_in};
+ghost use Rattle.model.specs.Files as files;
+ghost use Rattle.model.specs.Files.{HasRoom, IsFileSystem, entry, table, slot_octets, name_in};
 ghost use Rattle.fs.specs.Calls.{IsName, IsThere, IsFileAt, Creates, HasNoFreeInode, file_names};
 
 use crate::errors::FsError;
@@ -18,7 +19,7 @@ const FILE_KIND: u8 = 1;
 /// Where the size stands in an inode.
 pub const SIZE_AT: usize = 4;
 
-// The slot of a name: its length, the name, and zeros.
+/// The slot of a name: its length, the name, and zeros.
 pub fn slot_for(name: &[u8]) -> [u8; RECORD_SIZE]
     requires { IsName name.now }
     ensures { result ≡ slot_octets name.now }
@@ -41,9 +42,18 @@ pub fn size<B: Blocks>(blocks: &B, inodes: u32, name: &[u8]) -> Result<u64, FsEr
     let Some(at) = find(blocks, inodes, &slot_for(name)) else {
         return Err(FsError::NotFound);
     };
+    Ok(size_of(blocks, inodes, at))
+}
+
+/// The size of the file of an inode.
+pub fn size_of<B: Blocks>(blocks: &B, inodes: u32, at: u32) -> u64
+    requires room { HasRoom inodes (B.blocks blocks.now) }
+    requires below { at < inodes }
+    ensures { result ≡ files.size (entry inodes (B.blocks blocks.now) at) }
+{
     let mut inode = [0; RECORD_SIZE];
     get_record(blocks, INODES_AT, at, &mut inode);
-    Ok(number64(&inode, SIZE_AT))
+    number64(&inode, SIZE_AT)
 }
 
 /// Makes an empty file in the lowest free inode. `Exists` exactly where the name is there, else `Full` exactly

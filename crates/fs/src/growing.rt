@@ -7,7 +7,7 @@ ghost use Rattle.fs.specs.Growing.{PutsPointer, AddsBlock, taken_with, GrowsBy, 
 ghost use Rattle.fs.specs.Calls.{IsName, IsThere};
 
 use crate::content::{DIRECT_POINTERS, INDIRECT_AT, POINTERS_AT, pointer_at};
-use crate::directory::{INODES_AT, SIZE_AT, slot_for};
+use crate::directory::{INODES_AT, SIZE_AT, size_of, slot_for};
 use crate::errors::FsError;
 use crate::marks::take_block;
 use crate::numbers::{number32, number64, put32, put64};
@@ -98,17 +98,6 @@ fn add_piece<B: Blocks>(
     blocks.put(number, &block)?;
     put64(&mut inode, SIZE_AT, size + piece.len() as u64);
     put_record(blocks, INODES_AT, at, &inode)
-}
-
-// The size of the file of an inode.
-fn size_of<B: Blocks>(blocks: &B, inodes: u32, at: u32) -> u64
-    requires room { HasRoom inodes (B.blocks blocks.now) }
-    requires below { at < inodes }
-    ensures { result ≡ size (entry inodes (B.blocks blocks.now) at) }
-{
-    let mut inode = [0; RECORD_SIZE];
-    get_record(blocks, INODES_AT, at, &mut inode);
-    number64(&inode, SIZE_AT)
 }
 
 /// Puts octets behind those of the file of an inode, for which there is room.

@@ -7,6 +7,7 @@ ghost use Rattle.model.specs.Volume.{number_at};
 
 use byteorder::{ByteOrder, LittleEndian};
 
+/// The number in the four octets from a place on.
 #[tactic(auto, unfolding(model::specs::Volume::number_at))]
 pub fn number32(octets: &[u8], at: usize) -> u32
     requires { at + 4 ≤ length octets.now }
@@ -15,6 +16,7 @@ pub fn number32(octets: &[u8], at: usize) -> u32
     LittleEndian::read_u32(&octets[at..])
 }
 
+/// The number in the eight octets from a place on.
 #[tactic(auto, unfolding(model::specs::Volume::number_at))]
 pub fn number64(octets: &[u8], at: usize) -> u64
     requires { at + 8 ≤ length octets.now }
@@ -23,7 +25,7 @@ pub fn number64(octets: &[u8], at: usize) -> u64
     LittleEndian::read_u64(&octets[at..])
 }
 
-// Puts the number into the four octets from a place on.
+/// Puts the number into the four octets from a place on.
 pub fn put32(octets: &mut [u8], at: usize, n: u32)
     requires { at + 4 ≤ length octets.old }
     ensures { octets.new ≡ overwritten at (little_bytes 4 n) octets.old }
@@ -32,7 +34,7 @@ pub fn put32(octets: &mut [u8], at: usize, n: u32)
     LittleEndian::write_u32(&mut octets[at..end], n);
 }
 
-// Puts the number into the eight octets from a place on.
+/// Puts the number into the eight octets from a place on.
 pub fn put64(octets: &mut [u8], at: usize, n: u64)
     requires { at + 8 ≤ length octets.old }
     ensures { octets.new ≡ overwritten at (little_bytes 8 n) octets.old }

@@ -11,7 +11,7 @@ use volume::{BLOCK_SIZE, Blocks};
 /// The octets of a record.
 pub const RECORD_SIZE: usize = 64;
 
-// Copies a record of those that begin at block `first`.
+/// Copies a record of those that begin at block `first`.
 pub fn get_record<B: Blocks>(blocks: &B, first: u32, at: u32, into: &mut [u8])
     requires there { first + at / 64 < length (B.blocks blocks.now) }
     requires few { length (B.blocks blocks.now) ≤ 65536 }
@@ -24,7 +24,7 @@ pub fn get_record<B: Blocks>(blocks: &B, first: u32, at: u32, into: &mut [u8])
     into.copy_from_slice(&block[start..start + RECORD_SIZE]);
 }
 
-// Replaces a record of those that begin at block `first`.
+/// Replaces a record of those that begin at block `first`.
 pub fn put_record<B: Blocks>(
     blocks: &mut B,
     first: u32,
@@ -43,7 +43,7 @@ pub fn put_record<B: Blocks>(
     blocks.put(first + at / 64, &block)
 }
 
-// Replaces the octets from a place on.
+/// Replaces the octets from a place on.
 pub fn put_part(block: &mut [u8], at: usize, octets: &[u8])
     requires { at + length octets.now ≤ length block.old }
     ensures { block.new ≡ overwritten at octets.now block.old }
@@ -52,7 +52,7 @@ pub fn put_part(block: &mut [u8], at: usize, octets: &[u8])
     block[at..end].copy_from_slice(octets);
 }
 
-// The lowest inode whose slot has these octets.
+/// The lowest inode whose slot has these octets.
 pub fn find<B: Blocks>(blocks: &B, inodes: u32, slot: &[u8]) -> Option<u32>
     requires room { HasRoom inodes (B.blocks blocks.now) }
     requires whole { length slot.now ≡ 64 }

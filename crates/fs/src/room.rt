@@ -6,7 +6,7 @@ ghost use Rattle.model.specs.Files.{HasRoom};
 ghost use Rattle.fs.specs.Calls.{blocks_for, HasNoRoomFor};
 ghost use Rattle.fs.specs.Growing.{HasRoomFor};
 
-use crate::content::DIRECT_POINTERS;
+use crate::content::{DIRECT_POINTERS, content_blocks};
 use crate::whole::free_block_count;
 use volume::{BLOCK_SIZE, Blocks};
 
@@ -14,11 +14,11 @@ use volume::{BLOCK_SIZE, Blocks};
 const MOST_OCTETS: u64 = 1034 * BLOCK_SIZE as u64;
 
 // How many blocks a file of so many octets owns, its indirect block among them.
-fn blocks_of(size: u64) -> u64
+fn owned_blocks(size: u64) -> u64
     requires { size ≤ 4235264 }
     ensures { result ≡ blocks_for size }
 {
-    let count = (size + BLOCK_SIZE as u64 - 1) / BLOCK_SIZE as u64;
+    let count = content_blocks(size) as u64;
     if size > DIRECT_POINTERS as u64 * BLOCK_SIZE as u64 {
         count + 1
     } else {
@@ -36,8 +36,8 @@ pub fn has_room_for<B: Blocks>(blocks: &B, inodes: u32, was: u64, size: u64) -> 
     if size > MOST_OCTETS {
         return false;
     }
-    let owned = blocks_of(was);
-    let needed = blocks_of(size);
+    let owned = owned_blocks(was);
+    let needed = owned_blocks(size);
     if needed <= owned {
         return true;
     }

@@ -5,7 +5,7 @@ ghost use Rattle.model.specs.Files.{HasRoom, IsFileSystem, IsFile, entry, size, 
 ghost use Rattle.fs.specs.Calls.{IsName, IsThere, Makes, Unlinks};
 ghost use Rattle.fs.specs.Changes.{ReplacesContent, SameMarks, TakesNone};
 
-use crate::content::{DIRECT_POINTERS, INDIRECT_AT, POINTERS_AT, pointer_at};
+use crate::content::{DIRECT_POINTERS, INDIRECT_AT, POINTERS_AT, content_blocks, pointer_at};
 use crate::directory::{INODES_AT, SIZE_AT, slot_for};
 use crate::errors::FsError;
 use crate::marks::unmark;
@@ -34,7 +34,7 @@ pub fn unlink<B: Blocks>(blocks: &mut B, inodes: u32, name: &[u8]) -> Result<(),
     Ok(())
 }
 
-// Cuts the file of an inode to an end that isn't behind its own.
+/// Cuts the file of an inode to an end that isn't behind its own.
 pub fn shrink_to<B: Blocks>(
     blocks: &mut B,
     inodes: u32,
@@ -54,21 +54,13 @@ pub fn shrink_to<B: Blocks>(
 {
     let mut inode = [0; RECORD_SIZE];
     get_record(blocks, INODES_AT, at, &mut inode);
-    let keep = blocks_of(end);
-    let mut left = blocks_of(number64(&inode, SIZE_AT));
+    let keep = content_blocks(end);
+    let mut left = content_blocks(number64(&inode, SIZE_AT));
     while left > keep {
         left -= 1;
         drop_block(blocks, inodes, at, left)?;
     }
     cut(blocks, inodes, at, end)
-}
-
-// How many blocks so many octets take.
-fn blocks_of(octets: u64) -> u32
-    requires { octets ≤ 4235264 }
-    ensures { result ≡ (octets + 4095) / 4096 }
-{
-    ((octets + BLOCK_SIZE as u64 - 1) / BLOCK_SIZE as u64) as u32
 }
 
 // Drops the last block of the file of an inode, and the indirect block where ten are left.

@@ -11,9 +11,10 @@ use std::alloc::Global;
 use std::test::Fail;
 use volume::{BATCH_BLOCKS, BLOCK_SIZE, BatchBuf, Blocks, Volume};
 
+/// The inodes of the volumes that are tested.
 pub const INODES: u32 = 64;
 
-// A volume of so many blocks with no file.
+/// A volume of so many blocks with no file.
 pub fn empty(alloc: Global, count: u32) -> Result<Volume, FsError>
     requires some { 1024 ≤ count }
     requires few { count ≤ 65536 }
@@ -23,6 +24,20 @@ pub fn empty(alloc: Global, count: u32) -> Result<Volume, FsError>
     let mut volume = Volume::of(alloc, octets, count)?;
     make_empty(&mut volume, INODES)?;
     Ok(volume)
+}
+
+#[test]
+fn refusals_are_printed_by_number_and_name(rt: HostRuntime) -> Result<(), Fail> {
+    for (error, text) in [
+        (FsError::Memory, "E2 Memory"),
+        (FsError::Damaged, "E5 Damaged"),
+        (FsError::Full, "E6 Full"),
+        (FsError::Exists, "E11 Exists"),
+        (FsError::NotFound, "E12 NotFound"),
+    ] {
+        assert_eq!(rt; error.to_string(rt.alloc())?.as_str(), text);
+    }
+    Ok(())
 }
 
 #[test]

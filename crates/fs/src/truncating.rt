@@ -5,11 +5,10 @@ ghost use Rattle.model.specs.Files.{HasRoom, IsFileSystem, table};
 ghost use Rattle.fs.specs.Calls.{IsName, IsThere, IsFileAt, HasNoRoomFor};
 ghost use Rattle.fs.specs.Changes.{Rewrites};
 
-use crate::directory::{INODES_AT, SIZE_AT, slot_for};
+use crate::directory::{size_of, slot_for};
 use crate::errors::FsError;
 use crate::growing::extend_zeros;
-use crate::numbers::number64;
-use crate::records::{RECORD_SIZE, find, get_record};
+use crate::records::find;
 use crate::room::has_room_for;
 use crate::shrinking::shrink_to;
 use volume::Blocks;
@@ -39,9 +38,7 @@ pub fn truncate<B: Blocks>(
     let Some(at) = find(blocks, inodes, &slot_for(name)) else {
         return Err(FsError::NotFound);
     };
-    let mut inode = [0; RECORD_SIZE];
-    get_record(blocks, INODES_AT, at, &mut inode);
-    let was = number64(&inode, SIZE_AT);
+    let was = size_of(blocks, inodes, at);
     if size <= was {
         shrink_to(blocks, inodes, at, size)?;
         return Ok(());

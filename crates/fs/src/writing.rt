@@ -7,10 +7,9 @@ ghost use Rattle.fs.specs.Calls.{IsName, IsThere, IsFileAt, HasNoRoomFor};
 ghost use Rattle.fs.specs.Changes.{ReplacesContent, Rewrites, SameMarks};
 
 use crate::content::pointer_at;
-use crate::directory::{INODES_AT, SIZE_AT, slot_for};
+use crate::directory::{INODES_AT, size_of, slot_for};
 use crate::errors::FsError;
 use crate::growing::extend;
-use crate::numbers::number64;
 use crate::records::{RECORD_SIZE, find, get_record, put_part};
 use crate::room::has_room_for;
 use std::alloc::AllocError;
@@ -42,9 +41,7 @@ pub fn write_at<B: Blocks>(
     let Some(at) = find(blocks, inodes, &slot_for(name)) else {
         return Err(FsError::NotFound);
     };
-    let mut inode = [0; RECORD_SIZE];
-    get_record(blocks, INODES_AT, at, &mut inode);
-    let size = number64(&inode, SIZE_AT);
+    let size = size_of(blocks, inodes, at);
     let end = place + octets.len() as u64;
     if end <= size {
         overwrite(blocks, inodes, at, place, octets)?;
@@ -59,7 +56,7 @@ pub fn write_at<B: Blocks>(
     Ok(())
 }
 
-// Overwrites octets of the file of an inode, from a place on and within its size.
+/// Overwrites octets of the file of an inode, from a place on and within its size.
 pub fn overwrite<B: Blocks>(
     blocks: &mut B,
     inodes: u32,

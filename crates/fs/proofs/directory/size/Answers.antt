@@ -1,6 +1,5 @@
-use Rattle.std.proofs.Common.{ℕ, List, refl, sym, ◌∙◌, ap}
+use Rattle.std.proofs.Common.{refl, sym, ◌∙◌}
 use Rattle.model.specs.Files.{entry, content_of}
-use Rattle.model.specs.Volume.{number_at}
 use Rattle.fs.proofs.Entries.{length-content}
 use Rattle.fs.proofs.Tables.{no_slot, there_from_slot}
 use Rattle.fs.proofs.directory.size.Goals as goal
@@ -18,6 +17,5 @@ returns-clause-found g c =
       at,
       content_of blocks (entry c.args.inodes blocks at),
       there_from_slot c.args.inodes blocks c.requires.rule at c.args.name.now found.below c.requires.name.0 (found.is ∙ c.slot_for.ensures),
-      c.number64.ensures ∙ ap (λ (o : List ℕ). number_at 4 8 o) c.get_record.ensures
-          ∙ sym (length-content blocks (entry c.args.inodes blocks at) c.requires.room.blocks_whole (λ b owns. (c.requires.rule.within at b found.below owns).1)),
+      c.size_of.ensures ∙ sym (length-content blocks (entry c.args.inodes blocks at) c.requires.room.blocks_whole (λ b owns. (c.requires.rule.within at b found.below owns).1)),
     )

@@ -70,28 +70,28 @@ loop-left-init g c =
     let old = g.B.Blocks.blocks c.args.blocks.now in
     let e : Entry = entry c.args.inodes old c.args.at in
     let sized : c.number64.result ≡ size e = c.number64.ensures ∙ ap (λ (o : List ℕ). number_at 4 8 o) c.get_record.ensures in
-    let counted : c.blocks_of-left.result ≡ block_count e = c.blocks_of-left.ensures ∙ ap (λ (n : ℕ). (n + 4095) / 4096) sized in
-    (none c.args.inodes c.args.at c.args.end c.blocks_of-keep.result old c.requires.room c.requires.rule c.requires.below c.requires.file c.requires.shorter c.blocks_of-keep.ensures c.blocks_of-left.result counted, refl)
+    let counted : c.content_blocks-left.result ≡ block_count e = c.content_blocks-left.ensures ∙ ap (λ (n : ℕ). (n + 4095) / 4096) sized in
+    (none c.args.inodes c.args.at c.args.end c.content_blocks-keep.result old c.requires.room c.requires.rule c.requires.below c.requires.file c.requires.shorter c.content_blocks-keep.ensures c.content_blocks-left.result counted, refl)
 
 pub drop_block-requires-clause-file : goal.drop_block-requires-clause-file
 drop_block-requires-clause-file g c =
-    still_file c.args.inodes c.args.at c.args.end c.blocks_of-keep.result (g.B.Blocks.blocks c.args.blocks.now) c.requires.room c.requires.rule c.requires.below c.requires.file c.requires.shorter c.blocks_of-keep.ensures c.loop-left.left (g.B.Blocks.blocks c.loop-left.blocks) c.loop-left.invariant.0
+    still_file c.args.inodes c.args.at c.args.end c.content_blocks-keep.result (g.B.Blocks.blocks c.args.blocks.now) c.requires.room c.requires.rule c.requires.below c.requires.file c.requires.shorter c.content_blocks-keep.ensures c.loop-left.left (g.B.Blocks.blocks c.loop-left.blocks) c.loop-left.invariant.0
 
 pub loop-left-preserved : goal.loop-left-preserved
 loop-left-preserved g c =
     let last : c.loop-left.left - 1 + 1 ≡ c.loop-left.left = omega arith in (
-      more c.args.inodes c.args.at c.args.end c.blocks_of-keep.result (g.B.Blocks.blocks c.args.blocks.now) c.requires.room c.requires.rule c.requires.below c.requires.file c.requires.shorter c.blocks_of-keep.ensures c.loop-left.left (g.B.Blocks.blocks c.loop-left.blocks) c.loop-left.invariant.0
+      more c.args.inodes c.args.at c.args.end c.content_blocks-keep.result (g.B.Blocks.blocks c.args.blocks.now) c.requires.room c.requires.rule c.requires.below c.requires.file c.requires.shorter c.content_blocks-keep.ensures c.loop-left.left (g.B.Blocks.blocks c.loop-left.blocks) c.loop-left.invariant.0
           (c.loop-left.left - 1) (g.B.Blocks.blocks c.drop_block.new.blocks) last (omega arith) c.in_ok-drop_block.ensures.done c.in_ok-drop_block.ensures.none_taken,
       c.in_ok-drop_block.ensures.kept ∙ c.loop-left.invariant.1,
     )
 
 pub cut-requires-clause-file : goal.cut-requires-clause-file
 cut-requires-clause-file g c =
-    still_file c.args.inodes c.args.at c.args.end c.blocks_of-keep.result (g.B.Blocks.blocks c.args.blocks.now) c.requires.room c.requires.rule c.requires.below c.requires.file c.requires.shorter c.blocks_of-keep.ensures c.loop-left.left (g.B.Blocks.blocks c.loop-left.blocks) c.loop-left.invariant.0
+    still_file c.args.inodes c.args.at c.args.end c.content_blocks-keep.result (g.B.Blocks.blocks c.args.blocks.now) c.requires.room c.requires.rule c.requires.below c.requires.file c.requires.shorter c.content_blocks-keep.ensures c.loop-left.left (g.B.Blocks.blocks c.loop-left.blocks) c.loop-left.invariant.0
 
 pub cut-requires-clause-shorter : goal.cut-requires-clause-shorter
 cut-requires-clause-shorter g c =
-    fits c.args.inodes c.args.at c.args.end c.blocks_of-keep.result (g.B.Blocks.blocks c.args.blocks.now) c.requires.room c.requires.rule c.requires.below c.requires.file c.requires.shorter c.blocks_of-keep.ensures c.loop-left.left (g.B.Blocks.blocks c.loop-left.blocks) c.loop-left.invariant.0 (omega arith)
+    fits c.args.inodes c.args.at c.args.end c.content_blocks-keep.result (g.B.Blocks.blocks c.args.blocks.now) c.requires.room c.requires.rule c.requires.below c.requires.file c.requires.shorter c.content_blocks-keep.ensures c.loop-left.left (g.B.Blocks.blocks c.loop-left.blocks) c.loop-left.invariant.0 (omega arith)
 
 pub returns-clause-done : goal.returns-clause-done
 returns-clause-done g c =
@@ -99,5 +99,5 @@ returns-clause-done g c =
     let mid = g.B.Blocks.blocks c.loop-left.blocks in
     let new = g.B.Blocks.blocks c.cut.new.blocks in
     on_ok c.cut.result (ReplacesContent c.args.inodes c.args.at (take c.args.end (content_of mid (entry c.args.inodes mid c.args.at))) mid new) (ReplacesContent c.args.inodes c.args.at (take c.args.end (content_of old (entry c.args.inodes old c.args.at))) old new)
-    (λ then. all c.args.inodes c.args.at c.args.end c.blocks_of-keep.result old c.requires.room c.requires.rule c.requires.below c.requires.file c.requires.shorter c.blocks_of-keep.ensures c.loop-left.left mid c.loop-left.invariant.0 (omega arith) new then)
+    (λ then. all c.args.inodes c.args.at c.args.end c.content_blocks-keep.result old c.requires.room c.requires.rule c.requires.below c.requires.file c.requires.shorter c.content_blocks-keep.ensures c.loop-left.left mid c.loop-left.invariant.0 (omega arith) new then)
     c.cut.ensures.done

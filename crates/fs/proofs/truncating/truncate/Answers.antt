@@ -1,7 +1,6 @@
 use Rattle.std.proofs.Common.{◌≡◌, ◌<◌, ◌≤◌, ℕ, ◌-◌, ◌++◌, List, length, take, replicate, refl, sym, ◌∙◌, ap, subst, arith}
 use Rattle.std.proofs.lemmas.List.{append-nil, take_all}
 use Rattle.std.proofs.lemmas.Bool.{OnFalse_at}
-use Rattle.model.specs.Volume.{number_at}
 use Rattle.model.specs.Files.{HasRoom, IsFileSystem, entry, size, content_of, table}
 use Rattle.fs.specs.Calls.{IsFileAt, HasNoRoomFor}
 use Rattle.fs.specs.Changes.{ReplacesContent, TakesNone, Rewrites}
@@ -12,13 +11,13 @@ use Rattle.fs.proofs.Replacing.{replaces_same}
 use Rattle.fs.proofs.Tables.{no_slot, there_from_slot}
 use Rattle.fs.proofs.truncating.truncate.Goals as goal
 
-module _ (inodes at end was : ℕ) (inode name : List ℕ) (old new : List (List ℕ)) (room : HasRoom inodes old) (fs : IsFileSystem inodes old) (low : at < inodes) (there : IsFileAt (table inodes old) at name (content_of old (entry inodes old at))) (inode_is : inode ≡ (entry inodes old at).inode) (read : was ≡ number_at 4 8 inode) where
+module _ (inodes at end was : ℕ) (name : List ℕ) (old new : List (List ℕ)) (room : HasRoom inodes old) (fs : IsFileSystem inodes old) (low : at < inodes) (there : IsFileAt (table inodes old) at name (content_of old (entry inodes old at))) (read : was ≡ size (entry inodes old at)) where
   abbrev content : List ℕ
   content = content_of old (entry inodes old at)
 
   long : was ≡ length content
   long =
-      read ∙ ap (λ (o : List ℕ). number_at 4 8 o) inode_is
+      read
       ∙ sym (length-content old (entry inodes old at) room.blocks_whole (λ b owns. (fs.within at b low owns).1))
 
   shorter : end ≤ was → ReplacesContent inodes at (take end content) old new → TakesNone old new → Rewrites inodes name (λ content. take end content ++ replicate (end - length content) 0) old new
@@ -41,16 +40,16 @@ pub returns-then-size-was-clause-truncated : goal.returns-then-size-was-clause-t
 returns-then-size-was-clause-truncated g c =
     let old = g.B.Blocks.blocks c.args.blocks.now in
     let found = c.in-Some.ensures in
-    shorter c.args.inodes c.in-Some.at c.args.size c.number64-was.result c.get_record.new.into c.args.name.now old (g.B.Blocks.blocks c.shrink_to.new.blocks) c.requires.room c.requires.rule found.below
+    shorter c.args.inodes c.in-Some.at c.args.size c.size_of-was.result c.args.name.now old (g.B.Blocks.blocks c.shrink_to.new.blocks) c.requires.room c.requires.rule found.below
     (there_from_slot c.args.inodes old c.requires.rule c.in-Some.at c.args.name.now found.below c.requires.name.0 (found.is ∙ c.slot_for.ensures))
-    c.get_record.ensures c.number64-was.ensures (omega arith) c.in_ok-shrink_to.ensures.done c.in_ok-shrink_to.ensures.none_taken
+    c.size_of-was.ensures (omega arith) c.in_ok-shrink_to.ensures.done c.in_ok-shrink_to.ensures.none_taken
 
 pub returns-then-not-has_room_for-clause-full : goal.returns-then-not-has_room_for-clause-full
 returns-then-not-has_room_for-clause-full g c =
     let old = g.B.Blocks.blocks c.args.blocks.now in
     let found = c.in-Some.ensures in
     let there = there_from_slot c.args.inodes old c.requires.rule c.in-Some.at c.args.name.now found.below c.requires.name.0 (found.is ∙ c.slot_for.ensures) in
-    let is = long c.args.inodes c.in-Some.at c.args.size c.number64-was.result c.get_record.new.into c.args.name.now old old c.requires.room c.requires.rule found.below there c.get_record.ensures c.number64-was.ensures in
+    let is = long c.args.inodes c.in-Some.at c.args.size c.size_of-was.result c.args.name.now old old c.requires.room c.requires.rule found.below there c.size_of-was.ensures in
     λ e. (
       c.in-Some.at,
       content_of old (entry c.args.inodes old c.in-Some.at),
@@ -63,6 +62,6 @@ pub returns-clause-truncated : goal.returns-clause-truncated
 returns-clause-truncated g c =
     let old = g.B.Blocks.blocks c.args.blocks.now in
     let found = c.in-Some.ensures in
-    longer c.args.inodes c.in-Some.at c.args.size c.number64-was.result c.get_record.new.into c.args.name.now old (g.B.Blocks.blocks c.extend_zeros.new.blocks) c.requires.room c.requires.rule found.below
+    longer c.args.inodes c.in-Some.at c.args.size c.size_of-was.result c.args.name.now old (g.B.Blocks.blocks c.extend_zeros.new.blocks) c.requires.room c.requires.rule found.below
     (there_from_slot c.args.inodes old c.requires.rule c.in-Some.at c.args.name.now found.below c.requires.name.0 (found.is ∙ c.slot_for.ensures))
-    c.get_record.ensures c.number64-was.ensures (omega arith) c.in_ok-extend_zeros.ensures.grown
+    c.size_of-was.ensures (omega arith) c.in_ok-extend_zeros.ensures.grown

@@ -1,7 +1,6 @@
-use Rattle.std.proofs.Common.{◌≡◌, ◌<◌, ◌≤◌, ℕ, ◌+◌, ◌-◌, List, length, refl, sym, ◌∙◌, ap, subst, arith}
+use Rattle.std.proofs.Common.{◌≡◌, ◌<◌, ◌≤◌, ℕ, ◌+◌, ◌-◌, List, length, refl, sym, ◌∙◌, subst, arith}
 use Rattle.std.proofs.lemmas.List.{length-take-le}
 use Rattle.std.proofs.lemmas.Bool.{OnFalse_at, OnTrue_at}
-use Rattle.model.specs.Volume.{number_at}
 use Rattle.model.specs.Files.{HasRoom, IsFileSystem, entry, size, content_of, table}
 use Rattle.fs.specs.Calls.{IsFileAt, HasNoRoomFor}
 use Rattle.fs.proofs.Composing.{lowest_after, lowest_same, still_file, still_room, written_past}
@@ -9,10 +8,7 @@ use Rattle.fs.proofs.Entries.{length-content}
 use Rattle.fs.proofs.Tables.{no_slot, there_from_slot, file_from_slot}
 use Rattle.fs.proofs.writing.write_at.Goals as goal
 
-module _ (inodes at place was : ℕ) (inode name : List ℕ) (old : List (List ℕ)) (room : HasRoom inodes old) (fs : IsFileSystem inodes old) (low : at < inodes) (inode_is : inode ≡ (entry inodes old at).inode) (read : was ≡ number_at 4 8 inode) where
-  sized : was ≡ size (entry inodes old at)
-  sized = read ∙ ap (λ (o : List ℕ). number_at 4 8 o) inode_is
-
+module _ (inodes at place : ℕ) (name : List ℕ) (old : List (List ℕ)) (room : HasRoom inodes old) (fs : IsFileSystem inodes old) (low : at < inodes) where
   long : length (content_of old (entry inodes old at)) ≡ size (entry inodes old at)
   long = length-content old (entry inodes old at) room.blocks_whole (λ b owns. (fs.within at b low owns).1)
 
@@ -28,7 +24,7 @@ overflow_add-end g c =
     let old = g.B.Blocks.blocks c.args.blocks.now in
     let found = c.in-Some.ensures in
     let there = there_from_slot c.args.inodes old c.requires.rule c.in-Some.at c.args.name.now found.below c.requires.name.0 (found.is ∙ c.slot_for.ensures) in
-    let low = inside c.args.inodes c.in-Some.at c.args.place c.number64-size.result c.get_record.new.into c.args.name.now old c.requires.room c.requires.rule found.below c.get_record.ensures c.number64-size.ensures there c.requires.place in
+    let low = inside c.args.inodes c.in-Some.at c.args.place c.args.name.now old c.requires.room c.requires.rule found.below there c.requires.place in
     let small = (file_from_slot c.args.inodes old c.requires.rule c.in-Some.at c.args.name.now found.below c.requires.name.0 (found.is ∙ c.slot_for.ensures)).small in
     omega (arith, low, small)
 
@@ -48,8 +44,8 @@ pub returns-then-not-has_room_for-clause-full : goal.returns-then-not-has_room_f
 returns-then-not-has_room_for-clause-full g c =
     let old = g.B.Blocks.blocks c.args.blocks.now in
     let found = c.in-Some.ensures in
-    let is = sized c.args.inodes c.in-Some.at c.args.place c.number64-size.result c.get_record.new.into c.args.name.now old c.requires.room c.requires.rule found.below c.get_record.ensures c.number64-size.ensures
-    ∙ sym (long c.args.inodes c.in-Some.at c.args.place c.number64-size.result c.get_record.new.into c.args.name.now old c.requires.room c.requires.rule found.below c.get_record.ensures c.number64-size.ensures) in
+    let is = c.size_of-size.ensures
+    ∙ sym (long c.args.inodes c.in-Some.at c.args.place c.args.name.now old c.requires.room c.requires.rule found.below) in
     λ e. (
       c.in-Some.at,
       content_of old (entry c.args.inodes old c.in-Some.at),
@@ -63,8 +59,8 @@ overflow_sub-within g c =
     let old = g.B.Blocks.blocks c.args.blocks.now in
     let found = c.in-Some.ensures in
     let there = there_from_slot c.args.inodes old c.requires.rule c.in-Some.at c.args.name.now found.below c.requires.name.0 (found.is ∙ c.slot_for.ensures) in
-    let low = inside c.args.inodes c.in-Some.at c.args.place c.number64-size.result c.get_record.new.into c.args.name.now old c.requires.room c.requires.rule found.below c.get_record.ensures c.number64-size.ensures there c.requires.place in
-    let is = sized c.args.inodes c.in-Some.at c.args.place c.number64-size.result c.get_record.new.into c.args.name.now old c.requires.room c.requires.rule found.below c.get_record.ensures c.number64-size.ensures in
+    let low = inside c.args.inodes c.in-Some.at c.args.place c.args.name.now old c.requires.room c.requires.rule found.below there c.requires.place in
+    let is = c.size_of-size.ensures in
     omega (arith, low, is)
 
 pub overwrite-requires-2-clause-fits : goal.overwrite-requires-2-clause-fits
@@ -72,9 +68,9 @@ overwrite-requires-2-clause-fits g c =
     let old = g.B.Blocks.blocks c.args.blocks.now in
     let found = c.in-Some.ensures in
     let there = there_from_slot c.args.inodes old c.requires.rule c.in-Some.at c.args.name.now found.below c.requires.name.0 (found.is ∙ c.slot_for.ensures) in
-    let low = inside c.args.inodes c.in-Some.at c.args.place c.number64-size.result c.get_record.new.into c.args.name.now old c.requires.room c.requires.rule found.below c.get_record.ensures c.number64-size.ensures there c.requires.place in
-    let is = sized c.args.inodes c.in-Some.at c.args.place c.number64-size.result c.get_record.new.into c.args.name.now old c.requires.room c.requires.rule found.below c.get_record.ensures c.number64-size.ensures in
-    let front = length-take-le (c.number64-size.result - c.args.place) c.args.octets.now (omega arith) in
+    let low = inside c.args.inodes c.in-Some.at c.args.place c.args.name.now old c.requires.room c.requires.rule found.below there c.requires.place in
+    let is = c.size_of-size.ensures in
+    let front = length-take-le (c.size_of-size.result - c.args.place) c.args.octets.now (omega arith) in
     omega (arith, low, is, front)
 
 pub extend-requires-clause-file : goal.extend-requires-clause-file
@@ -82,9 +78,9 @@ extend-requires-clause-file g c =
     let old = g.B.Blocks.blocks c.args.blocks.now in
     let found = c.in-Some.ensures in
     let there = there_from_slot c.args.inodes old c.requires.rule c.in-Some.at c.args.name.now found.below c.requires.name.0 (found.is ∙ c.slot_for.ensures) in
-    let low = inside c.args.inodes c.in-Some.at c.args.place c.number64-size.result c.get_record.new.into c.args.name.now old c.requires.room c.requires.rule found.below c.get_record.ensures c.number64-size.ensures there c.requires.place in
-    let is = sized c.args.inodes c.in-Some.at c.args.place c.number64-size.result c.get_record.new.into c.args.name.now old c.requires.room c.requires.rule found.below c.get_record.ensures c.number64-size.ensures in
-    still_file c.args.inodes c.in-Some.at c.args.place c.args.octets.now c.args.name.now old (g.B.Blocks.blocks c.overwrite-2.new.blocks) c.requires.room c.requires.rule found.below low (omega (arith, is)) c.number64-size.result (c.number64-size.result - c.args.place) is refl
+    let low = inside c.args.inodes c.in-Some.at c.args.place c.args.name.now old c.requires.room c.requires.rule found.below there c.requires.place in
+    let is = c.size_of-size.ensures in
+    still_file c.args.inodes c.in-Some.at c.args.place c.args.octets.now c.args.name.now old (g.B.Blocks.blocks c.overwrite-2.new.blocks) c.requires.room c.requires.rule found.below low (omega (arith, is)) c.size_of-size.result (c.size_of-size.result - c.args.place) is refl
     c.in_ok-overwrite-2.ensures.done c.in_ok-overwrite-2.ensures.marks
 
 pub extend-requires-clause-enough : goal.extend-requires-clause-enough
@@ -92,9 +88,9 @@ extend-requires-clause-enough g c =
     let old = g.B.Blocks.blocks c.args.blocks.now in
     let found = c.in-Some.ensures in
     let there = there_from_slot c.args.inodes old c.requires.rule c.in-Some.at c.args.name.now found.below c.requires.name.0 (found.is ∙ c.slot_for.ensures) in
-    let low = inside c.args.inodes c.in-Some.at c.args.place c.number64-size.result c.get_record.new.into c.args.name.now old c.requires.room c.requires.rule found.below c.get_record.ensures c.number64-size.ensures there c.requires.place in
-    let is = sized c.args.inodes c.in-Some.at c.args.place c.number64-size.result c.get_record.new.into c.args.name.now old c.requires.room c.requires.rule found.below c.get_record.ensures c.number64-size.ensures in
-    still_room c.args.inodes c.in-Some.at c.args.place c.args.octets.now c.args.name.now old (g.B.Blocks.blocks c.overwrite-2.new.blocks) c.requires.room c.requires.rule found.below low (omega (arith, is)) c.number64-size.result (c.number64-size.result - c.args.place) is refl
+    let low = inside c.args.inodes c.in-Some.at c.args.place c.args.name.now old c.requires.room c.requires.rule found.below there c.requires.place in
+    let is = c.size_of-size.ensures in
+    still_room c.args.inodes c.in-Some.at c.args.place c.args.octets.now c.args.name.now old (g.B.Blocks.blocks c.overwrite-2.new.blocks) c.requires.room c.requires.rule found.below low (omega (arith, is)) c.size_of-size.result (c.size_of-size.result - c.args.place) is refl
     c.in_ok-overwrite-2.ensures.done c.in_ok-overwrite-2.ensures.marks
     (OnTrue_at c.if-not-has_room_for.false c.has_room_for.ensures.room)
 
@@ -105,13 +101,13 @@ returns-clause-written g c =
     let new = g.B.Blocks.blocks c.extend.new.blocks in
     let found = c.in-Some.ensures in
     let there = there_from_slot c.args.inodes old c.requires.rule c.in-Some.at c.args.name.now found.below c.requires.name.0 (found.is ∙ c.slot_for.ensures) in
-    let low = inside c.args.inodes c.in-Some.at c.args.place c.number64-size.result c.get_record.new.into c.args.name.now old c.requires.room c.requires.rule found.below c.get_record.ensures c.number64-size.ensures there c.requires.place in
-    let is = sized c.args.inodes c.in-Some.at c.args.place c.number64-size.result c.get_record.new.into c.args.name.now old c.requires.room c.requires.rule found.below c.get_record.ensures c.number64-size.ensures in
+    let low = inside c.args.inodes c.in-Some.at c.args.place c.args.name.now old c.requires.room c.requires.rule found.below there c.requires.place in
+    let is = c.size_of-size.ensures in
     let grows = c.in_ok-extend.ensures.grown in (
       c.in-Some.at,
       content_of old (entry c.args.inodes old c.in-Some.at),
       there,
-      written_past c.args.inodes c.in-Some.at c.args.place c.args.octets.now c.args.name.now old mid c.requires.room c.requires.rule found.below low (omega (arith, is)) c.number64-size.result (c.number64-size.result - c.args.place) is refl
+      written_past c.args.inodes c.in-Some.at c.args.place c.args.octets.now c.args.name.now old mid c.requires.room c.requires.rule found.below low (omega (arith, is)) c.size_of-size.result (c.size_of-size.result - c.args.place) is refl
           c.in_ok-overwrite-2.ensures.done c.in_ok-overwrite-2.ensures.marks new grows,
       lowest_after old mid new grows.makes.room.count_few c.in_ok-overwrite-2.ensures.marks grows.lowest,
     )
