@@ -13,6 +13,7 @@ pub enum DiskError {
     Fault,
 }
 
+/// A block device, at each moment what `device` says; the clauses hold for every call, refused ones among them.
 pub trait Disk {
     /// What the device is at this moment.
     ghost device: { Self → Device };

@@ -1,4 +1,5 @@
-// The label of a volume: how many inodes there are, and the host.
+//! The label of a volume: how many inodes there are, and the host.
+
 ghost use Rattle.std.specs.Prelude.{◌≡◌, ◌==◌, ◌↔◌, IsTrue, IsNone, IfSome};
 ghost use Rattle.std.specs.List.{list_all};
 ghost use Rattle.kernel.specs.Label.{HasRoom, IsNoLabel};

@@ -1,4 +1,5 @@
-// The answers to messages that are served: what is replied, what the session sends next, and what is accepted.
+//! The answers to messages that are served: what is replied, what the session sends next, and what is accepted.
+
 ghost use Rattle.std.specs.Prelude.{IsSome, ◌≡◌, ◌≤◌, ◌<◌, ℕ, Some, None, IfOk, OnErr, length};
 ghost use Rattle.kernel.specs.Kernel.{FitsMode};
 ghost use Rattle.kernel.specs.Serving.{IsReplyTo, IsSyntaxError};

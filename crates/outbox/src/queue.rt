@@ -1,4 +1,5 @@
-// The outputs of one session.
+//! The outputs of one session.
+
 ghost use Rattle.std.specs.Prelude.{◌≡◌, ℕ, ◌+◌, ◌-◌, ◌^◌, ◌<◌, ◌≤◌, ◌∷◌, ◌++◌, [], length, drop, vec_len, vec_capacity, OnOk, OnErr, ◌==◌};
 ghost use Rattle.std.specs.VecDeque.{deque_len, deque_capacity};
 ghost use Rattle.outbox.specs.Queue.{Held, QueueView, buffered, last_dependency, cut_at, give, entry_of, octets_in};

@@ -1,4 +1,5 @@
-// The buffer that a release fills: the sessions' octets one behind the other, and where each session's stand.
+//! The buffer that a release fills: the sessions' octets one behind the other, and where each session's stand.
+
 ghost use Rattle.std.specs.Prelude.{◌≡◌, ◌<◌, ◌≤◌, ◌==◌, ◌++◌, [], length, vec_len, vec_capacity, Some, IfOk, slice_get};
 ghost use Rattle.outbox.specs.Queue.{octets_in};
 ghost use Rattle.outbox.specs.Slots.{slots_of};

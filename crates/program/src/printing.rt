@@ -1,4 +1,5 @@
-// What a simulation prints.
+//! What a simulation prints.
+
 use crate::Failure;
 use model::Change;
 use outbox::ReadyBuf;

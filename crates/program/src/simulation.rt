@@ -1,4 +1,5 @@
-// A script of events, played over a device in memory.
+//! A script of events, played over a device in memory.
+
 ghost use Rattle.script.specs.Script.{IsLawful};
 ghost use Rattle.world.specs.Events.{MayHappen};
 
@@ -17,7 +18,7 @@ use world::{Answer, Event, StepError, World};
 /// The device calls of the largest batch, of 512 images, to its end.
 const MOST_CALLS: u32 = 2 * 512 + 7;
 
-// What the events act on.
+/// What the events act on.
 #[derive(Drop)]
 enum Stage {
     Open(World<MemDisk>),

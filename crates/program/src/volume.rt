@@ -1,4 +1,5 @@
-// The volume of a simulation.
+//! The volume of a simulation.
+
 ghost use Rattle.std.specs.Prelude.{◌≡◌, ◌≤◌, length, vec_len, IfOk};
 ghost use Rattle.model.specs.Layout.{label_octets};
 

@@ -1,4 +1,5 @@
-// The program's words.
+//! The program's words.
+
 ghost use Rattle.std.specs.Prelude.{◌≡◌, ◌≤◌, IsTrue, length};
 ghost use Rattle.model.specs.Names.{is_host};
 ghost use Rattle.program.specs.Sizes.{are_sizes};

@@ -1,4 +1,5 @@
-// Device calls counted, and a fault at each of them.
+//! Device calls counted, and a fault at each of them.
+
 use crate::worlds::{
     BLOCKS, committed, event, first_wrong, held, is_opened, made, new_disk, open, posted, read,
     released, reopened, run_all, said, settled,

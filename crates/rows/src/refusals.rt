@@ -1,4 +1,5 @@
-// The printed form of each refusal: from scripts where one comes to it, and else of the error itself.
+//! The printed form of each refusal: from scripts where one comes to it, and else of the error itself.
+
 use crate::scripts::{play, printed};
 use kernel::Stale;
 use program::{Failure, NOT_UNDERSTOOD, REFUSED, run};

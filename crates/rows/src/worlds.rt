@@ -1,4 +1,5 @@
-// The first script by the calls of a world. Its parts are functions, so that no proof reads them.
+//! The first script by the calls of a world. Its parts are functions, so that no proof reads them.
+
 ghost use Rattle.std.specs.Prelude.{◌≤◌, IfOk, OnOk};
 ghost use Rattle.std.specs.List.{All};
 ghost use Rattle.world.specs.Events.{MayHappen};

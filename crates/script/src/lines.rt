@@ -1,4 +1,5 @@
-// The lines of a script.
+//! The lines of a script.
+
 ghost use Rattle.std.specs.Prelude.{◌≡◌, ◌⊎◌, ◌<◌, IsTrue, IfOk, IfErr, IfSome, Some, None, option_map};
 ghost use Rattle.model.specs.Names.{is_group_name};
 ghost use Rattle.model.specs.Calendar.{moment_limit};

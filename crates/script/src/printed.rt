@@ -1,4 +1,5 @@
-// The printed form of octets.
+//! The printed form of octets.
+
 ghost use Rattle.std.specs.Prelude.{◌≡◌, ◌<◌, ◌++◌, IfOk, OnOk};
 ghost use Rattle.script.specs.Printed.{escape, escaped, hex_text};
 

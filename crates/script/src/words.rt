@@ -1,4 +1,5 @@
-// The words of a line: where they are parted, and the numbers that they write.
+//! The words of a line: where they are parted, and the numbers that they write.
+
 ghost use Rattle.std.specs.Prelude.{◌≡◌, ◌<◌, IfSome, option_map, true};
 ghost use Rattle.std.specs.Char.{is_ascii_digit};
 ghost use Rattle.std.specs.List.{list_all};

@@ -32,12 +32,14 @@ impl Entry {
     ghost use Rattle.served.specs.Fields.{entry_of};
     ghost use Rattle.std.specs.Prelude.{◌≡◌};
 
+    /// The entry that says so.
     pub fn new(happened: Happened) -> Entry
         ensures { result ≡ entry_of happened }
     {
         Entry { happened }
     }
 
+    /// What it says.
     pub fn happened(&self) -> &Happened
         ensures { entry_of result.now ≡ self.now }
     {

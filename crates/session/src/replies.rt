@@ -1,4 +1,5 @@
-// The texts of the replies. An error is that memory is refused.
+//! The texts of the replies. An error is that memory is refused.
+
 ghost use Rattle.std.specs.Prelude.{◌≡◌, ◌++◌, ◌∷◌, [], IfOk, codes};
 ghost use Rattle.model.specs.Stream.{line};
 ghost use Rattle.model.specs.Replies.{greeting, bye, received, send_posted, service_ends, no_such_article, not_accepted, unknown_command, syntax_error};

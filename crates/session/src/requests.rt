@@ -1,4 +1,5 @@
-// What a command line asks for.
+//! What a command line asks for.
+
 ghost use Rattle.std.specs.Prelude.{◌≡◌, false, IfOk};
 ghost use Rattle.model.specs.Commands.{words};
 ghost use Rattle.model.specs.FirstPath.{post_of, quit_of, stat_of, request_of, clean_request, request_line};

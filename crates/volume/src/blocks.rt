@@ -38,7 +38,7 @@ pub trait Blocks {
         ensures kept { applied self.new ≡ applied self.old };
 }
 
-// The octets of the block with this number.
+/// The octets of the block with this number.
 pub fn block_of(octets: &[u8], number: usize) -> &[u8]
     requires { 4096 * number + 4096 ≤ length octets.now }
     ensures octets { result.now ≡ block number octets.now }
@@ -48,7 +48,7 @@ pub fn block_of(octets: &[u8], number: usize) -> &[u8]
     &octets[start..start + BLOCK_SIZE]
 }
 
-// Replaces the octets of the block with this number.
+/// Replaces the octets of the block with this number.
 pub fn put_block(octets: &mut [u8], number: usize, from: &[u8])
     requires there { 4096 * number + 4096 ≤ length octets.old }
     requires whole { length from.now ≡ 4096 }
