@@ -68,8 +68,12 @@ pub trait Disk {
 
 /// A device that can be told to fail.
 pub trait Faults: Disk {
+    /// Between two values: the second is the first with that call told to fail, counted from 1, and 0 for none.
+    ghost plans: { ℕ → Self → Self → Type 0 };
+
     /// The n-th call of the device from now on, counted from 1, answers `Fault`; 0 takes an earlier plan back.
     /// All that the device means stays as it was.
     fn fail_at(&mut self, n: u64)
-        ensures { IsUnchanged (Self.device self.old) (Self.device self.new) };
+        ensures unchanged { IsUnchanged (Self.device self.old) (Self.device self.new) }
+        ensures plan { plans n self.old self.new };
 }

@@ -29,7 +29,7 @@ module _ (old label : List ℕ) (blocks : ℕ) (whole : length old ≡ 4096) (ze
   first = overwritten 0 magic old
 
   abbrev second : List ℕ
-  second = overwritten 8 (little_bytes 4 0) first
+  second = overwritten 8 (little_bytes 4 1) first
 
   abbrev third : List ℕ
   third = overwritten 12 (little_bytes 4 blocks) second
@@ -44,7 +44,7 @@ module _ (old label : List ℕ) (blocks : ℕ) (whole : length old ≡ 4096) (ze
   size1 = length-overwritten 0 magic old (omega (arith, whole)) ∙ whole
 
   size2 : length second ≡ 4096
-  size2 = length-overwritten 8 (little_bytes 4 0) first (omega (arith, size1)) ∙ size1
+  size2 = length-overwritten 8 (little_bytes 4 1) first (omega (arith, size1)) ∙ size1
 
   size3 : length third ≡ 4096
   size3 = length-overwritten 12 (little_bytes 4 blocks) second (omega (arith, size2)) ∙ size2
@@ -63,15 +63,15 @@ module _ (old label : List ℕ) (blocks : ℕ) (whole : length old ≡ 4096) (ze
       part-overwritten_apart 20 label fourth fits 0 8 (inl (omega arith))
       ∙ part-overwritten_apart 16 (little_bytes 4 1) third (omega (arith, size3)) 0 8 (inl (omega arith))
       ∙ part-overwritten_apart 12 (little_bytes 4 blocks) second (omega (arith, size2)) 0 8 (inl (omega arith))
-      ∙ part-overwritten_apart 8 (little_bytes 4 0) first (omega (arith, size1)) 0 8 (inl (omega arith))
+      ∙ part-overwritten_apart 8 (little_bytes 4 1) first (omega (arith, size1)) 0 8 (inl (omega arith))
       ∙ part-overwritten 0 magic old (omega (arith, whole))
 
-  version_is : number_at 8 4 superblock ≡ 0
+  version_is : number_at 8 4 superblock ≡ 1
   version_is =
       number_at_apart 20 label fourth fits 8 4 (inl (omega arith))
       ∙ number_at_apart 16 (little_bytes 4 1) third (omega (arith, size3)) 8 4 (inl (omega arith))
       ∙ number_at_apart 12 (little_bytes 4 blocks) second (omega (arith, size2)) 8 4 (inl (omega arith))
-      ∙ number_at_written 8 4 0 first (omega (arith, size1)) (omega arith)
+      ∙ number_at_written 8 4 1 first (omega (arith, size1)) (omega arith)
 
   pub blocks_are : number_at 12 4 superblock ≡ blocks
   blocks_are =
@@ -98,7 +98,7 @@ module _ (old label : List ℕ) (blocks : ℕ) (whole : length old ≡ 4096) (ze
           ∙ overwritten_above 20 label fourth fits (148 + i) 0 (omega (arith, label_size))
           ∙ overwritten_above 16 (little_bytes 4 1) third (omega (arith, size3)) (148 + i) 0 (omega arith)
           ∙ overwritten_above 12 (little_bytes 4 blocks) second (omega (arith, size2)) (148 + i) 0 (omega arith)
-          ∙ overwritten_above 8 (little_bytes 4 0) first (omega (arith, size1)) (148 + i) 0 (omega arith)
+          ∙ overwritten_above 8 (little_bytes 4 1) first (omega (arith, size1)) (148 + i) 0 (omega arith)
           ∙ overwritten_above 0 magic old (omega (arith, whole)) (148 + i) 0 (omega arith)
           ∙ All-get_or IsZero old (148 + i) 0 inside zero
 
@@ -163,3 +163,11 @@ stands_formatted blocks octets super old new label size whole zero super_size va
             let inside : k < home_size image = omega (arith, length-home image has_superblock) in
             let low : k < blocks = omega (arith, home_is) in
             get_or-home image has_superblock k inside ∙ rest (515 + k) (omega arith) (omega arith) ∙ is_zero_block octets whole zero ∙ sym (get_or-replicate blocks k zero_block [] low)
+
+-- its segment is closed
+pub shut_formatted : (blocks : ℕ) (octets super old new : List ℕ) → length old ≡ 4096 * home_place 1 blocks → length octets ≡ 4096 → All IsZero octets → length super ≡ 4096
+    → ((k : ℕ) → 0 < k → k < home_place 1 blocks → block k old ≡ octets) → new ≡ overwritten 0 super old → is_open 0 new ≡ false
+shut_formatted blocks octets super old new size whole zero super_size written is =
+    let fits : 4096 * 0 + length super ≤ length old = omega (arith, super_size, size) in
+    subst (λ (x : List ℕ). is_open 0 x ≡ false) (sym is)
+    (ap (λ (n : ℕ). eqb n 1) (ap (λ (b : List ℕ). get_or b 0 0) ((overwritten_same 0 super old (omega (arith, super_size)) fits).same 1 (λ e. absurd (omega arith)) ∙ written 1 (omega arith) (omega arith)) ∙ All-get_or IsZero octets 0 0 (omega (arith, whole)) zero))

@@ -21,7 +21,7 @@ module _ (x : List ℕ) (superblock : IsSuperblock (block 0 x) (length x)) where
   segments_at : open_segments x ≡ filter (λ s. is_open s x) (0 ∷ [])
   segments_at = ap (λ (n : ℕ). filter (λ s. is_open s x) (range_with_len 0 n)) superblock.segments
 
-  none_open : is_open 0 x ≡ false → open_segments x ≡ []
+  pub none_open : is_open 0 x ≡ false → open_segments x ≡ []
   none_open shut = segments_at ∙ ap (λ (b : Bool). cond b (0 ∷ []) []) shut
 
   one_open : is_open 0 x ≡ true → open_segments x ≡ 0 ∷ []

@@ -1,10 +1,10 @@
 //! A new volume.
 
-ghost use Rattle.std.specs.Prelude.{◌≡◌, ◌^◌, ◌⊎◌, ◌+◌, ◌*◌, ◌<◌, ◌≤◌, ℕ, length, OnOk, IfOk, IfErr, IsTrue};
+ghost use Rattle.std.specs.Prelude.{◌≡◌, ◌^◌, ◌⊎◌, ◌+◌, ◌*◌, ◌<◌, ◌≤◌, ℕ, [], length, OnOk, IfOk, IfErr, IsTrue};
 ghost use Rattle.std.specs.List.{All};
 ghost use Rattle.disk.specs.Device.{Elapses, LeavesOnly};
 ghost use Rattle.disk.specs.Image.{overwritten, part};
-ghost use Rattle.model.specs.Volume.{IsSuperblock, StandsFor, block, home_place, number_at};
+ghost use Rattle.model.specs.Volume.{IsSuperblock, StandsFor, block, home_place, number_at, open_segments};
 ghost use Rattle.journal.specs.Journal.{CountsFailures};
 ghost use Rattle.journal.specs.Formatting.{zeroed};
 
@@ -31,6 +31,7 @@ pub fn format<D: Disk>(
     requires size { (D.device disk.old).size ≡ 4096 * home_place 1 blocks }
     ensures volume { IsTrue (D.device disk.old).tells → OnOk result (StandsFor (D.device disk.new).content label.now (zeroed blocks)) }
     ensures synced { IsTrue (D.device disk.old).tells → OnOk result (LeavesOnly (D.device disk.new) (D.device disk.new).content) }
+    ensures closed { IsTrue (D.device disk.old).tells → OnOk result (open_segments (D.device disk.new).content ≡ []) }
     ensures time { Elapses (D.device disk.old) (D.device disk.new) }
     ensures failures { CountsFailures result (D.device disk.old) (D.device disk.new) }
     ensures memory { IfErr result (λ error. error ≡ JournalError.Memory → disk.new ≡ disk.old) }
@@ -57,6 +58,7 @@ fn write_volume<D: Disk>(
     requires zero { All (λ octet. octet ≡ 0) octets.items }
     ensures volume { IsTrue (D.device disk.old).tells → OnOk result (StandsFor (D.device disk.new).content label.now (zeroed blocks)) }
     ensures synced { IsTrue (D.device disk.old).tells → OnOk result (LeavesOnly (D.device disk.new) (D.device disk.new).content) }
+    ensures closed { IsTrue (D.device disk.old).tells → OnOk result (open_segments (D.device disk.new).content ≡ []) }
     ensures time { Elapses (D.device disk.old) (D.device disk.new) }
     ensures failures { CountsFailures result (D.device disk.old) (D.device disk.new) }
     ensures no_other { IfErr result (λ error. error ≡ JournalError.Fault) }

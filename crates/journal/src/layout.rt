@@ -23,7 +23,7 @@ pub(crate) const MOST_BLOCKS: u64 = 65536;
 
 pub(crate) const MAGIC: [u8; 8] = [0x58, 0x4e, 0x4e, 0x54, 0x50, 0x46, 0x53, 0x31];
 
-pub(crate) const VERSION: u32 = 0;
+pub(crate) const VERSION: u32 = 1;
 /// Where the label stands in the superblock. It ends the octets that are used; those behind are zero.
 pub(crate) const LABEL_AT: usize = 20;
 

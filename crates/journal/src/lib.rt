@@ -200,6 +200,7 @@ impl<D: Faults> Journal<D> {
     pub fn fail_at(&mut self, n: u64)
         ensures view { self.new ≡ record self.old { disk = self.new.disk } }
         ensures device { IsUnchanged (D.device self.old.disk) (D.device self.new.disk) }
+        ensures plan { D.plans n self.old.disk self.new.disk }
     {
         self.disk.fail_at(n);
     }

@@ -1,5 +1,5 @@
 -- An image that stands for the spool without changes: that of a new volume.
-use Rattle.std.proofs.Common.{◌≡◌, ◌<◌, ◌≤◌, ℕ, suc, ◌+◌, ◌-◌, ◌*◌, List, [], ◌∷◌, ◌++◌, length, replicate, take, refl, sym, ◌∙◌, ap, subst, arith}
+use Rattle.std.proofs.Common.{◌≡◌, ◌<◌, ◌≤◌, ℕ, zero, suc, ◌+◌, ◌-◌, ◌*◌, List, [], ◌∷◌, ◌++◌, length, replicate, take, refl, sym, ◌∙◌, ap, subst, arith}
 use Rattle.std.specs.Prelude.{IsTrue}
 use Rattle.std.specs.List.{All, concat}
 use Rattle.std.proofs.lemmas.List.{append-nil, append_assoc, drop-replicate, length-replicate, replicate-append-replicate, take-replicate}
@@ -14,7 +14,7 @@ use Rattle.model.specs.Names.{is_host}
 use Rattle.model.specs.Spool.{entries}
 use Rattle.model.specs.Stream.{Octets}
 use Rattle.model.specs.Volume.{StandsFor, block, home_place}
-use Rattle.kernel.specs.Laws.{AnImageStands, EachHostHasAnImage}
+use Rattle.kernel.specs.Laws.{AnImageStands, EachHostHasAnImage, NewVolumesAreEmpty}
 use Rattle.kernel.proofs.LabelLaws.{label_size}
 
 -- ---- the volume
@@ -98,3 +98,15 @@ image_of_host host named =
 -- the host `a`
 pub one_image : AnImageStands
 one_image = let made = image_of_host (97 ∷ []) refl in (97 ∷ [], made.0, made.1)
+
+pub new_is_empty : NewVolumesAreEmpty
+new_is_empty image label zero inodes host volume some labelled = absurd (omega (arith, some))
+new_is_empty image label (suc more) inodes host volume some labelled =
+    record {
+      label = label;
+      inodes = inodes;
+      blocks = zeroed (suc more);
+      volume = volume;
+      labelled = subst (λ (n : ℕ). IsLabel label n inodes host) (sym (length-replicate (suc more) zero_block)) labelled;
+      held = holds_nothing host inodes more;
+    }

@@ -100,6 +100,10 @@ grown_inodes : (s s' : SpoolView) (c : Option Change) → Grows s s' c → s'.in
 grown_inodes s s' None is = ap (λ (r : SpoolView). r.inodes) is
 grown_inodes s s' (Some c) adds = adds.inodes
 
+grown_still : (s s' : SpoolView) (c : Option Change) → Grows s s' c → c ≡ None → (s'.blocks ≡ s.blocks) × (s'.dirty ≡ s.dirty)
+grown_still s s' None is none = (ap (λ (r : SpoolView). r.blocks) is, ap (λ (r : SpoolView). r.dirty) is)
+grown_still s s' (Some c) adds none = absurd (cc none)
+
 pub executes : (s s' : SpoolView) (d : ℕ) (f : Option ℕ) (h : Bool) (j : ℕ) (seats : List Seat) (at : ℕ) (seat seat' : Seat) (m : Message) (t : ℕ) (mark : Mark) → RiseFrom 0 seats → slice_get seats at ≡ Some seat
     → Grows s s' (answer_in s seat.session m t mark).change → seat' ≡ answered_by s.host s.changes m t mark seat → Executed (kernel_of s d f h j seats) (kernel_of s' d f h j (set seats at seat')) seat m t mark
 executes s s' d f h j seats at seat seat' m t mark rise place grows is =
@@ -114,6 +118,7 @@ executes s s' d f h j seats at seat seat' m t mark rise place grows is =
       halted = refl;
       joined = refl;
       blocks = grown_dirties s s' d f h j seats (set seats at seat') (answer_in s seat.session m t mark).change grows;
+      still = grown_still s s' (answer_in s seat.session m t mark).change grows;
     }
 
 -- ---- the session behind it

@@ -142,6 +142,8 @@ pub record Executed (old new : KernelView) (seat : Seat) (m : Message) (t : ℕ)
   pub halted : new.halted ≡ old.halted
   pub joined : new.joined ≡ old.joined
   pub blocks : Dirties old new
+  -- an answer without a change leaves each block
+  pub still : (answer old.host old.spool seat.session m t mark).change ≡ None → (new.blocks ≡ old.blocks) × (new.dirty ≡ old.dirty)
 
 -- ---- take_ready
 

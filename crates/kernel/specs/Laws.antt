@@ -1,5 +1,8 @@
 -- What holds of the images of a device.
-use Rattle.std.specs.Prelude.{◌≡◌, IsTrue, []}
+use Rattle.std.specs.Prelude.{◌≡◌, ◌≤◌, ℕ, IsTrue, []}
+use Rattle.journal.specs.Formatting.{zeroed}
+use Rattle.model.specs.Layout.{IsLabel}
+use Rattle.model.specs.Volume.{StandsFor}
 use Rattle.model.specs.Stream.{Octets}
 use Rattle.model.specs.Names.{is_host}
 use Rattle.model.specs.Spool.{Spool}
@@ -12,6 +15,10 @@ ImagesStandForOne = (host other image : Octets) (S R : Spool) → Stands host im
 -- Under each host an image stands for the spool without changes.
 abbrev pub EachHostHasAnImage : Type 0
 EachHostHasAnImage = (host : Octets) → IsTrue (is_host host) → (image : Octets) × Stands host image []
+
+-- Where a volume of zeroed blocks stands under a label of its size, the image stands for the spool without changes.
+abbrev pub NewVolumesAreEmpty : Type 0
+NewVolumesAreEmpty = (image label : Octets) (blocks inodes : ℕ) (host : Octets) → StandsFor image label (zeroed blocks) → 1 ≤ blocks → IsLabel label blocks inodes host → Stands host image []
 
 -- So there is an image that stands for a spool.
 abbrev pub AnImageStands : Type 0

@@ -1,4 +1,4 @@
-ghost use Rattle.kernel.specs.Laws.{AnImageStands, EachHostHasAnImage, ImagesStandForOne};
+ghost use Rattle.kernel.specs.Laws.{AnImageStands, EachHostHasAnImage, ImagesStandForOne, NewVolumesAreEmpty};
 
 /// An image stands for one spool at most, under one host.
 pub fn images_stand_for_one()
@@ -9,4 +9,9 @@ pub fn images_stand_for_one()
 pub fn an_image_stands()
     ensures each { EachHostHasAnImage }
     ensures one { AnImageStands }
+{}
+
+/// A new volume, formatted under a label of its size, stands for the spool without changes.
+pub fn a_new_volume_is_empty()
+    ensures { NewVolumesAreEmpty }
 {}

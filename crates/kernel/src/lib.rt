@@ -25,7 +25,7 @@ mod serve;
 
 use crate::seat::{Seat, position, release};
 pub use errors::{AdminError, ExecError, JoinError, Stale};
-pub use laws::{an_image_stands, images_stand_for_one};
+pub use laws::{a_new_volume_is_empty, an_image_stands, images_stand_for_one};
 use model::{Mark, Message, Mode};
 pub use opening::OpenError;
 use outbox::ReadyBuf;

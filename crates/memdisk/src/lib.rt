@@ -207,6 +207,8 @@ impl Disk for MemDisk {
 impl Faults for MemDisk {
     ghost use Rattle.memdisk.specs.MemDisk.{memory_device, view};
 
+    ghost plans = { λ n old new. view new ≡ record (view old) { plan = plan_for n } };
+
     fn fail_at(&mut self, n: u64)
         ensures unchanged { IsUnchanged (memory_device self.old) (memory_device self.new) }
         ensures plan { view self.new ≡ record (view self.old) { plan = plan_for n } }

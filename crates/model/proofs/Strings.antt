@@ -9,7 +9,7 @@ use Rattle.byteorder.specs.Numbers.{length-bytes_low_first, little_number-reads_
 use Rattle.model.specs.Records.{article_record, change_string, spool_string}
 use Rattle.model.specs.Laws.Strings.{HasRoom, HaveRoomFrom, HaveRoom}
 use Rattle.model.specs.declared.change.Change.{Change}
-use Rattle.model.specs.declared.change.Change.TheVariants.{Group, Article}
+use Rattle.model.specs.declared.change.Change.TheVariants.{Group, Article, Expire}
 
 -- two lists that begin with parts of one length
 pub append_split : {X : Type 0} (xs ys front back : List X) → length xs ≡ length ys → xs ++ front ≡ ys ++ back → (xs ≡ ys) × (front ≡ back)
@@ -41,7 +41,7 @@ counted_split xs ys front back is =
     let rest : xs ++ front ≡ ys ++ back = cc in
     append_split xs ys front back counts rest
 
-counted_lists : (xs ys : List Octets) (front back : Octets) → length xs ≡ length ys → flat_map (λ g. length g ∷ g) xs ++ front ≡ flat_map (λ g. length g ∷ g) ys ++ back → (xs ≡ ys) × (front ≡ back)
+pub counted_lists : (xs ys : List Octets) (front back : Octets) → length xs ≡ length ys → flat_map (λ g. length g ∷ g) xs ++ front ≡ flat_map (λ g. length g ∷ g) ys ++ back → (xs ≡ ys) × (front ≡ back)
 counted_lists [] [] front back same is = (refl, is)
 counted_lists [] (y ∷ ys) front back same is = absurd (omega arith)
 counted_lists (x ∷ xs) [] front back same is = absurd (omega arith)
@@ -79,6 +79,16 @@ article_same n text text' groups groups' moment moment' small small' short short
     let names = counted_lists groups groups' text text' counts lists in
     λ i. Article (names.1 i) (names.0 i) (moments.0 i)
 
+expiry_same : (n : ℕ) (group group' : Octets) (number number' : ℕ) → number < 256 ^ 4 → number' < 256 ^ 4
+    → little_bytes 8 n ++ little_bytes 4 number ++ length group ∷ group ≡ little_bytes 8 n ++ little_bytes 4 number' ++ length group' ∷ group'
+    → Expire group number ≡ Expire group' number'
+expiry_same n group group' number number' small small' is =
+    let behind_serial : little_bytes 4 number ++ length group ∷ group ≡ little_bytes 4 number' ++ length group' ∷ group' =
+    append_cancel_left (little_bytes 8 n) _ _ (simp append_assoc at is) in
+    let numbers = little_split 4 number number' _ _ small small' behind_serial in
+    let names : group ≡ group' = let same = numbers.1 in cc in
+    λ i. Expire (names i) (numbers.0 i)
+
 -- ---- changes
 
 behind_kind : (a b : ℕ) (xs ys : Octets) → a ∷ xs ≡ b ∷ ys → xs ≡ ys
@@ -97,6 +107,13 @@ change_same n (Group name status description moment) (Group name' status' descri
 change_same n (Article text groups moment) (Article text' groups' moment') front back room room' is =
     let rest = record_split _ _ front back room.2 room'.2 (behind_kind _ _ _ _ is) in
     (article_same n text text' groups groups' moment moment' room.0 room'.0 room.1 room'.1 rest.0, rest.1)
+change_same n (Expire group number) (Expire group' number') front back room room' is =
+    let rest = record_split _ _ front back room.1 room'.1 (behind_kind _ _ _ _ is) in
+    (expiry_same n group group' number number' room.0 room'.0 rest.0, rest.1)
+change_same n (Group name status description moment) (Expire group' number') front back room room' is = absurd (cc)
+change_same n (Article text groups moment) (Expire group' number') front back room room' is = absurd (cc)
+change_same n (Expire group number) (Group name' status' description' moment') front back room room' is = absurd (cc)
+change_same n (Expire group number) (Article text' groups' moment') front back room room' is = absurd (cc)
 change_same n (Group name status description moment) (Article text groups' moment') front back room room' is = absurd (cc)
 change_same n (Article text groups moment) (Group name status' description' moment') front back room room' is = absurd (cc)
 

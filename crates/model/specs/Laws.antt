@@ -3,6 +3,12 @@ pub mod Dates
 pub mod Texts
 pub mod Answers
 pub mod Numbers
+pub mod Expiry
 pub mod Spools
 pub mod Strings
+pub mod Service
 pub mod FirstPath
+pub mod SpoolFiles
+pub mod Room
+pub mod Layout
+pub mod Indexed

@@ -1,14 +1,11 @@
--- What is stored of a spool: the records of groups and articles, the files that hold them, and all of them as one string
--- (docs/FORMATS.md). Numbers are unsigned and little-endian.
-use Rattle.std.specs.Prelude.{ℕ, zero, suc, ◌+◌, ◌/◌, ◌%◌, List, [], ◌∷◌, ◌++◌, map, flat_map, zip, length, codes}
-use Rattle.std.specs.List.{enumerate_from}
+-- What is stored of a spool: the records of groups, articles and expiries, and all of them as one string (docs/FORMATS.md).
+-- Numbers are unsigned and little-endian.
+use Rattle.std.specs.Prelude.{ℕ, zero, suc, ◌+◌, ◌/◌, ◌%◌, [], ◌∷◌, ◌++◌, flat_map, length}
 use Rattle.byteorder.specs.Endian.{little_bytes}
 use Rattle.model.specs.Stream.{Octets}
-use Rattle.model.specs.Article.{overview_line}
-use Rattle.model.specs.Files.{File}
-use Rattle.model.specs.Spool.{Spool, Entry, entries, NewsGroup, NewsArticle, groups, articles, articles_in}
+use Rattle.model.specs.Spool.{Spool, Entry, entries, NewsGroup, NewsArticle, Expiry}
 use Rattle.model.specs.declared.change.Change.{Change}
-use Rattle.model.specs.declared.change.Change.TheVariants.{Group, Article}
+use Rattle.model.specs.declared.change.Change.TheVariants.{Group, Article, Expire}
 
 -- the last so many decimal digits of a number
 abbrev pub last_digits : ℕ → ℕ → Octets
@@ -23,49 +20,25 @@ group_record g = little_bytes 8 g.serial ++ little_bytes 8 g.moment ++ g.status 
 abbrev pub article_record : NewsArticle → Octets
 article_record a = little_bytes 8 a.serial ++ little_bytes 8 a.moment ++ little_bytes 4 (length a.text) ++ length a.groups ∷ flat_map (λ g. length g ∷ g) a.groups ++ a.text
 
--- ---- the spool in files
-
--- the overview lines of a group's articles, each with its number
-abbrev pub overview_lines : Spool → Octets → List Octets
-overview_lines S g = map (λ p. overview_line p.0 p.1.text) (enumerate_from 1 (articles_in S g))
-
-abbrev pub overview_file : Spool → Octets → Octets
-overview_file S g = flat_map (λ line. line) (overview_lines S g)
-
--- for each article its serial, and where its line stands in the overview file
-abbrev pub number_records : ℕ → List (NewsArticle × Octets) → Octets
-number_records offset [] = []
-number_records offset (p ∷ rest) = little_bytes 8 p.0.serial ++ little_bytes 4 offset ++ little_bytes 4 (length p.1) ++ number_records (offset + length p.1) rest
-
-abbrev pub numbers_file : Spool → Octets → Octets
-numbers_file S g = number_records 0 (zip (articles_in S g) (overview_lines S g))
-
-abbrev pub group_files : Spool → NewsGroup → List File
-group_files S g =
-    record { name = codes "g." ++ g.name; content = group_record g }
-    ∷ record { name = codes "n." ++ g.name; content = numbers_file S g.name }
-    ∷ record { name = codes "o." ++ g.name; content = overview_file S g.name }
-    ∷ []
-
-abbrev pub article_file : NewsArticle → File
-article_file a = record { name = codes "a." ++ last_digits 10 a.serial; content = article_record a }
-
-abbrev pub files_of : Spool → List File
-files_of S = flat_map (group_files S) (groups S) ++ map article_file (articles S)
+-- an expiry: serial, number, the group's name behind its length
+abbrev pub expiry_record : Expiry → Octets
+expiry_record e = little_bytes 8 e.serial ++ little_bytes 4 e.number ++ length e.group ∷ e.group
 
 -- ---- the spool as one string
 
--- what stands behind kind and length: a group's name and record, or an article's record
+-- what stands behind kind and length: a group's name and record, an article's record, or an expiry's record
 abbrev pub change_record : Entry → Octets
 change_record e = by_change e.serial e.change where
   by_change : ℕ → Change → Octets
   by_change n (Group name status description moment) =
       length name ∷ name ++ group_record (record { serial = n; name = name; status = status; description = description; moment = moment })
   by_change n (Article text groups moment) = article_record (record { serial = n; text = text; groups = groups; moment = moment })
+  by_change n (Expire group number) = expiry_record (record { serial = n; group = group; number = number })
 
 abbrev pub change_kind : Change → ℕ
 change_kind (Group name status description moment) = 0
 change_kind (Article text groups moment) = 1
+change_kind (Expire group number) = 2
 
 -- kind, length of the rest, the rest
 abbrev pub change_string : Entry → Octets

@@ -1,15 +1,17 @@
 //! The plain data of the news server, and what is proved of its definitions, which stand in the folder specs/.
 //! Read Stream, Names, Calendar, Article, Spool, Commands, Replies, Answer, Reads, Service, Lawful, Layout.
-//! The laws stand in specs/Laws/. Each function below has an empty body, and its contract is a law:
+//! The laws stand in specs/Laws/. Each function below does nothing, and its contract is a law:
 //!
 //! - texts: `next_message`, `later_octets`, `read_back`, `date_of_a_moment`, `made_ids`, `stored_texts`
 //! - answers: `answers_come_from_front`, `accepted_change_is_read`, `nothing_later_is_read`, `replies_are_filled`,
-//!   `every_change_may_be_read`, `numbers_stay`
+//!   `every_change_may_be_read`, `numbers_stay`, `expiry_is_for_good`
+//! - the service: `news_is_lawful`, `news_is_synchronous`
 //! - spools: `lawful_stays`, `string_stands_for_one`
 #![tactic(auto)]
 
 mod change;
 mod command;
+mod filed;
 mod first_path;
 mod laws;
 mod layout;
@@ -20,10 +22,17 @@ mod texts;
 
 pub use change::Change;
 pub use command::{Command, Parsed, Part, Range, Selector};
+pub use filed::{
+    appends_reach_one_file, blocks_hold_one_spool, changes_ask_for_few_blocks,
+    creates_add_one_file, empty_blocks_hold_no_change, files_say_their_spool,
+    free_is_beside_the_files, images_stand_for_one_spool, index_grows, index_rises,
+    spools_grow_by_their_files,
+};
 pub use first_path::{Request, first_path_is_lawful};
 pub use laws::{
-    accepted_change_is_read, answers_come_from_front, every_change_may_be_read, lawful_stays,
-    nothing_later_is_read, numbers_stay, replies_are_filled,
+    accepted_change_is_read, answers_come_from_front, every_change_may_be_read, expiry_is_for_good,
+    lawful_stays, news_is_lawful, news_is_synchronous, nothing_later_is_read, numbers_stay,
+    replies_are_filled,
 };
 pub use layout::string_stands_for_one;
 pub use message::{Mark, Message, Mode};

@@ -44,7 +44,7 @@ pub(crate) fn print_spool<W: Write>(spool: &Spool, output: &mut W) -> io::Result
     Ok(())
 }
 
-/// `SERIAL group NAME STATUS` or `SERIAL article ID GROUP,GROUP`.
+/// `SERIAL group NAME STATUS`, `SERIAL article ID GROUP,GROUP` or `SERIAL expire NAME N`.
 fn print_change<W: Write>(serial: u64, change: &Change, output: &mut W) -> io::Result<()> {
     match change {
         Change::Group { name, status, .. } => {
@@ -60,6 +60,11 @@ fn print_change<W: Write>(serial: u64, change: &Change, output: &mut W) -> io::R
                 output.write_all(name.as_slice())?;
             }
             output.write_all(b"\n")
+        }
+        Change::Expire { group, number } => {
+            write!(output, "{serial} expire ")?;
+            output.write_all(group.as_slice())?;
+            writeln!(output, " {number}")
         }
     }
 }

@@ -244,7 +244,7 @@ fn holds(spool: &Spool, count: u64) -> bool {
     }
     match spool.change(2) {
         Change::Article { text, .. } => text.as_slice() == article(),
-        Change::Group { .. } => false,
+        Change::Group { .. } | Change::Expire { .. } => false,
     }
 }
 

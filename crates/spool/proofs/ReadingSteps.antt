@@ -13,7 +13,7 @@ use Rattle.model.specs.Spool.{Spool, NewsGroup, NewsArticle, group_named}
 use Rattle.model.specs.FirstPath.{MayFile, MayFollow, by_id, groups_here, id, is_article}
 use Rattle.model.specs.Records.{change_string}
 use Rattle.model.specs.declared.change.Change.{Change}
-use Rattle.model.specs.declared.change.Change.TheVariants.{Group, Article}
+use Rattle.model.specs.declared.change.Change.TheVariants.{Group, Article, Expire}
 use Rattle.spool.specs.Reading.{Stands, Takes, are_group_fields, may_take}
 use Rattle.spool.specs.declared.index.Place.{Place}
 
@@ -130,6 +130,7 @@ pub neither : (host : Octets) (S : Spool) (octets : Octets)
     → (c : Change) → Stands host S octets c → ⊥
 neither host S octets one two (Group name status description moment) stands = one name status description moment stands
 neither host S octets one two (Article text filed moment) stands = two text filed moment stands
+neither host S octets one two (Expire group number) stands = absurd stands.may
 
 pub either : {E : Type 0} (host : Octets) (S before after : Spool) (octets : Octets) (r : Result (Option ℕ) E)
     → ((name : Octets) (status : ℕ) (description : Octets) (moment : ℕ) → Stands host S octets (Group name status description moment) → ⊥) → before ≡ S

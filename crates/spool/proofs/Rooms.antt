@@ -11,7 +11,7 @@ use Rattle.model.specs.FirstPath.{IsLawfulAfter, MayFollow}
 use Rattle.model.specs.News.{Holds}
 use Rattle.model.specs.Laws.Strings.{HasRoom, HaveRoomFrom, HaveRoom}
 use Rattle.model.specs.declared.change.Change.{Change}
-use Rattle.model.specs.declared.change.Change.TheVariants.{Group, Article}
+use Rattle.model.specs.declared.change.Change.TheVariants.{Group, Article, Expire}
 use Rattle.model.proofs.Strings.{string_same}
 use Rattle.spool.specs.Laws.{BlocksHoldOneSpool}
 
@@ -25,6 +25,7 @@ has_room host before n (Group name status description moment) may fits =
 has_room host before n (Article text filed moment) may fits =
     let size = string_size (record { serial = n; change = Article text filed moment }) in
     (omega (arith, may.in_time), omega (arith, may.short), omega (arith, size, fits))
+has_room host before n (Expire group number) may fits = absurd may
 
 have_room : (host : Octets) (before : Spool) (n : ℕ) (S : Spool) → IsLawfulAfter host before S → length (flat_map change_string (entries_from n S)) ≤ 4096 * 65536 → HaveRoomFrom n S
 have_room host before n [] lawful fits = tt

@@ -76,7 +76,7 @@ fn has_article(spool: &Spool, text: &[u8]) -> bool {
                 && *moment == MOMENT,
             _ => false,
         },
-        Change::Group { .. } => false,
+        Change::Group { .. } | Change::Expire { .. } => false,
     }
 }
 

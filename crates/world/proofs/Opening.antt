@@ -2,7 +2,7 @@
 use Rattle.std.proofs.Common.{◌≡◌, ◌≢◌, ⊎_elim, ℕ, false, List, [], length, take, None, refl, ap, sym, ◌∙◌, subst, arith}
 use Rattle.std.specs.Prelude.{IsTrue, slice_index_or}
 use Rattle.std.proofs.lemmas.List.{take_all}
-use Rattle.disk.specs.Device.{Device}
+use Rattle.disk.specs.Device.{Device, Elapses}
 use Rattle.journal.specs.Journal.{Admits, JournalView}
 use Rattle.journal.specs.Opening.{AreSameVolume, IsNoVolume, LeftKept, Opens}
 use Rattle.journal.specs.declared.JournalError.{JournalError}
@@ -172,3 +172,7 @@ pub is_new : {D : Type 0} (two : JournalView D) (kernel : KernelView) (served : 
 is_new {D} two kernel served is f =
     subst (λ s. IsNew {D = D} (record { journal = two; served = s; untold = [] })) (sym is)
     (record { first = refl; durable = f.durable; in_flight = f.in_flight; halted = f.halted; dirty = f.dirty; joined = f.joined; seats = f.seats; sessions = refl; trace = refl; ready = refl; untold = refl })
+
+-- time that goes on twice
+pub elapses_both : (a b c : Device) → Elapses a b → Elapses b c → Elapses a c
+elapses_both a b c f s = record { size = s.size ∙ f.size; tells = s.tells ∙ f.tells; later = omega (arith, f.later, s.later) }

@@ -1,5 +1,5 @@
 -- Events done one after another.
-use Rattle.std.proofs.Common.{◌≡◌, ◌≢◌, ⊎_elim, ℕ, zero, suc, ◌+◌, ◌≤◌, true, false, List, [], ◌∷◌, ◌++◌, take, Some, refl, ap, sym, ◌∙◌, subst, arith}
+use Rattle.std.proofs.Common.{◌≡◌, ◌≢◌, inl, inr, ⊎_elim, ℕ, zero, suc, ◌+◌, ◌≤◌, true, false, List, [], ◌∷◌, ◌++◌, take, Some, refl, ap, sym, ◌∙◌, subst, arith}
 use Rattle.std.specs.Prelude.{IsTrue, Result, Ok, Err, slice_get}
 use Rattle.disk.specs.Device.{Device}
 use Rattle.model.specs.Stream.{Octets}
@@ -27,6 +27,7 @@ module _ {D : Type 0} (device : D → Device) where
     pub tells : (device now.journal.disk).tells ≡ (device old.journal.disk).tells
     pub later : (device old.journal.disk).clock ≤ (device now.journal.disk).clock
     pub during : EachSince (device old.journal.disk) (device now.journal.disk) (λ image. (j : ℕ) × (middle : WorldView D) × (j ≤ i) × Went device old (take j events) middle × Fits middle image)
+    pub since : LeftFits (device old.journal.disk) (device now.journal.disk) (λ image. (j : ℕ) × (middle : WorldView D) × (j ≤ i) × Went device old (take j events) middle × Fits middle image)
 
   pub running_none : ((d : D) (image : Octets) → IsTrue (device d).tells → (device d).left_since (device d).clock image → (device d).may_leave image) → (old : WorldView D) (events : List Event) → IsWorld device old → Running old old events 0
   running_none only_now old events h =
@@ -37,6 +38,7 @@ module _ {D : Type 0} (device : D → Device) where
         tells = refl;
         later = omega arith;
         during = λ tells image left. (0, old, omega arith, none old, now_fits device old h tells image (only_now old.journal.disk image tells left));
+        since = λ tells t image le left. inl left;
       }
 
   take_next : (events : List Event) (i : ℕ) (event : Event) → slice_get events i ≡ Some event → take (i + 1) events ≡ take i events ++ event ∷ []
@@ -58,7 +60,22 @@ module _ {D : Type 0} (device : D → Device) where
             (λ (was : (device now.journal.disk).left_since (device old.journal.disk).clock image). let d = h.during tells image was in (d.0, d.1, omega (arith, d.2), d.3, d.4))
             (λ (fits : Fits now image). (i, now, omega arith, h.went, fits))
             (since (subst IsTrue (sym h.tells) tells) (device old.journal.disk).clock image h.later left);
+        since = λ tells t image le left. ⊎_elim
+            (λ (was : (device now.journal.disk).left_since t image). ⊎_elim
+              (λ (before : (device old.journal.disk).left_since t image). inl before)
+              (λ (d : (j : ℕ) × (middle : WorldView D) × (j ≤ i) × Went device old (take j events) middle × Fits middle image). inr (d.0, d.1, omega (arith, d.2), d.3, d.4))
+              (h.since tells t image le was))
+            (λ (fits : Fits now image). inr (i, now, omega arith, h.went, fits))
+            (since (subst IsTrue (sym h.tells) tells) t image (omega (arith, le, h.later)) left);
       }
+
+-- what a crash since an earlier time might have left, behind n events at least as many as these
+pub since_within : {D : Type 0} (device : D → Device) (old now : WorldView D) (events : List Event) (i n : ℕ) → i ≤ n → Running device old now events i
+    → LeftFits (device old.journal.disk) (device now.journal.disk) (λ image. (j : ℕ) × (middle : WorldView D) × (j ≤ n) × Went device old (take j events) middle × Fits middle image)
+since_within {D} device old now events i n le h tells t image early left =
+    ⊎_elim (λ (was : (device old.journal.disk).left_since t image). inl was)
+    (λ (d : (j : ℕ) × (middle : WorldView D) × (j ≤ i) × Went device old (take j events) middle × Fits middle image). inr (d.0, d.1, omega (arith, d.2, le), d.3, d.4))
+    (h.since tells t image early left)
 
 -- a refusal for memory leaves all as it was
 pub running_refused : {D : Type 0} (device : D → Device) (old now new : WorldView D) (events : List Event) (i : ℕ) (event : Event) (result : Result Answer StepError) → Running device old now events i → result ≡ Err error.Memory → Did device now event result new → Running device old new events i

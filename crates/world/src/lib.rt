@@ -16,6 +16,8 @@ ghost use Rattle.served.specs.Events.{Makes, arrive_refusal, arrives, joins, lea
 ghost use Rattle.served.specs.Served.{arrived_at, next_of, released_at};
 ghost use Rattle.world.specs.Events.{Did, DidDev, DidExec, DidTake, MayHappen, Went, commits, dev_answer, exec_answer, fails, for_memory, of_admin_error, of_arrive_error, of_join_error, of_kernel, told};
 ghost use Rattle.world.specs.Fields.{durable_news};
+ghost use Rattle.disk.specs.Device.{Elapses};
+ghost use Rattle.journal.specs.Journal.{IsReady};
 ghost use Rattle.model.specs.News.{Stands};
 ghost use Rattle.world.specs.Images.{EachNow, EachSince, Fits, IsDamagedVolume, IsNoNewsVolume, KeepsSpools, LeftFits, StandsForNone};
 ghost use Rattle.world.specs.Opening.{IsNew, open_error};
@@ -90,6 +92,8 @@ impl<D: Disk> World<D> {
         ensures keeps { IfOk result (λ w. IsWorld D.device w) }
         ensures now { IfOk result (λ w. EachNow (D.device w.journal.disk) (Fits w)) }
         ensures still { IfOk result (λ w. (D.device w.journal.disk).failures ≡ (D.device disk).failures) }
+        ensures time { MatchResult result (λ w. Elapses (D.device disk) (D.device w.journal.disk)) (λ refused. Elapses (D.device disk) (D.device refused.disk)) }
+        ensures idle { IfOk result (λ w. IsReady w.journal) }
         ensures fault { IfErr result (λ refused. refused.error ≡ OpenError.Fault → (D.device refused.disk).failures ≢ (D.device disk).failures) }
         ensures memory { IfErr result (λ refused. refused.error ≡ OpenError.Memory → (D.device refused.disk).failures ≡ (D.device disk).failures) }
         ensures no_volume { IfErr result (λ refused. refused.error ≡ OpenError.NotAVolume → IsTrue (D.device disk).tells → IsNoNewsVolume (D.device disk).content) }
@@ -162,6 +166,8 @@ impl<D: Disk> World<D> {
         ensures went { Went D.device self.old (take result events.now) self.new }
         ensures stops { result < length events.now → (event : ItsEvent) × (slice_get events.now result ≡ Some event) × Did D.device self.new event (Err StepError.Memory) self.new }
         ensures during { EachSince (D.device self.old.journal.disk) (D.device self.new.journal.disk)
+            (λ image. (j : ℕ) × (middle : WorldView D) × (j ≤ result) × Went D.device self.old (take j events.now) middle × Fits middle image) }
+        ensures since { LeftFits (D.device self.old.journal.disk) (D.device self.new.journal.disk)
             (λ image. (j : ℕ) × (middle : WorldView D) × (j ≤ result) × Went D.device self.old (take j events.now) middle × Fits middle image) }
         ensures now { EachNow (D.device self.new.journal.disk) (Fits self.new) }
         ensures keeps { IsWorld D.device self.new }

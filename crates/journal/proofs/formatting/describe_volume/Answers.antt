@@ -6,13 +6,13 @@ use Rattle.journal.proofs.Formatted.{superblock_valid, blocks_are, label_is}
 use Rattle.journal.proofs.formatting.describe_volume.Goals as goal
 
 -- the five writes one after the other
-written : (old a b c d e label : List ℕ) (blocks : ℕ) → a ≡ overwritten 0 magic old → b ≡ overwritten 8 (little_bytes 4 0) a → c ≡ overwritten 12 (little_bytes 4 blocks) b → d ≡ overwritten 16 (little_bytes 4 1) c → e ≡ overwritten 20 label d
-    → e ≡ overwritten 20 label (overwritten 16 (little_bytes 4 1) (overwritten 12 (little_bytes 4 blocks) (overwritten 8 (little_bytes 4 0) (overwritten 0 magic old))))
+written : (old a b c d e label : List ℕ) (blocks : ℕ) → a ≡ overwritten 0 magic old → b ≡ overwritten 8 (little_bytes 4 1) a → c ≡ overwritten 12 (little_bytes 4 blocks) b → d ≡ overwritten 16 (little_bytes 4 1) c → e ≡ overwritten 20 label d
+    → e ≡ overwritten 20 label (overwritten 16 (little_bytes 4 1) (overwritten 12 (little_bytes 4 blocks) (overwritten 8 (little_bytes 4 1) (overwritten 0 magic old))))
 written old a b c d e label blocks ea eb ec ed ee =
     ee ∙ ap (λ (l : List ℕ). overwritten 20 label l)
     (ed ∙ ap (λ (l : List ℕ). overwritten 16 (little_bytes 4 1) l)
     (ec ∙ ap (λ (l : List ℕ). overwritten 12 (little_bytes 4 blocks) l)
-    (eb ∙ ap (λ (l : List ℕ). overwritten 8 (little_bytes 4 0) l) ea)))
+    (eb ∙ ap (λ (l : List ℕ). overwritten 8 (little_bytes 4 1) l) ea)))
 
 pub returns-clause-valid : goal.returns-clause-valid
 returns-clause-valid c =

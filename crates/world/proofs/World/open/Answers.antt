@@ -5,7 +5,8 @@ use Rattle.served.specs.Served.{ServedView}
 use Rattle.world.specs.Images.{KeepsSpools}
 use Rattle.std.proofs.Common.{[]}
 use Rattle.world.proofs.Fitting.{now_fits}
-use Rattle.world.proofs.Opening.{is_damaged, journal_finds_no_damage, journal_lacked_memory, journal_missed, keeps_both, keeps_left, no_label, no_volume, none_damaged, none_unlabelled, stands_opened}
+use Rattle.disk.specs.Device.{Elapses}
+use Rattle.world.proofs.Opening.{elapses_both, is_damaged, journal_finds_no_damage, journal_lacked_memory, journal_missed, keeps_both, keeps_left, no_label, no_volume, none_damaged, none_unlabelled, stands_opened}
 use Rattle.world.proofs.World.open.Goals as goal
 
 pub returns-in-Err-clause-during : goal.returns-in-Err-clause-during
@@ -61,3 +62,15 @@ returns-clause-during g c = keeps_both g.D.Disk.device g.met.D.Disk.only_now g.m
 
 pub returns-clause-now : goal.returns-clause-now
 returns-clause-now g c = now_fits g.D.Disk.device (record { journal = c.open-2.new.journal; served = c.in-Ok-new.served; untold = [] }) c.kept.ensures
+
+pub returns-in-Err-open-clause-time : goal.returns-in-Err-open-clause-time
+returns-in-Err-open-clause-time g c = subst (λ d. Elapses (g.D.Disk.device c.args.disk) (g.D.Disk.device d)) (sym c.into_disk.ensures) (elapses_both (g.D.Disk.device c.args.disk) (g.D.Disk.device c.in-Ok.journal.disk) (g.D.Disk.device c.open-2.new.journal.disk) c.in-Ok.ensures.ok.time c.open-2.ensures.reads.time)
+
+pub returns-in_default-clause-time : goal.returns-in_default-clause-time
+returns-in_default-clause-time g c = subst (λ d. Elapses (g.D.Disk.device c.args.disk) (g.D.Disk.device d)) (sym c.into_disk-in_default.ensures) (elapses_both (g.D.Disk.device c.args.disk) (g.D.Disk.device c.in-Ok.journal.disk) (g.D.Disk.device c.open-2.new.journal.disk) c.in-Ok.ensures.ok.time c.open-2.ensures.reads.time)
+
+pub returns-in_default-new-clause-time : goal.returns-in_default-new-clause-time
+returns-in_default-new-clause-time g c = subst (λ d. Elapses (g.D.Disk.device c.args.disk) (g.D.Disk.device d)) (sym c.into_disk-in_default-new.ensures) (elapses_both (g.D.Disk.device c.args.disk) (g.D.Disk.device c.in-Ok.journal.disk) (g.D.Disk.device c.open-2.new.journal.disk) c.in-Ok.ensures.ok.time c.open-2.ensures.reads.time)
+
+pub returns-clause-time : goal.returns-clause-time
+returns-clause-time g c = elapses_both (g.D.Disk.device c.args.disk) (g.D.Disk.device c.in-Ok.journal.disk) (g.D.Disk.device c.open-2.new.journal.disk) c.in-Ok.ensures.ok.time c.open-2.ensures.reads.time

@@ -1,0 +1,243 @@
+-- How much room a change asks for, and how many blocks it changes.
+use Rattle.std.proofs.Common.{◌≡◌, ◌≤◌, ℕ, zero, suc, ◌+◌, ◌*◌, ◌/◌, ◌%◌, List, [], ◌∷◌, ◌++◌, length, refl, sym, ◌∙◌, ap, arith, Bool, true, false, cond, length-append}
+use Rattle.std.specs.Prelude.{flat_map, filter, filter_map, find, zip, bytes_eq, is_some, nat_lt, nat_le, ◌-◌, ◌&&◌, ◌||◌, Option, Some, None}
+use Rattle.std.specs.List.{Contains, list_all, list_any, sum_by}
+use Rattle.std.proofs.lemmas.Bool.{and_parts, or_parts, leb-true, ltb-false, le-ltb, false≢true}
+use Rattle.std.proofs.lemmas.List.Sums.{sum_by-cons, length-filter, count_by-le-length}
+use Rattle.std.proofs.lemmas.Slice.Eq.{bytes_eq-Decides}
+use Rattle.byteorder.specs.Endian.{little_bytes}
+use Rattle.byteorder.specs.Numbers.{length-bytes_low_first}
+use Rattle.model.specs.Stream.{Octets}
+use Rattle.model.specs.Names.{is_group_name, is_group_octet, is_dotted}
+use Rattle.model.specs.Article.{Carried, are_distinct, cause, groups_of}
+use Rattle.model.specs.Spool.{Spool, entries_from, NewsArticle, NewsGroup, group_made, is_name, filed_in, group_named, groups, entries, is_here}
+use Rattle.model.specs.Records.{group_record, article_record, expiry_record}
+use Rattle.model.specs.SpoolFiles.{numbers_name, overview_name, number_record, number_records, numbers_of, numbers_file, overview_file, overview_lines, change_file, next_line, next_record, FileCall, Create, Append, filing_calls, files_of, making_calls}
+use Rattle.model.specs.Room.{blocks_asked, blocks_changed, blocks_filed, blocks_for, blocks_taken, extends_large, files_made, free_blocks_beside, free_inodes_beside, has_all_groups, is_full_for, is_large, largest_file, octets_asked}
+use Rattle.model.specs.Lawful.{MayFile, IsLawfulAfter, IsLawful}
+use Rattle.model.specs.Laws.Room.{ChangesAskFew, FilesGrowByBlocks, NotFullHasRoom}
+use Rattle.model.specs.declared.change.Change.TheVariants.{Group, Article, Expire}
+use Rattle.model.proofs.HoldsOne.{carried_cause, carried_size, high_few}
+use Rattle.model.proofs.Ids.{no_cause}
+use Rattle.model.proofs.LineSizes.{line_short}
+
+-- ---- blocks of a size
+
+indirect_most : (size : ℕ) → cond (nat_lt 40960 size) 1 0 ≤ 1
+indirect_most size = by_test (nat_lt 40960 size) where
+  by_test : (b : Bool) → cond b 1 0 ≤ 1
+  by_test true = omega arith
+  by_test false = omega arith
+
+blocks_most : (size : ℕ) → blocks_for size ≤ (size + 4095) / 4096 + 1
+blocks_most size = omega (arith, indirect_most size)
+
+small_blocks : (size : ℕ) → size ≤ 40960 → blocks_for size ≡ (size + 4095) / 4096
+small_blocks size small =
+    let none : blocks_for size ≡ (size + 4095) / 4096 + 0 = ap (λ (b : Bool). (size + 4095) / 4096 + cond b 1 0) (le-ltb 40960 size small) in
+    omega arith
+
+pub files_grow_by_blocks : FilesGrowByBlocks
+files_grow_by_blocks size more = omega (arith, blocks_most (size + more))
+
+-- ---- sizes of records
+
+little_size : (size n : ℕ) → length (little_bytes size n) ≡ size
+little_size size n = length-bytes_low_first 0 size n
+
+number_size : (serial offset : ℕ) (line : Octets) → length (number_record serial offset line) ≡ 16
+number_size serial offset line =
+    omega (arith, length-append (little_bytes 8 serial ++ little_bytes 4 offset) (little_bytes 4 (length line)), length-append (little_bytes 8 serial) (little_bytes 4 offset), little_size 8 serial, little_size 4 offset, little_size 4 (length line))
+
+group_size : (g : NewsGroup) → length (group_record g) ≡ 17 + length g.description
+group_size g =
+    omega (arith, length-append (little_bytes 8 g.serial ++ little_bytes 8 g.moment) (g.status ∷ g.description), length-append (little_bytes 8 g.serial) (little_bytes 8 g.moment), little_size 8 g.serial, little_size 8 g.moment)
+
+names_size : (names : List Octets) → list_all is_group_name names ≡ true → length (flat_map (λ g. length g ∷ g) names) ≤ 41 * length names
+names_size [] good = omega arith
+names_size (g ∷ names) good =
+    let parts = and_parts (is_group_name g) (list_all is_group_name names) good in
+    let short = leb-true (length g) 40 (and_parts (nat_le (length g) 40) (is_dotted is_group_octet g) parts.0).0 in
+    omega (arith, length-append (length g ∷ g) (flat_map (λ h. length h ∷ h) names), names_size names parts.1, short)
+
+article_size : (a : NewsArticle) → length (article_record a) ≡ 21 + length (flat_map (λ g. length g ∷ g) a.groups) + length a.text
+article_size a =
+    let head = little_bytes 8 a.serial ++ little_bytes 8 a.moment in
+    let sized = head ++ little_bytes 4 (length a.text) in
+    let named = flat_map (λ g. length g ∷ g) a.groups in
+    omega (
+      arith,
+      length-append (sized ++ length a.groups ∷ named) a.text,
+      length-append sized (length a.groups ∷ named),
+      length-append sized (length a.groups ∷ named ++ a.text),
+      length-append (length a.groups ∷ named) a.text,
+      length-append named a.text,
+      length-append head (little_bytes 4 (length a.text)),
+      length-append (little_bytes 8 a.serial) (little_bytes 8 a.moment),
+      little_size 8 a.serial,
+      little_size 8 a.moment,
+      little_size 4 (length a.text),
+    )
+
+expiry_size : (n number : ℕ) (group : Octets) → length (expiry_record (record { serial = n; group = group; number = number })) ≡ 13 + length group
+expiry_size n number group =
+    omega (arith, length-append (little_bytes 8 n ++ little_bytes 4 number) (length group ∷ group), length-append (little_bytes 8 n) (little_bytes 4 number), little_size 8 n, little_size 4 number)
+
+-- ---- the groups of an article
+
+filter_all : (q p : Octets → Bool) (names : List Octets) → list_all q names ≡ true → list_all q (filter p names) ≡ true
+filter_all q p [] good = refl
+filter_all q p (x ∷ names) good = by_test (p x) (and_parts (q x) (list_all q names) good).0 (filter_all q p names (and_parts (q x) (list_all q names) good).1) where
+  by_test : (b : Bool) → q x ≡ true → list_all q (filter p names) ≡ true → list_all q (cond b (x ∷ filter p names) (filter p names)) ≡ true
+  by_test true first rest = ap (λ (t : Bool). t && list_all q (filter p names)) first ∙ rest
+  by_test false first rest = rest
+
+record AreFew (names : List Octets) : Type 0 where
+  count : length names ≤ 16
+  named : list_all is_group_name names ≡ true
+
+few_groups : (host : Octets) (S : Spool) (text : Octets) (gs : List Octets) (moment : ℕ) → MayFile host S text gs moment → AreFew gs
+few_groups host S text gs moment may =
+    let good = (no_cause Carried text (carried_cause text may.carried)).good_groups in
+    let sound = (and_parts (nat_le (length (groups_of text)) 16 && list_all is_group_name (groups_of text)) (are_distinct (groups_of text)) good).0 in
+    let parts = and_parts (nat_le (length (groups_of text)) 16) (list_all is_group_name (groups_of text)) sound in
+    record {
+      count = omega (arith, ap (λ (l : List Octets). length l) may.filed, length-filter (is_here S) (groups_of text), count_by-le-length (is_here S) (groups_of text), leb-true (length (groups_of text)) 16 parts.0);
+      named = ap (list_all is_group_name) may.filed ∙ filter_all is_group_name (is_here S) (groups_of text) parts.1;
+    }
+
+-- a group that is here has a name
+here_from : (host : Octets) (before cs : Spool) (n : ℕ) (g : Octets) → IsLawfulAfter host before cs
+    → is_some (find (λ (group : NewsGroup). is_name g group.name) (filter_map group_made (entries_from n cs))) ≡ true → is_group_name g ≡ true
+here_from host before [] n g lawful here = absurd (false≢true here)
+here_from host before (Article text gs moment ∷ cs) n g lawful here = here_from host (before ++ Article text gs moment ∷ []) cs (suc n) g lawful.1 here
+here_from host before (Expire h number ∷ cs) n g lawful here = here_from host (before ++ Expire h number ∷ []) cs (suc n) g lawful.1 here
+here_from host before (Group h status description moment ∷ cs) n g lawful here = by_name (bytes_eq h g) refl here (here_from host (before ++ Group h status description moment ∷ []) cs (suc n) g lawful.1) where
+  rest : Option NewsGroup
+  rest = find (λ (group : NewsGroup). is_name g group.name) (filter_map group_made (entries_from (suc n) cs))
+
+  by_name : (b : Bool) → bytes_eq h g ≡ b → is_some (cond b (Some (record { serial = n; name = h; status = status; description = description; moment = moment })) rest) ≡ true → (is_some rest ≡ true → is_group_name g ≡ true) → is_group_name g ≡ true
+  by_name true is found later = ap is_group_name (sym ((bytes_eq-Decides h g).0 is)) ∙ lawful.0.is_name
+  by_name false is found later = later found
+
+here_short : (host : Octets) (S : Spool) (g : Octets) → IsLawful host S → is_here S g ≡ true → length g ≤ 40
+unfolding group_named groups entries
+here_short host S g lawful here = leb-true (length g) 40 (and_parts (nat_le (length g) 40) (is_dotted is_group_octet g) (here_from host [] S 1 g lawful here)).0
+
+-- ---- numbers stand in whole records
+
+pub records_size : (offset : ℕ) (ps : List (NewsArticle × Octets)) → length (number_records offset ps) ≡ 16 * length ps
+records_size offset [] = refl
+records_size offset (p ∷ ps) =
+    omega (arith, length-append (number_record p.0.serial offset p.1) (number_records (offset + length p.1) ps), number_size p.0.serial offset p.1, records_size (offset + length p.1) ps)
+
+numbers_whole : (filed : List NewsArticle) → length (numbers_of filed) % 16 ≡ 0
+unfolding numbers_of
+numbers_whole filed = omega (arith, records_size 0 (zip filed (overview_lines filed)))
+
+-- ---- one group
+
+module _ (S : Spool) (text : Octets) (few : length S ≤ 32768) (carried : cause Carried text ≡ None) where
+  short_line : (g : Octets) → length (next_line S text g) ≤ 8191
+  short_line g = line_short (length (filed_in S g) + 1) text (omega (arith, high_few S g, few)) carried
+
+  filed_blocks : (g : Octets) → blocks_filed S text g ≤ 8
+  filed_blocks g =
+      omega (
+        arith,
+        short_line g,
+        number_size (length S + 1) (length (overview_file S g)) (next_line S text g),
+        numbers_whole (filed_in S g),
+        indirect_most (length (numbers_file S g) + length (next_record S text g)),
+        indirect_most (length (overview_file S g) + length (next_line S text g)),
+      )
+
+  all_filed : (gs : List Octets) → sum_by (blocks_filed S text) gs ≤ 8 * length gs
+  all_filed [] = omega arith
+  all_filed (g ∷ gs) = omega (arith, sum_by-cons (blocks_filed S text) g gs, filed_blocks g, all_filed gs)
+
+  filing_taken : (gs : List Octets) → sum_by blocks_taken (flat_map (filing_calls S text) gs) ≤ 5 * length gs
+  filing_taken [] = omega arith
+  filing_taken (g ∷ gs) =
+      let first : FileCall = Append (numbers_name g) (next_record S text g) in
+      let second : FileCall = Append (overview_name g) (next_line S text g) in
+      omega (
+        arith,
+        sum_by-cons blocks_taken first (second ∷ flat_map (filing_calls S text) gs),
+        sum_by-cons blocks_taken second (flat_map (filing_calls S text) gs),
+        filing_taken gs,
+        short_line g,
+        number_size (length S + 1) (length (overview_file S g)) (next_line S text g),
+      )
+
+making_taken : (name octets : Octets) (more : List FileCall) → sum_by blocks_taken (making_calls name octets ++ more) ≡ (length octets + 4095) / 4096 + 1 + sum_by blocks_taken more
+making_taken name octets more = omega (arith, sum_by-cons blocks_taken (Create name) (Append name octets ∷ more), sum_by-cons blocks_taken (Append name octets) more)
+
+two_created : (first second : Octets) → sum_by blocks_taken (Create first ∷ Create second ∷ []) ≡ 0
+two_created first second = omega (arith, sum_by-cons blocks_taken (Create first) (Create second ∷ []), sum_by-cons blocks_taken (Create second) [])
+
+-- ---- changes
+
+pub changes_ask_few : ChangesAskFew
+unfolding blocks_changed
+changes_ask_few host S (Group name status description moment) few lawful may =
+    let its = change_file (record { serial = length S + 1; change = Group name status description moment }) in
+    let size : length its.content ≤ 217 = omega (arith, group_size (record { serial = length S + 1; name = name; status = status; description = description; moment = moment }), may.short) in
+    record {
+      blocks = omega (arith, making_taken its.name its.content (Create (numbers_name name) ∷ Create (overview_name name) ∷ []), two_created (numbers_name name) (overview_name name), size);
+      made = omega (arith, size);
+      lines = λ text g gs m same. absurd (cc);
+      changed = omega (arith, small_blocks (length its.content) (omega (arith, size)), size);
+    }
+changes_ask_few host S (Article text gs moment) few lawful may =
+    let its = change_file (record { serial = length S + 1; change = Article text gs moment }) in
+    let groups_few = few_groups host S text gs moment may in
+    let size : length its.content ≤ 262821 =
+    omega (arith, article_size (record { serial = length S + 1; text = text; groups = gs; moment = moment }), names_size gs groups_few.named, groups_few.count, carried_size text may.carried) in
+    record {
+      blocks = omega (arith, making_taken its.name its.content (flat_map (filing_calls S text) gs), filing_taken S text few may.carried gs, groups_few.count, size);
+      made = size;
+      lines = λ text' g gs' m same. let one : text' ≡ text = cc in omega (arith, ap (λ (t : Octets). length (next_line S t g)) one, short_line S text few may.carried g);
+      changed = omega (arith, blocks_most (length its.content), all_filed S text few may.carried gs, groups_few.count, size);
+    }
+changes_ask_few host S (Expire group number) few lawful may =
+    let its = change_file (record { serial = length S + 1; change = Expire group number }) in
+    let size : length its.content ≤ 53 = omega (arith, expiry_size (length S + 1) number group, here_short host S group lawful may.here) in
+    let calls : sum_by blocks_taken (making_calls its.name its.content) ≡ (length its.content + 4095) / 4096 + 1 =
+    omega (arith, sum_by-cons blocks_taken (Create its.name) (Append its.name its.content ∷ []), sum_by-cons blocks_taken (Append its.name its.content) []) in
+    record {
+      blocks = omega (arith, calls, size);
+      made = omega (arith, size);
+      lines = λ text g gs m same. absurd (cc);
+      changed = omega (arith, small_blocks (length its.content) (omega (arith, size)), size);
+    }
+
+-- ---- where the spool isn't full
+
+large_at : (S : Spool) (filed : List Octets) (g : Octets) → list_any (λ h. is_large (numbers_file S h) || is_large (overview_file S h)) filed ≡ false → Contains filed g → (is_large (numbers_file S g) ≡ false) × (is_large (overview_file S g) ≡ false)
+large_at S [] g none (k, low, is) = absurd (omega arith)
+large_at S (h ∷ filed) g none (zero, low, is) =
+    let here = or_parts (is_large (numbers_file S h)) (is_large (overview_file S h)) (or_parts (is_large (numbers_file S h) || is_large (overview_file S h)) (list_any (λ x. is_large (numbers_file S x) || is_large (overview_file S x)) filed) none).0 in
+    (ap (λ (x : Octets). is_large (numbers_file S x)) (sym is) ∙ here.0, ap (λ (x : Octets). is_large (overview_file S x)) (sym is) ∙ here.1)
+large_at S (h ∷ filed) g none (suc k, low, is) =
+    large_at S filed g (or_parts (is_large (numbers_file S h) || is_large (overview_file S h)) (list_any (λ x. is_large (numbers_file S x) || is_large (overview_file S x)) filed) none).1 (k, omega arith, is)
+
+pub not_full_room : NotFullHasRoom
+unfolding is_full_for
+not_full_room host blocks inodes S c few lawful may room =
+    let asks = changes_ask_few host S c few lawful may in
+    let free = free_blocks_beside blocks inodes (files_of S) in
+    let left = free_inodes_beside inodes (files_of S) in
+    let first = or_parts (nat_lt free blocks_asked) (nat_lt left (files_made c) || (extends_large S c || has_all_groups S c)) room in
+    let second = or_parts (nat_lt left (files_made c)) (extends_large S c || has_all_groups S c) first.1 in
+    let third = or_parts (extends_large S c) (has_all_groups S c) second.1 in
+    record {
+      blocks_enough = omega (arith, asks.blocks, ltb-false free blocks_asked first.0);
+      inodes_enough = ltb-false left (files_made c) second.0;
+      sizes = λ text filed moment g same has.
+          let none : extends_large S (Article text filed moment) ≡ false = ap (extends_large S) (sym same) ∙ third.0 in
+          let small = large_at S filed g none has in (
+            omega (arith, ltb-false (largest_file - octets_asked) (length (numbers_file S g)) small.0, number_size (length S + 1) (length (overview_file S g)) (next_line S text g)),
+            omega (arith, ltb-false (largest_file - octets_asked) (length (overview_file S g)) small.1, asks.lines text g filed moment same),
+          );
+    }

@@ -1,0 +1,5 @@
+use Rattle.model.proofs.Filing.{files_grow, spools_grow}
+use Rattle.model.proofs.filed.spools_grow_by_their_files.Goals as goal
+
+pub returns : goal.returns
+returns c = record { files = files_grow; spools = spools_grow }

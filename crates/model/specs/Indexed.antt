@@ -1,0 +1,115 @@
+-- What is kept in memory beside the files of a spool, so that no look-up searches them. Each field is an equation with the
+-- spool, and one change more changes each by one element at most. All of it is this project's own choice.
+use Rattle.std.specs.Prelude.{◌≡◌, ℕ, zero, suc, ◌+◌, List, [], ◌∷◌, ◌++◌, map, length, slice_index, slice_index_or, Option, Some, None, bytes_eq, option_map}
+use Rattle.std.specs.Map.{lookup}
+use Rattle.model.specs.Stream.{Octets}
+use Rattle.model.specs.Files.{File, table}
+use Rattle.model.specs.Spool.{Spool, Entry, entries, NewsGroup, Expiry, groups, group_named, filed_in, expiries_of, low, last_naming, by_id}
+use Rattle.model.specs.SpoolFiles.{change_file, numbers_name, overview_name, next_line, numbers_file, overview_file, overview_lines}
+use Rattle.model.specs.declared.change.Change.{Change}
+use Rattle.model.specs.declared.change.Change.TheVariants.{Group, Article, Expire}
+
+-- ---- a change, without its text
+
+-- the text of an article stays in its file
+pub data Note : Type 0 where
+  GroupNote : NewsGroup → Note
+  ArticleNote : ℕ → List Octets → ℕ → Note
+  ExpiryNote : Octets → ℕ → Note
+
+-- of an article: the length of its text, its groups, its moment
+abbrev pub note_of : Entry → Note
+note_of e = by_change e.serial e.change where
+  by_change : ℕ → Change → Note
+  by_change n (Group name status description moment) = GroupNote (record { serial = n; name = name; status = status; description = description; moment = moment })
+  by_change n (Article text filed moment) = ArticleNote (length text) filed moment
+  by_change n (Expire group number) = ExpiryNote group number
+
+-- ---- a group
+
+-- where each of some lines ends, if they stand one after the other behind so many octets
+abbrev pub ends_from : ℕ → List Octets → List ℕ
+ends_from start [] = []
+ends_from start (line ∷ lines) = (start + length line) ∷ ends_from (start + length line) lines
+
+pub record GroupIndex : Type 0 where
+  pub group : NewsGroup
+  -- the serials of the articles filed in it, by number
+  pub filed : List ℕ
+  -- where the overview line of each ends
+  pub ends : List ℕ
+  pub low : ℕ
+  -- its expiries, by rising number
+  pub expired : List Expiry
+  -- the last serial that names it
+  pub last : ℕ
+
+abbrev pub group_index : Spool → NewsGroup → GroupIndex
+group_index S g = record {
+  group = g;
+  filed = map (λ a. a.serial) (filed_in S g.name);
+  ends = ends_from 0 (overview_lines (filed_in S g.name));
+  low = low S g.name;
+  expired = expiries_of S g.name;
+  last = last_naming S g.name;
+}
+
+-- where the line with place k begins, and where the last one ends
+abbrev pub line_start : List ℕ → ℕ → ℕ
+line_start ends zero = 0
+line_start ends (suc k) = slice_index ends k
+
+-- ---- one change more
+
+abbrev pub with_article : Spool → Octets → GroupIndex → GroupIndex
+with_article S text i = record i {
+  filed = i.filed ++ (length S + 1) ∷ [];
+  ends = i.ends ++ (length (overview_file S i.group.name) + length (next_line S text i.group.name)) ∷ [];
+  last = length S + 1;
+}
+
+abbrev pub with_expiry : Spool → ℕ → GroupIndex → GroupIndex
+with_expiry S number i = record i {
+  low = 1 + number;
+  expired = i.expired ++ record { serial = length S + 1; group = i.group.name; number = number } ∷ [];
+  last = length S + 1;
+}
+
+abbrev pub new_index : Spool → NewsGroup → GroupIndex
+new_index S g = record { group = g; filed = []; ends = []; low = 1; expired = []; last = length S + 1 }
+
+-- ---- the whole
+
+-- the value of a key
+abbrev pub value_of : List (Octets × ℕ) → Octets → Option ℕ
+value_of entries key = lookup (λ k. bytes_eq key k) entries
+
+pub record SpoolIndex : Type 0 where
+  pub notes : List Note
+  pub group_list : List GroupIndex
+  -- the serial of a group by its name, and of an article by its id
+  pub names : List (Octets × ℕ)
+  pub ids : List (Octets × ℕ)
+
+pub record IsIndexOf (S : Spool) (index : SpoolIndex) : Type 0 where
+  pub notes_are : index.notes ≡ map note_of (entries S)
+  pub groups_are : index.group_list ≡ map (group_index S) (groups S)
+  pub names_are : (name : Octets) → value_of index.names name ≡ option_map (λ g. g.serial) (group_named S name)
+  pub ids_are : (wanted : Octets) → value_of index.ids wanted ≡ option_map (λ a. a.serial) (by_id S wanted)
+
+-- ---- where the files stand
+
+-- the inode of each change's file by serial, and of the numbers and the overview of each group
+pub record FilePlaces : Type 0 where
+  pub changes : List ℕ
+  pub numbers : List ℕ
+  pub overviews : List ℕ
+
+-- what these inodes have
+abbrev pub files_at : ℕ → List Octets → List ℕ → List (Option File)
+files_at inodes blocks places = map (λ k. slice_index_or (table inodes blocks) k None) places
+
+pub record ArePlaces (inodes : ℕ) (blocks : List Octets) (S : Spool) (places : FilePlaces) : Type 0 where
+  pub changes_are : files_at inodes blocks places.changes ≡ map (λ e. Some (change_file e)) (entries S)
+  pub numbers_are : files_at inodes blocks places.numbers ≡ map (λ g. Some (record { name = numbers_name g.name; content = numbers_file S g.name })) (groups S)
+  pub overviews_are : files_at inodes blocks places.overviews ≡ map (λ g. Some (record { name = overview_name g.name; content = overview_file S g.name })) (groups S)

@@ -1,0 +1,56 @@
+-- What the index of a spool rests on, and how it grows.
+use Rattle.std.specs.Prelude.{◌≡◌, ℕ, ◌+◌, ◌*◌, ◌<◌, false, if◌then◌else◌, [], ◌∷◌, ◌++◌, bytes_eq, length, map, slice_get, slice_index, List, Some}
+use Rattle.std.specs.List.{list_any}
+use Rattle.disk.specs.Image.{part}
+use Rattle.model.specs.Stream.{Octets}
+use Rattle.model.specs.Indexed.{IsIndexOf, ends_from, group_index, line_start, new_index, note_of, with_article, with_expiry}
+use Rattle.model.specs.Lawful.{IsLawful, MayFollow}
+use Rattle.model.specs.Spool.{Spool, Expiry, NewsArticle, NewsGroup, entries, expiries_of, filed_in, high, is_name}
+use Rattle.model.specs.SpoolFiles.{numbers_file, overview_file, overview_lines}
+use Rattle.model.specs.declared.change.Change.{Change}
+use Rattle.model.specs.declared.change.Change.TheVariants.{Group, Article, Expire}
+
+-- The expiries of a group have rising numbers, and articles filed in it rising serials, so both are found by halving.
+abbrev pub ExpiriesRise : Type 0
+ExpiriesRise = (host : Octets) (S : Spool) (g : Octets) (i j : ℕ) → IsLawful host S → i < j → j < length (expiries_of S g) →
+    slice_index (map (λ (e : Expiry). e.number) (expiries_of S g)) i < slice_index (map (λ (e : Expiry). e.number) (expiries_of S g)) j
+
+abbrev pub FiledRise : Type 0
+FiledRise = (S : Spool) (g : Octets) (i j : ℕ) → i < j → j < length (filed_in S g) →
+    slice_index (map (λ (a : NewsArticle). a.serial) (filed_in S g)) i < slice_index (map (λ (a : NewsArticle). a.serial) (filed_in S g)) j
+
+-- The numbers of a group have 16 octets for each article.
+abbrev pub NumbersAreWhole : Type 0
+NumbersAreWhole = (S : Spool) (g : Octets) → length (numbers_file S g) ≡ 16 * high S g
+
+-- A line of the overview stands where the index says.
+abbrev pub LinesStand : Type 0
+LinesStand = (S : Spool) (g : Octets) (k : ℕ) (line : Octets) → slice_get (overview_lines (filed_in S g)) k ≡ Some line →
+    (part (line_start (ends_from 0 (overview_lines (filed_in S g))) k) (length line) (overview_file S g) ≡ line)
+    × (slice_index (ends_from 0 (overview_lines (filed_in S g))) k ≡ line_start (ends_from 0 (overview_lines (filed_in S g))) k + length line)
+
+-- ---- one change more
+
+pub record GroupsGrow : Type 0 where
+  pub others : (S : Spool) (name : Octets) (status : ℕ) (description : Octets) (moment : ℕ) (g : NewsGroup) → bytes_eq name g.name ≡ false →
+      group_index (S ++ Group name status description moment ∷ []) g ≡ group_index S g
+  pub its_own : (host : Octets) (S : Spool) (name : Octets) (status : ℕ) (description : Octets) (moment : ℕ) (g : NewsGroup) → IsLawful host S → MayFollow host S (Group name status description moment) →
+      g.name ≡ name → group_index (S ++ Group name status description moment ∷ []) g ≡ new_index S g
+
+abbrev pub ArticlesGrow : Type 0
+ArticlesGrow = (S : Spool) (text : Octets) (filed : List Octets) (moment : ℕ) (g : NewsGroup) →
+    group_index (S ++ Article text filed moment ∷ []) g ≡ (if list_any (is_name g.name) filed then with_article S text (group_index S g) else group_index S g)
+
+abbrev pub ExpiriesGrow : Type 0
+ExpiriesGrow = (host : Octets) (S : Spool) (h : Octets) (number : ℕ) (g : NewsGroup) → MayFollow host S (Expire h number) →
+    group_index (S ++ Expire h number ∷ []) g ≡ (if bytes_eq h g.name then with_expiry S number (group_index S g) else group_index S g)
+
+-- each change has one note
+abbrev pub NotesGrow : Type 0
+NotesGrow = (S : Spool) (c : Change) → map note_of (entries (S ++ c ∷ [])) ≡ map note_of (entries S) ++ note_of (record { serial = length S + 1; change = c }) ∷ []
+
+-- ---- the whole
+
+-- the spool without changes has the empty index
+abbrev pub EmptyIndex : Type 0
+EmptyIndex = IsIndexOf [] (record { notes = []; group_list = []; names = []; ids = [] })

@@ -1,0 +1,50 @@
+-- What a spool's files leave free, and what a change asks for.
+use Rattle.std.specs.Prelude.{◌≡◌, ℕ, ◌+◌, ◌/◌, ◌≤◌, false, List, Some, length}
+use Rattle.std.specs.List.{Contains, sum_by}
+use Rattle.model.specs.Stream.{Octets}
+use Rattle.model.specs.Files.{File, HasRoom, HoldsFiles, free_blocks, free_inodes}
+use Rattle.model.specs.Lawful.{IsLawful, MayFollow}
+use Rattle.model.specs.Room.{blocks_changed, blocks_for, blocks_taken, files_made, free_blocks_beside, free_inodes_beside, is_full, largest_file, most_changed}
+use Rattle.model.specs.Spool.{Spool}
+use Rattle.model.specs.SpoolFiles.{change_calls, change_file, files_of, next_line, next_record, numbers_file, overview_file}
+use Rattle.model.specs.declared.change.Change.{Change}
+use Rattle.model.specs.declared.change.Change.TheVariants.{Article}
+
+pub record IsBeside (inodes : ℕ) (blocks : List Octets) (files : List File) : Type 0 where
+  pub blocks_are : free_blocks blocks ≡ free_blocks_beside (length blocks) inodes files
+  pub inodes_are : free_inodes inodes blocks ≡ free_inodes_beside inodes files
+
+-- The blocks and the inodes that are free are those that the files leave.
+abbrev pub FreeIsBeside : Type 0
+FreeIsBeside = (inodes : ℕ) (blocks : List Octets) (files : List File) → HasRoom inodes blocks → HoldsFiles inodes blocks files → IsBeside inodes blocks files
+
+-- A file that gets so many octets more takes a block for each 4,096 of them and an indirect block, at most.
+abbrev pub FilesGrowByBlocks : Type 0
+FilesGrowByBlocks = (size more : ℕ) → blocks_for (size + more) ≤ blocks_for size + ((more + 4095) / 4096 + 1)
+
+-- a change asks for few blocks, and each file that it makes or extends gets few octets
+pub record AsksFew (S : Spool) (c : Change) : Type 0 where
+  -- 66 for an article and 5 for each of its groups
+  pub blocks : sum_by blocks_taken (change_calls S c) ≤ 146
+  -- a head of at most 677 octets, and the text
+  pub made : length (change_file (record { serial = length S + 1; change = c })).content ≤ 262_821
+  -- fewer than the 12,288 for which there is room
+  pub lines : (text g : Octets) (filed : List Octets) (moment : ℕ) → c ≡ Article text filed moment → length (next_line S text g) ≤ 8_191
+  -- so one change changes few blocks
+  pub changed : blocks_changed S c ≤ most_changed
+
+-- What a change asks for is within what was free before it.
+abbrev pub ChangesAskFew : Type 0
+ChangesAskFew = (host : Octets) (S : Spool) (c : Change) → length S ≤ 32_768 → IsLawful host S → MayFollow host S c → AsksFew S c
+
+-- a change finds all the room that its calls ask for
+pub record HasRoomForChange (blocks inodes : ℕ) (S : Spool) (c : Change) : Type 0 where
+  pub blocks_enough : sum_by blocks_taken (change_calls S c) ≤ free_blocks_beside blocks inodes (files_of S)
+  pub inodes_enough : files_made c ≤ free_inodes_beside inodes (files_of S)
+  pub sizes : (text : Octets) (filed : List Octets) (moment : ℕ) (g : Octets) → c ≡ Article text filed moment → Contains filed g →
+      (length (numbers_file S g) + length (next_record S text g) ≤ largest_file) × (length (overview_file S g) + length (next_line S text g) ≤ largest_file)
+
+-- So none of its calls meets a full file system where the spool isn't full.
+abbrev pub NotFullHasRoom : Type 0
+NotFullHasRoom = (host : Octets) (blocks inodes : ℕ) (S : Spool) (c : Change) → length S ≤ 32_768 → IsLawful host S → MayFollow host S c →
+    is_full blocks inodes S (Some c) ≡ false → HasRoomForChange blocks inodes S c

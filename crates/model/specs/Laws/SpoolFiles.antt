@@ -1,0 +1,81 @@
+-- How the files of a spool stand for it.
+use Rattle.std.specs.Prelude.{◌≡◌, ℕ, ◌+◌, ◌-◌, ◌*◌, ◌^◌, ◌<◌, ◌≤◌, List, [], ◌∷◌, ◌++◌, replicate, length, slice_get, slice_index_or, slice_set, Option, Some, None, IsPermutation}
+use Rattle.std.specs.List.{All, Contains, count_by}
+use Rattle.model.specs.Stream.{Octets}
+use Rattle.model.specs.Files.{File, HoldsFiles, IsFileSystem, files_in, table}
+use Rattle.model.specs.Spool.{Spool, first, groups}
+use Rattle.model.specs.Lawful.{IsLawful, MayFollow}
+use Rattle.model.specs.Layout.{Holds}
+use Rattle.model.specs.SpoolFiles.{Create, Append, HasRoomInFile, after_call, after_calls, change_calls, change_file, files_by_kind, files_of, is_of_change}
+use Rattle.model.specs.declared.change.Change.{Change}
+
+-- Blocks hold one spool at most, under whatever hosts.
+abbrev pub BlocksHoldOne : Type 0
+BlocksHoldOne = (host other : Octets) (inodes : ℕ) (blocks : List Octets) (S R : Spool) → inodes ≤ 32768 →
+    Holds host inodes blocks S → Holds other inodes blocks R → S ≡ R
+
+-- A spool that blocks hold has no more changes than there are inodes.
+abbrev pub ChangesAreFew : Type 0
+ChangesAreFew = (host : Octets) (inodes : ℕ) (blocks : List Octets) (S : Spool) → Holds host inodes blocks S → length S ≤ inodes
+
+-- The empty file system holds the spool without changes.
+abbrev pub EmptyHoldsNone : Type 0
+EmptyHoldsNone = (host : Octets) (inodes : ℕ) (blocks : List Octets) → IsFileSystem inodes blocks → table inodes blocks ≡ replicate inodes None →
+    Holds host inodes blocks []
+
+-- The files of a spool with one change more are those behind the calls that the change makes.
+abbrev pub FilesGrow : Type 0
+FilesGrow = (host : Octets) (S : Spool) (c : Change) → length S + 1 < 10 ^ 10 → IsLawful host S → MayFollow host S c →
+    files_of (S ++ c ∷ []) ≡ after_calls (files_of S) (change_calls S c)
+
+-- Blocks that hold the files behind the calls of a change hold the spool with that change.
+abbrev pub SpoolsGrow : Type 0
+SpoolsGrow = (host : Octets) (inodes : ℕ) (blocks : List Octets) (files : List File) (S : Spool) (c : Change) → length S + 1 < 10 ^ 10 →
+    IsLawful host S → MayFollow host S c → HoldsFiles inodes blocks files → IsPermutation files (after_calls (files_of S) (change_calls S c)) →
+    Holds host inodes blocks (S ++ c ∷ [])
+
+-- ---- opening
+
+-- What the file of a change says stands in every spool that the blocks hold, at its serial.
+abbrev pub ChangesAreRead : Type 0
+ChangesAreRead = (host : Octets) (inodes : ℕ) (blocks : List Octets) (S : Spool) (n : ℕ) (c : Change) → inodes ≤ 32768 → Holds host inodes blocks S →
+    HasRoomInFile n c → Contains (files_in (table inodes blocks)) (change_file (record { serial = n; change = c })) → (1 ≤ n) × (slice_get S (n - 1) ≡ Some c)
+
+-- So the changes that were read, by rising serial, are the first ones of every spool that the blocks hold,
+abbrev pub FrontsAreRead : Type 0
+FrontsAreRead = (host : Octets) (inodes : ℕ) (blocks : List Octets) (S R : Spool) → inodes ≤ 32768 → Holds host inodes blocks S →
+    ((n : ℕ) (c : Change) → slice_get R n ≡ Some c → HasRoomInFile (n + 1) c × Contains (files_in (table inodes blocks)) (change_file (record { serial = n + 1; change = c }))) →
+    R ≡ first S (length R)
+
+-- which has as many changes as there are files of changes.
+abbrev pub ChangesAreCounted : Type 0
+ChangesAreCounted = (host : Octets) (inodes : ℕ) (blocks : List Octets) (S : Spool) → Holds host inodes blocks S →
+    count_by is_of_change (files_in (table inodes blocks)) ≡ length S
+
+-- Blocks hold a lawful spool where each of their files is one of its own, and there are as many.
+abbrev pub FilesMakeSpool : Type 0
+FilesMakeSpool = (host : Octets) (inodes : ℕ) (blocks : List Octets) (files : List File) (S : Spool) → HoldsFiles inodes blocks files → IsLawful host S →
+    All (Contains (files_of S)) files → length files ≡ length (files_of S) → Holds host inodes blocks S
+
+-- The files are those of the groups, of the articles and of the expiries.
+abbrev pub FilesAreByKind : Type 0
+FilesAreByKind = (S : Spool) → IsPermutation (files_of S) (files_by_kind S)
+
+-- Each change has a file, and each group two more.
+abbrev pub FilesAreCounted : Type 0
+FilesAreCounted = (S : Spool) → length (files_of S) ≡ length S + 2 * length (groups S)
+
+-- ---- one call in the table of inodes
+
+-- an empty file in a free inode
+abbrev pub CreatesOne : Type 0
+CreatesOne = (files : List File) (inodes : List (Option File)) (k : ℕ) (name : Octets) → k < length inodes → slice_index_or inodes k None ≡ None →
+    IsPermutation (files_in inodes) files →
+    IsPermutation (files_in (slice_set inodes k (Some (record { name = name; content = [] })))) (after_call files (Create name))
+
+-- octets behind those of the one file with this name
+abbrev pub AppendsToOne : Type 0
+AppendsToOne = (files : List File) (inodes : ℕ) (blocks : List Octets) (k : ℕ) (name content octets : Octets) → IsFileSystem inodes blocks →
+    slice_index_or (table inodes blocks) k None ≡ Some (record { name = name; content = content }) →
+    IsPermutation (files_in (table inodes blocks)) files →
+    IsPermutation (files_in (slice_set (table inodes blocks) k (Some (record { name = name; content = content ++ octets })))) (after_call files (Append name octets))

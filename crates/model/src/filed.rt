@@ -1,0 +1,78 @@
+ghost use Rattle.model.specs.Laws.Indexed.{ArticlesGrow, EmptyIndex, ExpiriesGrow, ExpiriesRise, FiledRise, GroupsGrow, LinesStand, NotesGrow, NumbersAreWhole};
+ghost use Rattle.model.specs.Laws.Layout.{EmptyVolumesStand, ImagesStandForOne, VersionIsOne};
+ghost use Rattle.model.specs.Laws.Room.{ChangesAskFew, FilesGrowByBlocks, FreeIsBeside, NotFullHasRoom};
+ghost use Rattle.model.specs.Laws.SpoolFiles.{AppendsToOne, BlocksHoldOne, ChangesAreCounted, ChangesAreFew, ChangesAreRead, CreatesOne, EmptyHoldsNone, FilesAreByKind, FilesAreCounted, FilesGrow, FilesMakeSpool, FrontsAreRead, SpoolsGrow};
+
+/// Blocks hold one spool at most, and it has no more changes than there are inodes.
+pub fn blocks_hold_one_spool()
+    ensures one { BlocksHoldOne }
+    ensures few { ChangesAreFew }
+{}
+
+/// The empty file system holds the spool without changes.
+pub fn empty_blocks_hold_no_change()
+    ensures { EmptyHoldsNone }
+{}
+
+/// A spool grows as its files do.
+pub fn spools_grow_by_their_files()
+    ensures files { FilesGrow }
+    ensures spools { SpoolsGrow }
+{}
+
+/// An empty file in a free inode is one file more.
+pub fn creates_add_one_file()
+    ensures { CreatesOne }
+{}
+
+/// Octets behind those of a file change no other file.
+pub fn appends_reach_one_file()
+    ensures { AppendsToOne }
+{}
+
+/// What is free in the blocks is what their files leave.
+pub fn free_is_beside_the_files()
+    ensures { FreeIsBeside }
+{}
+
+/// A change asks for few blocks and changes few, and finds them where the spool isn't full.
+pub fn changes_ask_for_few_blocks()
+    ensures grow { FilesGrowByBlocks }
+    ensures few { ChangesAskFew }
+    ensures room { NotFullHasRoom }
+{}
+
+/// What the files of changes say is the spool that the blocks hold; where each file is one of a lawful spool, and there
+/// are as many, the blocks hold that spool.
+pub fn files_say_their_spool()
+    ensures read { ChangesAreRead }
+    ensures fronts { FrontsAreRead }
+    ensures changes { ChangesAreCounted }
+    ensures make { FilesMakeSpool }
+    ensures counted { FilesAreCounted }
+    ensures kinds { FilesAreByKind }
+{}
+
+/// An image stands for one spool at most, under one host, and a new one for the spool without changes.
+pub fn images_stand_for_one_spool()
+    ensures one { ImagesStandForOne }
+    ensures version { VersionIsOne }
+    ensures empty { EmptyVolumesStand }
+{}
+
+/// What stands in order in the index, and where.
+pub fn index_rises()
+    ensures expiries { ExpiriesRise }
+    ensures filed { FiledRise }
+    ensures numbers { NumbersAreWhole }
+    ensures lines { LinesStand }
+{}
+
+/// What one change more changes of the index.
+pub fn index_grows()
+    ensures notes { NotesGrow }
+    ensures groups { GroupsGrow }
+    ensures articles { ArticlesGrow }
+    ensures expiries { ExpiriesGrow }
+    ensures empty { EmptyIndex }
+{}
