@@ -1,64 +1,93 @@
 -- What `admin` answers, from what the spool answers.
-use Rattle.std.proofs.Common.{◌≡◌, ◌⊎◌, inl, inr, ℕ, ◌+◌, ◌≤◌, Bool, true, false, List, [], ◌∷◌, length, refl, ap, sym, ◌∙◌, arith}
-use Rattle.std.specs.Prelude.{Option, Some, None, nat_lt, if◌then◌else◌}
-use Rattle.std.proofs.lemmas.Bool.{ltb-true}
+use Rattle.std.proofs.Common.{◌≡◌, ◌⊎◌, inl, inr, ℕ, ◌+◌, ◌<◌, ◌≤◌, Bool, true, false, List, [], ◌∷◌, length, refl, ap, sym, ◌∙◌, arith}
+use Rattle.std.specs.Prelude.{Ok, Option, Some, None, nat_le, nat_lt, if◌then◌else◌}
+use Rattle.std.proofs.lemmas.Bool.{leb-false, ltb-false}
 use Rattle.model.specs.Stream.{Octets}
 use Rattle.model.specs.Spool.{is_here}
 use Rattle.model.specs.declared.change.Change.{Change}
+use Rattle.model.specs.declared.change.Change.TheVariants.{Group}
 use Rattle.spool.specs.View.{SpoolView, Adds}
 use Rattle.spool.specs.Refusals.{group_refusal, is_full_for}
 use Rattle.spool.specs.declared.errors.AddError.TheVariants as add
-use Rattle.kernel.specs.Kernel.{Administers, Exists, Full, Halted, KernelView, LaterDirty, Refusal, Seat, admin_refusal, first_failing}
+use Rattle.kernel.specs.Kernel.{Administers, Exists, Full, Halted, KernelView, LaterDirty, Refusal, Seat, TooManySessions, admin_refusal_of, early_refusal, first_failing, join_refusal, only_tested}
 use Rattle.kernel.specs.Stored.{kernel_of}
 use Rattle.kernel.proofs.ExecLaws.{changed_dirties}
 
-few_dirty : (n : ℕ) → n ≤ 256 → nat_lt 256 n ≡ false
-few_dirty n le = go (nat_lt 256 n) refl
+-- a call that only tests answers `Ok` where no test fails
+pub passed : {E : Type 0} (as_error : Refusal → E) (refusal : Option Refusal) (done : Unit {0}) → Ok done ≡ only_tested as_error refusal → refusal ≡ None
+passed as_error None done is = refl
+passed as_error (Some refusal) done is = absurd (cc is)
+
+-- who may join finds a place
+pub few_seats : (k : KernelView) → join_refusal k ≡ None → length k.seats < 64
+few_seats k is = go k.halted refl (nat_le 64 (length k.seats)) refl
   where
-    go : (b : Bool) → nat_lt 256 n ≡ b → nat_lt 256 n ≡ false
-    go true is = absurd (omega (arith, ltb-true 256 n is))
-    go false is = is
+    go : (h : Bool) → k.halted ≡ h → (b : Bool) → nat_le 64 (length k.seats) ≡ b → length k.seats < 64
+    go true halted b many = absurd (let some : Some Halted ≡ None = rw halted at is in cc some)
+    go false halted true many = absurd (let some : Some TooManySessions ≡ None = rw (halted, many) at is in cc some)
+    go false halted false many = leb-false 64 (length k.seats) many
 
-module _ (s : SpoolView) (d : ℕ) (f : Option ℕ) (j : ℕ) (seats : List Seat) (name : Octets) (c : Change) (few : length s.dirty ≤ 256) where
+-- an early test that fails is the first of all
+pub early_first : (k : KernelView) (c : Change) (r : Refusal) → early_refusal k ≡ Some r → admin_refusal_of k c ≡ Some r
+early_first k c r is = go k.halted refl (nat_lt 256 (length k.dirty)) refl
+  where
+    go : (h : Bool) → k.halted ≡ h → (b : Bool) → nat_lt 256 (length k.dirty) ≡ b → admin_refusal_of k c ≡ Some r
+    go true halted b late = rw halted (rw halted at is)
+    go false halted true late = rw (halted, late) (rw (halted, late) at is)
+    go false halted false late = absurd (let none : None ≡ Some r = rw (halted, late) at is in cc none)
+
+-- where no early test fails, the kernel is not halted, and few blocks are dirty
+pub early_none : (k : KernelView) → early_refusal k ≡ None → (k.halted ≡ false) × (nat_lt 256 (length k.dirty) ≡ false)
+early_none k is = go k.halted refl (nat_lt 256 (length k.dirty)) refl
+  where
+    go : (h : Bool) → k.halted ≡ h → (b : Bool) → nat_lt 256 (length k.dirty) ≡ b → (k.halted ≡ false) × (nat_lt 256 (length k.dirty) ≡ false)
+    go true halted b late = absurd (let some : Some Halted ≡ None = rw halted at is in cc some)
+    go false halted true late = absurd (let some : Some LaterDirty ≡ None = rw (halted, late) at is in cc some)
+    go false halted false late = (halted, late)
+
+pub few_dirty : (k : KernelView) → early_refusal k ≡ None → length k.dirty ≤ 256
+few_dirty k is = ltb-false 256 (length k.dirty) (early_none k is).1
+
+module _ (s : SpoolView) (d : ℕ) (f : Option ℕ) (h : Bool) (j : ℕ) (seats : List Seat) (name : Octets) (status : ℕ) (description : Octets) (moment : ℕ) (early : early_refusal (kernel_of s d f h j seats) ≡ None) where
   abbrev was : KernelView
-  was = kernel_of s d f false j seats
+  was = kernel_of s d f h j seats
 
-  abbrev refusal_now : Option Refusal
-  refusal_now = admin_refusal (is_here s.changes name) (is_full_for s c) was
+  abbrev c : Change
+  c = Group name status description moment
 
-  by_tests : (here full : Bool) → is_here s.changes name ≡ here → is_full_for s c ≡ full → refusal_now ≡ first_failing ((false, Halted) ∷ (false, LaterDirty) ∷ (here, Exists) ∷ (full, Full) ∷ [])
-  by_tests here full a b = λ i. first_failing ((false, Halted) ∷ (few_dirty (length s.dirty) few i, LaterDirty) ∷ (a i, Exists) ∷ (b i, Full) ∷ [])
+  by_tests : (here full : Bool) → is_here s.changes name ≡ here → is_full_for s c ≡ full → admin_refusal_of was c ≡ first_failing ((false, Halted) ∷ (false, LaterDirty) ∷ (here, Exists) ∷ (full, Full) ∷ [])
+  by_tests here full a b = λ i. first_failing (((early_none was early).0 i, Halted) ∷ ((early_none was early).1 i, LaterDirty) ∷ (a i, Exists) ∷ (b i, Full) ∷ [])
 
-  pub exists_when : group_refusal s name c ≡ Some add.Exists → refusal_now ≡ Some Exists
+  pub exists_when : group_refusal s name c ≡ Some add.Exists → admin_refusal_of was c ≡ Some Exists
   exists_when = go (is_here s.changes name) (is_full_for s c) refl refl
     where
-      go : (here full : Bool) → is_here s.changes name ≡ here → is_full_for s c ≡ full → (if here then Some add.Exists else if full then Some add.Full else None) ≡ Some add.Exists → refusal_now ≡ Some Exists
+      go : (here full : Bool) → is_here s.changes name ≡ here → is_full_for s c ≡ full → (if here then Some add.Exists else if full then Some add.Full else None) ≡ Some add.Exists → admin_refusal_of was c ≡ Some Exists
       go true full a b is = by_tests true full a b
       go false true a b is = absurd (cc is)
       go false false a b is = absurd (cc is)
 
-  pub full_when : group_refusal s name c ≡ Some add.Full → refusal_now ≡ Some Full
+  pub full_when : group_refusal s name c ≡ Some add.Full → admin_refusal_of was c ≡ Some Full
   full_when = go (is_here s.changes name) (is_full_for s c) refl refl
     where
-      go : (here full : Bool) → is_here s.changes name ≡ here → is_full_for s c ≡ full → (if here then Some add.Exists else if full then Some add.Full else None) ≡ Some add.Full → refusal_now ≡ Some Full
+      go : (here full : Bool) → is_here s.changes name ≡ here → is_full_for s c ≡ full → (if here then Some add.Exists else if full then Some add.Full else None) ≡ Some add.Full → admin_refusal_of was c ≡ Some Full
       go true full a b is = absurd (cc is)
       go false true a b is = by_tests false true a b
       go false false a b is = absurd (cc is)
 
-  pub none_when : group_refusal s name c ≡ None → refusal_now ≡ None
+  pub none_when : group_refusal s name c ≡ None → admin_refusal_of was c ≡ None
   none_when = go (is_here s.changes name) (is_full_for s c) refl refl
     where
-      go : (here full : Bool) → is_here s.changes name ≡ here → is_full_for s c ≡ full → (if here then Some add.Exists else if full then Some add.Full else None) ≡ None → refusal_now ≡ None
+      go : (here full : Bool) → is_here s.changes name ≡ here → is_full_for s c ≡ full → (if here then Some add.Exists else if full then Some add.Full else None) ≡ None → admin_refusal_of was c ≡ None
       go true full a b is = absurd (cc is)
       go false true a b is = absurd (cc is)
       go false false a b is = by_tests false false a b
 
-  pub administers : (s' : SpoolView) (serial : ℕ) → serial ≡ length s.changes + 1 → Adds s s' c → Administers was (kernel_of s' d f false j seats) c serial
+  pub administers : (s' : SpoolView) (serial : ℕ) → serial ≡ length s.changes + 1 → Adds s s' c → Administers was (kernel_of s' d f h j seats) c serial
   administers s' serial is adds =
       record {
         serial_is = is;
         spool = adds.changes;
-        blocks = changed_dirties s s' d f false j seats seats adds.dirties;
+        blocks = changed_dirties s s' d f h j seats seats adds.dirties;
         rest = (adds.host, adds.inodes, refl, refl, refl, refl, refl);
       }
 

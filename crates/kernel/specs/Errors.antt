@@ -1,3 +1,4 @@
+-- The refusals of each call as its errors. Each list is whole, so a new refusal has to be given its name here.
 use Rattle.kernel.specs.Kernel.{Refusal}
 use Rattle.kernel.specs.Kernel as kernel
 use Rattle.kernel.specs.declared.errors.JoinError.{JoinError}
@@ -7,17 +8,32 @@ use Rattle.kernel.specs.declared.errors.ExecError.TheVariants as exec
 use Rattle.kernel.specs.declared.errors.AdminError.{AdminError}
 use Rattle.kernel.specs.declared.errors.AdminError.TheVariants as admin
 
+-- join: Halted or TooManySessions; its tests give no other
 abbrev pub of_join : Refusal → JoinError
 of_join kernel.Halted = join.Halted
-of_join r = join.TooManySessions
+of_join kernel.TooManySessions = join.TooManySessions
+of_join kernel.LaterDirty = join.Memory
+of_join kernel.LaterOut = join.Memory
+of_join kernel.NoSession = join.Memory
+of_join kernel.Exists = join.Memory
+of_join kernel.Full = join.Memory
 
+-- exec: NoSession, LaterOut or LaterDirty; its tests give no other
 abbrev pub of_exec : Refusal → ExecError
+of_exec kernel.NoSession = exec.NoSession
 of_exec kernel.LaterOut = exec.LaterOut
 of_exec kernel.LaterDirty = exec.LaterDirty
-of_exec r = exec.NoSession
+of_exec kernel.Halted = exec.Memory
+of_exec kernel.TooManySessions = exec.Memory
+of_exec kernel.Exists = exec.Memory
+of_exec kernel.Full = exec.Memory
 
+-- admin: Halted, LaterDirty, Exists or Full; its tests give no other
 abbrev pub of_admin : Refusal → AdminError
 of_admin kernel.Halted = admin.Halted
 of_admin kernel.LaterDirty = admin.LaterDirty
 of_admin kernel.Exists = admin.Exists
-of_admin r = admin.Full
+of_admin kernel.Full = admin.Full
+of_admin kernel.TooManySessions = admin.Memory
+of_admin kernel.LaterOut = admin.Memory
+of_admin kernel.NoSession = admin.Memory

@@ -1,12 +1,13 @@
 -- The kernel as its callers see it, and what each call does.
-use Rattle.std.specs.Prelude.{All, bytes_eq, slice_index_or, ◌≡◌, ◌⊎◌, ℕ, ◌+◌, ◌-◌, ◌^◌, ◌≤◌, ◌<◌, max, Bool, true, false, not, ◌&&◌, ◌||◌, ◌==◌, nat_lt, nat_le, if◌then◌else◌, List, [], ◌∷◌, ◌++◌, map, filter, find, length, Option, Some, None, is_none, is_some, Result, Err, MatchResult}
+use Rattle.std.specs.Prelude.{All, bytes_eq, slice_index_or, ◌≡◌, ◌⊎◌, ℕ, ◌+◌, ◌-◌, ◌^◌, ◌≤◌, ◌<◌, max, Bool, true, false, not, ◌&&◌, ◌||◌, ◌==◌, nat_lt, nat_le, if◌then◌else◌, List, [], ◌∷◌, ◌++◌, map, filter, find, length, Option, Some, None, is_none, is_some, Result, Ok, Err, MatchResult}
 use Rattle.std.specs.List.{list_any}
 use Rattle.std.specs.Option.{option_to_list}
 use Rattle.model.specs.Stream.{Octets}
-use Rattle.model.specs.Spool.{Spool}
+use Rattle.model.specs.Spool.{Spool, is_here}
 use Rattle.model.specs.News.{greeting, new_session, answer, reads, is_long, is_full, mode_of}
 use Rattle.model.specs.Volume.{laid_over, AreDistinct}
 use Rattle.model.specs.declared.change.Change.{Change}
+use Rattle.model.specs.declared.change.Change.TheVariants as change
 use Rattle.model.specs.declared.message.Message.{Message}
 use Rattle.model.specs.declared.message.Message.TheVariants as message
 use Rattle.model.specs.declared.message.Mark.{Mark}
@@ -187,10 +188,17 @@ abbrev pub Tested : {A E V : Type 0} → (Refusal → E) → E → Option Refusa
 Tested as_error memory (Some refusal) old new result done = (result ≡ Err (as_error refusal)) × (new ≡ old)
 Tested as_error memory None old new result done = MatchResult result done (λ error. (error ≡ memory) × (new ≡ old))
 
--- the same, where memory may be refused before a test is reached
-abbrev pub TestedOrMemory : {A E V : Type 0} → (Refusal → E) → E → Option Refusal → V → V → Result A E → (A → Type 0) → Type 0
-TestedOrMemory as_error memory refusal old new result done =
-    MatchResult result (λ answer. (refusal ≡ None) × done answer) (λ error. ((error ≡ memory) ⊎ ((r : Refusal) × (refusal ≡ Some r) × (error ≡ as_error r))) × (new ≡ old))
+-- the same, where memory may be refused before a test is reached, but not before one of the early tests
+abbrev pub TestedOrMemory : {A E V : Type 0} → (Refusal → E) → E → Option Refusal → Option Refusal → V → V → Result A E → (A → Type 0) → Type 0
+TestedOrMemory as_error memory early refusal old new result done =
+    MatchResult result
+    (λ answer. (refusal ≡ None) × done answer)
+    (λ error. (((error ≡ memory) × (early ≡ None)) ⊎ ((r : Refusal) × (refusal ≡ Some r) × (error ≡ as_error r))) × (new ≡ old))
+
+-- the answer of a call that tests and does nothing else
+abbrev pub only_tested : {E : Type 0} → (Refusal → E) → Option Refusal → Result (Unit {0}) E
+only_tested as_error None = Ok tt
+only_tested as_error (Some refusal) = Err (as_error refusal)
 
 -- blocks that are the cached ones but for the dirty ones
 pub record AgreesBehind (kernel : KernelView) (base : List Octets) : Type 0 where
@@ -238,9 +246,22 @@ pub record Execs (old new : KernelView) (number : ℕ) (m : Message) (t : ℕ) (
   pub executed : Executed old new seat m t answered.1
   pub reads_next : answered.0 ≡ mode_at new number
 
--- the operator's change: whether a group of that name is here, and whether there is room
-abbrev pub admin_refusal : Bool → Bool → KernelView → Option Refusal
-admin_refusal is_here is_full kernel = first_failing ((kernel.halted, Halted) ∷ (nat_lt 256 (length kernel.dirty), LaterDirty) ∷ (is_here, Exists) ∷ (is_full, Full) ∷ [])
+-- the tests of admin that come before any growth
+abbrev pub early_refusal : KernelView → Option Refusal
+early_refusal kernel = first_failing ((kernel.halted, Halted) ∷ (nat_lt 256 (length kernel.dirty), LaterDirty) ∷ [])
+
+-- whether a group of the name that the change gives is here
+abbrev pub makes_again : Spool → Change → Bool
+makes_again S (change.Group name status description moment) = is_here S name
+makes_again S (change.Article text groups moment) = false
+makes_again S (change.Expire group number) = false
+
+-- all of its tests: a group of that name is here, or there is no room for the change
+abbrev pub admin_refusal_of : KernelView → Change → Option Refusal
+admin_refusal_of kernel c =
+    first_failing (
+    (kernel.halted, Halted) ∷ (nat_lt 256 (length kernel.dirty), LaterDirty) ∷ (makes_again kernel.spool c, Exists)
+    ∷ (is_full (length kernel.blocks) kernel.inodes kernel.spool (Some c), Full) ∷ [])
 
 pub record Administers (old new : KernelView) (change : Change) (serial : ℕ) : Type 0 where
   pub serial_is : serial ≡ length old.spool + 1

@@ -7,12 +7,9 @@ ghost use Rattle.std.specs.Prelude.{◌&&◌, nat_lt, ◌≡◌, ◌≢◌, ◌�
 ghost use Rattle.std.specs.List.{list_all};
 ghost use Rattle.kernel.specs.Errors.{of_join, of_exec, of_admin};
 ghost use Rattle.kernel.specs.Kept.{IsKept};
-ghost use Rattle.kernel.specs.Kernel.{Administers, Execs, FitsMode, Takes, Tested, TestedOrMemory, admin_refusal, exec_refusal, has_batch, halted_for_good, is_block, join_refusal, joined, left, made_durable, mode_at, ready, released, seat_of, Seat as SeatView};
+ghost use Rattle.kernel.specs.Kernel.{Administers, Execs, FitsMode, Takes, Tested, TestedOrMemory, admin_refusal_of, early_refusal, exec_refusal, has_batch, halted_for_good, is_block, join_refusal, joined, left, made_durable, mode_at, only_tested, ready, released, seat_of, Seat as SeatView};
 ghost use Rattle.model.specs.Calendar.{moment_limit};
 ghost use Rattle.model.specs.Lawful.{is_description_octet};
-ghost use Rattle.model.specs.Names.{is_group_name};
-ghost use Rattle.model.specs.News.{is_full};
-ghost use Rattle.model.specs.Spool.{is_here};
 ghost use Rattle.model.specs.Volume.{blocks_from};
 ghost use Rattle.model.specs.declared.change.Change.TheVariants.{Group};
 
@@ -27,6 +24,7 @@ use crate::seat::{Seat, position, release};
 pub use errors::{AdminError, ExecError, JoinError, Stale};
 pub use laws::{a_new_volume_is_empty, an_image_stands, images_stand_for_one};
 use model::{Mark, Message, Mode};
+use names::GroupName;
 pub use opening::OpenError;
 use outbox::ReadyBuf;
 use spool::{AddError, BatchBuf, Spool};
@@ -98,10 +96,9 @@ impl Kernel {
         self.seats[at].mode()
     }
 
-    /// A session begins; its greeting depends on nothing. Sessions are numbered 1, 2, .. and a number isn't used again.
-    /// Refused as `Halted` (E4), `TooManySessions` (E7) or `Memory` (E2), tested in that order; a refusal changes nothing.
-    pub fn join(&mut self, alloc: Global) -> Result<u64, JoinError>
-        ensures { Tested of_join JoinError.Memory (join_refusal self.old) self.old self.new result (λ sid. (sid ≡ self.new.joined) × (self.new ≡ joined self.old)) }
+    /// Whether a session may join now: `Halted` (E4) or `TooManySessions` (E7) where it may not, tested in that order.
+    pub fn may_join(&self) -> Result<(), JoinError>
+        ensures { result ≡ only_tested of_join (join_refusal self.now) }
     {
         if self.halted {
             return Err(JoinError::Halted);
@@ -109,6 +106,15 @@ impl Kernel {
         if self.seats.len() >= SESSIONS || self.joined == u64::MAX {
             return Err(JoinError::TooManySessions);
         }
+        Ok(())
+    }
+
+    /// A session begins; its greeting depends on nothing. Sessions are numbered 1, 2, .. and a number isn't used again.
+    /// Refused as `Halted` (E4), `TooManySessions` (E7) or `Memory` (E2), tested in that order; a refusal changes nothing.
+    pub fn join(&mut self, alloc: Global) -> Result<u64, JoinError>
+        ensures { Tested of_join JoinError.Memory (join_refusal self.old) self.old self.new result (λ sid. (sid ≡ self.new.joined) × (self.new ≡ joined self.old)) }
+    {
+        self.may_join()?;
         let number = self.joined + 1;
         let seat = match Seat::new(alloc, number, self.spool.host().as_slice()) {
             Ok(seat) => seat,
@@ -163,25 +169,9 @@ impl Kernel {
         Ok(done)
     }
 
-    /// The operator makes a group, and is told its serial, which says nothing of durability. `status` is `y` or `n`.
-    /// Refused as `Halted` (E4), `LaterDirty` (E8), `Exists` (E11), `Full` (E6) or `Memory` (E2), tested in that order, but
-    /// `Memory` may come at any growth; a refusal changes nothing.
-    pub fn admin(
-        &mut self,
-        alloc: Global,
-        name: &[u8],
-        status: u8,
-        description: &[u8],
-        moment: u64,
-    ) -> Result<u64, AdminError>
-        requires name { IsTrue (is_group_name name.now) }
-        requires status { (status ≡ 121) ⊎ (status ≡ 110) }
-        requires short { length description.now ≤ 200 }
-        requires printable { IsTrue (list_all is_description_octet description.now) }
-        requires moment { moment < moment_limit }
-        ensures { TestedOrMemory of_admin AdminError.Memory
-            (admin_refusal (is_here self.old.spool name.now) (is_full (length self.old.blocks) self.old.inodes self.old.spool (Some (Group name.now status description.now moment))) self.old)
-            self.old self.new result (Administers self.old self.new (Group name.now status description.now moment)) }
+    /// Whether the operator may make a change now: `Halted` (E4) or `LaterDirty` (E8) where not, tested in that order.
+    pub fn may_administer(&self) -> Result<(), AdminError>
+        ensures { result ≡ only_tested of_admin (early_refusal self.now) }
     {
         if self.halted {
             return Err(AdminError::Halted);
@@ -189,7 +179,33 @@ impl Kernel {
         if self.spool.dirty_len() > MOST_DIRTY {
             return Err(AdminError::LaterDirty);
         }
-        let serial = match self.spool.add_group(name, status, description, moment) {
+        Ok(())
+    }
+
+    /// The operator makes a group, and is told its serial, which says nothing of durability. `status` is `y` or `n`, the
+    /// description has at most 200 octets of 32 to 126, and `moment` is in seconds since 1970.
+    /// Refused as `Halted` (E4), `LaterDirty` (E8), `Exists` (E11), `Full` (E6) or `Memory` (E2), tested in that order, but
+    /// `Memory` may come at any growth, which is never before the first two; a refusal changes nothing.
+    pub fn admin(
+        &mut self,
+        alloc: Global,
+        name: &GroupName,
+        status: u8,
+        description: &[u8],
+        moment: u64,
+    ) -> Result<u64, AdminError>
+        requires status { (status ≡ 121) ⊎ (status ≡ 110) }
+        requires short { length description.now ≤ 200 }
+        requires printable { IsTrue (list_all is_description_octet description.now) }
+        requires moment { moment < moment_limit }
+        ensures { let change = Group name.now status description.now moment in
+            TestedOrMemory of_admin AdminError.Memory (early_refusal self.old) (admin_refusal_of self.old change) self.old self.new result (Administers self.old self.new change) }
+    {
+        self.may_administer()?;
+        let serial = match self
+            .spool
+            .add_group(name.as_slice(), status, description, moment)
+        {
             Ok(serial) => serial,
             Err(AddError::Exists) => return Err(AdminError::Exists),
             Err(AddError::Full) => return Err(AdminError::Full),

@@ -386,15 +386,15 @@ tested_ok as_error memory None old new x done h = (refl, h)
 tested_ok as_error memory (Some r) old new x done h = absurd (cc (h.0))
 
 -- a refusal, by its test or for memory
-abbrev pub IsRefused : {E V : Type 0} → (Refusal → E) → E → Option Refusal → V → V → E → Type 0
-IsRefused as_error memory refusal old new error = ((error ≡ memory) ⊎ ((r : Refusal) × (refusal ≡ Some r) × (error ≡ as_error r))) × (new ≡ old)
+abbrev pub IsRefused : {E V : Type 0} → (Refusal → E) → E → Option Refusal → Option Refusal → V → V → E → Type 0
+IsRefused as_error memory early refusal old new error = (((error ≡ memory) × (early ≡ None)) ⊎ ((r : Refusal) × (refusal ≡ Some r) × (error ≡ as_error r))) × (new ≡ old)
 
 abbrev err_of : {A E : Type 0} → E → Result A E → E
 err_of e (Ok x) = e
 err_of e (Err y) = y
 
-pub tested_err : {A E V : Type 0} (as_error : Refusal → E) (memory : E) (refusal : Option Refusal) (old new : V) (e : E) (done : A → Type 0) → Tested as_error memory refusal old new (Err e) done → IsRefused as_error memory refusal old new e
-tested_err as_error memory None old new e done h = (inl h.0, h.1)
+pub tested_err : {A E V : Type 0} (as_error : Refusal → E) (memory : E) (refusal : Option Refusal) (old new : V) (e : E) (done : A → Type 0) → Tested as_error memory refusal old new (Err e) done → IsRefused as_error memory None refusal old new e
+tested_err as_error memory None old new e done h = (inl (h.0, refl), h.1)
 tested_err {A} as_error memory (Some r) old new e done h = (inr (r, refl, ap (err_of {A = A} e) h.0), h.1)
 
 -- ---- what exec did
@@ -410,7 +410,7 @@ pub did_none : (served new : ServedView) (number moment : ℕ) (mode : Mode) →
 did_none served new number moment mode is none same = did_by served new number moment (Ok None) (Some mode) None is none (refl, same)
 
 pub did_refused : (served new : ServedView) (number moment : ℕ) (mode : Mode) (found : Message × Octets) (error : ExecError) → mode_at served.kernel number ≡ Some mode → next_of served number ≡ Some found
-    → IsRefused of_exec exec.Memory (exec_refusal served.kernel number found.0) served new error → DidAt served number moment (Err error) new
+    → IsRefused of_exec exec.Memory None (exec_refusal served.kernel number found.0) served new error → DidAt served number moment (Err error) new
 did_refused served new number moment mode found error is is' h = did_by served new number moment (Err error) (Some mode) (Some found) is is' h
 
 pub did_serve : (served new : ServedView) (number moment : ℕ) (mode : Mode) (found : Message × Octets) (reads_next : Option Mode × Mark) → mode_at served.kernel number ≡ Some mode → next_of served number ≡ Some found

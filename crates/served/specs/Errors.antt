@@ -1,6 +1,14 @@
 use Rattle.kernel.specs.Kernel.{Refusal}
+use Rattle.kernel.specs.Kernel as kernel
 use Rattle.served.specs.declared.errors.ArriveError.{ArriveError}
-use Rattle.served.specs.declared.errors.ArriveError.TheVariants.{NoSession}
+use Rattle.served.specs.declared.errors.ArriveError.TheVariants.{Memory, NoSession}
 
+-- arrive: NoSession; its test gives no other. The list is whole, so a new refusal has to be given its name here.
 abbrev pub of_arrive : Refusal → ArriveError
-of_arrive r = NoSession
+of_arrive kernel.NoSession = NoSession
+of_arrive kernel.Halted = Memory
+of_arrive kernel.TooManySessions = Memory
+of_arrive kernel.LaterDirty = Memory
+of_arrive kernel.LaterOut = Memory
+of_arrive kernel.Exists = Memory
+of_arrive kernel.Full = Memory

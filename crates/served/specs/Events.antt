@@ -79,5 +79,5 @@ abbrev pub DidExec : ServedView → ℕ → ℕ → Option Mode → Option (Mess
 DidExec old number moment None found result new = (result ≡ Err exec.NoSession) × (new ≡ old)
 DidExec old number moment (Some mode) None result new = MatchResult result (λ answered. (answered ≡ None) × (new ≡ old)) (λ e. (e ≡ exec.Memory) × (new ≡ old))
 DidExec old number moment (Some mode) (Some found) result new =
-    TestedOrMemory of_exec exec.Memory (exec_refusal old.kernel number found.0) old new result
+    TestedOrMemory of_exec exec.Memory None (exec_refusal old.kernel number found.0) old new result
     (λ answered. (reads_next : Option Mode × Mark) × (answered ≡ Some reads_next) × Serves old new number moment found.0 reads_next)

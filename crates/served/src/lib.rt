@@ -7,12 +7,9 @@ ghost use Rattle.std.specs.List.{list_all};
 ghost use Rattle.kernel.specs.Errors.{of_join, of_exec, of_admin};
 ghost use Rattle.served.specs.Errors.{of_arrive};
 ghost use Rattle.kernel.specs.Kept.{IsKept};
-ghost use Rattle.kernel.specs.Kernel.{KernelView, Takes, Tested, TestedOrMemory, admin_refusal, exec_refusal, halted_for_good, has_batch, join_refusal, made_durable, mode_at};
+ghost use Rattle.kernel.specs.Kernel.{KernelView, Takes, Tested, TestedOrMemory, admin_refusal_of, early_refusal, halted_for_good, has_batch, join_refusal, made_durable, mode_at};
 ghost use Rattle.model.specs.Calendar.{moment_limit};
 ghost use Rattle.model.specs.Lawful.{is_description_octet};
-ghost use Rattle.model.specs.Names.{is_group_name};
-ghost use Rattle.model.specs.News.{is_full};
-ghost use Rattle.model.specs.Spool.{is_here};
 ghost use Rattle.model.specs.Volume.{blocks_from};
 ghost use Rattle.model.specs.declared.change.Change.TheVariants.{Group};
 ghost use Rattle.served.specs.Events.{DidExec, Makes, arrive_refusal, arrives, joins, leaves, opens, releases, with_kernel};
@@ -29,6 +26,7 @@ pub use errors::ArriveError;
 pub use input::Input;
 use kernel::{AdminError, ExecError, JoinError, Kernel, Stale, Ticket};
 use model::{Change, Mark, Mode, Text};
+use names::GroupName;
 use outbox::ReadyBuf;
 pub use peer::Peer;
 use spool::{BatchBuf, Spool};
@@ -87,10 +85,11 @@ impl Served {
         self.kernel.kept();
     }
 
-    /// A session joins. Refused as by the kernel, but `Memory` may come first; a refusal changes nothing.
+    /// A session joins. Refused as by the kernel, in the same order; a refusal changes nothing.
     pub fn join(&mut self, alloc: Global) -> Result<u64, JoinError>
-        ensures { TestedOrMemory of_join JoinError.Memory (join_refusal self.old.kernel) self.old self.new result (λ number. (number ≡ self.old.kernel.joined + 1) × (self.new ≡ joins self.old)) }
+        ensures { Tested of_join JoinError.Memory (join_refusal self.old.kernel) self.old self.new result (λ number. (number ≡ self.old.kernel.joined + 1) × (self.new ≡ joins self.old)) }
     {
+        self.kernel.may_join()?;
         if self.peers.reserve(1).is_err() {
             return Err(JoinError::Memory);
         }
@@ -158,25 +157,24 @@ impl Served {
         Ok(Some(answered))
     }
 
-    /// The operator makes a group, and is told its serial. Refused as by the kernel, but `Memory` may come first; a refusal
-    /// changes nothing.
+    /// The operator makes a group, and is told its serial. Refused as by the kernel, in the same order, but `Memory` may come at
+    /// any growth, which is never before `Halted` and `LaterDirty`; a refusal changes nothing.
     pub fn admin(
         &mut self,
         alloc: Global,
-        name: &[u8],
+        name: &GroupName,
         status: u8,
         description: &[u8],
         moment: u64,
     ) -> Result<u64, AdminError>
-        requires name { IsTrue (is_group_name name.now) }
         requires status { (status ≡ 121) ⊎ (status ≡ 110) }
         requires short { length description.now ≤ 200 }
         requires printable { IsTrue (list_all is_description_octet description.now) }
         requires moment { moment < moment_limit }
-        ensures { TestedOrMemory of_admin AdminError.Memory
-            (admin_refusal (is_here self.old.kernel.spool name.now) (is_full (length self.old.kernel.blocks) self.old.kernel.inodes self.old.kernel.spool (Some (Group name.now status description.now moment))) self.old.kernel)
-            self.old self.new result (Makes self.old self.new (Group name.now status description.now moment)) }
+        ensures { let change = Group name.now status description.now moment in
+            TestedOrMemory of_admin AdminError.Memory (early_refusal self.old.kernel) (admin_refusal_of self.old.kernel change) self.old self.new result (Makes self.old self.new change) }
     {
+        self.kernel.may_administer()?;
         let Ok(entry) = group_entry(alloc, name, status, description, moment) else {
             return Err(AdminError::Memory);
         };
@@ -281,7 +279,7 @@ impl Served {
 /// The entry of a group that the operator makes.
 fn group_entry(
     alloc: Global,
-    name: &[u8],
+    name: &GroupName,
     status: u8,
     description: &[u8],
     moment: u64,
@@ -289,7 +287,7 @@ fn group_entry(
     ensures { IfOk result (λ entry. entry ≡ Admin (Group name.now status description.now moment)) }
 {
     Ok(Entry::new(Happened::Admin(Change::Group {
-        name: Text::new(name.to_vec(alloc)?),
+        name: Text::new(name.as_slice().to_vec(alloc)?),
         status,
         description: Text::new(description.to_vec(alloc)?),
         moment,

@@ -1,10 +1,10 @@
 -- An opening, and what a crash during it might have left.
-use Rattle.std.proofs.Common.{◌≡◌, ◌≢◌, ⊎_elim, ℕ, false, List, [], length, take, None, refl, ap, sym, ◌∙◌, subst, arith}
+use Rattle.std.proofs.Common.{◌≡◌, ◌≢◌, inr, ⊎_elim, ℕ, false, List, [], length, take, None, refl, ap, sym, ◌∙◌, subst, arith}
 use Rattle.std.specs.Prelude.{IsTrue, slice_index_or}
 use Rattle.std.proofs.lemmas.List.{take_all}
 use Rattle.disk.specs.Device.{Device, Elapses}
 use Rattle.journal.specs.Journal.{Admits, JournalView}
-use Rattle.journal.specs.Opening.{AreSameVolume, IsNoVolume, LeftKept, Opens}
+use Rattle.journal.specs.Opening.{AreSameVolume, IsNoVolume, LeftKept, Opens, SyncsFirst}
 use Rattle.journal.specs.declared.JournalError.{JournalError}
 use Rattle.journal.specs.declared.JournalError.TheVariants as journal
 use Rattle.journal.specs.declared.Next.TheVariants.{Commit, Idle}
@@ -56,15 +56,38 @@ module _ {D : Type 0} (device : D → Device) (only_now : (d : D) (image : Octet
       (λ (b : (j.next ≡ Commit) × _). absurd (let both : Idle ≡ Commit = sym idle ∙ b.0 in cc))
       admits
 
-  pub keeps_both : (first : D) (one two : JournalView D) → Opens device first one → OnlyReads device one two → KeepsSpools (device first) (device two.disk)
-  keeps_both first one two o r tells image left =
+  -- what the kernel's reads leave is the volume that the journal opened
+  same_as : (first : D) (one two : JournalView D) (image : Octets) → Opens device first one → OnlyReads device one two → IsTrue (device first).tells → Admits two image → AreSameVolume (device first).content image
+  same_as first one two image o r tells admits =
       let tells_one : IsTrue (device one.disk).tells = subst IsTrue (sym o.time.tells) tells in
-      ⊎_elim
-      (λ (was : (device one.disk).left_since (device first).clock image). keeps_left first one.disk o.since tells image was)
-      (λ (admits : Admits two image).
       let here : StandsFor image one.label one.blocks = subst (λ (t : Octets × List Octets). StandsFor image t.0 t.1) (λ i. (r.same.label i, r.blocks tells_one i)) (idle_admits two image r.idle admits) in
-      ((device first).content, counts_content first tells, λ host S s. same_volume host (device first).content image one.label one.blocks S (o.stands tells) here s))
-      (r.since tells_one (device first).clock image o.time.later left)
+      (one.label, (one.blocks, (o.stands tells, here)))
+
+  pub left_both : (first : D) (one two : JournalView D) → Opens device first one → OnlyReads device one two → LeftKept (device first) (device two.disk)
+  left_both first one two o r tells t image le left =
+      ⊎_elim
+      (λ (was : (device one.disk).left_since t image). o.since tells t image le was)
+      (λ (admits : Admits two image). inr (same_as first one two image o r tells admits))
+      (r.since (subst IsTrue (sym o.time.tells) tells) t image (omega (arith, le, o.time.later)) left)
+
+  pub keeps_both : (first : D) (one two : JournalView D) → Opens device first one → OnlyReads device one two → KeepsSpools (device first) (device two.disk)
+  keeps_both first one two o r = keeps_left first two.disk (left_both first one two o r)
+
+  pub syncs_both : (first : D) (one two : JournalView D) → Opens device first one → SyncsFirst device first one.disk → OnlyReads device one two → SyncsFirst device first two.disk
+  syncs_both first one two o s r =
+      record {
+        synced = s.synced;
+        no_write = s.no_write;
+        before = s.before;
+        later = omega (arith, s.later, r.time.later);
+        until = s.until;
+        content = s.content;
+        only = s.only;
+        after = λ tells t image le left. ⊎_elim
+            (λ (was : (device one.disk).left_since t image). s.after tells t image le was)
+            (λ (admits : Admits two image). inr (same_as first one two image o r tells admits))
+            (r.since (subst IsTrue (sym o.time.tells) tells) t image (omega (arith, le, s.later)) left);
+      }
 
 -- ---- what stood there
 

@@ -62,9 +62,9 @@ module _ {D : Type 0} (device : D → Device) where
             (since (subst IsTrue (sym h.tells) tells) (device old.journal.disk).clock image h.later left);
         since = λ tells t image le left. ⊎_elim
             (λ (was : (device now.journal.disk).left_since t image). ⊎_elim
-              (λ (before : (device old.journal.disk).left_since t image). inl before)
-              (λ (d : (j : ℕ) × (middle : WorldView D) × (j ≤ i) × Went device old (take j events) middle × Fits middle image). inr (d.0, d.1, omega (arith, d.2), d.3, d.4))
-              (h.since tells t image le was))
+            (λ (before : (device old.journal.disk).left_since t image). inl before)
+            (λ (d : (j : ℕ) × (middle : WorldView D) × (j ≤ i) × Went device old (take j events) middle × Fits middle image). inr (d.0, d.1, omega (arith, d.2), d.3, d.4))
+            (h.since tells t image le was))
             (λ (fits : Fits now image). inr (i, now, omega arith, h.went, fits))
             (since (subst IsTrue (sym h.tells) tells) t image (omega (arith, le, h.later)) left);
       }

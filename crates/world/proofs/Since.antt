@@ -1,5 +1,5 @@
 -- What a crash at some moment of an event might have left.
-use Rattle.std.proofs.Common.{◌≡◌, inl, inr, ⊎_elim, ℕ, ◌≤◌, Bool, true, false, length, Option, Some, None, refl, ap, sym, ◌∙◌, subst, arith}
+use Rattle.std.proofs.Common.{◌≡◌, inl, inr, ⊎_elim, ℕ, ◌+◌, ◌≤◌, Bool, true, false, length, Option, Some, None, refl, ap, sym, ◌∙◌, subst, arith}
 use Rattle.std.specs.Prelude.{IsTrue, MatchResult, Result, Ok, Err}
 use Rattle.disk.specs.Device.{Device}
 use Rattle.journal.specs.Calls.{MakesCall}
@@ -8,11 +8,11 @@ use Rattle.journal.specs.declared.JournalError.{JournalError}
 use Rattle.journal.specs.declared.Next.{Next}
 use Rattle.journal.specs.declared.Next.TheVariants as next
 use Rattle.journal.specs.declared.Progress.{Progress}
-use Rattle.kernel.specs.Kernel.{Refusal, TestedOrMemory, has_batch, mode_at}
+use Rattle.kernel.specs.Kernel.{Refusal, TestedOrMemory, has_batch, join_refusal, mode_at}
 use Rattle.model.specs.Stream.{Octets}
 use Rattle.model.specs.declared.message.Message.{Message}
 use Rattle.model.specs.declared.message.Mode.{Mode}
-use Rattle.served.specs.Events.{arrive_refusal, arrives}
+use Rattle.served.specs.Events.{arrive_refusal, arrives, joins}
 use Rattle.served.specs.Served.{ServedView, arrived_at, first_spool, next_of, released_at}
 use Rattle.world.specs.Events.{Did, DidDev, DidExec, DidTake, dev_answer, of_kernel}
 use Rattle.world.specs.declared.events.Answer.TheVariants as answer
@@ -52,9 +52,9 @@ module _ {D : Type 0} (device : D → Device) (old new : WorldView D) where
   by_served : (served : ServedView) → new ≡ with_served old served → Left
   by_served served is = same_disk (ap (λ (w : WorldView D). w.journal.disk) is)
 
-  by_tests : {A E : Type 0} (as_error : Refusal → E) (memory : E) (refusal : Option Refusal) (r : Result A E) (done : A → Type 0) → ((x : A) → done x → Left) → TestedOrMemory as_error memory refusal old new r done → Left
-  by_tests as_error memory refusal (Ok x) done f h = f x h.1
-  by_tests as_error memory refusal (Err e) done f h = by_world h.1
+  by_tests : {A E : Type 0} (as_error : Refusal → E) (memory : E) (early refusal : Option Refusal) (r : Result A E) (done : A → Type 0) → ((x : A) → done x → Left) → TestedOrMemory as_error memory early refusal old new r done → Left
+  by_tests as_error memory early refusal (Ok x) done f h = f x h.1
+  by_tests as_error memory early refusal (Err e) done f h = by_world h.1
 
   left_exec : (number moment : ℕ) (m : Option Mode) (found : Option (Message × Octets)) (r : Result Answer StepError) → DidExec old number moment m found r new → Left
   left_exec number moment None found r d = by_world d.1
@@ -123,11 +123,11 @@ module _ {D : Type 0} (device : D → Device) (old new : WorldView D) where
   left_release (Err e) P f h = by_world h.1
 
   did_left : (e : Event) (r : Result Answer StepError) → IsWorld device new → Did device old e r new → Left
-  did_left event.Join r h d = by_tests of_kernel error.Memory _ r _ (λ a done. by_served _ done.1) d
+  did_left event.Join r h d = by_tests of_kernel error.Memory None (join_refusal (kernel_of old)) r _ (λ a done. by_served _ done.1) (tested_or of_kernel error.Memory (join_refusal (kernel_of old)) old new r _ d)
   did_left (event.Leave number) r h d = by_served _ d.1
-  did_left (event.Arrive number octets) r h d = by_tests of_kernel error.Memory (arrive_refusal (kernel_of old) number) r _ (λ a done. by_served _ done.1) (tested_or of_kernel error.Memory (arrive_refusal (kernel_of old) number) old new r _ d)
+  did_left (event.Arrive number octets) r h d = by_tests of_kernel error.Memory None (arrive_refusal (kernel_of old) number) r _ (λ a done. by_served _ done.1) (tested_or of_kernel error.Memory (arrive_refusal (kernel_of old) number) old new r _ d)
   did_left (event.Exec number moment) r h d = left_exec number moment (mode_at (kernel_of old) number) (next_of old.served number) r d
-  did_left (event.Admin name status description moment) r h d = by_tests of_kernel error.Memory _ r _ (λ a done. by_served new.served done.3) d
+  did_left (event.Admin name status description moment) r h d = by_tests of_kernel error.Memory _ _ r _ (λ a done. by_served new.served done.3) d
   did_left event.Take r h d = left_take r d
   did_left event.Dev r h d = left_dev r h d
   did_left event.Told r h d = same_disk (ap (λ (w : WorldView D). w.journal.disk) d.1)
@@ -185,7 +185,7 @@ module _ {D : Type 0} (device : D → Device) (old new : WorldView D) where
 
   -- it changes nothing
   pub memory_stays : (e : Event) → Did device old e (Err error.Memory) new → new ≡ old
-  memory_stays event.Join d = d.1
+  memory_stays event.Join d = (tested_or of_kernel error.Memory (join_refusal (kernel_of old)) old new (Err error.Memory) (λ a. (a ≡ answer.Joined ((kernel_of old).joined + 1)) × (new ≡ with_served old (joins old.served))) d).1
   memory_stays (event.Leave number) d = absurd (cc (d.0))
   memory_stays (event.Arrive number octets) d = (tested_or of_kernel error.Memory (arrive_refusal (kernel_of old) number) old new (Err error.Memory) (λ a. (a ≡ answer.Done) × (new ≡ with_served old (arrives old.served number octets.items))) d).1
   memory_stays (event.Exec number moment) d = memory_exec number moment (mode_at (kernel_of old) number) (next_of old.served number) d

@@ -51,16 +51,16 @@ abbrev err_of : {X Y : Type 0} → Y → Result X Y → Y
 err_of y (Ok x) = y
 err_of y (Err z) = z
 
-pub tested_or : {A E V : Type 0} (as_error : Refusal → E) (memory : E) (refusal : Option Refusal) (old new : V) (r : Result A E) (done : A → Type 0) → Tested as_error memory refusal old new r done → TestedOrMemory as_error memory refusal old new r done
+pub tested_or : {A E V : Type 0} (as_error : Refusal → E) (memory : E) (refusal : Option Refusal) (old new : V) (r : Result A E) (done : A → Type 0) → Tested as_error memory refusal old new r done → TestedOrMemory as_error memory None refusal old new r done
 tested_or as_error memory (Some refusal) old new (Ok x) done h = absurd (cc (h.0))
 tested_or {A} as_error memory (Some refusal) old new (Err e) done h = (inr (refusal, refl, ap (err_of {X = A} e) h.0), h.1)
 tested_or as_error memory None old new (Ok x) done h = (refl, h)
-tested_or as_error memory None old new (Err e) done h = (inl h.0, h.1)
+tested_or as_error memory None old new (Err e) done h = (inl (h.0, refl), h.1)
 
-pub sound_tested : {A E D : Type 0} (as_error : Refusal → E) (memory : E) (refusal : Option Refusal) (tells : Bool) (old : WorldView D) (served : ServedView) (ticket : Option Ticket) (r : Result A E) (done : A → Type 0)
-    → ((x : A) → done x → Grows (kernel_of old) served.kernel) → IsKept (kernel_of old) → TestedOrMemory as_error memory refusal old.served served r done → IsSound tells old ticket → IsSound tells (with_served old served) ticket
-sound_tested as_error memory refusal tells old served ticket (Ok x) done grows kept t h = sound_grows tells old served ticket kept (grows x t.1) h
-sound_tested as_error memory refusal tells old served ticket (Err e) done grows kept t h = sound_same tells old served ticket t.1 h
+pub sound_tested : {A E D : Type 0} (as_error : Refusal → E) (memory : E) (early refusal : Option Refusal) (tells : Bool) (old : WorldView D) (served : ServedView) (ticket : Option Ticket) (r : Result A E) (done : A → Type 0)
+    → ((x : A) → done x → Grows (kernel_of old) served.kernel) → IsKept (kernel_of old) → TestedOrMemory as_error memory early refusal old.served served r done → IsSound tells old ticket → IsSound tells (with_served old served) ticket
+sound_tested as_error memory early refusal tells old served ticket (Ok x) done grows kept t h = sound_grows tells old served ticket kept (grows x t.1) h
+sound_tested as_error memory early refusal tells old served ticket (Err e) done grows kept t h = sound_same tells old served ticket t.1 h
 
 pub sound_exec : {D : Type 0} (tells : Bool) (old : WorldView D) (served : ServedView) (ticket : Option Ticket) (number moment : ℕ) (m : Option Mode) (found : Option (Message × Octets)) (r : Result (Option (Option Mode × Mark)) ExecError)
     → IsKept (kernel_of old) → ServedExec old.served number moment m found r served → IsSound tells old ticket → IsSound tells (with_served old served) ticket
@@ -127,7 +127,7 @@ did_exec old served number moment (Some mode) None (Err e) d = (ap of_exec_error
 did_exec old served number moment (Some mode) (Some found) (Ok a) d = (d.0, (d.1.0, ap answer.Served d.1.1, d.1.2, refl))
 did_exec old served number moment (Some mode) (Some found) (Err e) d = (
   ⊎_elim
-      (λ (m : e ≡ exec.Memory). inl (ap of_exec_error m))
+      (λ (m : (e ≡ exec.Memory) × ◌≡◌ {A = Option Refusal} None None). inl (ap of_exec_error m.0, m.1))
       (λ (r : (r : Refusal) × (exec_refusal (kernel_of old) number found.0 ≡ Some r) × (e ≡ of_exec r)). inr (r.0, r.1, ap of_exec_error r.2 ∙ told_as r.0 r.1))
       d.0,
   ap (with_served old) d.1,

@@ -2,7 +2,6 @@
 use Rattle.std.specs.List.{list_all}
 use Rattle.model.specs.Calendar.{moment_limit}
 use Rattle.model.specs.Lawful.{is_description_octet}
-use Rattle.model.specs.Names.{is_group_name}
 use Rattle.std.specs.Prelude.{◌⊎◌, ◌<◌, ◌≤◌, IsTrue, ◌≡◌, ◌≢◌, ℕ, ◌+◌, Bool, true, false, List, [], ◌∷◌, ◌++◌, length, drop, map, slice_index_or, Option, Some, None, Result, Ok, Err, MatchResult}
 use Rattle.disk.specs.Device.{Device}
 use Rattle.journal.specs.Calls.{MakesCall}
@@ -12,7 +11,7 @@ use Rattle.journal.specs.declared.JournalError.TheVariants as journal
 use Rattle.journal.specs.declared.Next.TheVariants.{Descriptor}
 use Rattle.journal.specs.declared.Progress.{Progress}
 use Rattle.journal.specs.declared.Progress.TheVariants as progress
-use Rattle.kernel.specs.Kernel.{KernelView, Refusal, Tested, TestedOrMemory, admin_refusal, exec_refusal, first_failing, halted_for_good, has_batch, join_refusal, made_durable, mode_at, taken}
+use Rattle.kernel.specs.Kernel.{KernelView, Refusal, Tested, TestedOrMemory, admin_refusal_of, early_refusal, exec_refusal, first_failing, halted_for_good, has_batch, join_refusal, made_durable, mode_at, taken}
 use Rattle.kernel.specs.Kernel as refusal
 use Rattle.kernel.specs.declared.errors.AdminError.{AdminError}
 use Rattle.kernel.specs.declared.errors.AdminError.TheVariants as admin
@@ -22,8 +21,6 @@ use Rattle.kernel.specs.declared.errors.JoinError.{JoinError}
 use Rattle.kernel.specs.declared.errors.JoinError.TheVariants as join
 use Rattle.served.specs.declared.errors.ArriveError.{ArriveError}
 use Rattle.served.specs.declared.errors.ArriveError.TheVariants as arrive
-use Rattle.model.specs.News.{is_full}
-use Rattle.model.specs.Spool.{is_here}
 use Rattle.model.specs.Stream.{Octets}
 use Rattle.model.specs.declared.change.Change.TheVariants.{Group}
 use Rattle.model.specs.declared.message.Mark.{Mark}
@@ -55,7 +52,7 @@ abbrev pub DidExec : {D : Type 0} → WorldView D → ℕ → ℕ → Option Mod
 DidExec old number moment None found result new = (result ≡ Err error.NoSession) × (new ≡ old)
 DidExec old number moment (Some mode) None result new = MatchResult result (λ a. (a ≡ answer.Served None) × (new ≡ old)) (λ e. (e ≡ error.Memory) × (new ≡ old))
 DidExec old number moment (Some mode) (Some found) result new =
-    TestedOrMemory of_kernel error.Memory (exec_refusal (kernel_of old) number found.0) old new result
+    TestedOrMemory of_kernel error.Memory None (exec_refusal (kernel_of old) number found.0) old new result
     (λ a. (reads_next : Option Mode × Mark) × (a ≡ answer.Served (Some reads_next)) × Serves old.served new.served number moment found.0 reads_next × (new ≡ with_served old new.served))
 
 -- ---- Take, Dev and Told
@@ -117,16 +114,14 @@ told kernel (HasFailed ∷ later) = halted_for_good kernel
 -- What an event does, by its answer. A refusal changes nothing, but that a failed device call halts the journal.
 abbrev pub Did : {D : Type 0} → (D → Device) → WorldView D → Event → Result Answer StepError → WorldView D → Type 0
 Did device old event.Join result new =
-    TestedOrMemory of_kernel error.Memory (join_refusal (kernel_of old)) old new result (λ a. (a ≡ answer.Joined ((kernel_of old).joined + 1)) × (new ≡ with_served old (joins old.served)))
+    Tested of_kernel error.Memory (join_refusal (kernel_of old)) old new result (λ a. (a ≡ answer.Joined ((kernel_of old).joined + 1)) × (new ≡ with_served old (joins old.served)))
 Did device old (event.Leave number) result new = (result ≡ Ok answer.Done) × (new ≡ with_served old (leaves old.served number))
 Did device old (event.Arrive number octets) result new =
     Tested of_kernel error.Memory (arrive_refusal (kernel_of old) number) old new result (λ a. (a ≡ answer.Done) × (new ≡ with_served old (arrives old.served number octets.items)))
 Did device old (event.Exec number moment) result new = DidExec old number moment (mode_at (kernel_of old) number) (next_of old.served number) result new
 Did device old (event.Admin name status description moment) result new =
-    TestedOrMemory of_kernel error.Memory
-    (admin_refusal (is_here (kernel_of old).spool name.items) (is_full (length (kernel_of old).blocks) (kernel_of old).inodes (kernel_of old).spool (Some (Group name.items status description.items moment))) (kernel_of old))
-    old new result
-    (λ a. (serial : ℕ) × (a ≡ answer.Made serial) × Makes old.served new.served (Group name.items status description.items moment) serial × (new ≡ with_served old new.served))
+    TestedOrMemory of_kernel error.Memory (early_refusal (kernel_of old)) (admin_refusal_of (kernel_of old) (Group name status description.items moment)) old new result
+    (λ a. (serial : ℕ) × (a ≡ answer.Made serial) × Makes old.served new.served (Group name status description.items moment) serial × (new ≡ with_served old new.served))
 Did device old event.Take result new = DidTake old result new
 Did device old event.Dev result new = DidDev device old result new
 Did device old event.Told result new =
@@ -172,9 +167,9 @@ abbrev pub of_arrive_error : ArriveError → StepError
 of_arrive_error arrive.NoSession = error.NoSession
 of_arrive_error arrive.Memory = error.Memory
 
--- the conditions of an event: moments, and what a group is named and said to be, are in their ranges
+-- the conditions of an event: moments, and what is said of a group, are in their ranges
 abbrev pub MayHappen : Event → Type 0
 MayHappen (event.Exec number moment) = moment < moment_limit
 MayHappen (event.Admin name status description moment) =
-    IsTrue (is_group_name name.items) × ((status ≡ 121) ⊎ (status ≡ 110)) × (length description.items ≤ 200) × IsTrue (list_all is_description_octet description.items) × (moment < moment_limit)
+    ((status ≡ 121) ⊎ (status ≡ 110)) × (length description.items ≤ 200) × IsTrue (list_all is_description_octet description.items) × (moment < moment_limit)
 MayHappen e = Unit {0}

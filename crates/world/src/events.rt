@@ -1,5 +1,6 @@
 use journal::Progress;
 use model::{Mark, Mode};
+use names::GroupName;
 use thiserror::Error;
 
 /// What may happen. Sessions are named by their numbers; a moment is in seconds since 1970.
@@ -15,9 +16,10 @@ pub enum Event {
     Exec(u64, u64),
     /// The operator makes a group.
     Admin {
-        name: Vec<u8>,
+        name: GroupName,
         /// `y` or `n`
         status: u8,
+        /// at most 200 octets of 32 to 126
         description: Vec<u8>,
         moment: u64,
     },

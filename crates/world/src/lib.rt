@@ -5,12 +5,9 @@
 
 ghost use Rattle.std.specs.Prelude.{◌≢◌, IfOk, IfErr, ◌≡◌, ◌⊎◌, ◌≤◌, ◌<◌, ℕ, List, Some, Ok, Err, true, [], take, slice_get, MatchOption, ◌||◌, IsTrue, length, MatchResult};
 ghost use Rattle.std.specs.List.{list_all};
-ghost use Rattle.kernel.specs.Kernel.{Tested, TestedOrMemory, admin_refusal, join_refusal, mode_at};
+ghost use Rattle.kernel.specs.Kernel.{Tested, TestedOrMemory, admin_refusal_of, early_refusal, mode_at};
 ghost use Rattle.model.specs.Calendar.{moment_limit};
 ghost use Rattle.model.specs.Lawful.{is_description_octet};
-ghost use Rattle.model.specs.Names.{is_group_name};
-ghost use Rattle.model.specs.News.{is_full};
-ghost use Rattle.model.specs.Spool.{is_here};
 ghost use Rattle.model.specs.declared.change.Change.TheVariants.{Group};
 ghost use Rattle.served.specs.Events.{Makes, arrive_refusal, arrives, joins, leaves, releases, with_kernel};
 ghost use Rattle.served.specs.Served.{arrived_at, next_of, released_at};
@@ -18,6 +15,7 @@ ghost use Rattle.world.specs.Events.{Did, DidDev, DidExec, DidTake, MayHappen, W
 ghost use Rattle.world.specs.Fields.{durable_news};
 ghost use Rattle.disk.specs.Device.{Elapses};
 ghost use Rattle.journal.specs.Journal.{IsReady};
+ghost use Rattle.journal.specs.Opening.{LeftKept, NeverSyncs, SyncsFirst};
 ghost use Rattle.model.specs.News.{Stands};
 ghost use Rattle.world.specs.Images.{EachNow, EachSince, Fits, IsDamagedVolume, IsNoNewsVolume, KeepsSpools, LeftFits, StandsForNone};
 ghost use Rattle.world.specs.Opening.{IsNew, open_error};
@@ -33,6 +31,7 @@ use journal::{Journal, JournalError, Progress};
 pub use kernel::OpenError;
 use kernel::{AdminError, ExecError, JoinError, Kernel, Ticket};
 use model::{Mark, Mode};
+use names::GroupName;
 use outbox::ReadyBuf;
 use served::{ArriveError, Entry, Served};
 use spool::{BatchBuf, Spool};
@@ -82,7 +81,9 @@ impl<D: Disk> World<D> {
     }
 
     /// Opens what stands on the device: all its changes are durable, and nothing has happened yet. A crash during it leaves
-    /// a disk that stands for the spool of an image that a crash at its start might have left. A refusal hands the device back:
+    /// a disk that stands for the spool of an image that a crash at its start might have left; and from the first good sync on,
+    /// which comes before every write, the volume that a read gives, with its label and its logical blocks, whatever these hold.
+    /// A refusal keeps to this too, so it overwrites no disk, and hands the device back:
     /// `Fault` (E1) where the device failed, `Memory` (E2) where it did not, `NotAVolume` (E3) where no volume with a label of its
     /// size stands there, and `Damaged` (E5) where one does, and holds no lawful spool of the label's host.
     pub fn open(alloc: Global, disk: D) -> Result<World<D>, Refused<D>>
@@ -93,6 +94,8 @@ impl<D: Disk> World<D> {
         ensures now { IfOk result (λ w. EachNow (D.device w.journal.disk) (Fits w)) }
         ensures still { IfOk result (λ w. (D.device w.journal.disk).failures ≡ (D.device disk).failures) }
         ensures time { MatchResult result (λ w. Elapses (D.device disk) (D.device w.journal.disk)) (λ refused. Elapses (D.device disk) (D.device refused.disk)) }
+        ensures volume { MatchResult result (λ w. LeftKept (D.device disk) (D.device w.journal.disk)) (λ refused. LeftKept (D.device disk) (D.device refused.disk)) }
+        ensures moment { MatchResult result (λ w. SyncsFirst D.device disk w.journal.disk) (λ refused. SyncsFirst D.device disk refused.disk ⊎ NeverSyncs D.device disk refused.disk) }
         ensures idle { IfOk result (λ w. IsReady w.journal) }
         ensures fault { IfErr result (λ refused. refused.error ≡ OpenError.Fault → (D.device refused.disk).failures ≢ (D.device disk).failures) }
         ensures memory { IfErr result (λ refused. refused.error ≡ OpenError.Memory → (D.device refused.disk).failures ≡ (D.device disk).failures) }
@@ -253,13 +256,7 @@ impl<D: Disk> World<D> {
                 status,
                 description,
                 moment,
-            } => self.admin(
-                alloc,
-                name.as_slice(),
-                *status,
-                description.as_slice(),
-                *moment,
-            ),
+            } => self.admin(alloc, name, *status, description.as_slice(), *moment),
             Event::Take => self.take(),
             Event::Dev => self.dev(),
             Event::Told => self.told(),
@@ -306,19 +303,16 @@ impl<D: Disk> World<D> {
     fn admin(
         &mut self,
         alloc: Global,
-        name: &[u8],
+        name: &GroupName,
         status: u8,
         description: &[u8],
         moment: u64,
     ) -> Result<Answer, StepError>
-        requires name { IsTrue (is_group_name name.now) }
         requires status { (status ≡ 121) ⊎ (status ≡ 110) }
         requires short { length description.now ≤ 200 }
         requires printable { IsTrue (list_all is_description_octet description.now) }
         requires moment { moment < moment_limit }
-        ensures { TestedOrMemory of_kernel StepError.Memory
-            (admin_refusal (is_here (kernel_of self.old).spool name.now) (is_full (length (kernel_of self.old).blocks) (kernel_of self.old).inodes (kernel_of self.old).spool (Some (Group name.now status description.now moment))) (kernel_of self.old))
-            self.old self.new result
+        ensures { TestedOrMemory of_kernel StepError.Memory (early_refusal (kernel_of self.old)) (admin_refusal_of (kernel_of self.old) (Group name.now status description.now moment)) self.old self.new result
             (λ a. (serial : ℕ) × (a ≡ Answer.Made serial) × Makes self.old.served self.new.served (Group name.now status description.now moment) serial × (self.new ≡ with_served self.old self.new.served)) }
     {
         self.served.kept();
@@ -390,6 +384,7 @@ impl<D: Faults> World<D> {
     pub fn fail_at(&mut self, n: u64)
         ensures view { self.new ≡ record self.old { journal = record self.old.journal { disk = self.new.journal.disk } } }
         ensures device { IsUnchanged (D.device self.old.journal.disk) (D.device self.new.journal.disk) }
+        ensures plan { D.plans n self.old.journal.disk self.new.journal.disk }
     {
         self.journal.fail_at(n);
     }

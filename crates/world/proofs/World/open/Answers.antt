@@ -1,4 +1,4 @@
-use Rattle.std.proofs.Common.{◌≡◌, ⊎_elim, ap, sym, subst}
+use Rattle.std.proofs.Common.{◌≡◌, inl, ⊎_elim, ap, sym, subst}
 use Rattle.kernel.specs.declared.opening.OpenError.TheVariants.{NotAVolume, Damaged}
 use Rattle.model.specs.News.{Stands}
 use Rattle.served.specs.Served.{ServedView}
@@ -6,7 +6,8 @@ use Rattle.world.specs.Images.{KeepsSpools}
 use Rattle.std.proofs.Common.{[]}
 use Rattle.world.proofs.Fitting.{now_fits}
 use Rattle.disk.specs.Device.{Elapses}
-use Rattle.world.proofs.Opening.{elapses_both, is_damaged, journal_finds_no_damage, journal_lacked_memory, journal_missed, keeps_both, keeps_left, no_label, no_volume, none_damaged, none_unlabelled, stands_opened}
+use Rattle.world.proofs.Opening.{elapses_both, is_damaged, journal_finds_no_damage, journal_lacked_memory, journal_missed, keeps_both, keeps_left, left_both, no_label, no_volume, none_damaged, none_unlabelled, stands_opened, syncs_both}
+use Rattle.journal.specs.Opening.{LeftKept, SyncsFirst}
 use Rattle.world.proofs.World.open.Goals as goal
 
 pub returns-in-Err-clause-during : goal.returns-in-Err-clause-during
@@ -74,3 +75,27 @@ returns-in_default-new-clause-time g c = subst (λ d. Elapses (g.D.Disk.device c
 
 pub returns-clause-time : goal.returns-clause-time
 returns-clause-time g c = elapses_both (g.D.Disk.device c.args.disk) (g.D.Disk.device c.in-Ok.journal.disk) (g.D.Disk.device c.open-2.new.journal.disk) c.in-Ok.ensures.ok.time c.open-2.ensures.reads.time
+
+pub returns-in-Err-open-clause-volume : goal.returns-in-Err-open-clause-volume
+returns-in-Err-open-clause-volume g c = subst (λ d. LeftKept (g.D.Disk.device c.args.disk) (g.D.Disk.device d)) (sym c.into_disk.ensures) (left_both g.D.Disk.device g.met.D.Disk.only_now g.met.D.Disk.counts_content c.args.disk c.in-Ok.journal c.open-2.new.journal c.in-Ok.ensures.ok c.open-2.ensures.reads)
+
+pub returns-in-Err-open-clause-moment : goal.returns-in-Err-open-clause-moment
+returns-in-Err-open-clause-moment g c = inl (subst (SyncsFirst g.D.Disk.device c.args.disk) (sym c.into_disk.ensures) (syncs_both g.D.Disk.device g.met.D.Disk.only_now g.met.D.Disk.counts_content c.args.disk c.in-Ok.journal c.open-2.new.journal c.in-Ok.ensures.ok c.in-Ok.ensures.moment c.open-2.ensures.reads))
+
+pub returns-in_default-clause-volume : goal.returns-in_default-clause-volume
+returns-in_default-clause-volume g c = subst (λ d. LeftKept (g.D.Disk.device c.args.disk) (g.D.Disk.device d)) (sym c.into_disk-in_default.ensures) (left_both g.D.Disk.device g.met.D.Disk.only_now g.met.D.Disk.counts_content c.args.disk c.in-Ok.journal c.open-2.new.journal c.in-Ok.ensures.ok c.open-2.ensures.reads)
+
+pub returns-in_default-clause-moment : goal.returns-in_default-clause-moment
+returns-in_default-clause-moment g c = inl (subst (SyncsFirst g.D.Disk.device c.args.disk) (sym c.into_disk-in_default.ensures) (syncs_both g.D.Disk.device g.met.D.Disk.only_now g.met.D.Disk.counts_content c.args.disk c.in-Ok.journal c.open-2.new.journal c.in-Ok.ensures.ok c.in-Ok.ensures.moment c.open-2.ensures.reads))
+
+pub returns-in_default-new-clause-volume : goal.returns-in_default-new-clause-volume
+returns-in_default-new-clause-volume g c = subst (λ d. LeftKept (g.D.Disk.device c.args.disk) (g.D.Disk.device d)) (sym c.into_disk-in_default-new.ensures) (left_both g.D.Disk.device g.met.D.Disk.only_now g.met.D.Disk.counts_content c.args.disk c.in-Ok.journal c.open-2.new.journal c.in-Ok.ensures.ok c.open-2.ensures.reads)
+
+pub returns-in_default-new-clause-moment : goal.returns-in_default-new-clause-moment
+returns-in_default-new-clause-moment g c = inl (subst (SyncsFirst g.D.Disk.device c.args.disk) (sym c.into_disk-in_default-new.ensures) (syncs_both g.D.Disk.device g.met.D.Disk.only_now g.met.D.Disk.counts_content c.args.disk c.in-Ok.journal c.open-2.new.journal c.in-Ok.ensures.ok c.in-Ok.ensures.moment c.open-2.ensures.reads))
+
+pub returns-clause-volume : goal.returns-clause-volume
+returns-clause-volume g c = left_both g.D.Disk.device g.met.D.Disk.only_now g.met.D.Disk.counts_content c.args.disk c.in-Ok.journal c.open-2.new.journal c.in-Ok.ensures.ok c.open-2.ensures.reads
+
+pub returns-clause-moment : goal.returns-clause-moment
+returns-clause-moment g c = syncs_both g.D.Disk.device g.met.D.Disk.only_now g.met.D.Disk.counts_content c.args.disk c.in-Ok.journal c.open-2.new.journal c.in-Ok.ensures.ok c.in-Ok.ensures.moment c.open-2.ensures.reads
