@@ -10,6 +10,7 @@ use crate::words::Plan;
 use disk::Faults;
 use journal::Progress;
 use memdisk::{MemDisk, Pick};
+use names::GroupName;
 use script::{Line, ParseError, parse};
 use std::alloc::Global;
 use std::io::{BufRead, Write};
@@ -117,6 +118,10 @@ fn act<W: Write>(
             moment,
             description,
         } => {
+            // a lawful line has a group name
+            let Ok(name) = GroupName::read(name.as_slice()) else {
+                return Err(Failure::Bad);
+            };
             let group = Event::Admin {
                 name,
                 status,

@@ -7,6 +7,7 @@ ghost use Rattle.world.specs.Events.{MayHappen};
 use journal::format;
 use memdisk::{MemDisk, Pick};
 use model::{Change, Mark};
+use names::GroupName;
 use script::{Line, parse};
 use served::{Entry, Happened};
 use spool::Spool;
@@ -147,12 +148,15 @@ pub(crate) fn event(alloc: Global, line: &str) -> Result<Event, Fail>
             status,
             moment,
             description,
-        } => Ok(Event::Admin {
-            name,
-            status,
-            description,
-            moment,
-        }),
+        } => match GroupName::read(name.as_slice()) {
+            Ok(name) => Ok(Event::Admin {
+                name,
+                status,
+                description,
+                moment,
+            }),
+            Err(_) => Err("no name")?,
+        },
         Line::Join => Ok(Event::Join),
         Line::Leave(session) => Ok(Event::Leave(session)),
         Line::Arrive { session, octets } => Ok(Event::Arrive(session, octets)),
