@@ -15,7 +15,7 @@ use Rattle.model.proofs.LineLaws.{lines-empty}
 use Rattle.model.proofs.Ends.{ends_with-get, ends_with-length}
 
 -- where a front ends in CRLF, CRLF occurs
-occurs : (text : List ℕ) (k : ℕ) → k ≤ length text → ends_with nat_eq (take k text) crlf ≡ true → OccursAt text crlf (k - 2)
+pub occurs : (text : List ℕ) (k : ℕ) → k ≤ length text → ends_with nat_eq (take k text) crlf ≡ true → OccursAt text crlf (k - 2)
 occurs text k within ends =
     let size = length-take-le k text within in
     let long = ends_with-length (take k text) crlf ends in
@@ -25,7 +25,7 @@ occurs text k within ends =
           sym (get_or-take k text (k - 2 + j) 0 (omega (arith, size, long))) ∙ ap (λ i. get_or (take k text) i 0) at ∙ ends_with-get (take k text) crlf ends j below;
     }
 
-too_early : (text : List ℕ) (k : ℕ) → k ≤ length text → ends_with nat_eq (take k text) crlf ≡ true → 2 ≤ k
+pub too_early : (text : List ℕ) (k : ℕ) → k ≤ length text → ends_with nat_eq (take k text) crlf ≡ true → 2 ≤ k
 too_early text k within ends = omega (arith, length-take-le k text within, ends_with-length (take k text) crlf ends)
 
 -- a front before the first CRLF's end doesn't end in it
@@ -45,7 +45,7 @@ last_two text at size one two =
     ∙ ap (λ x. x ∷ get_or text (suc at) 0 ∷ []) (ap (λ i. get_or text i 0) first ∙ one)
     ∙ ap (λ x. 13 ∷ x ∷ []) (ap (λ i. get_or text i 0) next ∙ two)
 
-ends_there : (text : List ℕ) (at : ℕ) → OccursAt text crlf at → ends_with nat_eq (take (at + 2) text) crlf ≡ true
+pub ends_there : (text : List ℕ) (at : ℕ) → OccursAt text crlf at → ends_with nat_eq (take (at + 2) text) crlf ≡ true
 ends_there text at occurs =
     let size = length-take-le (at + 2) text occurs.fits in
     let cut : length (take (at + 2) text) - 2 ≡ at = omega (arith, size) in
@@ -81,7 +81,7 @@ foul_test false true true is = refl
 foul_test false true false is = refl
 foul_test true b c is = refl
 
-each_passes : (p : ℕ → Bool) (xs : List ℕ) → ((k : ℕ) → k < length xs → p (get_or xs k 0) ≡ true) → list_all p xs ≡ true
+pub each_passes : (p : ℕ → Bool) (xs : List ℕ) → ((k : ℕ) → k < length xs → p (get_or xs k 0) ≡ true) → list_all p xs ≡ true
 each_passes p [] each = refl
 each_passes p (x ∷ xs) each = and_from (p x) (list_all p xs) (each 0 (omega arith)) (each_passes p xs (λ k below. each (suc k) (omega arith)))
 

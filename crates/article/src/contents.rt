@@ -4,9 +4,13 @@ ghost use Rattle.model.specs.Article as article;
 ghost use Rattle.model.specs.Names as names;
 ghost use Rattle.article.specs.Causes.{is_blank_in};
 
-use crate::fields::{is_blank, name_of};
+use crate::fields::name_of;
 use crate::lines::line_length;
+use bstr::ByteSlice;
 use std::alloc::{AllocError, Global};
+
+/// SP and TAB (RFC 5322, 2.2.2).
+const BLANKS: &[u8] = b" \t";
 
 /// Whether the field has this name, in capitals or small letters (RFC 5536, 2.2).
 fn is_named(name: &[u8], field: &[u8]) -> bool
@@ -56,7 +60,7 @@ fn line_text(line: &[u8]) -> &[u8]
 fn are_blank(octets: &[u8]) -> bool
     ensures { result ≡ list_all names.is_blank octets.now }
 {
-    octets.iter().all(|octet| is_blank(*octet))
+    octets.find_not_byteset(BLANKS).is_none()
 }
 
 /// Whether nothing but SP, TAB and line ends stands in a text.
@@ -85,42 +89,27 @@ pub(crate) fn is_blank_field(fields: &[&[u8]], name: &[u8]) -> bool
 pub(crate) fn unfold(alloc: Global, text: &[u8]) -> Result<Vec<u8>, AllocError>
     ensures { IfOk result (λ unfolded. unfolded.items ≡ article.unfolded text.now) }
 {
-    let mut unfolded = Vec::new(alloc);
-    let mut rest = text;
-    while !rest.is_empty() {
-        let (line, later) = rest.split_at(line_length(rest));
-        unfolded.extend_from_slice(line_text(line))?;
-        rest = later;
-    }
-    Ok(unfolded)
+    text.replace(alloc, b"\r\n", b"")
 }
 
 /// A text less the octets in front that are SP or TAB.
 fn trim_start(text: &[u8]) -> &[u8]
     ensures { result.now ≡ article.trimmed_start text.now }
 {
-    let mut rest = text;
-    while let [first, later @ ..] = rest {
-        if !is_blank(*first) {
-            return rest;
-        }
-        rest = later;
+    match text.find_not_byteset(BLANKS) {
+        Some(first) => &text[first..],
+        None => &text[..0],
     }
-    rest
 }
 
 /// A text less the octets at its end that are SP or TAB.
 fn trim_end(text: &[u8]) -> &[u8]
     ensures { result.now ≡ reverse (article.trimmed_start (reverse text.now)) }
 {
-    let mut rest = text;
-    while let [front @ .., last] = rest {
-        if !is_blank(*last) {
-            return rest;
-        }
-        rest = front;
+    match text.rfind_not_byteset(BLANKS) {
+        Some(last) => &text[..last + 1],
+        None => &text[..0],
     }
-    rest
 }
 
 /// A text without the SP and TAB round it.

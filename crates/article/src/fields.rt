@@ -5,12 +5,12 @@ ghost use Rattle.model.specs.Names as names;
 ghost use Rattle.article.specs.Header.{EndsField};
 
 use crate::lines::{is_empty_line, line_length};
-use memchr::memchr;
+use bstr::ByteSlice;
 use std::alloc::{AllocError, Global};
 use std::cmp::min;
 
 /// Whether the octet is SP or TAB.
-pub(crate) fn is_blank(octet: u8) -> bool
+fn is_blank(octet: u8) -> bool
     ensures { result ≡ names.is_blank octet }
 {
     octet == b' ' || octet == b'\t'
@@ -37,7 +37,7 @@ fn begins_blank(line: &[u8]) -> bool
 pub(crate) fn name_of(field: &[u8]) -> &[u8]
     ensures { result.now ≡ article.name_of field.now }
 {
-    match memchr(b':', field) {
+    match field.find_byte(b':') {
         Some(end) => &field[..end],
         None => field,
     }

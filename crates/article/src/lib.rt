@@ -162,6 +162,3 @@ fn copies(alloc: Global, texts: &[&[u8]]) -> Result<Vec<Text>, AllocError>
     }
     Ok(copies)
 }
-
-#[cfg(test)]
-mod tests;

@@ -4,7 +4,8 @@ ghost use Rattle.model.specs.Stream.{crlf, lines};
 ghost use Rattle.model.specs.Article as article;
 ghost use Rattle.article.specs.Header.{IsHeader, is_plain};
 
-use memchr::{memchr3, memmem};
+use bstr::ByteSlice;
+use memchr::memchr3;
 
 /// The length of a text's first line, with its CRLF where it has one.
 pub(crate) fn line_length(text: &[u8]) -> usize
@@ -13,7 +14,7 @@ pub(crate) fn line_length(text: &[u8]) -> usize
     ensures within { result ≤ length text.now }
     ensures first { lines text.now ≡ take result text.now ∷ lines (drop result text.now) }
 {
-    match memmem::find(text, b"\r\n") {
+    match text.find(b"\r\n") {
         Some(at) => at + 2,
         None => text.len(),
     }

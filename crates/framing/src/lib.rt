@@ -14,9 +14,6 @@ use std::alloc::{AllocError, Global};
 use std::cmp::max;
 use std::marker::Model;
 
-#[cfg(test)]
-mod tests;
-
 /// The octets with CRLF of the longest command line.
 pub const LINE_LIMIT: usize = 512;
 

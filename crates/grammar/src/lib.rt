@@ -8,8 +8,6 @@ ghost use Rattle.grammar.specs.Arguments.{LinesAreInGrammar};
 mod commands;
 mod keywords;
 mod lines;
-#[cfg(test)]
-mod tests;
 
 use commands::command;
 use keywords::keyword_of;

@@ -4,8 +4,6 @@
 
 mod checks;
 mod patterns;
-#[cfg(test)]
-mod tests;
 mod values;
 
 pub use checks::{

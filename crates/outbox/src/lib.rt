@@ -3,8 +3,6 @@
 
 mod queue;
 mod ready;
-#[cfg(test)]
-mod tests;
 
 pub use queue::Queue;
 pub use ready::ReadyBuf;

@@ -61,6 +61,3 @@ fn push_shown(line: &mut Vec<u8>, content: &[u8]) -> Result<(), AllocError>
     }
     Ok(())
 }
-
-#[cfg(test)]
-mod tests;

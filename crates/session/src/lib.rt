@@ -3,8 +3,6 @@
 
 mod replies;
 mod requests;
-#[cfg(test)]
-mod tests;
 mod words;
 
 pub use replies::{

@@ -294,6 +294,3 @@ pub fn read_since(date: &[u8], time: &[u8], moment: u64) -> Result<i64, SinceErr
     };
     Ok(days * DAY as i64 + seconds as i64)
 }
-
-#[cfg(test)]
-mod tests;

@@ -1,12 +1,12 @@
-use Rattle.std.proofs.Common.{sym, ◌∙◌}
-use Rattle.article.proofs.ContentLaws.{start-more, start-stop, start-empty}
+use Rattle.std.proofs.Common.{◌∙◌}
+use Rattle.std.proofs.lemmas.List.{take_rest}
+use Rattle.article.proofs.BlankLaws.{start-found, start-none}
 use Rattle.article.proofs.contents.trim_start.Goals as goal
 
-pub returns-then-not-is_blank : goal.returns-then-not-is_blank
-returns-then-not-is_blank c = start-stop c.loop-rest.rest.now c.args.text.now c.in-len1-up.len_at_least (sym c.if-not-is_blank.ensures) c.loop-rest.invariant
+pub returns-in-Some : goal.returns-in-Some
+returns-in-Some c =
+    let found = c.in-Some.ensures in
+    take_rest c.args.text.now c.in-Some.first ∙ start-found c.args.text.now c.in-Some.first found.0.high found.0.before found.1
 
-pub loop-rest-preserved : goal.loop-rest-preserved
-loop-rest-preserved c = start-more c.loop-rest.rest.now c.in-len1-up.len_at_least (sym c.if-not-is_blank.ensures) ∙ c.loop-rest.invariant
-
-pub returns : goal.returns
-returns c = start-empty c.loop-rest.rest.now c.args.text.now c.in_default.len_below c.loop-rest.invariant
+pub returns-in-None : goal.returns-in-None
+returns-in-None c = start-none c.args.text.now c.in-None.ensures

@@ -1,0 +1,7 @@
+//! Tables of what is asked of a volume, one call behind the other, with what it is to answer.
+#![tactic(auto)]
+
+#[cfg(test)]
+mod steps;
+#[cfg(test)]
+mod tables;

@@ -1,0 +1,121 @@
+//! The calls of a volume, each with what it is to answer.
+
+ghost use Rattle.std.specs.Prelude.{◌≤◌};
+
+use journal::{Journal, JournalError};
+use memdisk::MemDisk;
+use std::alloc::{AllocError, Global};
+use std::test::Fail;
+use volume::{BATCH_BLOCKS, BLOCK_SIZE, BatchBuf, Blocks, OpenError, Volume};
+
+/// A call, or what a read is to give.
+#[derive(Clone, Copy)]
+pub enum Step<'a> {
+    Stage,
+    /// Fills a block with an octet.
+    Fill(u32, u8),
+    Drop,
+    Apply,
+    /// How many blocks there are.
+    Has(u32),
+    /// How many blocks are dirty.
+    HasDirty(usize),
+    /// Each octet of the block is this one.
+    Filled(u32, u8),
+    /// The numbers of a batch, and the octets that fill its blocks.
+    Batch(&'a [u32], &'a [u8]),
+}
+
+/// A volume of 8 zeroed blocks.
+pub fn zeros(alloc: Global) -> Result<Volume, AllocError> {
+    let octets = vec![in alloc; 0; 8 * BLOCK_SIZE]?;
+    Volume::of(alloc, octets, 8)
+}
+
+/// A device with a volume of so many zeroed blocks.
+fn formatted(alloc: Global, blocks: u64) -> Result<MemDisk, JournalError>
+    requires low { 1024 ≤ blocks }
+    requires high { blocks ≤ 65536 }
+{
+    let made = MemDisk::new(alloc, BLOCK_SIZE as u64 * (515 + blocks));
+    let mut disk = made.map_err(|_| JournalError::Memory)?;
+    journal::format(alloc, &mut disk, blocks, &[0; 128])?;
+    Ok(disk)
+}
+
+/// The volume of a device that was just formatted, where the n-th call from its loading on fails; 0 for none.
+pub fn loaded(alloc: Global, fail_at: u64) -> Result<Result<Volume, OpenError>, Fail> {
+    let disk = formatted(alloc, 1024)?;
+    let Ok(mut journal) = Journal::open(alloc, disk) else {
+        return Err("the journal did not open")?;
+    };
+    if !journal.is_idle() {
+        return Err("the journal is not idle")?;
+    }
+    journal.fail_at(fail_at);
+    Ok(Volume::open(alloc, &mut journal))
+}
+
+/// Whether each octet of a block is this one.
+fn is_filled(volume: &Volume, number: u32, octet: u8) -> bool {
+    if number >= volume.len() {
+        return false;
+    }
+    let mut octets = [0; BLOCK_SIZE];
+    volume.get(number, &mut octets);
+    octets.iter().all(|x| *x == octet)
+}
+
+/// Fills a block, where it is there.
+fn fill(volume: &mut Volume, number: u32, octet: u8) -> Result<bool, AllocError> {
+    if number >= volume.len() {
+        return Ok(false);
+    }
+    volume.put(number, &[octet; BLOCK_SIZE])?;
+    Ok(true)
+}
+
+/// Whether the batch has these blocks, each filled with its octet.
+fn is_batch(
+    alloc: Global,
+    batch: &BatchBuf,
+    numbers: &[u32],
+    octets: &[u8],
+) -> Result<bool, AllocError> {
+    let mut images = Vec::new(alloc);
+    for octet in octets {
+        images.extend_from_slice(&[*octet; BLOCK_SIZE])?;
+    }
+    Ok(batch.numbers() == numbers && batch.images() == images.as_slice())
+}
+
+/// Copies what is dirty, where it is no more than a batch has.
+fn copied(volume: &mut Volume, batch: &mut BatchBuf) -> bool {
+    if volume.dirty_len() > BATCH_BLOCKS {
+        return false;
+    }
+    volume.copy_dirty(batch);
+    true
+}
+
+/// Whether a volume answers as a step says.
+pub fn answers(
+    alloc: Global,
+    volume: &mut Volume,
+    batch: &mut BatchBuf,
+    step: Step<'_>,
+) -> Result<bool, AllocError> {
+    match step {
+        Step::Stage => volume.stage(),
+        Step::Fill(number, octet) => return fill(volume, number, octet),
+        Step::Drop => volume.drop_stage(),
+        Step::Apply => volume.apply(),
+        Step::Has(count) => return Ok(volume.len() == count),
+        Step::HasDirty(count) => return Ok(volume.dirty_len() == count),
+        Step::Filled(number, octet) => return Ok(is_filled(volume, number, octet)),
+        Step::Batch(numbers, octets) => {
+            return Ok(copied(volume, batch) && is_batch(alloc, batch, numbers, octets)?);
+        }
+    }
+    Ok(true)
+}
