@@ -11,6 +11,7 @@ use disk::{Disk, DiskError};
 use std::fs::{File, OpenOptions};
 use std::io;
 use std::os::unix::fs::FileExt;
+use std::path::Path;
 use std::rt::Files;
 
 /// A file whose octets are a device's. It counts the calls that are asked and those that fail.
@@ -27,33 +28,77 @@ pub struct FileDisk {
 impl FileDisk {
     ghost use Rattle.filedisk.specs.FileDisk.{file_device};
 
-    /// The file at `path` as a device of `len` octets: it is made where there is none, and its length is set to `len`.
-    /// `Fault` where one of these fails.
+    /// The file at `path` as a device of `len` octets: it is made where there is none, its length is set to `len`, and the file
+    /// and its entry in its directory are made durable. It is locked as in `open_existing`. `Fault` where one of these fails.
     pub fn open<R: Files<File = File>>(rt: &R, path: &str, len: u64) -> Result<FileDisk, DiskError>
         ensures size { IfOk result (λ f. (file_device f).size ≡ len) }
         ensures calls { IfOk result (λ f. ((file_device f).reads ≡ 0) × ((file_device f).writes ≡ 0) × ((file_device f).syncs ≡ 0)) }
         ensures failures { IfOk result (λ f. (file_device f).failures ≡ 0) }
         ensures refused { IfErr result (λ e. e ≡ DiskError.Fault) }
     {
-        match open_file(rt, path, len) {
-            Ok(file) => Ok(FileDisk {
-                file,
-                len,
-                reads: 0,
-                writes: 0,
-                syncs: 0,
-                failures: 0,
-            }),
+        match make_file(rt, path, len) {
+            Ok(file) => Ok(FileDisk::over(file, len)),
             Err(_) => Err(DiskError::Fault),
+        }
+    }
+
+    /// The file that stands at `path` as a device of its own length. It is locked until the device is dropped, so that two
+    /// servers never share it. `Fault` where it can't be had for reading and writing, or is locked; then it is as it was.
+    pub fn open_existing<R: Files<File = File>>(rt: &R, path: &str) -> Result<FileDisk, DiskError>
+        ensures calls { IfOk result (λ f. ((file_device f).reads ≡ 0) × ((file_device f).writes ≡ 0) × ((file_device f).syncs ≡ 0)) }
+        ensures failures { IfOk result (λ f. (file_device f).failures ≡ 0) }
+        ensures refused { IfErr result (λ e. e ≡ DiskError.Fault) }
+    {
+        match find_file(rt, path) {
+            Ok((file, len)) => Ok(FileDisk::over(file, len)),
+            Err(_) => Err(DiskError::Fault),
+        }
+    }
+
+    // A device of `len` octets over an open file, of which no call was asked.
+    fn over(file: File, len: u64) -> FileDisk
+        ensures size { (file_device result).size ≡ len }
+        ensures calls { ((file_device result).reads ≡ 0) × ((file_device result).writes ≡ 0) × ((file_device result).syncs ≡ 0) }
+        ensures failures { (file_device result).failures ≡ 0 }
+    {
+        FileDisk {
+            file,
+            len,
+            reads: 0,
+            writes: 0,
+            syncs: 0,
+            failures: 0,
         }
     }
 }
 
-fn open_file<R: Files<File = File>>(rt: &R, path: &str, len: u64) -> io::Result<File> {
+// The lock comes before the length, so that a file that another process holds stays as it was.
+fn make_file<R: Files<File = File>>(rt: &R, path: &str, len: u64) -> io::Result<File> {
     let mut options = OpenOptions::new();
     let file = options.read(true).write(true).create(true).open(rt, path)?;
+    file.try_lock()?;
     file.set_len(len)?;
+    file.sync_all()?;
+    sync_directory(rt, path)?;
     Ok(file)
+}
+
+// Its length is asked under the lock: no other process changes it from then on.
+fn find_file<R: Files<File = File>>(rt: &R, path: &str) -> io::Result<(File, u64)> {
+    let mut options = OpenOptions::new();
+    let file = options.read(true).write(true).open(rt, path)?;
+    file.try_lock()?;
+    let len = file.metadata()?.len();
+    Ok((file, len))
+}
+
+// Makes the entry of a file in its directory durable.
+fn sync_directory<R: Files<File = File>>(rt: &R, path: &str) -> io::Result<()> {
+    let directory = match Path::new(path).parent() {
+        Some(directory) if !directory.as_str().is_empty() => File::open(rt, directory)?,
+        _ => File::open(rt, ".")?,
+    };
+    directory.sync_all()
 }
 
 // The answer of a call to the file, where a failure is counted.

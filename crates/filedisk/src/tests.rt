@@ -11,6 +11,7 @@ fn octets_stay_in_the_file(rt: HostRuntime) -> Result<(), Fail> {
     let mut octets = [1; 8];
     assert_eq!(rt; disk.read(0, &mut octets), Ok(()));
     assert_eq!(rt; octets, *b"\0\0abcd\0\0");
+    drop(disk);
     let mut longer = FileDisk::open(&rt, path, 10)?;
     let mut octets = [1; 6];
     assert_eq!(rt; longer.read(4, &mut octets), Ok(()));
@@ -20,8 +21,20 @@ fn octets_stay_in_the_file(rt: HostRuntime) -> Result<(), Fail> {
 }
 
 #[test]
-fn a_folder_is_no_device(rt: HostRuntime) {
-    assert!(rt; matches!(FileDisk::open(&rt, "/", 8), Err(DiskError::Fault)));
+fn what_can_not_be_had_is_a_fault(rt: HostRuntime) {
+    for path in ["/", "", "no/such/directory/volume"] {
+        assert!(rt;
+            matches!(FileDisk::open(&rt, path, 8), Err(DiskError::Fault)),
+            "{path}"
+        );
+    }
+    for path in ["/", "", "filedisk_missing"] {
+        assert!(rt;
+            matches!(FileDisk::open_existing(&rt, path), Err(DiskError::Fault)),
+            "{path}"
+        );
+    }
+    assert!(rt; !matches!(fs::exists(&rt, "filedisk_missing"), Ok(true)));
 }
 
 // The file was made shorter behind the device's back.
@@ -29,10 +42,40 @@ fn a_folder_is_no_device(rt: HostRuntime) {
 fn a_read_past_the_files_end_is_a_fault(rt: HostRuntime) -> Result<(), Fail> {
     let path = "filedisk_shorter";
     let mut disk = FileDisk::open(&rt, path, 8)?;
-    let shorter = FileDisk::open(&rt, path, 4)?;
-    drop(shorter);
+    File::options().write(true).open(&rt, path)?.set_len(4)?;
     let mut octets = [0; 8];
     assert_eq!(rt; disk.read(0, &mut octets), Err(DiskError::Fault));
     fs::remove_file(&rt, path)?;
+    Ok(())
+}
+
+// A second device is refused before it changes the length.
+#[test]
+fn two_devices_never_share_a_file(rt: HostRuntime) -> Result<(), Fail> {
+    let path = "filedisk_shared";
+    let mut first = FileDisk::open(&rt, path, 8)?;
+    assert_eq!(rt; first.write(0, b"12345678"), Ok(()));
+    assert!(rt; matches!(FileDisk::open(&rt, path, 4), Err(DiskError::Fault)));
+    assert!(rt; matches!(FileDisk::open_existing(&rt, path), Err(DiskError::Fault)));
+    drop(first);
+    let mut second = FileDisk::open_existing(&rt, path)?;
+    assert_eq!(rt; second.len(), 8);
+    let mut octets = [0; 8];
+    assert_eq!(rt; second.read(0, &mut octets), Ok(()));
+    assert_eq!(rt; octets, *b"12345678");
+    fs::remove_file(&rt, path)?;
+    Ok(())
+}
+
+// The system refuses to sync the null device, so a sync that did not ask it would answer `Ok`.
+#[test]
+fn a_sync_reaches_the_system(rt: HostRuntime) -> Result<(), Fail> {
+    let file = File::options()
+        .read(true)
+        .write(true)
+        .open(&rt, "/dev/null")?;
+    let mut disk = FileDisk::over(file, 8);
+    assert_eq!(rt; disk.write(0, b"12345678"), Ok(()));
+    assert_eq!(rt; disk.sync(), Err(DiskError::Fault));
     Ok(())
 }

@@ -3,6 +3,7 @@ ghost use Rattle.program.specs.declared.failure.Failure.TheVariants.{Memory};
 ghost use Rattle.program.specs.Status.{status_of};
 
 use crate::{NOT_UNDERSTOOD, REFUSED};
+use commands::CommandError;
 use std::alloc::{AllocError, AllocFailed};
 use std::io;
 use thiserror::Error;
@@ -23,6 +24,9 @@ pub enum Failure {
     /// The line with this number, from 1, is no event. Those before it are done and printed.
     #[error("line {0}: bad event")]
     BadEvent(u64),
+    /// A command over a volume in a file was refused.
+    #[error("{0}")]
+    Command(CommandError),
     /// The input could not be read or the output not written.
     #[error("{0}")]
     Stream(io::Error),
@@ -53,6 +57,12 @@ impl<T: Drop> From<AllocFailed<T>> for Failure {
 
     fn from(_error: AllocFailed<T>) -> Failure {
         Failure::Memory
+    }
+}
+
+impl From<CommandError> for Failure {
+    fn from(error: CommandError) -> Failure {
+        Failure::Command(error)
     }
 }
 

@@ -4,9 +4,10 @@ ghost use Rattle.script.specs.Script.{IsLawful};
 ghost use Rattle.world.specs.Events.{MayHappen};
 
 use crate::Failure;
-use crate::printing::{print_refusal, print_released, print_spool};
+use crate::printing::{print_refusal, print_released};
 use crate::volume::new_world;
 use crate::words::Plan;
+use commands::print_spool;
 use disk::Faults;
 use journal::Progress;
 use memdisk::{MemDisk, Pick};

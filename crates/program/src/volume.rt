@@ -1,27 +1,16 @@
 //! The volume of a simulation.
 
-ghost use Rattle.std.specs.Prelude.{◌≡◌, ◌≤◌, length, vec_len, IfOk};
-ghost use Rattle.model.specs.Layout.{label_octets};
-
 use crate::Failure;
 use crate::words::Plan;
+use commands::{device_octets, label};
 use journal::{JournalError, format};
 use memdisk::MemDisk;
-use std::alloc::{AllocError, Global};
+use std::alloc::Global;
 use world::{OpenError, World};
-
-/// Octets of a block.
-const BLOCK: u64 = 4096;
-
-/// Device blocks before the logical ones: the superblock, and a segment's gate, descriptor and 512 images.
-const BLOCKS_BEFORE: u64 = 1 + 514;
-
-/// Octets of a label.
-const LABEL: usize = 128;
 
 /// A world over a new device in memory with an empty volume.
 pub(crate) fn new_world(alloc: Global, plan: &Plan<'_>) -> Result<World<MemDisk>, Failure> {
-    let mut disk = MemDisk::new(alloc, (BLOCKS_BEFORE + plan.blocks) * BLOCK)?;
+    let mut disk = MemDisk::new(alloc, device_octets(plan.blocks))?;
     let label = label(alloc, plan.host, plan.inodes as u32)?;
     match format(alloc, &mut disk, plan.blocks, label.as_slice()) {
         Ok(()) => {}
@@ -32,18 +21,4 @@ pub(crate) fn new_world(alloc: Global, plan: &Plan<'_>) -> Result<World<MemDisk>
         Ok(world) => Ok(world),
         Err(refused) => Err(Failure::NotOpened(refused.error)),
     }
-}
-
-/// The label of a volume: inodes, the host's length, the host, zeros.
-fn label(alloc: Global, host: &[u8], inodes: u32) -> Result<Vec<u8>, AllocError>
-    requires { length host.now ≤ 64 }
-    ensures octets { IfOk result (λ label. label.items ≡ label_octets inodes host.now) }
-    ensures whole { IfOk result (λ label. vec_len label ≡ 128) }
-{
-    let mut label = Vec::with_capacity(alloc, LABEL)?;
-    label.extend_from_slice(&inodes.to_le_bytes())?;
-    label.push(host.len() as u8)?;
-    label.extend_from_slice(host)?;
-    label.resize(LABEL, 0)?;
-    Ok(label)
 }

@@ -1,25 +1,23 @@
 //! The program's words.
 
-ghost use Rattle.std.specs.Prelude.{◌≡◌, ◌≤◌, IsTrue, length};
+ghost use Rattle.std.specs.Prelude.{◌≡◌, ◌≤◌, ◌⊎◌, IsTrue, length};
+ghost use Rattle.commands.specs.Sizes.{are_sizes};
 ghost use Rattle.model.specs.Names.{is_host};
-ghost use Rattle.program.specs.Sizes.{are_sizes};
 
+use crate::grammar::{
+    BLOCKS, DESCRIPTION, HOST, INODES, MOMENT, NAME, PATH, PORT, STATUS, grammar,
+};
 use crate::{DONE, Failure, NOT_UNDERSTOOD};
+use clap::ArgMatches;
 use clap::error::ErrorKind;
-use clap::{Arg, ArgAction, ArgMatches, Command};
+use commands::are_sizes;
 use names::is_host;
 use script::number;
-use std::alloc::{AllocError, Global};
+use std::alloc::Global;
 use std::convert::AsStr;
 use std::io::Write;
 
-/// The logical blocks of a simulated device.
-const DEFAULT_BLOCKS: &str = "1024";
-
-/// Its inodes.
-const DEFAULT_INODES: &str = "64";
-
-/// What a simulation begins with. Its words are in their grammars and ranges.
+/// What a new volume is. Its words are in their grammars and ranges.
 #[derive(Drop)]
 pub(crate) struct Plan<'a> {
     pub(crate) host: &'a [u8],
@@ -36,6 +34,18 @@ pub(crate) enum Asked<'a> {
     /// Nothing more: help was printed, or words were not understood.
     Nothing(u8),
     Simulation(Plan<'a>),
+    Format(&'a str, Plan<'a>),
+    /// The line of a group, as an operator would write it.
+    Group(&'a str, Vec<u8>),
+    Serve(Service<'a>),
+    Dump(&'a str),
+}
+
+/// The volume that a server serves, and its port.
+#[derive(Clone, Copy)]
+pub struct Service<'a> {
+    pub(crate) path: &'a str,
+    pub(crate) port: u16,
 }
 
 /// Reads the words. Where they aren't understood, the parser's text goes to `faults`; help goes to `output`.
@@ -46,7 +56,7 @@ pub(crate) fn read_words<'a, S: AsStr, W: Write, F: Write>(
     faults: &mut F,
 ) -> Result<Asked<'a>, Failure> {
     match grammar(alloc)?.try_get_matches_from(words) {
-        Ok(matches) => read_request(&matches),
+        Ok(matches) => read_request(alloc, &matches),
         Err(error) => {
             if error.kind() == ErrorKind::OutOfMemory {
                 return Err(Failure::Memory);
@@ -61,47 +71,35 @@ pub(crate) fn read_words<'a, S: AsStr, W: Write, F: Write>(
     }
 }
 
-/// The program's words, one level of subcommands.
-fn grammar<'a>(alloc: Global) -> Result<Command<'a>, AllocError> {
-    let host = option(alloc, "host", "HOST", "The server's name").required(true);
-    let blocks = option(alloc, "blocks", "N", "Logical blocks of 4096 octets").default_value(
-        DEFAULT_BLOCKS,
-    );
-    let inodes = option(alloc, "inodes", "I", "Files on the volume").default_value(DEFAULT_INODES);
-    let sim = Command::new(alloc, "sim")
-        .about("Plays a script of events from standard input over a device in memory")
-        .arg(host)?
-        .arg(blocks)?
-        .arg(inodes)?;
-    Command::new(alloc, "newsd")
-        .bin_name("newsd")?
-        .about("A Usenet server that releases no reply before what it says is on disk")
-        .subcommand_required(true)
-        .subcommand(sim)
-}
-
-/// An option that takes one value.
-fn option<'a>(alloc: Global, name: &'a str, value: &'a str, help: &'a str) -> Arg<'a> {
-    Arg::new(alloc, name)
-        .long(name)
-        .value_name(value)
-        .action(ArgAction::Set)
-        .help(help)
-}
-
 /// What the words that were understood ask for, where each is in its grammar and range.
-fn read_request<'a>(matches: &ArgMatches<'a>) -> Result<Asked<'a>, Failure> {
-    let Some(("sim", words)) = matches.subcommand() else {
+fn read_request<'a>(alloc: Global, matches: &ArgMatches<'a>) -> Result<Asked<'a>, Failure> {
+    let Some((name, words)) = matches.subcommand() else {
         return Err(Failure::Bad);
     };
-    let host = words.get_str("host").ok_or(Failure::Bad)?;
-    let blocks = words.get_str("blocks").ok_or(Failure::Bad)?;
-    let inodes = words.get_str("inodes").ok_or(Failure::Bad)?;
-    Ok(Asked::Simulation(read_plan(host.as_bytes(), blocks.as_bytes(), inodes.as_bytes())?))
+    match name {
+        "sim" => Ok(Asked::Simulation(read_plan(words)?)),
+        "format" => Ok(Asked::Format(word(words, PATH)?, read_plan(words)?)),
+        "group" => Ok(Asked::Group(word(words, PATH)?, read_group(alloc, words)?)),
+        "serve" => Ok(Asked::Serve(read_service(words)?)),
+        "dump" => Ok(Asked::Dump(word(words, PATH)?)),
+        _ => Err(Failure::Bad),
+    }
 }
 
-/// The plan that these words give, each in its grammar and range.
-fn read_plan<'a>(host: &'a [u8], blocks: &[u8], inodes: &[u8]) -> Result<Plan<'a>, Failure> {
+/// The value of a word that the grammar requires.
+fn word<'a>(words: &ArgMatches<'a>, name: &str) -> Result<&'a str, Failure> {
+    words.get_str(name).ok_or(Failure::Bad)
+}
+
+/// The volume that the words describe.
+fn read_plan<'a>(words: &ArgMatches<'a>) -> Result<Plan<'a>, Failure> {
+    let host = word(words, HOST)?;
+    let blocks = word(words, BLOCKS)?;
+    let inodes = word(words, INODES)?;
+    plan_of(host.as_bytes(), blocks.as_bytes(), inodes.as_bytes())
+}
+
+fn plan_of<'a>(host: &'a [u8], blocks: &[u8], inodes: &[u8]) -> Result<Plan<'a>, Failure> {
     if !is_host(host) {
         return Err(Failure::Bad);
     }
@@ -117,12 +115,28 @@ fn read_plan<'a>(host: &'a [u8], blocks: &[u8], inodes: &[u8]) -> Result<Plan<'a
     })
 }
 
-/// Whether a volume may have so many blocks and inodes.
-fn are_sizes(blocks: u64, inodes: u64) -> bool
-    ensures { result ≡ are_sizes blocks inodes }
-{
-    if blocks < 1024 || blocks > 65_536 || inodes < 64 || inodes > 32_768 {
-        return false;
+/// The line of the group that the words describe. Only the last of them, the description, may have spaces.
+fn read_group(alloc: Global, words: &ArgMatches<'_>) -> Result<Vec<u8>, Failure> {
+    let mut line = Vec::new(alloc);
+    line.extend_from_slice(b"group")?;
+    for name in [NAME, STATUS, MOMENT] {
+        let text = word(words, name)?.as_bytes();
+        if text.contains(&b' ') {
+            return Err(Failure::Bad);
+        }
+        line.push(b' ')?;
+        line.extend_from_slice(text)?;
     }
-    inodes % 64 == 0 && 2 + 2 * inodes / 64 + 256 <= blocks
+    line.push(b' ')?;
+    line.extend_from_slice(word(words, DESCRIPTION)?.as_bytes())?;
+    Ok(line)
+}
+
+/// The volume and the port that the words name.
+fn read_service<'a>(words: &ArgMatches<'a>) -> Result<Service<'a>, Failure> {
+    let path = word(words, PATH)?;
+    match words.get_one::<u16>(PORT) {
+        Some(port) => Ok(Service { path, port }),
+        None => Err(Failure::Bad),
+    }
 }

@@ -56,6 +56,7 @@ fn the_program_ends_with_its_failure(rt: HostRuntime) -> Result<(), Fail> {
     let words = ["newsd", "sim", "--host", "news.example"];
     let mut input = b"join\njoin\n".as_slice();
     let status = run(
+        &rt,
         alloc,
         words.as_slice(),
         &mut input,
@@ -139,7 +140,7 @@ fn a_volume_is_filled(rt: HostRuntime) -> Result<(), Fail> {
         received.as_str(),
         "340 Send article\\r\\n441 Article not accepted\\r\\n\nE6 Full\nopened 14\n",
     ];
-    let ran = play(alloc, script.as_slice())?;
+    let ran = play(&rt, alloc, script.as_slice())?;
     assert!(rt; printed(alloc, &ran, want.as_slice())?);
     Ok(())
 }
@@ -170,7 +171,7 @@ fn a_session_that_is_not_released_to_waits(rt: HostRuntime) -> Result<(), Fail> 
         replies.as_str(),
         "\n",
     ];
-    let ran = play(alloc, script.as_slice())?;
+    let ran = play(&rt, alloc, script.as_slice())?;
     assert!(rt; printed(alloc, &ran, want.as_slice())?);
     Ok(())
 }

@@ -1,5 +1,8 @@
 use program::run;
 use std::alloc::{AllocError, Global};
+use std::fs::File;
+use std::rt::Files;
+use std::sync::Wait;
 use std::test::Fail;
 
 /// A group is made and is durable, and a session's post is served.
@@ -37,7 +40,11 @@ pub(crate) struct Ran {
 }
 
 /// Plays these parts of a script, one behind the other.
-pub(crate) fn play(alloc: Global, parts: &[&str]) -> Result<Ran, AllocError> {
+pub(crate) fn play<R: Files<File = File> + Wait>(
+    rt: &R,
+    alloc: Global,
+    parts: &[&str],
+) -> Result<Ran, AllocError> {
     let mut script = String::new(alloc);
     for part in parts {
         script.push_str(part)?;
@@ -47,6 +54,7 @@ pub(crate) fn play(alloc: Global, parts: &[&str]) -> Result<Ran, AllocError> {
     let words = ["newsd", "sim", "--host", "news.example"];
     let mut input = script.as_bytes();
     let status = run(
+        rt,
         alloc,
         words.as_slice(),
         &mut input,
@@ -73,6 +81,7 @@ pub(crate) fn printed(alloc: Global, ran: &Ran, parts: &[&str]) -> Result<bool, 
 fn first_script_by_run_of_the_program(rt: HostRuntime) -> Result<(), Fail> {
     let alloc = rt.alloc();
     let ran = play(
+        &rt,
         alloc,
         &[POSTED, "release\ncommit\nrelease\ncrash old\nspool\n"],
     )?;
@@ -85,7 +94,11 @@ fn first_script_by_run_of_the_program(rt: HostRuntime) -> Result<(), Fail> {
 #[test]
 fn nothing_is_released_without_its_commit(rt: HostRuntime) -> Result<(), Fail> {
     let alloc = rt.alloc();
-    let ran = play(alloc, &[POSTED, "release\nrelease\ncrash old\nspool\n"])?;
+    let ran = play(
+        &rt,
+        alloc,
+        &[POSTED, "release\nrelease\ncrash old\nspool\n"],
+    )?;
     let rest = "opened 1\nspool 1\n1 group x.a y\n";
     assert!(rt; printed(alloc, &ran, &[POSTED_OUT, FIRST_RELEASE, rest])?);
     Ok(())
@@ -94,7 +107,7 @@ fn nothing_is_released_without_its_commit(rt: HostRuntime) -> Result<(), Fail> {
 #[test]
 fn crash_before_any_take(rt: HostRuntime) -> Result<(), Fail> {
     let alloc = rt.alloc();
-    let ran = play(alloc, &[POSTED, "release\ncrash new\n"])?;
+    let ran = play(&rt, alloc, &[POSTED, "release\ncrash new\n"])?;
     assert!(rt; printed(alloc, &ran, &[POSTED_OUT, FIRST_RELEASE, "opened 1\n"])?);
     Ok(())
 }
@@ -128,7 +141,7 @@ fn crashes_within_a_batch(rt: HostRuntime) -> Result<(), Fail> {
     ];
     for (crash, opened) in crashes {
         for (calls, opened) in calls.iter().zip(opened.iter()) {
-            let ran = play(alloc, &[POSTED, "take\n", calls, "release\n", crash])?;
+            let ran = play(&rt, alloc, &[POSTED, "take\n", calls, "release\n", crash])?;
             let good = printed(alloc, &ran, &[POSTED_OUT, FIRST_RELEASE, opened])?;
             assert!(rt; good, "{crash} behind {calls}");
         }
@@ -149,7 +162,7 @@ commit
 release
 line 2 STAT <1@a.example>
 ";
-    let ran = play(alloc, &[POSTED, second])?;
+    let ran = play(&rt, alloc, &[POSTED, second])?;
     let rest = "join 2
 out 1 200 news.example ready, posting permitted\\r\\n340 Send article\\r\\n
 out 2 200 news.example ready, posting permitted\\r\\n
@@ -191,7 +204,7 @@ E4 Halted
 ";
     // the 400 of session 2 reads both accepted changes, and the second one isn't durable
     for (crash, opened) in [("crash new\n", "opened 2\n"), ("crash old\n", "opened 1\n")] {
-        let ran = play(alloc, &[POSTED, fault, crash])?;
+        let ran = play(&rt, alloc, &[POSTED, fault, crash])?;
         let good = printed(
             alloc,
             &ran,
@@ -225,7 +238,7 @@ E1 Fault
 E4 Halted
 opened 1
 ";
-    let ran = play(alloc, &[POSTED, refused])?;
+    let ran = play(&rt, alloc, &[POSTED, refused])?;
     assert!(rt; printed(alloc, &ran, &[POSTED_OUT, out])?);
     Ok(())
 }
@@ -244,7 +257,7 @@ fn sixty_four_sessions(rt: HostRuntime) -> Result<(), Fail> {
         want.push_str(line.as_str())?;
     }
     want.push_str("E7 TooManySessions\njoin 65\n")?;
-    let ran = play(alloc, &[script.as_str()])?;
+    let ran = play(&rt, alloc, &[script.as_str()])?;
     assert!(rt; printed(alloc, &ran, &[want.as_str()])?);
     Ok(())
 }
@@ -260,7 +273,7 @@ fn bad_events(rt: HostRuntime) -> Result<(), Fail> {
         "group a..b y 0 t",
         "crash 0",
     ] {
-        let ran = play(alloc, &["join\njoin\n", bad, "\njoin\n"])?;
+        let ran = play(&rt, alloc, &["join\njoin\n", bad, "\njoin\n"])?;
         assert!(rt; ran.status == 2, "{bad}");
         assert!(rt;
             ran.output.as_slice() == b"join 1\njoin 2\n".as_slice(),

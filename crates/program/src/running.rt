@@ -1,0 +1,125 @@
+//! What the program does: each of its commands but the simulation, and the server.
+
+use crate::simulation::simulate;
+use crate::words::{Asked, Service, read_words};
+use crate::{DONE, Failure, NOT_UNDERSTOOD, REFUSED};
+use script::{Line, ParseError, parse};
+use std::alloc::Global;
+use std::convert::AsStr;
+use std::fs::File;
+use std::io::{self, BufRead, Write};
+use std::net::{Net, TcpListener, TcpStream};
+use std::rt::Files;
+use std::sync::Wait;
+use std::thread::Threads;
+use std::time::Clock;
+
+/// Runs the program on its words, the first of which is its name, and answers its status: `DONE`, `REFUSED` with the
+/// refusal on `faults`, or `NOT_UNDERSTOOD`. Help that is asked for goes to `output`. Words that ask for a server are for
+/// `serve`; here they do nothing.
+///
+/// Faults are found in this order: words not understood; words outside their grammar; opening; the call.
+pub fn run<R: Files<File = File> + Wait, S: AsStr, I: BufRead, W: Write, F: Write>(
+    rt: &R,
+    alloc: Global,
+    words: &[S],
+    input: &mut I,
+    output: &mut W,
+    faults: &mut F,
+) -> u8 {
+    let status = match read_words(alloc, words, output, faults) {
+        Ok(Asked::Nothing(status)) => status,
+        Ok(Asked::Serve(_)) => NOT_UNDERSTOOD,
+        Ok(asked) => match carry_out(rt, alloc, asked, input, output) {
+            Ok(()) => DONE,
+            Err(failure) => fail(faults, &failure),
+        },
+        Err(failure) => fail(faults, &failure),
+    };
+    let _ = output.flush();
+    let _ = faults.flush();
+    status
+}
+
+/// The volume and the port, where the words ask for a server and are in their grammars; all other words are for `run`.
+pub fn asked_service<'a, S: AsStr>(alloc: Global, words: &'a [S]) -> Option<Service<'a>> {
+    match read_words(alloc, words, &mut io::sink(), &mut io::sink()) {
+        Ok(Asked::Serve(service)) => Some(service),
+        _ => None,
+    }
+}
+
+/// Serves a volume until its device fails, and answers the status.
+pub fn serve<
+    R: Files<File = File>
+        + Net<Listener = TcpListener, Stream = TcpStream>
+        + Threads
+        + Wait
+        + Clock
+        + Copy
+        + Send
+        + Sync
+        + 'static,
+    L: BufRead + Send + Drop + 'static,
+    A: Write + Send + Drop,
+    F: Write,
+>(rt: &R, alloc: Global, service: Service<'_>, lines: L, answers: A, faults: &mut F) -> u8 {
+    match commands::serve(rt, alloc, service.path, service.port, lines, answers) {
+        Ok(()) => DONE,
+        Err(error) => fail(faults, &Failure::Command(error)),
+    }
+}
+
+/// Does what the words ask for.
+fn carry_out<R: Files<File = File> + Wait, I: BufRead, W: Write>(
+    rt: &R,
+    alloc: Global,
+    asked: Asked<'_>,
+    input: &mut I,
+    output: &mut W,
+) -> Result<(), Failure> {
+    match asked {
+        Asked::Nothing(_) | Asked::Serve(_) => Ok(()),
+        Asked::Simulation(plan) => simulate(alloc, &plan, input, output),
+        Asked::Format(path, plan) => {
+            commands::format(rt, alloc, path, plan.host, plan.blocks, plan.inodes)?;
+            Ok(())
+        }
+        Asked::Group(path, line) => make_group(rt, alloc, path, line.as_slice(), output),
+        Asked::Dump(path) => {
+            commands::dump(rt, alloc, path, output)?;
+            Ok(())
+        }
+    }
+}
+
+/// Makes the group of a line and prints its serial.
+fn make_group<R: Files<File = File> + Wait, W: Write>(
+    rt: &R,
+    alloc: Global,
+    path: &str,
+    line: &[u8],
+    output: &mut W,
+) -> Result<(), Failure> {
+    let (name, status, moment, description) = match parse(alloc, line) {
+        Ok(
+            Line::Group {
+                name,
+                status,
+                moment,
+                description,
+            },
+        ) => (name, status, moment, description),
+        Ok(_) | Err(ParseError::Bad) => return Err(Failure::Bad),
+        Err(ParseError::Memory) => return Err(Failure::Memory),
+    };
+    let (name, description) = (name.as_slice(), description.as_slice());
+    let serial = commands::group(rt, alloc, path, name, status, description, moment)?;
+    Ok(writeln!(output, "{serial}")?)
+}
+
+/// Prints why the program ends, and answers its status.
+fn fail<F: Write>(faults: &mut F, failure: &Failure) -> u8 {
+    let _ = writeln!(faults, "newsd: {failure}");
+    failure.status()
+}

@@ -1,0 +1,221 @@
+//! The callers of a test: each is a socket, read line by line, whose reads end in time.
+
+use crate::gates::{Flags, Holds, turn_until};
+use std::alloc::Global;
+use std::io::{BufRead, BufReader, Read, Write};
+use std::net::{Net, Shutdown, SocketAddr, TcpListener, TcpStream};
+use std::sync::atomic::Ordering;
+use std::thread;
+use std::time::{Clock, Duration};
+
+/// A read of a test ends after so many seconds.
+const READ_SECS: u64 = 20;
+
+/// How often a caller comes again until the server tells it that the service ends, and the milliseconds between.
+const TRIES: u32 = 40;
+
+const PAUSE_MILLIS: u64 = 20;
+
+const FIRST: &str = "POST\r\nPath: p!not-for-mail\r\nDate: Sun, 09 Sep 2001 01:46:40 +0000\r\nMessage-ID: <1@a.example>\r\n\
+    From: a@example.org\r\nNewsgroups: x.a\r\nSubject: one\r\n\r\nhi\r\n.\r\n";
+
+const SECOND: &str = "POST\r\nPath: p!not-for-mail\r\nDate: Sun, 09 Sep 2001 01:46:40 +0000\r\nMessage-ID: <2@a.example>\r\n\
+    From: a@example.org\r\nNewsgroups: x.a\r\nSubject: two\r\n\r\nhi\r\n.\r\n";
+
+const GREETING: &str = "200 news.example ready, posting permitted";
+
+/// A caller.
+#[derive(Drop)]
+pub(crate) struct Caller {
+    stream: TcpStream,
+    replies: BufReader<TcpStream>,
+    alloc: Global,
+}
+
+impl Caller {
+    fn connect<R: Net<Listener = TcpListener, Stream = TcpStream>>(
+        rt: &R,
+        alloc: Global,
+        address: SocketAddr,
+    ) -> Option<Caller> {
+        let Ok(stream) = TcpStream::connect(rt, address) else {
+            return None;
+        };
+        if stream.set_read_timeout(Some(Duration::from_secs(READ_SECS))).is_err() {
+            return None;
+        }
+        let Ok(theirs) = stream.try_clone() else {
+            return None;
+        };
+        let Ok(replies) = BufReader::new(alloc, theirs) else {
+            return None;
+        };
+        Some(Caller {
+            stream,
+            replies,
+            alloc,
+        })
+    }
+
+    /// Whether the octets were sent.
+    fn sends(&self, text: &str) -> bool {
+        let mut stream = &self.stream;
+        stream.write_all(text.as_bytes()).is_ok()
+    }
+
+    /// Whether the next line is this one.
+    fn reads(&mut self, text: &str) -> bool {
+        let mut line = Vec::new(self.alloc);
+        match self.replies.read_until(b'\n', &mut line) {
+            Ok(count) if count > 0 => {}
+            _ => return false,
+        }
+        match line.as_slice() {
+            [read @ .., b'\r', b'\n'] => read == text.as_bytes(),
+            _ => false,
+        }
+    }
+
+    /// Whether these lines come next.
+    fn reads_all(&mut self, lines: &[&str]) -> bool {
+        for line in lines {
+            if !self.reads(line) {
+                return false;
+            }
+        }
+        true
+    }
+
+    /// Whether the server sends nothing more.
+    fn reads_end(&mut self) -> bool {
+        let mut octets = [0; 1];
+        matches!(self.replies.read(&mut octets), Ok(0))
+    }
+
+    /// Sends nothing more.
+    fn ends(&self) -> bool {
+        self.stream.shutdown(Shutdown::Write).is_ok()
+    }
+}
+
+/// Does what the callers of a test do, and says whether all came as it had to.
+pub(crate) fn call<R: Net<Listener = TcpListener, Stream = TcpStream> + Clock>(
+    rt: &R,
+    alloc: Global,
+    address: SocketAddr,
+    flags: &Flags,
+    holds: Holds,
+) -> bool {
+    let Some(mut caller) = Caller::connect(rt, alloc, address) else {
+        return false;
+    };
+    let is_good = match holds {
+        Holds::Nothing => posts_and_reads(&mut caller) && sends_no_more(rt, alloc, address),
+        Holds::Flush => reads_while_a_flush_is_held(rt, alloc, address, flags, &mut caller),
+        Holds::Release => posts_while_a_release_is_held(rt, alloc, address, &mut caller),
+        Holds::Answer => {
+            caller.reads(GREETING)
+                && turn_until(&flags.flushed)
+                && posts_and_reads_replies(&mut caller)
+        }
+    };
+    flags.has_read.store(true, Ordering::SeqCst);
+    end(rt, alloc, address, flags, &caller) && is_good
+}
+
+/// A caller posts, reads the article back and is told all in order.
+fn posts_and_reads(caller: &mut Caller) -> bool {
+    caller.reads(GREETING) && posts_and_reads_replies(caller)
+}
+
+fn posts_and_reads_replies(caller: &mut Caller) -> bool {
+    caller.sends("POST\r\n")
+        && caller.reads("340 Send article")
+        && caller.sends(&FIRST[6..])
+        && caller.reads("240 Article received")
+        && caller.sends("STAT <1@a.example>\r\nSTAT <9@a.example>\r\n")
+        && caller.reads_all(&["223 0 <1@a.example>", "430 No such article"])
+}
+
+/// A caller sends all at once and then no more; it is told all, and then the socket ends. So it does behind `QUIT`, where
+/// the caller has sent more than is served.
+fn sends_no_more<R: Net<Listener = TcpListener, Stream = TcpStream>>(
+    rt: &R,
+    alloc: Global,
+    address: SocketAddr,
+) -> bool {
+    let Some(mut caller) = Caller::connect(rt, alloc, address) else {
+        return false;
+    };
+    let Some(mut other) = Caller::connect(rt, alloc, address) else {
+        return false;
+    };
+    caller.sends("POST\r\n")
+        && caller.sends(&FIRST[6..])
+        && caller.sends("STAT <1@a.example>\r\nSTAT")
+        && caller.ends()
+        && caller.reads_all(&[GREETING, "340 Send article", "441 Article not accepted"])
+        && caller.reads("223 0 <1@a.example>")
+        && caller.reads_end()
+        && other.sends("QUIT\r\nSTAT <1@a.example>\r\n")
+        && other.reads_all(&[GREETING, "205 Bye"])
+        && other.reads_end()
+}
+
+/// While the flush of one caller's article is held, another one comes and reads what depends on nothing.
+fn reads_while_a_flush_is_held<R: Net<Listener = TcpListener, Stream = TcpStream>>(
+    rt: &R,
+    alloc: Global,
+    address: SocketAddr,
+    flags: &Flags,
+    caller: &mut Caller,
+) -> bool {
+    if !caller.sends(FIRST) || !turn_until(&flags.flushing) {
+        return false;
+    }
+    let Some(mut other) = Caller::connect(rt, alloc, address) else {
+        return false;
+    };
+    let is_read = other.reads(GREETING);
+    flags.has_read.store(true, Ordering::SeqCst);
+    is_read && caller.reads_all(&[GREETING, "340 Send article", "240 Article received"])
+}
+
+/// While the release to the first session is held, the post of a second one commits.
+fn posts_while_a_release_is_held<R: Net<Listener = TcpListener, Stream = TcpStream>>(
+    rt: &R,
+    alloc: Global,
+    address: SocketAddr,
+    caller: &mut Caller,
+) -> bool {
+    let Some(mut other) = Caller::connect(rt, alloc, address) else {
+        return false;
+    };
+    other.sends(FIRST)
+        && caller.reads(GREETING)
+        && other.reads_all(&[GREETING, "340 Send article", "240 Article received"])
+}
+
+/// Has the next commit refused, and waits until a caller is told that the service ends.
+fn end<R: Net<Listener = TcpListener, Stream = TcpStream> + Clock>(
+    rt: &R,
+    alloc: Global,
+    address: SocketAddr,
+    flags: &Flags,
+    caller: &Caller,
+) -> bool {
+    flags.over.store(true, Ordering::SeqCst);
+    if !caller.sends(SECOND) {
+        return false;
+    }
+    for _ in 0..TRIES {
+        let Some(mut last) = Caller::connect(rt, alloc, address) else {
+            return false;
+        };
+        if last.reads("400 Service ends") {
+            return last.reads_end();
+        }
+        thread::sleep(rt, Duration::from_millis(PAUSE_MILLIS));
+    }
+    false
+}

@@ -1,0 +1,110 @@
+//! Where a test stops the flusher or the releaser, and what its threads tell one another.
+
+use server::Gate;
+use std::sync::atomic::{AtomicBool, AtomicU64, Ordering};
+use std::thread;
+
+/// A test waits for so many turns of one load and one yield, and then fails.
+const TURNS: u32 = 1_000_000;
+
+/// So many turns the operator's batch is held.
+const PAUSE: u32 = 1_000;
+
+/// What the threads of a test tell one another.
+#[derive(Drop)]
+pub(crate) struct Flags {
+    /// A flush is about to begin.
+    pub(crate) flushing: AtomicBool,
+    /// A batch is committed, and the mark is raised.
+    pub(crate) flushed: AtomicBool,
+    /// The caller has read what the test waits for.
+    pub(crate) has_read: AtomicBool,
+    /// A gate met the limit of its turns, or saw what it must not.
+    pub(crate) failed: AtomicBool,
+    /// The next commit is refused, so that the server ends.
+    pub(crate) over: AtomicBool,
+    /// What the operator was answered: its octets, as the digits of a number.
+    pub(crate) answered: AtomicU64,
+}
+
+impl Flags {
+    pub(crate) fn new() -> Flags {
+        Flags {
+            flushing: AtomicBool::new(false),
+            flushed: AtomicBool::new(false),
+            has_read: AtomicBool::new(false),
+            failed: AtomicBool::new(false),
+            over: AtomicBool::new(false),
+            answered: AtomicU64::new(0),
+        }
+    }
+
+    /// Turns until a flag is set, as a gate does.
+    fn hold_until(&self, flag: &AtomicBool) {
+        if !turn_until(flag) {
+            self.failed.store(true, Ordering::SeqCst);
+        }
+    }
+}
+
+/// Turns until a flag is set. It is false at the limit.
+pub(crate) fn turn_until(flag: &AtomicBool) -> bool {
+    for _ in 0..TURNS {
+        if flag.load(Ordering::SeqCst) {
+            return true;
+        }
+        thread::yield_now();
+    }
+    false
+}
+
+/// What is held, and until when.
+#[derive(Clone, Copy, PartialEq, Eq)]
+pub(crate) enum Holds {
+    Nothing,
+    /// A flush, until a caller has read its reply.
+    Flush,
+    /// Each release to session 1, until a batch is committed.
+    Release,
+    /// A flush, for a while in which the operator must not be answered.
+    Answer,
+}
+
+/// The gate of a test.
+#[derive(Clone, Copy)]
+pub(crate) struct TestGate<'a> {
+    pub(crate) flags: &'a Flags,
+    pub(crate) holds: Holds,
+}
+
+impl<'a> Gate for TestGate<'a> {
+    fn before_flush(&self) {
+        self.flags.flushing.store(true, Ordering::SeqCst);
+        match self.holds {
+            Holds::Flush => self.flags.hold_until(&self.flags.has_read),
+            Holds::Answer => {
+                for _ in 0..PAUSE {
+                    thread::yield_now();
+                }
+                if !self.flags.flushed.load(Ordering::SeqCst)
+                    && self.flags.answered.load(Ordering::SeqCst) != 0
+                {
+                    self.flags.failed.store(true, Ordering::SeqCst);
+                }
+            }
+            _ => {}
+        }
+    }
+
+    fn after_flush(&self) {
+        self.flags.flushed.store(true, Ordering::SeqCst);
+    }
+
+    fn before_release(&self, sid: u64) {
+        if self.holds == Holds::Release && sid == 1 {
+            self.flags.hold_until(&self.flags.flushed);
+        }
+    }
+
+    fn after_release(&self, _sid: u64) {}
+}

@@ -1,0 +1,114 @@
+//! A kernel that watches the mark at each commit, and that can be told to end the server.
+
+ghost use Rattle.std.specs.Prelude.{◌≡◌};
+
+use crate::gates::Flags;
+use kernel::{AdminError, ExecError, JoinError, Kernel, Stale, Ticket};
+use mark::{Mark, Seat};
+use model::{Mark as Served, Message, Mode};
+use outbox::ReadyBuf;
+use server::{Kern, Locked};
+use spool::BatchBuf;
+use std::alloc::Global;
+use std::sync::atomic::Ordering;
+use std::sync::{Mutex, Wait};
+
+/// A mark with a seat of its own.
+#[derive(Drop)]
+pub(crate) struct Watch<'a> {
+    mark: &'a Mark,
+    seat: Seat,
+    ghost own: { seat.mark ≡ mark.now },
+}
+
+impl<'a> Watch<'a> {
+    pub(crate) fn new(mark: &'a Mark, seat: Seat) -> Watch<'a>
+        requires { seat.mark ≡ mark.now }
+    {
+        Watch { mark, seat }
+    }
+
+    fn durable(&mut self) -> u64 {
+        self.mark.durable(&mut self.seat)
+    }
+}
+
+/// A kernel under its lock. Its `committed` is refused where a seat shows the ticket's number already.
+#[derive(Drop)]
+pub(crate) struct Watched<'a> {
+    inner: Locked,
+    watch: Mutex<Watch<'a>>,
+    flags: &'a Flags,
+}
+
+impl<'a> Watched<'a> {
+    pub(crate) fn new(kernel: Kernel, watch: Watch<'a>, flags: &'a Flags) -> Watched<'a> {
+        Watched {
+            inner: Locked::new(kernel),
+            watch: Mutex::new(watch),
+            flags,
+        }
+    }
+}
+
+impl<'a> Kern for Watched<'a> {
+    fn join<R: Wait>(&self, rt: &R, alloc: Global) -> Result<u64, JoinError> {
+        self.inner.join(rt, alloc)
+    }
+
+    fn mode<R: Wait>(&self, rt: &R, sid: u64) -> Option<Mode> {
+        self.inner.mode(rt, sid)
+    }
+
+    fn exec<R: Wait>(
+        &self,
+        rt: &R,
+        alloc: Global,
+        sid: u64,
+        message: &Message,
+        moment: u64,
+    ) -> Result<(Option<Mode>, Served), ExecError> {
+        self.inner.exec(rt, alloc, sid, message, moment)
+    }
+
+    fn admin<R: Wait>(
+        &self,
+        rt: &R,
+        alloc: Global,
+        name: &[u8],
+        status: u8,
+        description: &[u8],
+        moment: u64,
+    ) -> Result<u64, AdminError> {
+        self.inner
+            .admin(rt, alloc, name, status, description, moment)
+    }
+
+    fn leave<R: Wait>(&self, rt: &R, sid: u64) {
+        self.inner.leave(rt, sid);
+    }
+
+    fn take_batch<R: Wait>(&self, rt: &R, into: &mut BatchBuf) -> Option<Ticket> {
+        self.inner.take_batch(rt, into)
+    }
+
+    fn committed<R: Wait>(&self, rt: &R, ticket: Ticket) -> Result<(), Stale> {
+        let durable = self.watch.lock(rt).durable();
+        if durable >= ticket.last() {
+            self.flags.failed.store(true, Ordering::SeqCst);
+            return Err(Stale);
+        }
+        if self.flags.over.load(Ordering::SeqCst) {
+            return Err(Stale);
+        }
+        self.inner.committed(rt, ticket)
+    }
+
+    fn halt<R: Wait>(&self, rt: &R) {
+        self.inner.halt(rt);
+    }
+
+    fn take_ready<R: Wait>(&self, rt: &R, into: &mut ReadyBuf) {
+        self.inner.take_ready(rt, into);
+    }
+}

@@ -1,0 +1,13 @@
+//! Tests of the server's running threads: both ends of each socket are in one process, and every wait is bounded.
+#![tactic(auto)]
+
+#[cfg(test)]
+mod callers;
+#[cfg(test)]
+mod gates;
+#[cfg(test)]
+mod kernels;
+#[cfg(test)]
+mod plays;
+#[cfg(test)]
+mod tests;

@@ -1,0 +1,216 @@
+//! A server over a device in memory and its callers, in one process.
+
+ghost use Rattle.std.specs.Prelude.{◌≡◌, ◌≤◌, IfSome};
+ghost use Rattle.journal.specs.Journal.{IsIdle, IsReady};
+
+use crate::callers::call;
+use crate::gates::{Flags, Holds, TestGate};
+use crate::kernels::{Watch, Watched};
+use commands::{device_octets, label};
+use disk::Faults;
+use journal::{Journal, format};
+use kernel::Kernel;
+use mark::{FlushSeat, Mark, Seat};
+use memdisk::MemDisk;
+use server::{FlushError, Kern, ServeError, flush_turn, serve};
+use spool::BatchBuf;
+use std::alloc::Global;
+use std::io::{self, Write};
+use std::net::{Ipv4Addr, Net, SocketAddr, TcpListener, TcpStream};
+use std::sync::Wait;
+use std::sync::atomic::Ordering;
+use std::thread::{Threads, join};
+use std::time::Clock;
+
+/// Logical blocks and inodes of the volumes.
+const BLOCKS: u64 = 1024;
+
+const INODES: u32 = 64;
+
+/// How a play went.
+#[derive(Clone, Copy, Debug, PartialEq, Eq)]
+pub(crate) struct Outcome {
+    /// The callers read what they had to.
+    pub(crate) is_read: bool,
+    /// A gate met its limit, or the mark was raised too early.
+    pub(crate) has_failed: bool,
+    /// How the server ended.
+    pub(crate) ended: ServeError,
+    /// What the operator was answered.
+    pub(crate) answered: u64,
+}
+
+/// Where the operator's answers go.
+struct Answers<'a> {
+    flags: &'a Flags,
+}
+
+impl<'a> Drop for Answers<'a> {
+    fn drop(&mut self) {}
+}
+
+impl<'a> Write for Answers<'a> {
+    fn write(&mut self, octets: &[u8]) -> io::Result<usize> {
+        for octet in octets {
+            let before = self.flags.answered.load(Ordering::SeqCst);
+            let after = before.wrapping_mul(256).wrapping_add(u64::from(*octet));
+            self.flags.answered.store(after, Ordering::SeqCst);
+        }
+        Ok(octets.len())
+    }
+
+    fn flush(&mut self) -> io::Result<()> {
+        Ok(())
+    }
+}
+
+/// A new volume in memory, opened.
+fn open_volume(alloc: Global, blocks: u64) -> Option<(Journal<MemDisk>, Kernel)>
+    requires low { 1024 ≤ blocks }
+    requires high { blocks ≤ 65536 }
+    ensures { IfSome result (λ opened. IsReady opened.0) }
+{
+    let Ok(mut disk) = MemDisk::new(alloc, device_octets(blocks)) else {
+        return None;
+    };
+    let Ok(label) = label(alloc, b"news.example", INODES) else {
+        return None;
+    };
+    let Ok(()) = format(alloc, &mut disk, blocks, label.as_slice()) else {
+        return None;
+    };
+    let Ok(mut journal) = Journal::open(alloc, disk) else {
+        return None;
+    };
+    match Kernel::open(alloc, &mut journal) {
+        Ok(kernel) => Some((journal, kernel)),
+        Err(_) => None,
+    }
+}
+
+/// A server that is about to serve a volume with the group `x.a`, which is durable.
+#[derive(Drop)]
+struct Stage<'a> {
+    journal: Journal<MemDisk>,
+    kern: Watched<'a>,
+    mark: &'a Mark,
+    flush_seat: FlushSeat,
+    seat: Seat,
+    flags: &'a Flags,
+    ghost idle: { IsIdle journal },
+    ghost flushes: { flush_seat.mark ≡ mark.now },
+    ghost looks: { seat.mark ≡ mark.now },
+}
+
+impl<'a> Stage<'a> {
+    fn new<R: Wait>(
+        rt: &R,
+        alloc: Global,
+        mark: &'a Mark,
+        flush_seat: FlushSeat,
+        seat: Seat,
+        flags: &'a Flags,
+    ) -> Option<Stage<'a>>
+        requires flushes { flush_seat.mark ≡ mark.now }
+        requires looks { seat.mark ≡ mark.now }
+    {
+        let mut flush_seat = flush_seat;
+        let mut seat = seat;
+        let (mut journal, kernel) = open_volume(alloc, BLOCKS)?;
+        let watch = Watch::new(mark, mark.another(&mut seat));
+        let kern = Watched::new(kernel, watch, flags);
+        let Ok(mut batch) = BatchBuf::new(alloc) else {
+            return None;
+        };
+        let gate = TestGate {
+            flags,
+            holds: Holds::Nothing,
+        };
+        let Ok(_) = kern.admin(rt, alloc, b"x.a", b'y', b"test", 1_000_000_000) else {
+            return None;
+        };
+        let Ok(_) = flush_turn(rt, &mut journal, &kern, mark, &mut flush_seat, &mut batch, &gate) else {
+            return None;
+        };
+        flags.flushing.store(false, Ordering::SeqCst);
+        flags.flushed.store(false, Ordering::SeqCst);
+        Some(Stage {
+            journal,
+            kern,
+            mark,
+            flush_seat,
+            seat,
+            flags,
+        })
+    }
+
+    /// Serves callers until a commit or the device fails.
+    fn serve<R: Threads + Wait + Clock + Copy + Send + Sync + 'static>(
+        self,
+        rt: &R,
+        alloc: Global,
+        listener: &TcpListener,
+        holds: Holds,
+    ) -> ServeError {
+        let Stage {
+            journal,
+            kern,
+            mark,
+            flush_seat,
+            seat,
+            flags,
+        } = self;
+        let gate = TestGate { flags, holds };
+        let lines: &'static [u8] = if holds == Holds::Answer {
+            b"group x.b y 1000000000 test\n"
+        } else {
+            b""
+        };
+        let answers = Answers { flags };
+        let ended = serve(
+            rt, alloc, listener, journal, &kern, mark, flush_seat, seat, &gate, lines, answers,
+        );
+        match ended {
+            Ok(()) => ServeError::Memory,
+            Err(error) => error,
+        }
+    }
+}
+
+/// Runs a server and its callers to their end. With `fault` the device fails at its first call.
+pub(crate) fn play<
+    R: Net<Listener = TcpListener, Stream = TcpStream>
+        + Threads
+        + Wait
+        + Clock
+        + Copy
+        + Send
+        + Sync
+        + 'static,
+>(rt: &R, alloc: Global, holds: Holds, fault: bool) -> Option<Outcome> {
+    let flags = Flags::new();
+    let Ok((mark, flush_seat, seat)) = Mark::new(alloc) else {
+        return None;
+    };
+    let mut stage = Stage::new(rt, alloc, &mark, flush_seat, seat, &flags)?;
+    if fault {
+        stage.journal.fail_at(1);
+    }
+    let Ok(listener) = TcpListener::bind(rt, SocketAddr::from((Ipv4Addr::LOCALHOST, 0))) else {
+        return None;
+    };
+    let Ok(address) = listener.local_addr() else {
+        return None;
+    };
+    let (ended, is_read) = join(
+        rt,
+        || stage.serve(rt, alloc, &listener, holds),
+        || call(rt, alloc, address, &flags, holds),
+    );
+    Some(Outcome {
+        is_read,
+        has_failed: flags.failed.load(Ordering::SeqCst),
+        ended,
+        answered: flags.answered.load(Ordering::SeqCst),
+    })
+}

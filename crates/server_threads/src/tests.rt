@@ -1,0 +1,49 @@
+use crate::gates::Holds;
+use crate::plays::{Outcome, play};
+use server::ServeError;
+
+/// A play in which all went well, and whose last commit was refused.
+const GOOD: Outcome = Outcome {
+    is_read: true,
+    has_failed: false,
+    ended: ServeError::Halted,
+    answered: 0,
+};
+
+/// `2` and LF.
+const SERIAL_TWO: u64 = 0x320a;
+
+#[test]
+fn a_client_reads_its_replies(rt: HostRuntime) {
+    assert_eq!(rt; play(&rt, rt.alloc(), Holds::Nothing, false), Some(GOOD));
+}
+
+#[test]
+fn a_flush_and_commands_overlap(rt: HostRuntime) {
+    assert_eq!(rt; play(&rt, rt.alloc(), Holds::Flush, false), Some(GOOD));
+}
+
+#[test]
+fn another_sessions_post_commits_while_a_release_is_held(rt: HostRuntime) {
+    assert_eq!(rt; play(&rt, rt.alloc(), Holds::Release, false), Some(GOOD));
+}
+
+#[test]
+fn the_operators_serial_waits_for_the_mark(rt: HostRuntime) {
+    let told = Outcome {
+        answered: SERIAL_TWO,
+        ..GOOD
+    };
+    assert_eq!(rt; play(&rt, rt.alloc(), Holds::Answer, false), Some(told));
+}
+
+// Nobody is told what the device refused.
+#[test]
+fn a_fault_ends_the_server(rt: HostRuntime) {
+    let ended = Outcome {
+        is_read: false,
+        ended: ServeError::Fault,
+        ..GOOD
+    };
+    assert_eq!(rt; play(&rt, rt.alloc(), Holds::Nothing, true), Some(ended));
+}

@@ -1,0 +1,292 @@
+#!/usr/bin/env python3
+"""System tests of `newsd serve` and of the commands over a volume in a file. serving.py NEWSD [NAME..]"""
+import random
+import socket
+import sys
+import tempfile
+import threading
+import time
+import traceback
+
+from newsd import GROUP, HOST, Caller, Volume, article, message_id
+from syncs import count_calls
+
+PROGRAM = sys.argv[1]
+GREETING = "200 %s ready, posting permitted" % HOST
+
+
+def a_client_posts_and_reads_back(volume):
+    volume.make_group()
+    with volume.serve() as server, server.call() as caller, server.call() as other:
+        assert caller.greeting == GREETING, caller.greeting
+        assert caller.ask("STAT <1@a.example>") == "430 No such article"
+        assert caller.ask("POST") == "340 Send article"
+        caller.send(article(1))
+        assert caller.line() == "240 Article received"
+        assert other.ask("STAT <1@a.example>") == "223 0 <1@a.example>"
+        assert other.post(article(1)) == "441 Article not accepted"
+        assert caller.ask("FOO") == "500 Unknown command"
+        assert caller.ask("QUIT") == "205 Bye"
+        assert caller.has_ended()
+
+
+def commands_come_in_one_piece(volume):
+    volume.make_group()
+    with volume.serve() as server, server.call() as caller:
+        caller.send(b"STAT <9@a.example>\r\n" * 200)
+        assert [caller.line() for _ in range(200)] == ["430 No such article"] * 200
+        caller.send(b"POST\r\n" + article(1) + b"STAT <1@a.example>\r\nQUIT\r\nSTAT <1@a.example>\r\n")
+        replies = ["340 Send article", "240 Article received", "223 0 <1@a.example>", "205 Bye"]
+        assert [caller.line() for _ in replies] == replies
+        assert caller.has_ended()
+
+
+def octets_come_one_by_one(volume):
+    volume.make_group()
+    with volume.serve() as server, server.call() as caller:
+        for octet in b"POST\r\n" + article(1):
+            caller.send(bytes([octet]))
+        assert [caller.line(), caller.line()] == ["340 Send article", "240 Article received"]
+
+
+def a_caller_that_sends_no_more_is_told_all(volume):
+    volume.make_group()
+    with volume.serve() as server:
+        for number in range(1, 21):
+            with server.call() as caller:
+                caller.send(b"POST\r\n" + article(number) + b"STAT")
+                caller.socket.shutdown(socket.SHUT_WR)
+                assert [caller.line(), caller.line()] == ["340 Send article", "240 Article received"]
+                assert caller.has_ended()
+
+
+def sixty_four_callers_and_one_more(volume):
+    volume.make_group()
+    with volume.serve() as server:
+        callers = [server.call() for _ in range(64)]
+        assert all(caller.greeting == GREETING for caller in callers)
+        with Caller(server.port) as late:
+            assert late.greeting == "400 Service ends" and late.has_ended()
+        for number, caller in enumerate(callers):
+            caller.send(b"POST\r\n" + article(number))
+        for caller in callers:
+            assert [caller.line(), caller.line()] == ["340 Send article", "240 Article received"]
+        callers[7].close()
+        end = time.monotonic() + 10
+        while True:
+            with Caller(server.port) as again:
+                if again.greeting == GREETING:
+                    break
+            assert time.monotonic() < end
+            time.sleep(0.01)
+        for caller in callers:
+            caller.close()
+
+
+def a_kill_under_load_takes_nothing_back(volume):
+    volume.make_group()
+    seed = random.randrange(1 << 32)
+    print("  seed", seed)
+    chance = random.Random(seed)
+    told = set()
+    for round_number in range(3):
+        server = volume.serve()
+        lock = threading.Lock()
+
+        def post(poster):
+            try:
+                with server.call() as caller:
+                    for number in range(60):
+                        name = "%d.%d.%d" % (round_number, poster, number)
+                        if caller.post(article(name)) != "240 Article received":
+                            return
+                        with lock:
+                            told.add(name)
+            except (OSError, ValueError):
+                pass
+
+        def look():
+            try:
+                with server.call() as caller:
+                    for number in range(2000):
+                        name = "%d.%d.%d" % (round_number, number % 16, number // 16)
+                        if caller.ask("STAT " + message_id(name)).startswith("223"):
+                            with lock:
+                                told.add(name)
+            except (OSError, ValueError):
+                pass
+
+        threads = [threading.Thread(target=post, args=(poster,)) for poster in range(16)]
+        threads.append(threading.Thread(target=look))
+        for thread in threads:
+            thread.start()
+        time.sleep(chance.uniform(0.05, 0.4))
+        server.kill()
+        for thread in threads:
+            thread.join()
+        with volume.serve() as again, again.call() as caller:
+            for name in sorted(told):
+                assert caller.ask("STAT " + message_id(name)).startswith("223"), name
+    lines = volume.dump()
+    assert lines[0] == "spool %d" % (len(lines) - 1)
+    there = {line.split()[2] for line in lines[2:]}
+    assert len(there) == len(lines) - 2
+    assert {message_id(name) for name in told} <= there
+    print("  %d told, %d there" % (len(told), len(there)))
+
+
+def one_server_holds_a_volume(volume):
+    volume.make_group()
+    with volume.serve() as server, server.call() as caller:
+        assert caller.post(article(1)) == "240 Article received"
+        before = octets(volume.path)
+        for words in (
+            ["serve", volume.path, "--port", "1"],
+            ["dump", volume.path],
+            ["group", volume.path, "x.b", "y", "1000000000", "test"],
+            ["format", volume.path, "--host", HOST],
+        ):
+            done = volume.run(*words)
+            assert (done.returncode, done.stdout, done.stderr) == (1, b"", b"newsd: E1 Fault\n"), (words, done)
+        assert octets(volume.path) == before
+        assert caller.ask("STAT <1@a.example>") == "223 0 <1@a.example>"
+    assert volume.dump() == ["spool 2", "1 group %s y" % GROUP, "2 article <1@a.example> %s" % GROUP]
+
+
+def the_operator_makes_groups(volume):
+    with volume.serve() as server, server.call() as caller:
+        assert server.order("group x.a y 1000000000 test") == "1"
+        assert server.order("group x.a y 1000000000 test") == "E11 Exists"
+        assert server.order("group x..b y 1000000000 test") == "E14 Bad"
+        assert server.order("spool") == "E14 Bad"
+        assert server.order("group x.b n 1000000000 ") == "2"
+        assert caller.post(article(1)) == "240 Article received"
+    assert volume.dump()[:3] == ["spool 3", "1 group x.a y", "2 group x.b n"]
+
+
+def callers_that_misbehave_hold_up_nobody(volume):
+    volume.make_group()
+    with volume.serve() as server, server.call() as good:
+        deaf = Caller(server.port, receive_octets=2048)
+        deaf.socket.settimeout(0.2)
+        asked = threading.Thread(target=flood, args=(deaf,))
+        asked.start()
+        endless, cut = server.call(), server.call()
+        endless.send(b"A" * 100_000)
+        cut.send(b"POST\r\n" + article(1)[:60])
+        cut.close()
+        slowest, end, number = 0.0, time.monotonic() + 6, 0
+        while time.monotonic() < end:
+            start = time.monotonic()
+            number += 1
+            assert good.post(article("good.%d" % number)) == "240 Article received"
+            slowest = max(slowest, time.monotonic() - start)
+            time.sleep(0.01)
+        asked.join()
+        deaf.close()
+        endless.close()
+        print("  slowest of %d posts: %.2f s" % (number, slowest))
+        assert slowest < 4
+
+
+def flood(caller):
+    """Asks as much as goes, and reads nothing."""
+    try:
+        for _ in range(2000):
+            try:
+                caller.send(b"STAT <9@a.example>\r\n" * 500)
+            except TimeoutError:
+                pass
+    except OSError:
+        pass
+
+
+def a_server_at_rest_takes_no_processor(volume):
+    with volume.serve() as server, server.call():
+        time.sleep(0.3)
+        before = server.processor_seconds()
+        time.sleep(1.5)
+        assert server.processor_seconds() - before <= 0.02
+
+
+def what_can_not_be_served_is_refused(volume):
+    directory = volume.path.rsplit("/", 1)[0]
+    for words, status, said in (
+        (["serve", directory, "--port", "1"], 1, "E1 Fault"),
+        (["dump", directory + "/none"], 1, "E1 Fault"),
+        (["dump", "/dev/null"], 1, "E3 NotAVolume"),
+        (["group", volume.path, "x..a", "y", "1000000000", "test"], 1, "E14 Bad"),
+        (["group", volume.path, "x.a", "m", "1000000000", "test"], 1, "E14 Bad"),
+        (["group", volume.path, "x.a y", "y", "1000000000", "test"], 1, "E14 Bad"),
+        (["format", volume.path, "--host", "a..b"], 1, "E14 Bad"),
+        (["format", volume.path, "--host", HOST, "--inodes", "96"], 1, "E14 Bad"),
+        (["serve", volume.path, "--port", "0"], 2, None),
+        (["serve", volume.path, "--port", "65536"], 2, None),
+        (["serve", volume.path], 2, None),
+        (["dump"], 2, None),
+    ):
+        done = volume.run(*words)
+        assert done.returncode == status and done.stdout == b"", (words, done)
+        assert said is None or done.stderr.decode() == "newsd: %s\n" % said, (words, done)
+    for words in (["--help"], ["help", "serve"], ["serve", "--help"]):
+        done = volume.run(*words)
+        assert done.returncode == 0 and done.stdout and not done.stderr, (words, done)
+    assert volume.make_group() == 1
+    again = volume.run("group", volume.path, GROUP, "y", "1000000000", "test")
+    assert (again.returncode, again.stderr) == (1, b"newsd: E11 Exists\n")
+    assert volume.dump() == ["spool 1", "1 group %s y" % GROUP]
+
+
+def a_commit_syncs_the_device(volume):
+    """Adding a group syncs once at the opening, at the seal and at the gate of its batch, behind the homes, and behind the gate."""
+    counted = count_calls([volume.program, "group", volume.path, GROUP, "y", "1000000000", "test"])
+    assert counted is not None, "the program could not be traced"
+    assert counted["fdatasync"] >= 3, counted
+    opened = count_calls([volume.program, "dump", volume.path])
+    assert opened["fdatasync"] == 1 and opened["pwrite64"] == 0, opened
+
+
+def octets(path):
+    with open(path, "rb") as file:
+        return file.read()
+
+
+TESTS = [
+    a_client_posts_and_reads_back,
+    commands_come_in_one_piece,
+    octets_come_one_by_one,
+    a_caller_that_sends_no_more_is_told_all,
+    sixty_four_callers_and_one_more,
+    a_kill_under_load_takes_nothing_back,
+    one_server_holds_a_volume,
+    the_operator_makes_groups,
+    callers_that_misbehave_hold_up_nobody,
+    a_server_at_rest_takes_no_processor,
+    what_can_not_be_served_is_refused,
+    a_commit_syncs_the_device,
+]
+
+
+def main():
+    wanted = sys.argv[2:]
+    passed, failed = 0, 0
+    for test in TESTS:
+        if wanted and test.__name__ not in wanted:
+            continue
+        start = time.monotonic()
+        try:
+            with tempfile.TemporaryDirectory(prefix="newsd-") as directory:
+                test(Volume(PROGRAM, directory))
+            passed += 1
+            said = "ok"
+        except Exception:
+            traceback.print_exc()
+            failed += 1
+            said = "FAILED"
+        print("%s ... %s (%.1f s)" % (test.__name__, said, time.monotonic() - start), flush=True)
+    print("system tests: %d passed, %d failed" % (passed, failed))
+    return 1 if failed else 0
+
+
+if __name__ == "__main__":
+    sys.exit(main())
