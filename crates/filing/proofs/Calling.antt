@@ -7,8 +7,8 @@ use Rattle.model.specs.SpoolFiles.{Create, Append, after_call, after_calls, maki
 use Rattle.model.proofs.Inodes.{appends_to_one, creates_one}
 use Rattle.fs.specs.Calls.{Creates}
 use Rattle.fs.specs.Growing.{Appends}
-use Rattle.fs.proofs.Grown.{one_name}
-use Rattle.fs.proofs.Tables.{length-table}
+use Rattle.fs_inodes.proofs.Grown.{one_name}
+use Rattle.fs_layout.proofs.Tables.{length-table}
 use Rattle.filing.specs.Calls.{Calls}
 
 pub created : (inodes : ℕ) (name : Octets) (old new : List Octets) → Creates inodes name old new → (files : List File) → IsPermutation (files_in (table inodes old)) files → IsPermutation (files_in (table inodes new)) (after_call files (Create name))

@@ -6,14 +6,15 @@ use Rattle.disk.specs.Image.{overwritten}
 use Rattle.disk.proofs.Images.{length-overwritten}
 use Rattle.model.specs.Stream.{Octets}
 use Rattle.model.specs.Files.{File, HasRoom, IsFile, IsFileSystem, entry, size, content_of, table, free_blocks}
-use Rattle.fs.specs.Calls.{IsFileAt, blocks_for}
-use Rattle.fs.specs.Changes.{ReplacesContent, SameMarks, TakesNone}
-use Rattle.fs.specs.Growing.{TakesLowest, GrowsBy, HasRoomFor}
-use Rattle.fs.proofs.Entries.{length-content}
-use Rattle.fs.proofs.Marking.{same_free}
-use Rattle.fs.proofs.Replacing.{replaces_same, replaces_then, there_now, named_now, size_now}
-use Rattle.fs.proofs.Spans.{overwritten_past}
-use Rattle.fs.proofs.Tables.{file_or}
+use Rattle.fs_layout.specs.Table.{IsFileAt}
+use Rattle.fs_inodes.specs.Growing.{blocks_for}
+use Rattle.fs_inodes.specs.Changes.{ReplacesContent, SameMarks, TakesNone}
+use Rattle.fs_inodes.specs.Growing.{TakesLowest, GrowsBy, HasRoomFor}
+use Rattle.fs_layout.proofs.Entries.{length-content}
+use Rattle.fs_layout.proofs.Marking.{same_free}
+use Rattle.fs_inodes.proofs.Replacing.{replaces_same, replaces_then, there_now, named_now, size_now}
+use Rattle.fs_inodes.proofs.Spans.{overwritten_past}
+use Rattle.fs_layout.proofs.Tables.{file_or}
 
 -- growth is another content
 pub grown : (inodes k : ℕ) (octets name content : Octets) (old new : List Octets) → IsFileAt (table inodes old) k name content → GrowsBy inodes k octets old new → ReplacesContent inodes k (content ++ octets) old new

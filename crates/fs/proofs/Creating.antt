@@ -8,11 +8,12 @@ use Rattle.disk.proofs.Images.{length-part}
 use Rattle.model.specs.Stream.{Octets}
 use Rattle.model.specs.Volume.{number_at}
 use Rattle.model.specs.Files.{Entry, HasRoom, IsFile, IsFree, size, block_count, indirect_pointer, pointer, owned, name_in, slot_octets, content_of, entry, inode_of, slot_of, indirect_of, IsFileSystem, file_at}
-use Rattle.fs.specs.Blocks.{PutsRecord, IsFound}
-use Rattle.fs.specs.Calls.{IsName, Creates, HasNoFreeInode}
-use Rattle.fs.proofs.Entries.{zero_number, free_owns, name_in-slot_octets}
-use Rattle.fs.proofs.Tables.{get_or-table, file_at_free, file_at_file, table_set, no_slot}
-use Rattle.fs.proofs.Keeps.{PutsEntry, puts_inode, puts_slot, inode_keeps_marks, slot_keeps_marks, same_entry, entry_other, file_other, keeps_rule, keeps_room}
+use Rattle.fs_layout.specs.Blocks.{PutsRecord, IsFound}
+use Rattle.fs_layout.specs.Table.{IsName}
+use Rattle.fs.specs.Calls.{Creates, HasNoFreeInode}
+use Rattle.fs_layout.proofs.Entries.{zero_number, free_owns, name_in-slot_octets}
+use Rattle.fs_layout.proofs.Tables.{get_or-table, file_at_free, file_at_file, table_set, no_slot}
+use Rattle.fs_layout.proofs.Keeps.{PutsEntry, puts_inode, puts_slot, inode_keeps_marks, slot_keeps_marks, same_entry, entry_other, file_other, keeps_rule, keeps_room}
 
 -- ---- free slots
 

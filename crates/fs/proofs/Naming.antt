@@ -3,9 +3,9 @@ use Rattle.std.proofs.Common.{◌≡◌, inl, inr, ◌<◌, ◌≤◌, ℕ, ◌+
 use Rattle.std.proofs.lemmas.List.{take_more, take_all, append-nil}
 use Rattle.model.specs.Stream.{Octets}
 use Rattle.model.specs.Files.{File, name_in, entry, slot_of, IsFileSystem, file_at, table, content_of}
-use Rattle.fs.specs.Calls.{file_names}
-use Rattle.fs.proofs.Entries.{zero_at}
-use Rattle.fs.proofs.Tables.{length-table, get_or-table, file_at_free, file_at_file}
+use Rattle.fs_layout.specs.Table.{file_names}
+use Rattle.fs_layout.proofs.Entries.{zero_at}
+use Rattle.fs_layout.proofs.Tables.{length-table, get_or-table, file_at_free, file_at_file}
 
 file_names-push : (files : List (Option File)) (file : Option File) → file_names (files ++ file ∷ []) ≡ file_names files ++ file_names (file ∷ [])
 file_names-push [] file = refl

@@ -1,7 +1,4 @@
-pub mod Bits
-pub mod Blocks
 pub mod Calls
-pub mod Changes
-pub mod Checking
-pub mod Growing
-pub mod Marks
+pub use Rattle.fs_layout.specs.Table
+pub use Rattle.fs_inodes.specs.Changes
+pub use Rattle.fs_inodes.specs.Growing

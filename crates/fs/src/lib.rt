@@ -2,32 +2,14 @@
 //! Each call is lent the blocks and told the number of inodes.
 #![tactic(auto)]
 
-mod bits;
-mod checking;
-mod content;
 mod directory;
-mod errors;
-mod growing;
-mod marks;
-mod numbers;
-mod records;
-mod room;
-mod shrinking;
-mod truncating;
+mod octets;
 mod whole;
-mod writing;
 
-pub use checking::check;
-pub use content::read_at;
-pub use directory::{create, names, size};
-pub use errors::FsError;
-pub use growing::append;
-pub use shrinking::unlink;
-pub use truncating::truncate;
-pub use whole::{free_block_count, free_inode_count, make_empty};
-pub use writing::write_at;
-
-#[cfg(test)]
-mod sequences;
-#[cfg(test)]
-mod tests;
+pub use directory::{create, names, size, unlink};
+pub use fs_check::check;
+pub use fs_layout::FsError;
+pub use fs_layout::inodes::free_inode_count;
+pub use fs_layout::marks::free_block_count;
+pub use octets::{append, read_at, truncate, write_at};
+pub use whole::make_empty;

@@ -1,7 +1,7 @@
 use Rattle.std.proofs.Common.{ℕ, ◌+◌, ◌/◌, List, refl, sym, ◌∙◌, subst}
 use Rattle.model.specs.Files.{entry, content_of}
-use Rattle.fs.specs.Blocks.{PutsRecord}
-use Rattle.fs.proofs.Tables.{no_slot, there_from_slot}
+use Rattle.fs_layout.specs.Blocks.{PutsRecord}
+use Rattle.fs_layout.proofs.Tables.{no_slot, there_from_slot}
 use Rattle.fs.proofs.Creating.{no_free_inode, creates}
 use Rattle.fs.proofs.directory.create.Goals as goal
 

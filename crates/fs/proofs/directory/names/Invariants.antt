@@ -1,6 +1,6 @@
 use Rattle.std.proofs.Common.{◌≡◌, map, take}
 use Rattle.model.specs.Files.{table}
-use Rattle.fs.specs.Calls.{file_names}
+use Rattle.fs_layout.specs.Table.{file_names}
 use Rattle.fs.proofs.directory.names.Given as goal
 
 abbrev pub invariant-loop-at : goal.invariant-loop-at

@@ -1,7 +1,7 @@
 use Rattle.std.proofs.Common.{refl, sym, ◌∙◌}
 use Rattle.model.specs.Files.{entry, content_of}
-use Rattle.fs.proofs.Entries.{length-content}
-use Rattle.fs.proofs.Tables.{no_slot, there_from_slot}
+use Rattle.fs_layout.proofs.Entries.{length-content}
+use Rattle.fs_layout.proofs.Tables.{no_slot, there_from_slot}
 use Rattle.fs.proofs.directory.size.Goals as goal
 
 pub returns-in_default-clause-refused : goal.returns-in_default-clause-refused

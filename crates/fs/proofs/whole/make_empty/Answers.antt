@@ -1,5 +1,5 @@
 use Rattle.std.proofs.Common.{ℕ, List, None, sym, subst, arith, replicate}
-use Rattle.fs.specs.Calls.{Makes}
+use Rattle.fs_layout.specs.Table.{Makes}
 use Rattle.fs.proofs.Emptying.{makes_empty}
 use Rattle.fs.proofs.whole.make_empty.Goals as goal
 

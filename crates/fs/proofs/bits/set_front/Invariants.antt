@@ -1,6 +1,0 @@
-use Rattle.std.proofs.Common.{◌≡◌, length}
-use Rattle.fs.specs.Bits.{IsFront}
-use Rattle.fs.proofs.bits.set_front.Given as goal
-
-abbrev pub invariant-loop-bit : goal.invariant-loop-bit
-invariant-loop-bit l = (length l.octets ≡ length l.initial.octets) × IsFront l.bit l.octets

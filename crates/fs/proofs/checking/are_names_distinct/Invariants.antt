@@ -1,5 +1,0 @@
-use Rattle.fs.proofs.Slots.{HasSlots}
-use Rattle.fs.proofs.checking.are_names_distinct.Given as goal
-
-abbrev pub invariant-loop-at : goal.invariant-loop-at
-invariant-loop-at g l = HasSlots l.at l.inodes (g.B.Blocks.blocks l.blocks) l.slots

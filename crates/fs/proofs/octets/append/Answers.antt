@@ -1,0 +1,44 @@
+use Rattle.std.proofs.Common.{◌≡◌, ℕ, ◌+◌, length, refl, sym, ◌∙◌, subst}
+use Rattle.model.specs.Files.{entry, content_of}
+use Rattle.fs_inodes.specs.Growing.{HasNoRoomFor}
+use Rattle.fs_layout.proofs.Entries.{length-content}
+use Rattle.fs_layout.proofs.Tables.{no_slot, there_from_slot, file_from_slot}
+use Rattle.fs.proofs.octets.append.Goals as goal
+
+pub extend-requires-clause-file : goal.extend-requires-clause-file
+extend-requires-clause-file g c =
+    let found = c.in-Some.ensures in
+    file_from_slot c.args.inodes (g.B.Blocks.blocks c.args.blocks.now) c.requires.rule c.in-Some.at c.args.name.now found.below c.requires.name.0 (found.is ∙ c.slot_for.ensures)
+
+pub returns-in_default-clause-not_found : goal.returns-in_default-clause-not_found
+returns-in_default-clause-not_found g c =
+    let blocks = g.B.Blocks.blocks c.args.blocks.now in
+    λ e. (no_slot c.args.inodes blocks c.requires.rule c.args.name.now (λ k low same. c.in_default.ensures k low (same ∙ sym c.slot_for.ensures)), refl)
+
+pub returns-then-not-has_room_for-clause-full : goal.returns-then-not-has_room_for-clause-full
+returns-then-not-has_room_for-clause-full g c =
+    let blocks = g.B.Blocks.blocks c.args.blocks.now in
+    let found = c.in-Some.ensures in
+    let at = c.in-Some.at in
+    let is : c.size_of-size.result ≡ length (content_of blocks (entry c.args.inodes blocks at)) =
+    c.size_of-size.ensures ∙ sym (length-content blocks (entry c.args.inodes blocks at) c.requires.room.blocks_whole (λ b owns. (c.requires.rule.within at b found.below owns).1)) in
+    λ e. (
+      (
+        at,
+        content_of blocks (entry c.args.inodes blocks at),
+        there_from_slot c.args.inodes blocks c.requires.rule at c.args.name.now found.below c.requires.name.0 (found.is ∙ c.slot_for.ensures),
+        subst (λ (n : ℕ). HasNoRoomFor blocks n (n + length c.args.octets.now)) is c.if-not-has_room_for.ensures.full,
+      ),
+      refl,
+    )
+
+pub returns-clause-appended : goal.returns-clause-appended
+returns-clause-appended g c =
+    let blocks = g.B.Blocks.blocks c.args.blocks.now in
+    let found = c.in-Some.ensures in
+    let at = c.in-Some.at in (
+      at,
+      content_of blocks (entry c.args.inodes blocks at),
+      there_from_slot c.args.inodes blocks c.requires.rule at c.args.name.now found.below c.requires.name.0 (found.is ∙ c.slot_for.ensures),
+      c.in_ok-extend.ensures.grown,
+    )

@@ -1,0 +1,68 @@
+use Rattle.std.proofs.Common.{◌≡◌, ◌<◌, ◌≤◌, ℕ, ◌-◌, ◌++◌, List, length, take, replicate, refl, sym, ◌∙◌, ap, subst, arith}
+use Rattle.std.proofs.lemmas.List.{append-nil, take_all}
+use Rattle.std.proofs.lemmas.Bool.{OnFalse_at}
+use Rattle.model.specs.Files.{HasRoom, IsFileSystem, entry, size, content_of, table}
+use Rattle.fs_layout.specs.Table.{IsFileAt}
+use Rattle.fs_inodes.specs.Growing.{HasNoRoomFor}
+use Rattle.fs_inodes.specs.Changes.{ReplacesContent, TakesNone, Rewrites}
+use Rattle.fs_inodes.specs.Growing.{GrowsBy}
+use Rattle.fs.proofs.Composing.{grown, lowest_none}
+use Rattle.fs_layout.proofs.Entries.{length-content}
+use Rattle.fs_inodes.proofs.Replacing.{replaces_same}
+use Rattle.fs_layout.proofs.Tables.{no_slot, there_from_slot}
+use Rattle.fs.proofs.octets.truncate.Goals as goal
+
+module _ (inodes at end was : ℕ) (name : List ℕ) (old new : List (List ℕ)) (room : HasRoom inodes old) (fs : IsFileSystem inodes old) (low : at < inodes) (there : IsFileAt (table inodes old) at name (content_of old (entry inodes old at))) (read : was ≡ size (entry inodes old at)) where
+  abbrev content : List ℕ
+  content = content_of old (entry inodes old at)
+
+  long : was ≡ length content
+  long =
+      read
+      ∙ sym (length-content old (entry inodes old at) room.blocks_whole (λ b owns. (fs.within at b low owns).1))
+
+  shorter : end ≤ was → ReplacesContent inodes at (take end content) old new → TakesNone old new → Rewrites inodes name (λ content. take end content ++ replicate (end - length content) 0) old new
+  shorter less done none =
+      let nothing : end - length content ≡ 0 = omega (arith, long) in
+      let is : take end content ≡ take end content ++ replicate (end - length content) 0 = sym (ap (λ (n : ℕ). take end content ++ replicate n 0) nothing ∙ append-nil (take end content)) in
+      (at, content, there, replaces_same inodes at (take end content) (take end content ++ replicate (end - length content) 0) old new is done, lowest_none old new done.makes.room.count_few none)
+
+  longer : was < end → GrowsBy inodes at (replicate (end - was) 0) old new → Rewrites inodes name (λ content. take end content ++ replicate (end - length content) 0) old new
+  longer more g =
+      let is : content ++ replicate (end - was) 0 ≡ take end content ++ replicate (end - length content) 0 =
+      ap (λ (n : ℕ). content ++ replicate (end - n) 0) long ∙ ap (λ (l : List ℕ). l ++ replicate (end - length content) 0) (sym (take_all end content (omega (arith, long)))) in
+      (at, content, there, replaces_same inodes at (content ++ replicate (end - was) 0) (take end content ++ replicate (end - length content) 0) old new is (grown inodes at (replicate (end - was) 0) name content old new there g), g.lowest)
+
+pub returns-in_default-clause-not_found : goal.returns-in_default-clause-not_found
+returns-in_default-clause-not_found g c =
+    λ e. (no_slot c.args.inodes (g.B.Blocks.blocks c.args.blocks.now) c.requires.rule c.args.name.now (λ k low same. c.in_default.ensures k low (same ∙ sym c.slot_for.ensures)), refl)
+
+pub returns-then-size-was-clause-truncated : goal.returns-then-size-was-clause-truncated
+returns-then-size-was-clause-truncated g c =
+    let old = g.B.Blocks.blocks c.args.blocks.now in
+    let found = c.in-Some.ensures in
+    shorter c.args.inodes c.in-Some.at c.args.size c.size_of-was.result c.args.name.now old (g.B.Blocks.blocks c.shrink_to.new.blocks) c.requires.room c.requires.rule found.below
+    (there_from_slot c.args.inodes old c.requires.rule c.in-Some.at c.args.name.now found.below c.requires.name.0 (found.is ∙ c.slot_for.ensures))
+    c.size_of-was.ensures (omega arith) c.in_ok-shrink_to.ensures.done c.in_ok-shrink_to.ensures.none_taken
+
+pub returns-then-not-has_room_for-clause-full : goal.returns-then-not-has_room_for-clause-full
+returns-then-not-has_room_for-clause-full g c =
+    let old = g.B.Blocks.blocks c.args.blocks.now in
+    let found = c.in-Some.ensures in
+    let there = there_from_slot c.args.inodes old c.requires.rule c.in-Some.at c.args.name.now found.below c.requires.name.0 (found.is ∙ c.slot_for.ensures) in
+    let is = long c.args.inodes c.in-Some.at c.args.size c.size_of-was.result c.args.name.now old old c.requires.room c.requires.rule found.below there c.size_of-was.ensures in
+    λ e. (
+      c.in-Some.at,
+      content_of old (entry c.args.inodes old c.in-Some.at),
+      there,
+      subst (λ (n : ℕ). HasNoRoomFor old n c.args.size) is (OnFalse_at c.if-not-has_room_for.true c.has_room_for.ensures.full),
+      refl,
+    )
+
+pub returns-clause-truncated : goal.returns-clause-truncated
+returns-clause-truncated g c =
+    let old = g.B.Blocks.blocks c.args.blocks.now in
+    let found = c.in-Some.ensures in
+    longer c.args.inodes c.in-Some.at c.args.size c.size_of-was.result c.args.name.now old (g.B.Blocks.blocks c.extend_zeros.new.blocks) c.requires.room c.requires.rule found.below
+    (there_from_slot c.args.inodes old c.requires.rule c.in-Some.at c.args.name.now found.below c.requires.name.0 (found.is ∙ c.slot_for.ensures))
+    c.size_of-was.ensures (omega arith) c.in_ok-extend_zeros.ensures.grown

@@ -1,0 +1,114 @@
+use Rattle.std.proofs.Common.{◌≡◌, ◌<◌, ◌≤◌, ℕ, ◌+◌, ◌-◌, List, length, refl, sym, ◌∙◌, subst, arith}
+use Rattle.std.proofs.lemmas.List.{length-take-le}
+use Rattle.std.proofs.lemmas.Bool.{OnFalse_at, OnTrue_at}
+use Rattle.model.specs.Files.{HasRoom, IsFileSystem, entry, size, content_of, table}
+use Rattle.fs_layout.specs.Table.{IsFileAt}
+use Rattle.fs_inodes.specs.Growing.{HasNoRoomFor}
+use Rattle.fs.proofs.Composing.{lowest_after, lowest_same, still_file, still_room, written_past}
+use Rattle.fs_layout.proofs.Entries.{length-content}
+use Rattle.fs_layout.proofs.Tables.{no_slot, there_from_slot, file_from_slot}
+use Rattle.fs.proofs.octets.write_at.Goals as goal
+
+module _ (inodes at place : ℕ) (name : List ℕ) (old : List (List ℕ)) (room : HasRoom inodes old) (fs : IsFileSystem inodes old) (low : at < inodes) where
+  long : length (content_of old (entry inodes old at)) ≡ size (entry inodes old at)
+  long = length-content old (entry inodes old at) room.blocks_whole (λ b owns. (fs.within at b low owns).1)
+
+  inside : IsFileAt (table inodes old) at name (content_of old (entry inodes old at)) → ((k : ℕ) (content : List ℕ) → IsFileAt (table inodes old) k name content → place ≤ length content) → place ≤ size (entry inodes old at)
+  inside there all = omega (arith, all at (content_of old (entry inodes old at)) there, long)
+
+pub returns-in_default-clause-not_found : goal.returns-in_default-clause-not_found
+returns-in_default-clause-not_found g c =
+    λ e. (no_slot c.args.inodes (g.B.Blocks.blocks c.args.blocks.now) c.requires.rule c.args.name.now (λ k low same. c.in_default.ensures k low (same ∙ sym c.slot_for.ensures)), refl)
+
+pub overflow_add-end : goal.overflow_add-end
+overflow_add-end g c =
+    let old = g.B.Blocks.blocks c.args.blocks.now in
+    let found = c.in-Some.ensures in
+    let there = there_from_slot c.args.inodes old c.requires.rule c.in-Some.at c.args.name.now found.below c.requires.name.0 (found.is ∙ c.slot_for.ensures) in
+    let low = inside c.args.inodes c.in-Some.at c.args.place c.args.name.now old c.requires.room c.requires.rule found.below there c.requires.place in
+    let small = (file_from_slot c.args.inodes old c.requires.rule c.in-Some.at c.args.name.now found.below c.requires.name.0 (found.is ∙ c.slot_for.ensures)).small in
+    omega (arith, low, small)
+
+pub returns-then-end-size-clause-written : goal.returns-then-end-size-clause-written
+returns-then-end-size-clause-written g c =
+    let old = g.B.Blocks.blocks c.args.blocks.now in
+    let found = c.in-Some.ensures in
+    let done = c.in_ok-overwrite.ensures.done in (
+      c.in-Some.at,
+      content_of old (entry c.args.inodes old c.in-Some.at),
+      there_from_slot c.args.inodes old c.requires.rule c.in-Some.at c.args.name.now found.below c.requires.name.0 (found.is ∙ c.slot_for.ensures),
+      done,
+      lowest_same old (g.B.Blocks.blocks c.overwrite.new.blocks) done.makes.room.count_few c.in_ok-overwrite.ensures.marks,
+    )
+
+pub returns-then-not-has_room_for-clause-full : goal.returns-then-not-has_room_for-clause-full
+returns-then-not-has_room_for-clause-full g c =
+    let old = g.B.Blocks.blocks c.args.blocks.now in
+    let found = c.in-Some.ensures in
+    let is = c.size_of-size.ensures
+    ∙ sym (long c.args.inodes c.in-Some.at c.args.place c.args.name.now old c.requires.room c.requires.rule found.below) in
+    λ e. (
+      c.in-Some.at,
+      content_of old (entry c.args.inodes old c.in-Some.at),
+      there_from_slot c.args.inodes old c.requires.rule c.in-Some.at c.args.name.now found.below c.requires.name.0 (found.is ∙ c.slot_for.ensures),
+      subst (λ (n : ℕ). HasNoRoomFor old n (c.args.place + length c.args.octets.now)) is (OnFalse_at c.if-not-has_room_for.true c.has_room_for.ensures.full),
+      refl,
+    )
+
+pub overflow_sub-within : goal.overflow_sub-within
+overflow_sub-within g c =
+    let old = g.B.Blocks.blocks c.args.blocks.now in
+    let found = c.in-Some.ensures in
+    let there = there_from_slot c.args.inodes old c.requires.rule c.in-Some.at c.args.name.now found.below c.requires.name.0 (found.is ∙ c.slot_for.ensures) in
+    let low = inside c.args.inodes c.in-Some.at c.args.place c.args.name.now old c.requires.room c.requires.rule found.below there c.requires.place in
+    let is = c.size_of-size.ensures in
+    omega (arith, low, is)
+
+pub overwrite-requires-2-clause-fits : goal.overwrite-requires-2-clause-fits
+overwrite-requires-2-clause-fits g c =
+    let old = g.B.Blocks.blocks c.args.blocks.now in
+    let found = c.in-Some.ensures in
+    let there = there_from_slot c.args.inodes old c.requires.rule c.in-Some.at c.args.name.now found.below c.requires.name.0 (found.is ∙ c.slot_for.ensures) in
+    let low = inside c.args.inodes c.in-Some.at c.args.place c.args.name.now old c.requires.room c.requires.rule found.below there c.requires.place in
+    let is = c.size_of-size.ensures in
+    let front = length-take-le (c.size_of-size.result - c.args.place) c.args.octets.now (omega arith) in
+    omega (arith, low, is, front)
+
+pub extend-requires-clause-file : goal.extend-requires-clause-file
+extend-requires-clause-file g c =
+    let old = g.B.Blocks.blocks c.args.blocks.now in
+    let found = c.in-Some.ensures in
+    let there = there_from_slot c.args.inodes old c.requires.rule c.in-Some.at c.args.name.now found.below c.requires.name.0 (found.is ∙ c.slot_for.ensures) in
+    let low = inside c.args.inodes c.in-Some.at c.args.place c.args.name.now old c.requires.room c.requires.rule found.below there c.requires.place in
+    let is = c.size_of-size.ensures in
+    still_file c.args.inodes c.in-Some.at c.args.place c.args.octets.now c.args.name.now old (g.B.Blocks.blocks c.overwrite-2.new.blocks) c.requires.room c.requires.rule found.below low (omega (arith, is)) c.size_of-size.result (c.size_of-size.result - c.args.place) is refl
+    c.in_ok-overwrite-2.ensures.done c.in_ok-overwrite-2.ensures.marks
+
+pub extend-requires-clause-enough : goal.extend-requires-clause-enough
+extend-requires-clause-enough g c =
+    let old = g.B.Blocks.blocks c.args.blocks.now in
+    let found = c.in-Some.ensures in
+    let there = there_from_slot c.args.inodes old c.requires.rule c.in-Some.at c.args.name.now found.below c.requires.name.0 (found.is ∙ c.slot_for.ensures) in
+    let low = inside c.args.inodes c.in-Some.at c.args.place c.args.name.now old c.requires.room c.requires.rule found.below there c.requires.place in
+    let is = c.size_of-size.ensures in
+    still_room c.args.inodes c.in-Some.at c.args.place c.args.octets.now c.args.name.now old (g.B.Blocks.blocks c.overwrite-2.new.blocks) c.requires.room c.requires.rule found.below low (omega (arith, is)) c.size_of-size.result (c.size_of-size.result - c.args.place) is refl
+    c.in_ok-overwrite-2.ensures.done c.in_ok-overwrite-2.ensures.marks
+    (OnTrue_at c.if-not-has_room_for.false c.has_room_for.ensures.room)
+
+pub returns-clause-written : goal.returns-clause-written
+returns-clause-written g c =
+    let old = g.B.Blocks.blocks c.args.blocks.now in
+    let mid = g.B.Blocks.blocks c.overwrite-2.new.blocks in
+    let new = g.B.Blocks.blocks c.extend.new.blocks in
+    let found = c.in-Some.ensures in
+    let there = there_from_slot c.args.inodes old c.requires.rule c.in-Some.at c.args.name.now found.below c.requires.name.0 (found.is ∙ c.slot_for.ensures) in
+    let low = inside c.args.inodes c.in-Some.at c.args.place c.args.name.now old c.requires.room c.requires.rule found.below there c.requires.place in
+    let is = c.size_of-size.ensures in
+    let grows = c.in_ok-extend.ensures.grown in (
+      c.in-Some.at,
+      content_of old (entry c.args.inodes old c.in-Some.at),
+      there,
+      written_past c.args.inodes c.in-Some.at c.args.place c.args.octets.now c.args.name.now old mid c.requires.room c.requires.rule found.below low (omega (arith, is)) c.size_of-size.result (c.size_of-size.result - c.args.place) is refl
+          c.in_ok-overwrite-2.ensures.done c.in_ok-overwrite-2.ensures.marks new grows,
+      lowest_after old mid new grows.makes.room.count_few c.in_ok-overwrite-2.ensures.marks grows.lowest,
+    )

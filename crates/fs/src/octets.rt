@@ -1,0 +1,149 @@
+//! The octets of files, by name.
+
+ghost use Rattle.std.specs.Prelude.{◌≡◌, ◌≢◌, ℕ, ◌+◌, ◌-◌, ◌++◌, ◌≤◌, List, length, take, drop, replicate, IfErr, IfOk, OnOk};
+ghost use Rattle.disk.specs.Image.{overwritten};
+ghost use Rattle.model.specs.Files.{HasRoom, IsFileSystem, table};
+ghost use Rattle.fs.specs.Calls.{IsName, IsThere, IsFileAt, HasNoRoomFor};
+ghost use Rattle.fs.specs.Changes.{Rewrites};
+ghost use Rattle.fs.specs.Growing.{Appends, CannotGrow};
+
+use fs_inodes::{extend, extend_zeros, has_room_for, overwrite, read_entry, shrink_to};
+use fs_layout::FsError;
+use fs_layout::inodes::size_of;
+use fs_layout::records::find;
+use fs_layout::slots::slot_for;
+use std::alloc::Global;
+use volume::Blocks;
+
+/// The octets of a file from a place up to its size, at most `count`. `NotFound` exactly where the name isn't there.
+pub fn read_at<B: Blocks>(
+    alloc: Global,
+    blocks: &B,
+    inodes: u32,
+    name: &[u8],
+    place: u64,
+    count: u64,
+) -> Result<Vec<u8>, FsError>
+    requires room { HasRoom inodes (B.blocks blocks.now) }
+    requires name { IsName name.now }
+    requires rule { IsFileSystem inodes (B.blocks blocks.now) }
+    ensures found { IfOk result (λ octets. (k : ℕ) × (content : List ℕ)
+        × IsFileAt (table inodes (B.blocks blocks.now)) k name.now content × (octets.items ≡ take count (drop place content))) }
+    ensures not_found { IfErr result (λ e. e ≡ FsError.NotFound → ¬ (IsThere (table inodes (B.blocks blocks.now)) name.now)) }
+    ensures no_other { IfErr result (λ e. (e ≢ FsError.Damaged) × (e ≢ FsError.Full) × (e ≢ FsError.Exists)) }
+{
+    let Some(at) = find(blocks, inodes, &slot_for(name)) else {
+        return Err(FsError::NotFound);
+    };
+    let octets = read_entry(alloc, blocks, inodes, at, place, count)?;
+    Ok(octets)
+}
+
+/// Puts octets behind those of a file. `NotFound` exactly where the name isn't there, else `Full` exactly where the
+/// file would be too large or need more blocks than are free; both change nothing. After `Memory` the caller drops
+/// the stage.
+pub fn append<B: Blocks>(
+    blocks: &mut B,
+    inodes: u32,
+    name: &[u8],
+    octets: &[u8],
+) -> Result<(), FsError>
+    requires room { HasRoom inodes (B.blocks blocks.old) }
+    requires name { IsName name.now }
+    requires rule { IsFileSystem inodes (B.blocks blocks.old) }
+    ensures appended { OnOk result (Appends inodes name.now octets.now (B.blocks blocks.old) (B.blocks blocks.new)) }
+    ensures not_found { IfErr result (λ e. e ≡ FsError.NotFound
+        → (¬ (IsThere (table inodes (B.blocks blocks.old)) name.now)) × (blocks.new ≡ blocks.old)) }
+    ensures full { IfErr result (λ e. e ≡ FsError.Full
+        → CannotGrow inodes name.now (length octets.now) (B.blocks blocks.old) × (blocks.new ≡ blocks.old)) }
+    ensures no_other { IfErr result (λ e. (e ≢ FsError.Damaged) × (e ≢ FsError.Exists)) }
+    ensures kept { B.applied blocks.new ≡ B.applied blocks.old }
+{
+    let Some(at) = find(blocks, inodes, &slot_for(name)) else {
+        return Err(FsError::NotFound);
+    };
+    let size = size_of(blocks, inodes, at);
+    if !has_room_for(blocks, inodes, size, size + octets.len() as u64) {
+        return Err(FsError::Full);
+    }
+    extend(blocks, inodes, at, octets)?;
+    Ok(())
+}
+
+/// Puts octets into a file from a place on, which is not behind its end: over those that stand there, and behind them.
+/// `NotFound` exactly where the name isn't there, else `Full` exactly where the file would be too large or blocks are
+/// too few; both change nothing. After `Memory` the caller drops the stage.
+pub fn write_at<B: Blocks>(
+    blocks: &mut B,
+    inodes: u32,
+    name: &[u8],
+    place: u64,
+    octets: &[u8],
+) -> Result<(), FsError>
+    requires room { HasRoom inodes (B.blocks blocks.old) }
+    requires name { IsName name.now }
+    requires rule { IsFileSystem inodes (B.blocks blocks.old) }
+    requires place { (k : ℕ) (content : List ℕ) → IsFileAt (table inodes (B.blocks blocks.old)) k name.now content → place ≤ length content }
+    ensures written { OnOk result (Rewrites inodes name.now (overwritten place octets.now) (B.blocks blocks.old) (B.blocks blocks.new)) }
+    ensures not_found { IfErr result (λ e. e ≡ FsError.NotFound
+        → (¬ (IsThere (table inodes (B.blocks blocks.old)) name.now)) × (blocks.new ≡ blocks.old)) }
+    ensures full { IfErr result (λ e. e ≡ FsError.Full
+        → (k : ℕ) × (content : List ℕ) × IsFileAt (table inodes (B.blocks blocks.old)) k name.now content
+        × HasNoRoomFor (B.blocks blocks.old) (length content) (place + length octets.now) × (blocks.new ≡ blocks.old)) }
+    ensures no_other { IfErr result (λ e. (e ≢ FsError.Damaged) × (e ≢ FsError.Exists)) }
+    ensures kept { B.applied blocks.new ≡ B.applied blocks.old }
+{
+    let Some(at) = find(blocks, inodes, &slot_for(name)) else {
+        return Err(FsError::NotFound);
+    };
+    let size = size_of(blocks, inodes, at);
+    let end = place + octets.len() as u64;
+    if end <= size {
+        overwrite(blocks, inodes, at, place, octets)?;
+        return Ok(());
+    }
+    if !has_room_for(blocks, inodes, size, end) {
+        return Err(FsError::Full);
+    }
+    let within = (size - place) as usize;
+    overwrite(blocks, inodes, at, place, &octets[..within])?;
+    extend(blocks, inodes, at, &octets[within..])?;
+    Ok(())
+}
+
+/// Gives a file a size: it loses what lies behind, or zeros follow. `NotFound` exactly where the name isn't there, else
+/// `Full` exactly where the file would be too large or blocks are too few; both change nothing. After `Memory` the
+/// caller drops the stage.
+pub fn truncate<B: Blocks>(
+    blocks: &mut B,
+    inodes: u32,
+    name: &[u8],
+    size: u64,
+) -> Result<(), FsError>
+    requires room { HasRoom inodes (B.blocks blocks.old) }
+    requires name { IsName name.now }
+    requires rule { IsFileSystem inodes (B.blocks blocks.old) }
+    ensures truncated { OnOk result (Rewrites inodes name.now
+        (λ content. take size content ++ replicate (size - length content) 0) (B.blocks blocks.old) (B.blocks blocks.new)) }
+    ensures not_found { IfErr result (λ e. e ≡ FsError.NotFound
+        → (¬ (IsThere (table inodes (B.blocks blocks.old)) name.now)) × (blocks.new ≡ blocks.old)) }
+    ensures full { IfErr result (λ e. e ≡ FsError.Full
+        → (k : ℕ) × (content : List ℕ) × IsFileAt (table inodes (B.blocks blocks.old)) k name.now content
+        × HasNoRoomFor (B.blocks blocks.old) (length content) size × (blocks.new ≡ blocks.old)) }
+    ensures no_other { IfErr result (λ e. (e ≢ FsError.Damaged) × (e ≢ FsError.Exists)) }
+    ensures kept { B.applied blocks.new ≡ B.applied blocks.old }
+{
+    let Some(at) = find(blocks, inodes, &slot_for(name)) else {
+        return Err(FsError::NotFound);
+    };
+    let was = size_of(blocks, inodes, at);
+    if size <= was {
+        shrink_to(blocks, inodes, at, size)?;
+        return Ok(());
+    }
+    if !has_room_for(blocks, inodes, was, size) {
+        return Err(FsError::Full);
+    }
+    extend_zeros(blocks, inodes, at, size - was)?;
+    Ok(())
+}

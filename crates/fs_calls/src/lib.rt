@@ -1,0 +1,12 @@
+//! What the calls of the file system answer: scripts of calls, damaged blocks, and long sequences beside a plain list.
+//! All of it is played over a volume in memory, and each row is data.
+#![tactic(auto)]
+
+#[cfg(test)]
+mod damages;
+#[cfg(test)]
+mod scripts;
+#[cfg(test)]
+mod sequences;
+#[cfg(test)]
+mod volumes;

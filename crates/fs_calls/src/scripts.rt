@@ -1,0 +1,190 @@
+//! What calls of one volume answer, one after the other.
+
+use crate::volumes::{Call, answer, empty};
+use fs::FsError;
+use std::alloc::Global;
+use std::test::Fail;
+
+/// Calls of a new volume, each with the name that it is about, and what each is to answer.
+type Script<'a> = &'a [(&'a str, Call, Result<u64, FsError>)];
+
+/// The scripts, by what they show.
+const SCRIPTS: &[(&str, Script<'static>)] = &[
+    (
+        "an empty volume uses four blocks",
+        &[
+            ("a", Call::FreeBlocks, Ok(1020)),
+            ("a", Call::FreeInodes, Ok(64)),
+            ("a", Call::Names, Ok(0)),
+        ],
+    ),
+    (
+        "a file that isn't there is found by no call",
+        &[
+            ("a", Call::Size, Err(FsError::NotFound)),
+            ("a", Call::Read(0, 1, 0), Err(FsError::NotFound)),
+            ("a", Call::Append(b'x', 1), Err(FsError::NotFound)),
+            ("a", Call::Begin(b'x', 1), Err(FsError::NotFound)),
+            ("a", Call::Truncate(1), Err(FsError::NotFound)),
+            ("a", Call::Unlink, Err(FsError::NotFound)),
+            ("a", Call::FreeBlocks, Ok(1020)),
+            ("a", Call::FreeInodes, Ok(64)),
+        ],
+    ),
+    (
+        "a new file is empty",
+        &[
+            ("a", Call::Create, Ok(0)),
+            ("a", Call::Size, Ok(0)),
+            ("a", Call::FreeBlocks, Ok(1020)),
+            ("a", Call::FreeInodes, Ok(63)),
+            ("a", Call::Names, Ok(1)),
+            ("a", Call::Read(0, 10, 0), Ok(0)),
+            ("a", Call::Create, Err(FsError::Exists)),
+        ],
+    ),
+    (
+        "each inode has a file, and then none is made",
+        &[
+            ("a", Call::Create, Ok(0)),
+            ("a", Call::CreateMany, Ok(63)),
+            ("a", Call::FreeInodes, Ok(0)),
+            ("a", Call::Create, Err(FsError::Exists)),
+            ("b", Call::Create, Err(FsError::Full)),
+            ("a", Call::Unlink, Ok(0)),
+            ("b", Call::Create, Ok(0)),
+            ("b", Call::Names, Ok(64)),
+        ],
+    ),
+    (
+        "a file goes",
+        &[
+            ("a", Call::Create, Ok(0)),
+            ("b", Call::Create, Ok(0)),
+            ("a", Call::Unlink, Ok(0)),
+            ("a", Call::Size, Err(FsError::NotFound)),
+            ("b", Call::Size, Ok(0)),
+            ("a", Call::FreeBlocks, Ok(1020)),
+            ("a", Call::FreeInodes, Ok(63)),
+            ("a", Call::Unlink, Err(FsError::NotFound)),
+        ],
+    ),
+    (
+        "blocks are given up",
+        &[
+            ("a", Call::Create, Ok(0)),
+            ("a", Call::Append(7, 40_961), Ok(0)),
+            ("a", Call::FreeBlocks, Ok(1008)),
+            ("a", Call::Truncate(40_960), Ok(0)),
+            ("a", Call::FreeBlocks, Ok(1010)),
+            ("a", Call::Begin(b'b', 1), Ok(0)),
+            ("a", Call::FreeBlocks, Ok(1010)),
+            ("a", Call::Read(0, 1, b'b'), Ok(1)),
+            ("a", Call::Read(1, 1, 7), Ok(1)),
+            ("a", Call::Unlink, Ok(0)),
+            ("a", Call::FreeBlocks, Ok(1020)),
+            ("a", Call::FreeInodes, Ok(64)),
+        ],
+    ),
+    (
+        "zeros follow where octets stood",
+        &[
+            ("a", Call::Create, Ok(0)),
+            ("a", Call::Begin(b'o', 6), Ok(0)),
+            ("a", Call::Truncate(2), Ok(0)),
+            ("a", Call::Truncate(5), Ok(0)),
+            ("a", Call::Read(0, 2, b'o'), Ok(2)),
+            ("a", Call::Read(2, 10, 0), Ok(3)),
+        ],
+    ),
+    (
+        "a file takes every block",
+        &[
+            ("a", Call::Create, Ok(0)),
+            ("a", Call::Truncate(1019 * 4096), Ok(0)),
+            ("a", Call::FreeBlocks, Ok(0)),
+            ("a", Call::Truncate(1019 * 4096 + 1), Err(FsError::Full)),
+            ("a", Call::Write(1019 * 4096, b'x', 1), Err(FsError::Full)),
+            ("a", Call::Append(b'x', 1), Err(FsError::Full)),
+            ("a", Call::Write(1019 * 4096 - 1, b'x', 1), Ok(0)),
+            ("a", Call::Read(1019 * 4096 - 1, 2, b'x'), Ok(1)),
+        ],
+    ),
+    (
+        "an append takes the lowest blocks",
+        &[
+            ("a", Call::Apply, Ok(1)),
+            ("a", Call::Clean, Ok(0)),
+            ("a", Call::Create, Ok(0)),
+            ("a", Call::Append(b'a', 40_960), Ok(0)),
+            ("a", Call::FreeBlocks, Ok(1010)),
+            ("a", Call::Apply, Ok(13)),
+            ("a", Call::Block(4, b'a'), Ok(4096)),
+            ("a", Call::Block(13, b'a'), Ok(4096)),
+            ("a", Call::Append(b'b', 1), Ok(0)),
+            ("a", Call::FreeBlocks, Ok(1008)),
+            ("a", Call::Read(40_959, 1, b'a'), Ok(1)),
+            ("a", Call::Read(40_960, 10, b'b'), Ok(1)),
+        ],
+    ),
+    (
+        "appends are read back",
+        &[
+            ("a", Call::Create, Ok(0)),
+            ("b", Call::Create, Ok(0)),
+            ("a", Call::Append(b'f', 5), Ok(0)),
+            ("b", Call::Append(b'o', 5), Ok(0)),
+            ("a", Call::Append(b'x', 50_000), Ok(0)),
+            ("a", Call::Append(b'l', 4), Ok(0)),
+            ("a", Call::Size, Ok(50_009)),
+            ("a", Call::Read(0, 5, b'f'), Ok(5)),
+            ("a", Call::Read(5, 50_000, b'x'), Ok(50_000)),
+            ("a", Call::Read(50_005, 60_000, b'l'), Ok(4)),
+            ("b", Call::Read(0, 60_000, b'o'), Ok(5)),
+        ],
+    ),
+    (
+        "what has no room changes nothing",
+        &[
+            ("a", Call::Create, Ok(0)),
+            ("a", Call::Append(0, 4_235_264), Err(FsError::Full)),
+            ("a", Call::FreeBlocks, Ok(1020)),
+            ("a", Call::Size, Ok(0)),
+            ("b", Call::Append(b'x', 1), Err(FsError::NotFound)),
+            ("a", Call::Size, Ok(0)),
+        ],
+    ),
+];
+
+// Plays a script, and answers the number of the first call whose answer is another.
+fn first_wrong(alloc: Global, script: Script<'_>) -> Result<Option<usize>, FsError> {
+    let mut volume = empty(alloc)?;
+    for (number, (name, call, want)) in script.iter().enumerate() {
+        if answer(alloc, &mut volume, name.as_bytes(), *call) != *want {
+            return Ok(Some(number));
+        }
+    }
+    Ok(None)
+}
+
+#[test]
+fn calls_answer(rt: HostRuntime) -> Result<(), Fail> {
+    for (shows, script) in SCRIPTS {
+        assert_eq!(rt; first_wrong(rt.alloc(), script)?, None, "{shows}");
+    }
+    Ok(())
+}
+
+#[test]
+fn refusals_are_printed_by_number_and_name(rt: HostRuntime) -> Result<(), Fail> {
+    for (error, text) in [
+        (FsError::Memory, "E2 Memory"),
+        (FsError::Damaged, "E5 Damaged"),
+        (FsError::Full, "E6 Full"),
+        (FsError::Exists, "E11 Exists"),
+        (FsError::NotFound, "E12 NotFound"),
+    ] {
+        assert_eq!(rt; error.to_string(rt.alloc())?.as_str(), text);
+    }
+    Ok(())
+}

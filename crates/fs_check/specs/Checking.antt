@@ -1,0 +1,66 @@
+-- What the passes of the check decide.
+use Rattle.std.specs.Prelude.{◌≡◌, ◌≢◌, ◌⊎◌, ◌<◌, ◌≤◌, ◌↔◌, ℕ, false, List, length, Contains, IsTrue}
+use Rattle.model.specs.Stream.{Octets}
+use Rattle.model.specs.Volume.{number_at, AreDistinct}
+use Rattle.model.specs.Files.{Entry, IsFile, IsFree, size, block_count, indirect_pointer, pointer, owned, name_in, slot_octets, entry, slot_of, first_data}
+use Rattle.fs_layout.specs.Bits.{bit_of}
+
+-- a slot with a name
+pub record IsSlot (slot : Octets) : Type 0 where
+  pub name_some : 1 ≤ length (name_in slot)
+  pub name_few : length (name_in slot) ≤ 63
+  pub slot_is : slot ≡ slot_octets (name_in slot)
+
+-- the indirect block, where there is one, lies within the data
+abbrev pub HasIndirectWithin : ℕ → ℕ → Entry → Type 0
+HasIndirectWithin first count e = indirect_pointer e ≢ 0 → (first ≤ indirect_pointer e) × (indirect_pointer e < count)
+
+-- the inode and the pointers of a file
+pub record HasPointers (first count : ℕ) (e : Entry) : Type 0 where
+  pub small : size e ≤ 4235264
+  pub spare : number_at 56 8 e.inode ≡ 0
+  pub indirect_where : (10 < block_count e) ↔ (indirect_pointer e ≢ 0)
+  pub indirect_within : HasIndirectWithin first count e
+  pub no_other_pointer : (i : ℕ) → block_count e ≤ i → i < 1034 → pointer e i ≡ 0
+
+-- a free entry, or one of a file, whose pointers can be read
+abbrev pub IsEntry : ℕ → ℕ → Entry → Type 0
+IsEntry first count e = IsFree e ⊎ (IsFile e × HasIndirectWithin first count e)
+
+abbrev pub HasEntry : ℕ → List Octets → ℕ → Type 0
+HasEntry inodes blocks k = IsEntry (first_data inodes) (length blocks) (entry inodes blocks k)
+
+-- ---- owners
+
+-- blocks that exist, are not marked, and stand once
+pub record CanMark (count : ℕ) (numbers : List ℕ) (old : Octets) : Type 0 where
+  pub distinct : AreDistinct numbers
+  pub within : (b : ℕ) → Contains numbers b → b < count
+  pub clear : (b : ℕ) → Contains numbers b → bit_of old b ≡ false
+
+-- these blocks become marked
+pub record Marks (count : ℕ) (numbers : List ℕ) (old new : Octets) : Type 0 where
+  pub can : CanMark count numbers old
+  pub marked : (b : ℕ) → IsTrue (bit_of new b) ↔ (IsTrue (bit_of old b) ⊎ Contains numbers b)
+
+-- what the rule of blocks says of the owners, for the first entries
+pub record HasOwners (at inodes : ℕ) (blocks : List Octets) : Type 0 where
+  pub within : (k b : ℕ) → k < at → Contains (owned (entry inodes blocks k)) b → (first_data inodes ≤ b) × (b < length blocks)
+  pub distinct : (k : ℕ) → k < at → AreDistinct (owned (entry inodes blocks k))
+  pub one_owner : (k l b : ℕ) → k < at → l < at → Contains (owned (entry inodes blocks k)) b → Contains (owned (entry inodes blocks l)) b → k ≡ l
+
+-- a block before the data, or one that one of the first entries owns
+abbrev pub IsUsedBelow : ℕ → ℕ → List Octets → ℕ → Type 0
+IsUsedBelow at inodes blocks b = (b < first_data inodes) ⊎ ((k : ℕ) × (k < at) × Contains (owned (entry inodes blocks k)) b)
+
+-- these bits are those of the blocks in use
+abbrev pub MarksUsed : ℕ → ℕ → List Octets → Octets → Type 0
+MarksUsed at inodes blocks marks = (b : ℕ) → IsTrue (bit_of marks b) ↔ IsUsedBelow at inodes blocks b
+
+-- ---- names
+
+-- what the rule of blocks says of the names, for the first entries
+abbrev pub HasDistinctNames : ℕ → ℕ → List Octets → Type 0
+HasDistinctNames at inodes blocks =
+    (k l : ℕ) → k < at → l < at → IsFile (entry inodes blocks k) → IsFile (entry inodes blocks l)
+    → name_in (slot_of inodes blocks k) ≡ name_in (slot_of inodes blocks l) → k ≡ l

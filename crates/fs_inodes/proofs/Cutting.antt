@@ -1,0 +1,106 @@
+-- A file that is cut in its last block.
+use Rattle.std.proofs.Common.{◌≡◌, ◌⊎◌, inl, inr, ◌<◌, ◌≤◌, ℕ, ◌+◌, ◌-◌, ◌*◌, ◌/◌, cond, eqb, ltb, List, [], ◌∷◌, ◌++◌, length, get_or, map, take, sym, ◌∙◌, ap, subst, arith}
+use Rattle.std.specs.List.{All, Contains, range_with_len}
+use Rattle.byteorder.specs.Endian.{little_bytes}
+use Rattle.disk.specs.Image.{overwritten}
+use Rattle.journal.proofs.Numbers.{number_at_apart, number_at_written}
+use Rattle.model.specs.Stream.{Octets}
+use Rattle.model.specs.Volume.{number_at}
+use Rattle.model.specs.Files.{Entry, HasRoom, IsFile, size, block_count, pointer, owned, indirect_pointer, content_of, entry, inode_of, slot_of, indirect_of, IsFileSystem}
+use Rattle.fs_layout.specs.Blocks.{PutsRecord}
+use Rattle.fs_inodes.specs.Changes.{ReplacesContent, SameMarks}
+use Rattle.fs_layout.proofs.Entries.{owns_pointer, owns_indirect}
+use Rattle.fs_inodes.proofs.Fields.{length-inode, map_same, same_indirect, content_front}
+use Rattle.fs_layout.proofs.Keeps.{PutsEntry, puts_inode, inode_keeps_marks, same_entry}
+use Rattle.fs_inodes.proofs.Replacing.{rule_keeps, replaces}
+
+module _ (inodes k end : ℕ) (old new : List Octets) (room : HasRoom inodes old) (fs : IsFileSystem inodes old) (low : k < inodes) (file : IsFile (entry inodes old k)) (shorter : end ≤ size (entry inodes old k)) (same_count : (end + 4095) / 4096 ≡ block_count (entry inodes old k)) (put : PutsRecord 2 k (overwritten 4 (little_bytes 8 end) (inode_of old k)) old new) where
+  abbrev e : Entry
+  e = entry inodes old k
+
+  abbrev inode : Octets
+  inode = overwritten 4 (little_bytes 8 end) (inode_of old k)
+
+  abbrev cut : Entry
+  cut = record { inode = overwritten 4 (little_bytes 8 end) (inode_of old k); slot = slot_of inodes old k; indirect = indirect_of old (number_at 52 4 (inode_of old k)) }
+
+  wide : length (inode_of old k) ≡ 64
+  wide = length-inode inodes k old room low
+
+  number_other : (p n : ℕ) → (p + n ≤ 4) ⊎ (12 ≤ p) → number_at p n inode ≡ number_at p n (inode_of old k)
+  number_other p n apart =
+      number_at_apart 4 (little_bytes 8 end) (inode_of old k) (omega (arith, wide)) p n (elim apart [ inl before ↦ inl before | inr behind ↦ inr (omega arith) ])
+
+  sized : size cut ≡ end
+  sized = number_at_written 4 8 end (inode_of old k) (omega (arith, wide)) (omega (arith, file.small))
+
+  counted : block_count cut ≡ block_count e
+  counted = ap (λ (n : ℕ). (n + 4095) / 4096) sized ∙ same_count
+
+  same_indirect_pointer : indirect_pointer cut ≡ indirect_pointer e
+  same_indirect_pointer = number_other 52 4 (inr (omega arith))
+
+  same_pointer : (i : ℕ) → pointer cut i ≡ pointer e i
+  same_pointer i = ap (λ (n : ℕ). cond (ltb i 10) n (number_at (4 * (i - 10)) 4 (indirect_of old (number_at 52 4 (inode_of old k))))) (number_other (12 + 4 * i) 4 (inr (omega arith)))
+
+  owns_same : owned cut ≡ owned e
+  owns_same =
+      ap (λ (n : ℕ). cond (eqb n 0) [] (n ∷ []) ++ map (λ i. pointer cut i) (range_with_len 0 (block_count cut))) same_indirect_pointer
+      ∙ ap (λ (l : List ℕ). cond (eqb (indirect_pointer e) 0) [] (indirect_pointer e ∷ []) ++ l) (map_same (λ i. pointer cut i) (λ i. pointer e i) (block_count cut) (block_count e) counted (λ i below. same_pointer i))
+
+  puts : PutsEntry inodes k inode (slot_of inodes old k) (λ n. ⊥) old new
+  puts = puts_inode inodes k inode old new room.whole low put
+
+  data_same : (n : ℕ) → Contains (owned e) n → get_or new n [] ≡ get_or old n []
+  data_same n owns = puts.data_same n (fs.within k n low owns).0 (λ none. none)
+
+  here : entry inodes new k ≡ cut
+  here =
+      same_entry (inode_of new k) inode (slot_of inodes new k) (slot_of inodes old k)
+      (indirect_of new (number_at 52 4 (inode_of new k))) (indirect_of old (number_at 52 4 (inode_of old k)))
+      puts.inode_is puts.slot_is
+      (ap (λ (o : Octets). indirect_of new (number_at 52 4 o)) puts.inode_is ∙ ap (λ (n : ℕ). indirect_of new n) same_indirect_pointer
+      ∙ same_indirect old new (indirect_pointer e) (λ some. data_same (indirect_pointer e) (owns_indirect e some)))
+
+  is_file : IsFile cut
+  is_file = record {
+    kind_is = number_other 0 4 (inl (omega arith)) ∙ file.kind_is;
+    small = omega (arith, sized, file.small);
+    spare = number_other 56 8 (inr (omega arith)) ∙ file.spare;
+    indirect_where = (
+      (λ more is. file.indirect_where.0 (omega (arith, counted)) (sym same_indirect_pointer ∙ is)),
+      (λ some. let more = file.indirect_where.1 (λ is. some (same_indirect_pointer ∙ is)) in omega (arith, counted)),
+    );
+    no_other_pointer = λ i from to. same_pointer i ∙ file.no_other_pointer i (omega (arith, counted)) to;
+    name_some = file.name_some;
+    name_few = file.name_few;
+    slot_is = file.slot_is;
+  }
+
+  file_now : IsFile (entry inodes new k)
+  file_now = subst IsFile (sym here) is_file
+
+  whole : All (λ b. length b ≡ 4096) new
+  whole = put.whole room.blocks_whole
+
+  inside : (b : ℕ) → Contains (owned e) b → b < length old
+  inside b has = (fs.within k b low has).1
+
+  inside_now : (b : ℕ) → Contains (owned cut) b → b < length new
+  inside_now b has = omega (arith, inside b (subst (λ (o : List ℕ). Contains o b) owns_same has), put.count)
+
+  content_is : take end (content_of old e) ≡ content_of new (entry inodes new k)
+  content_is =
+      ap (λ (n : ℕ). take n (content_of old e)) (sym sized)
+      ∙ content_front old new e cut room.blocks_whole inside whole inside_now (omega (arith, sized)) (λ i below.
+      ap (λ (n : ℕ). get_or new n []) (same_pointer i) ∙ data_same (pointer e i) (owns_pointer e i (omega (arith, counted))))
+      ∙ ap (λ (f : Entry). content_of new f) (sym here)
+
+  pub cuts_marks : SameMarks old new
+  cuts_marks = record { count = put.count; marks = inode_keeps_marks inodes k inode old new room.whole low put }
+
+  pub cuts : ReplacesContent inodes k (take end (content_of old e)) old new
+  cuts =
+      replaces inodes k inode (λ n. ⊥) old new room fs low file puts (λ l b below other owns none. none) file_now (take end (content_of old e)) whole
+      (rule_keeps inodes k inode (λ n. ⊥) old new room fs low file puts (λ l b below other owns none. none) file_now (ap owned here ∙ owns_same) cuts_marks)
+      content_is

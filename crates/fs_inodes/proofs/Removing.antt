@@ -1,0 +1,67 @@
+-- A file without octets goes.
+use Rattle.std.proofs.Common.{◌≡◌, inl, inr, ◌<◌, ℕ, ◌+◌, ◌/◌, cond, eqb, None, List, [], ◌∷◌, ◌++◌, length, map, set, replicate, refl, sym, ◌∙◌, ap, subst, arith}
+use Rattle.std.specs.List.{All, Contains, range_with_len}
+use Rattle.std.proofs.lemmas.List.Elements.{All-replicate}
+use Rattle.std.proofs.lemmas.Bool.{cases_eq}
+use Rattle.model.specs.Stream.{Octets}
+use Rattle.model.specs.Files.{Entry, HasRoom, IsFile, IsFree, size, block_count, pointer, owned, indirect_pointer, entry, IsFileSystem, table}
+use Rattle.fs_layout.specs.Blocks.{PutsRecord}
+use Rattle.fs_layout.specs.Table.{Makes}
+use Rattle.fs_layout.proofs.Entries.{free_owns}
+use Rattle.fs_layout.proofs.Tables.{file_at_free}
+use Rattle.fs_layout.proofs.Keeps.{PutsEntry, puts_inode, puts_slot, inode_keeps_marks, slot_keeps_marks}
+use Rattle.fs_inodes.proofs.Owners.{Reowns, names_left, reowned_makes}
+
+empty_owns : (e : Entry) → IsFile e → size e ≡ 0 → owned e ≡ []
+empty_owns e file empty = elim (cases_eq (indirect_pointer e) 0) [
+  | inl none ↦
+      ap (λ (n : ℕ). cond (eqb n 0) [] (n ∷ []) ++ map (λ i. pointer e i) (range_with_len 0 (block_count e))) none
+      ∙ ap (λ (n : ℕ). map (λ i. pointer e i) (range_with_len 0 ((n + 4095) / 4096))) empty
+  | inr some ↦ absurd (let more = file.indirect_where.1 some in omega arith)
+]
+
+zeros_all : All (λ (o : ℕ). o ≡ 0) (replicate 64 0)
+zeros_all = All-replicate (λ o. o ≡ 0) 64 0 refl
+
+module _ (inodes k : ℕ) (a b c : List Octets) (room : HasRoom inodes a) (fs : IsFileSystem inodes a) (low : k < inodes) (file : IsFile (entry inodes a k)) (empty : size (entry inodes a k) ≡ 0) (first : PutsRecord 2 k (replicate 64 0) a b) (second : PutsRecord (2 + inodes / 64) k (replicate 64 0) b c) where
+  puts : PutsEntry inodes k (replicate 64 0) (replicate 64 0) (λ n. ⊥) a c
+  puts =
+      let inode = puts_inode inodes k (replicate 64 0) a b room.whole low first in
+      let slot = puts_slot inodes k (replicate 64 0) b c room.whole low second in
+      record {
+        count = slot.count ∙ inode.count;
+        inode_is = slot.inode_is ∙ inode.inode_is;
+        slot_is = slot.slot_is;
+        inodes_other = λ l below other. slot.inodes_other l below other ∙ inode.inodes_other l below other;
+        slots_other = λ l below other. slot.slots_other l below other ∙ inode.slots_other l below other;
+        data_same = λ n high untouched. slot.data_same n high untouched ∙ inode.data_same n high untouched;
+      }
+
+  free : IsFree (entry inodes c k)
+  free = record {
+    inode_zeros = subst (λ (o : Octets). All (λ octet. octet ≡ 0) o) (sym puts.inode_is) zeros_all;
+    slot_zeros = subst (λ (o : Octets). All (λ octet. octet ≡ 0) o) (sym puts.slot_is) zeros_all;
+  }
+
+  none_before : (n : ℕ) → ¬ (Contains (owned (entry inodes a k)) n)
+  none_before n has = let none = subst (λ (o : List ℕ). Contains o n) (empty_owns (entry inodes a k) file empty) has in omega (arith, none.1)
+
+  none_now : (n : ℕ) → ¬ (Contains (owned (entry inodes c k)) n)
+  none_now n has = let none = subst (λ (o : List ℕ). Contains o n) (free_owns (entry inodes c k) free) has in omega (arith, none.1)
+
+  owns : Reowns inodes k (λ n. ⊥) a c
+  owns = record {
+    here = inl free;
+    untouched = λ l n below other has nothing. nothing;
+    distinct = λ i j less inside. absurd (let none = ap (λ (o : List ℕ). length o) (free_owns (entry inodes c k) free) in omega arith);
+    within = λ n has. absurd (none_now n has);
+    source = λ n has. absurd (none_now n has);
+    taken = λ n has. absurd (none_now n has);
+    left = λ n small had lacks. absurd (none_before n had);
+    same = λ n small had has. slot_keeps_marks inodes k (replicate 64 0) b c room.whole low second n small ∙ inode_keeps_marks inodes k (replicate 64 0) a b room.whole low first n small;
+  }
+
+  pub removes : Makes inodes (set (table inodes a) k None) c
+  removes =
+      reowned_makes inodes k (replicate 64 0) (replicate 64 0) (λ n. ⊥) a c low fs puts owns room (second.whole (first.whole room.blocks_whole))
+      (names_left inodes k (replicate 64 0) (replicate 64 0) (λ n. ⊥) a c low fs puts owns free) None (file_at_free inodes c k free)

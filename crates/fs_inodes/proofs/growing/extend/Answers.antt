@@ -1,0 +1,67 @@
+use Rattle.std.proofs.Common.{◌≡◌, ℕ, ◌+◌, ◌-◌, ◌≤◌, List, ◌++◌, length, take, drop, refl, sym, ◌∙◌, ap, subst, arith, length-drop, length-take-le}
+use Rattle.std.proofs.Math.Seq.{take-add}
+use Rattle.fs_inodes.specs.Growing.{GrowsBy}
+use Rattle.fs_inodes.proofs.Grown.{grows_none, grows_then, file_now, size_now, room_now}
+use Rattle.fs_inodes.proofs.growing.extend.Goals as goal
+
+-- a piece of the octets
+length_piece : (from some : ℕ) (octets : List ℕ) → from + some ≤ length octets → length (take (from + some - from) (drop from octets)) ≡ some
+length_piece from some octets fits =
+    let width : from + some - from ≡ some = omega arith in
+    ap (λ (n : ℕ). length (take n (drop from octets))) width ∙ length-take-le some (drop from octets) (omega (arith, length-drop from octets))
+
+piece_more : (from some : ℕ) (octets : List ℕ) → take from octets ++ take (from + some - from) (drop from octets) ≡ take (from + some) octets
+piece_more from some octets =
+    let width : from + some - from ≡ some = omega arith in
+    ap (λ (n : ℕ). take from octets ++ take n (drop from octets)) width ∙ sym (take-add from some octets)
+
+pub loop-from-init : goal.loop-from-init
+loop-from-init g c = record {
+  here = record {
+    within = omega arith;
+    grown = grows_none c.args.inodes c.args.at (g.B.Blocks.blocks c.args.blocks.now) c.requires.room c.requires.rule c.requires.below c.requires.file;
+  };
+  kept = refl;
+}
+
+pub add_piece-requires-clause-file : goal.add_piece-requires-clause-file
+add_piece-requires-clause-file g c =
+    file_now c.args.inodes c.args.at (g.B.Blocks.blocks c.args.blocks.now) c.requires.room c.requires.rule c.requires.below c.requires.file
+    (take c.loop-from.from c.args.octets.now) (g.B.Blocks.blocks c.loop-from.blocks) c.loop-from.invariant.here.grown
+
+pub add_piece-requires-clause-within : goal.add_piece-requires-clause-within
+add_piece-requires-clause-within g c =
+    let from = c.loop-from.from in
+    let long = length-take-le from c.args.octets.now c.loop-from.invariant.here.within in
+    let now =
+    size_now c.args.inodes c.args.at (g.B.Blocks.blocks c.args.blocks.now) c.requires.room c.requires.rule c.requires.below c.requires.file
+    (take from c.args.octets.now) (g.B.Blocks.blocks c.loop-from.blocks) c.loop-from.invariant.here.grown in
+    let piece = length_piece from c.min-some.result c.args.octets.now (omega (arith, c.loop-from.invariant.here.within)) in
+    omega (arith, long, now, piece, c.size_of-size.ensures)
+
+pub add_piece-requires-clause-enough : goal.add_piece-requires-clause-enough
+add_piece-requires-clause-enough g c =
+    let from = c.loop-from.from in
+    let long = length-take-le from c.args.octets.now c.loop-from.invariant.here.within in
+    let some = length (take (from + c.min-some.result - from) (drop from c.args.octets.now)) in
+    let piece = length_piece from c.min-some.result c.args.octets.now (omega (arith, c.loop-from.invariant.here.within)) in
+    room_now c.args.inodes c.args.at (g.B.Blocks.blocks c.args.blocks.now) c.requires.room c.requires.rule c.requires.below c.requires.file
+    (take from c.args.octets.now) (g.B.Blocks.blocks c.loop-from.blocks) c.loop-from.invariant.here.grown some (length c.args.octets.now)
+    (omega (arith, long, piece, c.loop-from.invariant.here.within)) c.requires.enough
+
+pub loop-from-preserved : goal.loop-from-preserved
+loop-from-preserved g c =
+    let from = c.loop-from.from in
+    let some = c.min-some.result in
+    let octets = c.args.octets.now in
+    let old = g.B.Blocks.blocks c.args.blocks.now in
+    let new = g.B.Blocks.blocks c.add_piece.new.blocks in
+    record {
+      here = record {
+        within = omega (arith, c.loop-from.invariant.here.within);
+        grown =
+            subst (λ (l : List ℕ). GrowsBy c.args.inodes c.args.at l old new) (piece_more from some octets)
+            (grows_then c.args.inodes c.args.at (take from octets) (take (from + some - from) (drop from octets)) old (g.B.Blocks.blocks c.loop-from.blocks) new c.loop-from.invariant.here.grown c.in_ok-add_piece.ensures.grown c.requires.room.count_few);
+      };
+      kept = c.in_ok-add_piece.ensures.kept ∙ c.loop-from.invariant.kept;
+    }

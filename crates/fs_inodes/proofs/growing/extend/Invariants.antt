@@ -1,0 +1,17 @@
+use Rattle.std.proofs.Common.{◌≡◌, ◌-◌, ◌≤◌, ℕ, length, take, List}
+use Rattle.fs_inodes.specs.Growing.{GrowsBy}
+use Rattle.fs_inodes.proofs.growing.extend.Given as goal
+
+pub record Grown (inodes k from : ℕ) (octets : List ℕ) (old new : List (List ℕ)) : Type 0 where
+  pub within : from ≤ length octets
+  pub grown : GrowsBy inodes k (take from octets) old new
+
+abbrev pub invariant-loop-from : goal.invariant-loop-from
+invariant-loop-from g l =
+    record {
+      here : Grown l.inodes l.at l.from l.octets (g.B.Blocks.blocks l.fn.blocks) (g.B.Blocks.blocks l.blocks);
+      kept : g.B.Blocks.applied l.blocks ≡ g.B.Blocks.applied l.fn.blocks;
+    }
+
+abbrev pub decreases-loop-from : goal.decreases-loop-from
+decreases-loop-from g l = length l.octets - l.from

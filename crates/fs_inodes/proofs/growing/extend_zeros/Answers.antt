@@ -1,0 +1,65 @@
+use Rattle.std.proofs.Common.{◌≡◌, ℕ, ◌+◌, ◌%◌, ◌≤◌, List, length, take, replicate, refl, sym, ◌∙◌, subst, arith}
+use Rattle.std.proofs.lemmas.List.{length-replicate, take-replicate, replicate-append-replicate}
+use Rattle.model.specs.Files.{entry, size}
+use Rattle.fs_inodes.specs.Growing.{GrowsBy, HasRoomFor}
+use Rattle.fs_inodes.proofs.Grown.{grows_none, grows_then, file_now, size_now, room_now}
+use Rattle.fs_inodes.proofs.growing.extend_zeros.Goals as goal
+
+-- a front of a block of zeros
+front_is : (some : ℕ) → some ≤ 4096 → take some (replicate 4096 0) ≡ replicate {A = ℕ} some 0
+front_is some few = take-replicate {X = ℕ} some 4096 0 few
+
+pub loop-from-init : goal.loop-from-init
+loop-from-init g c = record {
+  here = record {
+    within = omega arith;
+    grown = grows_none c.args.inodes c.args.at (g.B.Blocks.blocks c.args.blocks.now) c.requires.room c.requires.rule c.requires.below c.requires.file;
+  };
+  kept = refl;
+}
+
+pub add_piece-requires-clause-file : goal.add_piece-requires-clause-file
+add_piece-requires-clause-file g c =
+    file_now c.args.inodes c.args.at (g.B.Blocks.blocks c.args.blocks.now) c.requires.room c.requires.rule c.requires.below c.requires.file
+    (replicate c.loop-from.from 0) (g.B.Blocks.blocks c.loop-from.blocks) c.loop-from.invariant.here.grown
+
+pub add_piece-requires-clause-within : goal.add_piece-requires-clause-within
+add_piece-requires-clause-within g c =
+    let from = c.loop-from.from in
+    let some = c.min-some.result in
+    let now =
+    size_now c.args.inodes c.args.at (g.B.Blocks.blocks c.args.blocks.now) c.requires.room c.requires.rule c.requires.below c.requires.file
+    (replicate from 0) (g.B.Blocks.blocks c.loop-from.blocks) c.loop-from.invariant.here.grown in
+    let long = length-replicate {A = ℕ} from 0 in
+    let e_size = size (entry c.args.inodes (g.B.Blocks.blocks c.loop-from.blocks) c.args.at) in
+    subst (λ (l : List ℕ). e_size % 4096 + length l ≤ 4096) (sym (front_is some (omega arith))) (omega (arith, length-replicate {A = ℕ} some 0, now, long, c.size_of-size.ensures))
+
+pub add_piece-requires-clause-enough : goal.add_piece-requires-clause-enough
+add_piece-requires-clause-enough g c =
+    let from = c.loop-from.from in
+    let some = c.min-some.result in
+    let blocks = g.B.Blocks.blocks c.loop-from.blocks in
+    let e_size = size (entry c.args.inodes (g.B.Blocks.blocks c.loop-from.blocks) c.args.at) in
+    subst (λ (l : List ℕ). HasRoomFor blocks e_size (e_size + length l)) (sym (front_is some (omega arith)))
+    (room_now c.args.inodes c.args.at (g.B.Blocks.blocks c.args.blocks.now) c.requires.room c.requires.rule c.requires.below c.requires.file
+    (replicate from 0) blocks c.loop-from.invariant.here.grown (length (replicate {A = ℕ} some 0)) c.args.count
+    (omega (arith, length-replicate {A = ℕ} from 0, length-replicate {A = ℕ} some 0, c.loop-from.invariant.here.within)) c.requires.enough)
+
+pub loop-from-preserved : goal.loop-from-preserved
+loop-from-preserved g c =
+    let from = c.loop-from.from in
+    let some = c.min-some.result in
+    let old = g.B.Blocks.blocks c.args.blocks.now in
+    let mid = g.B.Blocks.blocks c.loop-from.blocks in
+    let new = g.B.Blocks.blocks c.add_piece.new.blocks in
+    let grown : GrowsBy c.args.inodes c.args.at (take some (replicate 4096 0)) mid new = c.in_ok-add_piece.ensures.grown in
+    record {
+      here = record {
+        within = omega (arith, c.loop-from.invariant.here.within);
+        grown =
+            subst (λ (l : List ℕ). GrowsBy c.args.inodes c.args.at l old new) (replicate-append-replicate {A = ℕ} from some 0)
+            (grows_then c.args.inodes c.args.at (replicate from 0) (replicate some 0) old mid new c.loop-from.invariant.here.grown
+            (subst (λ (l : List ℕ). GrowsBy c.args.inodes c.args.at l mid new) (front_is some (omega arith)) grown) c.requires.room.count_few);
+      };
+      kept = c.in_ok-add_piece.ensures.kept ∙ c.loop-from.invariant.kept;
+    }

@@ -1,0 +1,3 @@
+pub mod Changes
+pub mod Growing
+pub use Rattle.fs_layout.specs.Table

@@ -1,0 +1,153 @@
+//! Files that grow.
+
+ghost use Rattle.std.specs.Prelude.{◌≡◌, ◌≢◌, ℕ, ◌+◌, ◌%◌, ◌<◌, ◌≤◌, length, replicate, true, false, IfOk, OnOk};
+ghost use Rattle.model.specs.Volume.{number_at};
+ghost use Rattle.model.specs.Files.{HasRoom, IsFileSystem, IsFile, entry, size, is_marked_used, free_blocks};
+ghost use Rattle.fs_inodes.specs.Growing.{PutsPointer, AddsBlock, taken_with, GrowsBy, HasRoomFor};
+
+use fs_layout::inodes::{
+    DIRECT_POINTERS, INDIRECT_AT, INODES_AT, POINTERS_AT, SIZE_AT, pointer_at, size_of,
+};
+use fs_layout::marks::take_block;
+use fs_layout::numbers::{number32, number64, put32, put64};
+use fs_layout::records::{RECORD_SIZE, get_record, put_part, put_record};
+use std::alloc::AllocError;
+use volume::{BLOCK_SIZE, Blocks};
+
+// Puts the number of a file's i-th block into its inode, or into its indirect block.
+fn put_pointer<B: Blocks>(
+    blocks: &mut B,
+    inode: &mut [u8],
+    i: u32,
+    number: u32,
+) -> Result<(), AllocError>
+    requires whole { length inode.old ≡ 64 }
+    requires few { i < 1034 }
+    requires indirect { 10 ≤ i → (2 ≤ number_at 52 4 inode.old) × (number_at 52 4 inode.old < length (B.blocks blocks.old)) }
+    ensures done { OnOk result (PutsPointer i number inode.old inode.new (B.blocks blocks.old) (B.blocks blocks.new)) }
+    ensures kept { B.applied blocks.new ≡ B.applied blocks.old }
+{
+    if i < DIRECT_POINTERS {
+        put32(inode, POINTERS_AT + 4 * i as usize, number);
+        return Ok(());
+    }
+    let indirect = number32(inode, INDIRECT_AT);
+    let mut pointers = [0; BLOCK_SIZE];
+    blocks.get(indirect, &mut pointers);
+    put32(&mut pointers, 4 * (i - DIRECT_POINTERS) as usize, number);
+    blocks.put(indirect, &pointers)
+}
+
+// Gives a file its i-th block, and with the first that does not fit into its inode an indirect block.
+fn add_block<B: Blocks>(blocks: &mut B, inode: &mut [u8], i: u32) -> Result<u32, AllocError>
+    requires whole { length inode.old ≡ 64 }
+    requires few { i < 1034 }
+    requires some { 2 ≤ length (B.blocks blocks.old) }
+    requires count_few { length (B.blocks blocks.old) ≤ 65536 }
+    requires reserved { (b : ℕ) → b < 2 → is_marked_used (B.blocks blocks.old) b ≡ true }
+    requires no_indirect { i ≤ 10 → number_at 52 4 inode.old ≡ 0 }
+    requires indirect { 10 < i → (2 ≤ number_at 52 4 inode.old) × (number_at 52 4 inode.old < length (B.blocks blocks.old)) }
+    requires free { taken_with i ≤ free_blocks (B.blocks blocks.old) }
+    ensures done { IfOk result (λ number. AddsBlock i number inode.old inode.new (B.blocks blocks.old) (B.blocks blocks.new)) }
+    ensures kept { B.applied blocks.new ≡ B.applied blocks.old }
+{
+    let number = take_block(blocks)?;
+    if i == DIRECT_POINTERS {
+        let indirect = take_block(blocks)?;
+        blocks.put(indirect, &[0; BLOCK_SIZE])?;
+        put32(inode, INDIRECT_AT, indirect);
+    }
+    put_pointer(blocks, inode, i, number)?;
+    Ok(number)
+}
+
+// Puts octets behind those of a file, all of them in its last block or all in a new one.
+fn add_piece<B: Blocks>(
+    blocks: &mut B,
+    inodes: u32,
+    at: u32,
+    piece: &[u8],
+) -> Result<(), AllocError>
+    requires room { HasRoom inodes (B.blocks blocks.old) }
+    requires rule { IsFileSystem inodes (B.blocks blocks.old) }
+    requires below { at < inodes }
+    requires file { IsFile (entry inodes (B.blocks blocks.old) at) }
+    requires some { 0 < length piece.now }
+    requires within { size (entry inodes (B.blocks blocks.old) at) % 4096 + length piece.now ≤ 4096 }
+    requires enough { HasRoomFor (B.blocks blocks.old) (size (entry inodes (B.blocks blocks.old) at))
+        (size (entry inodes (B.blocks blocks.old) at) + length piece.now) }
+    ensures grown { OnOk result (GrowsBy inodes at piece.now (B.blocks blocks.old) (B.blocks blocks.new)) }
+    ensures kept { B.applied blocks.new ≡ B.applied blocks.old }
+{
+    let mut inode = [0; RECORD_SIZE];
+    get_record(blocks, INODES_AT, at, &mut inode);
+    let size = number64(&inode, SIZE_AT);
+    let i = (size / BLOCK_SIZE as u64) as u32;
+    let within = (size % BLOCK_SIZE as u64) as usize;
+    let mut block = [0; BLOCK_SIZE];
+    let number = if within == 0 {
+        add_block(blocks, &mut inode, i)?
+    } else {
+        let last = pointer_at(blocks, &inode, i);
+        blocks.get(last, &mut block);
+        last
+    };
+    put_part(&mut block, within, piece);
+    blocks.put(number, &block)?;
+    put64(&mut inode, SIZE_AT, size + piece.len() as u64);
+    put_record(blocks, INODES_AT, at, &inode)
+}
+
+/// Puts octets behind those of the file of an inode, for which there is room.
+pub fn extend<B: Blocks>(
+    blocks: &mut B,
+    inodes: u32,
+    at: u32,
+    octets: &[u8],
+) -> Result<(), AllocError>
+    requires room { HasRoom inodes (B.blocks blocks.old) }
+    requires rule { IsFileSystem inodes (B.blocks blocks.old) }
+    requires below { at < inodes }
+    requires file { IsFile (entry inodes (B.blocks blocks.old) at) }
+    requires enough { HasRoomFor (B.blocks blocks.old) (size (entry inodes (B.blocks blocks.old) at))
+        (size (entry inodes (B.blocks blocks.old) at) + length octets.now) }
+    ensures grown { OnOk result (GrowsBy inodes at octets.now (B.blocks blocks.old) (B.blocks blocks.new)) }
+    ensures kept { B.applied blocks.new ≡ B.applied blocks.old }
+{
+    let size = size_of(blocks, inodes, at) as usize;
+    let mut from = 0;
+    while from < octets.len() {
+        let some = (BLOCK_SIZE - (size + from) % BLOCK_SIZE).min(octets.len() - from);
+        add_piece(blocks, inodes, at, &octets[from..from + some])?;
+        from += some;
+    }
+    Ok(())
+}
+
+/// Puts so many zeros behind the octets of the file of an inode, for which there is room.
+pub fn extend_zeros<B: Blocks>(
+    blocks: &mut B,
+    inodes: u32,
+    at: u32,
+    count: u64,
+) -> Result<(), AllocError>
+    requires room { HasRoom inodes (B.blocks blocks.old) }
+    requires rule { IsFileSystem inodes (B.blocks blocks.old) }
+    requires below { at < inodes }
+    requires file { IsFile (entry inodes (B.blocks blocks.old) at) }
+    requires enough { HasRoomFor (B.blocks blocks.old) (size (entry inodes (B.blocks blocks.old) at))
+        (size (entry inodes (B.blocks blocks.old) at) + count) }
+    ensures grown { OnOk result (GrowsBy inodes at (replicate count 0) (B.blocks blocks.old) (B.blocks blocks.new)) }
+    ensures kept { B.applied blocks.new ≡ B.applied blocks.old }
+{
+    let zeros = [0; BLOCK_SIZE];
+    let size = size_of(blocks, inodes, at);
+    let mut from = 0;
+    while from < count {
+        let free = BLOCK_SIZE - ((size + from) % BLOCK_SIZE as u64) as usize;
+        let some = free.min((count - from) as usize);
+        add_piece(blocks, inodes, at, &zeros[..some])?;
+        from += some as u64;
+    }
+    Ok(())
+}

@@ -1,0 +1,14 @@
+//! The octets of files, by inode: read, replaced, added behind the last, and cut off.
+#![tactic(auto)]
+
+mod growing;
+mod reading;
+mod room;
+mod shrinking;
+mod writing;
+
+pub use growing::{extend, extend_zeros};
+pub use reading::read_entry;
+pub use room::has_room_for;
+pub use shrinking::{remove_empty, shrink_to};
+pub use writing::overwrite;

@@ -1,0 +1,71 @@
+//! Octets over those of a file.
+
+ghost use Rattle.std.specs.Prelude.{◌≡◌, ◌+◌, ◌%◌, ◌<◌, ◌≤◌, length, OnOk};
+ghost use Rattle.disk.specs.Image.{overwritten};
+ghost use Rattle.model.specs.Files.{HasRoom, IsFileSystem, IsFile, entry, size, content_of};
+ghost use Rattle.fs_inodes.specs.Changes.{ReplacesContent, SameMarks};
+
+use fs_layout::inodes::{INODES_AT, pointer_at};
+use fs_layout::records::{RECORD_SIZE, get_record, put_part};
+use std::alloc::AllocError;
+use volume::{BLOCK_SIZE, Blocks};
+
+/// Overwrites octets of the file of an inode, from a place on and within its size.
+pub fn overwrite<B: Blocks>(
+    blocks: &mut B,
+    inodes: u32,
+    at: u32,
+    place: u64,
+    octets: &[u8],
+) -> Result<(), AllocError>
+    requires room { HasRoom inodes (B.blocks blocks.old) }
+    requires rule { IsFileSystem inodes (B.blocks blocks.old) }
+    requires below { at < inodes }
+    requires file { IsFile (entry inodes (B.blocks blocks.old) at) }
+    requires fits { place + length octets.now ≤ size (entry inodes (B.blocks blocks.old) at) }
+    ensures done { OnOk result (ReplacesContent inodes at
+        (overwritten place octets.now (content_of (B.blocks blocks.old) (entry inodes (B.blocks blocks.old) at)))
+        (B.blocks blocks.old) (B.blocks blocks.new)) }
+    ensures marks { OnOk result (SameMarks (B.blocks blocks.old) (B.blocks blocks.new)) }
+    ensures kept { B.applied blocks.new ≡ B.applied blocks.old }
+{
+    let mut done = 0;
+    while done < octets.len() {
+        let from = place + done as u64;
+        let room = BLOCK_SIZE - (from % BLOCK_SIZE as u64) as usize;
+        let some = room.min(octets.len() - done);
+        overwrite_part(blocks, inodes, at, from, &octets[done..done + some])?;
+        done += some;
+    }
+    Ok(())
+}
+
+// Overwrites octets that lie in one block of the file of an inode.
+fn overwrite_part<B: Blocks>(
+    blocks: &mut B,
+    inodes: u32,
+    at: u32,
+    place: u64,
+    octets: &[u8],
+) -> Result<(), AllocError>
+    requires room { HasRoom inodes (B.blocks blocks.old) }
+    requires rule { IsFileSystem inodes (B.blocks blocks.old) }
+    requires below { at < inodes }
+    requires file { IsFile (entry inodes (B.blocks blocks.old) at) }
+    requires some { 0 < length octets.now }
+    requires fits { place + length octets.now ≤ size (entry inodes (B.blocks blocks.old) at) }
+    requires one_block { place % 4096 + length octets.now ≤ 4096 }
+    ensures done { OnOk result (ReplacesContent inodes at
+        (overwritten place octets.now (content_of (B.blocks blocks.old) (entry inodes (B.blocks blocks.old) at)))
+        (B.blocks blocks.old) (B.blocks blocks.new)) }
+    ensures marks { OnOk result (SameMarks (B.blocks blocks.old) (B.blocks blocks.new)) }
+    ensures kept { B.applied blocks.new ≡ B.applied blocks.old }
+{
+    let mut inode = [0; RECORD_SIZE];
+    get_record(blocks, INODES_AT, at, &mut inode);
+    let number = pointer_at(blocks, &inode, (place / BLOCK_SIZE as u64) as u32);
+    let mut block = [0; BLOCK_SIZE];
+    blocks.get(number, &mut block);
+    put_part(&mut block, (place % BLOCK_SIZE as u64) as usize, octets);
+    blocks.put(number, &block)
+}

@@ -1,0 +1,136 @@
+-- What a change of one entry keeps.
+use Rattle.std.proofs.Common.{◌≡◌, ◌≢◌, ◌⊎◌, ◌↔◌, inl, inr, ◌<◌, ◌≤◌, ℕ, ◌+◌, ◌*◌, ◌/◌, ◌%◌, ◌^◌, cond, eqb, Bool, IsTrue, Some, None, List, [], length, get_or, take, refl, sym, ◌∙◌, ap, subst, arith}
+use Rattle.std.specs.List.{All, Contains}
+use Rattle.std.proofs.lemmas.Bool.{cases_eq, eq-eqb}
+use Rattle.disk.specs.Image.{part}
+use Rattle.model.specs.Stream.{Octets}
+use Rattle.model.specs.Volume.{number_at, AreDistinct}
+use Rattle.model.specs.Files.{Entry, HasRoom, IsFile, IsFree, kind, size, block_count, pointer, owned, name_in, content_of, entry, inode_of, slot_of, indirect_of, first_data, is_marked_used, IsUsed, IsFileSystem, file_at}
+use Rattle.fs_layout.specs.Blocks.{PutsRecord, record_at}
+use Rattle.fs_layout.proofs.Entries.{owns_pointer, owns_indirect, flat_map_same}
+
+-- no inode or slot changes but those of inode k, and no block changes but these
+pub record PutsEntry (inodes k : ℕ) (inode slot : Octets) (touched : ℕ → Type 0) (old new : List Octets) : Type 0 where
+  pub count : length new ≡ length old
+  pub inode_is : inode_of new k ≡ inode
+  pub slot_is : slot_of inodes new k ≡ slot
+  pub inodes_other : (l : ℕ) → l < inodes → l ≢ k → inode_of new l ≡ inode_of old l
+  pub slots_other : (l : ℕ) → l < inodes → l ≢ k → slot_of inodes new l ≡ slot_of inodes old l
+  pub data_same : (n : ℕ) → first_data inodes ≤ n → ¬ (touched n) → get_or new n [] ≡ get_or old n []
+
+-- a record in another block is the same
+elsewhere : (first k n : ℕ) (old new : List Octets) → get_or new n [] ≡ get_or old n [] → first + k / 64 ≡ n → record_at first new k ≡ record_at first old k
+elsewhere first k n old new same is =
+    ap (λ (b : Octets). part (k % 64 * 64) 64 b) (ap (λ (m : ℕ). get_or new m []) is ∙ same ∙ ap (λ (m : ℕ). get_or old m []) (sym is))
+
+pub marks_same : (old new : List Octets) → get_or new 0 [] ≡ get_or old 0 [] → get_or new 1 [] ≡ get_or old 1 [] → (b : ℕ) → b < 65536 → is_marked_used new b ≡ is_marked_used old b
+marks_same old new zeroth first b small =
+    ap (λ (bits : Octets). eqb (get_or bits (b / 8 % 4096) 0 / 2 ^ (b % 8) % 2) 1) (elim (cases_eq (b / 8 / 4096) 0) [
+      | inl is ↦ ap (λ (m : ℕ). get_or new m []) is ∙ zeroth ∙ ap (λ (m : ℕ). get_or old m []) (sym is)
+      | inr other ↦
+          let is : b / 8 / 4096 ≡ 1 = omega arith in
+          ap (λ (m : ℕ). get_or new m []) is ∙ first ∙ ap (λ (m : ℕ). get_or old m []) (sym is)
+    ])
+
+module _ (inodes k : ℕ) (inode : Octets) (old new : List Octets) (whole : inodes % 64 ≡ 0) (low : k < inodes) (put : PutsRecord 2 k inode old new) where
+  -- the inode alone
+  pub puts_inode : PutsEntry inodes k inode (slot_of inodes old k) (λ n. ⊥) old new
+  puts_inode = record {
+    count = put.count;
+    inode_is = put.here;
+    slot_is = elsewhere (2 + inodes / 64) k (2 + inodes / 64 + k / 64) old new (put.blocks (2 + inodes / 64 + k / 64) (omega arith)) refl;
+    inodes_other = λ l below other. put.other l other;
+    slots_other = λ l below other. elsewhere (2 + inodes / 64) l (2 + inodes / 64 + l / 64) old new (put.blocks (2 + inodes / 64 + l / 64) (omega arith)) refl;
+    data_same = λ n high untouched. put.blocks n (omega arith);
+  }
+
+  pub inode_keeps_marks : (b : ℕ) → b < 65536 → is_marked_used new b ≡ is_marked_used old b
+  inode_keeps_marks = marks_same old new (put.blocks 0 (omega arith)) (put.blocks 1 (omega arith))
+
+module _ (inodes k : ℕ) (slot : Octets) (old new : List Octets) (whole : inodes % 64 ≡ 0) (low : k < inodes) (put : PutsRecord (2 + inodes / 64) k slot old new) where
+  -- the slot alone
+  pub puts_slot : PutsEntry inodes k (inode_of old k) slot (λ n. ⊥) old new
+  puts_slot = record {
+    count = put.count;
+    inode_is = elsewhere 2 k (2 + k / 64) old new (put.blocks (2 + k / 64) (omega arith)) refl;
+    slot_is = put.here;
+    inodes_other = λ l below other. elsewhere 2 l (2 + l / 64) old new (put.blocks (2 + l / 64) (omega arith)) refl;
+    slots_other = λ l below other. put.other l other;
+    data_same = λ n high untouched. put.blocks n (omega arith);
+  }
+
+  pub slot_keeps_marks : (b : ℕ) → b < 65536 → is_marked_used new b ≡ is_marked_used old b
+  slot_keeps_marks = marks_same old new (put.blocks 0 (omega arith)) (put.blocks 1 (omega arith))
+
+-- one change after the other
+pub puts_then : (inodes k : ℕ) (inode inode' slot slot' : Octets) (a b c : List Octets) → PutsEntry inodes k inode slot (λ n. ⊥) a b → PutsEntry inodes k inode' slot' (λ n. ⊥) b c → PutsEntry inodes k inode' slot' (λ n. ⊥) a c
+puts_then inodes k inode inode' slot slot' a b c first second = record {
+  count = second.count ∙ first.count;
+  inode_is = second.inode_is;
+  slot_is = second.slot_is;
+  inodes_other = λ l below other. second.inodes_other l below other ∙ first.inodes_other l below other;
+  slots_other = λ l below other. second.slots_other l below other ∙ first.slots_other l below other;
+  data_same = λ n high untouched. second.data_same n high untouched ∙ first.data_same n high untouched;
+}
+
+-- ---- what else stays
+
+pub same_entry : (i i' s s' d d' : Octets) → i ≡ i' → s ≡ s' → d ≡ d' → ◌≡◌ {A = Entry} (record { inode = i; slot = s; indirect = d }) (record { inode = i'; slot = s'; indirect = d' })
+same_entry i i' s s' d d' is ss ds =
+    ap (λ (o : Octets). record { inode = o; slot = s; indirect = d }) is
+    ∙ ap (λ (o : Octets). record { inode = i'; slot = o; indirect = d }) ss
+    ∙ ap (λ (o : Octets). record { inode = i'; slot = s'; indirect = o }) ds
+
+module _ (inodes k : ℕ) (inode slot : Octets) (touched : ℕ → Type 0) (old new : List Octets) (puts : PutsEntry inodes k inode slot touched old new) (fs : IsFileSystem inodes old) (untouched : (l b : ℕ) → l < inodes → l ≢ k → Contains (owned (entry inodes old l)) b → ¬ (touched b)) where
+  pub entry_other : (l : ℕ) → l < inodes → l ≢ k → entry inodes new l ≡ entry inodes old l
+  entry_other l below other =
+      same_entry (inode_of new l) (inode_of old l) (slot_of inodes new l) (slot_of inodes old l)
+      (indirect_of new (number_at 52 4 (inode_of new l))) (indirect_of old (number_at 52 4 (inode_of old l)))
+      (puts.inodes_other l below other) (puts.slots_other l below other)
+      (ap (λ (o : Octets). indirect_of new (number_at 52 4 o)) (puts.inodes_other l below other) ∙ indirect_same)
+    where
+      n : ℕ
+      n = number_at 52 4 (inode_of old l)
+
+      indirect_same : indirect_of new (number_at 52 4 (inode_of old l)) ≡ indirect_of old (number_at 52 4 (inode_of old l))
+      indirect_same = elim (cases_eq (number_at 52 4 (inode_of old l)) 0) [
+        | inl none ↦ ap (λ (b : Bool). cond b [] (get_or new (number_at 52 4 (inode_of old l)) [])) (eq-eqb (number_at 52 4 (inode_of old l)) 0 none) ∙ sym (ap (λ (b : Bool). cond b [] (get_or old (number_at 52 4 (inode_of old l)) [])) (eq-eqb (number_at 52 4 (inode_of old l)) 0 none))
+        | inr some ↦
+            let owns = owns_indirect (entry inodes old l) some in
+            ap (λ (o : Octets). cond (eqb (number_at 52 4 (inode_of old l)) 0) [] o) (puts.data_same (number_at 52 4 (inode_of old l)) ((fs.within l (number_at 52 4 (inode_of old l)) below owns).0) (untouched l (number_at 52 4 (inode_of old l)) below other owns))
+      ]
+
+  pub file_other : (l : ℕ) → l < inodes → l ≢ k → file_at inodes new l ≡ file_at inodes old l
+  file_other l below other =
+      ap (λ (e : Entry). cond (eqb (kind e) 0) None (Some (record { name = name_in e.slot; content = content_of new e }))) (entry_other l below other)
+      ∙ ap (λ (c : Octets). cond (eqb (kind (entry inodes old l)) 0) None (Some (record { name = name_in (slot_of inodes old l); content = take (size (entry inodes old l)) c })))
+      (flat_map_same (λ i. get_or new (pointer (entry inodes old l) i) []) (λ i. get_or old (pointer (entry inodes old l) i) []) 0 (block_count (entry inodes old l)) (λ i from to.
+      let owns = owns_pointer (entry inodes old l) i (omega arith) in
+      puts.data_same (pointer (entry inodes old l) i) ((fs.within l (pointer (entry inodes old l) i) below owns).0) (untouched l (pointer (entry inodes old l) i) below other owns)))
+
+-- blocks with the same owners and marks
+pub keeps_rule : (inodes : ℕ) (old new : List Octets) → IsFileSystem inodes old → length new ≡ length old → ((k : ℕ) → k < inodes → IsFree (entry inodes new k) ⊎ IsFile (entry inodes new k)) → ((k : ℕ) → k < inodes → owned (entry inodes new k) ≡ owned (entry inodes old k)) → ((b : ℕ) → b < 65536 → is_marked_used new b ≡ is_marked_used old b) → ((k l : ℕ) → k < inodes → l < inodes → IsFile (entry inodes new k) → IsFile (entry inodes new l) → name_in (slot_of inodes new k) ≡ name_in (slot_of inodes new l) → k ≡ l) → IsFileSystem inodes new
+keeps_rule inodes old new fs count each owners marks names = record {
+  each = each;
+  within = λ k b low owns. let was = fs.within k b low (to_old k b low owns) in (was.0, omega (arith, was.1));
+  distinct = λ k low. subst AreDistinct (sym (owners k low)) (fs.distinct k low);
+  one_owner = λ k l b low below first second. fs.one_owner k l b low below (to_old k b low first) (to_old l b below second);
+  bits = λ b small. subst (λ (m : Bool). IsTrue m ↔ IsUsed inodes new b) (sym (marks b small)) (
+    (λ marked. elim ((fs.bits b small).0 marked) [ inl reserved ↦ inl reserved | inr owner ↦ inr (owner.0, owner.1, subst (λ (o : List ℕ). Contains o b) (sym (owners owner.0 owner.1)) owner.2) ]),
+    (λ used. (fs.bits b small).1 (elim used [ inl reserved ↦ inl reserved | inr owner ↦ inr (owner.0, owner.1, to_old owner.0 b owner.1 owner.2) ])),
+  );
+  names_distinct = names;
+}
+  where
+    to_old : (k b : ℕ) → k < inodes → Contains (owned (entry inodes new k)) b → Contains (owned (entry inodes old k)) b
+    to_old k b low owns = subst (λ (o : List ℕ). Contains o b) (owners k low) owns
+
+pub keeps_room : (inodes : ℕ) (old new : List Octets) → HasRoom inodes old → length new ≡ length old → All (λ b. length b ≡ 4096) new → HasRoom inodes new
+keeps_room inodes old new room count whole = record {
+  some = room.some;
+  few = room.few;
+  whole = room.whole;
+  room = omega (arith, room.room);
+  count_few = omega (arith, room.count_few);
+  blocks_whole = whole;
+}

@@ -1,0 +1,21 @@
+use Rattle.std.proofs.Common.{◌≡◌, ℕ, ◌<◌, ◌-◌, true, ap, subst, arith}
+use Rattle.model.specs.Files.{is_marked_used}
+use Rattle.fs_layout.specs.Marks.{IsLowestClear}
+use Rattle.fs_layout.proofs.Marking.{first_full, lowest_in_second, second_full}
+use Rattle.fs_layout.proofs.marks.lowest_free.Goals as goal
+
+pub returns-in_default-lowest_clear : goal.returns-in_default-lowest_clear
+returns-in_default-lowest_clear g c =
+    let blocks = g.B.Blocks.blocks c.args.blocks.now in
+    let before : (b : ℕ) → b < 32768 → is_marked_used blocks b ≡ true =
+    λ b low. first_full blocks c.get.new.into c.min.result c.get.ensures (omega arith) c.in_default.ensures b (omega arith) in
+    second_full blocks c.get-2.new.into c.get-2.ensures c.requires.few before (λ b low. c.in_default-lowest_clear.ensures b (omega arith))
+
+pub returns : goal.returns
+returns g c =
+    let blocks = g.B.Blocks.blocks c.args.blocks.now in
+    let before : (b : ℕ) → b < 32768 → is_marked_used blocks b ≡ true =
+    λ b low. first_full blocks c.get.new.into c.min.result c.get.ensures (omega arith) c.in_default.ensures b (omega arith) in
+    let many = ap (λ (n : ℕ). n - 32768) c.len-count.ensures.count in
+    lowest_in_second blocks c.get-2.new.into c.in-Some-lowest_clear.bit c.get-2.ensures c.requires.few before
+    (subst (λ (n : ℕ). IsLowestClear c.get-2.new.into n c.in-Some-lowest_clear.bit) many c.in-Some-lowest_clear.ensures)

@@ -1,0 +1,98 @@
+//! The bits of octets, the lowest of each octet first.
+
+ghost use Rattle.std.specs.Prelude.{◌≡◌, ℕ, ◌-◌, ◌*◌, ◌/◌, ◌%◌, ◌^◌, ◌==◌, ◌<◌, ◌≤◌, length, true, false, count_by, not, MatchOption};
+ghost use Rattle.std.specs.List.{All, range_with_len};
+ghost use Rattle.fs_layout.specs.Bits.{bit_of, SetsBit, IsFront};
+ghost use Rattle.fs_layout.specs.Marks.{IsLowestClear};
+
+/// Whether a bit is set.
+pub fn is_set(octets: &[u8], bit: usize) -> bool
+    requires { bit / 8 < length octets.now }
+    ensures { result ≡ bit_of octets.now bit }
+{
+    (octets[bit / 8] >> (bit % 8)) & 1 == 1
+}
+
+/// Sets a bit.
+pub fn set(octets: &mut [u8], bit: usize)
+    requires { bit / 8 < length octets.old }
+    ensures { SetsBit bit true octets.old octets.new }
+{
+    octets[bit / 8] |= 1 << (bit % 8);
+}
+
+/// Sets the first so many bits of octets of which none is set.
+pub fn set_front(octets: &mut [u8], count: usize)
+    requires room { count ≤ 8 * length octets.old }
+    requires clear { All (λ octet. octet ≡ 0) octets.old }
+    ensures { IsFront count octets.new }
+{
+    for bit in 0..count {
+        set(octets, bit);
+    }
+}
+
+/// How many of the first bits are clear.
+pub fn count_clear(octets: &[u8], count: usize) -> u32
+    requires room { count ≤ 8 * length octets.now }
+    requires few { count ≤ 65536 }
+    ensures clear { result ≡ count_by (λ bit. not (bit_of octets.now bit)) (range_with_len 0 count) }
+    ensures few { result ≤ count }
+{
+    let whole = count / 8;
+    let mut clear = 0;
+    for place in 0..whole {
+        clear += clear_bits(octets[place]);
+    }
+    clear + clear_between(octets, 8 * whole, count)
+}
+
+/// How many bits of an octet are clear.
+fn clear_bits(octet: u8) -> u32
+    ensures clear { result ≡ count_by (λ bit. not (octet / 2 ^ bit % 2 == 1)) (range_with_len 0 8) }
+    ensures few { result ≤ 8 }
+{
+    u8::BITS - octet.count_ones()
+}
+
+/// How many bits are clear from one up to another.
+fn clear_between(octets: &[u8], from: usize, to: usize) -> u32
+    requires order { from ≤ to }
+    requires room { to ≤ 8 * length octets.now }
+    requires few { to ≤ 65536 }
+    ensures clear { result ≡ count_by (λ bit. not (bit_of octets.now bit)) (range_with_len from (to - from)) }
+    ensures few { result ≤ to - from }
+{
+    let mut clear = 0;
+    for bit in from..to {
+        if !is_set(octets, bit) {
+            clear += 1;
+        }
+    }
+    clear
+}
+
+/// The lowest of the first bits that is clear.
+pub fn lowest_clear(octets: &[u8], count: usize) -> Option<usize>
+    requires room { count ≤ 8 * length octets.now }
+    requires few { length octets.now ≤ 4096 }
+    ensures { MatchOption result
+        ((b : ℕ) → b < count → bit_of octets.now b ≡ true)
+        (IsLowestClear octets.now count) }
+{
+    for (place, octet) in octets.iter().enumerate() {
+        if *octet < u8::MAX {
+            let bit = 8 * place + octet.trailing_ones() as usize;
+            return if bit < count { Some(bit) } else { None };
+        }
+    }
+    None
+}
+
+/// Clears a bit.
+pub fn unset(octets: &mut [u8], bit: usize)
+    requires { bit / 8 < length octets.old }
+    ensures { SetsBit bit false octets.old octets.new }
+{
+    octets[bit / 8] &= !(1 << (bit % 8));
+}

@@ -1,0 +1,108 @@
+//! Inodes: the kind of a file, its size, and pointers to its blocks.
+
+ghost use Rattle.std.specs.Prelude.{◌≡◌, ◌≢◌, ◌+◌, ◌*◌, ◌/◌, ◌==◌, ◌<◌, ◌≤◌, [], count_by, length};
+ghost use Rattle.std.specs.List.{range_with_len};
+ghost use Rattle.model.specs.Volume.{number_at};
+ghost use Rattle.model.specs.Files as files;
+ghost use Rattle.model.specs.Files.{HasRoom, entry, free_inodes, indirect_of, pointer};
+
+use crate::numbers::{number32, number64};
+use crate::records::{RECORD_SIZE, get_record};
+use volume::{BLOCK_SIZE, Blocks};
+
+/// The first block of the inodes, behind the bitmap.
+pub const INODES_AT: u32 = 2;
+
+/// The kind of a free inode.
+pub const FREE_KIND: u8 = 0;
+
+/// The kind of a file.
+pub const FILE_KIND: u8 = 1;
+
+/// Where the size stands in an inode.
+pub const SIZE_AT: usize = 4;
+
+/// Where the pointers of an inode begin.
+pub const POINTERS_AT: usize = 12;
+
+/// How many pointers stand in an inode.
+pub const DIRECT_POINTERS: u32 = 10;
+
+/// Where the pointer to the indirect block stands in an inode.
+pub const INDIRECT_AT: usize = 52;
+
+/// Where the octets begin that an inode leaves zero.
+pub const SPARE_AT: usize = 56;
+
+/// How many blocks the octets of the largest file take: those of an inode's pointers, and of a block of pointers.
+pub const MOST_BLOCKS: u32 = 1034;
+
+/// The octets of the largest file.
+pub const MOST_OCTETS: u64 = MOST_BLOCKS as u64 * BLOCK_SIZE as u64;
+
+/// How many records stand in a block.
+const RECORDS: usize = 64;
+
+/// The size of the file of an inode.
+pub fn size_of<B: Blocks>(blocks: &B, inodes: u32, at: u32) -> u64
+    requires room { HasRoom inodes (B.blocks blocks.now) }
+    requires below { at < inodes }
+    ensures { result ≡ files.size (entry inodes (B.blocks blocks.now) at) }
+{
+    let mut inode = [0; RECORD_SIZE];
+    get_record(blocks, INODES_AT, at, &mut inode);
+    number64(&inode, SIZE_AT)
+}
+
+/// The number of a file's i-th block.
+pub fn pointer_at<B: Blocks>(blocks: &B, inode: &[u8], i: u32) -> u32
+    requires whole { length inode.now ≡ 64 }
+    requires few { i < 1034 }
+    requires indirect { 10 ≤ i → (number_at 52 4 inode.now ≢ 0) × (number_at 52 4 inode.now < length (B.blocks blocks.now)) }
+    ensures { result ≡ pointer (record { inode = inode.now; slot = []; indirect = indirect_of (B.blocks blocks.now) (number_at 52 4 inode.now) }) i }
+{
+    if i < DIRECT_POINTERS {
+        return number32(inode, POINTERS_AT + 4 * i as usize);
+    }
+    let mut pointers = [0; BLOCK_SIZE];
+    blocks.get(number32(inode, INDIRECT_AT), &mut pointers);
+    number32(&pointers, 4 * (i - DIRECT_POINTERS) as usize)
+}
+
+/// How many blocks the content of so many octets takes.
+pub fn content_blocks(octets: u64) -> u32
+    requires { octets ≤ 4235264 }
+    ensures { result ≡ (octets + 4095) / 4096 }
+{
+    ((octets + BLOCK_SIZE as u64 - 1) / BLOCK_SIZE as u64) as u32
+}
+
+/// How many inodes are free.
+pub fn free_inode_count<B: Blocks>(blocks: &B, inodes: u32) -> u32
+    requires { HasRoom inodes (B.blocks blocks.now) }
+    ensures { result ≡ free_inodes inodes (B.blocks blocks.now) }
+{
+    let mut free = 0;
+    let mut block = [0; BLOCK_SIZE];
+    for table in 0..inodes / 64 {
+        blocks.get(INODES_AT + table, &mut block);
+        free += count_free(&block, RECORDS);
+    }
+    free
+}
+
+// How many of the first inodes in a block are free.
+fn count_free(block: &[u8], count: usize) -> u32
+    requires whole { length block.now ≡ 4096 }
+    requires few { count ≤ 64 }
+    ensures free { result ≡ count_by (λ k. number_at (64 * k) 4 block.now == 0) (range_with_len 0 count) }
+    ensures few { result ≤ count }
+{
+    let mut free = 0;
+    for place in 0..count {
+        if number32(block, RECORD_SIZE * place) == 0 {
+            free += 1;
+        }
+    }
+    free
+}

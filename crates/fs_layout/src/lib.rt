@@ -1,0 +1,12 @@
+//! Where the parts of a file system stand in its blocks: the bitmap, the inodes, the directory, and pointers to data.
+#![tactic(auto)]
+
+pub mod bits;
+mod errors;
+pub mod inodes;
+pub mod marks;
+pub mod numbers;
+pub mod records;
+pub mod slots;
+
+pub use errors::FsError;

@@ -1,0 +1,95 @@
+//! The marks of the bitmap, which say what blocks are used.
+
+ghost use Rattle.std.specs.Prelude.{◌≡◌, ◌<◌, ◌≤◌, true, false, length, MatchOption, IfOk, OnOk};
+ghost use Rattle.model.specs.Files.{HasRoom, free_blocks};
+ghost use Rattle.fs_layout.specs.Marks.{IsLowestFree, HasNoFreeBlock, SetsMark, TakesBlock};
+
+use crate::bits::{count_clear, lowest_clear, set, unset};
+use std::alloc::AllocError;
+use volume::{BLOCK_SIZE, Blocks};
+
+/// The bits of a block.
+pub const BLOCK_BITS: usize = 8 * BLOCK_SIZE;
+
+// The lowest free block.
+fn lowest_free<B: Blocks>(blocks: &B) -> Option<u32>
+    requires some { 2 ≤ length (B.blocks blocks.now) }
+    requires few { length (B.blocks blocks.now) ≤ 65536 }
+    ensures { MatchOption result (HasNoFreeBlock (B.blocks blocks.now)) (IsLowestFree (B.blocks blocks.now)) }
+{
+    let count = blocks.len() as usize;
+    let mut bitmap = [0; BLOCK_SIZE];
+    blocks.get(0, &mut bitmap);
+    if let Some(bit) = lowest_clear(&bitmap, count.min(BLOCK_BITS)) {
+        return Some(bit as u32);
+    }
+    if count <= BLOCK_BITS {
+        return None;
+    }
+    blocks.get(1, &mut bitmap);
+    let Some(bit) = lowest_clear(&bitmap, count - BLOCK_BITS) else {
+        return None;
+    };
+    Some((BLOCK_BITS + bit) as u32)
+}
+
+// Marks a block.
+fn mark<B: Blocks>(blocks: &mut B, number: u32) -> Result<(), AllocError>
+    requires there { number < length (B.blocks blocks.old) }
+    requires some { 2 ≤ length (B.blocks blocks.old) }
+    requires few { length (B.blocks blocks.old) ≤ 65536 }
+    ensures done { OnOk result (SetsMark number true (B.blocks blocks.old) (B.blocks blocks.new)) }
+    ensures kept { B.applied blocks.new ≡ B.applied blocks.old }
+{
+    let table = number / BLOCK_BITS as u32;
+    let mut bitmap = [0; BLOCK_SIZE];
+    blocks.get(table, &mut bitmap);
+    set(&mut bitmap, number as usize % BLOCK_BITS);
+    blocks.put(table, &bitmap)
+}
+
+/// Marks the lowest free block.
+pub fn take_block<B: Blocks>(blocks: &mut B) -> Result<u32, AllocError>
+    requires some { 2 ≤ length (B.blocks blocks.old) }
+    requires few { length (B.blocks blocks.old) ≤ 65536 }
+    requires free { 0 < free_blocks (B.blocks blocks.old) }
+    ensures taken { IfOk result (λ block. TakesBlock block (B.blocks blocks.old) (B.blocks blocks.new)) }
+    ensures kept { B.applied blocks.new ≡ B.applied blocks.old }
+{
+    let Some(number) = lowest_free(blocks) else {
+        unreachable!()
+    };
+    mark(blocks, number)?;
+    Ok(number)
+}
+
+/// Takes a block's mark away.
+pub fn unmark<B: Blocks>(blocks: &mut B, number: u32) -> Result<(), AllocError>
+    requires there { number < length (B.blocks blocks.old) }
+    requires some { 2 ≤ length (B.blocks blocks.old) }
+    requires few { length (B.blocks blocks.old) ≤ 65536 }
+    ensures done { OnOk result (SetsMark number false (B.blocks blocks.old) (B.blocks blocks.new)) }
+    ensures kept { B.applied blocks.new ≡ B.applied blocks.old }
+{
+    let table = number / BLOCK_BITS as u32;
+    let mut bitmap = [0; BLOCK_SIZE];
+    blocks.get(table, &mut bitmap);
+    unset(&mut bitmap, number as usize % BLOCK_BITS);
+    blocks.put(table, &bitmap)
+}
+
+/// How many blocks no file uses.
+pub fn free_block_count<B: Blocks>(blocks: &B, inodes: u32) -> u32
+    requires { HasRoom inodes (B.blocks blocks.now) }
+    ensures { result ≡ free_blocks (B.blocks blocks.now) }
+{
+    let count = blocks.len() as usize;
+    let mut bitmap = [0; BLOCK_SIZE];
+    blocks.get(0, &mut bitmap);
+    let low = count_clear(&bitmap, count.min(BLOCK_BITS));
+    if count <= BLOCK_BITS {
+        return low;
+    }
+    blocks.get(1, &mut bitmap);
+    low + count_clear(&bitmap, count - BLOCK_BITS)
+}

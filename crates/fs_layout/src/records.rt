@@ -1,0 +1,88 @@
+//! Records of 64 octets, 64 to a block: inodes, and slots of the directory.
+
+ghost use Rattle.std.specs.Prelude.{◌≡◌, ◌≢◌, ℕ, ◌+◌, ◌*◌, ◌/◌, ◌%◌, ◌<◌, ◌≤◌, List, [], length, slice_index_or, MatchOption, OnOk};
+ghost use Rattle.disk.specs.Image.{part, overwritten};
+ghost use Rattle.model.specs.Files.{HasRoom, slot_of};
+ghost use Rattle.fs_layout.specs.Blocks.{PutsRecord, IsFoundIn, IsFound};
+
+use std::alloc::AllocError;
+use volume::{BLOCK_SIZE, Blocks};
+
+/// The octets of a record.
+pub const RECORD_SIZE: usize = 64;
+
+/// Copies a record of those that begin at block `first`.
+pub fn get_record<B: Blocks>(blocks: &B, first: u32, at: u32, into: &mut [u8])
+    requires there { first + at / 64 < length (B.blocks blocks.now) }
+    requires few { length (B.blocks blocks.now) ≤ 65536 }
+    requires whole { length into.old ≡ 64 }
+    ensures { into.new ≡ part (at % 64 * 64) 64 (slice_index_or (B.blocks blocks.now) (first + at / 64) []) }
+{
+    let mut block = [0; BLOCK_SIZE];
+    blocks.get(first + at / 64, &mut block);
+    let start = (at % 64) as usize * RECORD_SIZE;
+    into.copy_from_slice(&block[start..start + RECORD_SIZE]);
+}
+
+/// Replaces a record of those that begin at block `first`.
+pub fn put_record<B: Blocks>(
+    blocks: &mut B,
+    first: u32,
+    at: u32,
+    octets: &[u8],
+) -> Result<(), AllocError>
+    requires there { first + at / 64 < length (B.blocks blocks.old) }
+    requires few { length (B.blocks blocks.old) ≤ 65536 }
+    requires whole { length octets.now ≡ 64 }
+    ensures done { OnOk result (PutsRecord first at octets.now (B.blocks blocks.old) (B.blocks blocks.new)) }
+    ensures kept { B.applied blocks.new ≡ B.applied blocks.old }
+{
+    let mut block = [0; BLOCK_SIZE];
+    blocks.get(first + at / 64, &mut block);
+    put_part(&mut block, (at % 64) as usize * RECORD_SIZE, octets);
+    blocks.put(first + at / 64, &block)
+}
+
+/// Replaces the octets from a place on.
+pub fn put_part(block: &mut [u8], at: usize, octets: &[u8])
+    requires { at + length octets.now ≤ length block.old }
+    ensures { block.new ≡ overwritten at octets.now block.old }
+{
+    let end = at + octets.len();
+    block[at..end].copy_from_slice(octets);
+}
+
+/// The lowest inode whose slot has these octets.
+pub fn find<B: Blocks>(blocks: &B, inodes: u32, slot: &[u8]) -> Option<u32>
+    requires room { HasRoom inodes (B.blocks blocks.now) }
+    requires whole { length slot.now ≡ 64 }
+    ensures { MatchOption result
+        ((k : ℕ) → k < inodes → slot_of inodes (B.blocks blocks.now) k ≢ slot.now)
+        (IsFound inodes (B.blocks blocks.now) slot.now) }
+{
+    let mut block = [0; BLOCK_SIZE];
+    for table in 0..inodes / 64 {
+        blocks.get(2 + inodes / 64 + table, &mut block);
+        if let Some(place) = find_in(&block, slot) {
+            return Some(64 * table + place);
+        }
+    }
+    None
+}
+
+// The place of the first record of a block that has these octets.
+fn find_in(block: &[u8], octets: &[u8]) -> Option<u32>
+    requires block { length block.now ≡ 4096 }
+    requires whole { length octets.now ≡ 64 }
+    ensures { MatchOption result
+        ((k : ℕ) → k < 64 → part (k * 64) 64 block.now ≢ octets.now)
+        (IsFoundIn block.now octets.now) }
+{
+    for place in 0..64u32 {
+        let start = place as usize * RECORD_SIZE;
+        if &block[start..start + RECORD_SIZE] == octets {
+            return Some(place);
+        }
+    }
+    None
+}
