@@ -1,0 +1,90 @@
+//! The records of changes.
+
+ghost use Rattle.std.specs.Prelude.{◌≡◌, ◌+◌, ◌^◌, ◌<◌, ◌≤◌, ◌∷◌, ◌++◌, ℕ, List, map, flat_map, length, IfOk, OnOk};
+ghost use Rattle.std.specs.List.{All};
+ghost use Rattle.model.specs.Records as model_records;
+ghost use Rattle.model.specs.SpoolFiles as model_files;
+
+use std::alloc::{AllocError, Global};
+
+/// The record of a group: serial, moment, status, description. Refused for memory alone.
+pub fn group_record(
+    alloc: Global,
+    serial: u64,
+    moment: u64,
+    status: u8,
+    description: &[u8],
+) -> Result<Vec<u8>, AllocError>
+    ensures { IfOk result (λ octets. (name : List ℕ) → octets.items ≡ model_records.group_record (record { serial = serial; name = name; status = status; description = description.now; moment = moment })) }
+{
+    let mut octets = Vec::from_slice(alloc, &serial.to_le_bytes())?;
+    octets.extend_from_slice(&moment.to_le_bytes())?;
+    octets.push(status)?;
+    octets.extend_from_slice(description)?;
+    Ok(octets)
+}
+
+/// The record of an article: serial, moment, the text's length, its groups behind their lengths, the text. Refused for memory
+/// alone.
+pub fn article_record(
+    alloc: Global,
+    serial: u64,
+    moment: u64,
+    groups: &[&[u8]],
+    text: &[u8],
+) -> Result<Vec<u8>, AllocError>
+    requires text { length text.now < 2 ^ 32 }
+    requires count { length groups.now < 256 }
+    requires names { All (λ g. length g.now < 256) groups.now }
+    ensures { IfOk result (λ octets. octets.items ≡ model_records.article_record (record { serial = serial; text = text.now; groups = map (λ g. g.now) groups.now; moment = moment })) }
+{
+    let mut octets = Vec::from_slice(alloc, &serial.to_le_bytes())?;
+    octets.extend_from_slice(&moment.to_le_bytes())?;
+    octets.extend_from_slice(&(text.len() as u32).to_le_bytes())?;
+    octets.push(groups.len() as u8)?;
+    push_names(&mut octets, groups)?;
+    octets.extend_from_slice(text)?;
+    Ok(octets)
+}
+
+/// Adds names, each behind its length.
+fn push_names(octets: &mut Vec<u8>, names: &[&[u8]]) -> Result<(), AllocError>
+    requires { All (λ g. length g.now < 256) names.now }
+    ensures { OnOk result (octets.new.items ≡ octets.old.items ++ flat_map (λ g. length g.now ∷ g.now) names.now) }
+{
+    for name in names {
+        octets.push(name.len() as u8)?;
+        octets.extend_from_slice(name)?;
+    }
+    Ok(())
+}
+
+/// The record of an expiry: serial, number, the group's name behind its length. Refused for memory alone.
+pub fn expiry_record(
+    alloc: Global,
+    serial: u64,
+    group: &[u8],
+    number: u32,
+) -> Result<Vec<u8>, AllocError>
+    requires { length group.now < 256 }
+    ensures { IfOk result (λ octets. octets.items ≡ model_records.expiry_record (record { serial = serial; group = group.now; number = number })) }
+{
+    let mut octets = Vec::from_slice(alloc, &serial.to_le_bytes())?;
+    octets.extend_from_slice(&number.to_le_bytes())?;
+    octets.push(group.len() as u8)?;
+    octets.extend_from_slice(group)?;
+    Ok(octets)
+}
+
+/// The 16 octets of an article in the numbers of a group: its serial, and where its overview line stands, by the octets in front
+/// of the line.
+pub fn number_record(serial: u64, offset: u32, line: &[u8]) -> [u8; 16]
+    requires { length line.now < 2 ^ 32 }
+    ensures { result ≡ model_files.number_record serial offset line.now }
+{
+    let mut octets = [0; 16];
+    octets[..8].copy_from_slice(&serial.to_le_bytes());
+    octets[8..12].copy_from_slice(&offset.to_le_bytes());
+    octets[12..].copy_from_slice(&(line.len() as u32).to_le_bytes());
+    octets
+}
