@@ -1,0 +1,125 @@
+//! What a command may ask of the accepted changes, whatever keeps them. `specs/Held.antt` and the definitions of the crate
+//! `model` say what each answer is.
+#![tactic(auto)]
+
+ghost use Rattle.std.specs.Prelude.{◌≡◌, ℕ, ◌+◌, ◌<◌, ◌≤◌, ◌^◌, ◌++◌, IsTrue, IsSome, OnOk, Some, length, option_map, slice_get};
+ghost use Rattle.std.specs.List.{list_any};
+ghost use Rattle.model.specs.Stream.{Octets, line};
+ghost use Rattle.model.specs.Names.{is_host, is_wildmat, wildmat_matches};
+ghost use Rattle.model.specs.Article.{id, overview_line};
+ghost use Rattle.model.specs.Lawful.{IsLawful};
+ghost use Rattle.model.specs.Spool.{Spool, by_id, by_number, expired_at, group_named, groups, high, low};
+ghost use Rattle.lookups.specs.Held.{all_known, article_with, gone_with, groups_now, known, overviews_between, sent_part, shown, text_of};
+
+use model::Part;
+use std::alloc::AllocError;
+
+/// A group that is here.
+#[derive(Clone, Copy)]
+pub struct GroupView<'s> {
+    pub serial: u64,
+    pub name: &'s [u8],
+    /// `y` or `n`
+    pub status: u8,
+    pub description: &'s [u8],
+    /// when it was made, in seconds since 1970
+    pub moment: u64,
+    /// the lowest and the highest number, as they are now
+    pub low: u64,
+    pub high: u64,
+    /// the last serial that names it
+    pub last: u64,
+}
+
+/// The accepted changes of a host, to be asked. No call changes them. A call that appends to a reply is refused for memory
+/// alone, and leaves any octets behind those that were there.
+pub trait LookUps {
+    /// The changes.
+    ghost changes: { Self → Spool };
+
+    /// The host that they are of.
+    ghost host_of: { Self → Octets };
+
+    /// The host.
+    fn host(&self) -> &[u8]
+        ensures { result.now ≡ host_of self.now };
+
+    /// How many changes there are.
+    fn len(&self) -> u64
+        ensures { result ≡ length (changes self.now) };
+
+    /// The group with this name.
+    fn group(&self, name: &[u8]) -> Option<GroupView<'_>>
+        ensures { option_map shown result ≡ option_map (known (changes self.now)) (group_named (changes self.now) name.now) };
+
+    /// How many groups there are.
+    fn group_count(&self) -> usize
+        ensures { result ≡ length (groups (changes self.now)) };
+
+    /// The group with this place, from 0, in rising serial.
+    fn group_at(&self, place: usize) -> GroupView<'_>
+        requires { place < length (groups (changes self.now)) }
+        ensures { slice_get (all_known (changes self.now)) place ≡ Some (shown result) };
+
+    /// The serial of the article that is in the group under this number.
+    fn by_number(&self, group: &[u8], number: u64) -> Option<u64>
+        ensures { result ≡ option_map (λ a. a.serial) (by_number (changes self.now) group.now number) };
+
+    /// The serial of the article with this message-id, also where it is gone.
+    fn by_id(&self, wanted: &[u8]) -> Option<u64>
+        ensures { result ≡ option_map (λ a. a.serial) (by_id (changes self.now) wanted.now) };
+
+    /// The serial of the expiry that took the article out of its last group. None where it is in a group, or where no article
+    /// has this serial.
+    fn gone_at(&self, serial: u64) -> Option<u64>
+        ensures { result ≡ gone_with (changes self.now) serial };
+
+    /// The serial of the expiry that took this number out of the group, 0 where none did.
+    fn expired_at(&self, group: &[u8], number: u64) -> u64
+        ensures { result ≡ expired_at (changes self.now) group.now number };
+
+    /// The moment of the article with this serial, if there is one.
+    fn moment(&self, serial: u64) -> Option<u64>
+        ensures { result ≡ option_map (λ a. a.moment) (article_with (changes self.now) serial) };
+
+    /// Whether the article with this serial is in a group whose name the wildmat takes.
+    fn is_in_one(&self, serial: u64, wildmat: &[u8]) -> bool
+        requires { IsTrue (is_wildmat wildmat.now) }
+        ensures { result ≡ list_any (wildmat_matches wildmat.now) (groups_now (changes self.now) serial) };
+
+    /// Appends the message-id of an article.
+    fn push_id(&self, serial: u64, reply: &mut Vec<u8>) -> Result<(), AllocError>
+        requires { IsSome (article_with (changes self.now) serial) }
+        ensures { OnOk result (reply.new.items ≡ reply.old.items ++ id (text_of (changes self.now) serial)) };
+
+    /// Appends this part of an article, dot-stuffed and with the line that ends it; no octet for `Nothing`.
+    fn push_part(&self, part: &Part, serial: u64, reply: &mut Vec<u8>) -> Result<(), AllocError>
+        requires { IsSome (article_with (changes self.now) serial) }
+        ensures { OnOk result (reply.new.items ≡ reply.old.items ++ sent_part part.now (text_of (changes self.now) serial)) };
+
+    /// Appends the overview line of an article, with the number 0 and CRLF.
+    fn push_overview(&self, serial: u64, reply: &mut Vec<u8>) -> Result<(), AllocError>
+        requires { IsSome (article_with (changes self.now) serial) }
+        ensures { OnOk result (reply.new.items ≡ reply.old.items ++ line (overview_line 0 (text_of (changes self.now) serial))) };
+
+    /// Appends the overview lines of the articles in a group from one number to another, each with CRLF.
+    fn push_overviews(
+        &self,
+        group: &[u8],
+        from: u64,
+        to: u64,
+        reply: &mut Vec<u8>,
+    ) -> Result<(), AllocError>
+        requires low { low (changes self.now) group.now ≤ from }
+        requires order { from ≤ to }
+        requires high { to ≤ high (changes self.now) group.now }
+        ensures { OnOk result (reply.new.items ≡ reply.old.items ++ overviews_between (changes self.now) group.now from to) };
+
+    /// Each change may follow those before it.
+    ghost lawful: { (s : Self) → IsLawful (host_of s) (changes s) };
+
+    ghost good_host: { (s : Self) → IsTrue (is_host (host_of s)) };
+
+    /// Each serial has room in ten digits.
+    ghost few: { (s : Self) → length (changes s) + 1 < 10 ^ 10 };
+}

@@ -1,0 +1,36 @@
+-- What the replies of the code are.
+use Rattle.model.specs.Stream.{Octets}
+use Rattle.model.specs.Replies.{bye, transferred, received, send_transferred, send_posted, service_ends, no_such_group, no_group_selected, no_current_article, no_next_article, no_previous_article, no_such_number, no_such_article, not_wanted, try_later, rejected, not_accepted, unknown_command, syntax_error, help_follows, capabilities_follow, information_follows, overview_follows, articles_follow, groups_follow}
+use Rattle.replies.specs.declared.texts.Reply.{Reply}
+use Rattle.replies.specs.declared.texts.Reply.TheVariants as reply
+use Rattle.replies.specs.declared.texts.Heading.{Heading}
+use Rattle.replies.specs.declared.texts.Heading.TheVariants as heading
+
+abbrev pub sent : Reply → Octets
+sent reply.Bye = bye
+sent reply.Transferred = transferred
+sent reply.Received = received
+sent reply.SendTransferred = send_transferred
+sent reply.SendPosted = send_posted
+sent reply.ServiceEnds = service_ends
+sent reply.NoSuchGroup = no_such_group
+sent reply.NoGroupSelected = no_group_selected
+sent reply.NoCurrentArticle = no_current_article
+sent reply.NoNextArticle = no_next_article
+sent reply.NoPreviousArticle = no_previous_article
+sent reply.NoSuchNumber = no_such_number
+sent reply.NoSuchArticle = no_such_article
+sent reply.NotWanted = not_wanted
+sent reply.TryLater = try_later
+sent reply.Rejected = rejected
+sent reply.NotAccepted = not_accepted
+sent reply.UnknownCommand = unknown_command
+sent reply.SyntaxError = syntax_error
+
+abbrev pub headed : Heading → Octets
+headed heading.Help = help_follows
+headed heading.Capabilities = capabilities_follow
+headed heading.Information = information_follows
+headed heading.Overview = overview_follows
+headed heading.Articles = articles_follow
+headed heading.Groups = groups_follow

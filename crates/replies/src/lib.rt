@@ -1,0 +1,10 @@
+//! The texts of the replies, how they are written, and the answers that they make.
+#![tactic(auto)]
+
+mod sessions;
+mod texts;
+mod writing;
+
+pub use sessions::{Answered, answer, at_number, awaiting, copy, says, says_line, selecting};
+pub use texts::{Heading, Reply};
+pub use writing::{push_end, push_heading, push_line, push_number, push_reply, push_stuffed};

@@ -1,0 +1,127 @@
+//! A session after an answer. An error is that memory is refused.
+
+ghost use Rattle.std.specs.Prelude.{◌≡◌, IfOk};
+ghost use Rattle.model.specs.Answer as answers;
+ghost use Rattle.replies.specs.Answered.{answered, replied, with_group};
+ghost use Rattle.replies.specs.Replies.{sent};
+
+use crate::texts::Reply;
+use crate::writing::push_reply;
+use model::{Answer, Awaits, Session, Text};
+use std::alloc::{AllocError, Global};
+
+/// An answer, and the serial that it reads up to.
+#[derive(Drop)]
+pub struct Answered {
+    pub answer: Answer,
+    pub reads: u64,
+}
+
+/// The answer of a reply and the session afterwards, without a change.
+pub fn answer(reply: Vec<u8>, next: Session, reads: u64) -> Answered
+    ensures { result ≡ answered (replied reply.items next) reads }
+{
+    let answer = Answer {
+        reply: Text::new(reply),
+        next,
+        change: None,
+    };
+    Answered { answer, reads }
+}
+
+/// The same name, if there is one.
+fn copy_name(alloc: Global, name: &Option<Text>) -> Result<Option<Text>, AllocError>
+    ensures { IfOk result (λ copy. copy ≡ name.now) }
+{
+    match name {
+        Some(name) => Ok(Some(name.copy(alloc)?)),
+        None => Ok(None),
+    }
+}
+
+fn copy_awaits(alloc: Global, awaits: &Awaits) -> Result<Awaits, AllocError>
+    ensures { IfOk result (λ copy. copy ≡ awaits.now) }
+{
+    match awaits {
+        Awaits::Line => Ok(Awaits::Line),
+        Awaits::PostBlock => Ok(Awaits::PostBlock),
+        Awaits::IhaveBlock(id) => Ok(Awaits::IhaveBlock(id.copy(alloc)?)),
+        Awaits::Nothing => Ok(Awaits::Nothing),
+    }
+}
+
+/// The session as it is.
+pub fn copy(alloc: Global, session: &Session) -> Result<Session, AllocError>
+    ensures { IfOk result (λ next. next ≡ session.now) }
+{
+    let awaits = copy_awaits(alloc, &session.awaits)?;
+    awaiting(alloc, session, awaits)
+}
+
+/// The session, where it awaits this next.
+pub fn awaiting(alloc: Global, session: &Session, awaits: Awaits) -> Result<Session, AllocError>
+    ensures { IfOk result (λ next. next ≡ answers.awaiting session.now awaits) }
+{
+    Ok(Session {
+        awaits,
+        group: copy_name(alloc, &session.group)?,
+        current: session.current,
+    })
+}
+
+/// The session with this current number.
+pub fn at_number(alloc: Global, session: &Session, number: u64) -> Result<Session, AllocError>
+    ensures { IfOk result (λ next. next ≡ answers.at_number session.now number) }
+{
+    let next = copy(alloc, session)?;
+    Ok(Session {
+        current: Some(number),
+        ..next
+    })
+}
+
+/// The session with this group, and with its lowest number where it has an article.
+pub fn selecting(
+    alloc: Global,
+    session: &Session,
+    group: &[u8],
+    low: u64,
+    count: u64,
+) -> Result<Session, AllocError>
+    ensures { IfOk result (λ next. next ≡ with_group session.now group.now low count) }
+{
+    let awaits = copy_awaits(alloc, &session.awaits)?;
+    let group = Some(Text::new(group.to_vec(alloc)?));
+    let current = if count == 0 { None } else { Some(low) };
+    Ok(Session {
+        awaits,
+        group,
+        current,
+    })
+}
+
+/// A reply that leaves the session as it is.
+pub fn says(
+    alloc: Global,
+    session: &Session,
+    reply: Vec<u8>,
+    reads: u64,
+) -> Result<Answered, AllocError>
+    ensures { IfOk result (λ said. said ≡ answered (answers.says session.now reply.items) reads) }
+{
+    Ok(answer(reply, copy(alloc, session)?, reads))
+}
+
+/// A reply of one line that leaves the session as it is.
+pub fn says_line(
+    alloc: Global,
+    session: &Session,
+    which: Reply,
+    reads: u64,
+) -> Result<Answered, AllocError>
+    ensures { IfOk result (λ said. said ≡ answered (answers.says session.now (sent which)) reads) }
+{
+    let mut reply = Vec::new(alloc);
+    push_reply(&mut reply, which)?;
+    says(alloc, session, reply, reads)
+}
