@@ -115,10 +115,10 @@ impl<D: Disk> World<D> {
         };
         let kernel = match Kernel::open(alloc, &mut journal) {
             Ok(kernel) => kernel,
-            Err(error) => return Err(Refused {
-                disk: journal.into_disk(),
-                error,
-            }),
+            Err(error) => {
+                let disk = journal.into_disk();
+                return Err(Refused { disk, error });
+            }
         };
         let Ok(served) = Served::new(alloc, kernel) else {
             return Err(Refused {
@@ -145,7 +145,9 @@ impl<D: Disk> World<D> {
     }
 
     /// One event. A crash at any moment of it, also within a device call, leaves a disk that is externally synchronous with
-    /// the trace and the released octets that stood at its start; and one behind it, with those that stand then.
+    /// the trace and the released octets that stood at its start; and one after it, with those that stand then. `did` says what the
+    /// event does by its answer (`Did` in `specs/Events.antt`), `keeps` that what the whole system keeps stands again (`IsWorld` in
+    /// `specs/Tied.antt`).
     pub fn step(&mut self, alloc: Global, event: &Event) -> Result<Answer, StepError>
         requires { MayHappen event.now }
         ensures did { Did D.device self.old event.now result self.new }
@@ -162,7 +164,7 @@ impl<D: Disk> World<D> {
 
     /// One event after another, those refused passed over; only at a refusal for memory it stops before that event. Answers how
     /// many events it went through. A crash at any moment leaves a disk that is externally synchronous with what stood after some
-    /// of them, and one behind the last with what stands then.
+    /// of them, and one after the last with what stands then.
     pub fn run(&mut self, alloc: Global, events: &[Event]) -> u64
         requires { (k : ℕ) (event : ItsEvent) → slice_get events.now k ≡ Some event → MayHappen event }
         ensures count { result ≤ length events.now }
