@@ -129,7 +129,15 @@ impl<'a> Stage<'a> {
         let Ok(_) = kern.admin(rt, alloc, b"x.a", b'y', b"test", 1_000_000_000) else {
             return None;
         };
-        let Ok(_) = flush_turn(rt, &mut journal, &kern, mark, &mut flush_seat, &mut batch, &gate) else {
+        let Ok(_) = flush_turn(
+            rt,
+            &mut journal,
+            &kern,
+            mark,
+            &mut flush_seat,
+            &mut batch,
+            &gate,
+        ) else {
             return None;
         };
         flags.flushing.store(false, Ordering::SeqCst);
