@@ -41,12 +41,9 @@ pub(crate) struct Outcome {
 }
 
 /// Where the operator's answers go.
+#[derive(Drop)]
 struct Answers<'a> {
     flags: &'a Flags,
-}
-
-impl<'a> Drop for Answers<'a> {
-    fn drop(&mut self) {}
 }
 
 impl<'a> Write for Answers<'a> {
