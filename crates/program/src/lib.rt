@@ -3,6 +3,7 @@
 
 mod failure;
 mod printing;
+mod sim;
 mod simulation;
 mod volume;
 mod words;

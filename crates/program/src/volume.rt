@@ -8,7 +8,7 @@ use crate::words::Plan;
 use journal::{JournalError, format};
 use memdisk::MemDisk;
 use std::alloc::{AllocError, Global};
-use world::{OpenError, World};
+use world::OpenError;
 
 /// Octets of a block.
 const BLOCK: u64 = 4096;
@@ -19,18 +19,14 @@ const BLOCKS_BEFORE: u64 = 1 + 514;
 /// Octets of a label.
 const LABEL: usize = 128;
 
-/// A world over a new device in memory with an empty volume.
-pub(crate) fn new_world(alloc: Global, plan: &Plan<'_>) -> Result<World<MemDisk>, Failure> {
+/// A new device in memory with an empty volume.
+pub(crate) fn new_volume(alloc: Global, plan: &Plan<'_>) -> Result<MemDisk, Failure> {
     let mut disk = MemDisk::new(alloc, (BLOCKS_BEFORE + plan.blocks) * BLOCK)?;
     let label = label(alloc, plan.host, plan.inodes as u32)?;
     match format(alloc, &mut disk, plan.blocks, label.as_slice()) {
-        Ok(()) => {}
-        Err(JournalError::Memory) => return Err(Failure::Memory),
-        Err(_) => return Err(Failure::NotOpened(OpenError::Fault)),
-    }
-    match World::open(alloc, disk) {
-        Ok(world) => Ok(world),
-        Err(refused) => Err(Failure::NotOpened(refused.error)),
+        Ok(()) => Ok(disk),
+        Err(JournalError::Memory) => Err(Failure::Memory),
+        Err(_) => Err(Failure::NotOpened(OpenError::Fault)),
     }
 }
 
