@@ -5,6 +5,7 @@ mod failure;
 mod grammar;
 mod printing;
 mod running;
+mod sim;
 mod simulation;
 mod volume;
 mod words;
