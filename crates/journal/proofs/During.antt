@@ -1,17 +1,18 @@
 -- Calls after the commit, one after the other.
-use Rattle.std.proofs.Common.{◌≡◌, ◌≢◌, inl, inr, ⊎_elim, ◌<◌, ◌≤◌, ℕ, ◌+◌, ◌-◌, ◌*◌, Bool, false, eqb, IsTrue, List, length, refl, sym, ◌∙◌, ap, subst, arith, Result, Ok, Err}
+use Rattle.std.proofs.Common.{◌≡◌, ◌≢◌, ◌⊎◌, inl, inr, ⊎_elim, ◌<◌, ◌≤◌, ℕ, ◌+◌, ◌-◌, ◌*◌, Bool, false, eqb, IsTrue, List, length, refl, sym, ◌∙◌, ap, subst, arith, Result, Ok, Err, IfErr}
 use Rattle.std.proofs.lemmas.Bool.{cond_both}
 use Rattle.disk.specs.Device.{Device}
 use Rattle.journal.specs.Inside.{IsAdmitted}
 use Rattle.journal.specs.Inside.{IsWithin}
-use Rattle.journal.specs.Calls.{MakesCall, blocks_after}
-use Rattle.journal.specs.Journal.{JournalView, IsDuring, LeavesAdmitted, calls, with_batch}
+use Rattle.journal.specs.Calls.{IsRetried, MakesCall, OnMade, OnRetried, blocks_after}
+use Rattle.journal.specs.Journal.{JournalView, IsCaused, IsDuring, LeavesAdmitted, calls, with_batch}
 use Rattle.journal.specs.Order.{answer, at_fault, calls_made, following}
 use Rattle.model.specs.Volume.{StandsFor}
 use Rattle.journal.specs.declared.Next.{Next}
 use Rattle.journal.specs.declared.Next.TheVariants.{Idle, Descriptor, Image, Seal, OpenGate, Commit, Home, Settle, CloseGate, Finish}
 use Rattle.journal.specs.declared.Progress.{Progress}
 use Rattle.journal.specs.declared.JournalError.{JournalError}
+use Rattle.journal.specs.declared.JournalError.TheVariants.{Fault, Memory}
 use Rattle.journal.proofs.Contents.{after_home}
 use Rattle.journal.proofs.Order.{one_more_call}
 
@@ -185,6 +186,38 @@ module _ {D : Type 0} (device : D → Device) (old now new : JournalView D) (so_
 
   pub stepped : (result : Result Progress JournalError) → MakesCall device now new result → IsDuring device old new
   stepped result call = during_then device old now new result so_far.during checkpoint.0 checkpoint.1 call
+
+  -- a call that was refused for want of memory
+  retried_during : IsRetried device now new → IsDuring device old new
+  retried_during retried = record {
+    tells = retried.refused.time.tells ∙ so_far.during.tells;
+    size = retried.refused.time.size ∙ so_far.during.size;
+    later = omega (arith, so_far.during.later, retried.refused.time.later);
+    same = record {
+      label = retried.same.label ∙ so_far.during.same.label;
+      size = retried.same.size ∙ so_far.during.same.size;
+      number = retried.same.number ∙ so_far.during.same.number;
+      last = retried.same.last ∙ so_far.during.same.last;
+      numbers = retried.same.numbers ∙ so_far.during.same.numbers;
+      images = retried.same.images ∙ so_far.during.same.images;
+    };
+    blocks = λ t. retried.blocks (now_tells t) ∙ so_far.during.blocks t;
+    since = λ t time c before left. so_far.during.since t time c before (retried.refused.since (now_tells t) time c (omega (arith, before, so_far.during.later)) left);
+    now = λ t c left. so_far.during.now t c (retried.refused.crash (now_tells t) c left);
+  }
+    where
+      now_tells : IsTrue (device old.disk).tells → IsTrue (device now.disk).tells
+      now_tells t = subst (λ (b : Bool). IsTrue b) (sym so_far.during.tells) t
+
+  -- whatever is answered
+  pub stepped_on : (result : Result Progress JournalError) → OnMade result (MakesCall device now new result) → OnRetried result (IsRetried device now new) → IfErr result (λ error. (error ≡ Fault) ⊎ (error ≡ Memory)) → IsDuring device old new
+  stepped_on (Ok p) made retried errors = stepped (Ok p) made
+  stepped_on (Err error) made retried (inl is) = stepped (Err error) (made is)
+  stepped_on (Err error) made retried (inr is) = retried_during (retried is)
+
+  pub caused_by : (error : JournalError) → OnMade {T = Progress} (Err error) (MakesCall device now new (Err error)) → OnRetried {T = Progress} (Err error) (IsRetried device now new) → (error ≡ Fault) ⊎ (error ≡ Memory) → IsCaused error (device old.disk) (device new.disk)
+  caused_by error made retried (inl is) = inl (is, λ same. (made is).failures.fault is (same ∙ sym so_far.failures))
+  caused_by error made retried (inr is) = inr (is, (retried is).refused.failures ∙ so_far.failures)
 
   same_left : (p : Progress) → MakesCall device now new (Ok p) → IsLeft (length new.numbers) new.next
   same_left p call =

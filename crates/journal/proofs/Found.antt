@@ -4,7 +4,7 @@ use Rattle.disk.specs.Device.{Device, Elapses, LeavesOnly}
 use Rattle.disk.specs.Image.{part}
 use Rattle.journal.specs.Inside.{IsFound, IsKept, IsQuiet, IsStaged, IsStill, LeftAs, IsWritten, Touched}
 use Rattle.journal.specs.Opening.{AreSameVolume, IsNoVolume, LeftKept, Opens, Refuses, SyncsFirst}
-use Rattle.journal.specs.Journal.{AreWhole, HasWholeBlocks, IsDuring, IsReady, JournalView, LeavesAdmitted}
+use Rattle.journal.specs.Journal.{AreWhole, HasWholeBlocks, IsCaused, IsDuring, IsReady, JournalView, LeavesAdmitted}
 use Rattle.journal.specs.declared.JournalError.{JournalError}
 use Rattle.journal.specs.declared.JournalError.TheVariants.{Fault, Memory, NotAVolume, Halted}
 use Rattle.model.specs.Volume.{block, blocks_from, home_size, label_of, number_at, is_open, IsSuperblock, IsDescriptor, listed, StandsFor, logical_blocks}
@@ -12,6 +12,19 @@ use Rattle.journal.specs.declared.Next.TheVariants.{Idle, Home}
 use Rattle.journal.proofs.Blocks.{same_but_equal}
 use Rattle.journal.proofs.Transitions.{told_after}
 use Rattle.journal.proofs.Volumes.{stands_closed, is_opened}
+
+-- why a run of calls stopped
+fault_caused : (error : JournalError) (old new : Device) → IsCaused error old new → error ≡ Fault → new.failures ≢ old.failures
+fault_caused error old new (inl caused) e = caused.1
+fault_caused error old new (inr caused) e = absurd (let two : Memory ≡ Fault = sym caused.0 ∙ e in cc)
+
+memory_caused : (error : JournalError) (old new : Device) → IsCaused error old new → error ≡ Memory → new.failures ≡ old.failures
+memory_caused error old new (inl caused) e = absurd (let two : Fault ≡ Memory = sym caused.0 ∙ e in cc)
+memory_caused error old new (inr caused) e = caused.1
+
+not_caused : (error : JournalError) (old new : Device) → IsCaused error old new → (error ≢ NotAVolume) × (error ≢ Halted)
+not_caused error old new (inl caused) = (λ e. (let two : Fault ≡ NotAVolume = sym caused.0 ∙ e in cc), λ e. (let two : Fault ≡ Halted = sym caused.0 ∙ e in cc))
+not_caused error old new (inr caused) = (λ e. (let two : Memory ≡ NotAVolume = sym caused.0 ∙ e in cc), λ e. (let two : Memory ≡ Halted = sym caused.0 ∙ e in cc))
 
 module _ (device : Device) (superblock descriptor numbers octets : List ℕ) (blocks : ℕ) (superblock_size : length superblock ≡ 4096) (descriptor_size : length descriptor ≡ 4096) (numbers_size : length numbers ≡ 512) (octets_size : length octets ≡ 2097152) (image_size : IsTrue device.tells → length device.content ≡ device.size) (now : IsTrue device.tells → device.may_leave device.content) where
   module _ (count : Option ℕ) (found : IsFound device superblock descriptor numbers octets blocks count) where
@@ -164,14 +177,14 @@ module _ {D : Type 0} (device : D → Device) (first : D) (journal : JournalView
     failures = failures ∙ still.failures;
   }
 
-  pub refuses_replayed : (last : D) (error : JournalError) → error ≡ Fault → (device last).failures ≢ (device journal.disk).failures → Elapses (device journal.disk) (device last) → LeftAs (device journal.disk) (device last) journal.label journal.blocks → Refuses device first last error
-  refuses_replayed last error is failures time left = record {
+  pub refuses_replayed : (last : D) (error : JournalError) → IsCaused error (device journal.disk) (device last) → Elapses (device journal.disk) (device last) → LeftAs (device journal.disk) (device last) journal.label journal.blocks → Refuses device first last error
+  refuses_replayed last error caused time left = record {
     since = kept_then (device last) left;
     time = record { size = time.size ∙ quiet.size; tells = time.tells ∙ quiet.tells; later = omega (arith, quiet.later, time.later) };
-    fault = λ e same. failures (same ∙ sym still.failures);
-    no_volume = λ e. absurd (let two : Fault ≡ NotAVolume = sym is ∙ e in cc);
-    memory = λ e. absurd (let two : Fault ≡ Memory = sym is ∙ e in cc);
-    not_halted = λ e. (let two : Fault ≡ Halted = sym is ∙ e in cc);
+    fault = λ e same. fault_caused error (device journal.disk) (device last) caused e (same ∙ sym still.failures);
+    no_volume = λ e. absurd ((not_caused error (device journal.disk) (device last) caused).0 e);
+    memory = λ e. memory_caused error (device journal.disk) (device last) caused e ∙ still.failures;
+    not_halted = (not_caused error (device journal.disk) (device last) caused).1;
   }
 
 -- a refusal after calls that changed nothing
@@ -183,6 +196,17 @@ refuses_found device first last error quiet fault no_volume no_memory not_halted
   no_volume = no_volume;
   memory = λ e. absurd (no_memory e);
   not_halted = not_halted;
+}
+
+-- after a sync that wasn't good
+pub refuses_caused : {D : Type 0} (device : D → Device) (first last : D) (error : JournalError) → IsQuiet (device first) (device last) → IsCaused error (device first) (device last) → Refuses device first last error
+refuses_caused device first last error quiet caused = record {
+  since = λ t time c before left. inl (quiet.since t time c before left);
+  time = record { size = quiet.size; tells = quiet.tells; later = quiet.later };
+  fault = fault_caused error (device first) (device last) caused;
+  no_volume = λ e. absurd ((not_caused error (device first) (device last) caused).0 e);
+  memory = memory_caused error (device first) (device last) caused;
+  not_halted = (not_caused error (device first) (device last) caused).1;
 }
 
 -- an opening that synced first
@@ -224,13 +248,13 @@ module _ {D : Type 0} (device : D → Device) (first synced : D) (quiet : IsQuie
     failures = opens.failures ∙ still.failures;
   }
 
-  pub refuses_synced : (last : D) (error : JournalError) → error ≢ Memory → Refuses device synced last error → Refuses device first last error
-  refuses_synced last error no_memory refuses = record {
+  pub refuses_synced : (last : D) (error : JournalError) → Refuses device synced last error → Refuses device first last error
+  refuses_synced last error refuses = record {
     since = kept_all (device last) refuses.since;
     time = time_all (device last) refuses.time;
     fault = λ e same. refuses.fault e (same ∙ sym still.failures);
     no_volume = λ e t. subst (λ (x : List ℕ). IsNoVolume x) (still.content t) (refuses.no_volume e (synced_tells t));
-    memory = λ e. absurd (no_memory e);
+    memory = λ e. refuses.memory e ∙ still.failures;
     not_halted = refuses.not_halted;
   }
 

@@ -35,7 +35,7 @@ pub record Refuses {D : Type 0} (device : D → Device) (first last : D) (error 
   pub time : Elapses (device first) (device last)
   pub fault : error ≡ Fault → (device last).failures ≢ (device first).failures
   pub no_volume : error ≡ NotAVolume → IsTrue (device first).tells → IsNoVolume (device first).content
-  pub memory : error ≡ Memory → last ≡ first
+  pub memory : error ≡ Memory → (device last).failures ≡ (device first).failures
   pub not_halted : error ≢ Halted
 
 -- The first good sync comes before every write. Until it a crash leaves what it might have left at the start,

@@ -6,7 +6,7 @@ ghost use Rattle.disk.specs.Device.{Elapses, LeavesOnly};
 ghost use Rattle.disk.specs.Image.{overwritten, part};
 ghost use Rattle.model.specs.Volume.{AreDistinct, IsDescriptor, IsSuperblock, StandsFor, is_open, magic, number_at, block, listed, image_place, descriptor_place, gate_place, home_place};
 ghost use Rattle.journal.specs.Inside.{AreLoaded, IsFound, IsQuiet, IsStill, LeftAs};
-ghost use Rattle.journal.specs.Journal.{IsDuring, IsReady, LeavesAdmitted, HasWholeBlocks};
+ghost use Rattle.journal.specs.Journal.{IsCaused, IsDuring, IsReady, LeavesAdmitted, HasWholeBlocks};
 ghost use Rattle.journal.specs.Opening.{IsNoVolume, NeverSyncs, Opens, Refuses, SyncsFirst};
 
 use crate::formatting::zeros;
@@ -23,8 +23,8 @@ impl<D: Disk> Journal<D> {
     /// Opens what stands on the device: one sync, then the reads; an open segment's images are carried home and its gate is
     /// closed, as in the second half of a batch. All the room that the journal needs is taken here, before the first call.
     ///
-    /// Answers `Fault` where the device failed in this call, `Memory` where the room was refused, which leaves the device
-    /// untouched, and `NotAVolume` where the length, the superblock or an open segment's descriptor isn't valid. The device
+    /// Answers `Fault` where the device failed in this call, `Memory` where the room or a growth of the device was refused,
+    /// and `NotAVolume` where the length, the superblock or an open segment's descriptor isn't valid. The device
     /// comes back with each refusal and may be opened again as it is. A crash at any moment leaves the logical blocks of an
     /// image that a crash at the start might have left; from the first sync on they are those that a read gives.
     pub fn open(alloc: Global, disk: D) -> Result<Journal<D>, Refused<D>>
@@ -86,7 +86,6 @@ fn open_synced<D: Disk>(room: Room, mut disk: D) -> Result<Journal<D>, Refused<D
     requires { IsTrue (D.device disk).tells → LeavesOnly (D.device disk) (D.device disk).content }
     ensures ok { IfOk result (Opens D.device disk) }
     ensures err { IfErr result (λ refused. Refuses D.device disk refused.disk refused.error) }
-    ensures no_memory { IfErr result (λ refused. refused.error ≢ JournalError.Memory) }
 {
     let Room {
         mut superblock,
@@ -107,7 +106,7 @@ fn replay<D: Disk>(mut journal: Journal<D>) -> Result<Journal<D>, Refused<D>>
     requires some { 1 ≤ length journal.numbers }
     requires now { LeavesAdmitted D.device journal }
     ensures ok { IfOk result (λ after. IsReady after × IsDuring D.device journal after × ((D.device after.disk).failures ≡ (D.device journal.disk).failures)) }
-    ensures err { IfErr result (λ refused. (refused.error ≡ JournalError.Fault) × ((D.device refused.disk).failures ≢ (D.device journal.disk).failures) × Elapses (D.device journal.disk) (D.device refused.disk) × LeftAs (D.device journal.disk) (D.device refused.disk) journal.label journal.blocks) }
+    ensures err { IfErr result (λ refused. IsCaused refused.error (D.device journal.disk) (D.device refused.disk) × Elapses (D.device journal.disk) (D.device refused.disk) × LeftAs (D.device journal.disk) (D.device refused.disk) journal.label journal.blocks) }
 {
     match journal.carry_home() {
         Ok(()) => Ok(journal),
@@ -215,7 +214,7 @@ fn read_part<D: Disk>(disk: &mut D, at: u64, into: &mut [u8]) -> Result<(), Jour
 {
     match disk.read(at, into) {
         Ok(()) => Ok(()),
-        Err(DiskError::Fault) => Err(JournalError::Fault),
+        Err(_) => Err(JournalError::Fault),
     }
 }
 
@@ -223,11 +222,12 @@ fn sync_first<D: Disk>(disk: &mut D) -> Result<(), JournalError>
     ensures quiet { IsQuiet (D.device disk.old) (D.device disk.new) }
     ensures still { OnOk result (IsStill (D.device disk.old) (D.device disk.new)) }
     ensures durable { IsTrue (D.device disk.old).tells → OnOk result (LeavesOnly (D.device disk.new) (D.device disk.old).content) }
-    ensures cause { IfErr result (λ error. (error ≡ JournalError.Fault) × ((D.device disk.new).failures ≢ (D.device disk.old).failures)) }
+    ensures cause { IfErr result (λ error. IsCaused error (D.device disk.old) (D.device disk.new)) }
 {
     match disk.sync() {
         Ok(()) => Ok(()),
         Err(DiskError::Fault) => Err(JournalError::Fault),
+        Err(DiskError::Memory) => Err(JournalError::Memory),
     }
 }
 

@@ -1,10 +1,9 @@
-use Rattle.std.proofs.Common.{◌≢◌, ◌⊎◌, inl}
+use Rattle.std.proofs.Common.{◌⊎◌, inl}
 use Rattle.std.proofs.lemmas.Result.{IfOk-weaker}
 use Rattle.journal.specs.Journal.{JournalView}
 use Rattle.journal.specs.Opening.{Opens, Refuses, SyncsFirst, NeverSyncs}
-use Rattle.journal.specs.declared.JournalError.TheVariants.{Memory}
 use Rattle.journal.specs.declared.Refused.{Refused}
-use Rattle.journal.proofs.Found.{err_weaker_both, match_both, opens_synced, refuses_synced, syncs_first}
+use Rattle.journal.proofs.Found.{err_weaker, match_both, opens_synced, refuses_caused, refuses_synced, syncs_first}
 use Rattle.journal.proofs.opening.open_in.Goals as goal
 
 pub returns-in-Ok-clause-ok : goal.returns-in-Ok-clause-ok
@@ -15,9 +14,12 @@ returns-in-Ok-clause-ok g c =
 
 pub returns-in-Ok-clause-err : goal.returns-in-Ok-clause-err
 returns-in-Ok-clause-err g c =
-    err_weaker_both c.open_synced.result (λ (refused : Refused g.row.D.Denot). refused.error ≢ Memory) (λ (refused : Refused g.row.D.Denot). Refuses g.D.Disk.device c.sync_first.new.disk refused.disk refused.error) (λ (refused : Refused g.row.D.Denot). Refuses g.D.Disk.device c.args.disk refused.disk refused.error)
-    (λ refused other h. refuses_synced g.D.Disk.device c.args.disk c.sync_first.new.disk c.sync_first.ensures.quiet c.in-Ok.ensures.still c.in-Ok.ensures.durable refused.disk refused.error other h)
-    c.open_synced.ensures.no_memory c.open_synced.ensures.err
+    err_weaker c.open_synced.result (λ (refused : Refused g.row.D.Denot). Refuses g.D.Disk.device c.sync_first.new.disk refused.disk refused.error) (λ (refused : Refused g.row.D.Denot). Refuses g.D.Disk.device c.args.disk refused.disk refused.error)
+    (λ refused h. refuses_synced g.D.Disk.device c.args.disk c.sync_first.new.disk c.sync_first.ensures.quiet c.in-Ok.ensures.still c.in-Ok.ensures.durable refused.disk refused.error h)
+    c.open_synced.ensures.err
+
+pub returns-in-Err-clause-err : goal.returns-in-Err-clause-err
+returns-in-Err-clause-err g c = refuses_caused g.D.Disk.device c.args.disk c.sync_first.new.disk c.in-Err.error c.sync_first.ensures.quiet c.in-Err.ensures.cause
 
 pub returns-in-Ok-clause-moment : goal.returns-in-Ok-clause-moment
 returns-in-Ok-clause-moment g c =

@@ -2,7 +2,7 @@ use Rattle.std.proofs.Common.{◌≡◌, ◌≢◌, ◌⊎◌, inl, inr, ℕ, Is
 use Rattle.std.proofs.lemmas.Result.{IfOk-weaker}
 use Rattle.disk.specs.Device.{Elapses}
 use Rattle.journal.specs.Inside.{IsQuiet, IsStill, LeftAs}
-use Rattle.journal.specs.Journal.{IsDuring, IsReady, JournalView}
+use Rattle.journal.specs.Journal.{IsCaused, IsDuring, IsReady, JournalView}
 use Rattle.journal.specs.Opening.{Opens, Refuses}
 use Rattle.model.specs.Volume.{StandsFor}
 use Rattle.journal.specs.declared.JournalError.{JournalError}
@@ -28,17 +28,9 @@ returns-in-Ok-default-Some-clause-err g c =
     let still = subst (λ (d : g.row.D.Denot). IsStill (g.D.Disk.device c.args.disk) (g.D.Disk.device d)) (sym c.to_be_replayed.ensures.disk) c.in-Ok-default-Some.ensures.still in
     let stands = subst (λ (d : g.row.D.Denot). IsTrue (g.D.Disk.device d).tells → StandsFor (g.D.Disk.device d).content c.to_be_replayed.result.label c.to_be_replayed.result.blocks) (sym c.to_be_replayed.ensures.disk) c.to_be_replayed.ensures.stands in
     err_weaker c.replay.result
-    (λ (refused : Refused g.row.D.Denot). (refused.error ≡ Fault) × ((g.D.Disk.device refused.disk).failures ≢ (g.D.Disk.device c.to_be_replayed.result.disk).failures) × Elapses (g.D.Disk.device c.to_be_replayed.result.disk) (g.D.Disk.device refused.disk) × LeftAs (g.D.Disk.device c.to_be_replayed.result.disk) (g.D.Disk.device refused.disk) c.to_be_replayed.result.label c.to_be_replayed.result.blocks)
+    (λ (refused : Refused g.row.D.Denot). IsCaused refused.error (g.D.Disk.device c.to_be_replayed.result.disk) (g.D.Disk.device refused.disk) × Elapses (g.D.Disk.device c.to_be_replayed.result.disk) (g.D.Disk.device refused.disk) × LeftAs (g.D.Disk.device c.to_be_replayed.result.disk) (g.D.Disk.device refused.disk) c.to_be_replayed.result.label c.to_be_replayed.result.blocks)
     (λ (refused : Refused g.row.D.Denot). Refuses g.D.Disk.device c.args.disk refused.disk refused.error)
-    (λ refused h. refuses_replayed g.D.Disk.device c.args.disk c.to_be_replayed.result quiet still stands c.to_be_replayed.ensures.whole refused.disk refused.error h.0 h.1 h.2 h.3)
-    c.replay.ensures.err
-
-pub returns-in-Ok-default-Some-clause-no_memory : goal.returns-in-Ok-default-Some-clause-no_memory
-returns-in-Ok-default-Some-clause-no_memory g c =
-    err_weaker c.replay.result
-    (λ (refused : Refused g.row.D.Denot). (refused.error ≡ Fault) × ((g.D.Disk.device refused.disk).failures ≢ (g.D.Disk.device c.to_be_replayed.result.disk).failures) × Elapses (g.D.Disk.device c.to_be_replayed.result.disk) (g.D.Disk.device refused.disk) × LeftAs (g.D.Disk.device c.to_be_replayed.result.disk) (g.D.Disk.device refused.disk) c.to_be_replayed.result.label c.to_be_replayed.result.blocks)
-    (λ (refused : Refused g.row.D.Denot). refused.error ≢ Memory)
-    (λ refused h e. (let two : Fault ≡ Memory = sym h.0 ∙ e in cc))
+    (λ refused h. refuses_replayed g.D.Disk.device c.args.disk c.to_be_replayed.result quiet still stands c.to_be_replayed.ensures.whole refused.disk refused.error h.0 h.1 h.2)
     c.replay.ensures.err
 
 neither : (error : JournalError) → (error ≡ Fault) ⊎ (error ≡ NotAVolume) → (error ≢ Memory) × (error ≢ Halted)
@@ -52,6 +44,3 @@ returns-in-Err-clause-err g c =
     (λ is. c.in-Err.ensures.fault (ap (λ (e : JournalError). let r : Result (ℕ × Option ℕ) JournalError = Err e in r) is))
     (λ is t. c.in-Err.ensures.no_volume (ap (λ (e : JournalError). let r : Result (ℕ × Option ℕ) JournalError = Err e in r) is) t)
     other.0 other.1
-
-pub returns-in-Err-clause-no_memory : goal.returns-in-Err-clause-no_memory
-returns-in-Err-clause-no_memory g c = (neither c.in-Err.error c.in-Err.ensures.no_other).0
