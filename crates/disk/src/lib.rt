@@ -89,6 +89,8 @@ pub trait Disk {
 
 /// A device that can be told to fail.
 pub trait Faults: Disk {
+    ghost use Rattle.disk.specs.declared.DiskCall.{DiskCall};
+
     /// Between two values: the second is the first with that call told to fail, counted from 1, and 0 for none.
     ghost plans: { ℕ → Self → Self → Type 0 };
 

@@ -209,6 +209,7 @@ impl<D: Faults> Journal<D> {
     pub fn fail_kind(&mut self, kind: DiskCall, n: u64)
         ensures view { self.new ≡ record self.old { disk = self.new.disk } }
         ensures device { IsUnchanged (D.device self.old.disk) (D.device self.new.disk) }
+        ensures plan { D.plans_kind kind n self.old.disk self.new.disk }
     {
         self.disk.fail_kind(kind, n);
     }

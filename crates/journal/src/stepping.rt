@@ -1,10 +1,11 @@
 //! One device call after another.
 
-ghost use Rattle.std.specs.Prelude.{◌≡◌, ◌≢◌, ◌≤◌, ◌<◌, ◌+◌, ◌*◌, ◌⊎◌, ℕ, length, take, slice_index, true, false, OnOk, IfErr, IsTrue};
+ghost use Rattle.std.specs.Prelude.{◌≡◌, ◌≢◌, ◌≤◌, ◌<◌, ◌+◌, ◌*◌, ◌⊎◌, ℕ, length, take, slice_index, true, false, OnOk, IfErr, IsTrue, if◌then◌else◌};
 ghost use Rattle.disk.specs.Device.{Elapses, HasCause, OnAsked, OnRefused};
 ghost use Rattle.model.specs.Volume.{blocks_from, home_place};
 ghost use Rattle.journal.specs.Inside.{IsWithin};
-ghost use Rattle.journal.specs.Order.{following, calls_made, at_fault, answer};
+ghost use Rattle.journal.specs.Order.{following, calls_made, writes_made, syncs_made, is_sync, at_fault, answer};
+ghost use Rattle.journal.specs.Opening.{IsMore};
 ghost use Rattle.journal.specs.Calls.{Does, call_at};
 
 use crate::layout::{
@@ -62,6 +63,7 @@ impl<D: Disk> Journal<D> {
         requires some { 1 ≤ length self.old.numbers }
         requires now { LeavesAdmitted D.device self.old }
         ensures during { IsDuring D.device self.old self.new }
+        ensures cost { OnOk result (IsMore (length self.old.numbers + 1) (D.device self.old.disk).writes (D.device self.new.disk).writes × IsMore 2 (D.device self.old.disk).syncs (D.device self.new.disk).syncs) }
         ensures ok { OnOk result ((self.new.next ≡ Next.Idle) × (self.new.halted ≡ false) × ((D.device self.new.disk).failures ≡ (D.device self.old.disk).failures)) }
         ensures cause { IfErr result (λ error. IsCaused error (D.device self.old.disk) (D.device self.new.disk)) }
     {
@@ -76,6 +78,9 @@ impl<D: Disk> Journal<D> {
 /// the one that ends the batch call 2 n + 7.
 pub fn each_call_is_the_next()
     ensures next { (n : ℕ) (next : Next) → next ≢ Next.Idle → calls_made n (following n next) ≡ calls_made n next + 1 }
+    ensures writes { (n : ℕ) (next : Next) → next ≢ Next.Idle → writes_made n (following n next) ≡ (if is_sync next then writes_made n next else writes_made n next + 1) }
+    ensures syncs { (n : ℕ) (next : Next) → next ≢ Next.Idle → syncs_made (following n next) ≡ (if is_sync next then syncs_made next + 1 else syncs_made next) }
+    ensures cost { (n : ℕ) → (writes_made n (following n Next.Commit) ≡ n + 2) × (syncs_made (following n Next.Commit) ≡ 2) }
     ensures committed { (n : ℕ) → calls_made n (following n Next.Commit) ≡ n + 4 }
     ensures ended { (n : ℕ) → calls_made n (following n Next.Finish) ≡ 2 * n + 7 }
 {}

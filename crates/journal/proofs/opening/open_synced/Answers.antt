@@ -1,14 +1,15 @@
-use Rattle.std.proofs.Common.{◌≡◌, ◌≢◌, ◌⊎◌, inl, inr, ℕ, IsTrue, Option, Result, Err, sym, ◌∙◌, ap, subst}
+use Rattle.std.proofs.Common.{◌≡◌, ◌≢◌, ◌⊎◌, inl, inr, ℕ, ◌+◌, length, IsTrue, Option, Result, Err, sym, ◌∙◌, ap, subst}
 use Rattle.std.proofs.lemmas.Result.{IfOk-weaker}
 use Rattle.disk.specs.Device.{Elapses}
 use Rattle.journal.specs.Inside.{IsQuiet, IsStill, LeftAs}
 use Rattle.journal.specs.Journal.{IsCaused, IsDuring, IsReady, JournalView}
 use Rattle.journal.specs.Opening.{Opens, Refuses}
-use Rattle.model.specs.Volume.{StandsFor}
+use Rattle.model.specs.Volume.{StandsFor, open_segments}
 use Rattle.journal.specs.declared.JournalError.{JournalError}
 use Rattle.journal.specs.declared.JournalError.TheVariants.{Fault, Memory, NotAVolume, Halted}
 use Rattle.journal.specs.declared.Refused.{Refused}
-use Rattle.journal.proofs.Found.{opens_replayed, refuses_replayed, refuses_found, err_weaker}
+use Rattle.journal.specs.Opening.{Costs, IsMore, home_syncs, home_writes}
+use Rattle.journal.proofs.Found.{costs_none, costs_replayed, opens_replayed, refuses_replayed, refuses_found, err_weaker}
 use Rattle.journal.proofs.opening.open_synced.Goals as goal
 
 pub returns-in-Ok-default-Some-clause-ok : goal.returns-in-Ok-default-Some-clause-ok
@@ -44,3 +45,21 @@ returns-in-Err-clause-err g c =
     (λ is. c.in-Err.ensures.fault (ap (λ (e : JournalError). let r : Result (ℕ × Option ℕ) JournalError = Err e in r) is))
     (λ is t. c.in-Err.ensures.no_volume (ap (λ (e : JournalError). let r : Result (ℕ × Option ℕ) JournalError = Err e in r) is) t)
     other.0 other.1
+
+pub returns-in-Ok-default-Some-clause-cost : goal.returns-in-Ok-default-Some-clause-cost
+returns-in-Ok-default-Some-clause-cost g c t =
+    let found = c.to_be_replayed.result in
+    let device = g.D.Disk.device in
+    let quiet = subst (λ (d : g.row.D.Denot). IsQuiet (g.D.Disk.device c.args.disk) (g.D.Disk.device d)) (sym c.to_be_replayed.ensures.disk) c.load.ensures.quiet in
+    let still = subst (λ (d : g.row.D.Denot). IsStill (g.D.Disk.device c.args.disk) (g.D.Disk.device d)) (sym c.to_be_replayed.ensures.disk) c.in-Ok-default-Some.ensures.still in
+    let writes = subst (λ (d : g.row.D.Denot). IsTrue (g.D.Disk.device d).tells → home_writes (g.D.Disk.device d).content (open_segments (g.D.Disk.device d).content) ≡ length c.to_be_replayed.result.numbers + 1) (sym c.to_be_replayed.ensures.disk) c.to_be_replayed.ensures.open in
+    let syncs = subst (λ (d : g.row.D.Denot). IsTrue (g.D.Disk.device d).tells → home_syncs (open_segments (g.D.Disk.device d).content) ≡ 2) (sym c.to_be_replayed.ensures.disk) c.to_be_replayed.ensures.syncs in
+    IfOk-weaker c.replay.result (λ (after : JournalView g.row.D.Denot). IsMore (length c.to_be_replayed.result.numbers + 1) (g.D.Disk.device c.to_be_replayed.result.disk).writes (g.D.Disk.device after.disk).writes × IsMore 2 (g.D.Disk.device c.to_be_replayed.result.disk).syncs (g.D.Disk.device after.disk).syncs)
+    (λ (after : JournalView g.row.D.Denot). Costs 0 (g.D.Disk.device c.args.disk).content (g.D.Disk.device c.args.disk) (g.D.Disk.device after.disk))
+    (λ after h. costs_replayed (g.D.Disk.device c.args.disk) (g.D.Disk.device c.to_be_replayed.result.disk) (g.D.Disk.device after.disk) (length c.to_be_replayed.result.numbers + 1) quiet still writes syncs h.0 h.1 t)
+    c.replay.ensures.cost
+
+pub returns-in-Ok-default-None-clause-cost : goal.returns-in-Ok-default-None-clause-cost
+returns-in-Ok-default-None-clause-cost g c =
+    subst (λ (d : g.row.D.Denot). IsTrue (g.D.Disk.device c.args.disk).tells → Costs 0 (g.D.Disk.device c.args.disk).content (g.D.Disk.device c.args.disk) (g.D.Disk.device d)) (sym c.at_rest.ensures.disk)
+    (costs_none (g.D.Disk.device c.args.disk) (g.D.Disk.device c.load.new.disk) c.load.ensures.quiet c.in-Ok-default-None.ensures.still c.at_rest.ensures.none)
