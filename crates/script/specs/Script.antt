@@ -7,7 +7,7 @@ use Rattle.model.specs.Lawful.{is_description_octet}
 use Rattle.model.specs.Calendar.{moment_limit}
 use Rattle.memdisk.specs.declared.Pick.{Pick}
 use Rattle.memdisk.specs.declared.Pick.TheVariants.{Old, New, Fill}
-use Rattle.script.specs.Words.{hex_byte, hex_octets, moment_of, number_of, split_word}
+use Rattle.script.specs.Words.{hex_octet, hex_octets, moment_of, number_of, split_word}
 use Rattle.script.specs.declared.lines.Line.{Line}
 use Rattle.script.specs.declared.lines.Line.TheVariants.{Group, Join, Leave, Arrive, Exec, Take, Dev, Told, Release, Commit, Settle, FailAt, Crash, Spool}
 
@@ -74,13 +74,7 @@ alone_of word =
 -- what a crash makes of the touched octets
 unfoldable pub pick_of : Octets → Option Pick
 pick_of word =
-    if bytes_eq word (codes "old") then Some Old else (if bytes_eq word (codes "new") then Some New else filled word)
-  where
-    filled : Octets → Option Pick
-    filled [] = None
-    filled (high ∷ []) = None
-    filled (high ∷ low ∷ []) = option_map Fill (hex_byte high low)
-    filled (high ∷ low ∷ other ∷ more) = None
+    if bytes_eq word (codes "old") then Some Old else (if bytes_eq word (codes "new") then Some New else option_map Fill (hex_octet word))
 
 -- a line whose words are numbers or name a pick
 unfoldable pub numbered_of : Octets → Octets → Option Said

@@ -1,8 +1,10 @@
 -- Words of a script's line (this project's rule).
-use Rattle.std.specs.Prelude.{ℕ, ◌+◌, ◌-◌, ◌*◌, ◌^◌, ◌&&◌, ◌==◌, nat_le, nat_lt, if◌then◌else◌, [], ◌∷◌, take, drop, Option, Some, None, option_map, option_and_then}
+use Rattle.std.specs.Prelude.{ℕ, ◌+◌, ◌^◌, ◌==◌, nat_lt, if◌then◌else◌, take, drop, get_or, Option, Some, None, option_map, option_and_then}
 use Rattle.std.specs.List.{position}
+use Rattle.std.specs.Result.{result_ok}
 use Rattle.std.specs.Char.{is_ascii_digit}
 use Rattle.std.specs.Str.Parse.{digits_value}
+use Rattle.hex.specs.Hex.{decode_of, decode_sized}
 use Rattle.model.specs.Stream.{Octets}
 use Rattle.model.specs.Names.{is_run_of}
 use Rattle.model.specs.Calendar.{moment_limit}
@@ -23,18 +25,10 @@ number_of word = if is_run_of is_ascii_digit word then within_u64 word else None
 abbrev pub moment_of : Octets → Option ℕ
 moment_of word = option_and_then (λ n. if nat_lt n moment_limit then Some n else None) (number_of word)
 
--- what a hexadecimal digit means, in either case
-abbrev pub hex_digit : ℕ → Option ℕ
-hex_digit x =
-    if nat_le 48 x && nat_le x 57 then Some (x - 48)
-    else (if nat_le 97 x && nat_le x 102 then Some (x - 97 + 10) else (if nat_le 65 x && nat_le x 70 then Some (x - 65 + 10) else None))
-
--- the octet that two hexadecimal digits write
-abbrev pub hex_byte : ℕ → ℕ → Option ℕ
-hex_byte x y = option_and_then (λ high. option_map (λ low. 16 * high + low) (hex_digit y)) (hex_digit x)
+-- the octet that two hexadecimal digits write, in either case
+abbrev pub hex_octet : Octets → Option ℕ
+hex_octet digits = option_map (λ octets. get_or octets 0 0) (result_ok (decode_sized digits 1))
 
 -- the octets that pairs of hexadecimal digits write
 abbrev pub hex_octets : Octets → Option Octets
-hex_octets [] = Some []
-hex_octets (x ∷ []) = None
-hex_octets (x ∷ y ∷ later) = option_and_then (λ octet. option_map (λ more. octet ∷ more) (hex_octets later)) (hex_byte x y)
+hex_octets digits = result_ok (decode_of digits)

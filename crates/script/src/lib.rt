@@ -4,8 +4,6 @@
 
 mod lines;
 mod printed;
-#[cfg(test)]
-mod tests;
 mod words;
 
 pub use lines::{DESCRIPTION_LIMIT, Line, ParseError, parse};

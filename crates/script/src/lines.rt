@@ -3,11 +3,12 @@
 ghost use Rattle.std.specs.Prelude.{◌≡◌, ◌⊎◌, ◌<◌, IsTrue, IfOk, IfErr, IfSome, Some, None, option_map};
 ghost use Rattle.model.specs.Names.{is_group_name};
 ghost use Rattle.model.specs.Calendar.{moment_limit};
-ghost use Rattle.script.specs.Words.{hex_octets, hex_byte};
+ghost use Rattle.script.specs.Words.{hex_octets, hex_octet};
 ghost use Rattle.script.specs.Script.{IsLawful, Made, Came, alone_of, arrival_of, group_of, hex_of, is_description, meaning, numbered_of, pick_of, said, status_of};
 ghost use Rattle.script.specs.declared.lines.ParseError.TheVariants.{Memory};
 
-use crate::words::{hex_digit, moment, number, split_word};
+use crate::words::{moment, number, split_word};
+use hex::FromHexError;
 use memdisk::Pick;
 use names::is_group_name;
 use std::alloc::{AllocError, AllocFailed, Global};
@@ -182,20 +183,19 @@ fn pick(word: &[u8]) -> Option<Pick>
     if word == b"new".as_slice() {
         return Some(Pick::New);
     }
-    let [high, low] = word else {
-        return None;
-    };
-    let octet = hex_byte(*high, *low)?;
+    let octet = hex_octet(word)?;
     Some(Pick::Fill(octet))
 }
 
 /// The octet that two hexadecimal digits write.
-fn hex_byte(high: u8, low: u8) -> Option<u8>
-    ensures { result ≡ hex_byte high low }
+fn hex_octet(digits: &[u8]) -> Option<u8>
+    ensures { result ≡ hex_octet digits.now }
 {
-    let high = hex_digit(high)?;
-    let low = hex_digit(low)?;
-    Some(16 * high + low)
+    let mut octets = [0];
+    match hex::decode_to_slice(digits, &mut octets) {
+        Ok(()) => Some(octets[0]),
+        Err(_) => None,
+    }
 }
 
 // The words of a group's line.
@@ -318,15 +318,9 @@ fn hex_octets(alloc: Global, digits: &[u8]) -> Result<Vec<u8>, ParseError>
     ensures ok { IfOk result (λ octets. hex_octets digits.now ≡ Some octets.items) }
     ensures bad { IfErr result (λ error. error ≡ ParseError.Bad → hex_octets digits.now ≡ None) }
 {
-    if digits.len() % 2 == 1 {
-        return Err(ParseError::Bad);
+    match hex::decode(alloc, digits) {
+        Ok(octets) => Ok(octets),
+        Err(FromHexError::OutOfMemory) => Err(ParseError::Memory),
+        Err(_) => Err(ParseError::Bad),
     }
-    let mut octets = Vec::new(alloc);
-    for at in 0..digits.len() / 2 {
-        let Some(octet) = hex_byte(digits[2 * at], digits[2 * at + 1]) else {
-            return Err(ParseError::Bad);
-        };
-        octets.push(octet)?;
-    }
-    Ok(octets)
 }

@@ -1,7 +1,7 @@
 //! The printed form of octets.
 
-ghost use Rattle.std.specs.Prelude.{◌≡◌, ◌<◌, ◌++◌, IfOk, OnOk};
-ghost use Rattle.script.specs.Printed.{escape, escaped, hex_text};
+ghost use Rattle.std.specs.Prelude.{◌≡◌, ◌++◌, IfOk, OnOk};
+ghost use Rattle.script.specs.Printed.{escape, escaped, hex_escape};
 
 use std::alloc::{AllocError, Global};
 
@@ -27,18 +27,18 @@ fn push_escaped(text: &mut Vec<u8>, octet: u8) -> Result<(), AllocError>
         b'\n' => text.extend_from_slice(b"\\n"),
         b'\\' => text.extend_from_slice(b"\\\\"),
         32..=126 => text.extend_from_slice(&[octet]),
-        _ => text.extend_from_slice(&[b'\\', b'x', hex_text(octet / 16), hex_text(octet % 16)]),
+        _ => push_hex(text, octet),
     }
 }
 
-/// A hexadecimal digit in lower case.
-fn hex_text(value: u8) -> u8
-    requires { value < 16 }
-    ensures { result ≡ hex_text value }
+/// Adds an octet by its two hexadecimal digits.
+fn push_hex(text: &mut Vec<u8>, octet: u8) -> Result<(), AllocError>
+    ensures { OnOk result (text.new.items ≡ text.old.items ++ hex_escape octet) }
 {
-    if value < 10 {
-        b'0' + value
-    } else {
-        b'a' + (value - 10)
-    }
+    let mut digits = [0; 2];
+    let Ok(()) = hex::encode_to_slice([octet], &mut digits) else {
+        unreachable!()
+    };
+    text.extend_from_slice(b"\\x")?;
+    text.extend_from_slice(&digits)
 }

@@ -5,7 +5,7 @@ ghost use Rattle.std.specs.Char.{is_ascii_digit};
 ghost use Rattle.std.specs.List.{list_all};
 ghost use Rattle.model.specs.Calendar.{moment_limit};
 ghost use Rattle.model.specs.Names.{is_run_of};
-ghost use Rattle.script.specs.Words.{hex_digit, moment_of, number_of, split_word, within_u64};
+ghost use Rattle.script.specs.Words.{moment_of, number_of, split_word, within_u64};
 
 /// The first moment of the year 10000, before which each moment lies, in seconds since 1970.
 pub const MOMENT_LIMIT: u64 = 253_402_300_800;
@@ -59,18 +59,5 @@ pub(crate) fn moment(word: &[u8]) -> Option<u64>
         Some(value)
     } else {
         None
-    }
-}
-
-/// What a hexadecimal digit means, in either case.
-pub(crate) fn hex_digit(octet: u8) -> Option<u8>
-    ensures value { result ≡ hex_digit octet }
-    ensures small { IfSome result (λ value. value < 16) }
-{
-    match octet {
-        b'0'..=b'9' => Some(octet - b'0'),
-        b'a'..=b'f' => Some(octet - b'a' + 10),
-        b'A'..=b'F' => Some(octet - b'A' + 10),
-        _ => None,
     }
 }

@@ -1,0 +1,110 @@
+//! Plays scripts through the program `newsd`, and prints what each run prints, its status, and then its faults.
+//!
+//! A line `== NAME` of standard input begins a script that is played, a line `-- NAME` one that only later scripts use. The
+//! lines up to the next of these are its own. There `$ WORD` is one of the program's words, which without any are
+//! `newsd sim --host news.example`; `+ N NAME` stands for the lines of an earlier script, N times.
+#![tactic(auto)]
+
+use anyhow::{Result, anyhow};
+use program::run;
+use std::alloc::{AllocError, Global};
+use std::io::{self, BufRead, BufReader, BufWriter, Write};
+
+/// The program's words where a script gives none.
+const WORDS: [&str; 4] = ["newsd", "sim", "--host", "news.example"];
+
+/// A script, and the words of the program that plays it.
+#[derive(Drop)]
+struct Script {
+    name: String,
+    is_played: bool,
+    words: Vec<String>,
+    lines: String,
+}
+
+impl Script {
+    fn new(alloc: Global, name: &str, is_played: bool) -> Result<Script, AllocError> {
+        Ok(Script {
+            name: String::from_str(alloc, name)?,
+            is_played,
+            words: Vec::new(alloc),
+            lines: String::new(alloc),
+        })
+    }
+
+    /// Adds one of its lines, which may stand for those of earlier scripts.
+    fn push(&mut self, alloc: Global, line: &str, earlier: &[Script]) -> Result<()> {
+        if let Some(word) = line.strip_prefix("$ ") {
+            self.words.push(String::from_str(alloc, word)?)?;
+        } else if let Some(used) = line.strip_prefix("+ ") {
+            self.push_lines(used, earlier)?;
+        } else {
+            self.lines.push_str(line)?;
+            self.lines.push('\n')?;
+        }
+        Ok(())
+    }
+
+    /// Adds the lines of an earlier script: `N NAME`.
+    fn push_lines(&mut self, used: &str, earlier: &[Script]) -> Result<()> {
+        let (times, name) = used.split_once(' ').ok_or(anyhow!("no name: {used}"))?;
+        let times = times.parse::<u32>()?;
+        let script = find(earlier, name).ok_or(anyhow!("no script: {name}"))?;
+        for _ in 0..times {
+            self.lines.push_str(script.lines.as_str())?;
+        }
+        Ok(())
+    }
+
+    /// Runs the program on it.
+    fn play<W: Write>(&self, alloc: Global, output: &mut W) -> io::Result<()> {
+        writeln!(output, "== {}", self.name)?;
+        let mut input = self.lines.as_bytes();
+        let mut faults = Vec::new(alloc);
+        let status = if self.words.is_empty() {
+            run(alloc, WORDS.as_slice(), &mut input, output, &mut faults)
+        } else {
+            run(
+                alloc,
+                self.words.as_slice(),
+                &mut input,
+                output,
+                &mut faults,
+            )
+        };
+        writeln!(output, "status {status}")?;
+        output.write_all(faults.as_slice())
+    }
+}
+
+fn find<'a>(scripts: &'a [Script], name: &str) -> Option<&'a Script> {
+    scripts.iter().find(|script| script.name.as_str() == name)
+}
+
+/// Takes a line of the input.
+fn take_line(alloc: Global, scripts: &mut Vec<Script>, line: &str) -> Result<()> {
+    if let Some(name) = line.strip_prefix("== ") {
+        scripts.push(Script::new(alloc, name, true)?)?;
+    } else if let Some(name) = line.strip_prefix("-- ") {
+        scripts.push(Script::new(alloc, name, false)?)?;
+    } else if let Some((script, earlier)) = scripts.split_last_mut() {
+        script.push(alloc, line, earlier)?;
+    }
+    Ok(())
+}
+
+fn main(rt: HostRuntime) -> Result<()> {
+    let alloc = rt.alloc();
+    let mut scripts = Vec::new(alloc);
+    for line in BufReader::new(alloc, rt.reader())?.lines(alloc) {
+        take_line(alloc, &mut scripts, line?.as_str())?;
+    }
+    let mut output = BufWriter::new(alloc, rt.stdout())?;
+    for script in &scripts {
+        if script.is_played {
+            script.play(alloc, &mut output)?;
+        }
+    }
+    output.flush()?;
+    Ok(())
+}

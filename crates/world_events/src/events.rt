@@ -1,0 +1,97 @@
+//! What a line of a script asks of a world, and what a world answers, in words.
+
+ghost use Rattle.std.specs.Prelude.{◌≤◌, IfOk, OnOk};
+ghost use Rattle.std.specs.List.{All};
+ghost use Rattle.script.specs.Script.{IsLawful};
+ghost use Rattle.world.specs.Events.{MayHappen};
+
+use model::Mark;
+use script::{Line, parse};
+use std::alloc::{AllocError, Global};
+use std::test::Fail;
+use world::{Answer, Event, StepError};
+
+/// A line of a script, and its answer.
+pub(crate) type Row = (&'static str, &'static str);
+
+/// What a line asks.
+pub(crate) fn event(alloc: Global, line: &str) -> Result<Event, Fail>
+    ensures { IfOk result MayHappen }
+{
+    match parse(alloc, line.as_bytes()) {
+        Ok(line) => event_of(line),
+        Err(_) => Err("no line")?,
+    }
+}
+
+fn event_of(line: Line) -> Result<Event, Fail>
+    requires { IsLawful line }
+    ensures { IfOk result MayHappen }
+{
+    match line {
+        Line::Group {
+            name,
+            status,
+            moment,
+            description,
+        } => Ok(Event::Admin {
+            name,
+            status,
+            description,
+            moment,
+        }),
+        Line::Join => Ok(Event::Join),
+        Line::Leave(session) => Ok(Event::Leave(session)),
+        Line::Arrive { session, octets } => Ok(Event::Arrive(session, octets)),
+        Line::Exec { session, moment } => Ok(Event::Exec(session, moment)),
+        Line::Take => Ok(Event::Take),
+        Line::Dev => Ok(Event::Dev),
+        Line::Told => Ok(Event::Told),
+        Line::Release => Ok(Event::Release),
+        _ => Err("no event")?,
+    }
+}
+
+/// Adds an event that may happen.
+#[tactic(auto, using(crate::proofs::Listed::may_push))]
+fn push(events: &mut Vec<Event>, event: Event) -> Result<(), AllocError>
+    requires may { MayHappen event }
+    requires all { All MayHappen events.old.items }
+    ensures { OnOk result (All MayHappen events.new.items) }
+{
+    Ok(events.push(event)?)
+}
+
+/// Adds what these lines ask.
+pub(crate) fn read(alloc: Global, rows: &[Row], events: &mut Vec<Event>) -> Result<(), Fail>
+    requires { All MayHappen events.old.items }
+    ensures { OnOk result (All MayHappen events.new.items) }
+{
+    for (line, _) in rows {
+        push(events, event(alloc, line)?)?;
+    }
+    Ok(())
+}
+
+/// An answer in words.
+pub(crate) fn said(
+    alloc: Global,
+    answered: Result<Answer, StepError>,
+) -> Result<String, AllocError> {
+    match answered {
+        Ok(Answer::Done) => String::from_str(alloc, "done"),
+        Ok(Answer::Joined(number)) => format!(in alloc; "joined {number}"),
+        Ok(Answer::Served(None)) => String::from_str(alloc, "no message"),
+        Ok(Answer::Served(Some((next, Mark::Served)))) => {
+            format!(in alloc; "served, {next:?} is next")
+        }
+        Ok(Answer::Served(Some((next, Mark::Stopped)))) => {
+            format!(in alloc; "stopped, {next:?} is next")
+        }
+        Ok(Answer::Served(Some(_))) => String::from_str(alloc, "full"),
+        Ok(Answer::Made(serial)) => format!(in alloc; "made {serial}"),
+        Ok(Answer::Took(last)) => format!(in alloc; "took {last:?}"),
+        Ok(Answer::Progressed(progress)) => format!(in alloc; "{progress:?}"),
+        Err(error) => format!(in alloc; "{error}"),
+    }
+}

@@ -1,0 +1,164 @@
+//! The first script: a group is made and committed, an article is posted, and its reply waits for its commit.
+
+use crate::events::Row;
+use crate::sealed::Sim;
+use memdisk::Pick;
+use model::{Change, Mark};
+use served::{Entry, Happened};
+use std::alloc::Global;
+use std::test::Fail;
+
+/// A group is made, and carried to its commit.
+pub(crate) const MADE: &[Row] = &[
+    ("group x.a y 1000000000 test", "made 1"),
+    ("take", "took Some(1)"),
+    ("dev", "Working"),
+    ("dev", "Working"),
+    ("dev", "Working"),
+    ("dev", "Working"),
+    ("dev", "Committed(1)"),
+    ("told", "done"),
+];
+
+/// Its batch ends.
+pub(crate) const SETTLED: &[Row] = &[
+    ("dev", "Working"),
+    ("dev", "Working"),
+    ("dev", "Working"),
+    ("dev", "Idle"),
+];
+
+/// A post is served, and what is ready is released.
+pub(crate) const POSTED: &[Row] = &[
+    ("join", "joined 1"),
+    ("line 1 POST", "done"),
+    ("exec 1 1000000000", "served, Some(Block) is next"),
+    ("line 1 Path: p!not-for-mail", "done"),
+    ("line 1 Date: Sun, 09 Sep 2001 01:46:40 +0000", "done"),
+    ("line 1 Message-ID: <1@a.example>", "done"),
+    ("line 1 From: a@example.org", "done"),
+    ("line 1 Newsgroups: x.a", "done"),
+    ("line 1 Subject: one", "done"),
+    ("line 1", "done"),
+    ("line 1 hi", "done"),
+    ("exec 1 1000000000", "no message"),
+    ("line 1 .", "done"),
+    ("exec 1 1000000000", "served, Some(Line) is next"),
+    ("release", "done"),
+];
+
+/// The article is carried to its commit, its reply is released, and its batch ends.
+pub(crate) const COMMITTED: &[Row] = &[
+    ("take", "took Some(2)"),
+    ("dev", "Working"),
+    ("dev", "Working"),
+    ("dev", "Working"),
+    ("dev", "Working"),
+    ("dev", "Committed(2)"),
+    ("told", "done"),
+    ("release", "done"),
+    ("dev", "Working"),
+    ("dev", "Working"),
+    ("dev", "Working"),
+    ("dev", "Idle"),
+];
+
+/// What is released while the article isn't durable.
+pub(crate) const HELD: &[u8] = b"200 news.example ready, posting permitted\r\n340 Send article\r\n";
+
+/// What is released once it is.
+pub(crate) const RELEASED: &[u8] =
+    b"200 news.example ready, posting permitted\r\n340 Send article\r\n240 Article received\r\n";
+
+const ARTICLE: &[u8] =
+    b"Path: p!not-for-mail\r\nDate: Sun, 09 Sep 2001 01:46:40 +0000\r\nMessage-ID: <1@a.example>\r\nFrom: a@example.org\r\nNewsgroups: x.a\r\nSubject: one\r\n\r\nhi\r\n";
+
+/// What the session sends.
+const ARRIVED: &[u8] =
+    b"POST\r\nPath: p!not-for-mail\r\nDate: Sun, 09 Sep 2001 01:46:40 +0000\r\nMessage-ID: <1@a.example>\r\nFrom: a@example.org\r\nNewsgroups: x.a\r\nSubject: one\r\n\r\nhi\r\n.\r\n";
+
+/// Plays the rows, and answers the first line whose answer is another.
+pub(crate) fn first_wrong(
+    alloc: Global,
+    sim: &mut Sim,
+    rows: &[Row],
+) -> Result<Option<&'static str>, Fail> {
+    for (line, want) in rows {
+        if sim.tell(alloc, line)?.as_str() != *want {
+            return Ok(Some(*line));
+        }
+    }
+    Ok(None)
+}
+
+/// Whether the accepted changes are the first so many of the group and the article.
+fn holds(sim: &Sim, count: u64) -> bool {
+    let (_, _, len) = sim.counts();
+    len == count
+        && (count < 1 || sim.is_group(1, b"x.a"))
+        && (count < 2 || sim.is_article(2, ARTICLE))
+        && count <= 2
+}
+
+/// Whether what was opened, and is durable, is the first so many of the group and the article.
+pub(crate) fn is_opened(sim: &Sim, count: u64) -> bool {
+    sim.counts() == (count, count, count) && holds(sim, count) && sim.trace().is_empty()
+}
+
+fn is_served(entry: &Entry) -> bool {
+    matches!(
+        entry.happened(),
+        Happened::Command(1, 1_000_000_000, Mark::Served)
+    )
+}
+
+/// Whether the trace is that of the whole script.
+fn is_traced(trace: &[Entry]) -> bool {
+    match trace {
+        [made, asked, sent] => is_made(made) && is_served(asked) && is_served(sent),
+        _ => false,
+    }
+}
+
+fn is_made(entry: &Entry) -> bool {
+    match entry.happened() {
+        Happened::Admin(Change::Group { name, .. }) => name.as_slice() == b"x.a".as_slice(),
+        _ => false,
+    }
+}
+
+/// Whether the served post leaves the world so, with so many changes durable and these octets released.
+fn is_left(sim: &Sim, durable: u64, released: &[u8]) -> bool {
+    sim.counts() == (0, durable, 2)
+        && sim.has_arrived(1, ARRIVED)
+        && sim.has_released(1, released)
+        && holds(sim, 2)
+        && is_traced(sim.trace())
+}
+
+#[test]
+fn first_script_by_step(rt: HostRuntime) -> Result<(), Fail> {
+    let alloc = rt.alloc();
+    let mut sim = Sim::new(alloc)?;
+    assert!(rt; is_opened(&sim, 0));
+    for rows in [MADE, SETTLED, POSTED] {
+        assert_eq!(rt; first_wrong(alloc, &mut sim, rows)?, None);
+    }
+    assert!(rt; is_left(&sim, 1, HELD));
+    assert_eq!(rt; first_wrong(alloc, &mut sim, COMMITTED)?, None);
+    assert!(rt; is_left(&sim, 2, RELEASED));
+    assert!(rt; is_opened(&sim.crash(alloc, Pick::Old)?, 2));
+    Ok(())
+}
+
+#[test]
+fn first_script_by_run(rt: HostRuntime) -> Result<(), Fail> {
+    let alloc = rt.alloc();
+    let mut sim = Sim::new(alloc)?;
+    for rows in [MADE, SETTLED, POSTED, COMMITTED] {
+        assert_eq!(rt; sim.run(alloc, rows)?, rows.len() as u64);
+    }
+    assert!(rt; is_left(&sim, 2, RELEASED));
+    assert!(rt; is_opened(&sim.crash(alloc, Pick::Old)?, 2));
+    Ok(())
+}

@@ -1,0 +1,215 @@
+//! How the lines of a script are read, and octets printed.
+
+use memdisk::Pick;
+use script::{Line, ParseError, escaped, number, parse};
+use std::alloc::Global;
+use std::test::Fail;
+
+#[test]
+fn lines_without_text(rt: HostRuntime) {
+    for (line, want) in [
+        ("join", Line::Join),
+        ("take", Line::Take),
+        ("dev", Line::Dev),
+        ("told", Line::Told),
+        ("release", Line::Release),
+        ("commit", Line::Commit),
+        ("settle", Line::Settle),
+        ("spool", Line::Spool),
+        ("leave 7", Line::Leave(7)),
+        (
+            "exec 2 253402300799",
+            Line::Exec {
+                session: 2,
+                moment: 253_402_300_799,
+            },
+        ),
+        ("fail 18446744073709551615", Line::FailAt(u64::MAX)),
+        ("fail 007", Line::FailAt(7)),
+        ("crash old", Line::Crash(Pick::Old)),
+        ("crash new", Line::Crash(Pick::New)),
+        ("crash 4d", Line::Crash(Pick::Fill(77))),
+        ("crash 4D", Line::Crash(Pick::Fill(77))),
+        ("crash 01", Line::Crash(Pick::Fill(1))),
+        ("crash fF", Line::Crash(Pick::Fill(255))),
+    ] {
+        assert!(rt; parse(rt.alloc(), line.as_bytes()) == Ok(want), "{line}");
+    }
+}
+
+/// Lines with which octets arrive for session 1.
+const ARRIVALS: &[(&str, &[u8])] = &[
+    ("line 1", b"\r\n"),
+    ("line 1 ", b"\r\n"),
+    ("line 1 POST", b"POST\r\n"),
+    ("line 1  Subject: one ", b" Subject: one \r\n"),
+    ("hex 1 504f5354", b"POST"),
+    ("hex 1 0D0a00fF", b"\r\n\x00\xff"),
+    ("hex 1 19afAF", b"\x19\xaf\xaf"),
+];
+
+/// Whether these octets arrive for session 1.
+fn arrive(alloc: Global, line: &str, wanted: &[u8]) -> bool {
+    match parse(alloc, line.as_bytes()) {
+        Ok(Line::Arrive { session, octets }) => session == 1 && octets.as_slice() == wanted,
+        _ => false,
+    }
+}
+
+#[test]
+fn lines_with_octets(rt: HostRuntime) {
+    for (line, octets) in ARRIVALS {
+        assert!(rt; arrive(rt.alloc(), line, octets), "{line}");
+    }
+}
+
+/// Lines that make the group x.a, with its status, moment and description.
+const GROUPS: &[(&str, u8, u64, &[u8])] = &[
+    ("group x.a n 1000000000 a b  c", b'n', 1_000_000_000, b"a b  c"),
+    ("group x.a y 0 ", b'y', 0, b""),
+    ("group x.a y 253402300799 ~", b'y', 253_402_300_799, b"~"),
+];
+
+/// Whether the group x.a is made so.
+fn is_group(alloc: Global, line: &str, wanted: (u8, u64, &[u8])) -> bool {
+    match parse(alloc, line.as_bytes()) {
+        Ok(Line::Group {
+            name,
+            status,
+            moment,
+            description,
+        }) => {
+            name.as_slice() == b"x.a".as_slice()
+                && (status, moment, description.as_slice()) == wanted
+        }
+        _ => false,
+    }
+}
+
+#[test]
+fn lines_with_a_group(rt: HostRuntime) {
+    for (line, status, moment, description) in GROUPS {
+        assert!(rt;
+            is_group(rt.alloc(), line, (*status, *moment, *description)),
+            "{line}"
+        );
+    }
+}
+
+/// Lines outside the grammar.
+const BAD: &[&[u8]] = &[
+    b"",
+    b" ",
+    b"join ",
+    b"join 1",
+    b" join",
+    b"JOIN",
+    b"joins",
+    b"take 1",
+    b"leave",
+    b"leave ",
+    b"leave x",
+    b"leave 1 2",
+    b"leave -1",
+    b"leave +1",
+    b"leave 18446744073709551616",
+    b"line",
+    b"line x POST",
+    b"line  1 POST",
+    b"hex 1",
+    b"hex 1 ",
+    b"hex 1 5",
+    b"hex 1 50 4f",
+    b"hex 1 5g",
+    b"hex x 50",
+    b"exec 1",
+    b"exec 1 253402300800",
+    b"exec 1  0",
+    b"exec 1 0 ",
+    b"fail",
+    b"fail one",
+    b"crash",
+    b"crash Old",
+    b"crash 1",
+    b"crash 001",
+    b"crash 0000",
+    b"crash 0x",
+    b"group x.a y 0",
+    b"group x.a Y 0 t",
+    b"group x.a yn 0 t",
+    b"group x..a y 0 t",
+    b"group x.a y 253402300800 t",
+    b"group  y 0 t",
+    b"group x.a y 0 \x1f",
+    b"group x.a y 0 \x7f",
+    b"group x.a y 0 \xc3\xa9",
+    b"dump",
+];
+
+/// A line as it is read, in its debug form, or why it is not.
+fn shown(alloc: Global, line: &[u8]) -> Result<String, Fail> {
+    match parse(alloc, line) {
+        Ok(read) => Ok(format!(in alloc; "{read:?}")?),
+        Err(error) => Ok(format!(in alloc; "{error}")?),
+    }
+}
+
+#[test]
+fn bad_lines(rt: HostRuntime) -> Result<(), Fail> {
+    for (place, line) in BAD.iter().enumerate() {
+        assert_eq!(rt; shown(rt.alloc(), line)?.as_str(), "bad event", "{place}");
+    }
+    assert_eq!(rt; shown(rt.alloc(), b"leave 7")?.as_str(), "Leave(7)");
+    Ok(())
+}
+
+/// A group's line whose name and description have so many octets.
+fn group_line(alloc: Global, name: usize, description: usize) -> Result<Vec<u8>, Fail> {
+    let mut line = Vec::from_slice(alloc, b"group ")?;
+    for _ in 0..name {
+        line.push(b'n')?;
+    }
+    line.extend_from_slice(b" y 0 ")?;
+    for _ in 0..description {
+        line.push(b'~')?;
+    }
+    Ok(line)
+}
+
+#[test]
+fn ranges_of_a_group(rt: HostRuntime) -> Result<(), Fail> {
+    for (name, description, good) in [(40, 200, true), (41, 0, false), (1, 201, false)] {
+        let line = group_line(rt.alloc(), name, description)?;
+        let read = parse(rt.alloc(), &line);
+        assert!(rt;
+            read.is_ok() == good && (good || read == Err(ParseError::Bad)),
+            "{name} and {description}"
+        );
+    }
+    Ok(())
+}
+
+#[test]
+fn numbers(rt: HostRuntime) {
+    for (word, value) in [
+        (b"0".as_slice(), Some(0)),
+        (b"0042", Some(42)),
+        (b"18446744073709551615", Some(u64::MAX)),
+        (b"18446744073709551616", None),
+        (b"", None),
+        (b"4 2", None),
+        (b"-4", None),
+    ] {
+        assert!(rt; number(word) == value);
+    }
+}
+
+#[test]
+fn printed_octets(rt: HostRuntime) -> Result<(), Fail> {
+    let text = escaped(rt.alloc(), b"200 a\\b ~\r\n\t\x00\x1f\x7f\xff")?;
+    assert_eq!(rt;
+        text.as_slice(),
+        b"200 a\\\\b ~\\r\\n\\x09\\x00\\x1f\\x7f\\xff".as_slice()
+    );
+    Ok(())
+}
