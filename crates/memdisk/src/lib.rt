@@ -3,8 +3,6 @@
 #![tactic(auto)]
 
 mod blocks;
-#[cfg(test)]
-mod tests;
 
 ghost use Rattle.std.specs.Prelude.{◌≡◌, ◌+◌, ◌≤◌, ◌↔◌, ℕ, IsTrue, length, IfErr, IfOk, OnOk, IsErrOf, if◌then◌else◌};
 ghost use Rattle.memdisk.specs.Calls.{after_read, after_sync, after_write, all_synced, blank, picked};

@@ -5,8 +5,6 @@
 
 mod collected;
 mod giving;
-#[cfg(test)]
-mod tests;
 
 ghost use Rattle.std.specs.Prelude.{◌≡◌, ◌+◌, ◌≤◌, ℕ, IsTrue, Some, None, IfErr, OnErr, OnOk, length, map, replicate};
 ghost use Rattle.disk.specs.Calls.{Makes};
