@@ -4,15 +4,16 @@ ghost use Rattle.script.specs.Script.{IsLawful};
 ghost use Rattle.world.specs.Events.{MayHappen};
 
 use crate::Failure;
+use crate::devices::Device;
 use crate::printing::{print_refusal, print_released, print_spool};
 use crate::volume::new_world;
 use crate::words::Plan;
-use disk::Faults;
 use journal::Progress;
 use memdisk::{MemDisk, Pick};
 use script::{Line, ParseError, parse};
 use std::alloc::Global;
 use std::io::{BufRead, Write};
+use wcache::WCache;
 use world::{Answer, Event, StepError, World};
 
 /// The device calls of the largest batch, of 512 images, to its end.
@@ -20,10 +21,10 @@ const MOST_CALLS: u32 = 2 * 512 + 7;
 
 /// What the events act on.
 #[derive(Drop)]
-enum Stage {
-    Open(World<MemDisk>),
+enum Stage<D: Device> {
+    Open(World<D>),
     /// The last opening was refused: a crash opens the device again.
-    Closed(MemDisk),
+    Closed(D),
 }
 
 /// Plays the script that `input` holds, one event a line, and prints what it does. A refused event prints its refusal,
@@ -34,7 +35,21 @@ pub(crate) fn simulate<R: BufRead, W: Write>(
     input: &mut R,
     output: &mut W,
 ) -> Result<(), Failure> {
-    let mut stage = Stage::Open(new_world(alloc, plan)?);
+    if plan.cached {
+        play_lines::<WCache<MemDisk>, R, W>(alloc, plan, input, output)
+    } else {
+        play_lines::<MemDisk, R, W>(alloc, plan, input, output)
+    }
+}
+
+/// The same over one kind of device.
+fn play_lines<D: Device, R: BufRead, W: Write>(
+    alloc: Global,
+    plan: &Plan<'_>,
+    input: &mut R,
+    output: &mut W,
+) -> Result<(), Failure> {
+    let mut stage = Stage::Open(new_world::<D>(alloc, plan)?);
     let mut text = Vec::new(alloc);
     for number in 1..=u64::MAX {
         text.clear();
@@ -59,7 +74,12 @@ fn without_end(line: &[u8]) -> &[u8] {
 }
 
 /// Plays a line, and answers what the next one acts on.
-fn play<W: Write>(alloc: Global, stage: Stage, line: Line, output: &mut W) -> Result<Stage, Failure>
+fn play<D: Device, W: Write>(
+    alloc: Global,
+    stage: Stage<D>,
+    line: Line,
+    output: &mut W,
+) -> Result<Stage<D>, Failure>
     requires { IsLawful line }
 {
     match (stage, line) {
@@ -73,6 +93,10 @@ fn play<W: Write>(alloc: Global, stage: Stage, line: Line, output: &mut W) -> Re
             disk.fail_at(call);
             Ok(Stage::Closed(disk))
         }
+        (Stage::Closed(mut disk), Line::FailKind(kind, call)) => {
+            disk.fail_kind(kind, call);
+            Ok(Stage::Closed(disk))
+        }
         (Stage::Closed(disk), _) => {
             print_refusal(&StepError::Halted, output)?;
             Ok(Stage::Closed(disk))
@@ -81,14 +105,13 @@ fn play<W: Write>(alloc: Global, stage: Stage, line: Line, output: &mut W) -> Re
 }
 
 /// The device crashes, each touched octet by this pick, and is opened again.
-fn reopen<W: Write>(
+fn reopen<D: Device, W: Write>(
     alloc: Global,
-    mut disk: MemDisk,
+    disk: D,
     pick: Pick,
     output: &mut W,
-) -> Result<Stage, Failure> {
-    disk.crash(&[pick]);
-    match World::open(alloc, disk) {
+) -> Result<Stage<D>, Failure> {
+    match World::open(alloc, disk.crashed(alloc, pick)) {
         Ok(world) => {
             let opened = world.opened();
             writeln!(output, "opened {opened}")?;
@@ -102,9 +125,9 @@ fn reopen<W: Write>(
 }
 
 /// Does what a line asks of the world, and prints what it says of it.
-fn act<W: Write>(
+fn act<D: Device, W: Write>(
     alloc: Global,
-    world: &mut World<MemDisk>,
+    world: &mut World<D>,
     line: Line,
     output: &mut W,
 ) -> Result<(), Failure>
@@ -141,6 +164,10 @@ fn act<W: Write>(
             world.fail_at(call);
             Ok(())
         }
+        Line::FailKind(kind, call) => {
+            world.fail_kind(kind, call);
+            Ok(())
+        }
         Line::Spool => Ok(print_spool(world.spool(), output)?),
         // a crash takes the world apart, see `play`
         Line::Crash(_) => Ok(()),
@@ -148,9 +175,9 @@ fn act<W: Write>(
 }
 
 /// An event that prints nothing but its refusal.
-fn step<W: Write>(
+fn step<D: Device, W: Write>(
     alloc: Global,
-    world: &mut World<MemDisk>,
+    world: &mut World<D>,
     event: Event,
     output: &mut W,
 ) -> Result<(), Failure>
@@ -163,9 +190,9 @@ fn step<W: Write>(
 }
 
 /// A session begins; its number is printed.
-fn join<W: Write>(
+fn join<D: Device, W: Write>(
     alloc: Global,
-    world: &mut World<MemDisk>,
+    world: &mut World<D>,
     output: &mut W,
 ) -> Result<(), Failure> {
     match world.step(alloc, &Event::Join) {
@@ -176,9 +203,9 @@ fn join<W: Write>(
 }
 
 /// What is ready is handed out and printed.
-fn release<W: Write>(
+fn release<D: Device, W: Write>(
     alloc: Global,
-    world: &mut World<MemDisk>,
+    world: &mut World<D>,
     output: &mut W,
 ) -> Result<(), Failure> {
     match world.step(alloc, &Event::Release) {
@@ -188,9 +215,9 @@ fn release<W: Write>(
 }
 
 /// A batch is taken and carried to its commit, of which the kernel is told. Where none was taken, nothing happens.
-fn commit<W: Write>(
+fn commit<D: Device, W: Write>(
     alloc: Global,
-    world: &mut World<MemDisk>,
+    world: &mut World<D>,
     output: &mut W,
 ) -> Result<(), Failure> {
     match world.step(alloc, &Event::Take) {
@@ -210,9 +237,9 @@ fn commit<W: Write>(
 }
 
 /// The batch in flight is carried to its end.
-fn settle<W: Write>(
+fn settle<D: Device, W: Write>(
     alloc: Global,
-    world: &mut World<MemDisk>,
+    world: &mut World<D>,
     output: &mut W,
 ) -> Result<(), Failure> {
     match carry(alloc, world, Until::Ended) {
@@ -239,7 +266,11 @@ impl Until {
 }
 
 /// Makes device calls until one answers what is awaited, or is refused.
-fn carry(alloc: Global, world: &mut World<MemDisk>, until: Until) -> Result<Answer, StepError> {
+fn carry<D: Device>(
+    alloc: Global,
+    world: &mut World<D>,
+    until: Until,
+) -> Result<Answer, StepError> {
     for _ in 0..MOST_CALLS {
         if let Answer::Progressed(progress) = world.step(alloc, &Event::Dev)? {
             if until.is_met(progress) {

@@ -4,6 +4,7 @@ ghost use Rattle.std.specs.Prelude.{◌≡◌, ◌≤◌, length, vec_len, IfOk}
 ghost use Rattle.model.specs.Layout.{label_octets};
 
 use crate::Failure;
+use crate::devices::Device;
 use crate::words::Plan;
 use journal::{JournalError, format};
 use memdisk::MemDisk;
@@ -19,8 +20,8 @@ const BLOCKS_BEFORE: u64 = 1 + 514;
 /// Octets of a label.
 const LABEL: usize = 128;
 
-/// A world over a new device in memory with an empty volume.
-pub(crate) fn new_world(alloc: Global, plan: &Plan<'_>) -> Result<World<MemDisk>, Failure> {
+/// A world over a new device in memory with an empty volume, with or without a cache over it.
+pub(crate) fn new_world<D: Device>(alloc: Global, plan: &Plan<'_>) -> Result<World<D>, Failure> {
     let mut disk = MemDisk::new(alloc, (BLOCKS_BEFORE + plan.blocks) * BLOCK)?;
     let label = label(alloc, plan.host, plan.inodes as u32)?;
     match format(alloc, &mut disk, plan.blocks, label.as_slice()) {
@@ -28,7 +29,7 @@ pub(crate) fn new_world(alloc: Global, plan: &Plan<'_>) -> Result<World<MemDisk>
         Err(JournalError::Memory) => return Err(Failure::Memory),
         Err(_) => return Err(Failure::NotOpened(OpenError::Fault)),
     }
-    match World::open(alloc, disk) {
+    match World::open(alloc, D::over(alloc, disk)) {
         Ok(world) => Ok(world),
         Err(refused) => Err(Failure::NotOpened(refused.error)),
     }

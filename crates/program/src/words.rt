@@ -25,6 +25,8 @@ pub(crate) struct Plan<'a> {
     pub(crate) host: &'a [u8],
     pub(crate) blocks: u64,
     pub(crate) inodes: u64,
+    /// Whether writes are collected in a cache until a sync.
+    pub(crate) cached: bool,
     ghost named: { IsTrue (is_host host.now) },
     ghost short: { length host.now ≤ 64 },
     ghost sized: { IsTrue (are_sizes blocks inodes) },
@@ -68,11 +70,16 @@ fn grammar<'a>(alloc: Global) -> Result<Command<'a>, AllocError> {
         DEFAULT_BLOCKS,
     );
     let inodes = option(alloc, "inodes", "I", "Files on the volume").default_value(DEFAULT_INODES);
+    let cache = Arg::new(alloc, "cache")
+        .long("cache")
+        .action(ArgAction::SetTrue)
+        .help("Collects writes in memory until a sync");
     let sim = Command::new(alloc, "sim")
         .about("Plays a script of events from standard input over a device in memory")
         .arg(host)?
         .arg(blocks)?
-        .arg(inodes)?;
+        .arg(inodes)?
+        .arg(cache)?;
     Command::new(alloc, "newsd")
         .bin_name("newsd")?
         .about("A Usenet server that releases no reply before what it says is on disk")
@@ -97,11 +104,22 @@ fn read_request<'a>(matches: &ArgMatches<'a>) -> Result<Asked<'a>, Failure> {
     let host = words.get_str("host").ok_or(Failure::Bad)?;
     let blocks = words.get_str("blocks").ok_or(Failure::Bad)?;
     let inodes = words.get_str("inodes").ok_or(Failure::Bad)?;
-    Ok(Asked::Simulation(read_plan(host.as_bytes(), blocks.as_bytes(), inodes.as_bytes())?))
+    let cached = words.get_flag("cache");
+    Ok(Asked::Simulation(read_plan(
+        host.as_bytes(),
+        blocks.as_bytes(),
+        inodes.as_bytes(),
+        cached,
+    )?))
 }
 
 /// The plan that these words give, each in its grammar and range.
-fn read_plan<'a>(host: &'a [u8], blocks: &[u8], inodes: &[u8]) -> Result<Plan<'a>, Failure> {
+fn read_plan<'a>(
+    host: &'a [u8],
+    blocks: &[u8],
+    inodes: &[u8],
+    cached: bool,
+) -> Result<Plan<'a>, Failure> {
     if !is_host(host) {
         return Err(Failure::Bad);
     }
@@ -114,6 +132,7 @@ fn read_plan<'a>(host: &'a [u8], blocks: &[u8], inodes: &[u8]) -> Result<Plan<'a
         host,
         blocks,
         inodes,
+        cached,
     })
 }
 
