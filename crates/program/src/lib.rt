@@ -1,6 +1,7 @@
 //! The program `newsd` over a reader and two writers: its words, its commands, and the simulation that `sim` runs.
 #![tactic(auto)]
 
+mod devices;
 mod failure;
 mod grammar;
 mod printing;

@@ -81,7 +81,7 @@ fn carry_out<R: Files<File = File> + Wait, I: BufRead, W: Write>(
 ) -> Result<(), Failure> {
     match asked {
         Asked::Nothing(_) | Asked::Serve(_) => Ok(()),
-        Asked::Simulation(plan) => simulate(alloc, &plan, input, output),
+        Asked::Simulation(plan, is_cached) => simulate(alloc, &plan, is_cached, input, output),
         Asked::Format(path, plan) => {
             commands::format(rt, alloc, path, plan.host, plan.blocks, plan.inodes)?;
             Ok(())

@@ -2,63 +2,69 @@
 
 ghost use Rattle.world.specs.Events.{MayHappen};
 
-use disk::Faults;
-use memdisk::{MemDisk, Pick};
+use crate::devices::Device;
+use disk::DiskCall;
+use memdisk::Pick;
 use outbox::ReadyBuf;
 use spool::Spool;
 use std::alloc::Global;
 use std::marker::Model;
 use world::{Answer, Event, OpenError, Refused, StepError, World};
 
-/// A world over a device in memory.
+/// A world over a device of the simulation.
 #[derive(Drop)]
-pub(crate) struct Sim {
-    world: World<MemDisk>,
+pub(crate) struct Sim<D: Device> {
+    world: World<D>,
 }
 
-impl Model for Sim {
+impl<D: Device> Model for Sim<D> {
     ghost Value = { Unit };
 
     ghost view = { λ s. tt };
 }
 
-/// A device in memory that is not opened.
+/// A device that is not opened.
 #[derive(Drop)]
-pub(crate) struct Closed {
-    disk: MemDisk,
+pub(crate) struct Closed<D: Device> {
+    disk: D,
 }
 
-impl Model for Closed {
+impl<D: Device> Model for Closed<D> {
     ghost Value = { Unit };
 
     ghost view = { λ c. tt };
 }
 
-impl Closed {
-    pub(crate) fn new(disk: MemDisk) -> Closed {
+impl<D: Device> Closed<D> {
+    pub(crate) fn new(disk: D) -> Closed<D> {
         Closed { disk }
     }
 
     /// Opens it. A refusal hands it back.
-    pub(crate) fn open(self, alloc: Global) -> Result<Sim, (Closed, OpenError)> {
+    pub(crate) fn open(self, alloc: Global) -> Result<Sim<D>, (Closed<D>, OpenError)> {
         match World::open(alloc, self.disk) {
             Ok(world) => Ok(Sim { world }),
             Err(Refused { disk, error }) => Err((Closed { disk }, error)),
         }
     }
 
-    /// Each touched octet becomes what the pick makes of it.
-    pub(crate) fn crash(&mut self, pick: Pick) {
-        self.disk.crash(&[pick]);
+    /// The device after a crash: each touched octet becomes what the pick makes of it.
+    pub(crate) fn crashed(self, alloc: Global, pick: Pick) -> Closed<D> {
+        Closed::new(self.disk.crashed(alloc, pick))
     }
 
     /// The n-th device call from now on fails.
     pub(crate) fn fail_at(&mut self, call: u64) {
         self.disk.fail_at(call);
     }
+
+    /// The n-th device call of this kind from now on fails.
+    pub(crate) fn fail_kind(&mut self, kind: DiskCall, call: u64) {
+        self.disk.fail_kind(kind, call);
+    }
 }
 
-impl Sim {
+impl<D: Device> Sim<D> {
     /// One event.
     pub(crate) fn step(&mut self, alloc: Global, event: &Event) -> Result<Answer, StepError>
         requires { MayHappen event.now }
@@ -69,6 +75,11 @@ impl Sim {
     /// The n-th device call from now on fails.
     pub(crate) fn fail_at(&mut self, call: u64) {
         self.world.fail_at(call);
+    }
+
+    /// The n-th device call of this kind from now on fails.
+    pub(crate) fn fail_kind(&mut self, kind: DiskCall, call: u64) {
+        self.world.fail_kind(kind, call);
     }
 
     /// How many changes were there at the opening.
@@ -92,7 +103,7 @@ impl Sim {
     }
 
     /// Takes the device out.
-    pub(crate) fn close(self) -> Closed {
+    pub(crate) fn close(self) -> Closed<D> {
         Closed::new(self.world.into_disk())
     }
 }

@@ -4,17 +4,19 @@ ghost use Rattle.script.specs.Script.{IsLawful};
 ghost use Rattle.world.specs.Events.{MayHappen};
 
 use crate::Failure;
+use crate::devices::Device;
 use crate::printing::{print_refusal, print_released};
 use crate::sim::{Closed, Sim};
 use crate::volume::new_volume;
 use crate::words::Plan;
 use commands::print_spool;
 use journal::Progress;
-use memdisk::Pick;
+use memdisk::{MemDisk, Pick};
 use names::GroupName;
 use script::{Line, ParseError, parse};
 use std::alloc::Global;
 use std::io::{BufRead, Write};
+use wcache::WCache;
 use world::{Answer, Event, StepError};
 
 /// The device calls of the largest batch, of 512 images, to its end.
@@ -22,10 +24,10 @@ const MOST_CALLS: u32 = 2 * 512 + 7;
 
 /// What the events act on.
 #[derive(Drop)]
-enum Stage {
-    Open(Sim),
+enum Stage<D: Device> {
+    Open(Sim<D>),
     /// The last opening was refused: a crash opens the device again.
-    Closed(Closed),
+    Closed(Closed<D>),
 }
 
 /// Plays the script that `input` holds, one event a line, and prints what it does. A refused event prints its refusal,
@@ -33,10 +35,25 @@ enum Stage {
 pub(crate) fn simulate<R: BufRead, W: Write>(
     alloc: Global,
     plan: &Plan<'_>,
+    is_cached: bool,
     input: &mut R,
     output: &mut W,
 ) -> Result<(), Failure> {
-    let mut stage = Stage::Open(new_sim(alloc, plan)?);
+    if is_cached {
+        play_lines::<WCache<MemDisk>, R, W>(alloc, plan, input, output)
+    } else {
+        play_lines::<MemDisk, R, W>(alloc, plan, input, output)
+    }
+}
+
+/// The same over one kind of device.
+fn play_lines<D: Device, R: BufRead, W: Write>(
+    alloc: Global,
+    plan: &Plan<'_>,
+    input: &mut R,
+    output: &mut W,
+) -> Result<(), Failure> {
+    let mut stage = Stage::Open(new_sim::<D>(alloc, plan)?);
     let mut text = Vec::new(alloc);
     for number in 1..=u64::MAX {
         text.clear();
@@ -53,8 +70,8 @@ pub(crate) fn simulate<R: BufRead, W: Write>(
 }
 
 /// A world over a new volume.
-fn new_sim(alloc: Global, plan: &Plan<'_>) -> Result<Sim, Failure> {
-    match Closed::new(new_volume(alloc, plan)?).open(alloc) {
+fn new_sim<D: Device>(alloc: Global, plan: &Plan<'_>) -> Result<Sim<D>, Failure> {
+    match Closed::new(D::over(alloc, new_volume(alloc, plan)?)).open(alloc) {
         Ok(sim) => Ok(sim),
         Err((_, error)) => Err(Failure::NotOpened(error)),
     }
@@ -83,6 +100,10 @@ fn play<W: Write>(alloc: Global, stage: Stage, line: Line, output: &mut W) -> Re
             device.fail_at(call);
             Ok(Stage::Closed(device))
         }
+        (Stage::Closed(mut device), Line::FailKind(kind, call)) => {
+            device.fail_kind(kind, call);
+            Ok(Stage::Closed(device))
+        }
         (Stage::Closed(device), _) => {
             print_refusal(&StepError::Halted, output)?;
             Ok(Stage::Closed(device))
@@ -91,14 +112,13 @@ fn play<W: Write>(alloc: Global, stage: Stage, line: Line, output: &mut W) -> Re
 }
 
 /// The device crashes, each touched octet by this pick, and is opened again.
-fn reopen<W: Write>(
+fn reopen<D: Device, W: Write>(
     alloc: Global,
-    mut device: Closed,
+    device: Closed<D>,
     pick: Pick,
     output: &mut W,
-) -> Result<Stage, Failure> {
-    device.crash(pick);
-    match device.open(alloc) {
+) -> Result<Stage<D>, Failure> {
+    match device.crashed(alloc, pick).open(alloc) {
         Ok(sim) => {
             let opened = sim.opened();
             writeln!(output, "opened {opened}")?;
@@ -112,7 +132,12 @@ fn reopen<W: Write>(
 }
 
 /// Does what a line asks of the world, and prints what it says of it.
-fn act<W: Write>(alloc: Global, sim: &mut Sim, line: Line, output: &mut W) -> Result<(), Failure>
+fn act<D: Device, W: Write>(
+    alloc: Global,
+    sim: &mut Sim<D>,
+    line: Line,
+    output: &mut W,
+) -> Result<(), Failure>
     requires { IsLawful line }
 {
     match line {
@@ -150,6 +175,10 @@ fn act<W: Write>(alloc: Global, sim: &mut Sim, line: Line, output: &mut W) -> Re
             sim.fail_at(call);
             Ok(())
         }
+        Line::FailKind(kind, call) => {
+            sim.fail_kind(kind, call);
+            Ok(())
+        }
         Line::Spool => Ok(print_spool(sim.spool(), output)?),
         // a crash takes the world apart, see `play`
         Line::Crash(_) => Ok(()),
@@ -157,7 +186,12 @@ fn act<W: Write>(alloc: Global, sim: &mut Sim, line: Line, output: &mut W) -> Re
 }
 
 /// An event that prints nothing but its refusal.
-fn step<W: Write>(alloc: Global, sim: &mut Sim, event: Event, output: &mut W) -> Result<(), Failure>
+fn step<D: Device, W: Write>(
+    alloc: Global,
+    sim: &mut Sim<D>,
+    event: Event,
+    output: &mut W,
+) -> Result<(), Failure>
     requires { MayHappen event }
 {
     match sim.step(alloc, &event) {
@@ -167,7 +201,11 @@ fn step<W: Write>(alloc: Global, sim: &mut Sim, event: Event, output: &mut W) ->
 }
 
 /// A session begins; its number is printed.
-fn join<W: Write>(alloc: Global, sim: &mut Sim, output: &mut W) -> Result<(), Failure> {
+fn join<D: Device, W: Write>(
+    alloc: Global,
+    sim: &mut Sim<D>,
+    output: &mut W,
+) -> Result<(), Failure> {
     match sim.step(alloc, &Event::Join) {
         Ok(Answer::Joined(session)) => Ok(writeln!(output, "join {session}")?),
         Ok(_) => Ok(()),
@@ -176,7 +214,11 @@ fn join<W: Write>(alloc: Global, sim: &mut Sim, output: &mut W) -> Result<(), Fa
 }
 
 /// What is ready is handed out and printed.
-fn release<W: Write>(alloc: Global, sim: &mut Sim, output: &mut W) -> Result<(), Failure> {
+fn release<D: Device, W: Write>(
+    alloc: Global,
+    sim: &mut Sim<D>,
+    output: &mut W,
+) -> Result<(), Failure> {
     match sim.step(alloc, &Event::Release) {
         Ok(_) => print_released(alloc, sim.ready(), output),
         Err(error) => Ok(print_refusal(&error, output)?),
@@ -184,7 +226,11 @@ fn release<W: Write>(alloc: Global, sim: &mut Sim, output: &mut W) -> Result<(),
 }
 
 /// A batch is taken and carried to its commit, of which the kernel is told. Where none was taken, nothing happens.
-fn commit<W: Write>(alloc: Global, sim: &mut Sim, output: &mut W) -> Result<(), Failure> {
+fn commit<D: Device, W: Write>(
+    alloc: Global,
+    sim: &mut Sim<D>,
+    output: &mut W,
+) -> Result<(), Failure> {
     match sim.step(alloc, &Event::Take) {
         Ok(Answer::Took(Some(_))) => {}
         Ok(_) => return Ok(()),
@@ -202,7 +248,11 @@ fn commit<W: Write>(alloc: Global, sim: &mut Sim, output: &mut W) -> Result<(), 
 }
 
 /// The batch in flight is carried to its end.
-fn settle<W: Write>(alloc: Global, sim: &mut Sim, output: &mut W) -> Result<(), Failure> {
+fn settle<D: Device, W: Write>(
+    alloc: Global,
+    sim: &mut Sim<D>,
+    output: &mut W,
+) -> Result<(), Failure> {
     match carry(alloc, sim, Until::Ended) {
         Ok(_) => Ok(()),
         Err(error) => Ok(print_refusal(&error, output)?),
@@ -227,7 +277,11 @@ impl Until {
 }
 
 /// Makes device calls until one answers what is awaited, or is refused.
-fn carry(alloc: Global, sim: &mut Sim, until: Until) -> Result<Answer, StepError> {
+fn carry<D: Device>(
+    alloc: Global,
+    sim: &mut Sim<D>,
+    until: Until,
+) -> Result<Answer, StepError> {
     for _ in 0..MOST_CALLS {
         if let Answer::Progressed(progress) = sim.step(alloc, &Event::Dev)? {
             if until.is_met(progress) {

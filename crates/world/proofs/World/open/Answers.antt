@@ -22,7 +22,7 @@ returns-in-Err-clause-damaged g c damaged tells = absurd (journal_finds_no_damag
 
 pub returns-in-Err-clause-memory : goal.returns-in-Err-clause-memory
 returns-in-Err-clause-memory g c lacked =
-    ap (λ d. (g.D.Disk.device d).failures) (c.in-Err.ensures.err.memory (journal_lacked_memory c.in-Err.refused.error c.journal_error.result c.journal_error.ensures c.in-Err.ensures.err.not_halted lacked))
+    c.in-Err.ensures.err.memory (journal_lacked_memory c.in-Err.refused.error c.journal_error.result c.journal_error.ensures c.in-Err.ensures.err.not_halted lacked)
 
 pub returns-in-Err-clause-no_spool : goal.returns-in-Err-clause-no_spool
 returns-in-Err-clause-no_spool g c missed tells =
