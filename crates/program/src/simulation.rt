@@ -86,7 +86,7 @@ fn without_end(line: &[u8]) -> &[u8] {
 }
 
 /// Plays a line, and answers what the next one acts on.
-fn play<W: Write>(alloc: Global, stage: Stage, line: Line, output: &mut W) -> Result<Stage, Failure>
+fn play<D: Device, W: Write>(alloc: Global, stage: Stage<D>, line: Line, output: &mut W) -> Result<Stage<D>, Failure>
     requires { IsLawful line }
 {
     match (stage, line) {
