@@ -17,7 +17,7 @@ use Rattle.model.specs.declared.message.Message.{Message}
 use Rattle.model.specs.declared.message.Mark.{Mark}
 use Rattle.model.specs.declared.message.Mark.TheVariants as mark
 use Rattle.model.specs.declared.message.Mode.{Mode}
-use Rattle.spool.specs.View.{SpoolView, Adds}
+use Rattle.spool.specs.View.{SpoolView}
 use Rattle.spool.specs.View as changed
 use Rattle.spool.specs.Dirty.{is_among}
 use Rattle.std.specs.List.{list_any}

@@ -3,7 +3,7 @@
 //! `specs/Kept.antt` what it keeps.
 #![tactic(auto)]
 
-ghost use Rattle.std.specs.Prelude.{◌&&◌, nat_lt, ◌≡◌, ◌≢◌, ◌⊎◌, ◌↔◌, ◌+◌, ◌*◌, ◌^◌, ◌<◌, ◌≤◌, ℕ, List, Some, IsSome, IsNone, IsTrue, IfOk, IfErr, IfSome, OnErr, length, true, false, is_some, option_map, slice_get};
+ghost use Rattle.std.specs.Prelude.{◌&&◌, nat_lt, ◌≡◌, ◌≢◌, ◌⊎◌, ◌↔◌, ◌+◌, ◌*◌, ◌<◌, ◌≤◌, Some, IsSome, IsNone, IsTrue, IfOk, IfSome, OnErr, length, true, false, is_some, option_map, slice_get};
 ghost use Rattle.std.specs.List.{list_all};
 ghost use Rattle.kernel.specs.Errors.{of_join, of_exec, of_admin};
 ghost use Rattle.kernel.specs.Kept.{IsKept};

@@ -1,6 +1,6 @@
 //! Opening the kernel that stands in the logical blocks of a journal.
 
-ghost use Rattle.std.specs.Prelude.{◌≡◌, ◌≢◌, ◌⊎◌, ◌*◌, ◌≤◌, None, [], ℕ, List, IfErr, IfOk, IsTrue, MatchResult, OnErr, OnOk, false, length, vec_len};
+ghost use Rattle.std.specs.Prelude.{◌≡◌, ◌≢◌, ◌⊎◌, ◌*◌, ◌≤◌, None, [], List, IfErr, IfOk, IsTrue, MatchResult, OnErr, OnOk, false, length, vec_len};
 ghost use Rattle.journal.specs.Journal.{HasWholeBlocks, IsIdle, LeavesAdmitted};
 ghost use Rattle.kernel.specs.Label.{IsNoLabel};
 ghost use Rattle.kernel.specs.Opening.{HasFailed, IsDamaged, IsOpened, IsStill, OnlyReads, OpensOver};

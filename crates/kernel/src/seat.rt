@@ -1,6 +1,6 @@
 //! One session and its outputs.
 
-ghost use Rattle.std.specs.Prelude.{Some, None, IfSome, IsNone, find, slice_get, ◌==◌, ◌≡◌, ◌<◌, ◌≤◌, ◌+◌, ◌^◌, ◌++◌, ◌∷◌, [], max, ℕ, IfOk, OnErr, OnOk, IsSome, length};
+ghost use Rattle.std.specs.Prelude.{Some, None, IfSome, IsNone, find, slice_get, ◌==◌, ◌≡◌, ◌<◌, ◌≤◌, ◌+◌, ◌^◌, ◌++◌, ◌∷◌, [], max, IfOk, OnErr, OnOk, IsSome, length};
 ghost use Rattle.kernel.specs.Kernel.{FitsMode, Seat as SeatView, answered_by, given_of, new_seat, ready, seat_given};
 ghost use Rattle.kernel.specs.Serving.{SeatServed, turned};
 ghost use Rattle.model.specs.Calendar.{moment_limit};

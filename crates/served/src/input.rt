@@ -1,4 +1,4 @@
-ghost use Rattle.std.specs.Prelude.{◌≡◌, ◌++◌, [], Bool, List, ℕ, Some, None, IfOk, IfSome, OnOk, OnErr};
+ghost use Rattle.std.specs.Prelude.{◌≡◌, ◌++◌, [], List, ℕ, Some, None, IfOk, OnOk, OnErr};
 ghost use Rattle.model.specs.declared.message.Mode.{Mode as ItsMode};
 ghost use Rattle.served.specs.Input.{Found, MayAsk, Waits};
 

@@ -2,12 +2,12 @@
 //! served. `specs/Served.antt` says what callers see and what ties the two, `specs/Events.antt` what each call does.
 #![tactic(auto)]
 
-ghost use Rattle.std.specs.Prelude.{◌≡◌, ◌≢◌, ◌⊎◌, ◌↔◌, ◌+◌, ◌*◌, ◌≤◌, ◌<◌, [], ◌∷◌, ◌++◌, ℕ, List, Option, Some, None, Ok, IsTrue, IsSome, IsNone, IfOk, IfErr, IfSome, OnOk, OnErr, length, true, false, is_none, MatchResult, map};
+ghost use Rattle.std.specs.Prelude.{◌≡◌, ◌≢◌, ◌⊎◌, ◌↔◌, ◌+◌, ◌*◌, ◌≤◌, ◌<◌, [], Option, Some, None, Ok, IsTrue, IsSome, IsNone, IfOk, IfSome, OnOk, OnErr, length, true, false, is_none};
 ghost use Rattle.std.specs.List.{list_all};
-ghost use Rattle.kernel.specs.Errors.{of_join, of_exec, of_admin};
+ghost use Rattle.kernel.specs.Errors.{of_join, of_admin};
 ghost use Rattle.served.specs.Errors.{of_arrive};
 ghost use Rattle.kernel.specs.Kept.{IsKept};
-ghost use Rattle.kernel.specs.Kernel.{KernelView, Takes, Tested, TestedOrMemory, admin_refusal_of, early_refusal, halted_for_good, has_batch, join_refusal, made_durable, mode_at};
+ghost use Rattle.kernel.specs.Kernel.{Takes, Tested, TestedOrMemory, admin_refusal_of, early_refusal, halted_for_good, has_batch, join_refusal, made_durable, mode_at};
 ghost use Rattle.model.specs.Calendar.{moment_limit};
 ghost use Rattle.model.specs.Lawful.{is_description_octet};
 ghost use Rattle.model.specs.Volume.{blocks_from};
@@ -45,7 +45,6 @@ pub struct Served {
 }
 
 impl Model for Served {
-    ghost use Rattle.std.specs.Prelude.{map};
     ghost use Rattle.served.specs.Served.{ServedView};
 
     ghost Value = { ServedView };

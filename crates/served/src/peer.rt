@@ -1,6 +1,6 @@
 //! What each session sent and was sent, by its number.
 
-ghost use Rattle.std.specs.Prelude.{◌≡◌, ◌+◌, ◌++◌, ◌≤◌, ◌<◌, [], ℕ, List, Some, None, IfOk, OnOk, OnErr, MatchOption, true, ◌==◌, slice_get, if◌then◌else◌, length, vec_len, vec_capacity, slice_index_or};
+ghost use Rattle.std.specs.Prelude.{◌≡◌, ◌+◌, ◌++◌, ◌≤◌, ◌<◌, [], ℕ, List, Some, None, IfOk, OnOk, OnErr, MatchOption, true, ◌==◌, slice_get, if◌then◌else◌, length};
 ghost use Rattle.model.specs.declared.message.Mode.{Mode as ItsMode};
 ghost use Rattle.served.specs.Events.{with_released};
 ghost use Rattle.kernel.specs.Kernel.{Seat};

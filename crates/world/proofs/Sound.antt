@@ -18,7 +18,7 @@ use Rattle.std.specs.Prelude.{drop, ◌||◌, ◌&&◌, not, is_none, nat_le, na
 use Rattle.journal.specs.Journal.{IsReady, JournalView}
 use Rattle.journal.specs.declared.Next.TheVariants.{Descriptor}
 use Rattle.kernel.specs.Errors.{of_exec}
-use Rattle.kernel.specs.Kernel.{AgreesBehind, KernelView, halted_for_good, made_durable, Refusal, Seat, Takes, Tested, TestedOrMemory, buffered, exec_refusal, first_failing, has_batch, is_block, left, mode_at, taken}
+use Rattle.kernel.specs.Kernel.{AgreesBehind, KernelView, halted_for_good, made_durable, Refusal, Seat, Takes, Tested, TestedOrMemory, buffered, exec_refusal, first_failing, has_batch, is_block, mode_at, taken}
 use Rattle.kernel.specs.Kept.{IsKept}
 use Rattle.kernel.specs.declared.Ticket.{Ticket}
 use Rattle.kernel.specs.declared.errors.ExecError.{ExecError}

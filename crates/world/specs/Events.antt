@@ -11,7 +11,7 @@ use Rattle.journal.specs.declared.JournalError.TheVariants as journal
 use Rattle.journal.specs.declared.Next.TheVariants.{Descriptor}
 use Rattle.journal.specs.declared.Progress.{Progress}
 use Rattle.journal.specs.declared.Progress.TheVariants as progress
-use Rattle.kernel.specs.Kernel.{KernelView, Refusal, Tested, TestedOrMemory, admin_refusal_of, early_refusal, exec_refusal, first_failing, halted_for_good, has_batch, join_refusal, made_durable, mode_at, taken}
+use Rattle.kernel.specs.Kernel.{KernelView, Refusal, Tested, TestedOrMemory, admin_refusal_of, early_refusal, exec_refusal, halted_for_good, has_batch, join_refusal, made_durable, mode_at, taken}
 use Rattle.kernel.specs.Kernel as refusal
 use Rattle.kernel.specs.declared.errors.AdminError.{AdminError}
 use Rattle.kernel.specs.declared.errors.AdminError.TheVariants as admin

@@ -3,13 +3,13 @@
 //! event does, `specs/Tied.antt` what the system keeps.
 #![tactic(auto)]
 
-ghost use Rattle.std.specs.Prelude.{◌≢◌, IfOk, IfErr, ◌≡◌, ◌⊎◌, ◌≤◌, ◌<◌, ℕ, List, Some, Ok, Err, true, [], take, slice_get, MatchOption, ◌||◌, IsTrue, length, MatchResult};
+ghost use Rattle.std.specs.Prelude.{◌≢◌, IfOk, IfErr, ◌≡◌, ◌⊎◌, ◌≤◌, ◌<◌, ℕ, Some, Ok, Err, true, [], take, slice_get, MatchOption, ◌||◌, IsTrue, length, MatchResult};
 ghost use Rattle.std.specs.List.{list_all};
 ghost use Rattle.kernel.specs.Kernel.{Tested, TestedOrMemory, admin_refusal_of, early_refusal, mode_at};
 ghost use Rattle.model.specs.Calendar.{moment_limit};
 ghost use Rattle.model.specs.Lawful.{is_description_octet};
 ghost use Rattle.model.specs.declared.change.Change.TheVariants.{Group};
-ghost use Rattle.served.specs.Events.{Makes, arrive_refusal, arrives, joins, leaves, releases, with_kernel};
+ghost use Rattle.served.specs.Events.{Makes, arrive_refusal, arrives, leaves};
 ghost use Rattle.served.specs.Served.{arrived_at, next_of, released_at};
 ghost use Rattle.world.specs.Events.{Did, DidDev, DidExec, DidTake, MayHappen, Ran, Went, commits, dev_answer, exec_answer, fails, for_memory, of_admin_error, of_arrive_error, of_join_error, of_kernel, told};
 ghost use Rattle.world.specs.Fields.{durable_news};

@@ -48,7 +48,7 @@ returns-in-Err-open-clause-no_spool g c missed tells =
     missed
 
 pub returns-in_default-clause-during : goal.returns-in_default-clause-during
-returns-in_default-clause-during g c = subst (λ d. KeepsSpools (g.D.Disk.device c.args.disk) (g.D.Disk.device d)) (sym c.into_disk-in_default.ensures) (keeps_both g.D.Disk.device g.met.D.Disk.only_now g.met.D.Disk.counts_content c.args.disk c.in-Ok.journal c.open-2.new.journal c.in-Ok.ensures.ok c.open-2.ensures.reads)
+returns-in_default-clause-during g c = subst (λ d. KeepsSpools (g.D.Disk.device c.args.disk) (g.D.Disk.device d)) (sym c.into_disk.ensures) (keeps_both g.D.Disk.device g.met.D.Disk.only_now g.met.D.Disk.counts_content c.args.disk c.in-Ok.journal c.open-2.new.journal c.in-Ok.ensures.ok c.open-2.ensures.reads)
 
 pub returns-in_default-new-clause-during : goal.returns-in_default-new-clause-during
 returns-in_default-new-clause-during g c = subst (λ d. KeepsSpools (g.D.Disk.device c.args.disk) (g.D.Disk.device d)) (sym c.into_disk-in_default-new.ensures) (keeps_both g.D.Disk.device g.met.D.Disk.only_now g.met.D.Disk.counts_content c.args.disk c.in-Ok.journal c.open-2.new.journal c.in-Ok.ensures.ok c.open-2.ensures.reads)
@@ -68,7 +68,7 @@ pub returns-in-Err-open-clause-time : goal.returns-in-Err-open-clause-time
 returns-in-Err-open-clause-time g c = subst (λ d. Elapses (g.D.Disk.device c.args.disk) (g.D.Disk.device d)) (sym c.into_disk-disk.ensures) (elapses_both (g.D.Disk.device c.args.disk) (g.D.Disk.device c.in-Ok.journal.disk) (g.D.Disk.device c.open-2.new.journal.disk) c.in-Ok.ensures.ok.time c.open-2.ensures.reads.time)
 
 pub returns-in_default-clause-time : goal.returns-in_default-clause-time
-returns-in_default-clause-time g c = subst (λ d. Elapses (g.D.Disk.device c.args.disk) (g.D.Disk.device d)) (sym c.into_disk-in_default.ensures) (elapses_both (g.D.Disk.device c.args.disk) (g.D.Disk.device c.in-Ok.journal.disk) (g.D.Disk.device c.open-2.new.journal.disk) c.in-Ok.ensures.ok.time c.open-2.ensures.reads.time)
+returns-in_default-clause-time g c = subst (λ d. Elapses (g.D.Disk.device c.args.disk) (g.D.Disk.device d)) (sym c.into_disk.ensures) (elapses_both (g.D.Disk.device c.args.disk) (g.D.Disk.device c.in-Ok.journal.disk) (g.D.Disk.device c.open-2.new.journal.disk) c.in-Ok.ensures.ok.time c.open-2.ensures.reads.time)
 
 pub returns-in_default-new-clause-time : goal.returns-in_default-new-clause-time
 returns-in_default-new-clause-time g c = subst (λ d. Elapses (g.D.Disk.device c.args.disk) (g.D.Disk.device d)) (sym c.into_disk-in_default-new.ensures) (elapses_both (g.D.Disk.device c.args.disk) (g.D.Disk.device c.in-Ok.journal.disk) (g.D.Disk.device c.open-2.new.journal.disk) c.in-Ok.ensures.ok.time c.open-2.ensures.reads.time)
@@ -83,10 +83,10 @@ pub returns-in-Err-open-clause-moment : goal.returns-in-Err-open-clause-moment
 returns-in-Err-open-clause-moment g c = inl (subst (SyncsFirst g.D.Disk.device c.args.disk) (sym c.into_disk-disk.ensures) (syncs_both g.D.Disk.device g.met.D.Disk.only_now g.met.D.Disk.counts_content c.args.disk c.in-Ok.journal c.open-2.new.journal c.in-Ok.ensures.ok c.in-Ok.ensures.moment c.open-2.ensures.reads))
 
 pub returns-in_default-clause-volume : goal.returns-in_default-clause-volume
-returns-in_default-clause-volume g c = subst (λ d. LeftKept (g.D.Disk.device c.args.disk) (g.D.Disk.device d)) (sym c.into_disk-in_default.ensures) (left_both g.D.Disk.device g.met.D.Disk.only_now g.met.D.Disk.counts_content c.args.disk c.in-Ok.journal c.open-2.new.journal c.in-Ok.ensures.ok c.open-2.ensures.reads)
+returns-in_default-clause-volume g c = subst (λ d. LeftKept (g.D.Disk.device c.args.disk) (g.D.Disk.device d)) (sym c.into_disk.ensures) (left_both g.D.Disk.device g.met.D.Disk.only_now g.met.D.Disk.counts_content c.args.disk c.in-Ok.journal c.open-2.new.journal c.in-Ok.ensures.ok c.open-2.ensures.reads)
 
 pub returns-in_default-clause-moment : goal.returns-in_default-clause-moment
-returns-in_default-clause-moment g c = inl (subst (SyncsFirst g.D.Disk.device c.args.disk) (sym c.into_disk-in_default.ensures) (syncs_both g.D.Disk.device g.met.D.Disk.only_now g.met.D.Disk.counts_content c.args.disk c.in-Ok.journal c.open-2.new.journal c.in-Ok.ensures.ok c.in-Ok.ensures.moment c.open-2.ensures.reads))
+returns-in_default-clause-moment g c = inl (subst (SyncsFirst g.D.Disk.device c.args.disk) (sym c.into_disk.ensures) (syncs_both g.D.Disk.device g.met.D.Disk.only_now g.met.D.Disk.counts_content c.args.disk c.in-Ok.journal c.open-2.new.journal c.in-Ok.ensures.ok c.in-Ok.ensures.moment c.open-2.ensures.reads))
 
 pub returns-in_default-new-clause-volume : goal.returns-in_default-new-clause-volume
 returns-in_default-new-clause-volume g c = subst (λ d. LeftKept (g.D.Disk.device c.args.disk) (g.D.Disk.device d)) (sym c.into_disk-in_default-new.ensures) (left_both g.D.Disk.device g.met.D.Disk.only_now g.met.D.Disk.counts_content c.args.disk c.in-Ok.journal c.open-2.new.journal c.in-Ok.ensures.ok c.open-2.ensures.reads)
