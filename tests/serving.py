@@ -139,7 +139,7 @@ def one_server_holds_a_volume(volume):
     volume.make_group()
     with volume.serve() as server, server.call() as caller:
         assert caller.post(article(1)) == "240 Article received"
-        before = octets(volume.path)
+        before = settled_octets(volume.path)
         for words in (
             ["serve", volume.path, "--port", "1"],
             ["dump", volume.path],
@@ -211,10 +211,12 @@ def a_server_at_rest_takes_no_processor(volume):
 
 def what_can_not_be_served_is_refused(volume):
     directory = volume.path.rsplit("/", 1)[0]
+    with open(directory + "/text", "w") as text:
+        text.write("no volume")
     for words, status, said in (
         (["serve", directory, "--port", "1"], 1, "E1 Fault"),
         (["dump", directory + "/none"], 1, "E1 Fault"),
-        (["dump", "/dev/null"], 1, "E3 NotAVolume"),
+        (["dump", directory + "/text"], 1, "E3 NotAVolume"),
         (["group", volume.path, "x..a", "y", "1000000000", "test"], 1, "E14 Bad"),
         (["group", volume.path, "x.a", "m", "1000000000", "test"], 1, "E14 Bad"),
         (["group", volume.path, "x.a y", "y", "1000000000", "test"], 1, "E14 Bad"),
@@ -249,6 +251,17 @@ def a_commit_syncs_the_device(volume):
 def octets(path):
     with open(path, "rb") as file:
         return file.read()
+
+
+def settled_octets(path):
+    """A file's octets once the batch that was acknowledged has ended."""
+    seen = octets(path)
+    for _ in range(50):
+        time.sleep(0.1)
+        before, seen = seen, octets(path)
+        if before == seen:
+            return seen
+    raise AssertionError("the file does not come to rest")
 
 
 TESTS = [

@@ -16,10 +16,12 @@ const TRIES: u32 = 40;
 
 const PAUSE_MILLIS: u64 = 20;
 
-const FIRST: &str = "POST\r\nPath: p!not-for-mail\r\nDate: Sun, 09 Sep 2001 01:46:40 +0000\r\nMessage-ID: <1@a.example>\r\n\
+const FIRST: &str =
+    "POST\r\nPath: p!not-for-mail\r\nDate: Sun, 09 Sep 2001 01:46:40 +0000\r\nMessage-ID: <1@a.example>\r\n\
     From: a@example.org\r\nNewsgroups: x.a\r\nSubject: one\r\n\r\nhi\r\n.\r\n";
 
-const SECOND: &str = "POST\r\nPath: p!not-for-mail\r\nDate: Sun, 09 Sep 2001 01:46:40 +0000\r\nMessage-ID: <2@a.example>\r\n\
+const SECOND: &str =
+    "POST\r\nPath: p!not-for-mail\r\nDate: Sun, 09 Sep 2001 01:46:40 +0000\r\nMessage-ID: <2@a.example>\r\n\
     From: a@example.org\r\nNewsgroups: x.a\r\nSubject: two\r\n\r\nhi\r\n.\r\n";
 
 const GREETING: &str = "200 news.example ready, posting permitted";
@@ -41,7 +43,10 @@ impl Caller {
         let Ok(stream) = TcpStream::connect(rt, address) else {
             return None;
         };
-        if stream.set_read_timeout(Some(Duration::from_secs(READ_SECS))).is_err() {
+        if stream
+            .set_read_timeout(Some(Duration::from_secs(READ_SECS)))
+            .is_err()
+        {
             return None;
         }
         let Ok(theirs) = stream.try_clone() else {

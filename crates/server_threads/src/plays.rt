@@ -41,12 +41,9 @@ pub(crate) struct Outcome {
 }
 
 /// Where the operator's answers go.
+#[derive(Drop)]
 struct Answers<'a> {
     flags: &'a Flags,
-}
-
-impl<'a> Drop for Answers<'a> {
-    fn drop(&mut self) {}
 }
 
 impl<'a> Write for Answers<'a> {
@@ -129,7 +126,15 @@ impl<'a> Stage<'a> {
         let Ok(_) = kern.admin(rt, alloc, b"x.a", b'y', b"test", 1_000_000_000) else {
             return None;
         };
-        let Ok(_) = flush_turn(rt, &mut journal, &kern, mark, &mut flush_seat, &mut batch, &gate) else {
+        let Ok(_) = flush_turn(
+            rt,
+            &mut journal,
+            &kern,
+            mark,
+            &mut flush_seat,
+            &mut batch,
+            &gate,
+        ) else {
             return None;
         };
         flags.flushing.store(false, Ordering::SeqCst);
