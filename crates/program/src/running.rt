@@ -3,6 +3,7 @@
 use crate::simulation::simulate;
 use crate::words::{Asked, Service, read_words};
 use crate::{DONE, Failure, NOT_UNDERSTOOD, REFUSED};
+use names::GroupName;
 use script::{Line, ParseError, parse};
 use std::alloc::Global;
 use std::convert::AsStr;
@@ -113,8 +114,9 @@ fn make_group<R: Files<File = File> + Wait, W: Write>(
         Ok(_) | Err(ParseError::Bad) => return Err(Failure::Bad),
         Err(ParseError::Memory) => return Err(Failure::Memory),
     };
-    let (name, description) = (name.as_slice(), description.as_slice());
-    let serial = commands::group(rt, alloc, path, name, status, description, moment)?;
+    let name = GroupName::read(name.as_slice()).map_err(|_| Failure::Bad)?;
+    let description = description.as_slice();
+    let serial = commands::group(rt, alloc, path, &name, status, description, moment)?;
     Ok(writeln!(output, "{serial}")?)
 }
 

@@ -12,6 +12,7 @@ use journal::{Journal, format};
 use kernel::Kernel;
 use mark::{FlushSeat, Mark, Seat};
 use memdisk::MemDisk;
+use names::GroupName;
 use server::{FlushError, Kern, ServeError, flush_turn, serve};
 use spool::BatchBuf;
 use std::alloc::Global;
@@ -123,7 +124,10 @@ impl<'a> Stage<'a> {
             flags,
             holds: Holds::Nothing,
         };
-        let Ok(_) = kern.admin(rt, alloc, b"x.a", b'y', b"test", 1_000_000_000) else {
+        let Ok(name) = GroupName::read(b"x.a") else {
+            return None;
+        };
+        let Ok(_) = kern.admin(rt, alloc, &name, b'y', b"test", 1_000_000_000) else {
             return None;
         };
         let Ok(_) = flush_turn(
