@@ -186,7 +186,7 @@ impl<'a> Stage<'a> {
     }
 }
 
-/// Runs a server and its callers to their end. With `fault` the device fails at its first call.
+/// Runs a server and its callers to their end.
 pub(crate) fn play<
     R: Net<Listener = TcpListener, Stream = TcpStream>
         + Threads
@@ -196,13 +196,13 @@ pub(crate) fn play<
         + Send
         + Sync
         + 'static,
->(rt: &R, alloc: Global, holds: Holds, fault: bool) -> Option<Outcome> {
+>(rt: &R, alloc: Global, holds: Holds) -> Option<Outcome> {
     let flags = Flags::new();
     let Ok((mark, flush_seat, seat)) = Mark::new(alloc) else {
         return None;
     };
     let mut stage = Stage::new(rt, alloc, &mark, flush_seat, seat, &flags)?;
-    if fault {
+    if holds == Holds::Fault {
         stage.journal.fail_at(1);
     }
     let Ok(listener) = TcpListener::bind(rt, SocketAddr::from((Ipv4Addr::LOCALHOST, 0))) else {
