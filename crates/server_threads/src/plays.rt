@@ -186,6 +186,19 @@ impl<'a> Stage<'a> {
     }
 }
 
+/// Whether a turn of the flusher raises the mark, and not before its batch is told to be committed.
+pub(crate) fn raises_after_commit<R: Wait>(rt: &R, alloc: Global) -> bool {
+    let flags = Flags::new();
+    let Ok((mark, flush_seat, mut seat)) = Mark::new(alloc) else {
+        return false;
+    };
+    let own = mark.another(&mut seat);
+    if Stage::new(rt, alloc, &mark, flush_seat, own, &flags).is_none() {
+        return false;
+    }
+    mark.durable(&mut seat) == 1 && !flags.failed.load(Ordering::SeqCst)
+}
+
 /// Runs a server and its callers to their end.
 pub(crate) fn play<
     R: Net<Listener = TcpListener, Stream = TcpStream>

@@ -1,5 +1,5 @@
 use crate::gates::Holds;
-use crate::plays::{Outcome, play};
+use crate::plays::{Outcome, play, raises_after_commit};
 use server::ServeError;
 
 /// A play in which all went well, and whose last commit was refused.
@@ -44,4 +44,9 @@ fn a_fault_ends_the_server(rt: HostRuntime) {
         ..GOOD
     };
     assert_eq!(rt; play(&rt, rt.alloc(), Holds::Fault), Some(ended));
+}
+
+#[test]
+fn a_raise_follows_committed(rt: HostRuntime) {
+    assert!(rt; raises_after_commit(&rt, rt.alloc()));
 }
