@@ -1,5 +1,5 @@
 -- SP and TAB at the ends of a text.
-use Rattle.std.specs.Prelude.{◌≡◌, ℕ, zero, suc, ◌+◌, ◌-◌, ◌<◌, ◌≤◌, Bool, true, false, not, ◌||◌, ◌==◌, List, [], ◌∷◌, length, take, drop, get_or, reverse, Option, Some, None, is_some}
+use Rattle.std.specs.Prelude.{◌≡◌, ℕ, zero, suc, ◌+◌, ◌-◌, ◌<◌, ◌≤◌, Bool, true, false, not, [], ◌∷◌, length, take, drop, get_or, reverse, Option, Some, None, is_some}
 use Rattle.std.specs.List.{list_all}
 use Rattle.std.proofs.Common.{sym, ◌∙◌, ap, refl, arith}
 use Rattle.std.proofs.lemmas.Bool.{cond-true, cond-false, true≢false}
@@ -7,36 +7,12 @@ use Rattle.std.proofs.lemmas.List.{get_or-take, length-take-le, nil_from_length,
 use Rattle.std.proofs.lemmas.List.Folds.{list_all_at}
 use Rattle.std.proofs.Math.Seq.{take-suc}
 use Rattle.memchr.specs.Find.{IsFirstByte, Nowhere, Passes}
-use Rattle.bstr.specs.Bytes.{is_in, not_in}
+use Rattle.bstr.specs.Bytes.{not_in}
 use Rattle.model.specs.Stream.{Octets}
 use Rattle.model.specs.Names.{is_blank}
 use Rattle.model.specs.Article.{trimmed_start}
+use Rattle.names.proofs.BlankLaws.{blanks, inside, outside}
 use Rattle.article.proofs.LineLaws.{each_passes}
-
--- SP and TAB
-abbrev blanks : Octets
-blanks = 32 ∷ 9 ∷ []
-
-in_blanks : (x : ℕ) → is_in blanks x ≡ is_blank x
-unfolding is_in
-in_blanks x = by_test (x == 32) (x == 9) where
-  by_test : (a b : Bool) → (a || (b || false)) ≡ (a || b)
-  by_test true b = refl
-  by_test false true = refl
-  by_test false false = refl
-
--- what is not outside the set is blank
-inside : (x : ℕ) → ¬ (not_in blanks x ≡ true) → is_blank x ≡ true
-inside x never = sym (in_blanks x) ∙ by_test (is_in blanks x) never where
-  by_test : (b : Bool) → ¬ (not b ≡ true) → b ≡ true
-  by_test true n = refl
-  by_test false n = absurd (n refl)
-
-outside : (x : ℕ) → not_in blanks x ≡ true → is_blank x ≡ false
-outside x is = sym (in_blanks x) ∙ by_test (is_in blanks x) is where
-  by_test : (b : Bool) → not b ≡ true → b ≡ false
-  by_test true e = absurd (true≢false (sym e))
-  by_test false e = refl
 
 start-blank : (x : ℕ) (rest : Octets) → is_blank x ≡ true → trimmed_start (x ∷ rest) ≡ trimmed_start rest
 unfolding trimmed_start

@@ -11,6 +11,7 @@ use Rattle.model.specs.Names.{parts}
 use Rattle.model.specs.Article.{Origin, allows_id, are_distinct, id_in_field, is_named, trimmed}
 use Rattle.model.proofs.Ids.{none_kept, none_found}
 use Rattle.article.specs.Causes.{has_good_id}
+use Rattle.names.proofs.PartLaws.{cut_at, uncut}
 use Rattle.article.proofs.LineLaws.{is_false}
 
 abbrev is_id_field : Octets → Bool
@@ -30,33 +31,18 @@ good_id-some origin fields field good some is =
 
 -- ---- parts
 
--- the first part ends at the first mark
-part_found : (text : Octets) (end : ℕ) → end < length text → ((k : ℕ) → k < end → (get_or text k 0 == 44) ≡ false) → (get_or text end 0 == 44) ≡ true → parts 44 text ≡ take end text ∷ parts 44 (drop (suc end) text)
-part_found [] end within before at = absurd (omega arith)
-part_found (x ∷ rest) zero within before at = cond-true (x == 44) ([] ∷ parts 44 rest) (onto_first x (parts 44 rest)) at
-part_found (x ∷ rest) (suc end) within before at =
-    cond-false (x == 44) ([] ∷ parts 44 rest) (onto_first x (parts 44 rest)) (before 0 (omega arith))
-    ∙ ap (onto_first x) (part_found rest end (omega arith) (λ k below. before (suc k) (omega arith)) at)
-
--- without a mark there is one part
-part_none : (text : Octets) → ((k : ℕ) → k < length text → (get_or text k 0 == 44) ≡ false) → parts 44 text ≡ text ∷ []
-part_none [] none = refl
-part_none (x ∷ rest) none =
-    cond-false (x == 44) ([] ∷ parts 44 rest) (onto_first x (parts 44 rest)) (none 0 (omega arith))
-    ∙ ap (onto_first x) (part_none rest (λ k below. none (suc k) (omega arith)))
-
 pub groups-more : (rest group later after : Octets) (end : ℕ) (before all : List Octets) → NoneBefore (Passes (is_byte 44) rest) 0 (length rest) end → Passes (is_byte 44) rest end
     → group ≡ take end rest → later ≡ drop end rest → after ≡ drop 1 later → before ++ map trimmed (parts 44 rest) ≡ all → (before ++ trimmed group ∷ []) ++ map trimmed (parts 44 after) ≡ all
 groups-more rest group later after end before all first found front back next so_far =
     append_assoc before (trimmed group ∷ []) (map trimmed (parts 44 after))
     ∙ ap (λ l. before ++ l) (ap (λ g. trimmed g ∷ map trimmed (parts 44 after)) front
     ∙ ap (λ l. trimmed (take end rest) ∷ map trimmed (parts 44 l)) (next ∙ ap (drop 1) back ∙ drop-drop 1 end rest ∙ ap (λ n. drop n rest) (let e : end + 1 ≡ suc end = omega arith in e))
-    ∙ ap (map trimmed) (sym (part_found rest end first.high (λ k below. is_false _ (first.before k (omega arith) below)) found)))
+    ∙ ap (map trimmed) (sym (cut_at (λ x. x == 44) rest end first.high found (λ k below. is_false _ (first.before k (omega arith) below)))))
     ∙ so_far
 
 pub groups-last : (rest : Octets) (before all : List Octets) → Nowhere (Passes (is_byte 44) rest) 0 (length rest) → before ++ map trimmed (parts 44 rest) ≡ all → before ++ trimmed rest ∷ [] ≡ all
 groups-last rest before all none so_far =
-    ap (λ l. before ++ map trimmed l) (sym (part_none rest (λ k below. is_false _ (none k (omega arith) below)))) ∙ so_far
+    ap (λ l. before ++ map trimmed l) (sym (uncut (λ x. x == 44) rest (λ k below. is_false _ (none k (omega arith) below)))) ∙ so_far
 
 -- ---- distinct names
 

@@ -1,4 +1,4 @@
-ghost use Rattle.std.specs.Prelude.{◌≡◌, ℕ, ◌+◌, length, drop, map, find, count_by, option_map, reverse, IfOk, OnOk};
+ghost use Rattle.std.specs.Prelude.{◌≡◌, ◌+◌, length, drop, map, find, count_by, option_map, reverse, IfOk};
 ghost use Rattle.std.specs.List.{list_all};
 ghost use Rattle.model.specs.Article as article;
 ghost use Rattle.model.specs.Names as names;

@@ -1,4 +1,4 @@
-ghost use Rattle.std.specs.Prelude.{◌≡◌, ℕ, ◌+◌, ◌≤◌, ◌||◌, ◌∷◌, length, take, drop, map, find, count_by, option_map, IfOk, OnOk};
+ghost use Rattle.std.specs.Prelude.{◌≡◌, ◌≤◌, ◌||◌, length, map, IfOk};
 ghost use Rattle.std.specs.List.{list_all};
 ghost use Rattle.model.specs.Article as article;
 ghost use Rattle.model.specs.Names as names;
@@ -6,6 +6,7 @@ ghost use Rattle.article.specs.Header.{EndsField};
 
 use crate::lines::{is_empty_line, line_length};
 use bstr::ByteSlice;
+use names::is_visible;
 use std::alloc::{AllocError, Global};
 use std::cmp::min;
 
@@ -14,13 +15,6 @@ fn is_blank(octet: u8) -> bool
     ensures { result ≡ names.is_blank octet }
 {
     octet == b' ' || octet == b'\t'
-}
-
-/// Whether the octet is printable and no space.
-fn is_visible(octet: u8) -> bool
-    ensures { result ≡ names.is_visible octet }
-{
-    33 <= octet && octet <= 126
 }
 
 /// Whether a line goes on with the field of the line before it.

@@ -1,5 +1,4 @@
-ghost use Rattle.std.specs.Prelude.{◌≡◌, ◌++◌, ◌<◌, length, map, IfOk, OnOk, decimal};
-ghost use Rattle.model.specs.Stream.{crlf};
+ghost use Rattle.std.specs.Prelude.{◌≡◌, ◌++◌, ◌<◌, map, IfOk, OnOk};
 ghost use Rattle.model.specs.Calendar.{moment_limit};
 ghost use Rattle.article.specs.Stored as stored;
 

@@ -1,8 +1,8 @@
 -- What a device is at one moment, and what each of its calls may do to that (the disk model, docs/THEOREM.md).
-use Rattle.std.specs.Prelude.{◌≡◌, ◌≢◌, ◌⊎◌, ◌≤◌, ℕ, ◌+◌, ◌%◌, ◌^◌, Bool, IsTrue, List, Result, OnOk, IfErr}
+use Rattle.std.specs.Prelude.{◌≡◌, ◌≢◌, ◌⊎◌, ◌≤◌, ℕ, ◌+◌, ◌%◌, ◌^◌, Bool, IsTrue, List, Result, OnOk, IfErr, MatchResult}
 use Rattle.disk.specs.Image.{Torn}
 use Rattle.disk.specs.declared.DiskError.{DiskError}
-use Rattle.disk.specs.declared.DiskError.TheVariants.{Fault}
+use Rattle.disk.specs.declared.DiskError.TheVariants.{Fault, Memory}
 
 -- a device at one moment
 pub record Device : Type 1 where
@@ -63,6 +63,10 @@ pub record HasCause {T : Type 0} (result : Result T DiskError) (old new : Device
   pub ok : OnOk result (new.failures ≡ old.failures)
   pub fault : IfErr result (λ error. error ≡ Fault → new.failures ≢ old.failures)
 
+-- the call was asked, unless it was refused for want of memory
+abbrev pub OnAsked : {T : Type 0} → Result T DiskError → Type 0 → Type 0
+OnAsked result asked = MatchResult result (λ _. asked) (λ error. error ≡ Fault → asked)
+
 -- which calls were asked: one read, one write or one sync, and no other
 pub record IsRead (old new : Device) : Type 0 where
   pub reads : new.reads ≡ one_more old.reads
@@ -78,6 +82,21 @@ pub record IsSync (old new : Device) : Type 0 where
   pub reads : new.reads ≡ old.reads
   pub writes : new.writes ≡ old.writes
   pub syncs : new.syncs ≡ one_more old.syncs
+
+-- A call that was refused for want of memory took nothing: the content and the counts are as before, and a crash
+-- leaves nothing that it could not have left before.
+pub record IsRefused (old new : Device) : Type 0 where
+  pub time : Elapses old new
+  pub content : IsTrue old.tells → new.content ≡ old.content
+  pub crash : IsTrue old.tells → LeavesNoMore old new
+  pub since : IsTrue old.tells → LeftNoMore old new
+  pub reads : new.reads ≡ old.reads
+  pub writes : new.writes ≡ old.writes
+  pub syncs : new.syncs ≡ old.syncs
+  pub failures : new.failures ≡ old.failures
+
+abbrev pub OnRefused : {T : Type 0} → Result T DiskError → Device → Device → Type 0
+OnRefused result old new = IfErr result (λ error. error ≡ Memory → IsRefused old new)
 
 -- all that a device means is as it was
 pub record IsUnchanged (old new : Device) : Type 0 where

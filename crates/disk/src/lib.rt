@@ -2,8 +2,8 @@
 //! `specs/Device.antt` says what a device is at one moment; the clauses of `Disk` say what each call does to that.
 #![tactic(auto)]
 
-ghost use Rattle.std.specs.Prelude.{◌≡◌, ◌+◌, ◌≤◌, List, ℕ, IsTrue, length, OnOk};
-ghost use Rattle.disk.specs.Device.{Device, Elapses, HasCause, IsRead, IsSync, IsUnchanged, IsWrite, LeavesOnly, LeavesNoMore, LeftNoMore, LeftTornAt, TearsAt};
+ghost use Rattle.std.specs.Prelude.{◌≡◌, ◌+◌, ◌≤◌, Bool, List, ℕ, IsTrue, length, IfErr, OnOk};
+ghost use Rattle.disk.specs.Device.{Device, Elapses, HasCause, IsRead, IsSync, IsUnchanged, IsWrite, LeavesOnly, LeavesNoMore, LeftNoMore, LeftTornAt, OnAsked, OnRefused, TearsAt};
 ghost use Rattle.disk.specs.Image.{part, overwritten};
 
 /// Why a device call was refused.
@@ -11,18 +11,34 @@ ghost use Rattle.disk.specs.Image.{part, overwritten};
 pub enum DiskError {
     /// The device failed in this call.
     Fault,
+    /// A growth was refused in this call, and nothing was taken.
+    Memory,
+}
+
+/// The kinds of calls.
+#[derive(Clone, Copy, Debug, PartialEq, Eq)]
+pub enum DiskCall {
+    Read,
+    Write,
+    Sync,
 }
 
 /// A block device, at each moment what `device` says; the clauses hold for every call, refused ones among them.
+///
+/// A read takes no memory. A write or a sync that is refused for want of memory takes nothing and may be asked again.
 pub trait Disk {
     /// What the device is at this moment.
     ghost device: { Self → Device };
+
+    /// Whether its calls take memory. Where they don't, none is refused for want of it.
+    ghost grows: { Bool };
 
     /// How many octets there are.
     fn len(&self) -> u64
         ensures { result ≡ (device self.now).size };
 
-    /// Reads the octets from `at` on, as many as there is room for. A fault leaves the room with any octets.
+    /// Reads the octets from `at` on, as many as there is room for. A fault leaves the room with any octets. It is the
+    /// only refusal.
     fn read(&mut self, at: u64, into: &mut [u8]) -> Result<(), DiskError>
         requires { at + length into.old ≤ (device self.old).size }
         ensures value { IsTrue (device self.old).tells → OnOk result (into.new ≡ part at (length into.old) (device self.old).content) }
@@ -31,7 +47,8 @@ pub trait Disk {
         ensures since { IsTrue (device self.old).tells → LeftNoMore (device self.old) (device self.new) }
         ensures time { Elapses (device self.old) (device self.new) }
         ensures call { IsRead (device self.old) (device self.new) }
-        ensures cause { HasCause result (device self.old) (device self.new) };
+        ensures cause { HasCause result (device self.old) (device self.new) }
+        ensures no_memory { IfErr result (λ error. error ≡ DiskError.Fault) };
 
     /// Writes octets from `at` on. Until a good sync, a crash may leave any octets there, also after a fault.
     fn write(&mut self, at: u64, from: &[u8]) -> Result<(), DiskError>
@@ -40,8 +57,10 @@ pub trait Disk {
         ensures crash { IsTrue (device self.old).tells → TearsAt at (length from.now) (device self.old) (device self.new) }
         ensures since { IsTrue (device self.old).tells → LeftTornAt at (length from.now) (device self.old) (device self.new) }
         ensures time { Elapses (device self.old) (device self.new) }
-        ensures call { IsWrite (device self.old) (device self.new) }
-        ensures cause { HasCause result (device self.old) (device self.new) };
+        ensures call { OnAsked result (IsWrite (device self.old) (device self.new)) }
+        ensures cause { HasCause result (device self.old) (device self.new) }
+        ensures refused { OnRefused result (device self.old) (device self.new) }
+        ensures memory { IfErr result (λ error. error ≡ DiskError.Memory → IsTrue grows) };
 
     /// After a good one, a crash leaves exactly what a read gives. A fault makes nothing durable.
     fn sync(&mut self) -> Result<(), DiskError>
@@ -50,8 +69,10 @@ pub trait Disk {
         ensures crash { IsTrue (device self.old).tells → LeavesNoMore (device self.old) (device self.new) }
         ensures since { IsTrue (device self.old).tells → LeftNoMore (device self.old) (device self.new) }
         ensures time { Elapses (device self.old) (device self.new) }
-        ensures call { IsSync (device self.old) (device self.new) }
-        ensures cause { HasCause result (device self.old) (device self.new) };
+        ensures call { OnAsked result (IsSync (device self.old) (device self.new)) }
+        ensures cause { HasCause result (device self.old) (device self.new) }
+        ensures refused { OnRefused result (device self.old) (device self.new) }
+        ensures memory { IfErr result (λ error. error ≡ DiskError.Memory → IsTrue grows) };
 
     /// Each image has as many octets as the device.
     ghost image_size: { (d : Self) (c : List ℕ) → IsTrue (device d).tells → (device d).may_leave c → length c ≡ (device d).size };
@@ -68,12 +89,23 @@ pub trait Disk {
 
 /// A device that can be told to fail.
 pub trait Faults: Disk {
+    ghost use Rattle.disk.specs.declared.DiskCall.{DiskCall};
+
     /// Between two values: the second is the first with that call told to fail, counted from 1, and 0 for none.
     ghost plans: { ℕ → Self → Self → Type 0 };
+
+    /// The same for calls of one kind.
+    ghost plans_kind: { DiskCall → ℕ → Self → Self → Type 0 };
 
     /// The n-th call of the device from now on, counted from 1, answers `Fault`; 0 takes an earlier plan back.
     /// All that the device means stays as it was.
     fn fail_at(&mut self, n: u64)
         ensures unchanged { IsUnchanged (Self.device self.old) (Self.device self.new) }
         ensures plan { plans n self.old self.new };
+
+    /// The n-th call of that kind from now on, counted from 1, answers `Fault`; 0 takes an earlier plan back. It replaces
+    /// an earlier plan. All that the device means stays as it was.
+    fn fail_kind(&mut self, kind: DiskCall, n: u64)
+        ensures unchanged { IsUnchanged (Self.device self.old) (Self.device self.new) }
+        ensures plan { plans_kind kind n self.old self.new };
 }

@@ -116,10 +116,13 @@ fn answer(outcome: io::Result<()>, failures: &mut u64) -> Result<(), DiskError>
 }
 
 impl Disk for FileDisk {
+    ghost use Rattle.std.specs.Prelude.{false};
     ghost use Rattle.std.proofs.lemmas.Bool.{false≢true};
     ghost use Rattle.filedisk.specs.FileDisk.{file_device};
 
     ghost device = { file_device };
+
+    ghost grows = { false };
 
     fn len(&self) -> u64 {
         self.len

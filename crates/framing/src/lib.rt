@@ -1,8 +1,8 @@
 //! Messages from a stream of octets, however it is cut into pieces, and the block that sends a text.
 #![tactic(auto)]
 
-ghost use Rattle.std.specs.Prelude.{◌≡◌, ℕ, ◌+◌, ◌-◌, ◌*◌, ◌<◌, ◌≤◌, ◌++◌, [], ◌∷◌, vec_len, length, take, drop, Bool, true, false, Some, None, ◌==◌, if◌then◌else◌, IfOk, OnOk, OnErr, IfSome, IfNone, MatchOption};
-ghost use Rattle.model.specs.Stream.{crlf, dot_line, ends_message, lines, message_of, next, stuffed, stuffed_line, unstuffed, unstuffed_line, ReadsAlike};
+ghost use Rattle.std.specs.Prelude.{◌≡◌, ◌+◌, ◌*◌, ◌<◌, ◌≤◌, ◌++◌, [], ◌∷◌, vec_len, length, take, drop, true, Some, None, ◌==◌, if◌then◌else◌, IfOk, OnOk, OnErr, IfSome, IfNone, MatchOption};
+ghost use Rattle.model.specs.Stream.{ends_message, lines, message_of, next, stuffed, stuffed_line, unstuffed, unstuffed_line, ReadsAlike};
 ghost use Rattle.model.specs.declared.message.Mode.TheVariants as mode;
 ghost use Rattle.model.specs.declared.message.Message.TheVariants.{TooLong};
 ghost use Rattle.framing.specs.Held.{EndsFirst, NoneEnds, Sheds, StandsWhenFed, StandsWhenFound, StandsWhenNone};
@@ -38,7 +38,7 @@ pub struct Reader {
 }
 
 impl Model for Reader {
-    ghost use Rattle.std.specs.Prelude.{◌++◌, drop, replicate, vec_len};
+    ghost use Rattle.std.specs.Prelude.{◌++◌, drop, vec_len};
     ghost use Rattle.framing.specs.Held.{Held};
 
     ghost Value = { Held };

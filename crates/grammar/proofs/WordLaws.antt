@@ -1,13 +1,15 @@
 -- The words of a line, from its front.
 use Rattle.std.specs.Prelude.{◌≡◌, ℕ, zero, suc, ◌<◌, true, false, nat_lt, List, [], ◌∷◌, length, take, drop, get_or, filter, Option, Some, None, unwrap_or}
 use Rattle.std.specs.List.{slice_split}
-use Rattle.std.proofs.Common.{◌∙◌, ap, sym, arith, drop-cons}
+use Rattle.std.proofs.Common.{◌∙◌, ap, sym, refl, arith, drop-cons}
 use Rattle.std.proofs.lemmas.Bool.{cond-true, lt-ltb, false_from_ne_true, true≢false}
 use Rattle.std.proofs.lemmas.List.{take_all, drop_all, length-take-le}
 use Rattle.std.proofs.lemmas.List.Splits.{slice_split-cons_yes}
-use Rattle.memchr.specs.Find.{IsFirst, Passes, is_byte2}
+use Rattle.memchr.specs.Find.{IsFirst, Nowhere, Passes, is_byte2}
+use Rattle.bstr.specs.Bytes.{not_in}
 use Rattle.model.specs.Commands.{words}
 use Rattle.model.specs.Names.{begins, is_blank}
+use Rattle.names.proofs.BlankLaws.{blanks, inside, outside}
 use Rattle.names.proofs.PartLaws.{cut_at, uncut}
 
 -- what is no empty part
@@ -17,6 +19,24 @@ filled parts = filter (λ word. nat_lt 0 (length word)) parts
 -- a blank in front changes nothing
 pub words-blank : (x : ℕ) (line : List ℕ) → is_blank x ≡ true → words (x ∷ line) ≡ words line
 words-blank x line is = ap filled (slice_split-cons_yes is_blank x line is)
+
+-- nor do the blanks in front of the first octet that is none
+pub words-skipped : (line : List ℕ) (at : ℕ) → at < length line → Nowhere (Passes (not_in blanks) line) 0 at → words (drop at line) ≡ words line
+words-skipped [] at within before = absurd (omega arith)
+words-skipped (x ∷ line) zero within before = refl
+words-skipped (x ∷ line) (suc at) within before =
+    words-skipped line at (omega arith) (λ k low below. before (suc k) (omega arith) (omega arith))
+    ∙ sym (words-blank x line (inside x (before 0 (omega arith) (omega arith))))
+
+pub begins-skipped : (line : List ℕ) (at : ℕ) → at < length line → Passes (not_in blanks) line at → begins is_blank (drop at line) ≡ false
+begins-skipped line at within found = ap (begins is_blank) (drop-cons line at 0 within) ∙ outside (get_or line at 0) found
+
+-- a line of blanks has no words
+pub words-none : (line : List ℕ) → Nowhere (Passes (not_in blanks) line) 0 (length line) → words [] ≡ words line
+words-none [] none = refl
+words-none (x ∷ line) none =
+    words-none line (λ k low below. none (suc k) (omega arith) (omega arith))
+    ∙ sym (words-blank x line (inside x (none 0 (omega arith) (omega arith))))
 
 filled-word : (word : List ℕ) (parts : List (List ℕ)) → 0 < length word → filled (word ∷ parts) ≡ word ∷ filled parts
 filled-word word parts some = cond-true (nat_lt 0 (length word)) (word ∷ filled parts) (filled parts) (lt-ltb 0 (length word) some)

@@ -1,7 +1,6 @@
 ghost use Rattle.std.specs.Prelude.{◌≡◌, IfOk, ◌&&◌};
 ghost use Rattle.model.specs.Commands as commands;
 ghost use Rattle.model.specs.Calendar as calendar;
-ghost use Rattle.model.specs.declared.command.Command.TheVariants as made;
 ghost use Rattle.grammar.specs.Keywords.{meant};
 ghost use Rattle.grammar.specs.Words.{words_of};
 ghost use Rattle.grammar.specs.Commands.{alone_of};

@@ -1,11 +1,15 @@
-ghost use Rattle.std.specs.Prelude.{◌≡◌, ℕ, [], ◌∷◌, List, MatchOption, ◌||◌, false};
+ghost use Rattle.std.specs.Prelude.{◌≡◌, [], ◌∷◌, MatchOption, ◌||◌, false};
 ghost use Rattle.std.specs.List.{list_all};
 ghost use Rattle.model.specs.Commands.{words};
 ghost use Rattle.model.specs.Names as definitions;
 ghost use Rattle.grammar.specs.Words.{Says};
 
+use bstr::ByteSlice;
 use memchr::memchr2;
 use names::is_visible;
+
+/// SP and TAB, which part words (RFC 3977, 3.1).
+const BLANKS: &[u8] = b" \t";
 
 /// The words behind a keyword.
 #[derive(Clone, Copy)]
@@ -46,11 +50,10 @@ fn skip_blanks(line: &[u8]) -> &[u8]
     ensures same { words result.now ≡ words line.now }
     ensures begins { definitions.begins definitions.is_blank result.now ≡ false }
 {
-    let mut rest = line;
-    while let [b' ' | b'\t', later @ ..] = rest {
-        rest = later;
+    match line.find_not_byteset(BLANKS) {
+        Some(first) => &line[first..],
+        None => &line[..0],
     }
-    rest
 }
 
 /// The first word of a line, and what follows it.

@@ -1,17 +1,34 @@
 -- What an opening finds.
-use Rattle.std.proofs.Common.{◌≡◌, ◌≢◌, ◌⊎◌, inl, inr, ⊎_elim, ◌<◌, ◌≤◌, ℕ, ◌+◌, ◌*◌, Bool, true, false, IsTrue, Option, Some, None, List, length, take, refl, sym, ◌∙◌, ap, subst, arith, length-take, Result, Ok, Err, IfOk, IfErr, MatchResult}
+use Rattle.std.proofs.Common.{◌≡◌, ◌≢◌, ◌⊎◌, inl, inr, ⊎_elim, ◌<◌, ◌≤◌, ℕ, ◌+◌, ◌*◌, ◌%◌, ◌^◌, [], Bool, true, false, IsTrue, Option, Some, None, List, length, take, refl, sym, ◌∙◌, ap, subst, arith, length-take, Result, Ok, Err, IfOk, IfErr, MatchResult}
+use Rattle.std.proofs.Math.Nat.{mod-add-mod}
 use Rattle.disk.specs.Device.{Device, Elapses, LeavesOnly}
 use Rattle.disk.specs.Image.{part}
-use Rattle.journal.specs.Inside.{IsFound, IsKept, IsQuiet, IsStaged, IsStill, LeftAs, IsWritten, Touched}
-use Rattle.journal.specs.Opening.{AreSameVolume, IsNoVolume, LeftKept, Opens, Refuses, SyncsFirst}
-use Rattle.journal.specs.Journal.{AreWhole, HasWholeBlocks, IsDuring, IsReady, JournalView, LeavesAdmitted}
+use Rattle.journal.specs.Inside.{IsFound, IsKept, IsQuiet, IsStaged, IsStill, IsSynced, LeftAs, IsWritten, Touched}
+use Rattle.journal.specs.Opening.{AreSameVolume, Costs, IsMore, IsNoVolume, home_syncs, home_writes, LeftKept, Opens, Refuses, SyncsFirst}
+use Rattle.journal.specs.Journal.{AreWhole, HasWholeBlocks, IsCaused, IsDuring, IsReady, JournalView, LeavesAdmitted}
 use Rattle.journal.specs.declared.JournalError.{JournalError}
 use Rattle.journal.specs.declared.JournalError.TheVariants.{Fault, Memory, NotAVolume, Halted}
-use Rattle.model.specs.Volume.{block, blocks_from, home_size, label_of, number_at, is_open, IsSuperblock, IsDescriptor, listed, StandsFor, logical_blocks}
+use Rattle.model.specs.Volume.{block, blocks_from, home_size, label_of, number_at, is_open, open_segments, IsSuperblock, IsDescriptor, listed, StandsFor, logical_blocks}
 use Rattle.journal.specs.declared.Next.TheVariants.{Idle, Home}
 use Rattle.journal.proofs.Blocks.{same_but_equal}
 use Rattle.journal.proofs.Transitions.{told_after}
-use Rattle.journal.proofs.Volumes.{stands_closed, is_opened}
+use Rattle.journal.proofs.Volumes.{stands_closed, is_opened, none_open, one_open}
+
+-- why a run of calls stopped
+fault_caused : (error : JournalError) (old new : Device) → IsCaused error old new → error ≡ Fault → new.failures ≢ old.failures
+fault_caused error old new (inl caused) e = caused.1
+fault_caused error old new (inr caused) e = absurd (let two : Memory ≡ Fault = sym caused.0 ∙ e in cc)
+
+memory_caused : (error : JournalError) (old new : Device) → IsCaused error old new → error ≡ Memory → new.failures ≡ old.failures
+memory_caused error old new (inl caused) e = absurd (let two : Fault ≡ Memory = sym caused.0 ∙ e in cc)
+memory_caused error old new (inr caused) e = caused.1
+
+not_caused : (error : JournalError) (old new : Device) → IsCaused error old new → (error ≢ NotAVolume) × (error ≢ Halted)
+not_caused error old new (inl caused) = (λ e. (let two : Fault ≡ NotAVolume = sym caused.0 ∙ e in cc), λ e. (let two : Fault ≡ Halted = sym caused.0 ∙ e in cc))
+not_caused error old new (inr caused) = (λ e. (let two : Memory ≡ NotAVolume = sym caused.0 ∙ e in cc), λ e. (let two : Memory ≡ Halted = sym caused.0 ∙ e in cc))
+
+pub caused_elsewhere : (error : JournalError) (old new : Device) → IsCaused error old new → error ≢ NotAVolume
+caused_elsewhere error old new caused = (not_caused error old new caused).0
 
 module _ (device : Device) (superblock descriptor numbers octets : List ℕ) (blocks : ℕ) (superblock_size : length superblock ≡ 4096) (descriptor_size : length descriptor ≡ 4096) (numbers_size : length numbers ≡ 512) (octets_size : length octets ≡ 2097152) (image_size : IsTrue device.tells → length device.content ≡ device.size) (now : IsTrue device.tells → device.may_leave device.content) where
   module _ (count : Option ℕ) (found : IsFound device superblock descriptor numbers octets blocks count) where
@@ -39,6 +56,9 @@ module _ (device : Device) (superblock descriptor numbers octets : List ℕ) (bl
         let stands = stands_closed device.content (content_superblock None found t) (shut t) in
         subst (λ (l : List ℕ). StandsFor device.content l (logical_blocks device.content)) (content_label None found t)
         (subst (λ (bs : List (List ℕ)). StandsFor device.content (label_of device.content) bs) (sym stands.has_blocks) stands)
+
+    pub rest_none : IsTrue device.tells → open_segments device.content ≡ []
+    rest_none t = none_open device.content (content_superblock None found t) (shut t)
 
     pub rest_kept : IsKept device blocks superblock Idle false 0 0 descriptor numbers octets
     rest_kept = record {
@@ -96,6 +116,14 @@ module _ (device : Device) (superblock descriptor numbers octets : List ℕ) (bl
 
     opened : IsTrue device.tells → is_open 0 device.content ≡ true
     opened t = sym (found.gate t)
+
+    pub replay_writes : IsTrue device.tells → home_writes device.content (open_segments device.content) ≡ length ns + 1
+    replay_writes t =
+        let count_is : number_at 16 4 (block 2 device.content) ≡ count = ap (number_at 16 4) (sym (found.descriptor_is t)) ∙ found.batch.1 in
+        ap (home_writes device.content) (one_open device.content (content_superblock (Some count) found t) (opened t)) ∙ omega (arith, count_is, length-ns)
+
+    pub replay_syncs : IsTrue device.tells → home_syncs (open_segments device.content) ≡ 2
+    replay_syncs t = ap home_syncs (one_open device.content (content_superblock (Some count) found t) (opened t))
 
     pub replay_stands : IsTrue device.tells → StandsFor device.content (part 20 128 superblock) (logical_blocks device.content)
     replay_stands t =
@@ -164,14 +192,14 @@ module _ {D : Type 0} (device : D → Device) (first : D) (journal : JournalView
     failures = failures ∙ still.failures;
   }
 
-  pub refuses_replayed : (last : D) (error : JournalError) → error ≡ Fault → (device last).failures ≢ (device journal.disk).failures → Elapses (device journal.disk) (device last) → LeftAs (device journal.disk) (device last) journal.label journal.blocks → Refuses device first last error
-  refuses_replayed last error is failures time left = record {
+  pub refuses_replayed : (last : D) (error : JournalError) → IsCaused error (device journal.disk) (device last) → Elapses (device journal.disk) (device last) → LeftAs (device journal.disk) (device last) journal.label journal.blocks → Refuses device first last error
+  refuses_replayed last error caused time left = record {
     since = kept_then (device last) left;
     time = record { size = time.size ∙ quiet.size; tells = time.tells ∙ quiet.tells; later = omega (arith, quiet.later, time.later) };
-    fault = λ e same. failures (same ∙ sym still.failures);
-    no_volume = λ e. absurd (let two : Fault ≡ NotAVolume = sym is ∙ e in cc);
-    memory = λ e. absurd (let two : Fault ≡ Memory = sym is ∙ e in cc);
-    not_halted = λ e. (let two : Fault ≡ Halted = sym is ∙ e in cc);
+    fault = λ e same. fault_caused error (device journal.disk) (device last) caused e (same ∙ sym still.failures);
+    no_volume = λ e. absurd ((not_caused error (device journal.disk) (device last) caused).0 e);
+    memory = λ e. memory_caused error (device journal.disk) (device last) caused e ∙ still.failures;
+    not_halted = (not_caused error (device journal.disk) (device last) caused).1;
   }
 
 -- a refusal after calls that changed nothing
@@ -185,8 +213,19 @@ refuses_found device first last error quiet fault no_volume no_memory not_halted
   not_halted = not_halted;
 }
 
+-- after a sync that wasn't good
+pub refuses_caused : {D : Type 0} (device : D → Device) (first last : D) (error : JournalError) → IsQuiet (device first) (device last) → IsCaused error (device first) (device last) → Refuses device first last error
+refuses_caused device first last error quiet caused = record {
+  since = λ t time c before left. inl (quiet.since t time c before left);
+  time = record { size = quiet.size; tells = quiet.tells; later = quiet.later };
+  fault = fault_caused error (device first) (device last) caused;
+  no_volume = λ e. absurd ((not_caused error (device first) (device last) caused).0 e);
+  memory = memory_caused error (device first) (device last) caused;
+  not_halted = (not_caused error (device first) (device last) caused).1;
+}
+
 -- an opening that synced first
-module _ {D : Type 0} (device : D → Device) (first synced : D) (quiet : IsQuiet (device first) (device synced)) (still : IsStill (device first) (device synced)) (only : IsTrue (device first).tells → LeavesOnly (device synced) (device first).content) where
+module _ {D : Type 0} (device : D → Device) (first synced : D) (quiet : IsQuiet (device first) (device synced)) (still : IsSynced (device first) (device synced)) (only : IsTrue (device first).tells → LeavesOnly (device synced) (device first).content) where
   synced_tells : IsTrue (device first).tells → IsTrue (device synced).tells
   synced_tells t = subst (λ (b : Bool). IsTrue b) (sym quiet.tells) t
 
@@ -224,15 +263,48 @@ module _ {D : Type 0} (device : D → Device) (first synced : D) (quiet : IsQuie
     failures = opens.failures ∙ still.failures;
   }
 
-  pub refuses_synced : (last : D) (error : JournalError) → error ≢ Memory → Refuses device synced last error → Refuses device first last error
-  refuses_synced last error no_memory refuses = record {
+  pub refuses_synced : (last : D) (error : JournalError) → Refuses device synced last error → Refuses device first last error
+  refuses_synced last error refuses = record {
     since = kept_all (device last) refuses.since;
     time = time_all (device last) refuses.time;
     fault = λ e same. refuses.fault e (same ∙ sym still.failures);
     no_volume = λ e t. subst (λ (x : List ℕ). IsNoVolume x) (still.content t) (refuses.no_volume e (synced_tells t));
-    memory = λ e. absurd (no_memory e);
+    memory = λ e. refuses.memory e ∙ still.failures;
     not_halted = refuses.not_halted;
   }
+
+  pub costs_synced : (last : D) → (IsTrue (device synced).tells → Costs 0 (device synced).content (device synced) (device last)) → IsTrue (device first).tells → Costs 1 (device first).content (device first) (device last)
+  costs_synced last costs t =
+      let same = still.content t in
+      let cost = subst (λ (x : List ℕ). Costs 0 x (device synced) (device last)) same (costs (synced_tells t)) in
+      let n = home_syncs (open_segments (device first).content) in
+      record {
+        writes = subst (λ (w : ℕ). IsMore (home_writes (device first).content (open_segments (device first).content)) w (device last).writes) quiet.writes cost.writes;
+        syncs = cost.syncs ∙ ap (λ (s : ℕ). (s + (0 + n)) % 2 ^ 64) still.syncs ∙ mod-add-mod ((device first).syncs + 1) (2 ^ 64) (0 + n) ∙ ap (λ (s : ℕ). s % 2 ^ 64) (omega arith);
+      }
+
+-- a journal at rest, after reads alone
+pub costs_none : (old new : Device) → IsQuiet old new → IsStill old new → (IsTrue new.tells → open_segments new.content ≡ []) → IsTrue old.tells → Costs 0 old.content old new
+costs_none old new quiet still none t =
+    let segments : open_segments old.content ≡ [] = subst (λ (x : List ℕ). open_segments x ≡ []) (still.content t) (none (subst (λ (b : Bool). IsTrue b) (sym quiet.tells) t)) in
+    record {
+      writes = ap (λ (w : ℕ). w % 2 ^ 64) (quiet.writes ∙ sym (ap (λ (ss : List ℕ). old.writes + home_writes old.content ss) segments ∙ plus-zero old.writes));
+      syncs = ap (λ (s : ℕ). s % 2 ^ 64) (still.syncs ∙ sym (ap (λ (ss : List ℕ). old.syncs + (0 + home_syncs ss)) segments ∙ plus-zero old.syncs));
+    }
+  where
+    plus-zero : (n : ℕ) → n + 0 ≡ n
+    plus-zero n = omega arith
+
+-- and one that was carried home after them
+pub costs_replayed : (old mid new : Device) (n : ℕ) → IsQuiet old mid → IsStill old mid → (IsTrue mid.tells → home_writes mid.content (open_segments mid.content) ≡ n) → (IsTrue mid.tells → home_syncs (open_segments mid.content) ≡ 2) → IsMore n mid.writes new.writes → IsMore 2 mid.syncs new.syncs → IsTrue old.tells → Costs 0 old.content old new
+costs_replayed old mid new n quiet still writes syncs more_writes more_syncs t =
+    let here = subst (λ (b : Bool). IsTrue b) (sym quiet.tells) t in
+    let all : home_writes old.content (open_segments old.content) ≡ n = subst (λ (x : List ℕ). home_writes x (open_segments x) ≡ n) (still.content t) (writes here) in
+    let two : home_syncs (open_segments old.content) ≡ 2 = subst (λ (x : List ℕ). home_syncs (open_segments x) ≡ 2) (still.content t) (syncs here) in
+    record {
+      writes = more_writes ∙ ap (λ (w : ℕ). (w + n) % 2 ^ 64) quiet.writes ∙ ap (λ (k : ℕ). (old.writes + k) % 2 ^ 64) (sym all);
+      syncs = more_syncs ∙ ap (λ (s : ℕ). (s + 2) % 2 ^ 64) still.syncs ∙ ap (λ (k : ℕ). (old.syncs + (0 + k)) % 2 ^ 64) (sym two);
+    }
 
 pub match_both : {T E : Type 0} (r : Result T E) (P P' : T → Type 0) (Q Q' : E → Type 0) → IfOk r P → IfErr r Q → ((x : T) → P x → P' x) → ((y : E) → Q y → Q' y) → MatchResult r P' Q'
 match_both (Ok x) P P' Q Q' ok err f h = f x ok

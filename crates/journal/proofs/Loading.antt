@@ -23,6 +23,7 @@ pub still_then : (a b c : Device) → IsQuiet a b → IsStill a b → IsStill b 
 still_then a b c quiet first second = record {
   content = λ t. second.content (subst (λ (x : Bool). IsTrue x) (sym quiet.tells) t) ∙ first.content t;
   failures = second.failures ∙ first.failures;
+  syncs = second.syncs ∙ first.syncs;
 }
 
 pub loaded_more : (i : ℕ) (x octets : List ℕ) → 4096 * (3 + i) + 4096 ≤ length x → 4096 * i + 4096 ≤ length octets → AreLoaded i x octets → AreLoaded (i + 1) x (overwritten (4096 * i) (block (3 + i) x) octets)

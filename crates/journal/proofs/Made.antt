@@ -1,11 +1,10 @@
 -- A call that was made, as those who use the journal see it.
-use Rattle.std.proofs.Common.{◌≡◌, ◌≢◌, ℕ, Bool, true, false, IsTrue, List, length, take, refl, sym, ◌∙◌, ap, subst, arith, length-take, Result, Ok, Err, OnOk}
-use Rattle.disk.specs.Device.{Device, Elapses, IsWrite, LeftTornAt, TearsAt}
+use Rattle.std.proofs.Common.{◌≡◌, ◌≢◌, inl, ℕ, Bool, true, false, IsTrue, List, length, take, refl, sym, ◌∙◌, ap, subst, arith, length-take, Result, Ok, Err, OnOk}
+use Rattle.disk.specs.Device.{Device, Elapses, IsRefused, IsSync, IsWrite, LeavesNoMore, LeavesOnly, LeftNoMore, LeftTornAt, OnAsked, TearsAt}
 use Rattle.disk.specs.Image.{part, overwritten}
 use Rattle.disk.specs.declared.DiskError.{DiskError}
-use Rattle.disk.specs.declared.DiskError.TheVariants.{Fault as DiskFault}
 use Rattle.journal.specs.Inside.{IsKept, IsWithin, blocks_without}
-use Rattle.journal.specs.Calls.{Call, Does, MakesCall, Writes, blocks_after, call_at}
+use Rattle.journal.specs.Calls.{Call, Does, IsRetried, MakesCall, Syncs, Writes, blocks_after, call_at}
 use Rattle.journal.specs.Journal.{JournalView, with_batch}
 use Rattle.journal.specs.Order.{answer, at_fault, calls_made, following}
 use Rattle.model.specs.Volume.{blocks_from, descriptor_of, laid_over, number_at}
@@ -16,19 +15,27 @@ use Rattle.journal.specs.declared.Next.{Next}
 use Rattle.journal.specs.declared.Next.TheVariants.{Idle, Descriptor, Image, Seal, OpenGate, Commit, Home, Settle, CloseGate, Finish}
 use Rattle.journal.proofs.Order.{calls_bounded, one_more_call}
 use Rattle.journal.proofs.Calls.{IsAfter, after_ok, after_err, blocks_then}
-
--- the one way in which a device fails
-pub the_fault : (e : DiskError) → e ≡ DiskFault
-the_fault DiskFault = refl
+use Rattle.journal.proofs.Whole.{kept_refused}
 
 -- one write as the device made it
-pub did_write : {T E : Type 0} (at place : ℕ) (written octets : List ℕ) (result : Result T E) (old new : Device) → at ≡ place → written ≡ octets
-    → IsWrite old new → (IsTrue old.tells → OnOk result (new.content ≡ overwritten at written old.content)) → (IsTrue old.tells → TearsAt at (length written) old new) → (IsTrue old.tells → LeftTornAt at (length written) old new)
-    → Writes place octets result old new
-did_write at place written octets result old new at_is written_is asks content crash since =
-    subst (λ (p : ℕ). Writes p octets result old new) at_is
-    (subst (λ (o : List ℕ). Writes at o result old new) written_is
-    (record { asks = asks; content = content; crash = crash; since = since }))
+pub did_write : {T : Type 0} (at place : ℕ) (written octets : List ℕ) (result : Result T DiskError) (old new : Device) → at ≡ place → written ≡ octets
+    → OnAsked result (IsWrite old new) → (IsTrue old.tells → OnOk result (new.content ≡ overwritten at written old.content)) → (IsTrue old.tells → TearsAt at (length written) old new) → (IsTrue old.tells → LeftTornAt at (length written) old new)
+    → OnAsked result (Writes place octets result old new)
+did_write {T} at place written octets result old new at_is written_is asks content crash since =
+    subst (λ (p : ℕ). OnAsked result (Writes p octets result old new)) at_is
+    (subst (λ (o : List ℕ). OnAsked result (Writes at o result old new)) written_is
+    (wrote result asks content))
+  where
+    wrote : (r : Result T DiskError) → OnAsked r (IsWrite old new) → (IsTrue old.tells → OnOk r (new.content ≡ overwritten at written old.content)) → OnAsked r (Writes at written r old new)
+    wrote (Ok x) asks content = record { asks = asks; content = content; crash = crash; since = since }
+    wrote (Err e) asks content = λ is. record { asks = asks is; content = content; crash = crash; since = since }
+
+-- and one sync
+pub did_sync : {T : Type 0} (result : Result T DiskError) (old new : Device)
+    → OnAsked result (IsSync old new) → (IsTrue old.tells → OnOk result (LeavesOnly new old.content)) → (IsTrue old.tells → OnOk result (new.content ≡ old.content)) → (IsTrue old.tells → LeavesNoMore old new) → (IsTrue old.tells → LeftNoMore old new)
+    → OnAsked result (Syncs result old new)
+did_sync (Ok x) old new asks durable content crash since = record { asks = asks; durable = durable; content = content; crash = crash; since = since }
+did_sync (Err e) old new asks durable content crash since = λ is. record { asks = asks is; durable = durable; content = content; crash = crash; since = since }
 
 -- what a call does is the same whatever is answered for it
 does_ok : (T T' E E' : Type 0) (call : Call) (x : T) (y : T') (old new : Device) → Does {T = T} {E = E} call (Ok x) old new → Does {T = T'} {E = E'} call (Ok y) old new
@@ -163,3 +170,18 @@ module _ (D : Type 0) (device : D → Device) (before later : D) (blocks : ℕ) 
         now = λ t. (after.is_kept.told t).admits;
         since = after.is_since;
       }
+
+  -- a call that was refused for want of memory
+  pub retried_kept : (next : Next) (h : Bool) → Was next h → IsRefused (device before) (device later) → IsKept (device later) blocks superblock next h last count descriptor numbers octets
+  retried_kept next h was refused = kept_refused (device before) blocks superblock next h last count descriptor numbers octets was (device later) refused
+
+  pub retried : (next : Next) (h : Bool) → Was next h → IsRefused (device before) (device later) → IsRetried device (over before next h) (over later next h)
+  retried next h was refused = record {
+    refused = refused;
+    same = record { label = refl; size = refl; number = refl; last = refl; numbers = refl; images = refl };
+    next = refl;
+    running = refl;
+    blocks = λ t. ap (λ (x : List ℕ). blocks_without next x) (refused.content t);
+    now = λ t c left. ((retried_kept next h was refused).told t).admits c left;
+    since = λ t time c before left. inl (refused.since t time c before left);
+  }

@@ -1,6 +1,6 @@
 -- The order of the calls.
-use Rattle.std.proofs.Common.{◌≡◌, ◌≢◌, ◌≤◌, ℕ, ◌+◌, ◌*◌, refl, arith}
-use Rattle.journal.specs.Order.{answer, calls_made, following}
+use Rattle.std.proofs.Common.{◌≡◌, ◌≢◌, ◌≤◌, ℕ, ◌+◌, ◌*◌, if◌then◌else◌, refl, arith}
+use Rattle.journal.specs.Order.{answer, calls_made, following, is_sync, syncs_made, writes_made}
 use Rattle.journal.specs.Inside.{IsWithin}
 use Rattle.journal.specs.declared.Progress.TheVariants.{Working, Committed, Idle as Ended}
 use Rattle.journal.specs.declared.Next.{Next}
@@ -19,6 +19,31 @@ one_more_call n (Home j) other = after_home (λ f. calls_made n f ≡ n + 4 + j 
 one_more_call n Settle other = omega arith
 one_more_call n CloseGate other = omega arith
 one_more_call n Finish other = omega arith
+
+-- by its kind
+pub one_more_write : (n : ℕ) (next : Next) → next ≢ Idle → writes_made n (following n next) ≡ (if is_sync next then writes_made n next else writes_made n next + 1)
+one_more_write n Idle other = absurd (other refl)
+one_more_write n Descriptor other = omega arith
+one_more_write n (Image j) other = after_image (λ f. writes_made n f ≡ 1 + j + 1) n j (λ e. omega arith) (λ e. omega arith)
+one_more_write n Seal other = refl
+one_more_write n OpenGate other = omega arith
+one_more_write n Commit other = omega arith
+one_more_write n (Home j) other = after_home (λ f. writes_made n f ≡ n + 2 + j + 1) n j (λ e. omega arith) (λ e. omega arith)
+one_more_write n Settle other = refl
+one_more_write n CloseGate other = omega arith
+one_more_write n Finish other = refl
+
+pub one_more_sync : (n : ℕ) (next : Next) → next ≢ Idle → syncs_made (following n next) ≡ (if is_sync next then syncs_made next + 1 else syncs_made next)
+one_more_sync n Idle other = absurd (other refl)
+one_more_sync n Descriptor other = refl
+one_more_sync n (Image j) other = after_image (λ f. syncs_made f ≡ 0) n j (λ e. refl) (λ e. refl)
+one_more_sync n Seal other = refl
+one_more_sync n OpenGate other = refl
+one_more_sync n Commit other = refl
+one_more_sync n (Home j) other = after_home (λ f. syncs_made f ≡ 2) n j (λ e. refl) (λ e. refl)
+one_more_sync n Settle other = refl
+one_more_sync n CloseGate other = refl
+one_more_sync n Finish other = refl
 
 -- no more calls than there are
 pub calls_bounded : (n : ℕ) (next : Next) → IsWithin n next → calls_made n next ≤ 2 * n + 7

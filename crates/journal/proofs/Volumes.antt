@@ -24,7 +24,7 @@ module _ (x : List ℕ) (superblock : IsSuperblock (block 0 x) (length x)) where
   pub none_open : is_open 0 x ≡ false → open_segments x ≡ []
   none_open shut = segments_at ∙ ap (λ (b : Bool). cond b (0 ∷ []) []) shut
 
-  one_open : is_open 0 x ≡ true → open_segments x ≡ 0 ∷ []
+  pub one_open : is_open 0 x ≡ true → open_segments x ≡ 0 ∷ []
   one_open opened = segments_at ∙ ap (λ (b : Bool). cond b (0 ∷ []) []) opened
 
   pub stands_closed : is_open 0 x ≡ false → StandsFor x (label_of x) (home x)

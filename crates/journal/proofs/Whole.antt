@@ -3,7 +3,7 @@ use Rattle.std.proofs.Common.{◌≡◌, inl, inr, ◌<◌, ◌≤◌, ℕ, ◌+
 use Rattle.std.specs.List.{All}
 use Rattle.std.proofs.lemmas.List.Elements.{All-from_get_or, All-set, All-head, All-tail}
 use Rattle.std.proofs.lemmas.Bool.{cases_Bool}
-use Rattle.disk.specs.Device.{Device, IsUnchanged}
+use Rattle.disk.specs.Device.{Device, IsRefused, IsUnchanged}
 use Rattle.disk.proofs.Images.{length-part}
 use Rattle.journal.specs.Inside.{IsAdmitted, IsKept, Holds, SameBut, Touched, blocks_without}
 use Rattle.journal.specs.Journal.{AreWhole}
@@ -91,5 +91,35 @@ module _ (device : Device) (blocks : ℕ) (superblock : List ℕ) (next : Next) 
               (told.admits c ((same.may_leave c).0 left));
           holds = λ runs. subst (λ (x : List ℕ). Holds descriptor (take count numbers) octets next x) (sym same.content) (told.holds runs);
           same = λ runs c left. subst (λ (x : List ℕ). SameBut (Touched (take count numbers) next) x c) (sym same.content) (told.same runs c ((same.may_leave c).0 left));
+        };
+  }
+
+  -- and by a call that was refused for want of memory
+  pub kept_refused : (new : Device) → IsRefused device new → IsKept new blocks superblock next halted last count descriptor numbers octets
+  kept_refused new same = record {
+    size = same.time.size ∙ kept.size;
+    low = kept.low;
+    high = kept.high;
+    superblock_size = kept.superblock_size;
+    descriptor_size = kept.descriptor_size;
+    numbers_size = kept.numbers_size;
+    octets_size = kept.octets_size;
+    few = kept.few;
+    within = kept.within;
+    staged = kept.staged;
+    described = kept.described;
+    told = λ t.
+        let before : IsTrue device.tells = subst (λ (b : Bool). IsTrue b) same.time.tells t in
+        let told = kept.told before in
+        let content = same.content before in
+        record {
+          superblock = subst (λ (x : List ℕ). IsSuperblock (block 0 x) (length x)) (sym content) told.superblock;
+          size = ap home_size content ∙ told.size;
+          label = ap label_of content ∙ told.label;
+          admits = λ c left.
+              subst (λ (x : List ℕ). IsAdmitted next (Rattle.disk.specs.Image.part 20 128 superblock) (blocks_without next x) (laid_over (blocks_without next x) (take count numbers) (blocks_from 0 (length (take count numbers)) octets)) c) (sym content)
+              (told.admits c (same.crash before c left));
+          holds = λ runs. subst (λ (x : List ℕ). Holds descriptor (take count numbers) octets next x) (sym content) (told.holds runs);
+          same = λ runs c left. subst (λ (x : List ℕ). SameBut (Touched (take count numbers) next) x c) (sym content) (told.same runs c (same.crash before c left));
         };
   }

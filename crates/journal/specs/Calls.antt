@@ -1,6 +1,6 @@
 -- The device calls of a batch, and what each does.
 use Rattle.std.specs.Prelude.{◌≡◌, ◌≤◌, ℕ, ◌+◌, ◌*◌, false, true, IsTrue, List, [], ◌∷◌, length, slice_index, slice_index_or, Result, OnOk, IfOk, IfErr, MatchResult}
-use Rattle.disk.specs.Device.{Device, Elapses, IsSync, IsWrite, LeavesNoMore, LeavesOnly, LeftNoMore, LeftTornAt, TearsAt}
+use Rattle.disk.specs.Device.{Device, Elapses, IsRefused, IsSync, IsWrite, LeavesNoMore, LeavesOnly, LeftNoMore, LeftTornAt, TearsAt}
 use Rattle.disk.specs.Image.{overwritten}
 use Rattle.model.specs.Volume.{descriptor_of, descriptor_place, gate_place, home_place, image_place}
 use Rattle.journal.specs.Journal.{CountsFailures, IsSameBatch, JournalView, LeavesAdmitted, LeftAdmitted, calls, with_batch}
@@ -8,7 +8,7 @@ use Rattle.journal.specs.Order.{answer, at_fault, following}
 use Rattle.journal.specs.declared.Progress.{Progress}
 use Rattle.journal.specs.declared.Progress.TheVariants.{Committed}
 use Rattle.journal.specs.declared.JournalError.{JournalError}
-use Rattle.journal.specs.declared.JournalError.TheVariants.{Fault}
+use Rattle.journal.specs.declared.JournalError.TheVariants.{Fault, Memory}
 use Rattle.journal.specs.declared.Next.{Next}
 use Rattle.journal.specs.declared.Next.TheVariants.{Descriptor, Image, OpenGate, Home, CloseGate}
 
@@ -70,3 +70,20 @@ pub record MakesCall {D : Type 0} (device : D → Device) (old new : JournalView
   -- a crash now leaves an image that the journal admits, and so does one at any moment of the call
   pub now : LeavesAdmitted device new
   pub since : LeftAdmitted device old new
+
+-- a call that the device refused for want of memory: it wasn't made, and is the next one still
+pub record IsRetried {D : Type 0} (device : D → Device) (old new : JournalView D) : Type 0 where
+  pub refused : IsRefused (device old.disk) (device new.disk)
+  pub same : IsSameBatch old new
+  pub next : new.next ≡ old.next
+  pub running : new.halted ≡ old.halted
+  pub blocks : IsTrue (device old.disk).tells → new.blocks ≡ old.blocks
+  pub now : LeavesAdmitted device new
+  pub since : LeftAdmitted device old new
+
+-- the next call was made, good or failed
+abbrev pub OnMade : {T : Type 0} → Result T JournalError → Type 0 → Type 0
+OnMade result made = MatchResult result (λ _. made) (λ error. error ≡ Fault → made)
+
+abbrev pub OnRetried : {T : Type 0} → Result T JournalError → Type 0 → Type 0
+OnRetried result retried = IfErr result (λ error. error ≡ Memory → retried)

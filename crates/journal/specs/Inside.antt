@@ -1,7 +1,7 @@
 -- What the fields of a journal keep between two calls.
 use Rattle.std.specs.Prelude.{◌≡◌, ◌⊎◌, ◌<◌, ◌≤◌, ℕ, ◌*◌, Bool, true, false, IsTrue, List, length, slice_index, take, Option, is_some, IfSome}
 use Rattle.std.specs.List.{All}
-use Rattle.disk.specs.Device.{Device, LeavesOnly}
+use Rattle.disk.specs.Device.{Device, LeavesOnly, one_more}
 use Rattle.disk.specs.Image.{part}
 use Rattle.model.specs.Volume.{gate_place, descriptor_place, image_place, home_place, descriptor_of, block, blocks_from, number_at, home_size, label_of, is_open, listed, AreDistinct, IsDescriptor, IsSuperblock, StandsFor, laid_over, logical_blocks, gate_closed}
 use Rattle.journal.specs.declared.Next.{Next}
@@ -116,10 +116,17 @@ pub record IsQuiet (old new : Device) : Type 0 where
   pub since : IsTrue old.tells → (t : ℕ) (c : List ℕ) → t ≤ old.clock → new.left_since t c → old.left_since t c
   pub crash : IsTrue old.tells → (c : List ℕ) → new.may_leave c → old.may_leave c
 
--- and none of them failed
+-- reads, of which none failed
 pub record IsStill (old new : Device) : Type 0 where
   pub content : IsTrue old.tells → new.content ≡ old.content
   pub failures : new.failures ≡ old.failures
+  pub syncs : new.syncs ≡ old.syncs
+
+-- or a good sync alone was asked
+pub record IsSynced (old new : Device) : Type 0 where
+  pub content : IsTrue old.tells → new.content ≡ old.content
+  pub failures : new.failures ≡ old.failures
+  pub syncs : new.syncs ≡ one_more old.syncs
 
 -- the first images of the segment are in memory
 abbrev pub AreLoaded : ℕ → List ℕ → List ℕ → Type 0

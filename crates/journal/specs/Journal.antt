@@ -6,7 +6,7 @@ use Rattle.journal.specs.Inside.{IsAdmitted}
 use Rattle.journal.specs.Order.{calls_made}
 use Rattle.model.specs.Volume.{StandsFor, laid_over}
 use Rattle.journal.specs.declared.JournalError.{JournalError}
-use Rattle.journal.specs.declared.JournalError.TheVariants.{Fault}
+use Rattle.journal.specs.declared.JournalError.TheVariants.{Fault, Memory}
 use Rattle.journal.specs.declared.Next.{Next}
 use Rattle.journal.specs.declared.Next.TheVariants.{Idle}
 
@@ -79,6 +79,10 @@ pub record IsSameBatch {D : Type 0} (old new : JournalView D) : Type 0 where
 pub record CountsFailures {T : Type 0} (result : Result T JournalError) (old new : Device) : Type 0 where
   pub ok : OnOk result (new.failures ≡ old.failures)
   pub fault : IfErr result (λ error. error ≡ Fault → new.failures ≢ old.failures)
+
+-- why a run of calls stopped: the device failed, or a growth of it was refused
+abbrev pub IsCaused : JournalError → Device → Device → Type 0
+IsCaused error old new = ((error ≡ Fault) × (new.failures ≢ old.failures)) ⊎ ((error ≡ Memory) × (new.failures ≡ old.failures))
 
 -- from one moment to a later one the logical blocks stay, and so they do in each image that a crash between might have left
 pub record IsDuring {D : Type 0} (device : D → Device) (old new : JournalView D) : Type 0 where

@@ -1,8 +1,8 @@
 -- What an opening leaves, and what a crash during it might have left.
-use Rattle.std.specs.Prelude.{◌≡◌, ◌≢◌, ◌⊎◌, ℕ, ◌≤◌, IsTrue, List}
+use Rattle.std.specs.Prelude.{◌≡◌, ◌≢◌, ◌⊎◌, ℕ, ◌+◌, ◌%◌, ◌^◌, ◌≤◌, IsTrue, List, [], ◌∷◌, length}
 use Rattle.disk.specs.Device.{Device, Elapses, LeavesOnly, LeftNoMore}
 use Rattle.journal.specs.Journal.{HasWholeBlocks, IsReady, JournalView, LeavesAdmitted}
-use Rattle.model.specs.Volume.{StandsFor}
+use Rattle.model.specs.Volume.{StandsFor, block, descriptor_place, number_at, open_segments}
 use Rattle.journal.specs.declared.JournalError.{JournalError}
 use Rattle.journal.specs.declared.JournalError.TheVariants.{Fault, Memory, NotAVolume, Halted}
 
@@ -35,7 +35,7 @@ pub record Refuses {D : Type 0} (device : D → Device) (first last : D) (error 
   pub time : Elapses (device first) (device last)
   pub fault : error ≡ Fault → (device last).failures ≢ (device first).failures
   pub no_volume : error ≡ NotAVolume → IsTrue (device first).tells → IsNoVolume (device first).content
-  pub memory : error ≡ Memory → last ≡ first
+  pub memory : error ≡ Memory → (device last).failures ≡ (device first).failures
   pub not_halted : error ≢ Halted
 
 -- The first good sync comes before every write. Until it a crash leaves what it might have left at the start,
@@ -54,3 +54,22 @@ pub record SyncsFirst {D : Type 0} (device : D → Device) (first last : D) : Ty
 -- or no sync was good, and nothing was written
 abbrev pub NeverSyncs : {D : Type 0} → (D → Device) → D → D → Type 0
 NeverSyncs device first last = ((device last).writes ≡ (device first).writes) × (IsTrue (device first).tells → LeftNoMore (device first) (device last))
+
+-- n more, as a u64 counts
+abbrev pub IsMore : ℕ → ℕ → ℕ → Type 0
+IsMore n old new = new % 2 ^ 64 ≡ (old + n) % 2 ^ 64
+
+-- the writes that carry these open segments home: each of their images, and each gate
+abbrev pub home_writes : List ℕ → List ℕ → ℕ
+home_writes image [] = 0
+home_writes image (s ∷ segments) = number_at 16 4 (block (descriptor_place s) image) + 1 + home_writes image segments
+
+-- the syncs: one after the images, and one after each gate
+abbrev pub home_syncs : List ℕ → ℕ
+home_syncs [] = 0
+home_syncs (s ∷ segments) = 2 + length segments
+
+-- the writes and syncs that were asked since a device had that content, with so many syncs first
+pub record Costs (first : ℕ) (content : List ℕ) (old new : Device) : Type 0 where
+  pub writes : IsMore (home_writes content (open_segments content)) old.writes new.writes
+  pub syncs : IsMore (first + home_syncs (open_segments content)) old.syncs new.syncs

@@ -44,6 +44,31 @@ calls_made n Settle = 2 * n + 4
 calls_made n CloseGate = 2 * n + 5
 calls_made n Finish = 2 * n + 6
 
+-- how many of them were writes, and how many syncs
+abbrev pub writes_made : ℕ → Next → ℕ
+writes_made n Idle = 2 * n + 3
+writes_made n Descriptor = 0
+writes_made n (Image j) = 1 + j
+writes_made n Seal = n + 1
+writes_made n OpenGate = n + 1
+writes_made n Commit = n + 2
+writes_made n (Home j) = n + 2 + j
+writes_made n Settle = 2 * n + 2
+writes_made n CloseGate = 2 * n + 2
+writes_made n Finish = 2 * n + 3
+
+abbrev pub syncs_made : Next → ℕ
+syncs_made Idle = 4
+syncs_made Descriptor = 0
+syncs_made (Image j) = 0
+syncs_made Seal = 0
+syncs_made OpenGate = 1
+syncs_made Commit = 1
+syncs_made (Home j) = 2
+syncs_made Settle = 2
+syncs_made CloseGate = 3
+syncs_made Finish = 3
+
 -- the answer to a good call
 abbrev pub answer : ℕ → Next → Progress
 answer last Commit = Committed last

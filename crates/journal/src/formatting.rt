@@ -18,7 +18,7 @@ use std::alloc::{AllocError, Global};
 /// Writes a volume of zeroed logical blocks with this label and a closed segment, and syncs.
 /// `label` has 128 octets, which the journal doesn't read, and there are 1,024 to 65,536 blocks.
 ///
-/// A refusal for memory leaves the device as it was. A fault may leave anything there.
+/// A refusal, for memory too, may leave anything there.
 pub fn format<D: Disk>(
     alloc: Global,
     disk: &mut D,
@@ -34,7 +34,7 @@ pub fn format<D: Disk>(
     ensures closed { IsTrue (D.device disk.old).tells → OnOk result (open_segments (D.device disk.new).content ≡ []) }
     ensures time { Elapses (D.device disk.old) (D.device disk.new) }
     ensures failures { CountsFailures result (D.device disk.old) (D.device disk.new) }
-    ensures memory { IfErr result (λ error. error ≡ JournalError.Memory → disk.new ≡ disk.old) }
+    ensures memory { IfErr result (λ error. error ≡ JournalError.Memory → (D.device disk.new).failures ≡ (D.device disk.old).failures) }
     ensures no_other { IfErr result (λ error. (error ≡ JournalError.Fault) ⊎ (error ≡ JournalError.Memory)) }
 {
     match zeros(alloc, BLOCK) {
@@ -61,7 +61,8 @@ fn write_volume<D: Disk>(
     ensures closed { IsTrue (D.device disk.old).tells → OnOk result (open_segments (D.device disk.new).content ≡ []) }
     ensures time { Elapses (D.device disk.old) (D.device disk.new) }
     ensures failures { CountsFailures result (D.device disk.old) (D.device disk.new) }
-    ensures no_other { IfErr result (λ error. error ≡ JournalError.Fault) }
+    ensures memory { IfErr result (λ error. error ≡ JournalError.Memory → (D.device disk.new).failures ≡ (D.device disk.old).failures) }
+    ensures no_other { IfErr result (λ error. (error ≡ JournalError.Fault) ⊎ (error ≡ JournalError.Memory)) }
 {
     write_blocks(disk, home_block(SEGMENTS, blocks), octets.as_slice())?;
     describe_in(&mut octets, blocks as u32, label);
@@ -77,7 +78,8 @@ fn write_blocks<D: Disk>(disk: &mut D, end: u64, octets: &[u8]) -> Result<(), Jo
     ensures blocks { IsTrue (D.device disk.old).tells → OnOk result ((k : ℕ) → 0 < k → k < end → block k (D.device disk.new).content ≡ octets.now) }
     ensures time { Elapses (D.device disk.old) (D.device disk.new) }
     ensures failures { CountsFailures result (D.device disk.old) (D.device disk.new) }
-    ensures no_other { IfErr result (λ error. error ≡ JournalError.Fault) }
+    ensures memory { IfErr result (λ error. error ≡ JournalError.Memory → (D.device disk.new).failures ≡ (D.device disk.old).failures) }
+    ensures no_other { IfErr result (λ error. (error ≡ JournalError.Fault) ⊎ (error ≡ JournalError.Memory)) }
 {
     for k in 1..end {
         write_part(disk, start_of(k), octets)?;
@@ -123,11 +125,13 @@ fn write_part<D: Disk>(disk: &mut D, at: u64, from: &[u8]) -> Result<(), Journal
     ensures content { IsTrue (D.device disk.old).tells → OnOk result ((D.device disk.new).content ≡ overwritten at from.now (D.device disk.old).content) }
     ensures time { Elapses (D.device disk.old) (D.device disk.new) }
     ensures failures { CountsFailures result (D.device disk.old) (D.device disk.new) }
-    ensures no_other { IfErr result (λ error. error ≡ JournalError.Fault) }
+    ensures memory { IfErr result (λ error. error ≡ JournalError.Memory → (D.device disk.new).failures ≡ (D.device disk.old).failures) }
+    ensures no_other { IfErr result (λ error. (error ≡ JournalError.Fault) ⊎ (error ≡ JournalError.Memory)) }
 {
     match disk.write(at, from) {
         Ok(()) => Ok(()),
         Err(DiskError::Fault) => Err(JournalError::Fault),
+        Err(DiskError::Memory) => Err(JournalError::Memory),
     }
 }
 
@@ -136,11 +140,13 @@ fn sync_last<D: Disk>(disk: &mut D) -> Result<(), JournalError>
     ensures synced { IsTrue (D.device disk.old).tells → OnOk result (LeavesOnly (D.device disk.new) (D.device disk.old).content) }
     ensures time { Elapses (D.device disk.old) (D.device disk.new) }
     ensures failures { CountsFailures result (D.device disk.old) (D.device disk.new) }
-    ensures no_other { IfErr result (λ error. error ≡ JournalError.Fault) }
+    ensures memory { IfErr result (λ error. error ≡ JournalError.Memory → (D.device disk.new).failures ≡ (D.device disk.old).failures) }
+    ensures no_other { IfErr result (λ error. (error ≡ JournalError.Fault) ⊎ (error ≡ JournalError.Memory)) }
 {
     match disk.sync() {
         Ok(()) => Ok(()),
         Err(DiskError::Fault) => Err(JournalError::Fault),
+        Err(DiskError::Memory) => Err(JournalError::Memory),
     }
 }
 

@@ -10,7 +10,7 @@ mod stepping;
 
 ghost use Rattle.std.specs.Prelude.{◌≡◌, ◌≢◌, ◌≤◌, ◌<◌, ◌↔◌, ℕ, List, length, true, false, OnOk, IfErr, IsTrue};
 
-use disk::{Disk, DiskError, Faults};
+use disk::{Disk, DiskCall, Faults};
 pub use formatting::format;
 use layout::{LABEL_AT, SEGMENTS, SUPERBLOCK_USED, home_block, start_of};
 use std::marker::Model;
@@ -176,7 +176,7 @@ impl<D: Disk> Journal<D> {
     {
         match self.disk.read(start_of(home_block(SEGMENTS, block)), into) {
             Ok(()) => Ok(()),
-            Err(DiskError::Fault) => {
+            Err(_) => {
                 self.halted = true;
                 Err(JournalError::Fault)
             }
@@ -203,5 +203,14 @@ impl<D: Faults> Journal<D> {
         ensures plan { D.plans n self.old.disk self.new.disk }
     {
         self.disk.fail_at(n);
+    }
+
+    /// The n-th call of that kind of the device from now on fails likewise.
+    pub fn fail_kind(&mut self, kind: DiskCall, n: u64)
+        ensures view { self.new ≡ record self.old { disk = self.new.disk } }
+        ensures device { IsUnchanged (D.device self.old.disk) (D.device self.new.disk) }
+        ensures plan { D.plans_kind kind n self.old.disk self.new.disk }
+    {
+        self.disk.fail_kind(kind, n);
     }
 }

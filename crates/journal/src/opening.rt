@@ -1,13 +1,13 @@
 //! Opening what stands on a device.
 
-ghost use Rattle.std.specs.Prelude.{MatchResult, Some, None, ◌↔◌, ◌^◌, ◌⊎◌, OnOk, IfOk, IfErr, IsErrOf, take, IsTrue, IsNone, IfSome, ◌≡◌, ◌≢◌, ◌+◌, ◌*◌, ◌<◌, ◌≤◌, ℕ, List, true, false, length, drop};
+ghost use Rattle.std.specs.Prelude.{MatchResult, Some, None, ◌↔◌, ◌^◌, ◌⊎◌, OnOk, IfOk, IfErr, IsErrOf, take, IsTrue, IsNone, IfSome, ◌≡◌, ◌≢◌, ◌+◌, ◌*◌, ◌<◌, ◌≤◌, ℕ, List, [], true, false, length, drop};
 ghost use Rattle.std.specs.List.{All};
 ghost use Rattle.disk.specs.Device.{Elapses, LeavesOnly};
 ghost use Rattle.disk.specs.Image.{overwritten, part};
-ghost use Rattle.model.specs.Volume.{AreDistinct, IsDescriptor, IsSuperblock, StandsFor, is_open, magic, number_at, block, listed, image_place, descriptor_place, gate_place, home_place};
-ghost use Rattle.journal.specs.Inside.{AreLoaded, IsFound, IsQuiet, IsStill, LeftAs};
-ghost use Rattle.journal.specs.Journal.{IsDuring, IsReady, LeavesAdmitted, HasWholeBlocks};
-ghost use Rattle.journal.specs.Opening.{IsNoVolume, NeverSyncs, Opens, Refuses, SyncsFirst};
+ghost use Rattle.model.specs.Volume.{AreDistinct, IsDescriptor, IsSuperblock, StandsFor, is_open, open_segments, magic, number_at, block, listed, image_place, descriptor_place, gate_place, home_place};
+ghost use Rattle.journal.specs.Inside.{AreLoaded, IsFound, IsQuiet, IsStill, IsSynced, LeftAs};
+ghost use Rattle.journal.specs.Journal.{IsCaused, IsDuring, IsReady, LeavesAdmitted, HasWholeBlocks};
+ghost use Rattle.journal.specs.Opening.{Costs, IsMore, IsNoVolume, NeverSyncs, Opens, Refuses, SyncsFirst, home_syncs, home_writes};
 
 use crate::formatting::zeros;
 use crate::layout::{
@@ -23,14 +23,16 @@ impl<D: Disk> Journal<D> {
     /// Opens what stands on the device: one sync, then the reads; an open segment's images are carried home and its gate is
     /// closed, as in the second half of a batch. All the room that the journal needs is taken here, before the first call.
     ///
-    /// Answers `Fault` where the device failed in this call, `Memory` where the room was refused, which leaves the device
-    /// untouched, and `NotAVolume` where the length, the superblock or an open segment's descriptor isn't valid. The device
+    /// Answers `Fault` where the device failed in this call, `Memory` where the room or a growth of the device was refused,
+    /// and `NotAVolume` where the length, the superblock or an open segment's descriptor isn't valid. The device
     /// comes back with each refusal and may be opened again as it is. A crash at any moment leaves the logical blocks of an
     /// image that a crash at the start might have left; from the first sync on they are those that a read gives.
     pub fn open(alloc: Global, disk: D) -> Result<Journal<D>, Refused<D>>
         ensures ok { IfOk result (Opens D.device disk) }
         ensures err { IfErr result (λ refused. Refuses D.device disk refused.disk refused.error) }
         ensures moment { MatchResult result (λ journal. SyncsFirst D.device disk journal.disk) (λ refused. SyncsFirst D.device disk refused.disk ⊎ NeverSyncs D.device disk refused.disk) }
+        ensures judged { IfErr result (λ refused. refused.error ≡ JournalError.NotAVolume → SyncsFirst D.device disk refused.disk) }
+        ensures cost { IsTrue (D.device disk).tells → IfOk result (λ journal. Costs 1 (D.device disk).content (D.device disk) (D.device journal.disk)) }
     {
         match Room::new(alloc) {
             Ok(room) => open_in(room, disk),
@@ -74,6 +76,8 @@ fn open_in<D: Disk>(room: Room, mut disk: D) -> Result<Journal<D>, Refused<D>>
     ensures ok { IfOk result (Opens D.device disk) }
     ensures err { IfErr result (λ refused. Refuses D.device disk refused.disk refused.error) }
     ensures moment { MatchResult result (λ journal. SyncsFirst D.device disk journal.disk) (λ refused. SyncsFirst D.device disk refused.disk ⊎ NeverSyncs D.device disk refused.disk) }
+    ensures judged { IfErr result (λ refused. refused.error ≡ JournalError.NotAVolume → SyncsFirst D.device disk refused.disk) }
+    ensures cost { IsTrue (D.device disk).tells → IfOk result (λ journal. Costs 1 (D.device disk).content (D.device disk) (D.device journal.disk)) }
 {
     match sync_first(&mut disk) {
         Ok(()) => open_synced(room, disk),
@@ -84,9 +88,9 @@ fn open_in<D: Disk>(room: Room, mut disk: D) -> Result<Journal<D>, Refused<D>>
 // Opens what stands on a device that was synced.
 fn open_synced<D: Disk>(room: Room, mut disk: D) -> Result<Journal<D>, Refused<D>>
     requires { IsTrue (D.device disk).tells → LeavesOnly (D.device disk) (D.device disk).content }
+    ensures cost { IsTrue (D.device disk).tells → IfOk result (λ journal. Costs 0 (D.device disk).content (D.device disk) (D.device journal.disk)) }
     ensures ok { IfOk result (Opens D.device disk) }
     ensures err { IfErr result (λ refused. Refuses D.device disk refused.disk refused.error) }
-    ensures no_memory { IfErr result (λ refused. refused.error ≢ JournalError.Memory) }
 {
     let Room {
         mut superblock,
@@ -106,8 +110,9 @@ fn replay<D: Disk>(mut journal: Journal<D>) -> Result<Journal<D>, Refused<D>>
     requires running { journal.halted ≡ false }
     requires some { 1 ≤ length journal.numbers }
     requires now { LeavesAdmitted D.device journal }
+    ensures cost { IfOk result (λ after. IsMore (length journal.numbers + 1) (D.device journal.disk).writes (D.device after.disk).writes × IsMore 2 (D.device journal.disk).syncs (D.device after.disk).syncs) }
     ensures ok { IfOk result (λ after. IsReady after × IsDuring D.device journal after × ((D.device after.disk).failures ≡ (D.device journal.disk).failures)) }
-    ensures err { IfErr result (λ refused. (refused.error ≡ JournalError.Fault) × ((D.device refused.disk).failures ≢ (D.device journal.disk).failures) × Elapses (D.device journal.disk) (D.device refused.disk) × LeftAs (D.device journal.disk) (D.device refused.disk) journal.label journal.blocks) }
+    ensures err { IfErr result (λ refused. IsCaused refused.error (D.device journal.disk) (D.device refused.disk) × Elapses (D.device journal.disk) (D.device refused.disk) × LeftAs (D.device journal.disk) (D.device refused.disk) journal.label journal.blocks) }
 {
     match journal.carry_home() {
         Ok(()) => Ok(journal),
@@ -123,6 +128,7 @@ fn at_rest<D: Disk>(disk: D, superblock: Vec<u8>, blocks: u64, mut segment: Segm
     requires sizes { (length superblock.items ≡ 4096) × (length segment.descriptor.items ≡ 4096) × (length segment.numbers.items ≡ 512) × (length segment.images.items ≡ 2097152) }
     requires found { IsFound (D.device disk) superblock.items segment.descriptor.items segment.numbers.items segment.images.items blocks None }
     ensures disk { result.disk ≡ disk }
+    ensures none { IsTrue (D.device disk).tells → open_segments (D.device disk).content ≡ [] }
     ensures next { result.next ≡ Next.Idle }
     ensures running { result.halted ≡ false }
     ensures stands { IsTrue (D.device disk).tells → StandsFor (D.device disk).content result.label result.blocks }
@@ -152,6 +158,8 @@ fn to_be_replayed<D: Disk>(
     requires sizes { (length superblock.items ≡ 4096) × (length segment.descriptor.items ≡ 4096) × (length segment.numbers.items ≡ 512) × (length segment.images.items ≡ 2097152) }
     requires found { IsFound (D.device disk) superblock.items segment.descriptor.items segment.numbers.items segment.images.items blocks (Some count) }
     ensures disk { result.disk ≡ disk }
+    ensures open { IsTrue (D.device disk).tells → home_writes (D.device disk).content (open_segments (D.device disk).content) ≡ length result.numbers + 1 }
+    ensures syncs { IsTrue (D.device disk).tells → home_syncs (open_segments (D.device disk).content) ≡ 2 }
     ensures next { result.next ≡ Next.Home 0 }
     ensures running { result.halted ≡ false }
     ensures some { 1 ≤ length result.numbers }
@@ -215,19 +223,20 @@ fn read_part<D: Disk>(disk: &mut D, at: u64, into: &mut [u8]) -> Result<(), Jour
 {
     match disk.read(at, into) {
         Ok(()) => Ok(()),
-        Err(DiskError::Fault) => Err(JournalError::Fault),
+        Err(_) => Err(JournalError::Fault),
     }
 }
 
 fn sync_first<D: Disk>(disk: &mut D) -> Result<(), JournalError>
     ensures quiet { IsQuiet (D.device disk.old) (D.device disk.new) }
-    ensures still { OnOk result (IsStill (D.device disk.old) (D.device disk.new)) }
+    ensures synced { OnOk result (IsSynced (D.device disk.old) (D.device disk.new)) }
     ensures durable { IsTrue (D.device disk.old).tells → OnOk result (LeavesOnly (D.device disk.new) (D.device disk.old).content) }
-    ensures cause { IfErr result (λ error. (error ≡ JournalError.Fault) × ((D.device disk.new).failures ≢ (D.device disk.old).failures)) }
+    ensures cause { IfErr result (λ error. IsCaused error (D.device disk.old) (D.device disk.new)) }
 {
     match disk.sync() {
         Ok(()) => Ok(()),
         Err(DiskError::Fault) => Err(JournalError::Fault),
+        Err(DiskError::Memory) => Err(JournalError::Memory),
     }
 }
 

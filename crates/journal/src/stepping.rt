@@ -1,10 +1,11 @@
 //! One device call after another.
 
-ghost use Rattle.std.specs.Prelude.{◌≡◌, ◌≢◌, ◌≤◌, ◌<◌, ◌+◌, ◌*◌, ℕ, length, take, slice_index, true, false, OnOk, IfErr, IsTrue};
-ghost use Rattle.disk.specs.Device.{Elapses, HasCause};
+ghost use Rattle.std.specs.Prelude.{◌≡◌, ◌≢◌, ◌≤◌, ◌<◌, ◌+◌, ◌*◌, ◌⊎◌, ℕ, length, take, slice_index, true, false, OnOk, IfErr, IsTrue, if◌then◌else◌};
+ghost use Rattle.disk.specs.Device.{Elapses, HasCause, OnAsked, OnRefused};
 ghost use Rattle.model.specs.Volume.{blocks_from, home_place};
 ghost use Rattle.journal.specs.Inside.{IsWithin};
-ghost use Rattle.journal.specs.Order.{following, calls_made, at_fault, answer};
+ghost use Rattle.journal.specs.Order.{following, calls_made, writes_made, syncs_made, is_sync, at_fault, answer};
+ghost use Rattle.journal.specs.Opening.{IsMore};
 ghost use Rattle.journal.specs.Calls.{Does, call_at};
 
 use crate::layout::{
@@ -15,16 +16,20 @@ use crate::{Journal, JournalError, Next, Progress, Segment};
 use disk::{Disk, DiskError};
 
 impl<D: Disk> Journal<D> {
-    ghost use Rattle.journal.specs.Journal.{IsDuring, IsIdle, LeavesAdmitted, LeftAdmitted};
-    ghost use Rattle.journal.specs.Calls.{MakesCall};
+    ghost use Rattle.journal.specs.Journal.{IsCaused, IsDuring, IsIdle, LeavesAdmitted, LeftAdmitted};
+    ghost use Rattle.journal.specs.Calls.{IsRetried, MakesCall, OnMade, OnRetried};
 
     /// Makes the next device call of the batch in flight, and no other. None is made when idle or halted.
     ///
-    /// A fault of the device halts the journal: it answers `Fault` then, and `Halted` from then on.
+    /// A fault of the device halts the journal: it answers `Fault` then, and `Halted` from then on. A call that the device
+    /// refuses for want of memory isn't made: the answer is `Memory`, and the next step is that call again.
     pub fn step(&mut self) -> Result<Progress, JournalError>
         ensures halted { self.old.halted ≡ true → (result ≡ Err JournalError.Halted) × (self.new ≡ self.old) }
         ensures idle { self.old.halted ≡ false → IsIdle self.old → (result ≡ Ok Progress.Idle) × (self.new ≡ self.old) }
-        ensures call { self.old.halted ≡ false → (IsIdle self.old → ⊥) → MakesCall D.device self.old self.new result }
+        ensures call { self.old.halted ≡ false → (IsIdle self.old → ⊥) → OnMade result (MakesCall D.device self.old self.new result) }
+        ensures retried { self.old.halted ≡ false → (IsIdle self.old → ⊥) → OnRetried result (IsRetried D.device self.old self.new) }
+        ensures no_other { self.old.halted ≡ false → IfErr result (λ error. (error ≡ JournalError.Fault) ⊎ (error ≡ JournalError.Memory)) }
+        ensures memory { IfErr result (λ error. error ≡ JournalError.Memory → IsTrue D.grows) }
 
         // A crash now leaves an image that the journal admits, and so does one at any moment of the step.
         ensures now { LeavesAdmitted D.device self.new }
@@ -47,6 +52,7 @@ impl<D: Disk> Journal<D> {
                 self.halted = true;
                 Err(JournalError::Fault)
             }
+            Err(DiskError::Memory) => Err(JournalError::Memory),
         }
     }
 
@@ -57,8 +63,9 @@ impl<D: Disk> Journal<D> {
         requires some { 1 ≤ length self.old.numbers }
         requires now { LeavesAdmitted D.device self.old }
         ensures during { IsDuring D.device self.old self.new }
+        ensures cost { OnOk result (IsMore (length self.old.numbers + 1) (D.device self.old.disk).writes (D.device self.new.disk).writes × IsMore 2 (D.device self.old.disk).syncs (D.device self.new.disk).syncs) }
         ensures ok { OnOk result ((self.new.next ≡ Next.Idle) × (self.new.halted ≡ false) × ((D.device self.new.disk).failures ≡ (D.device self.old.disk).failures)) }
-        ensures cause { IfErr result (λ error. (error ≡ JournalError.Fault) × ((D.device self.new.disk).failures ≢ (D.device self.old.disk).failures)) }
+        ensures cause { IfErr result (λ error. IsCaused error (D.device self.old.disk) (D.device self.new.disk)) }
     {
         while !is_idle(self.next) {
             self.step()?;
@@ -71,6 +78,9 @@ impl<D: Disk> Journal<D> {
 /// the one that ends the batch call 2 n + 7.
 pub fn each_call_is_the_next()
     ensures next { (n : ℕ) (next : Next) → next ≢ Next.Idle → calls_made n (following n next) ≡ calls_made n next + 1 }
+    ensures writes { (n : ℕ) (next : Next) → next ≢ Next.Idle → writes_made n (following n next) ≡ (if is_sync next then writes_made n next else writes_made n next + 1) }
+    ensures syncs { (n : ℕ) (next : Next) → next ≢ Next.Idle → syncs_made (following n next) ≡ (if is_sync next then syncs_made next + 1 else syncs_made next) }
+    ensures cost { (n : ℕ) → (writes_made n (following n Next.Commit) ≡ n + 2) × (syncs_made (following n Next.Commit) ≡ 2) }
     ensures committed { (n : ℕ) → calls_made n (following n Next.Commit) ≡ n + 4 }
     ensures ended { (n : ℕ) → calls_made n (following n Next.Finish) ≡ 2 * n + 7 }
 {}
@@ -95,9 +105,11 @@ fn ask<D: Disk>(disk: &mut D, next: Next, segment: &Segment) -> Result<(), DiskE
     requires numbers { length segment.now.numbers.items ≡ 512 }
     requires images { length segment.now.images.items ≡ 2097152 }
     requires few { segment.now.count ≤ 512 }
-    ensures does { Does (call_at next segment.now.descriptor.items (take segment.now.count segment.now.numbers.items) (blocks_from 0 (length (take segment.now.count segment.now.numbers.items)) segment.now.images.items)) result (D.device disk.old) (D.device disk.new) }
+    ensures does { OnAsked result (Does (call_at next segment.now.descriptor.items (take segment.now.count segment.now.numbers.items) (blocks_from 0 (length (take segment.now.count segment.now.numbers.items)) segment.now.images.items)) result (D.device disk.old) (D.device disk.new)) }
     ensures time { Elapses (D.device disk.old) (D.device disk.new) }
     ensures cause { HasCause result (D.device disk.old) (D.device disk.new) }
+    ensures refused { OnRefused result (D.device disk.old) (D.device disk.new) }
+    ensures memory { IfErr result (λ error. error ≡ DiskError.Memory → IsTrue D.grows) }
 {
     match next {
         Next::Descriptor => disk.write(

@@ -1,5 +1,5 @@
 -- What look-ups into a spool give, in the words of the spool.
-use Rattle.std.specs.Prelude.{ℕ, ◌+◌, ◌-◌, ◌==◌, if◌then◌else◌, List, [], ◌++◌, map, take, drop, flat_map, slice_get, Option, Some, None, option_map, option_and_then, unwrap_or}
+use Rattle.std.specs.Prelude.{◌≡◌, ℕ, zero, suc, ◌+◌, ◌-◌, if◌then◌else◌, List, [], ◌++◌, map, take, drop, flat_map, slice_get, Option, Some, None, option_map, option_and_then, unwrap_or}
 use Rattle.std.specs.List.{list_any, enumerate_from}
 use Rattle.model.specs.Stream.{Octets, line, stuffed}
 use Rattle.model.specs.Article.{header, body, id, overview_line}
@@ -7,6 +7,7 @@ use Rattle.model.specs.Spool.{Spool, NewsGroup, NewsArticle, Listed, article_fil
 use Rattle.model.specs.declared.command.Part.{Part}
 use Rattle.model.specs.declared.command.Part.TheVariants as part
 use Rattle.lookups.specs.declared.GroupView.{GroupView}
+use Rattle.lookups.specs.declared.finding.Counts.{Counts}
 
 -- ---- groups
 
@@ -37,7 +38,8 @@ shown v = record {
 
 -- the article that the change with this serial filed, if it filed one
 abbrev pub article_with : Spool → ℕ → Option NewsArticle
-article_with S n = if n == 0 then None else option_and_then article_filed (slice_get (entries S) (n - 1))
+article_with S zero = None
+article_with S (suc k) = option_and_then article_filed (slice_get (entries S) k)
 
 abbrev pub text_of : Spool → ℕ → Octets
 text_of S n = unwrap_or (option_map (λ a. a.text) (article_with S n)) []
@@ -64,3 +66,18 @@ filed_between S g from to = enumerate_from from (take (to + 1 - from) (drop (fro
 -- their overview lines, each with its CRLF
 abbrev pub overviews_between : Spool → Octets → ℕ → ℕ → Octets
 overviews_between S g from to = flat_map (λ p. line (overview_line p.0 p.1.text)) (filed_between S g from to)
+
+-- an article by its serial, where there is one
+abbrev pub article_of : Spool → ℕ → NewsArticle
+article_of S n = record {
+  serial = n;
+  text = text_of S n;
+  groups = unwrap_or (option_map (λ a. a.groups) (article_with S n)) [];
+  moment = unwrap_or (option_map (λ a. a.moment) (article_with S n)) 0;
+}
+
+-- these are the numbers of the group, and the last serial that names it
+pub record IsCounts (S : Spool) (g : Octets) (counts : Counts) : Type 0 where
+  pub low : counts.low ≡ low S g
+  pub high : counts.high ≡ high S g
+  pub last : counts.last ≡ last_naming S g

@@ -11,6 +11,12 @@ ghost use Rattle.model.specs.Lawful.{IsLawful};
 ghost use Rattle.model.specs.Spool.{Spool, by_id, by_number, expired_at, group_named, groups, high, low};
 ghost use Rattle.lookups.specs.Held.{all_known, article_with, gone_with, groups_now, known, overviews_between, sent_part, shown, text_of};
 
+mod finding;
+
+pub use finding::{
+    Counts, Found, Located, absent_reads, counts_of, find_group, find_id, find_number, locate_id,
+    locate_number,
+};
 use model::Part;
 use std::alloc::AllocError;
 
@@ -97,10 +103,10 @@ pub trait LookUps {
         requires { IsSome (article_with (changes self.now) serial) }
         ensures { OnOk result (reply.new.items ≡ reply.old.items ++ sent_part part.now (text_of (changes self.now) serial)) };
 
-    /// Appends the overview line of an article, with the number 0 and CRLF.
-    fn push_overview(&self, serial: u64, reply: &mut Vec<u8>) -> Result<(), AllocError>
+    /// Appends the overview line of an article with this number and CRLF.
+    fn push_overview(&self, serial: u64, number: u64, reply: &mut Vec<u8>) -> Result<(), AllocError>
         requires { IsSome (article_with (changes self.now) serial) }
-        ensures { OnOk result (reply.new.items ≡ reply.old.items ++ line (overview_line 0 (text_of (changes self.now) serial))) };
+        ensures { OnOk result (reply.new.items ≡ reply.old.items ++ line (overview_line number (text_of (changes self.now) serial))) };
 
     /// Appends the overview lines of the articles in a group from one number to another, each with CRLF.
     fn push_overviews(

@@ -91,7 +91,7 @@ module _ (synced present : List ℕ) (touched marked : List Bool) (at : ℕ) (fr
         size = sym (length-overwritten at (part at (length from) synced) c part_fits);
         below = λ k below. sym (before_outside k (inl below));
         above = λ k above. sym (before_outside k (inr above));
-        octets = λ k low high. left.octets k (flags_inside k low high);
+        octets = λ k low high. inr (left.octets k (flags_inside k low high));
       },
     )
       where

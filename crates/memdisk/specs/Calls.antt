@@ -5,6 +5,8 @@ use Rattle.disk.specs.Image.{overwritten}
 use Rattle.memdisk.specs.Memory.{IsCrashImage}
 use Rattle.memdisk.specs.Picks.{picked_from}
 use Rattle.memdisk.specs.Plans.{fails_next, plan_after}
+use Rattle.disk.specs.declared.DiskCall.{DiskCall}
+use Rattle.disk.specs.declared.DiskCall.TheVariants.{Read, Write, Sync}
 use Rattle.memdisk.specs.declared.Pick.{Pick}
 use Rattle.memdisk.specs.declared.Plan.{Plan}
 use Rattle.memdisk.specs.declared.Plan.TheVariants.{Never}
@@ -54,16 +56,16 @@ blank len = record {
 }
 
 -- what any call leaves of the plan and the count of failures
-abbrev pub asked : MemoryView → MemoryView
-asked m = record m { plan = plan_after m.plan; failures = if fails_next m.plan then one_more m.failures else m.failures }
+abbrev pub asked : DiskCall → MemoryView → MemoryView
+asked call m = record m { plan = plan_after call m.plan; failures = if fails_next call m.plan then one_more m.failures else m.failures }
 
 -- a read leaves all octets
 abbrev pub after_read : MemoryView → MemoryView
-after_read m = record (asked m) { reads = one_more m.reads }
+after_read m = record (asked Read m) { reads = one_more m.reads }
 
 -- a write puts its octets in and touches them, also where it fails
 abbrev pub after_write : ℕ → List ℕ → MemoryView → MemoryView
-after_write at from m = record (asked m) {
+after_write at from m = record (asked Write m) {
   present = overwritten at from m.present;
   touched = overwritten at (replicate (length from) true) m.touched;
   writes = one_more m.writes;
@@ -75,7 +77,7 @@ all_synced image m = record m { synced = image; present = image; touched = repli
 
 -- a sync makes what a read gives durable, and where it fails leaves the octets and which are touched
 abbrev pub after_sync : MemoryView → MemoryView
-after_sync m = if fails_next m.plan then record (asked m) { syncs = one_more m.syncs } else all_synced m.present (record (asked m) { syncs = one_more m.syncs })
+after_sync m = if fails_next Sync m.plan then record (asked Sync m) { syncs = one_more m.syncs } else all_synced m.present (record (asked Sync m) { syncs = one_more m.syncs })
 
 -- the image that a crash with these picks leaves
 abbrev pub picked : List Pick → MemoryView → List ℕ

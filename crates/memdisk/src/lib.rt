@@ -3,18 +3,16 @@
 #![tactic(auto)]
 
 mod blocks;
-#[cfg(test)]
-mod tests;
 
-ghost use Rattle.std.specs.Prelude.{◌≡◌, ◌+◌, ◌≤◌, ◌↔◌, ℕ, IsTrue, length, IfOk, OnOk, IsErrOf, if◌then◌else◌};
+ghost use Rattle.std.specs.Prelude.{◌≡◌, ◌+◌, ◌≤◌, ◌↔◌, ℕ, IsTrue, length, IfErr, IfOk, OnOk, IsErrOf, if◌then◌else◌};
 ghost use Rattle.memdisk.specs.Calls.{after_read, after_sync, after_write, all_synced, blank, picked};
 ghost use Rattle.memdisk.specs.Memory.{IsSound};
-ghost use Rattle.memdisk.specs.Plans.{fails_next, plan_after, plan_for};
+ghost use Rattle.memdisk.specs.Plans.{fails_next, is_kind, plan_after, plan_for, plan_for_kind};
 ghost use Rattle.disk.specs.Device.{IsUnchanged, LeavesNoMore, LeavesOnly, LeftNoMore, LeftTornAt, TearsAt, one_more};
 ghost use Rattle.disk.specs.Image.{part};
 
 use blocks::{BLOCK, Marks, put, settle_marked, sync_marked};
-use disk::{Disk, DiskError, Faults};
+use disk::{Disk, DiskCall, DiskError, Faults};
 use std::alloc::{AllocError, Global};
 
 /// What a crash makes of a touched octet.
@@ -34,13 +32,15 @@ pub enum Plan {
     Never,
     /// A call of any kind, once, after so many others.
     Any(u64),
+    /// A call of this kind, once, after so many others of it.
+    Kind(DiskCall, u64),
 }
 
 impl Plan {
-    // Whether the call that is asked now fails.
-    fn fails(&mut self) -> bool
-        ensures fails { result ≡ fails_next self.old }
-        ensures plan { self.new ≡ plan_after self.old }
+    // Whether a call of that kind, asked now, fails.
+    fn fails(&mut self, call: DiskCall) -> bool
+        ensures fails { result ≡ fails_next call self.old }
+        ensures plan { self.new ≡ plan_after call self.old }
     {
         match *self {
             Plan::Never => false,
@@ -52,20 +52,48 @@ impl Plan {
                 *self = Plan::Any(n - 1);
                 false
             }
+            Plan::Kind(kind, others) if is_same_kind(kind, call) => {
+                *self = planned(kind, others);
+                others == 0
+            }
+            Plan::Kind(..) => false,
         }
     }
 
     // The answer of that call, where a failure is counted.
-    fn ask(&mut self, failures: &mut u64) -> Result<(), DiskError>
-        ensures fails { IsErrOf result DiskError.Fault ↔ IsTrue (fails_next self.old) }
-        ensures plan { self.new ≡ plan_after self.old }
-        ensures failures { failures.new ≡ (if fails_next self.old then one_more failures.old else failures.old) }
+    fn ask(&mut self, call: DiskCall, failures: &mut u64) -> Result<(), DiskError>
+        ensures fails { IsErrOf result DiskError.Fault ↔ IsTrue (fails_next call self.old) }
+        ensures no_memory { IfErr result (λ error. error ≡ DiskError.Fault) }
+        ensures plan { self.new ≡ plan_after call self.old }
+        ensures failures { failures.new ≡ (if fails_next call self.old then one_more failures.old else failures.old) }
     {
-        if self.fails() {
+        if self.fails(call) {
             *failures = failures.wrapping_add(1);
             return Err(DiskError::Fault);
         }
         Ok(())
+    }
+}
+
+// The n-th call of this kind, counted from 1, and none at 0.
+fn planned(kind: DiskCall, n: u64) -> Plan
+    ensures { result ≡ plan_for_kind kind n }
+{
+    if n == 0 {
+        Plan::Never
+    } else {
+        Plan::Kind(kind, n - 1)
+    }
+}
+
+fn is_same_kind(kind: DiskCall, call: DiskCall) -> bool
+    ensures { result ≡ is_kind kind call }
+{
+    match (kind, call) {
+        (DiskCall::Read, DiskCall::Read)
+        | (DiskCall::Write, DiskCall::Write)
+        | (DiskCall::Sync, DiskCall::Sync) => true,
+        _ => false,
     }
 }
 
@@ -140,9 +168,12 @@ impl MemDisk {
 }
 
 impl Disk for MemDisk {
+    ghost use Rattle.std.specs.Prelude.{false};
     ghost use Rattle.memdisk.specs.MemDisk.{memory_device, counts_content, view};
 
     ghost device = { memory_device };
+
+    ghost grows = { false };
 
     fn len(&self) -> u64 {
         self.present.len() as u64
@@ -150,12 +181,13 @@ impl Disk for MemDisk {
 
     fn read(&mut self, at: u64, into: &mut [u8]) -> Result<(), DiskError>
         requires { at + length into.old ≤ (memory_device self.old).size }
-        ensures fails { IsErrOf result DiskError.Fault ↔ IsTrue (fails_next (view self.old).plan) }
+        ensures fails { IsErrOf result DiskError.Fault ↔ IsTrue (fails_next DiskCall.Read (view self.old).plan) }
+        ensures no_memory { IfErr result (λ error. error ≡ DiskError.Fault) }
         ensures value { OnOk result (into.new ≡ part at (length into.old) (view self.old).present) }
         ensures memory { view self.new ≡ after_read (view self.old) }
     {
         self.reads = self.reads.wrapping_add(1);
-        self.plan.ask(&mut self.failures)?;
+        self.plan.ask(DiskCall::Read, &mut self.failures)?;
         let at = at as usize;
         let end = at + into.len();
         into.copy_from_slice(&self.present[at..end]);
@@ -164,7 +196,8 @@ impl Disk for MemDisk {
 
     fn write(&mut self, at: u64, from: &[u8]) -> Result<(), DiskError>
         requires { at + length from.now ≤ (memory_device self.old).size }
-        ensures fails { IsErrOf result DiskError.Fault ↔ IsTrue (fails_next (view self.old).plan) }
+        ensures fails { IsErrOf result DiskError.Fault ↔ IsTrue (fails_next DiskCall.Write (view self.old).plan) }
+        ensures no_memory { IfErr result (λ error. error ≡ DiskError.Fault) }
         ensures memory { view self.new ≡ after_write at from.now (view self.old) }
         ensures crash { TearsAt at (length from.now) (memory_device self.old) (memory_device self.new) }
         ensures since { LeftTornAt at (length from.now) (memory_device self.old) (memory_device self.new) }
@@ -173,18 +206,19 @@ impl Disk for MemDisk {
         let at = at as usize;
         put(&mut self.present, &mut self.touched, at, from);
         self.marks.mark(at, at + from.len());
-        self.plan.ask(&mut self.failures)
+        self.plan.ask(DiskCall::Write, &mut self.failures)
     }
 
     fn sync(&mut self) -> Result<(), DiskError>
-        ensures fails { IsErrOf result DiskError.Fault ↔ IsTrue (fails_next (view self.old).plan) }
+        ensures fails { IsErrOf result DiskError.Fault ↔ IsTrue (fails_next DiskCall.Sync (view self.old).plan) }
+        ensures no_memory { IfErr result (λ error. error ≡ DiskError.Fault) }
         ensures memory { view self.new ≡ after_sync (view self.old) }
         ensures durable { OnOk result (LeavesOnly (memory_device self.new) (view self.old).present) }
         ensures crash { LeavesNoMore (memory_device self.old) (memory_device self.new) }
         ensures since { LeftNoMore (memory_device self.old) (memory_device self.new) }
     {
         self.syncs = self.syncs.wrapping_add(1);
-        self.plan.ask(&mut self.failures)?;
+        self.plan.ask(DiskCall::Sync, &mut self.failures)?;
         sync_marked(
             &mut self.synced,
             &mut self.touched,
@@ -209,6 +243,8 @@ impl Faults for MemDisk {
 
     ghost plans = { λ n old new. view new ≡ record (view old) { plan = plan_for n } };
 
+    ghost plans_kind = { λ kind n old new. view new ≡ record (view old) { plan = plan_for_kind kind n } };
+
     fn fail_at(&mut self, n: u64)
         ensures unchanged { IsUnchanged (memory_device self.old) (memory_device self.new) }
         ensures plan { view self.new ≡ record (view self.old) { plan = plan_for n } }
@@ -217,5 +253,12 @@ impl Faults for MemDisk {
             None => Plan::Never,
             Some(others) => Plan::Any(others),
         };
+    }
+
+    fn fail_kind(&mut self, kind: DiskCall, n: u64)
+        ensures unchanged { IsUnchanged (memory_device self.old) (memory_device self.new) }
+        ensures plan { view self.new ≡ record (view self.old) { plan = plan_for_kind kind n } }
+    {
+        self.plan = planned(kind, n);
     }
 }

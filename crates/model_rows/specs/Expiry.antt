@@ -45,7 +45,7 @@ NextNumber =
     ≡ is_told (codes "211 0 4 3 x.a") 6 ∷ is_told (codes "420 No current article") 6 ∷ is_told (codes "340 Send article") 6 ∷ is_told (codes "240 Article received") 7
     ∷ is_told (codes "211 1 4 4 x.a") 7 ∷ is_told (codes "223 4 <4@a.example>") 7 ∷ []
 
--- and so it has where one is left: numbers go on behind the highest
+-- and so it has where one is left: numbers go on after the highest
 abbrev pub NumbersGoOn : Type 0
 NumbersGoOn =
     told expired (new_seat ∷ [])

@@ -5,3 +5,4 @@ pub mod PartLaws
 pub mod RangeLaws
 pub mod TakesLaws
 pub mod WildmatLaws
+pub mod BlankLaws

@@ -9,6 +9,8 @@ pub(crate) const BLOCKS: &str = "blocks";
 
 pub(crate) const INODES: &str = "inodes";
 
+pub(crate) const CACHE: &str = "cache";
+
 pub(crate) const PATH: &str = "path";
 
 pub(crate) const PORT: &str = "port";
@@ -53,7 +55,11 @@ fn sim<'a>(alloc: Global) -> Result<Command<'a>, AllocError> {
     let command = Command::new(alloc, "sim").about(
         "Plays a script of events from standard input over a device in memory",
     );
-    volume(alloc, command, "1024", "64")
+    let cache = Arg::new(alloc, CACHE)
+        .long(CACHE)
+        .action(ArgAction::SetTrue)
+        .help("Collects writes in memory until a sync");
+    volume(alloc, command, "1024", "64")?.arg(cache)
 }
 
 fn group<'a>(alloc: Global) -> Result<Command<'a>, AllocError> {

@@ -1,10 +1,12 @@
 //! The program `newsd` over a reader and two writers: its words, its commands, and the simulation that `sim` runs.
 #![tactic(auto)]
 
+mod devices;
 mod failure;
 mod grammar;
 mod printing;
 mod running;
+mod sim;
 mod simulation;
 mod volume;
 mod words;

@@ -81,7 +81,7 @@ fn carry_out<R: Files<File = File> + Wait, I: BufRead, W: Write>(
 ) -> Result<(), Failure> {
     match asked {
         Asked::Nothing(_) | Asked::Serve(_) => Ok(()),
-        Asked::Simulation(plan) => simulate(alloc, &plan, input, output),
+        Asked::Simulation(plan, is_cached) => simulate(alloc, &plan, is_cached, input, output),
         Asked::Format(path, plan) => {
             commands::format(rt, alloc, path, plan.host, plan.blocks, plan.inodes)?;
             Ok(())
@@ -114,7 +114,10 @@ fn make_group<R: Files<File = File> + Wait, W: Write>(
         Ok(_) | Err(ParseError::Bad) => return Err(Failure::Bad),
         Err(ParseError::Memory) => return Err(Failure::Memory),
     };
-    let name = GroupName::read(name.as_slice()).map_err(|_| Failure::Bad)?;
+    // a lawful line has a group's name
+    let Ok(name) = GroupName::read(name.as_slice()) else {
+        return Err(Failure::Bad);
+    };
     let description = description.as_slice();
     let serial = commands::group(rt, alloc, path, &name, status, description, moment)?;
     Ok(writeln!(output, "{serial}")?)

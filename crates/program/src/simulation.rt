@@ -4,28 +4,30 @@ ghost use Rattle.script.specs.Script.{IsLawful};
 ghost use Rattle.world.specs.Events.{MayHappen};
 
 use crate::Failure;
+use crate::devices::Device;
 use crate::printing::{print_refusal, print_released};
-use crate::volume::new_world;
+use crate::sim::{Closed, Sim};
+use crate::volume::new_volume;
 use crate::words::Plan;
 use commands::print_spool;
-use disk::Faults;
 use journal::Progress;
 use memdisk::{MemDisk, Pick};
 use names::GroupName;
 use script::{Line, ParseError, parse};
 use std::alloc::Global;
 use std::io::{BufRead, Write};
-use world::{Answer, Event, StepError, World};
+use wcache::WCache;
+use world::{Answer, Event, StepError};
 
 /// The device calls of the largest batch, of 512 images, to its end.
 const MOST_CALLS: u32 = 2 * 512 + 7;
 
 /// What the events act on.
 #[derive(Drop)]
-enum Stage {
-    Open(World<MemDisk>),
+enum Stage<D: Device> {
+    Open(Sim<D>),
     /// The last opening was refused: a crash opens the device again.
-    Closed(MemDisk),
+    Closed(Closed<D>),
 }
 
 /// Plays the script that `input` holds, one event a line, and prints what it does. A refused event prints its refusal,
@@ -33,10 +35,25 @@ enum Stage {
 pub(crate) fn simulate<R: BufRead, W: Write>(
     alloc: Global,
     plan: &Plan<'_>,
+    is_cached: bool,
     input: &mut R,
     output: &mut W,
 ) -> Result<(), Failure> {
-    let mut stage = Stage::Open(new_world(alloc, plan)?);
+    if is_cached {
+        play_lines::<WCache<MemDisk>, R, W>(alloc, plan, input, output)
+    } else {
+        play_lines::<MemDisk, R, W>(alloc, plan, input, output)
+    }
+}
+
+/// The same over one kind of device.
+fn play_lines<D: Device, R: BufRead, W: Write>(
+    alloc: Global,
+    plan: &Plan<'_>,
+    input: &mut R,
+    output: &mut W,
+) -> Result<(), Failure> {
+    let mut stage = Stage::Open(new_sim::<D>(alloc, plan)?);
     let mut text = Vec::new(alloc);
     for number in 1..=u64::MAX {
         text.clear();
@@ -52,6 +69,14 @@ pub(crate) fn simulate<R: BufRead, W: Write>(
     Ok(())
 }
 
+/// A world over a new volume.
+fn new_sim<D: Device>(alloc: Global, plan: &Plan<'_>) -> Result<Sim<D>, Failure> {
+    match Closed::new(D::over(alloc, new_volume(alloc, plan)?)).open(alloc) {
+        Ok(sim) => Ok(sim),
+        Err((_, error)) => Err(Failure::NotOpened(error)),
+    }
+}
+
 /// A line without its LF.
 fn without_end(line: &[u8]) -> &[u8] {
     match line {
@@ -65,48 +90,51 @@ fn play<W: Write>(alloc: Global, stage: Stage, line: Line, output: &mut W) -> Re
     requires { IsLawful line }
 {
     match (stage, line) {
-        (Stage::Open(world), Line::Crash(pick)) => reopen(alloc, world.into_disk(), pick, output),
-        (Stage::Closed(disk), Line::Crash(pick)) => reopen(alloc, disk, pick, output),
-        (Stage::Open(mut world), line) => {
-            act(alloc, &mut world, line, output)?;
-            Ok(Stage::Open(world))
+        (Stage::Open(sim), Line::Crash(pick)) => reopen(alloc, sim.close(), pick, output),
+        (Stage::Closed(device), Line::Crash(pick)) => reopen(alloc, device, pick, output),
+        (Stage::Open(mut sim), line) => {
+            act(alloc, &mut sim, line, output)?;
+            Ok(Stage::Open(sim))
         }
-        (Stage::Closed(mut disk), Line::FailAt(call)) => {
-            disk.fail_at(call);
-            Ok(Stage::Closed(disk))
+        (Stage::Closed(mut device), Line::FailAt(call)) => {
+            device.fail_at(call);
+            Ok(Stage::Closed(device))
         }
-        (Stage::Closed(disk), _) => {
+        (Stage::Closed(mut device), Line::FailKind(kind, call)) => {
+            device.fail_kind(kind, call);
+            Ok(Stage::Closed(device))
+        }
+        (Stage::Closed(device), _) => {
             print_refusal(&StepError::Halted, output)?;
-            Ok(Stage::Closed(disk))
+            Ok(Stage::Closed(device))
         }
     }
 }
 
 /// The device crashes, each touched octet by this pick, and is opened again.
-fn reopen<W: Write>(
+fn reopen<D: Device, W: Write>(
     alloc: Global,
-    mut disk: MemDisk,
+    device: Closed<D>,
     pick: Pick,
     output: &mut W,
-) -> Result<Stage, Failure> {
-    disk.crash(&[pick]);
-    match World::open(alloc, disk) {
-        Ok(world) => {
-            let opened = world.opened();
+) -> Result<Stage<D>, Failure> {
+    match device.crashed(alloc, pick).open(alloc) {
+        Ok(sim) => {
+            let opened = sim.opened();
             writeln!(output, "opened {opened}")?;
-            Ok(Stage::Open(world))
+            Ok(Stage::Open(sim))
         }
-        Err(refused) => {
-            print_refusal(&refused.error, output)?;
-            Ok(Stage::Closed(refused.disk))
+        Err((device, error)) => {
+            print_refusal(&error, output)?;
+            Ok(Stage::Closed(device))
         }
     }
 }
 
 /// Does what a line asks of the world, and prints what it says of it.
-fn act<W: Write>(
+fn act<D: Device, W: Write>(
     alloc: Global,
-    world: &mut World<MemDisk>,
+    sim: &mut Sim<D>,
     line: Line,
     output: &mut W,
 ) -> Result<(), Failure>
@@ -129,52 +157,56 @@ fn act<W: Write>(
                 description,
                 moment,
             };
-            step(alloc, world, group, output)
+            step(alloc, sim, group, output)
         }
-        Line::Join => join(alloc, world, output),
-        Line::Leave(session) => step(alloc, world, Event::Leave(session), output),
+        Line::Join => join(alloc, sim, output),
+        Line::Leave(session) => step(alloc, sim, Event::Leave(session), output),
         Line::Arrive { session, octets } => {
-            step(alloc, world, Event::Arrive(session, octets), output)
+            step(alloc, sim, Event::Arrive(session, octets), output)
         }
-        Line::Exec { session, moment } => step(alloc, world, Event::Exec(session, moment), output),
-        Line::Take => step(alloc, world, Event::Take, output),
-        Line::Dev => step(alloc, world, Event::Dev, output),
-        Line::Told => step(alloc, world, Event::Told, output),
-        Line::Release => release(alloc, world, output),
-        Line::Commit => commit(alloc, world, output),
-        Line::Settle => settle(alloc, world, output),
+        Line::Exec { session, moment } => step(alloc, sim, Event::Exec(session, moment), output),
+        Line::Take => step(alloc, sim, Event::Take, output),
+        Line::Dev => step(alloc, sim, Event::Dev, output),
+        Line::Told => step(alloc, sim, Event::Told, output),
+        Line::Release => release(alloc, sim, output),
+        Line::Commit => commit(alloc, sim, output),
+        Line::Settle => settle(alloc, sim, output),
         Line::FailAt(call) => {
-            world.fail_at(call);
+            sim.fail_at(call);
             Ok(())
         }
-        Line::Spool => Ok(print_spool(world.spool(), output)?),
+        Line::FailKind(kind, call) => {
+            sim.fail_kind(kind, call);
+            Ok(())
+        }
+        Line::Spool => Ok(print_spool(sim.spool(), output)?),
         // a crash takes the world apart, see `play`
         Line::Crash(_) => Ok(()),
     }
 }
 
 /// An event that prints nothing but its refusal.
-fn step<W: Write>(
+fn step<D: Device, W: Write>(
     alloc: Global,
-    world: &mut World<MemDisk>,
+    sim: &mut Sim<D>,
     event: Event,
     output: &mut W,
 ) -> Result<(), Failure>
     requires { MayHappen event }
 {
-    match world.step(alloc, &event) {
+    match sim.step(alloc, &event) {
         Ok(_) => Ok(()),
         Err(error) => Ok(print_refusal(&error, output)?),
     }
 }
 
 /// A session begins; its number is printed.
-fn join<W: Write>(
+fn join<D: Device, W: Write>(
     alloc: Global,
-    world: &mut World<MemDisk>,
+    sim: &mut Sim<D>,
     output: &mut W,
 ) -> Result<(), Failure> {
-    match world.step(alloc, &Event::Join) {
+    match sim.step(alloc, &Event::Join) {
         Ok(Answer::Joined(session)) => Ok(writeln!(output, "join {session}")?),
         Ok(_) => Ok(()),
         Err(error) => Ok(print_refusal(&error, output)?),
@@ -182,33 +214,33 @@ fn join<W: Write>(
 }
 
 /// What is ready is handed out and printed.
-fn release<W: Write>(
+fn release<D: Device, W: Write>(
     alloc: Global,
-    world: &mut World<MemDisk>,
+    sim: &mut Sim<D>,
     output: &mut W,
 ) -> Result<(), Failure> {
-    match world.step(alloc, &Event::Release) {
-        Ok(_) => print_released(alloc, world.ready(), output),
+    match sim.step(alloc, &Event::Release) {
+        Ok(_) => print_released(alloc, sim.ready(), output),
         Err(error) => Ok(print_refusal(&error, output)?),
     }
 }
 
 /// A batch is taken and carried to its commit, of which the kernel is told. Where none was taken, nothing happens.
-fn commit<W: Write>(
+fn commit<D: Device, W: Write>(
     alloc: Global,
-    world: &mut World<MemDisk>,
+    sim: &mut Sim<D>,
     output: &mut W,
 ) -> Result<(), Failure> {
-    match world.step(alloc, &Event::Take) {
+    match sim.step(alloc, &Event::Take) {
         Ok(Answer::Took(Some(_))) => {}
         Ok(_) => return Ok(()),
         Err(error) => return Ok(print_refusal(&error, output)?),
     }
-    let refused = carry(alloc, world, Until::Committed);
-    let told = world.step(alloc, &Event::Told);
+    let refused = carry(alloc, sim, Until::Committed);
+    let told = sim.step(alloc, &Event::Told);
     match refused.and(told) {
         Ok(_) => {
-            let durable = world.durable();
+            let durable = sim.durable();
             Ok(writeln!(output, "durable {durable}")?)
         }
         Err(error) => Ok(print_refusal(&error, output)?),
@@ -216,12 +248,12 @@ fn commit<W: Write>(
 }
 
 /// The batch in flight is carried to its end.
-fn settle<W: Write>(
+fn settle<D: Device, W: Write>(
     alloc: Global,
-    world: &mut World<MemDisk>,
+    sim: &mut Sim<D>,
     output: &mut W,
 ) -> Result<(), Failure> {
-    match carry(alloc, world, Until::Ended) {
+    match carry(alloc, sim, Until::Ended) {
         Ok(_) => Ok(()),
         Err(error) => Ok(print_refusal(&error, output)?),
     }
@@ -245,9 +277,13 @@ impl Until {
 }
 
 /// Makes device calls until one answers what is awaited, or is refused.
-fn carry(alloc: Global, world: &mut World<MemDisk>, until: Until) -> Result<Answer, StepError> {
+fn carry<D: Device>(
+    alloc: Global,
+    sim: &mut Sim<D>,
+    until: Until,
+) -> Result<Answer, StepError> {
     for _ in 0..MOST_CALLS {
-        if let Answer::Progressed(progress) = world.step(alloc, &Event::Dev)? {
+        if let Answer::Progressed(progress) = sim.step(alloc, &Event::Dev)? {
             if until.is_met(progress) {
                 break;
             }

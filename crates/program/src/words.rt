@@ -5,7 +5,7 @@ ghost use Rattle.commands.specs.Sizes.{are_sizes};
 ghost use Rattle.model.specs.Names.{is_host};
 
 use crate::grammar::{
-    BLOCKS, DESCRIPTION, HOST, INODES, MOMENT, NAME, PATH, PORT, STATUS, grammar,
+    BLOCKS, CACHE, DESCRIPTION, HOST, INODES, MOMENT, NAME, PATH, PORT, STATUS, grammar,
 };
 use crate::{DONE, Failure, NOT_UNDERSTOOD};
 use clap::ArgMatches;
@@ -33,7 +33,8 @@ pub(crate) struct Plan<'a> {
 pub(crate) enum Asked<'a> {
     /// Nothing more: help was printed, or words were not understood.
     Nothing(u8),
-    Simulation(Plan<'a>),
+    /// Over a device in memory, with or without a cache that collects writes until a sync.
+    Simulation(Plan<'a>, bool),
     Format(&'a str, Plan<'a>),
     /// The line of a group, as an operator would write it.
     Group(&'a str, Vec<u8>),
@@ -77,7 +78,7 @@ fn read_request<'a>(alloc: Global, matches: &ArgMatches<'a>) -> Result<Asked<'a>
         return Err(Failure::Bad);
     };
     match name {
-        "sim" => Ok(Asked::Simulation(read_plan(words)?)),
+        "sim" => Ok(Asked::Simulation(read_plan(words)?, words.get_flag(CACHE))),
         "format" => Ok(Asked::Format(word(words, PATH)?, read_plan(words)?)),
         "group" => Ok(Asked::Group(word(words, PATH)?, read_group(alloc, words)?)),
         "serve" => Ok(Asked::Serve(read_service(words)?)),

@@ -1,6 +1,11 @@
 -- What the replies of the code are.
+use Rattle.std.specs.Prelude.{[], ◌∷◌, map}
 use Rattle.model.specs.Stream.{Octets}
-use Rattle.model.specs.Replies.{bye, transferred, received, send_transferred, send_posted, service_ends, no_such_group, no_group_selected, no_current_article, no_next_article, no_previous_article, no_such_number, no_such_article, not_wanted, try_later, rejected, not_accepted, unknown_command, syntax_error, help_follows, capabilities_follow, information_follows, overview_follows, articles_follow, groups_follow}
+use Rattle.model.specs.Answer.{capability_lines, overview_format, spaced}
+use Rattle.model.specs.Commands.{keywords}
+use Rattle.model.specs.Replies.{block, bye, transferred, received, send_transferred, send_posted, service_ends, no_such_group, no_group_selected, no_current_article, no_next_article, no_previous_article, no_such_number, no_such_article, not_wanted, try_later, rejected, not_accepted, unknown_command, syntax_error, help_follows, capabilities_follow, information_follows, overview_follows, articles_follow, groups_follow}
+use Rattle.replies.specs.declared.texts.Block.{Block}
+use Rattle.replies.specs.declared.texts.Block.TheVariants as blocks
 use Rattle.replies.specs.declared.texts.Reply.{Reply}
 use Rattle.replies.specs.declared.texts.Reply.TheVariants as reply
 use Rattle.replies.specs.declared.texts.Heading.{Heading}
@@ -34,3 +39,8 @@ headed heading.Information = information_follows
 headed heading.Overview = overview_follows
 headed heading.Articles = articles_follow
 headed heading.Groups = groups_follow
+
+abbrev pub sent_block : Block → Octets
+sent_block blocks.Capabilities = block capabilities_follow capability_lines
+sent_block blocks.Help = block help_follows (spaced (map (λ k. k.0) keywords) ∷ [])
+sent_block blocks.OverviewFormat = block information_follows overview_format

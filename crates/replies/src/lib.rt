@@ -6,5 +6,8 @@ mod texts;
 mod writing;
 
 pub use sessions::{Answered, answer, at_number, awaiting, copy, says, says_line, selecting};
-pub use texts::{Heading, Reply};
-pub use writing::{push_end, push_heading, push_line, push_number, push_reply, push_stuffed};
+pub use texts::{Block, Heading, Reply};
+pub use writing::{
+    push_end, push_greeting, push_heading, push_line, push_number, push_number_line, push_reply,
+    push_stuffed,
+};

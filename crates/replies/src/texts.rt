@@ -2,7 +2,7 @@
 
 ghost use Rattle.std.specs.Prelude.{◌≡◌};
 ghost use Rattle.model.specs.Stream.{line};
-ghost use Rattle.replies.specs.Replies.{headed, sent};
+ghost use Rattle.replies.specs.Replies.{headed, sent, sent_block};
 
 /// A reply of one line.
 #[derive(Clone, Copy)]
@@ -30,30 +30,7 @@ pub enum Reply {
 
 impl Reply {
     /// Its text, without CRLF.
-    #[tactic(
-        auto,
-        unfolding(
-            model::specs::Replies::bye,
-            model::specs::Replies::transferred,
-            model::specs::Replies::received,
-            model::specs::Replies::send_transferred,
-            model::specs::Replies::send_posted,
-            model::specs::Replies::service_ends,
-            model::specs::Replies::no_such_group,
-            model::specs::Replies::no_group_selected,
-            model::specs::Replies::no_current_article,
-            model::specs::Replies::no_next_article,
-            model::specs::Replies::no_previous_article,
-            model::specs::Replies::no_such_number,
-            model::specs::Replies::no_such_article,
-            model::specs::Replies::not_wanted,
-            model::specs::Replies::try_later,
-            model::specs::Replies::rejected,
-            model::specs::Replies::not_accepted,
-            model::specs::Replies::unknown_command,
-            model::specs::Replies::syntax_error
-        )
-    )]
+    #[tactic(auto, unfolding(model::specs::Replies::bye, model::specs::Replies::transferred, model::specs::Replies::received, model::specs::Replies::send_transferred, model::specs::Replies::send_posted, model::specs::Replies::service_ends, model::specs::Replies::no_such_group, model::specs::Replies::no_group_selected, model::specs::Replies::no_current_article, model::specs::Replies::no_next_article, model::specs::Replies::no_previous_article, model::specs::Replies::no_such_number, model::specs::Replies::no_such_article, model::specs::Replies::not_wanted, model::specs::Replies::try_later, model::specs::Replies::rejected, model::specs::Replies::not_accepted, model::specs::Replies::unknown_command, model::specs::Replies::syntax_error))]
     pub fn text(self) -> &'static [u8]
         ensures { line result.now ≡ sent self }
     {
@@ -104,6 +81,30 @@ impl Heading {
             Heading::Overview => b"224 Overview follows",
             Heading::Articles => b"230 New articles follow",
             Heading::Groups => b"231 New groups follow",
+        }
+    }
+}
+
+/// A reply of several lines that never changes.
+#[derive(Clone, Copy)]
+pub enum Block {
+    Capabilities,
+    Help,
+    OverviewFormat,
+}
+
+impl Block {
+    /// The whole reply.
+    pub fn text(self) -> &'static [u8]
+        ensures { result.now ≡ sent_block self }
+    {
+        match self {
+            Block::Capabilities =>
+                b"101 Capabilities follow\r\nVERSION 2\r\nREADER\r\nIHAVE\r\nPOST\r\nNEWNEWS\r\nOVER MSGID\r\nLIST ACTIVE ACTIVE.TIMES NEWSGROUPS OVERVIEW.FMT\r\n.\r\n",
+            Block::Help =>
+                b"100 Help follows\r\nARTICLE BODY CAPABILITIES DATE GROUP HEAD HELP IHAVE LAST LIST LISTGROUP MODE NEWGROUPS NEWNEWS NEXT OVER POST QUIT STAT\r\n.\r\n",
+            Block::OverviewFormat =>
+                b"215 Information follows\r\nSubject:\r\nFrom:\r\nDate:\r\nMessage-ID:\r\nReferences:\r\n:bytes\r\n:lines\r\n.\r\n",
         }
     }
 }

@@ -2,6 +2,7 @@
 
 ghost use Rattle.std.specs.Prelude.{◌≡◌, ◌++◌, OnOk, decimal};
 ghost use Rattle.model.specs.Stream.{dot_line, line, stuffed_line};
+ghost use Rattle.model.specs.Replies.{greeting};
 ghost use Rattle.replies.specs.Replies.{headed, sent};
 
 use crate::texts::{Heading, Reply};
@@ -41,6 +42,14 @@ pub fn push_number(reply: &mut Vec<u8>, number: u64) -> Result<(), AllocError>
     reply.extend_from_slice(buffer.format(number).as_bytes())
 }
 
+/// A line of a block that is a number alone.
+pub fn push_number_line(reply: &mut Vec<u8>, number: u64) -> Result<(), AllocError>
+    ensures { OnOk result (reply.new.items ≡ reply.old.items ++ stuffed_line (line (decimal number))) }
+{
+    let mut buffer = Buffer::new();
+    push_stuffed(reply, buffer.format(number).as_bytes())
+}
+
 /// A reply of one line.
 pub fn push_reply(reply: &mut Vec<u8>, which: Reply) -> Result<(), AllocError>
     ensures { OnOk result (reply.new.items ≡ reply.old.items ++ sent which) }
@@ -53,4 +62,27 @@ pub fn push_heading(reply: &mut Vec<u8>, which: Heading) -> Result<(), AllocErro
     ensures { OnOk result (reply.new.items ≡ reply.old.items ++ line (headed which)) }
 {
     push_line(reply, which.text())
+}
+
+/// The greeting of a server that takes posts (RFC 3977, section 5.1).
+#[tactic(auto, unfolding(model::specs::Replies::greeting))]
+pub fn push_greeting(reply: &mut Vec<u8>, host: &[u8]) -> Result<(), AllocError>
+    ensures { OnOk result (reply.new.items ≡ reply.old.items ++ greeting host.now) }
+{
+    push_joined(reply, b"200 ", host, b" ready, posting permitted")
+}
+
+/// The line of three texts, one behind the other.
+fn push_joined(
+    reply: &mut Vec<u8>,
+    first: &[u8],
+    second: &[u8],
+    third: &[u8],
+) -> Result<(), AllocError>
+    ensures { OnOk result (reply.new.items ≡ reply.old.items ++ line (first.now ++ second.now ++ third.now)) }
+{
+    reply.extend_from_slice(first)?;
+    reply.extend_from_slice(second)?;
+    reply.extend_from_slice(third)?;
+    reply.extend_from_slice(b"\r\n")
 }

@@ -5,11 +5,13 @@ use Rattle.model.specs.Stream.{Octets}
 use Rattle.model.specs.Names.{is_group_name}
 use Rattle.model.specs.Lawful.{is_description_octet}
 use Rattle.model.specs.Calendar.{moment_limit}
+use Rattle.disk.specs.declared.DiskCall.{DiskCall}
+use Rattle.disk.specs.declared.DiskCall.TheVariants.{Read, Write, Sync}
 use Rattle.memdisk.specs.declared.Pick.{Pick}
 use Rattle.memdisk.specs.declared.Pick.TheVariants.{Old, New, Fill}
 use Rattle.script.specs.Words.{hex_octet, hex_octets, moment_of, number_of, split_word}
 use Rattle.script.specs.declared.lines.Line.{Line}
-use Rattle.script.specs.declared.lines.Line.TheVariants.{Group, Join, Leave, Arrive, Exec, Take, Dev, Told, Release, Commit, Settle, FailAt, Crash, Spool}
+use Rattle.script.specs.declared.lines.Line.TheVariants.{Group, Join, Leave, Arrive, Exec, Take, Dev, Told, Release, Commit, Settle, FailAt, FailKind, Crash, Spool}
 
 -- what a line asks for, its texts as lists: a group is made, octets come for a session, anything else
 pub data Said : Type 0 where
@@ -30,6 +32,7 @@ said Release = Asked Release
 said Commit = Asked Commit
 said Settle = Asked Settle
 said (FailAt call) = Asked (FailAt call)
+said (FailKind kind call) = Asked (FailKind kind call)
 said (Crash pick) = Asked (Crash pick)
 said Spool = Asked Spool
 
@@ -52,6 +55,7 @@ IsLawful Release = Unit {0}
 IsLawful Commit = Unit {0}
 IsLawful Settle = Unit {0}
 IsLawful (FailAt call) = Unit {0}
+IsLawful (FailKind kind call) = Unit {0}
 IsLawful (Crash pick) = Unit {0}
 IsLawful Spool = Unit {0}
 
@@ -76,6 +80,22 @@ unfoldable pub pick_of : Octets → Option Pick
 pick_of word =
     if bytes_eq word (codes "old") then Some Old else (if bytes_eq word (codes "new") then Some New else option_map Fill (hex_octet word))
 
+-- which calls are to fail
+unfoldable pub kind_of : Octets → Option DiskCall
+kind_of word =
+    if bytes_eq word (codes "read") then Some Read else (if bytes_eq word (codes "write") then Some Write else (if bytes_eq word (codes "sync") then Some Sync else None))
+
+-- N, or a kind of calls and N
+unfoldable pub fail_of : Octets → Option Said
+fail_of words = by_words (split_word words)
+  where
+    by_words : Option (Octets × Octets) → Option Said
+    by_words None = option_map (λ call. Asked (FailAt call)) (number_of words)
+    by_words (Some parts) = do
+      kind ← kind_of parts.0
+      call ← number_of parts.1
+      Some (Asked (FailKind kind call))
+
 -- a line whose words are numbers or name a pick
 unfoldable pub numbered_of : Octets → Octets → Option Said
 numbered_of keyword words =
@@ -85,7 +105,7 @@ numbered_of keyword words =
       session ← number_of parts.0
       moment ← moment_of parts.1
       Some (Asked (Exec session moment)))
-    else (if bytes_eq keyword (codes "fail") then option_map (λ call. Asked (FailAt call)) (number_of words)
+    else (if bytes_eq keyword (codes "fail") then fail_of words
     else (if bytes_eq keyword (codes "crash") then option_map (λ pick. Asked (Crash pick)) (pick_of words) else None)))
 
 -- `y` or `n`

@@ -4,10 +4,11 @@ ghost use Rattle.std.specs.Prelude.{◌≡◌, ◌⊎◌, ◌<◌, IsTrue, IfOk,
 ghost use Rattle.model.specs.Names.{is_group_name};
 ghost use Rattle.model.specs.Calendar.{moment_limit};
 ghost use Rattle.script.specs.Words.{hex_octets, hex_octet};
-ghost use Rattle.script.specs.Script.{IsLawful, Made, Came, alone_of, arrival_of, group_of, hex_of, is_description, meaning, numbered_of, pick_of, said, status_of};
+ghost use Rattle.script.specs.Script.{IsLawful, Made, Came, alone_of, arrival_of, fail_of, group_of, hex_of, is_description, kind_of, meaning, numbered_of, pick_of, said, status_of};
 ghost use Rattle.script.specs.declared.lines.ParseError.TheVariants.{Memory};
 
 use crate::words::{moment, number, split_word};
+use disk::DiskCall;
 use hex::FromHexError;
 use memdisk::Pick;
 use names::is_group_name;
@@ -56,6 +57,8 @@ pub enum Line {
     Settle,
     /// The n-th device call from now on fails.
     FailAt(u64),
+    /// The n-th device call of this kind from now on fails.
+    FailKind(DiskCall, u64),
     /// The device crashes, each touched octet by this pick, and is opened again.
     Crash(Pick),
     /// The accepted changes are printed.
@@ -162,12 +165,43 @@ fn numbered(keyword: &[u8], words: &[u8]) -> Option<Line>
         return Some(Line::Exec { session, moment });
     }
     if keyword == b"fail".as_slice() {
-        let call = number(words)?;
-        return Some(Line::FailAt(call));
+        return failing(words);
     }
     if keyword == b"crash".as_slice() {
         let pick = pick(words)?;
         return Some(Line::Crash(pick));
+    }
+    None
+}
+
+/// `fail N` or `fail KIND N`, behind its first word.
+#[tactic(auto, unfolding(crate::specs::Script::fail_of))]
+fn failing(words: &[u8]) -> Option<Line>
+    ensures value { option_map said result ≡ fail_of words.now }
+    ensures lawful { IfSome result IsLawful }
+{
+    let Some((kind, call)) = split_word(words) else {
+        let call = number(words)?;
+        return Some(Line::FailAt(call));
+    };
+    let kind = call_kind(kind)?;
+    let call = number(call)?;
+    Some(Line::FailKind(kind, call))
+}
+
+/// The kind of device calls that `read`, `write` or `sync` names.
+#[tactic(auto, unfolding(crate::specs::Script::kind_of))]
+fn call_kind(word: &[u8]) -> Option<DiskCall>
+    ensures { result ≡ kind_of word.now }
+{
+    if word == b"read".as_slice() {
+        return Some(DiskCall::Read);
+    }
+    if word == b"write".as_slice() {
+        return Some(DiskCall::Write);
+    }
+    if word == b"sync".as_slice() {
+        return Some(DiskCall::Sync);
     }
     None
 }

@@ -8,7 +8,6 @@ ghost use Rattle.model.specs.Answer.{spaced};
 use std::alloc::{AllocError, Global};
 
 /// The greeting of a server that takes posts, with its host (RFC 3977, section 5.1).
-#[tactic(auto, unfolding(model::specs::Replies::greeting))]
 pub fn greeting(alloc: Global, host: &[u8]) -> Result<Vec<u8>, AllocError>
     ensures { IfOk result (λ reply. reply.items ≡ greeting host.now) }
 {
@@ -23,7 +22,6 @@ pub fn stat_found(alloc: Global, id: &[u8]) -> Result<Vec<u8>, AllocError>
 }
 
 /// The reply to QUIT (RFC 3977, section 5.4).
-#[tactic(auto, unfolding(model::specs::Replies::bye))]
 pub fn reply_bye(alloc: Global) -> Result<Vec<u8>, AllocError>
     ensures { IfOk result (λ reply. reply.items ≡ bye) }
 {
@@ -31,7 +29,6 @@ pub fn reply_bye(alloc: Global) -> Result<Vec<u8>, AllocError>
 }
 
 /// The reply to an article that was posted and accepted (RFC 3977, section 6.3.1).
-#[tactic(auto, unfolding(model::specs::Replies::received))]
 pub fn reply_received(alloc: Global) -> Result<Vec<u8>, AllocError>
     ensures { IfOk result (λ reply. reply.items ≡ received) }
 {
@@ -39,7 +36,6 @@ pub fn reply_received(alloc: Global) -> Result<Vec<u8>, AllocError>
 }
 
 /// The reply to POST, which asks for the article (RFC 3977, section 6.3.1).
-#[tactic(auto, unfolding(model::specs::Replies::send_posted))]
 pub fn reply_send_posted(alloc: Global) -> Result<Vec<u8>, AllocError>
     ensures { IfOk result (λ reply. reply.items ≡ send_posted) }
 {
@@ -47,7 +43,6 @@ pub fn reply_send_posted(alloc: Global) -> Result<Vec<u8>, AllocError>
 }
 
 /// The reply of a server that has stopped (RFC 3977, section 3.2.1).
-#[tactic(auto, unfolding(model::specs::Replies::service_ends))]
 pub fn reply_service_ends(alloc: Global) -> Result<Vec<u8>, AllocError>
     ensures { IfOk result (λ reply. reply.items ≡ service_ends) }
 {
@@ -55,7 +50,6 @@ pub fn reply_service_ends(alloc: Global) -> Result<Vec<u8>, AllocError>
 }
 
 /// The reply where no article has the message-id (RFC 3977, section 6.2.4).
-#[tactic(auto, unfolding(model::specs::Replies::no_such_article))]
 pub fn reply_no_such_article(alloc: Global) -> Result<Vec<u8>, AllocError>
     ensures { IfOk result (λ reply. reply.items ≡ no_such_article) }
 {
@@ -63,7 +57,6 @@ pub fn reply_no_such_article(alloc: Global) -> Result<Vec<u8>, AllocError>
 }
 
 /// The reply to an article that was posted and is not accepted (RFC 3977, section 6.3.1).
-#[tactic(auto, unfolding(model::specs::Replies::not_accepted))]
 pub fn reply_not_accepted(alloc: Global) -> Result<Vec<u8>, AllocError>
     ensures { IfOk result (λ reply. reply.items ≡ not_accepted) }
 {
@@ -71,7 +64,6 @@ pub fn reply_not_accepted(alloc: Global) -> Result<Vec<u8>, AllocError>
 }
 
 /// The reply to a command that is not known (RFC 3977, section 3.2.1).
-#[tactic(auto, unfolding(model::specs::Replies::unknown_command))]
 pub fn reply_unknown_command(alloc: Global) -> Result<Vec<u8>, AllocError>
     ensures { IfOk result (λ reply. reply.items ≡ unknown_command) }
 {
@@ -79,7 +71,6 @@ pub fn reply_unknown_command(alloc: Global) -> Result<Vec<u8>, AllocError>
 }
 
 /// The reply to a known command with arguments that are not its own (RFC 3977, section 3.2.1).
-#[tactic(auto, unfolding(model::specs::Replies::syntax_error))]
 pub fn reply_syntax_error(alloc: Global) -> Result<Vec<u8>, AllocError>
     ensures { IfOk result (λ reply. reply.items ≡ syntax_error) }
 {

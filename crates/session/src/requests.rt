@@ -1,8 +1,8 @@
 //! What a command line asks for.
 
-ghost use Rattle.std.specs.Prelude.{◌≡◌, false, IfOk};
+ghost use Rattle.std.specs.Prelude.{◌≡◌, IfOk};
 ghost use Rattle.model.specs.Commands.{words};
-ghost use Rattle.model.specs.FirstPath.{post_of, quit_of, stat_of, request_of, clean_request, request_line};
+ghost use Rattle.model.specs.FirstPath.{stat_of, request_of, clean_request, request_line};
 ghost use Rattle.session.specs.Words.{alone};
 
 use crate::words::{begins_with_blank, is_clean, is_keyword, is_message_id, next_word, only_word};

@@ -1,6 +1,6 @@
 //! The room for a batch.
 
-ghost use Rattle.std.specs.Prelude.{◌≡◌, ℕ, ◌+◌, ◌*◌, ◌<◌, ◌≤◌, List, [], length, take, IfOk};
+ghost use Rattle.std.specs.Prelude.{◌≡◌, ◌+◌, ◌*◌, ◌≤◌, [], length, take, IfOk};
 ghost use Rattle.std.specs.List.{All, flat_map};
 ghost use Rattle.model.specs.Volume.{block};
 ghost use Rattle.volume.specs.Volume.{BatchView};

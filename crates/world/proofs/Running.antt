@@ -1,9 +1,9 @@
 -- Events done one after another.
-use Rattle.std.proofs.Common.{◌≡◌, ◌≢◌, inl, inr, ⊎_elim, ℕ, zero, suc, ◌+◌, ◌≤◌, true, false, List, [], ◌∷◌, ◌++◌, take, Some, refl, ap, sym, ◌∙◌, subst, arith}
+use Rattle.std.proofs.Common.{◌≡◌, ◌≢◌, inl, inr, ⊎_elim, ℕ, zero, suc, ◌+◌, ◌<◌, ◌≤◌, length, true, false, List, [], ◌∷◌, ◌++◌, take, Some, refl, ap, sym, ◌∙◌, subst, arith}
 use Rattle.std.specs.Prelude.{IsTrue, Result, Ok, Err, slice_get}
 use Rattle.disk.specs.Device.{Device}
 use Rattle.model.specs.Stream.{Octets}
-use Rattle.world.specs.Events.{Did, Went, for_memory, more, none}
+use Rattle.world.specs.Events.{Did, Ran, Went, for_memory, more, none}
 use Rattle.world.specs.Images.{EachNow, EachSince, Fits, LeftFits}
 use Rattle.world.specs.Tied.{IsWorld}
 use Rattle.world.specs.World.{WorldView}
@@ -12,7 +12,7 @@ use Rattle.world.specs.declared.events.Event.{Event}
 use Rattle.world.specs.declared.events.StepError.{StepError}
 use Rattle.world.specs.declared.events.StepError.TheVariants as error
 use Rattle.world.proofs.Fitting.{now_fits}
-use Rattle.world.proofs.Since.{memory_stays, step_goes_on}
+use Rattle.world.proofs.Since.{step_goes_on}
 
 module _ {D : Type 0} (device : D → Device) where
   went_more : (old middle new : WorldView D) (events : List Event) (event : Event) (result : Result Answer StepError) → Went device old events middle → result ≢ Err error.Memory → Did device middle event result new → Went device old (events ++ event ∷ []) new
@@ -77,16 +77,32 @@ since_within {D} device old now events i n le h tells t image early left =
     (λ (d : (j : ℕ) × (middle : WorldView D) × (j ≤ i) × Went device old (take j events) middle × Fits middle image). inr (d.0, d.1, omega (arith, d.2, le), d.3, d.4))
     (h.since tells t image early left)
 
--- a refusal for memory leaves all as it was
-pub running_refused : {D : Type 0} (device : D → Device) (old now new : WorldView D) (events : List Event) (i : ℕ) (event : Event) (result : Result Answer StepError) → Running device old now events i → result ≡ Err error.Memory → Did device now event result new → Running device old new events i
-running_refused device old now new events i event result h is did =
-    subst (λ w. Running device old w events i) (sym (memory_stays device now new event (subst (λ r. Did device now event r new) is did))) h
+-- what was done, and what came of it
+pub ran_all : {D : Type 0} (device : D → Device) (old now : WorldView D) (events : List Event) (i : ℕ) → length events ≤ i → Running device old now events i → Ran device old events i now
+ran_all device old now events i all h = record { middle = now; went = h.went; ended = λ le. refl; stopped = λ more. absurd (omega (arith, all, more)) }
 
--- and may come again there
-pub refused_there : {D : Type 0} (device : D → Device) (now new : WorldView D) (event : Event) (result : Result Answer StepError) → result ≡ Err error.Memory → Did device now event result new → Did device new event (Err error.Memory) new
-refused_there device now new event result is did =
-    let refused : Did device now event (Err error.Memory) new = subst (λ r. Did device now event r new) is did in
-    subst (λ w. Did device w event (Err error.Memory) new) (sym (memory_stays device now new event refused)) refused
+-- an event that was refused for memory: a crash leaves what fits the world before it
+module _ {D : Type 0} (device : D → Device) (old now new : WorldView D) (events : List Event) (i : ℕ) (event : Event) (result : Result Answer StepError) (h : Running device old now events i) (is : result ≡ Err error.Memory) (did : Did device now event result new) (world : IsWorld device new)
+    (left : LeftFits (device now.journal.disk) (device new.journal.disk) (Fits now)) where
+  pub ran_before : slice_get events i ≡ Some event → i < length events → Ran device old events i new
+  ran_before at within = record {
+    middle = now;
+    went = h.went;
+    ended = λ all. absurd (omega (arith, all, within));
+    stopped = λ more. (event, at, subst (λ r. Did device now event r new) is did);
+  }
+
+  pub refused_since : LeftFits (device old.journal.disk) (device new.journal.disk) (λ image. (j : ℕ) × (middle : WorldView D) × (j ≤ i) × Went device old (take j events) middle × Fits middle image)
+  refused_since tells t image le gone =
+      ⊎_elim (λ (was : (device now.journal.disk).left_since t image). h.since tells t image le was)
+      (λ (fits : Fits now image). inr (i, now, omega arith, h.went, fits))
+      (left (subst IsTrue (sym h.tells) tells) t image (omega (arith, le, h.later)) gone)
+
+  pub refused_during : EachSince (device old.journal.disk) (device new.journal.disk) (λ image. (j : ℕ) × (middle : WorldView D) × (j ≤ i) × Went device old (take j events) middle × Fits middle image)
+  refused_during tells image gone =
+      ⊎_elim (λ (was : (device now.journal.disk).left_since (device old.journal.disk).clock image). h.during tells image was)
+      (λ (fits : Fits now image). (i, now, omega arith, h.went, fits))
+      (left (subst IsTrue (sym h.tells) tells) (device old.journal.disk).clock image h.later gone)
 
 -- whether memory was refused
 pub memory_is : (r : Result Answer StepError) → for_memory r ≡ true → r ≡ Err error.Memory

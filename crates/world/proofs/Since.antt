@@ -1,9 +1,9 @@
 -- What a crash at some moment of an event might have left.
-use Rattle.std.proofs.Common.{◌≡◌, inl, inr, ⊎_elim, ℕ, ◌+◌, ◌≤◌, Bool, true, false, length, Option, Some, None, refl, ap, sym, ◌∙◌, subst, arith}
-use Rattle.std.specs.Prelude.{IsTrue, MatchResult, Result, Ok, Err}
-use Rattle.disk.specs.Device.{Device}
-use Rattle.journal.specs.Calls.{MakesCall}
-use Rattle.journal.specs.Journal.{Admits, IsReady, JournalView}
+use Rattle.std.proofs.Common.{◌≡◌, ◌⊎◌, inl, inr, ⊎_elim, ℕ, ◌≤◌, Bool, true, false, length, Option, Some, None, refl, ap, sym, ◌∙◌, subst, arith}
+use Rattle.std.specs.Prelude.{IsTrue, IfErr, MatchResult, Result, Ok, Err}
+use Rattle.disk.specs.Device.{Device, Elapses}
+use Rattle.journal.specs.Calls.{IsRetried, MakesCall, OnMade, OnRetried}
+use Rattle.journal.specs.Journal.{Admits, IsReady, JournalView, LeftAdmitted}
 use Rattle.journal.specs.declared.JournalError.{JournalError}
 use Rattle.journal.specs.declared.Next.{Next}
 use Rattle.journal.specs.declared.Next.TheVariants as next
@@ -94,16 +94,21 @@ module _ {D : Type 0} (device : D → Device) (old new : WorldView D) where
       same : new.journal ≡ old.journal → Left
       same is = same_disk (ap (λ (j : JournalView D). j.disk) is)
 
-      called : MakesCall device old.journal new.journal d.answered → Left
-      called m = (
+      called : Elapses (device old.journal.disk) (device new.journal.disk) → LeftAdmitted device old.journal new.journal → Left
+      called time since = (
         λ tells t image le left. ⊎_elim (λ (was : (device old.journal.disk).left_since t image). inl was)
-            (λ (admits : Admits new.journal image). inr (subst (λ s. FitsAt s image) d.served (admits_fits device new h (subst IsTrue (sym m.time.tells) tells) image admits)))
-            (m.since tells t image le left),
-        (m.time.tells, m.time.later),
+            (λ (admits : Admits new.journal image). inr (subst (λ s. FitsAt s image) d.served (admits_fits device new h (subst IsTrue (sym time.tells) tells) image admits)))
+            (since tells t image le left),
+        (time.tells, time.later),
       )
 
+      by_answer : (a : Result Progress JournalError) → OnMade a (MakesCall device old.journal new.journal a) → OnRetried a (IsRetried device old.journal new.journal) → IfErr a (λ e. (e ≡ journal.Fault) ⊎ (e ≡ journal.Memory)) → Left
+      by_answer (Ok p) m retried errors = called m.time m.since
+      by_answer (Err e) made retried (inl is) = called (made is).time (made is).since
+      by_answer (Err e) made retried (inr is) = called (retried is).refused.time (retried is).since
+
       calls : old.journal.halted ≡ false → (old.journal.next ≡ next.Idle → ⊥) → Left
-      calls runs busy = called (d.steps.call runs busy)
+      calls runs busy = by_answer d.answered (d.steps.call runs busy) (d.steps.retried runs busy) (d.steps.no_other runs)
 
       go : (halted : Bool) → old.journal.halted ≡ halted → (call : Next) → old.journal.next ≡ call → Left
       go true is call at = same (d.steps.halted is).1
@@ -142,58 +147,6 @@ module _ {D : Type 0} (device : D → Device) (old new : WorldView D) where
   pub step_goes_on : (e : Event) (r : Result Answer StepError) → IsWorld device new → Did device old e r new → ((device new.journal.disk).tells ≡ (device old.journal.disk).tells) × ((device old.journal.disk).clock ≤ (device new.journal.disk).clock)
   unfolding Left
   step_goes_on e r h d = (did_left e r h d).1
-
-  -- ---- a refusal for memory
-
-  memory_take : (r : Result Answer StepError) → DidTake old r new → r ≡ Err error.Memory → ⊥
-  memory_take r d is = go old.journal.halted refl old.journal.next refl (has_batch (kernel_of old)) refl
-    where
-      begins : old.journal.halted ≡ false → old.journal.next ≡ next.Idle → has_batch (kernel_of old) ≡ true → ⊥
-      begins runs idle has = let both : Err error.Memory ≡ Ok (answer.Took (Some (length (kernel_of old).spool))) = sym is ∙ (d.takes (runs, idle) has).0 in absurd (cc both)
-
-      stays : (IsReady old.journal → has_batch (kernel_of old) ≡ true → ⊥) → ⊥
-      stays never = let both : Err error.Memory ≡ Ok (answer.Took None) = sym is ∙ (d.stays never).0 in absurd (cc both)
-
-      busy : (call : Next) → old.journal.next ≡ call → (next.Idle ≡ call → ⊥) → ⊥
-      busy call at differs = stays (λ ready has. differs (sym ready.1 ∙ at))
-
-      go : (halted : Bool) → old.journal.halted ≡ halted → (call : Next) → old.journal.next ≡ call → (has : Bool) → has_batch (kernel_of old) ≡ has → ⊥
-      go true e call at has is_there = stays (λ ready b. absurd (let both : true ≡ false = sym e ∙ ready.0 in cc))
-      go false e call at false is_there = stays (λ ready b. absurd (let both : false ≡ true = sym is_there ∙ b in cc))
-      go false e next.Idle at true is_there = begins e at is_there
-      go false e next.Descriptor at true is_there = busy next.Descriptor at (λ f. absurd (cc f))
-      go false e (next.Image j) at true is_there = busy (next.Image j) at (λ f. absurd (cc f))
-      go false e next.Seal at true is_there = busy next.Seal at (λ f. absurd (cc f))
-      go false e next.OpenGate at true is_there = busy next.OpenGate at (λ f. absurd (cc f))
-      go false e next.Commit at true is_there = busy next.Commit at (λ f. absurd (cc f))
-      go false e (next.Home j) at true is_there = busy (next.Home j) at (λ f. absurd (cc f))
-      go false e next.Settle at true is_there = busy next.Settle at (λ f. absurd (cc f))
-      go false e next.CloseGate at true is_there = busy next.CloseGate at (λ f. absurd (cc f))
-      go false e next.Finish at true is_there = busy next.Finish at (λ f. absurd (cc f))
-
-  never_memory : (a : Result Progress JournalError) → Err error.Memory ≡ dev_answer a → ⊥
-  never_memory (Ok p) is = absurd (cc is)
-  never_memory (Err journal.Fault) is = absurd (cc is)
-  never_memory (Err journal.Memory) is = absurd (cc is)
-  never_memory (Err journal.NotAVolume) is = absurd (cc is)
-  never_memory (Err journal.Halted) is = absurd (cc is)
-
-  memory_exec : (number moment : ℕ) (m : Option Mode) (found : Option (Message × Octets)) → DidExec old number moment m found (Err error.Memory) new → new ≡ old
-  memory_exec number moment None found d = d.1
-  memory_exec number moment (Some mode) None d = d.1
-  memory_exec number moment (Some mode) (Some found) d = d.1
-
-  -- it changes nothing
-  pub memory_stays : (e : Event) → Did device old e (Err error.Memory) new → new ≡ old
-  memory_stays event.Join d = (tested_or of_kernel error.Memory (join_refusal (kernel_of old)) old new (Err error.Memory) (λ a. (a ≡ answer.Joined ((kernel_of old).joined + 1)) × (new ≡ with_served old (joins old.served))) d).1
-  memory_stays (event.Leave number) d = absurd (cc (d.0))
-  memory_stays (event.Arrive number octets) d = (tested_or of_kernel error.Memory (arrive_refusal (kernel_of old) number) old new (Err error.Memory) (λ a. (a ≡ answer.Done) × (new ≡ with_served old (arrives old.served number octets.items))) d).1
-  memory_stays (event.Exec number moment) d = memory_exec number moment (mode_at (kernel_of old) number) (next_of old.served number) d
-  memory_stays (event.Admin name status description moment) d = d.1
-  memory_stays event.Take d = absurd (memory_take (Err error.Memory) d refl)
-  memory_stays event.Dev d = absurd (never_memory d.answered d.result_is)
-  memory_stays event.Told d = absurd (cc (d.0))
-  memory_stays event.Release d = d.1
 
   pub step_during : ((d : D) (image : Octets) → IsTrue (device d).tells → (device d).left_since (device d).clock image → (device d).may_leave image) → IsWorld device old → LeftFits (device old.journal.disk) (device new.journal.disk) (Fits old)
       → EachSince (device old.journal.disk) (device new.journal.disk) (Fits old)

@@ -2,7 +2,7 @@
 use Rattle.std.proofs.Common.{◌≡◌, ◌≢◌, ◌⊎◌, inl, inr, ⊎_elim, ℕ, Bool, true, false, List, [], ◌∷◌, ◌++◌, length, Option, Some, None, refl, ap, sym, ◌∙◌, subst}
 use Rattle.std.proofs.lemmas.List.{append-nil}
 use Rattle.disk.specs.Device.{Device}
-use Rattle.journal.specs.Calls.{MakesCall}
+use Rattle.journal.specs.Calls.{MakesCall, OnMade}
 use Rattle.journal.specs.Order.{answer as journal_answer}
 use Rattle.journal.specs.declared.JournalError.{JournalError}
 use Rattle.journal.specs.declared.JournalError.TheVariants as journal
@@ -204,7 +204,7 @@ dev_news {D} device old new ticket committed failed answered is s h = go answere
         runs = runs_at old.journal.halted answered (λ halted. (s.halted halted).0) (λ no. absurd (let both : Ok (progress.Committed last) ≡ Err journal.Halted = sym e ∙ no in cc))
 
         call : MakesCall device old.journal new answered
-        call = s.call runs (λ idle. absurd (let both : Ok (progress.Committed last) ≡ Ok progress.Idle = sym e ∙ (s.idle runs idle).0 in cc))
+        call = subst (λ r. OnMade r (MakesCall device old.journal new answered)) e (s.call runs (λ idle. absurd (let both : Ok (progress.Committed last) ≡ Ok progress.Idle = sym e ∙ (s.idle runs idle).0 in cc)))
 
         at : (old.journal.next ≡ next.Commit) × (last ≡ old.journal.last)
         at = commit_is last old.journal.last old.journal.next (answers answered e call.answers)

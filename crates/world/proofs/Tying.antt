@@ -1,14 +1,15 @@
 -- Each event keeps the tie between journal and kernel.
 use Rattle.std.proofs.Common.{◌≡◌, ◌⊎◌, inl, inr, ⊎_elim, ℕ, ◌+◌, ◌≤◌, ◌<◌, ◌==◌, Bool, true, false, List, [], ◌∷◌, ◌++◌, length, take, Option, Some, None, refl, ap, sym, ◌∙◌, subst, arith}
-use Rattle.std.specs.Prelude.{bytes_eq, slice_index_or, not, ◌||◌, is_some, IsTrue, map, if◌then◌else◌, Result, Ok, Err}
+use Rattle.std.specs.Prelude.{bytes_eq, slice_index_or, not, ◌||◌, is_some, IfErr, IsTrue, map, if◌then◌else◌, Result, Ok, Err}
 use Rattle.std.specs.Option.{option_to_list}
 use Rattle.std.proofs.lemmas.List.{append-nil, take-append-le, take_all}
 use Rattle.std.proofs.lemmas.Slice.Eq.{bytes_eq-Decides}
 use Rattle.disk.specs.Device.{Device}
-use Rattle.journal.specs.Calls.{MakesCall, blocks_after}
-use Rattle.journal.specs.Journal.{JournalView, IsReady, with_batch}
+use Rattle.journal.specs.Calls.{IsRetried, MakesCall, OnMade, OnRetried, blocks_after}
+use Rattle.journal.specs.Journal.{JournalView, IsReady, IsSameBatch, with_batch}
 use Rattle.journal.specs.Order.{answer, at_fault, following}
 use Rattle.journal.specs.declared.JournalError.{JournalError}
+use Rattle.journal.specs.declared.JournalError.TheVariants.{Fault, Memory}
 use Rattle.journal.specs.declared.Next.{Next}
 use Rattle.journal.specs.declared.Next.TheVariants as next
 use Rattle.journal.specs.declared.Progress.{Progress}
@@ -358,6 +359,23 @@ module _ {D : Type 0} (tells : Bool) (old new : JournalView D) (kernel : KernelV
         faults = faulted false c.later c.faults halted;
       })
 
+  -- a call that the device refused for want of memory
+  phase_retried : (untold : List News) → new.next ≡ old.next → new.halted ≡ old.halted → new.last ≡ old.last → new.numbers ≡ old.numbers → new.images ≡ old.images → (IsTrue tells → new.blocks ≡ old.blocks) → Phase tells old kernel untold → Phase tells new kernel untold
+  phase_retried untold call halted last_is numbers images same (Quiet q) =
+      Quiet (record { none = q.none; past = ap is_to_commit call ∙ q.past; blocks = lies_on kernel.durable same q.blocks; faults = subst (λ b. AreFaults b kernel.halted untold) (sym halted) q.faults })
+  phase_retried untold call halted last_is numbers images same (Flying last f) =
+      Flying last (flies_on last untold untold f last_is numbers images same (ap is_to_commit call ∙ f.waits) (subst (λ b. AreFaults b kernel.halted untold) (sym halted) f.faults))
+  phase_retried untold call halted last_is numbers images same (IsToBeTold last c) =
+      IsToBeTold last (record {
+        flies = c.flies;
+        past = ap is_to_commit call ∙ c.past;
+        blocks = lies_on last same c.blocks;
+        running = c.running;
+        later = c.later;
+        told = c.told;
+        faults = subst (λ b. AreFaults b false c.later) (sym halted) c.faults;
+      })
+
   -- a call that went well
   phase_went : (untold : List News) (n : ℕ) → new.next ≡ following n old.next → new.halted ≡ false → new.last ≡ old.last → new.numbers ≡ old.numbers → new.images ≡ old.images → (IsTrue tells → new.blocks ≡ blocks_after old (answer old.last old.next))
       → Phase tells old kernel untold → Phase tells new kernel (untold ++ news_of (Ok (answer old.last old.next)))
@@ -396,15 +414,29 @@ module _ {D : Type 0} (tells : Bool) (old new : JournalView D) (kernel : KernelV
       go true was = ⊎_elim (λ (is : old.next ≡ next.Commit). commits is phase) (λ (w : WaitsOn old n old.next). waits_on w phase was) (waits_or_commits old n old.next was)
 
 -- one call of a batch in flight
-phase_calls : {D : Type 0} (device : D → Device) (tells : Bool) (old new : JournalView D) (kernel : KernelView) (untold : List News) (answered : Result Progress JournalError) → tells ≡ (device old.disk).tells → old.halted ≡ false → MakesCall device old new answered
+phase_calls : {D : Type 0} (device : D → Device) (tells : Bool) (old new : JournalView D) (kernel : KernelView) (untold : List News) (answered : Result Progress JournalError) → tells ≡ (device old.disk).tells → old.halted ≡ false
+    → OnMade answered (MakesCall device old new answered) → OnRetried answered (IsRetried device old new) → IfErr answered (λ error. (error ≡ Fault) ⊎ (error ≡ Memory))
     → Phase tells old kernel untold → Phase tells new kernel (untold ++ news_of answered)
-phase_calls device tells old new kernel untold (Ok progress) same runs m phase =
+phase_calls device tells old new kernel untold (Ok progress) same runs m retried errors phase =
     subst (λ p. Phase tells new kernel (untold ++ news_of (Ok p))) (sym m.answers)
     (phase_went tells old new kernel runs untold (length old.numbers) m.next.0 m.next.1 m.same.last m.same.numbers m.same.images (λ t. m.blocks (subst IsTrue same t) ∙ ap (blocks_after old) m.answers) phase)
-phase_calls device tells old new kernel untold (Err error) same runs m phase =
+phase_calls device tells old new kernel untold (Err error) same runs made retried (inl is) phase =
+    let m = made is in
     let halts = m.halts m.no_other in
-    subst (λ e. Phase tells new kernel (untold ++ news_of (Err e))) (sym m.no_other)
+    subst (λ e. Phase tells new kernel (untold ++ news_of (Err e))) (sym is)
     (phase_faulted tells old new kernel runs untold (length old.numbers) halts.1 halts.0 m.same.last m.same.numbers m.same.images (λ t. m.blocks (subst IsTrue same t)) phase)
+phase_calls device tells old new kernel untold (Err error) same runs made retried (inr is) phase =
+    let r = retried is in
+    subst (λ e. Phase tells new kernel (untold ++ news_of (Err e))) (sym is)
+    (subst (Phase tells new kernel) (sym (append-nil untold))
+    (phase_retried tells old new kernel runs untold r.next r.running r.same.last r.same.numbers r.same.images (λ t. r.blocks (subst IsTrue same t)) phase))
+
+-- whatever is answered, batch and volume stay the same, and the device tells as before
+step_same : {D : Type 0} (device : D → Device) (old new : JournalView D) (answered : Result Progress JournalError) → OnMade answered (MakesCall device old new answered) → OnRetried answered (IsRetried device old new) → IfErr answered (λ error. (error ≡ Fault) ⊎ (error ≡ Memory))
+    → IsSameBatch old new × ((device new.disk).tells ≡ (device old.disk).tells)
+step_same device old new (Ok progress) m retried errors = (m.same, m.time.tells)
+step_same device old new (Err error) made retried (inl is) = ((made is).same, (made is).time.tells)
+step_same device old new (Err error) made retried (inr is) = ((retried is).same, (retried is).refused.time.tells)
 
 -- what a step leaves: a device that tells as before, and the tie
 pub IsTied-steps : {D : Type 0} (device : D → Device) (world : WorldView D) (new : JournalView D) (answered : Result Progress JournalError) → Steps device world.journal answered new → IsTied (device world.journal.disk).tells world
@@ -425,20 +457,21 @@ IsTied-steps {D} device world new answered s h = go world.journal.halted refl wo
     nothing same none =
         subst (λ (t : JournalView D × List News). IsTied (device t.0.disk).tells (record { journal = t.0; served = world.served; untold = t.1 })) (λ i. (sym same i, (sym (append-nil world.untold) ∙ ap (λ xs. world.untold ++ xs) (sym none)) i)) h
 
-    called : old.halted ≡ false → MakesCall device old new answered → Goal
-    called runs m =
-        subst (λ tells. IsTied tells (record { journal = new; served = world.served; untold = world.untold ++ news_of answered })) (sym m.time.tells)
+    called : old.halted ≡ false → (old.next ≡ next.Idle → ⊥) → Goal
+    called runs flies =
+        let same = step_same device old new answered (s.call runs flies) (s.retried runs flies) (s.no_other runs) in
+        subst (λ tells. IsTied tells (record { journal = new; served = world.served; untold = world.untold ++ news_of answered })) (sym same.1)
         (record {
-          label = subst (λ l. IsLabel l (length kernel.blocks) kernel.inodes kernel.host) (sym m.same.label) h.label;
-          size = m.same.size ∙ h.size;
-          phase = phase_calls device (device old.disk).tells old new kernel world.untold answered refl runs m h.phase;
+          label = subst (λ l. IsLabel l (length kernel.blocks) kernel.inodes kernel.host) (sym same.0.label) h.label;
+          size = same.0.size ∙ h.size;
+          phase = phase_calls device (device old.disk).tells old new kernel world.untold answered refl runs (s.call runs flies) (s.retried runs flies) (s.no_other runs) h.phase;
         })
 
     idles : old.halted ≡ false → old.next ≡ next.Idle → Goal
     idles runs is = let i = s.idle runs is in nothing i.1 (ap news_of i.0)
 
     calls : old.halted ≡ false → (old.next ≡ next.Idle → ⊥) → Goal
-    calls runs not_idle = called runs (s.call runs not_idle)
+    calls runs not_idle = called runs not_idle
 
     go : (halted : Bool) → old.halted ≡ halted → (call : Next) → old.next ≡ call → Goal
     go true is call at = let stays = s.halted is in nothing stays.1 (ap news_of stays.0)

@@ -2,9 +2,9 @@
 use Rattle.std.specs.List.{list_all}
 use Rattle.model.specs.Calendar.{moment_limit}
 use Rattle.model.specs.Lawful.{is_description_octet}
-use Rattle.std.specs.Prelude.{◌⊎◌, ◌<◌, ◌≤◌, IsTrue, ◌≡◌, ◌≢◌, ℕ, ◌+◌, Bool, true, false, List, [], ◌∷◌, ◌++◌, length, drop, map, slice_index_or, Option, Some, None, Result, Ok, Err, MatchResult}
+use Rattle.std.specs.Prelude.{◌⊎◌, ◌<◌, ◌≤◌, IsTrue, ◌≡◌, ◌≢◌, ℕ, ◌+◌, Bool, true, false, List, [], ◌∷◌, ◌++◌, length, drop, map, slice_index_or, Option, Some, None, Result, Ok, Err, IfErr, MatchResult, slice_get, take}
 use Rattle.disk.specs.Device.{Device}
-use Rattle.journal.specs.Calls.{MakesCall}
+use Rattle.journal.specs.Calls.{IsRetried, MakesCall, OnMade, OnRetried}
 use Rattle.journal.specs.Journal.{IsIdle, IsReady, JournalView}
 use Rattle.journal.specs.declared.JournalError.{JournalError}
 use Rattle.journal.specs.declared.JournalError.TheVariants as journal
@@ -73,7 +73,9 @@ pub record DidTake {D : Type 0} (old : WorldView D) (result : Result Answer Step
 pub record Steps {D : Type 0} (device : D → Device) (old : JournalView D) (answered : Result Progress JournalError) (new : JournalView D) : Type 0 where
   pub halted : old.halted ≡ true → (answered ≡ Err journal.Halted) × (new ≡ old)
   pub idle : old.halted ≡ false → IsIdle old → (answered ≡ Ok progress.Idle) × (new ≡ old)
-  pub call : old.halted ≡ false → (IsIdle old → ⊥) → MakesCall device old new answered
+  pub call : old.halted ≡ false → (IsIdle old → ⊥) → OnMade answered (MakesCall device old new answered)
+  pub retried : old.halted ≡ false → (IsIdle old → ⊥) → OnRetried answered (IsRetried device old new)
+  pub no_other : old.halted ≡ false → IfErr answered (λ error. (error ≡ journal.Fault) ⊎ (error ≡ journal.Memory))
 
 abbrev pub news_of : Result Progress JournalError → List News
 news_of (Ok (progress.Committed last)) = IsDurable last ∷ []
@@ -94,6 +96,7 @@ fails other = false
 abbrev pub dev_answer : Result Progress JournalError → Result Answer StepError
 dev_answer (Ok p) = Ok (answer.Progressed p)
 dev_answer (Err journal.Fault) = Err error.Fault
+dev_answer (Err journal.Memory) = Err error.Memory
 dev_answer (Err e) = Err error.Halted
 
 pub record DidDev {D : Type 0} (device : D → Device) (old : WorldView D) (result : Result Answer StepError) (new : WorldView D) : Type 0 where
@@ -111,7 +114,8 @@ told kernel (HasFailed ∷ later) = halted_for_good kernel
 
 -- ---- all events
 
--- What an event does, by its answer. A refusal changes nothing, but that a failed device call halts the journal.
+-- What an event does, by its answer. A refusal changes nothing, but that a failed device call halts the journal, and that
+-- a device which refuses a call for want of memory takes nothing of it.
 abbrev pub Did : {D : Type 0} → (D → Device) → WorldView D → Event → Result Answer StepError → WorldView D → Type 0
 Did device old event.Join result new =
     Tested of_kernel error.Memory (join_refusal (kernel_of old)) old new result (λ a. (a ≡ answer.Joined ((kernel_of old).joined + 1)) × (new ≡ with_served old (joins old.served)))
@@ -139,6 +143,13 @@ pub data Went {D : Type 0} (device : D → Device) : WorldView D → List Event 
   none : (world : WorldView D) → Went device world [] world
   more : (old middle new : WorldView D) (first : Event) (events : List Event) (result : Result Answer StepError)
       → result ≢ Err error.Memory → Did device old first result middle → Went device middle events new → Went device old (first ∷ events) new
+
+-- the first n events were done, and the next one, where there is one, was refused for memory
+pub record Ran {D : Type 0} (device : D → Device) (old : WorldView D) (events : List Event) (n : ℕ) (new : WorldView D) : Type 0 where
+  pub middle : WorldView D
+  pub went : Went device old (take n events) middle
+  pub ended : length events ≤ n → new ≡ middle
+  pub stopped : n < length events → (event : Event) × (slice_get events n ≡ Some event) × Did device middle event (Err error.Memory) new
 
 -- the kernel's refusals, as the errors that they are told by
 abbrev pub of_join_error : JoinError → StepError

@@ -11,7 +11,7 @@ ghost use Rattle.model.specs.Lawful.{is_description_octet};
 ghost use Rattle.model.specs.declared.change.Change.TheVariants.{Group};
 ghost use Rattle.served.specs.Events.{Makes, arrive_refusal, arrives, joins, leaves, releases, with_kernel};
 ghost use Rattle.served.specs.Served.{arrived_at, next_of, released_at};
-ghost use Rattle.world.specs.Events.{Did, DidDev, DidExec, DidTake, MayHappen, Went, commits, dev_answer, exec_answer, fails, for_memory, of_admin_error, of_arrive_error, of_join_error, of_kernel, told};
+ghost use Rattle.world.specs.Events.{Did, DidDev, DidExec, DidTake, MayHappen, Ran, Went, commits, dev_answer, exec_answer, fails, for_memory, of_admin_error, of_arrive_error, of_join_error, of_kernel, told};
 ghost use Rattle.world.specs.Fields.{durable_news};
 ghost use Rattle.disk.specs.Device.{Elapses};
 ghost use Rattle.journal.specs.Journal.{IsReady};
@@ -25,7 +25,7 @@ ghost use Rattle.world.specs.declared.events.Event.{Event as ItsEvent};
 
 mod events;
 
-use disk::{Disk, Faults};
+use disk::{Disk, DiskCall, Faults};
 pub use events::{Answer, Event, StepError};
 use journal::{Journal, JournalError, Progress};
 pub use kernel::OpenError;
@@ -115,10 +115,10 @@ impl<D: Disk> World<D> {
         };
         let kernel = match Kernel::open(alloc, &mut journal) {
             Ok(kernel) => kernel,
-            Err(error) => return Err(Refused {
-                disk: journal.into_disk(),
-                error,
-            }),
+            Err(error) => {
+                let disk = journal.into_disk();
+                return Err(Refused { disk, error });
+            }
         };
         let Ok(served) = Served::new(alloc, kernel) else {
             return Err(Refused {
@@ -145,7 +145,9 @@ impl<D: Disk> World<D> {
     }
 
     /// One event. A crash at any moment of it, also within a device call, leaves a disk that is externally synchronous with
-    /// the trace and the released octets that stood at its start; and one behind it, with those that stand then.
+    /// the trace and the released octets that stood at its start; and one after it, with those that stand then. `did` says what the
+    /// event does by its answer (`Did` in `specs/Events.antt`), `keeps` that what the whole system keeps stands again (`IsWorld` in
+    /// `specs/Tied.antt`).
     pub fn step(&mut self, alloc: Global, event: &Event) -> Result<Answer, StepError>
         requires { MayHappen event.now }
         ensures did { Did D.device self.old event.now result self.new }
@@ -162,12 +164,11 @@ impl<D: Disk> World<D> {
 
     /// One event after another, those refused passed over; only at a refusal for memory it stops before that event. Answers how
     /// many events it went through. A crash at any moment leaves a disk that is externally synchronous with what stood after some
-    /// of them, and one behind the last with what stands then.
+    /// of them, and one after the last with what stands then.
     pub fn run(&mut self, alloc: Global, events: &[Event]) -> u64
         requires { (k : ℕ) (event : ItsEvent) → slice_get events.now k ≡ Some event → MayHappen event }
         ensures count { result ≤ length events.now }
-        ensures went { Went D.device self.old (take result events.now) self.new }
-        ensures stops { result < length events.now → (event : ItsEvent) × (slice_get events.now result ≡ Some event) × Did D.device self.new event (Err StepError.Memory) self.new }
+        ensures went { Ran D.device self.old events.now result self.new }
         ensures during { EachSince (D.device self.old.journal.disk) (D.device self.new.journal.disk)
             (λ image. (j : ℕ) × (middle : WorldView D) × (j ≤ result) × Went D.device self.old (take j events.now) middle × Fits middle image) }
         ensures since { LeftFits (D.device self.old.journal.disk) (D.device self.new.journal.disk)
@@ -388,6 +389,15 @@ impl<D: Faults> World<D> {
     {
         self.journal.fail_at(n);
     }
+
+    /// The n-th call of that kind of the device from now on fails likewise.
+    pub fn fail_kind(&mut self, kind: DiskCall, n: u64)
+        ensures view { self.new ≡ record self.old { journal = record self.old.journal { disk = self.new.journal.disk } } }
+        ensures device { IsUnchanged (D.device self.old.journal.disk) (D.device self.new.journal.disk) }
+        ensures plan { D.plans_kind kind n self.old.journal.disk self.new.journal.disk }
+    {
+        self.journal.fail_kind(kind, n);
+    }
 }
 
 fn join_error(error: JoinError) -> StepError
@@ -449,6 +459,7 @@ fn dev_answer(answered: Result<Progress, JournalError>) -> Result<Answer, StepEr
     match answered {
         Ok(progress) => Ok(Answer::Progressed(progress)),
         Err(JournalError::Fault) => Err(StepError::Fault),
+        Err(JournalError::Memory) => Err(StepError::Memory),
         Err(_) => Err(StepError::Halted),
     }
 }

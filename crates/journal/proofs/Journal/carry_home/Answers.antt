@@ -1,7 +1,7 @@
 use Rattle.std.proofs.Common.{◌≡◌, ◌≢◌, ◌∙◌, ap}
 use Rattle.journal.specs.Journal.{JournalView}
 use Rattle.journal.specs.declared.Next.TheVariants.{Idle}
-use Rattle.journal.proofs.During.{at_start, on_the_way, stepped, fewer}
+use Rattle.journal.proofs.During.{at_start, on_the_way, stepped_on, fewer}
 use Rattle.journal.proofs.Journal.carry_home.Goals as goal
 
 -- a journal whose next call is not none
@@ -24,4 +24,4 @@ loop-self-smaller g c =
 pub returns-in_err-step-clause-during : goal.returns-in_err-step-clause-during
 returns-in_err-step-clause-during g c =
     let other = flies g.row.D.Denot _ _ c.self.view_is (c.is_idle.ensures.no c.loop-self-test.true) in
-    stepped g.D.Disk.device _ _ _ c.loop-self.invariant other c.step.result (c.step.ensures.call c.loop-self.invariant.running other)
+    stepped_on g.D.Disk.device _ _ _ c.loop-self.invariant other c.step.result (c.step.ensures.call c.loop-self.invariant.running other) (c.step.ensures.retried c.loop-self.invariant.running other) (c.step.ensures.no_other c.loop-self.invariant.running)

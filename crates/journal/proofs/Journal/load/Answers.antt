@@ -26,16 +26,16 @@ returns-in-Ok-clause-whole g c t =
     subst (λ (x : List ℕ). AreWhole c.self.inside.blocks (blocks_without c.self.inside.next x)) (sym (c.in-Ok.ensures.content old))
     (kept_whole _ _ _ _ _ _ _ _ _ _ c.self.invariant (g.met.D.Disk.counts_content c.self.inside.disk) old)
 
-pub returns-in-Err-Fault-clause-blocks : goal.returns-in-Err-Fault-clause-blocks
-returns-in-Err-Fault-clause-blocks g c =
+pub returns-in-Err-clause-blocks : goal.returns-in-Err-clause-blocks
+returns-in-Err-clause-blocks g c =
     rw (← c.self.view_is)
     (λ t.
     let is = ap (λ (v : JournalView _). v.next) c.self.view_is ∙ c.requires.idle in
     let now = g.met.D.Disk.counts_content c.read.new.self (subst (λ (b : Bool). IsTrue b) (sym c.read.ensures.time.tells) t) in
     idle_same c.self.inside.next _ (g.D.Disk.device c.self.inside.disk).content _ _ is ((c.self.invariant.told t).admits _ (c.read.ensures.crash t _ now)))
 
-pub returns-in-Err-Fault-clause-whole : goal.returns-in-Err-Fault-clause-whole
-returns-in-Err-Fault-clause-whole g c t =
+pub returns-in-Err-clause-whole : goal.returns-in-Err-clause-whole
+returns-in-Err-clause-whole g c t =
     let is = ap (λ (v : JournalView _). v.next) c.self.view_is ∙ c.requires.idle in
     let old = subst (λ (b : Bool). IsTrue b) c.read.ensures.time.tells t in
     let now = g.met.D.Disk.counts_content c.read.new.self t in
@@ -43,8 +43,8 @@ returns-in-Err-Fault-clause-whole g c t =
     subst (λ (bs : List (List ℕ)). AreWhole c.self.inside.blocks bs) (sym same)
     (kept_whole _ _ _ _ _ _ _ _ _ _ c.self.invariant (g.met.D.Disk.counts_content c.self.inside.disk) old)
 
-pub returns-in-Err-Fault-clause-now : goal.returns-in-Err-Fault-clause-now
-returns-in-Err-Fault-clause-now g c t image left =
+pub returns-in-Err-clause-now : goal.returns-in-Err-clause-now
+returns-in-Err-clause-now g c t image left =
     let is = ap (λ (v : JournalView _). v.next) c.self.view_is ∙ c.requires.idle in
     let old = subst (λ (b : Bool). IsTrue b) c.read.ensures.time.tells t in
     let now = g.met.D.Disk.counts_content c.read.new.self t in

@@ -39,7 +39,7 @@ returns-clause-closed g c t =
     let super : c.as_slice-2.result.now ≡ c.describe_in.new.octets.items = c.as_slice-2.ensures.value in
     let put : (g.D.Disk.device c.write_part.new.disk).content ≡ overwritten 0 c.describe_in.new.octets.items (g.D.Disk.device c.write_blocks.new.disk).content = c.in_ok-write_part.ensures.content t2 ∙ ap (λ (o : List ℕ). overwritten 0 o (g.D.Disk.device c.write_blocks.new.disk).content) super in
     let stands = stands_formatted c.args.blocks c.args.octets.items c.describe_in.new.octets.items old (g.D.Disk.device c.write_part.new.disk).content c.args.label.now
-        (size ∙ c.write_blocks.ensures.time.size ∙ c.requires.size) c.requires.whole c.requires.zero c.describe_in.ensures.size c.describe_in.ensures.valid c.describe_in.ensures.blocks c.describe_in.ensures.label written put in
+    (size ∙ c.write_blocks.ensures.time.size ∙ c.requires.size) c.requires.whole c.requires.zero c.describe_in.ensures.size c.describe_in.ensures.valid c.describe_in.ensures.blocks c.describe_in.ensures.label written put in
     ok_closed c.sync_last.result (g.D.Disk.device c.write_part.new.disk).content (g.D.Disk.device c.sync_last.new.disk).content
     (none_open (g.D.Disk.device c.write_part.new.disk).content stands.has_superblock
     (shut_formatted c.args.blocks c.args.octets.items c.describe_in.new.octets.items old (g.D.Disk.device c.write_part.new.disk).content

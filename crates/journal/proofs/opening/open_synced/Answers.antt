@@ -1,14 +1,15 @@
-use Rattle.std.proofs.Common.{◌≡◌, ◌≢◌, ◌⊎◌, inl, inr, ℕ, IsTrue, Option, Result, Err, sym, ◌∙◌, ap, subst}
+use Rattle.std.proofs.Common.{◌≡◌, ◌≢◌, ◌⊎◌, inl, inr, ℕ, ◌+◌, length, IsTrue, Option, Result, Err, sym, ◌∙◌, ap, subst}
 use Rattle.std.proofs.lemmas.Result.{IfOk-weaker}
 use Rattle.disk.specs.Device.{Elapses}
 use Rattle.journal.specs.Inside.{IsQuiet, IsStill, LeftAs}
-use Rattle.journal.specs.Journal.{IsDuring, IsReady, JournalView}
+use Rattle.journal.specs.Journal.{IsCaused, IsDuring, IsReady, JournalView}
 use Rattle.journal.specs.Opening.{Opens, Refuses}
-use Rattle.model.specs.Volume.{StandsFor}
+use Rattle.model.specs.Volume.{StandsFor, open_segments}
 use Rattle.journal.specs.declared.JournalError.{JournalError}
 use Rattle.journal.specs.declared.JournalError.TheVariants.{Fault, Memory, NotAVolume, Halted}
 use Rattle.journal.specs.declared.Refused.{Refused}
-use Rattle.journal.proofs.Found.{opens_replayed, refuses_replayed, refuses_found, err_weaker}
+use Rattle.journal.specs.Opening.{Costs, IsMore, home_syncs, home_writes}
+use Rattle.journal.proofs.Found.{costs_none, costs_replayed, opens_replayed, refuses_replayed, refuses_found, err_weaker}
 use Rattle.journal.proofs.opening.open_synced.Goals as goal
 
 pub returns-in-Ok-default-Some-clause-ok : goal.returns-in-Ok-default-Some-clause-ok
@@ -28,17 +29,9 @@ returns-in-Ok-default-Some-clause-err g c =
     let still = subst (λ (d : g.row.D.Denot). IsStill (g.D.Disk.device c.args.disk) (g.D.Disk.device d)) (sym c.to_be_replayed.ensures.disk) c.in-Ok-default-Some.ensures.still in
     let stands = subst (λ (d : g.row.D.Denot). IsTrue (g.D.Disk.device d).tells → StandsFor (g.D.Disk.device d).content c.to_be_replayed.result.label c.to_be_replayed.result.blocks) (sym c.to_be_replayed.ensures.disk) c.to_be_replayed.ensures.stands in
     err_weaker c.replay.result
-    (λ (refused : Refused g.row.D.Denot). (refused.error ≡ Fault) × ((g.D.Disk.device refused.disk).failures ≢ (g.D.Disk.device c.to_be_replayed.result.disk).failures) × Elapses (g.D.Disk.device c.to_be_replayed.result.disk) (g.D.Disk.device refused.disk) × LeftAs (g.D.Disk.device c.to_be_replayed.result.disk) (g.D.Disk.device refused.disk) c.to_be_replayed.result.label c.to_be_replayed.result.blocks)
+    (λ (refused : Refused g.row.D.Denot). IsCaused refused.error (g.D.Disk.device c.to_be_replayed.result.disk) (g.D.Disk.device refused.disk) × Elapses (g.D.Disk.device c.to_be_replayed.result.disk) (g.D.Disk.device refused.disk) × LeftAs (g.D.Disk.device c.to_be_replayed.result.disk) (g.D.Disk.device refused.disk) c.to_be_replayed.result.label c.to_be_replayed.result.blocks)
     (λ (refused : Refused g.row.D.Denot). Refuses g.D.Disk.device c.args.disk refused.disk refused.error)
-    (λ refused h. refuses_replayed g.D.Disk.device c.args.disk c.to_be_replayed.result quiet still stands c.to_be_replayed.ensures.whole refused.disk refused.error h.0 h.1 h.2 h.3)
-    c.replay.ensures.err
-
-pub returns-in-Ok-default-Some-clause-no_memory : goal.returns-in-Ok-default-Some-clause-no_memory
-returns-in-Ok-default-Some-clause-no_memory g c =
-    err_weaker c.replay.result
-    (λ (refused : Refused g.row.D.Denot). (refused.error ≡ Fault) × ((g.D.Disk.device refused.disk).failures ≢ (g.D.Disk.device c.to_be_replayed.result.disk).failures) × Elapses (g.D.Disk.device c.to_be_replayed.result.disk) (g.D.Disk.device refused.disk) × LeftAs (g.D.Disk.device c.to_be_replayed.result.disk) (g.D.Disk.device refused.disk) c.to_be_replayed.result.label c.to_be_replayed.result.blocks)
-    (λ (refused : Refused g.row.D.Denot). refused.error ≢ Memory)
-    (λ refused h e. (let two : Fault ≡ Memory = sym h.0 ∙ e in cc))
+    (λ refused h. refuses_replayed g.D.Disk.device c.args.disk c.to_be_replayed.result quiet still stands c.to_be_replayed.ensures.whole refused.disk refused.error h.0 h.1 h.2)
     c.replay.ensures.err
 
 neither : (error : JournalError) → (error ≡ Fault) ⊎ (error ≡ NotAVolume) → (error ≢ Memory) × (error ≢ Halted)
@@ -53,5 +46,20 @@ returns-in-Err-clause-err g c =
     (λ is t. c.in-Err.ensures.no_volume (ap (λ (e : JournalError). let r : Result (ℕ × Option ℕ) JournalError = Err e in r) is) t)
     other.0 other.1
 
-pub returns-in-Err-clause-no_memory : goal.returns-in-Err-clause-no_memory
-returns-in-Err-clause-no_memory g c = (neither c.in-Err.error c.in-Err.ensures.no_other).0
+pub returns-in-Ok-default-Some-clause-cost : goal.returns-in-Ok-default-Some-clause-cost
+returns-in-Ok-default-Some-clause-cost g c t =
+    let found = c.to_be_replayed.result in
+    let device = g.D.Disk.device in
+    let quiet = subst (λ (d : g.row.D.Denot). IsQuiet (g.D.Disk.device c.args.disk) (g.D.Disk.device d)) (sym c.to_be_replayed.ensures.disk) c.load.ensures.quiet in
+    let still = subst (λ (d : g.row.D.Denot). IsStill (g.D.Disk.device c.args.disk) (g.D.Disk.device d)) (sym c.to_be_replayed.ensures.disk) c.in-Ok-default-Some.ensures.still in
+    let writes = subst (λ (d : g.row.D.Denot). IsTrue (g.D.Disk.device d).tells → home_writes (g.D.Disk.device d).content (open_segments (g.D.Disk.device d).content) ≡ length c.to_be_replayed.result.numbers + 1) (sym c.to_be_replayed.ensures.disk) c.to_be_replayed.ensures.open in
+    let syncs = subst (λ (d : g.row.D.Denot). IsTrue (g.D.Disk.device d).tells → home_syncs (open_segments (g.D.Disk.device d).content) ≡ 2) (sym c.to_be_replayed.ensures.disk) c.to_be_replayed.ensures.syncs in
+    IfOk-weaker c.replay.result (λ (after : JournalView g.row.D.Denot). IsMore (length c.to_be_replayed.result.numbers + 1) (g.D.Disk.device c.to_be_replayed.result.disk).writes (g.D.Disk.device after.disk).writes × IsMore 2 (g.D.Disk.device c.to_be_replayed.result.disk).syncs (g.D.Disk.device after.disk).syncs)
+    (λ (after : JournalView g.row.D.Denot). Costs 0 (g.D.Disk.device c.args.disk).content (g.D.Disk.device c.args.disk) (g.D.Disk.device after.disk))
+    (λ after h. costs_replayed (g.D.Disk.device c.args.disk) (g.D.Disk.device c.to_be_replayed.result.disk) (g.D.Disk.device after.disk) (length c.to_be_replayed.result.numbers + 1) quiet still writes syncs h.0 h.1 t)
+    c.replay.ensures.cost
+
+pub returns-in-Ok-default-None-clause-cost : goal.returns-in-Ok-default-None-clause-cost
+returns-in-Ok-default-None-clause-cost g c =
+    subst (λ (d : g.row.D.Denot). IsTrue (g.D.Disk.device c.args.disk).tells → Costs 0 (g.D.Disk.device c.args.disk).content (g.D.Disk.device c.args.disk) (g.D.Disk.device d)) (sym c.at_rest.ensures.disk)
+    (costs_none (g.D.Disk.device c.args.disk) (g.D.Disk.device c.load.new.disk) c.load.ensures.quiet c.in-Ok-default-None.ensures.still c.at_rest.ensures.none)

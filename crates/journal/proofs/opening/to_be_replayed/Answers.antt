@@ -2,7 +2,7 @@ use Rattle.std.proofs.Common.{ℕ, false, IsTrue, sym, ◌∙◌, ap, subst}
 use Rattle.journal.specs.Inside.{IsKept}
 use Rattle.model.specs.Volume.{number_at}
 use Rattle.journal.specs.declared.Next.TheVariants.{Home}
-use Rattle.journal.proofs.Found.{replay_kept, replay_stands}
+use Rattle.journal.proofs.Found.{replay_kept, replay_stands, replay_syncs, replay_writes}
 use Rattle.journal.proofs.Whole.{kept_whole}
 use Rattle.journal.proofs.opening.to_be_replayed.Goals as goal
 
@@ -29,3 +29,13 @@ returns-clause-whole g c =
     let device = g.D.Disk.device c.args.disk in
     let kept = replay_kept device c.args.superblock.items c.args.segment.descriptor.items c.args.segment.numbers.items c.args.segment.images.items c.args.blocks c.requires.sizes.0 c.requires.sizes.1 c.requires.sizes.2 c.requires.sizes.3 (λ s. g.met.D.Disk.image_size c.args.disk device.content s (g.met.D.Disk.counts_content c.args.disk s)) (g.met.D.Disk.counts_content c.args.disk) c.args.count c.requires.found in
     kept_whole _ _ _ _ _ _ _ _ _ _ kept (g.met.D.Disk.counts_content c.args.disk)
+
+pub returns-clause-open : goal.returns-clause-open
+returns-clause-open g c t =
+    let device = g.D.Disk.device c.args.disk in
+    replay_writes device c.args.superblock.items c.args.segment.descriptor.items c.args.segment.numbers.items c.args.segment.images.items c.args.blocks c.requires.sizes.0 c.requires.sizes.1 c.requires.sizes.2 c.requires.sizes.3 (λ s. g.met.D.Disk.image_size c.args.disk device.content s (g.met.D.Disk.counts_content c.args.disk s)) (g.met.D.Disk.counts_content c.args.disk) c.args.count c.requires.found t
+
+pub returns-clause-syncs : goal.returns-clause-syncs
+returns-clause-syncs g c t =
+    let device = g.D.Disk.device c.args.disk in
+    replay_syncs device c.args.superblock.items c.args.segment.descriptor.items c.args.segment.numbers.items c.args.segment.images.items c.args.blocks c.requires.sizes.0 c.requires.sizes.1 c.requires.sizes.2 c.requires.sizes.3 (λ s. g.met.D.Disk.image_size c.args.disk device.content s (g.met.D.Disk.counts_content c.args.disk s)) (g.met.D.Disk.counts_content c.args.disk) c.args.count c.requires.found t

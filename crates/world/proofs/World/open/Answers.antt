@@ -22,7 +22,7 @@ returns-in-Err-clause-damaged g c damaged tells = absurd (journal_finds_no_damag
 
 pub returns-in-Err-clause-memory : goal.returns-in-Err-clause-memory
 returns-in-Err-clause-memory g c lacked =
-    ap (λ d. (g.D.Disk.device d).failures) (c.in-Err.ensures.err.memory (journal_lacked_memory c.in-Err.refused.error c.journal_error.result c.journal_error.ensures c.in-Err.ensures.err.not_halted lacked))
+    c.in-Err.ensures.err.memory (journal_lacked_memory c.in-Err.refused.error c.journal_error.result c.journal_error.ensures c.in-Err.ensures.err.not_halted lacked)
 
 pub returns-in-Err-clause-no_spool : goal.returns-in-Err-clause-no_spool
 returns-in-Err-clause-no_spool g c missed tells =
@@ -32,7 +32,7 @@ returns-in-Err-clause-no_spool g c missed tells =
     missed
 
 pub returns-in-Err-open-clause-during : goal.returns-in-Err-open-clause-during
-returns-in-Err-open-clause-during g c = subst (λ d. KeepsSpools (g.D.Disk.device c.args.disk) (g.D.Disk.device d)) (sym c.into_disk.ensures) (keeps_both g.D.Disk.device g.met.D.Disk.only_now g.met.D.Disk.counts_content c.args.disk c.in-Ok.journal c.open-2.new.journal c.in-Ok.ensures.ok c.open-2.ensures.reads)
+returns-in-Err-open-clause-during g c = subst (λ d. KeepsSpools (g.D.Disk.device c.args.disk) (g.D.Disk.device d)) (sym c.into_disk-disk.ensures) (keeps_both g.D.Disk.device g.met.D.Disk.only_now g.met.D.Disk.counts_content c.args.disk c.in-Ok.journal c.open-2.new.journal c.in-Ok.ensures.ok c.open-2.ensures.reads)
 
 pub returns-in-Err-open-clause-no_volume : goal.returns-in-Err-open-clause-no_volume
 returns-in-Err-open-clause-no_volume g c missed tells = no_label g.D.Disk.device c.args.disk c.in-Ok.journal c.in-Ok.ensures.ok (c.in-Err-open.ensures.no_label missed) tells
@@ -65,7 +65,7 @@ pub returns-clause-now : goal.returns-clause-now
 returns-clause-now g c = now_fits g.D.Disk.device (record { journal = c.open-2.new.journal; served = c.in-Ok-new.served; untold = [] }) c.kept.ensures
 
 pub returns-in-Err-open-clause-time : goal.returns-in-Err-open-clause-time
-returns-in-Err-open-clause-time g c = subst (λ d. Elapses (g.D.Disk.device c.args.disk) (g.D.Disk.device d)) (sym c.into_disk.ensures) (elapses_both (g.D.Disk.device c.args.disk) (g.D.Disk.device c.in-Ok.journal.disk) (g.D.Disk.device c.open-2.new.journal.disk) c.in-Ok.ensures.ok.time c.open-2.ensures.reads.time)
+returns-in-Err-open-clause-time g c = subst (λ d. Elapses (g.D.Disk.device c.args.disk) (g.D.Disk.device d)) (sym c.into_disk-disk.ensures) (elapses_both (g.D.Disk.device c.args.disk) (g.D.Disk.device c.in-Ok.journal.disk) (g.D.Disk.device c.open-2.new.journal.disk) c.in-Ok.ensures.ok.time c.open-2.ensures.reads.time)
 
 pub returns-in_default-clause-time : goal.returns-in_default-clause-time
 returns-in_default-clause-time g c = subst (λ d. Elapses (g.D.Disk.device c.args.disk) (g.D.Disk.device d)) (sym c.into_disk-in_default.ensures) (elapses_both (g.D.Disk.device c.args.disk) (g.D.Disk.device c.in-Ok.journal.disk) (g.D.Disk.device c.open-2.new.journal.disk) c.in-Ok.ensures.ok.time c.open-2.ensures.reads.time)
@@ -77,10 +77,10 @@ pub returns-clause-time : goal.returns-clause-time
 returns-clause-time g c = elapses_both (g.D.Disk.device c.args.disk) (g.D.Disk.device c.in-Ok.journal.disk) (g.D.Disk.device c.open-2.new.journal.disk) c.in-Ok.ensures.ok.time c.open-2.ensures.reads.time
 
 pub returns-in-Err-open-clause-volume : goal.returns-in-Err-open-clause-volume
-returns-in-Err-open-clause-volume g c = subst (λ d. LeftKept (g.D.Disk.device c.args.disk) (g.D.Disk.device d)) (sym c.into_disk.ensures) (left_both g.D.Disk.device g.met.D.Disk.only_now g.met.D.Disk.counts_content c.args.disk c.in-Ok.journal c.open-2.new.journal c.in-Ok.ensures.ok c.open-2.ensures.reads)
+returns-in-Err-open-clause-volume g c = subst (λ d. LeftKept (g.D.Disk.device c.args.disk) (g.D.Disk.device d)) (sym c.into_disk-disk.ensures) (left_both g.D.Disk.device g.met.D.Disk.only_now g.met.D.Disk.counts_content c.args.disk c.in-Ok.journal c.open-2.new.journal c.in-Ok.ensures.ok c.open-2.ensures.reads)
 
 pub returns-in-Err-open-clause-moment : goal.returns-in-Err-open-clause-moment
-returns-in-Err-open-clause-moment g c = inl (subst (SyncsFirst g.D.Disk.device c.args.disk) (sym c.into_disk.ensures) (syncs_both g.D.Disk.device g.met.D.Disk.only_now g.met.D.Disk.counts_content c.args.disk c.in-Ok.journal c.open-2.new.journal c.in-Ok.ensures.ok c.in-Ok.ensures.moment c.open-2.ensures.reads))
+returns-in-Err-open-clause-moment g c = inl (subst (SyncsFirst g.D.Disk.device c.args.disk) (sym c.into_disk-disk.ensures) (syncs_both g.D.Disk.device g.met.D.Disk.only_now g.met.D.Disk.counts_content c.args.disk c.in-Ok.journal c.open-2.new.journal c.in-Ok.ensures.ok c.in-Ok.ensures.moment c.open-2.ensures.reads))
 
 pub returns-in_default-clause-volume : goal.returns-in_default-clause-volume
 returns-in_default-clause-volume g c = subst (λ d. LeftKept (g.D.Disk.device c.args.disk) (g.D.Disk.device d)) (sym c.into_disk-in_default.ensures) (left_both g.D.Disk.device g.met.D.Disk.only_now g.met.D.Disk.counts_content c.args.disk c.in-Ok.journal c.open-2.new.journal c.in-Ok.ensures.ok c.open-2.ensures.reads)

@@ -1,0 +1,53 @@
+-- What a view of a group says of the group with its name.
+use Rattle.std.proofs.Common.{◌≡◌, ℕ, ◌+◌, ◌<◌, ◌≤◌, ◌^◌, refl, sym, ◌∙◌, ap, subst, arith, true, false, Bool, cond}
+use Rattle.std.specs.Prelude.{find, length, ◌==◌, Option, Some, None, List, [], ◌∷◌, bytes_eq, option_map}
+use Rattle.std.proofs.lemmas.Slice.Eq.{bytes_eq-Decides}
+use Rattle.model.specs.Stream.{Octets}
+use Rattle.model.specs.Answer.{is_closed}
+use Rattle.model.specs.Lawful.{IsLawful}
+use Rattle.model.specs.Spool.{Spool, Contents, NewsGroup, contents, contents_if_here, filed_in, group_named, groups, high, is_here, is_name, last_naming, low}
+use Rattle.lookups.specs.declared.GroupView.{GroupView}
+use Rattle.lookups.specs.Held.{Known, known, shown}
+
+-- the view is of the group with this name
+pub record IsOf (S : Spool) (name : Octets) (v : GroupView) : Type 0 where
+  pub low : v.low ≡ low S name
+  pub high : v.high ≡ high S name
+  pub last : v.last ≡ last_naming S name
+  pub here : is_here S name ≡ true
+  pub closed : is_closed S name ≡ (v.status == 110)
+  pub has : contents_if_here S name ≡ Some (contents S name)
+
+found_name : (name : Octets) (gs : List NewsGroup) (g : NewsGroup) → find (λ (h : NewsGroup). is_name name h.name) gs ≡ Some g → g.name ≡ name
+found_name name [] g is = absurd (cc)
+found_name name (h ∷ gs) g is = by_name (bytes_eq h.name name) refl is (found_name name gs g) where
+  by_name : (b : Bool) → bytes_eq h.name name ≡ b → cond b (Some h) (find (λ (h : NewsGroup). is_name name h.name) gs) ≡ Some g → (find (λ (h : NewsGroup). is_name name h.name) gs ≡ Some g → g.name ≡ name) → g.name ≡ name
+  by_name true same found later = let one : h ≡ g = cc in ap (λ (k : NewsGroup). k.name) (sym one) ∙ (bytes_eq-Decides h.name name).0 same
+  by_name false other found later = later found
+
+its_name : (S : Spool) (name : Octets) (g : NewsGroup) → group_named S name ≡ Some g → g.name ≡ name
+unfolding group_named
+its_name S name g is = found_name name (groups S) g is
+
+pub is_of : (S : Spool) (name : Octets) (v : GroupView) → Some (shown v) ≡ option_map (known S) (group_named S name) → IsOf S name v
+unfolding contents_if_here
+is_of S name v says = by_found (group_named S name) refl says where
+  by_found : (o : Option NewsGroup) → group_named S name ≡ o → Some (shown v) ≡ option_map (known S) o → IsOf S name v
+  by_found None is same = absurd (cc)
+  by_found (Some g) is same =
+      let one : shown v ≡ known S g = cc in
+      let named : g.name ≡ name = its_name S name g is in
+      record {
+        low = ap (λ (k : Known). k.listed.low) one ∙ ap (low S) named;
+        high = ap (λ (k : Known). k.listed.high) one ∙ ap (high S) named;
+        last = ap (λ (k : Known). k.last) one ∙ ap (last_naming S) named;
+        here = ap (λ (o : Option NewsGroup). Rattle.std.specs.Prelude.is_some o) is;
+        closed = ap (λ (o : Option NewsGroup). Rattle.std.specs.Prelude.unwrap_or (option_map (λ (h : NewsGroup). h.status == 110) o) false) is ∙ ap (λ (k : Known). k.listed.group.status == 110) (sym one);
+        has = ap (λ (o : Option NewsGroup). option_map (λ (h : NewsGroup). contents S name) o) is;
+      }
+
+pub none_of : (S : Spool) (name : Octets) → None ≡ option_map (known S) (group_named S name) → group_named S name ≡ None
+none_of S name says = by_found (group_named S name) says where
+  by_found : (o : Option NewsGroup) → None ≡ option_map (known S) o → o ≡ None
+  by_found None same = refl
+  by_found (Some g) same = absurd (cc)

@@ -1,0 +1,9 @@
+pub mod Blocks
+pub mod Cached
+pub mod Caching
+pub mod Chain
+pub mod Places
+pub mod Putting
+pub mod RunLaws
+pub mod Showing
+pub mod Written

@@ -1,0 +1,8 @@
+-- The collected octets by their places.
+use Rattle.std.specs.Prelude.{ℕ, Option}
+use Rattle.wcache.specs.Slots.{octet_at}
+use Rattle.wcache.specs.declared.collected.Collected.{Collected}
+
+-- the octet that was collected for a place
+abbrev pub taken : Collected → ℕ → Option ℕ
+taken c k = octet_at c.slots.items c.flags.items c.octets.items k

@@ -1,0 +1,199 @@
+//! A device that collects writes until a sync, over another device. So writes to one place, or to places side by side,
+//! reach the device as one. `specs/Cache.antt` says what it is as a device, `specs/Runs.antt` what a sync gives the
+//! device below.
+#![tactic(auto)]
+
+mod collected;
+mod giving;
+
+ghost use Rattle.std.specs.Prelude.{◌≡◌, ◌+◌, ◌≤◌, ℕ, IsTrue, Some, None, IfErr, OnErr, OnOk, length, map, replicate};
+ghost use Rattle.disk.specs.Calls.{Makes};
+ghost use Rattle.disk.specs.Device.{Elapses, HasCause, IsRead, IsSync, IsUnchanged, IsWrite, LeavesNoMore, LeavesOnly, LeftNoMore, LeftTornAt, OnAsked, OnRefused, TearsAt};
+ghost use Rattle.disk.specs.Image.{overwritten, part};
+ghost use Rattle.wcache.specs.Runs.{calls_of};
+
+use collected::Collected;
+use disk::{Disk, DiskCall, DiskError, Faults};
+use giving::give_and_sync;
+use std::alloc::Global;
+use std::marker::Model;
+
+/// A cache over a device.
+#[derive(Drop)]
+pub struct WCache<D: Disk> {
+    disk: D,
+    len: u64,
+    collected: Collected,
+    reads: u64,
+    writes: u64,
+    syncs: u64,
+}
+
+impl<D: Disk> Model for WCache<D> {
+    ghost use Rattle.wcache.specs.Cache.{CacheView};
+    ghost use Rattle.wcache.specs.Held.{IsHeld};
+    ghost use Rattle.wcache.specs.Slots.{places};
+    ghost use Rattle.wcache.specs.Taken.{taken};
+
+    ghost Value = { CacheView D };
+
+    ghost view = { λ w. record {
+      disk = w.disk;
+      collected = places (taken w.collected) w.len;
+      reads = w.reads;
+      writes = w.writes;
+      syncs = w.syncs;
+    } };
+
+    ghost invariant = { λ w. IsHeld (D.device w.disk) w.len (taken w.collected) };
+}
+
+impl<D: Disk> WCache<D> {
+    /// A cache over a device. Nothing is collected yet, and it takes no memory yet.
+    pub fn new(alloc: Global, disk: D) -> WCache<D>
+        ensures { result ≡ record { disk = disk; collected = replicate (D.device disk).size None; reads = 0; writes = 0; syncs = 0 } }
+    {
+        let len = disk.len();
+        WCache {
+            disk,
+            len,
+            collected: Collected::new(alloc),
+            reads: 0,
+            writes: 0,
+            syncs: 0,
+        }
+    }
+
+    /// The device below, as it is. What was collected since the last good sync is lost.
+    pub fn into_inner(self) -> D
+        ensures { result ≡ self.disk }
+    {
+        let WCache { disk, .. } = self;
+        disk
+    }
+}
+
+impl<D: Disk> Disk for WCache<D> {
+    ghost use Rattle.std.specs.Prelude.{true};
+    ghost use Rattle.wcache.specs.Cache.{cache_device};
+    ghost use Rattle.wcache.specs.Laws.{cache_counts_content, cache_counts_now, cache_image_size, cache_only_now};
+
+    ghost device = { cache_device D.device };
+
+    ghost grows = { true };
+
+    fn len(&self) -> u64 {
+        self.len
+    }
+
+    /// One read of the device below, with the collected octets over it.
+    fn read(&mut self, at: u64, into: &mut [u8]) -> Result<(), DiskError>
+        requires { at + length into.old ≤ (D.device self.old.disk).size }
+        ensures below { IsRead (D.device self.old.disk) (D.device self.new.disk) }
+        ensures kept { self.new.collected ≡ self.old.collected }
+        ensures value { IsTrue (D.device self.old.disk).tells → OnOk result (into.new ≡ part at (length into.old) (cache_device D.device self.old).content) }
+        ensures content { IsTrue (D.device self.old.disk).tells → OnOk result ((cache_device D.device self.new).content ≡ (cache_device D.device self.old).content) }
+        ensures crash { IsTrue (D.device self.old.disk).tells → LeavesNoMore (cache_device D.device self.old) (cache_device D.device self.new) }
+        ensures since { IsTrue (D.device self.old.disk).tells → LeftNoMore (cache_device D.device self.old) (cache_device D.device self.new) }
+        ensures time { Elapses (cache_device D.device self.old) (cache_device D.device self.new) }
+        ensures call { IsRead (cache_device D.device self.old) (cache_device D.device self.new) }
+        ensures cause { HasCause result (cache_device D.device self.old) (cache_device D.device self.new) }
+        ensures no_memory { IfErr result (λ error. error ≡ DiskError.Fault) }
+    {
+        self.reads = self.reads.wrapping_add(1);
+        self.disk.read(at, into)?;
+        self.collected.show(at as usize, into);
+        Ok(())
+    }
+
+    /// Collects the octets. It is refused only where a growth was, and then nothing is taken; the device below isn't asked.
+    fn write(&mut self, at: u64, from: &[u8]) -> Result<(), DiskError>
+        requires { at + length from.now ≤ (D.device self.old.disk).size }
+        ensures below { self.new.disk ≡ self.old.disk }
+        ensures collects { OnOk result (self.new.collected ≡ overwritten at (map (λ octet. Some octet) from.now) self.old.collected) }
+        ensures only_memory { IfErr result (λ error. error ≡ DiskError.Memory) }
+        ensures untouched { OnErr result (self.new ≡ self.old) }
+        ensures content { IsTrue (D.device self.old.disk).tells → OnOk result ((cache_device D.device self.new).content ≡ overwritten at from.now (cache_device D.device self.old).content) }
+        ensures crash { IsTrue (D.device self.old.disk).tells → TearsAt at (length from.now) (cache_device D.device self.old) (cache_device D.device self.new) }
+        ensures since { IsTrue (D.device self.old.disk).tells → LeftTornAt at (length from.now) (cache_device D.device self.old) (cache_device D.device self.new) }
+        ensures time { Elapses (cache_device D.device self.old) (cache_device D.device self.new) }
+        ensures call { OnAsked result (IsWrite (cache_device D.device self.old) (cache_device D.device self.new)) }
+        ensures cause { HasCause result (cache_device D.device self.old) (cache_device D.device self.new) }
+        ensures refused { OnRefused result (cache_device D.device self.old) (cache_device D.device self.new) }
+        ensures memory { IfErr result (λ error. error ≡ DiskError.Memory → IsTrue true) }
+    {
+        match self.collected.collect(at as usize, from) {
+            Ok(()) => {
+                self.writes = self.writes.wrapping_add(1);
+                Ok(())
+            }
+            Err(_) => Err(DiskError::Memory),
+        }
+    }
+
+    /// Gives the device below, in rising place, one write for each longest run of collected octets within a block of 4,096,
+    /// then one sync, up to the first of these calls that is refused. What was collected is forgotten only after `Ok`. It
+    /// takes no memory of its own.
+    fn sync(&mut self) -> Result<(), DiskError>
+        ensures calls { Makes D.device (calls_of self.old.collected) result self.old.disk self.new.disk }
+        ensures forgets { OnOk result (self.new.collected ≡ replicate (length self.old.collected) None) }
+        ensures keeps { OnErr result (self.new.collected ≡ self.old.collected) }
+        ensures durable { IsTrue (D.device self.old.disk).tells → OnOk result (LeavesOnly (cache_device D.device self.new) (cache_device D.device self.old).content) }
+        ensures content { IsTrue (D.device self.old.disk).tells → OnOk result ((cache_device D.device self.new).content ≡ (cache_device D.device self.old).content) }
+        ensures crash { IsTrue (D.device self.old.disk).tells → LeavesNoMore (cache_device D.device self.old) (cache_device D.device self.new) }
+        ensures since { IsTrue (D.device self.old.disk).tells → LeftNoMore (cache_device D.device self.old) (cache_device D.device self.new) }
+        ensures time { Elapses (cache_device D.device self.old) (cache_device D.device self.new) }
+        ensures call { OnAsked result (IsSync (cache_device D.device self.old) (cache_device D.device self.new)) }
+        ensures cause { HasCause result (cache_device D.device self.old) (cache_device D.device self.new) }
+        ensures refused { OnRefused result (cache_device D.device self.old) (cache_device D.device self.new) }
+        ensures memory { IfErr result (λ error. error ≡ DiskError.Memory → IsTrue true) }
+    {
+        match give_and_sync(&mut self.disk, &self.collected) {
+            Ok(()) => {
+                self.collected.clear();
+                self.syncs = self.syncs.wrapping_add(1);
+                Ok(())
+            }
+            Err(DiskError::Fault) => {
+                self.syncs = self.syncs.wrapping_add(1);
+                Err(DiskError::Fault)
+            }
+            Err(DiskError::Memory) => Err(DiskError::Memory),
+        }
+    }
+
+    ghost image_size = { cache_image_size D.device D.image_size };
+
+    ghost counts_content = { cache_counts_content D.device D.counts_content };
+
+    ghost counts_now = { cache_counts_now D.device };
+
+    ghost only_now = { cache_only_now D.device D.only_now };
+}
+
+impl<D: Faults> Faults for WCache<D> {
+    ghost use Rattle.wcache.specs.Cache.{cache_device};
+
+    // the plan of the device below, and nothing else
+    ghost plans = { λ n old new. (new ≡ record old { disk = new.disk }) × D.plans n old.disk new.disk };
+
+    ghost plans_kind = { λ kind n old new. (new ≡ record old { disk = new.disk }) × D.plans_kind kind n old.disk new.disk };
+
+    /// The n-th call of the device below fails.
+    fn fail_at(&mut self, n: u64)
+        ensures plan { (self.new ≡ record self.old { disk = self.new.disk }) × D.plans n self.old.disk self.new.disk }
+        ensures device { IsUnchanged (D.device self.old.disk) (D.device self.new.disk) }
+        ensures unchanged { IsUnchanged (cache_device D.device self.old) (cache_device D.device self.new) }
+    {
+        self.disk.fail_at(n);
+    }
+
+    /// The n-th call of that kind of the device below fails.
+    fn fail_kind(&mut self, kind: DiskCall, n: u64)
+        ensures plan { (self.new ≡ record self.old { disk = self.new.disk }) × D.plans_kind kind n self.old.disk self.new.disk }
+        ensures device { IsUnchanged (D.device self.old.disk) (D.device self.new.disk) }
+        ensures unchanged { IsUnchanged (cache_device D.device self.old) (cache_device D.device self.new) }
+    {
+        self.disk.fail_kind(kind, n);
+    }
+}
