@@ -1,5 +1,6 @@
 """A server, and its callers, for the system tests and the load program."""
 import os
+import resource
 import signal
 import socket
 import subprocess
@@ -66,6 +67,8 @@ class Server:
             self.process = subprocess.Popen(
                 [volume.program, "serve", volume.path, "--port", str(self.port)],
                 stdin=subprocess.PIPE, stdout=subprocess.PIPE, stderr=subprocess.PIPE,
+                # python ignores the signal of a file that grows past its limit, and so does the server then
+                restore_signals=False,
             )
             line = self.process.stdout.readline().decode()
             if line == "listening 127.0.0.1:%d\n" % self.port:
@@ -86,6 +89,15 @@ class Server:
         self.process.wait(SECONDS)
         for stream in (self.process.stdin, self.process.stdout, self.process.stderr):
             stream.close()
+
+    def have_writes_fail(self):
+        """From now on each write of the device fails but those to its first block."""
+        resource.prlimit(self.process.pid, resource.RLIMIT_FSIZE, (4096, 4096))
+
+    def end(self):
+        """The status and the faults of a server that ends by itself."""
+        status = self.process.wait(SECONDS)
+        return status, self.process.stderr.read().decode()
 
     def order(self, line):
         """What the operator is answered."""

@@ -201,6 +201,26 @@ def flood(caller):
         pass
 
 
+def a_failing_device_ends_the_server(volume):
+    volume.make_group()
+    with volume.serve() as server, server.call() as caller, server.call() as other:
+        assert caller.post(article(1)) == "240 Article received"
+        settled_octets(volume.path)
+        server.have_writes_fail()
+        other.send(b"POST\r\n" + article(2))
+        greetings = []
+        while "400 Service ends" not in greetings and len(greetings) < 500:
+            with Caller(server.port) as late:
+                greetings.append(late.greeting)
+            time.sleep(0.01)
+        assert greetings[-1] == "400 Service ends", greetings[-5:]
+        assert other.line() == "340 Send article" and other.has_ended()
+        assert server.end() == (1, "newsd: E1 Fault\n")
+    with volume.serve() as server, server.call() as caller:
+        assert caller.ask("STAT <1@a.example>") == "223 0 <1@a.example>"
+        assert caller.post(article(3)) == "240 Article received"
+
+
 def a_server_at_rest_takes_no_processor(volume):
     with volume.serve() as server, server.call():
         time.sleep(0.3)
@@ -274,6 +294,7 @@ TESTS = [
     one_server_holds_a_volume,
     the_operator_makes_groups,
     callers_that_misbehave_hold_up_nobody,
+    a_failing_device_ends_the_server,
     a_server_at_rest_takes_no_processor,
     what_can_not_be_served_is_refused,
     a_commit_syncs_the_device,

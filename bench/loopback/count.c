@@ -1,5 +1,5 @@
 /* Counts the device calls of the program that it is preloaded into, in the file that NEWSD_COUNTS names: syncs, writes and the
- * octets written, each a uint64_t. With NEWSD_NO_SYNC a sync answers at once and does nothing. */
+ * octets written, and the nanoseconds that all of these took, each a uint64_t. With NEWSD_NO_SYNC a sync answers at once and does nothing. */
 #define _GNU_SOURCE
 #include <dlfcn.h>
 #include <fcntl.h>
@@ -7,9 +7,10 @@
 #include <stdlib.h>
 #include <sys/mman.h>
 #include <sys/types.h>
+#include <time.h>
 #include <unistd.h>
 
-static uint64_t none[3], *counts = none;
+static uint64_t none[4], *counts = none;
 static int (*real_sync)(int);
 static ssize_t (*real_write)(int, const void *, size_t, off_t);
 static int is_idle;
@@ -27,13 +28,29 @@ __attribute__((constructor)) static void begin(void) {
     }
 }
 
+static uint64_t now(void) {
+    struct timespec time;
+    clock_gettime(CLOCK_MONOTONIC, &time);
+    return (uint64_t)time.tv_sec * 1000000000 + (uint64_t)time.tv_nsec;
+}
+
+static void add(int which, uint64_t count) {
+    __atomic_fetch_add(&counts[which], count, __ATOMIC_RELAXED);
+}
+
 int fdatasync(int file) {
-    __atomic_fetch_add(&counts[0], 1, __ATOMIC_RELAXED);
-    return is_idle ? 0 : real_sync(file);
+    uint64_t start = now();
+    int answer = is_idle ? 0 : real_sync(file);
+    add(0, 1);
+    add(3, now() - start);
+    return answer;
 }
 
 ssize_t pwrite(int file, const void *octets, size_t count, off_t at) {
-    __atomic_fetch_add(&counts[1], 1, __ATOMIC_RELAXED);
-    __atomic_fetch_add(&counts[2], count, __ATOMIC_RELAXED);
-    return real_write(file, octets, count, at);
+    uint64_t start = now();
+    ssize_t answer = real_write(file, octets, count, at);
+    add(1, 1);
+    add(2, count);
+    add(3, now() - start);
+    return answer;
 }

@@ -116,6 +116,7 @@ pub(crate) fn call<R: Net<Listener = TcpListener, Stream = TcpStream> + Clock>(
     };
     let is_good = match holds {
         Holds::Nothing => posts_and_reads(&mut caller) && sends_no_more(rt, alloc, address),
+        Holds::Fault => { caller.sends(FIRST) && caller.reads_all(&[GREETING, "340 Send article"]) }
         Holds::Flush => reads_while_a_flush_is_held(rt, alloc, address, flags, &mut caller),
         Holds::Release => posts_while_a_release_is_held(rt, alloc, address, &mut caller),
         Holds::Answer => {
@@ -125,7 +126,9 @@ pub(crate) fn call<R: Net<Listener = TcpListener, Stream = TcpStream> + Clock>(
         }
     };
     flags.has_read.store(true, Ordering::SeqCst);
-    end(rt, alloc, address, flags, &caller) && is_good
+    let is_told = end(rt, alloc, address, flags, &caller);
+    // what the device refused is never acknowledged
+    is_good && is_told && (holds != Holds::Fault || caller.reads_end())
 }
 
 /// A caller posts, reads the article back and is told all in order.

@@ -58,10 +58,12 @@ pub(crate) fn turn_until(flag: &AtomicBool) -> bool {
     false
 }
 
-/// What is held, and until when.
+/// What is held, and until when, in a play.
 #[derive(Clone, Copy, PartialEq, Eq)]
 pub(crate) enum Holds {
     Nothing,
+    /// Nothing either, and the device fails at its first call.
+    Fault,
     /// A flush, until a caller has read its reply.
     Flush,
     /// Each release to session 1, until a batch is committed.

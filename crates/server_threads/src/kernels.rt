@@ -6,6 +6,7 @@ use crate::gates::Flags;
 use kernel::{AdminError, ExecError, JoinError, Kernel, Stale, Ticket};
 use mark::{Mark, Seat};
 use model::{Mark as Served, Message, Mode};
+use names::GroupName;
 use outbox::ReadyBuf;
 use server::{Kern, Locked};
 use spool::BatchBuf;
@@ -75,7 +76,7 @@ impl<'a> Kern for Watched<'a> {
         &self,
         rt: &R,
         alloc: Global,
-        name: &[u8],
+        name: &GroupName,
         status: u8,
         description: &[u8],
         moment: u64,

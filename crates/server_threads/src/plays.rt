@@ -12,6 +12,7 @@ use journal::{Journal, format};
 use kernel::Kernel;
 use mark::{FlushSeat, Mark, Seat};
 use memdisk::MemDisk;
+use names::GroupName;
 use server::{FlushError, Kern, ServeError, flush_turn, serve};
 use spool::BatchBuf;
 use std::alloc::Global;
@@ -123,7 +124,10 @@ impl<'a> Stage<'a> {
             flags,
             holds: Holds::Nothing,
         };
-        let Ok(_) = kern.admin(rt, alloc, b"x.a", b'y', b"test", 1_000_000_000) else {
+        let Ok(name) = GroupName::read(b"x.a") else {
+            return None;
+        };
+        let Ok(_) = kern.admin(rt, alloc, &name, b'y', b"test", 1_000_000_000) else {
             return None;
         };
         let Ok(_) = flush_turn(
@@ -182,7 +186,20 @@ impl<'a> Stage<'a> {
     }
 }
 
-/// Runs a server and its callers to their end. With `fault` the device fails at its first call.
+/// Whether a turn of the flusher raises the mark, and not before its batch is told to be committed.
+pub(crate) fn raises_after_commit<R: Wait>(rt: &R, alloc: Global) -> bool {
+    let flags = Flags::new();
+    let Ok((mark, flush_seat, mut seat)) = Mark::new(alloc) else {
+        return false;
+    };
+    let own = mark.another(&mut seat);
+    if Stage::new(rt, alloc, &mark, flush_seat, own, &flags).is_none() {
+        return false;
+    }
+    mark.durable(&mut seat) == 1 && !flags.failed.load(Ordering::SeqCst)
+}
+
+/// Runs a server and its callers to their end.
 pub(crate) fn play<
     R: Net<Listener = TcpListener, Stream = TcpStream>
         + Threads
@@ -192,13 +209,13 @@ pub(crate) fn play<
         + Send
         + Sync
         + 'static,
->(rt: &R, alloc: Global, holds: Holds, fault: bool) -> Option<Outcome> {
+>(rt: &R, alloc: Global, holds: Holds) -> Option<Outcome> {
     let flags = Flags::new();
     let Ok((mark, flush_seat, seat)) = Mark::new(alloc) else {
         return None;
     };
     let mut stage = Stage::new(rt, alloc, &mark, flush_seat, seat, &flags)?;
-    if fault {
+    if holds == Holds::Fault {
         stage.journal.fail_at(1);
     }
     let Ok(listener) = TcpListener::bind(rt, SocketAddr::from((Ipv4Addr::LOCALHOST, 0))) else {

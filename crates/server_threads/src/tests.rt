@@ -1,5 +1,5 @@
 use crate::gates::Holds;
-use crate::plays::{Outcome, play};
+use crate::plays::{Outcome, play, raises_after_commit};
 use server::ServeError;
 
 /// A play in which all went well, and whose last commit was refused.
@@ -15,17 +15,17 @@ const SERIAL_TWO: u64 = 0x320a;
 
 #[test]
 fn a_client_reads_its_replies(rt: HostRuntime) {
-    assert_eq!(rt; play(&rt, rt.alloc(), Holds::Nothing, false), Some(GOOD));
+    assert_eq!(rt; play(&rt, rt.alloc(), Holds::Nothing), Some(GOOD));
 }
 
 #[test]
 fn a_flush_and_commands_overlap(rt: HostRuntime) {
-    assert_eq!(rt; play(&rt, rt.alloc(), Holds::Flush, false), Some(GOOD));
+    assert_eq!(rt; play(&rt, rt.alloc(), Holds::Flush), Some(GOOD));
 }
 
 #[test]
 fn another_sessions_post_commits_while_a_release_is_held(rt: HostRuntime) {
-    assert_eq!(rt; play(&rt, rt.alloc(), Holds::Release, false), Some(GOOD));
+    assert_eq!(rt; play(&rt, rt.alloc(), Holds::Release), Some(GOOD));
 }
 
 #[test]
@@ -34,16 +34,19 @@ fn the_operators_serial_waits_for_the_mark(rt: HostRuntime) {
         answered: SERIAL_TWO,
         ..GOOD
     };
-    assert_eq!(rt; play(&rt, rt.alloc(), Holds::Answer, false), Some(told));
+    assert_eq!(rt; play(&rt, rt.alloc(), Holds::Answer), Some(told));
 }
 
-// Nobody is told what the device refused.
 #[test]
 fn a_fault_ends_the_server(rt: HostRuntime) {
     let ended = Outcome {
-        is_read: false,
         ended: ServeError::Fault,
         ..GOOD
     };
-    assert_eq!(rt; play(&rt, rt.alloc(), Holds::Nothing, true), Some(ended));
+    assert_eq!(rt; play(&rt, rt.alloc(), Holds::Fault), Some(ended));
+}
+
+#[test]
+fn a_raise_follows_committed(rt: HostRuntime) {
+    assert!(rt; raises_after_commit(&rt, rt.alloc()));
 }
