@@ -2,6 +2,7 @@
 
 ghost use Rattle.std.specs.Prelude.{◌≡◌, ◌≢◌, ℕ, List, length, map, IfErr, OnOk, IfOk};
 ghost use Rattle.model.specs.Files.{HasRoom, IsFileSystem, table};
+ghost use Rattle.fs.specs.Touches.{Touches};
 ghost use Rattle.fs.specs.Calls.{IsName, IsThere, IsFileAt, Creates, HasNoFreeInode, Unlinks, file_names};
 
 use fs_inodes::{remove_empty, shrink_to};
@@ -34,6 +35,7 @@ pub fn create<B: Blocks>(blocks: &mut B, inodes: u32, name: &[u8]) -> Result<(),
     requires name { IsName name.now }
     requires rule { IsFileSystem inodes (B.blocks blocks.old) }
     ensures created { OnOk result (Creates inodes name.now (B.blocks blocks.old) (B.blocks blocks.new)) }
+    ensures touches { OnOk result (Touches 2 (B.blocks blocks.old) (B.blocks blocks.new)) }
     ensures exists { IfErr result (λ e. e ≡ FsError.Exists
         → IsThere (table inodes (B.blocks blocks.old)) name.now × (blocks.new ≡ blocks.old)) }
     ensures full { IfErr result (λ e. e ≡ FsError.Full
@@ -63,6 +65,7 @@ pub fn unlink<B: Blocks>(blocks: &mut B, inodes: u32, name: &[u8]) -> Result<(),
     requires name { IsName name.now }
     requires rule { IsFileSystem inodes (B.blocks blocks.old) }
     ensures unlinked { OnOk result (Unlinks inodes name.now (B.blocks blocks.old) (B.blocks blocks.new)) }
+    ensures touches { OnOk result (Touches 3 (B.blocks blocks.old) (B.blocks blocks.new)) }
     ensures not_found { IfErr result (λ e. e ≡ FsError.NotFound
         → (¬ (IsThere (table inodes (B.blocks blocks.old)) name.now)) × (blocks.new ≡ blocks.old)) }
     ensures no_other { IfErr result (λ e. (e ≢ FsError.Damaged) × (e ≢ FsError.Full) × (e ≢ FsError.Exists)) }

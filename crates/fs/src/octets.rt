@@ -5,6 +5,7 @@ ghost use Rattle.disk.specs.Image.{overwritten};
 ghost use Rattle.model.specs.Files.{HasRoom, IsFileSystem, table};
 ghost use Rattle.fs.specs.Calls.{IsName, IsThere, IsFileAt, HasNoRoomFor};
 ghost use Rattle.fs.specs.Changes.{Rewrites};
+ghost use Rattle.fs.specs.Touches.{Touches, blocks_reached, touched_by_growth, touched_by_truncation};
 ghost use Rattle.fs.specs.Growing.{Appends, CannotGrow};
 
 use fs_inodes::{extend, extend_zeros, has_room_for, overwrite, read_entry, shrink_to};
@@ -52,6 +53,8 @@ pub fn append<B: Blocks>(
     requires name { IsName name.now }
     requires rule { IsFileSystem inodes (B.blocks blocks.old) }
     ensures appended { OnOk result (Appends inodes name.now octets.now (B.blocks blocks.old) (B.blocks blocks.new)) }
+    ensures touches { OnOk result ((k : ℕ) (content : List ℕ) → IsFileAt (table inodes (B.blocks blocks.old)) k name.now content
+        → Touches (touched_by_growth (length content) (length octets.now)) (B.blocks blocks.old) (B.blocks blocks.new)) }
     ensures not_found { IfErr result (λ e. e ≡ FsError.NotFound
         → (¬ (IsThere (table inodes (B.blocks blocks.old)) name.now)) × (blocks.new ≡ blocks.old)) }
     ensures full { IfErr result (λ e. e ≡ FsError.Full
@@ -85,6 +88,7 @@ pub fn write_at<B: Blocks>(
     requires rule { IsFileSystem inodes (B.blocks blocks.old) }
     requires place { (k : ℕ) (content : List ℕ) → IsFileAt (table inodes (B.blocks blocks.old)) k name.now content → place ≤ length content }
     ensures written { OnOk result (Rewrites inodes name.now (overwritten place octets.now) (B.blocks blocks.old) (B.blocks blocks.new)) }
+    ensures touches { OnOk result (Touches (3 + blocks_reached place (length octets.now)) (B.blocks blocks.old) (B.blocks blocks.new)) }
     ensures not_found { IfErr result (λ e. e ≡ FsError.NotFound
         → (¬ (IsThere (table inodes (B.blocks blocks.old)) name.now)) × (blocks.new ≡ blocks.old)) }
     ensures full { IfErr result (λ e. e ≡ FsError.Full
@@ -125,6 +129,8 @@ pub fn truncate<B: Blocks>(
     requires rule { IsFileSystem inodes (B.blocks blocks.old) }
     ensures truncated { OnOk result (Rewrites inodes name.now
         (λ content. take size content ++ replicate (size - length content) 0) (B.blocks blocks.old) (B.blocks blocks.new)) }
+    ensures touches { OnOk result ((k : ℕ) (content : List ℕ) → IsFileAt (table inodes (B.blocks blocks.old)) k name.now content
+        → Touches (touched_by_truncation (length content) size) (B.blocks blocks.old) (B.blocks blocks.new)) }
     ensures not_found { IfErr result (λ e. e ≡ FsError.NotFound
         → (¬ (IsThere (table inodes (B.blocks blocks.old)) name.now)) × (blocks.new ≡ blocks.old)) }
     ensures full { IfErr result (λ e. e ≡ FsError.Full

@@ -1,8 +1,9 @@
 //! Files that grow.
 
-ghost use Rattle.std.specs.Prelude.{◌≡◌, ◌≢◌, ℕ, ◌+◌, ◌%◌, ◌<◌, ◌≤◌, length, replicate, true, false, IfOk, OnOk};
+ghost use Rattle.std.specs.Prelude.{◌≡◌, ◌≢◌, ℕ, ◌+◌, ◌%◌, ◌<◌, ◌≤◌, [], ◌∷◌, length, replicate, true, false, IfOk, OnOk};
 ghost use Rattle.model.specs.Volume.{number_at};
 ghost use Rattle.model.specs.Files.{HasRoom, IsFileSystem, IsFile, entry, size, is_marked_used, free_blocks};
+ghost use Rattle.fs_layout.specs.Touches.{Touches, TouchesData, touched_by_growth};
 ghost use Rattle.fs_inodes.specs.Growing.{PutsPointer, AddsBlock, taken_with, GrowsBy, HasRoomFor};
 
 use fs_layout::inodes::{
@@ -77,6 +78,7 @@ fn add_piece<B: Blocks>(
     requires enough { HasRoomFor (B.blocks blocks.old) (size (entry inodes (B.blocks blocks.old) at))
         (size (entry inodes (B.blocks blocks.old) at) + length piece.now) }
     ensures grown { OnOk result (GrowsBy inodes at piece.now (B.blocks blocks.old) (B.blocks blocks.new)) }
+    ensures touches { OnOk result ((block : ℕ) × TouchesData at (block ∷ []) (B.blocks blocks.old) (B.blocks blocks.new)) }
     ensures kept { B.applied blocks.new ≡ B.applied blocks.old }
 {
     let mut inode = [0; RECORD_SIZE];
@@ -112,6 +114,8 @@ pub fn extend<B: Blocks>(
     requires enough { HasRoomFor (B.blocks blocks.old) (size (entry inodes (B.blocks blocks.old) at))
         (size (entry inodes (B.blocks blocks.old) at) + length octets.now) }
     ensures grown { OnOk result (GrowsBy inodes at octets.now (B.blocks blocks.old) (B.blocks blocks.new)) }
+    ensures touches { OnOk result (Touches (touched_by_growth (size (entry inodes (B.blocks blocks.old) at)) (length octets.now))
+        (B.blocks blocks.old) (B.blocks blocks.new)) }
     ensures kept { B.applied blocks.new ≡ B.applied blocks.old }
 {
     let size = size_of(blocks, inodes, at) as usize;
@@ -138,6 +142,8 @@ pub fn extend_zeros<B: Blocks>(
     requires enough { HasRoomFor (B.blocks blocks.old) (size (entry inodes (B.blocks blocks.old) at))
         (size (entry inodes (B.blocks blocks.old) at) + count) }
     ensures grown { OnOk result (GrowsBy inodes at (replicate count 0) (B.blocks blocks.old) (B.blocks blocks.new)) }
+    ensures touches { OnOk result (Touches (touched_by_growth (size (entry inodes (B.blocks blocks.old) at)) count)
+        (B.blocks blocks.old) (B.blocks blocks.new)) }
     ensures kept { B.applied blocks.new ≡ B.applied blocks.old }
 {
     let zeros = [0; BLOCK_SIZE];

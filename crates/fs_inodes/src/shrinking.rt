@@ -1,8 +1,9 @@
 //! Files that lose octets, and files that go.
 
-ghost use Rattle.std.specs.Prelude.{◌≡◌, ◌+◌, ◌*◌, ◌/◌, ◌<◌, ◌≤◌, None, take, OnOk, slice_set};
+ghost use Rattle.std.specs.Prelude.{◌≡◌, ◌+◌, ◌*◌, ◌/◌, ◌<◌, ◌≤◌, [], ◌∷◌, None, take, OnOk, slice_set};
 ghost use Rattle.model.specs.Files.{HasRoom, IsFileSystem, IsFile, entry, size, block_count, content_of, table};
 ghost use Rattle.fs_layout.specs.Table.{Makes};
+ghost use Rattle.fs_layout.specs.Touches.{SameBut, TouchesInode, inode_block, slot_block};
 ghost use Rattle.fs_inodes.specs.Changes.{ReplacesContent, SameMarks, TakesNone};
 
 use fs_layout::inodes::{
@@ -30,6 +31,7 @@ pub fn shrink_to<B: Blocks>(
         (take end (content_of (B.blocks blocks.old) (entry inodes (B.blocks blocks.old) at)))
         (B.blocks blocks.old) (B.blocks blocks.new)) }
     ensures none_taken { OnOk result (TakesNone (B.blocks blocks.old) (B.blocks blocks.new)) }
+    ensures touches { OnOk result (TouchesInode at (B.blocks blocks.old) (B.blocks blocks.new)) }
     ensures kept { B.applied blocks.new ≡ B.applied blocks.old }
 {
     let mut inode = [0; RECORD_SIZE];
@@ -54,6 +56,7 @@ fn drop_block<B: Blocks>(blocks: &mut B, inodes: u32, at: u32, last: u32) -> Res
         (take (4096 * last) (content_of (B.blocks blocks.old) (entry inodes (B.blocks blocks.old) at)))
         (B.blocks blocks.old) (B.blocks blocks.new)) }
     ensures none_taken { OnOk result (TakesNone (B.blocks blocks.old) (B.blocks blocks.new)) }
+    ensures touches { OnOk result (TouchesInode at (B.blocks blocks.old) (B.blocks blocks.new)) }
     ensures kept { B.applied blocks.new ≡ B.applied blocks.old }
 {
     if last < DIRECT_POINTERS {
@@ -77,6 +80,7 @@ fn drop_direct<B: Blocks>(blocks: &mut B, inodes: u32, at: u32, last: u32) -> Re
         (take (4096 * last) (content_of (B.blocks blocks.old) (entry inodes (B.blocks blocks.old) at)))
         (B.blocks blocks.old) (B.blocks blocks.new)) }
     ensures none_taken { OnOk result (TakesNone (B.blocks blocks.old) (B.blocks blocks.new)) }
+    ensures touches { OnOk result (TouchesInode at (B.blocks blocks.old) (B.blocks blocks.new)) }
     ensures kept { B.applied blocks.new ≡ B.applied blocks.old }
 {
     let mut inode = [0; RECORD_SIZE];
@@ -99,6 +103,7 @@ fn drop_first_indirect<B: Blocks>(blocks: &mut B, inodes: u32, at: u32) -> Resul
         (take 40960 (content_of (B.blocks blocks.old) (entry inodes (B.blocks blocks.old) at)))
         (B.blocks blocks.old) (B.blocks blocks.new)) }
     ensures none_taken { OnOk result (TakesNone (B.blocks blocks.old) (B.blocks blocks.new)) }
+    ensures touches { OnOk result (TouchesInode at (B.blocks blocks.old) (B.blocks blocks.new)) }
     ensures kept { B.applied blocks.new ≡ B.applied blocks.old }
 {
     let mut inode = [0; RECORD_SIZE];
@@ -132,6 +137,7 @@ fn drop_indirect<B: Blocks>(
         (take (4096 * last) (content_of (B.blocks blocks.old) (entry inodes (B.blocks blocks.old) at)))
         (B.blocks blocks.old) (B.blocks blocks.new)) }
     ensures none_taken { OnOk result (TakesNone (B.blocks blocks.old) (B.blocks blocks.new)) }
+    ensures touches { OnOk result (TouchesInode at (B.blocks blocks.old) (B.blocks blocks.new)) }
     ensures kept { B.applied blocks.new ≡ B.applied blocks.old }
 {
     let mut inode = [0; RECORD_SIZE];
@@ -159,6 +165,7 @@ fn cut<B: Blocks>(blocks: &mut B, inodes: u32, at: u32, end: u64) -> Result<(), 
         (take end (content_of (B.blocks blocks.old) (entry inodes (B.blocks blocks.old) at)))
         (B.blocks blocks.old) (B.blocks blocks.new)) }
     ensures marks { OnOk result (SameMarks (B.blocks blocks.old) (B.blocks blocks.new)) }
+    ensures touches { OnOk result (TouchesInode at (B.blocks blocks.old) (B.blocks blocks.new)) }
     ensures kept { B.applied blocks.new ≡ B.applied blocks.old }
 {
     let mut inode = [0; RECORD_SIZE];
@@ -175,6 +182,7 @@ pub fn remove_empty<B: Blocks>(blocks: &mut B, inodes: u32, at: u32) -> Result<(
     requires file { IsFile (entry inodes (B.blocks blocks.old) at) }
     requires empty { size (entry inodes (B.blocks blocks.old) at) ≡ 0 }
     ensures done { OnOk result (Makes inodes (slice_set (table inodes (B.blocks blocks.old)) at None) (B.blocks blocks.new)) }
+    ensures touches { OnOk result (SameBut (inode_block at ∷ slot_block inodes at ∷ []) (B.blocks blocks.old) (B.blocks blocks.new)) }
     ensures kept { B.applied blocks.new ≡ B.applied blocks.old }
 {
     let zeros = [0; RECORD_SIZE];

@@ -1,8 +1,9 @@
 //! Octets over those of a file.
 
-ghost use Rattle.std.specs.Prelude.{◌≡◌, ◌+◌, ◌%◌, ◌<◌, ◌≤◌, length, OnOk};
+ghost use Rattle.std.specs.Prelude.{◌≡◌, ℕ, ◌+◌, ◌%◌, ◌<◌, ◌≤◌, [], ◌∷◌, length, OnOk};
 ghost use Rattle.disk.specs.Image.{overwritten};
 ghost use Rattle.model.specs.Files.{HasRoom, IsFileSystem, IsFile, entry, size, content_of};
+ghost use Rattle.fs_layout.specs.Touches.{SameBut, Touches, blocks_reached};
 ghost use Rattle.fs_inodes.specs.Changes.{ReplacesContent, SameMarks};
 
 use fs_layout::inodes::{INODES_AT, pointer_at};
@@ -27,6 +28,7 @@ pub fn overwrite<B: Blocks>(
         (overwritten place octets.now (content_of (B.blocks blocks.old) (entry inodes (B.blocks blocks.old) at)))
         (B.blocks blocks.old) (B.blocks blocks.new)) }
     ensures marks { OnOk result (SameMarks (B.blocks blocks.old) (B.blocks blocks.new)) }
+    ensures touches { OnOk result (Touches (blocks_reached place (length octets.now)) (B.blocks blocks.old) (B.blocks blocks.new)) }
     ensures kept { B.applied blocks.new ≡ B.applied blocks.old }
 {
     let mut done = 0;
@@ -59,6 +61,7 @@ fn overwrite_part<B: Blocks>(
         (overwritten place octets.now (content_of (B.blocks blocks.old) (entry inodes (B.blocks blocks.old) at)))
         (B.blocks blocks.old) (B.blocks blocks.new)) }
     ensures marks { OnOk result (SameMarks (B.blocks blocks.old) (B.blocks blocks.new)) }
+    ensures touches { OnOk result ((block : ℕ) × SameBut (block ∷ []) (B.blocks blocks.old) (B.blocks blocks.new)) }
     ensures kept { B.applied blocks.new ≡ B.applied blocks.old }
 {
     let mut inode = [0; RECORD_SIZE];

@@ -6,3 +6,4 @@ pub mod OctetBits
 pub mod Parts
 pub mod Puts
 pub mod Tables
+pub mod Touching

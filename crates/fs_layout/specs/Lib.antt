@@ -2,3 +2,4 @@ pub mod Bits
 pub mod Blocks
 pub mod Marks
 pub mod Table
+pub mod Touches

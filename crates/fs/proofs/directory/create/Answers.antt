@@ -3,6 +3,7 @@ use Rattle.model.specs.Files.{entry, content_of}
 use Rattle.fs_layout.specs.Blocks.{PutsRecord}
 use Rattle.fs_layout.proofs.Tables.{no_slot, there_from_slot}
 use Rattle.fs.proofs.Creating.{no_free_inode, creates}
+use Rattle.fs_layout.proofs.Touching.{slot_then_inode}
 use Rattle.fs.proofs.directory.create.Goals as goal
 
 pub returns-in-Some-clause-exists : goal.returns-in-Some-clause-exists
@@ -31,3 +32,8 @@ returns-clause-created g c =
     c.requires.room c.requires.name c.requires.rule (λ k low same. c.in_default.ensures k low (same ∙ sym c.slot_for-slot.ensures)) c.in-Some-find.ensures
     (subst (λ (s : List ℕ). PutsRecord (2 + c.args.inodes / 64) at s blocks (g.B.Blocks.blocks c.put_record.new.blocks)) c.slot_for-slot.ensures c.in_ok-put_record.ensures.done)
     c.in_ok-put_record-2.ensures.done
+
+pub returns-clause-touches : goal.returns-clause-touches
+returns-clause-touches g c =
+    slot_then_inode c.args.inodes c.in-Some-find.at _ c.slot_for-slot.result (g.B.Blocks.blocks c.args.blocks.now) (g.B.Blocks.blocks c.put_record.new.blocks) (g.B.Blocks.blocks c.put_record-2.new.blocks)
+    c.in_ok-put_record.ensures.done c.in_ok-put_record-2.ensures.done

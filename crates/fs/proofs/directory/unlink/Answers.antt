@@ -6,6 +6,7 @@ use Rattle.fs.specs.Calls.{Unlinks}
 use Rattle.fs_inodes.specs.Changes.{ReplacesContent}
 use Rattle.fs_layout.proofs.Tables.{no_slot, there_from_slot, file_from_slot}
 use Rattle.fs_inodes.proofs.Replacing.{named_now, size_now}
+use Rattle.fs_layout.proofs.Touching.{inode_and_slot}
 use Rattle.fs.proofs.directory.unlink.Goals as goal
 
 module _ (inodes at : ℕ) (name : List ℕ) (old mid : List (List ℕ)) (low : at < inodes) (r : ReplacesContent inodes at (take 0 (content_of old (entry inodes old at))) old mid) where
@@ -44,3 +45,8 @@ returns-clause-unlinked g c =
     gone c.args.inodes c.in-Some.at c.args.name.now old (g.B.Blocks.blocks c.shrink_to.new.blocks) found.below c.in_ok-shrink_to.ensures.done (g.B.Blocks.blocks c.remove_empty.new.blocks)
     (there_from_slot c.args.inodes old c.requires.rule c.in-Some.at c.args.name.now found.below c.requires.name.0 (found.is ∙ c.slot_for.ensures))
     c.in_ok-remove_empty.ensures.done
+
+pub returns-clause-touches : goal.returns-clause-touches
+returns-clause-touches g c =
+    inode_and_slot c.args.inodes c.in-Some.at (g.B.Blocks.blocks c.args.blocks.now) (g.B.Blocks.blocks c.shrink_to.new.blocks) (g.B.Blocks.blocks c.remove_empty.new.blocks)
+    c.in_ok-shrink_to.ensures.touches c.in_ok-remove_empty.ensures.touches

@@ -1,8 +1,9 @@
-use Rattle.std.proofs.Common.{◌≡◌, ℕ, ◌+◌, length, refl, sym, ◌∙◌, subst}
+use Rattle.std.proofs.Common.{◌≡◌, ℕ, ◌+◌, length, refl, sym, ◌∙◌, subst, List, ap}
 use Rattle.model.specs.Files.{entry, content_of}
 use Rattle.fs_inodes.specs.Growing.{HasNoRoomFor}
 use Rattle.fs_layout.proofs.Entries.{length-content}
-use Rattle.fs_layout.proofs.Tables.{no_slot, there_from_slot, file_from_slot}
+use Rattle.fs_layout.proofs.Tables.{no_slot, there_from_slot, file_from_slot, there_once}
+use Rattle.fs_layout.specs.Touches.{Touches, touched_by_growth}
 use Rattle.fs.proofs.octets.append.Goals as goal
 
 pub extend-requires-clause-file : goal.extend-requires-clause-file
@@ -42,3 +43,15 @@ returns-clause-appended g c =
       there_from_slot c.args.inodes blocks c.requires.rule at c.args.name.now found.below c.requires.name.0 (found.is ∙ c.slot_for.ensures),
       c.in_ok-extend.ensures.grown,
     )
+
+pub returns-clause-touches : goal.returns-clause-touches
+returns-clause-touches g c k content there =
+    let old = g.B.Blocks.blocks c.args.blocks.now in
+    let new = g.B.Blocks.blocks c.extend.new.blocks in
+    let found = c.in-Some.ensures in
+    let at = c.in-Some.at in
+    let same : content_of old (entry c.args.inodes old at) ≡ content =
+    there_once c.args.inodes old c.requires.rule at k c.args.name.now (content_of old (entry c.args.inodes old at)) content
+    (there_from_slot c.args.inodes old c.requires.rule at c.args.name.now found.below c.requires.name.0 (found.is ∙ c.slot_for.ensures)) there in
+    let long = length-content old (entry c.args.inodes old at) c.requires.room.blocks_whole (λ b owns. (c.requires.rule.within at b found.below owns).1) in
+    subst (λ (n : ℕ). Touches (touched_by_growth n (length c.args.octets.now)) old new) (sym long ∙ ap (λ (o : List ℕ). length o) same) c.in_ok-extend.ensures.touches

@@ -1,6 +1,6 @@
-use Rattle.std.proofs.Common.{◌≡◌, ◌<◌, ◌≤◌, ℕ, ◌-◌, ◌++◌, List, length, take, replicate, refl, sym, ◌∙◌, ap, subst, arith}
+use Rattle.std.proofs.Common.{◌≡◌, ◌<◌, ◌≤◌, ℕ, ◌-◌, ◌++◌, List, length, take, replicate, refl, sym, ◌∙◌, ap, subst, arith, Bool, cond}
 use Rattle.std.proofs.lemmas.List.{append-nil, take_all}
-use Rattle.std.proofs.lemmas.Bool.{OnFalse_at}
+use Rattle.std.proofs.lemmas.Bool.{OnFalse_at, lt-ltb, le-ltb}
 use Rattle.model.specs.Files.{HasRoom, IsFileSystem, entry, size, content_of, table}
 use Rattle.fs_layout.specs.Table.{IsFileAt}
 use Rattle.fs_inodes.specs.Growing.{HasNoRoomFor}
@@ -9,7 +9,9 @@ use Rattle.fs_inodes.specs.Growing.{GrowsBy}
 use Rattle.fs.proofs.Composing.{grown, lowest_none}
 use Rattle.fs_layout.proofs.Entries.{length-content}
 use Rattle.fs_inodes.proofs.Replacing.{replaces_same}
-use Rattle.fs_layout.proofs.Tables.{no_slot, there_from_slot}
+use Rattle.fs_layout.proofs.Tables.{no_slot, there_from_slot, there_once}
+use Rattle.fs_layout.specs.Touches.{Touches, touched_by_growth, touched_by_truncation}
+use Rattle.fs_layout.proofs.Touching.{inode_touches}
 use Rattle.fs.proofs.octets.truncate.Goals as goal
 
 module _ (inodes at end was : ℕ) (name : List ℕ) (old new : List (List ℕ)) (room : HasRoom inodes old) (fs : IsFileSystem inodes old) (low : at < inodes) (there : IsFileAt (table inodes old) at name (content_of old (entry inodes old at))) (read : was ≡ size (entry inodes old at)) where
@@ -66,3 +68,31 @@ returns-clause-truncated g c =
     longer c.args.inodes c.in-Some.at c.args.size c.size_of-was.result c.args.name.now old (g.B.Blocks.blocks c.extend_zeros.new.blocks) c.requires.room c.requires.rule found.below
     (there_from_slot c.args.inodes old c.requires.rule c.in-Some.at c.args.name.now found.below c.requires.name.0 (found.is ∙ c.slot_for.ensures))
     c.size_of-was.ensures (omega arith) c.in_ok-extend_zeros.ensures.grown
+
+-- the length of the content that a name has
+named : (inodes at was k : ℕ) (name other : List ℕ) (old : List (List ℕ)) → HasRoom inodes old → IsFileSystem inodes old → at < inodes → IsFileAt (table inodes old) at name (content_of old (entry inodes old at)) → was ≡ size (entry inodes old at) → IsFileAt (table inodes old) k name other → was ≡ length other
+named inodes at was k name other old room fs low there read is =
+    long inodes at 0 was name old old room fs low there read
+    ∙ ap (λ (o : List ℕ). length o) (there_once inodes old fs at k name (content_of old (entry inodes old at)) other there is)
+
+pub returns-then-size-was-clause-touches : goal.returns-then-size-was-clause-touches
+returns-then-size-was-clause-touches g c k content is =
+    let old = g.B.Blocks.blocks c.args.blocks.now in
+    let new = g.B.Blocks.blocks c.shrink_to.new.blocks in
+    let found = c.in-Some.ensures in
+    let there = there_from_slot c.args.inodes old c.requires.rule c.in-Some.at c.args.name.now found.below c.requires.name.0 (found.is ∙ c.slot_for.ensures) in
+    let was = named c.args.inodes c.in-Some.at c.size_of-was.result k c.args.name.now content old c.requires.room c.requires.rule found.below there c.size_of-was.ensures is in
+    let few : touched_by_truncation (length content) c.args.size ≡ 2 = ap (λ (b : Bool). cond b (touched_by_growth (length content) (c.args.size - length content)) 2) (le-ltb (length content) c.args.size (omega (arith, was))) in
+    subst (λ (n : ℕ). Touches n old new) (sym few) (inode_touches c.in-Some.at old new c.in_ok-shrink_to.ensures.touches)
+
+pub returns-clause-touches : goal.returns-clause-touches
+returns-clause-touches g c k content is =
+    let old = g.B.Blocks.blocks c.args.blocks.now in
+    let new = g.B.Blocks.blocks c.extend_zeros.new.blocks in
+    let found = c.in-Some.ensures in
+    let there = there_from_slot c.args.inodes old c.requires.rule c.in-Some.at c.args.name.now found.below c.requires.name.0 (found.is ∙ c.slot_for.ensures) in
+    let was = named c.args.inodes c.in-Some.at c.size_of-was.result k c.args.name.now content old c.requires.room c.requires.rule found.below there c.size_of-was.ensures is in
+    let more : touched_by_truncation (length content) c.args.size ≡ touched_by_growth (length content) (c.args.size - length content) = ap (λ (b : Bool). cond b (touched_by_growth (length content) (c.args.size - length content)) 2) (lt-ltb (length content) c.args.size (omega (arith, was))) in
+    subst (λ (n : ℕ). Touches n old new) (sym more)
+    (subst (λ (n : ℕ). Touches (touched_by_growth n (c.args.size - n)) old new) was
+    (subst (λ (n : ℕ). Touches (touched_by_growth n (c.args.size - c.size_of-was.result)) old new) (sym c.size_of-was.ensures) c.in_ok-extend_zeros.ensures.touches))

@@ -1,12 +1,18 @@
-use Rattle.std.proofs.Common.{◌≡◌, ◌<◌, ◌≤◌, ℕ, ◌+◌, ◌-◌, List, length, refl, sym, ◌∙◌, subst, arith}
+use Rattle.std.proofs.Common.{◌≡◌, ◌<◌, ◌≤◌, ℕ, ◌+◌, ◌-◌, List, length, refl, sym, ◌∙◌, subst, arith, take, drop, length-drop}
 use Rattle.std.proofs.lemmas.List.{length-take-le}
 use Rattle.std.proofs.lemmas.Bool.{OnFalse_at, OnTrue_at}
 use Rattle.model.specs.Files.{HasRoom, IsFileSystem, entry, size, content_of, table}
+use Rattle.disk.specs.Image.{overwritten}
+use Rattle.disk.proofs.Images.{length-overwritten}
 use Rattle.fs_layout.specs.Table.{IsFileAt}
+use Rattle.fs_inodes.specs.Changes.{ReplacesContent}
+use Rattle.fs_inodes.proofs.Replacing.{size_now}
 use Rattle.fs_inodes.specs.Growing.{HasNoRoomFor}
 use Rattle.fs.proofs.Composing.{lowest_after, lowest_same, still_file, still_room, written_past}
 use Rattle.fs_layout.proofs.Entries.{length-content}
 use Rattle.fs_layout.proofs.Tables.{no_slot, there_from_slot, file_from_slot}
+use Rattle.fs_layout.specs.Touches.{Touches, blocks_reached, touched_by_growth}
+use Rattle.fs_layout.proofs.Touching.{touches_then, touches_more}
 use Rattle.fs.proofs.octets.write_at.Goals as goal
 
 module _ (inodes at place : ℕ) (name : List ℕ) (old : List (List ℕ)) (room : HasRoom inodes old) (fs : IsFileSystem inodes old) (low : at < inodes) where
@@ -15,6 +21,15 @@ module _ (inodes at place : ℕ) (name : List ℕ) (old : List (List ℕ)) (room
 
   inside : IsFileAt (table inodes old) at name (content_of old (entry inodes old at)) → ((k : ℕ) (content : List ℕ) → IsFileAt (table inodes old) k name content → place ≤ length content) → place ≤ size (entry inodes old at)
   inside there all = omega (arith, all at (content_of old (entry inodes old at)) there, long)
+
+  same_size : (front : List ℕ) (mid : List (List ℕ)) → place + length front ≤ size (entry inodes old at) → ReplacesContent inodes at (overwritten place front (content_of old (entry inodes old at))) old mid → size (entry inodes mid at) ≡ size (entry inodes old at)
+  same_size front mid fits done =
+      size_now inodes at (overwritten place front (content_of old (entry inodes old at))) old mid low done
+      ∙ length-overwritten place front (content_of old (entry inodes old at)) (omega (arith, fits, long)) ∙ long
+
+-- octets in two pieces
+split_reach : (place within count : ℕ) → within ≤ count → blocks_reached place within + touched_by_growth (place + within) (count - within) ≤ 3 + blocks_reached place count
+split_reach place within count less = omega (arith, less)
 
 pub returns-in_default-clause-not_found : goal.returns-in_default-clause-not_found
 returns-in_default-clause-not_found g c =
@@ -112,3 +127,33 @@ returns-clause-written g c =
           c.in_ok-overwrite-2.ensures.done c.in_ok-overwrite-2.ensures.marks new grows,
       lowest_after old mid new grows.makes.room.count_few c.in_ok-overwrite-2.ensures.marks grows.lowest,
     )
+
+pub returns-then-end-size-clause-touches : goal.returns-then-end-size-clause-touches
+returns-then-end-size-clause-touches g c =
+    let reached = blocks_reached c.args.place (length c.args.octets.now) in
+    touches_more reached (3 + reached) (g.B.Blocks.blocks c.args.blocks.now) (g.B.Blocks.blocks c.overwrite.new.blocks) (omega arith) c.in_ok-overwrite.ensures.touches
+
+pub returns-clause-touches : goal.returns-clause-touches
+returns-clause-touches g c =
+    let old = g.B.Blocks.blocks c.args.blocks.now in
+    let mid = g.B.Blocks.blocks c.overwrite-2.new.blocks in
+    let new = g.B.Blocks.blocks c.extend.new.blocks in
+    let at = c.in-Some.at in
+    let place = c.args.place in
+    let octets = c.args.octets.now in
+    let within = c.size_of-size.result - place in
+    let found = c.in-Some.ensures in
+    let there = there_from_slot c.args.inodes old c.requires.rule at c.args.name.now found.below c.requires.name.0 (found.is ∙ c.slot_for.ensures) in
+    let low = inside c.args.inodes at place c.args.name.now old c.requires.room c.requires.rule found.below there c.requires.place in
+    let is = c.size_of-size.ensures in
+    let front : length (take within octets) ≡ within = length-take-le within octets (omega arith) in
+    let rest : length (take (length octets - within) (drop within octets)) ≡ length octets - within = length-take-le (length octets - within) (drop within octets) (omega (arith, length-drop within octets)) in
+    let sized : size (entry c.args.inodes mid at) ≡ place + within =
+    same_size c.args.inodes at place c.args.name.now old c.requires.room c.requires.rule found.below (take within octets) mid (omega (arith, low, is, front)) c.in_ok-overwrite-2.ensures.done ∙ (omega (arith, low, is)) in
+    let first : Touches (blocks_reached place within) old mid = subst (λ (n : ℕ). Touches (blocks_reached place n) old mid) front c.in_ok-overwrite-2.ensures.touches in
+    let second : Touches (touched_by_growth (place + within) (length octets - within)) mid new =
+    subst (λ (n : ℕ). Touches (touched_by_growth n (length octets - within)) mid new) sized
+    (subst (λ (n : ℕ). Touches (touched_by_growth (size (entry c.args.inodes mid at)) n) mid new) rest c.in_ok-extend.ensures.touches) in
+    touches_more (blocks_reached place within + touched_by_growth (place + within) (length octets - within)) (3 + blocks_reached place (length octets)) old new
+    (split_reach place within (length octets) (omega arith))
+    (touches_then (blocks_reached place within) (touched_by_growth (place + within) (length octets - within)) old mid new first second)

@@ -1,4 +1,5 @@
-use Rattle.std.proofs.Common.{◌≡◌, ◌≢◌, ℕ, ◌+◌, ◌*◌, ◌/◌, ◌%◌, ◌<◌, ◌≤◌, List, [], length, get_or, take, set, sym, ◌∙◌, ap, subst, arith}
+use Rattle.std.proofs.Common.{◌≡◌, ◌≢◌, ℕ, ◌+◌, ◌*◌, ◌/◌, ◌%◌, ◌<◌, ◌≤◌, List, [], length, get_or, take, set, sym, ◌∙◌, ap, subst, arith, ◌⊎◌, inl, inr}
+use Rattle.std.proofs.lemmas.Bool.{cases_eq}
 use Rattle.std.proofs.lemmas.List.{length-replicate}
 use Rattle.std.proofs.lemmas.List.Elements.{Contains-push}
 use Rattle.std.proofs.lemmas.Result.{on_ok_weaker}
@@ -11,6 +12,8 @@ use Rattle.fs_inodes.specs.Growing.{inode_entry, AddsBlock}
 use Rattle.fs_layout.proofs.Entries.{owns_pointer, owns_indirect}
 use Rattle.fs_inodes.proofs.Extends.{extends_last, extends_new}
 use Rattle.fs_inodes.proofs.Grows.{Extends, grows}
+use Rattle.fs_layout.specs.Touches.{TouchesData, indirect_block}
+use Rattle.fs_layout.proofs.Touching.{piece_touches, sized_indirect}
 use Rattle.fs_inodes.proofs.growing.add_piece.Goals as goal
 use Rattle.fs_inodes.proofs.growing.add_piece.Goals.{then-within-eq0+in_ok-number, else-within-eq0}
 
@@ -115,4 +118,45 @@ returns-clause-grown g c =
     (λ done. grows c.args.inodes at n r number piece block inode old mid new c.requires.room c.requires.rule c.requires.below c.requires.file parts inside c.requires.some c.requires.enough.0 ready.0 ready.1 ready.2
     (subst (λ (o : List ℕ). PutsRecord 2 at o (set mid number (overwritten r piece block)) new) octets_are
     (subst (λ (bs : List (List ℕ)). PutsRecord 2 at c.put64.new.octets bs new) blocks_are done)))
+    c.put_record.ensures.done
+
+pub returns-clause-touches : goal.returns-clause-touches
+returns-clause-touches g c =
+    let old = g.B.Blocks.blocks c.args.blocks.now in
+    let mid = g.B.Blocks.blocks c.if-within-eq0.blocks in
+    let later = g.B.Blocks.blocks c.put.new.self in
+    let new = g.B.Blocks.blocks c.put_record.new.blocks in
+    let at = c.args.at in
+    let e : Entry = entry c.args.inodes old at in
+    let n = c.number64-size.result / 4096 in
+    let inode = c.if-within-eq0.inode in
+    let number = c.if-within-eq0.number in
+    let sized : c.number64-size.result ≡ size e = c.number64-size.ensures ∙ ap (λ (o : List ℕ). number_at 4 8 o) c.get_record.ensures in
+    let ready : ((b : ℕ) → 2 ≤ b → b ≢ number_at 52 4 inode → get_or mid b [] ≡ get_or old b []) × ((indirect_block old at ≡ 0) ⊎ (number_at 52 4 inode ≡ indirect_block old at)) = (elim c.if-within-eq0.branch [
+      | then-within-eq0+in_ok-number w ↦
+          let none : c.number64-size.result % 4096 ≡ 0 = w.if-within-eq0.true in
+          let blocks_are = ap (λ (b : g.row.B.Denot). g.B.Blocks.blocks b) w.blocks-is in
+          let adds : AddsBlock n number (inode_of old at) inode old mid =
+          subst (λ (bs : List (List ℕ)). AddsBlock n number (inode_of old at) inode old bs) (sym blocks_are)
+          (subst (λ (o : List ℕ). AddsBlock n number (inode_of old at) o old (g.B.Blocks.blocks w.add_block.new.blocks)) (sym w.inode-is)
+          (subst (λ (m : ℕ). AddsBlock n m (inode_of old at) w.add_block.new.inode old (g.B.Blocks.blocks w.add_block.new.blocks)) (sym w.number-is)
+          (subst (λ (o : List ℕ). AddsBlock n w.in_ok-number.number o w.add_block.new.inode old (g.B.Blocks.blocks w.add_block.new.blocks)) c.get_record.ensures w.in_ok-number.ensures.done))) in
+          (adds.blocks, elim adds.indirect_is [
+            | inl stays ↦ inr stays.2
+            | inr comes ↦ inl (elim (cases_eq (indirect_pointer e) 0) [
+              | inl is ↦ is
+              | inr has ↦ absurd (omega (arith, c.requires.file.indirect_where.1 has, comes.0, sized, none))
+            ])
+          ])
+      | else-within-eq0 w ↦
+          let blocks_are : mid ≡ old = ap (λ (b : g.row.B.Denot). g.B.Blocks.blocks b) w.blocks-is in
+          ((λ b some other. ap (λ (bs : List (List ℕ)). get_or bs b []) blocks_are), inr (ap (λ (o : List ℕ). number_at 52 4 o) (w.inode-is ∙ c.get_record.ensures)))
+    ]) in
+    let long : length inode ≡ 64 = omega arith in
+    on_ok_weaker c.put_record.result
+    (λ done. (
+      number,
+      piece_touches at number c.put_part.new.block inode c.put64.new.octets old mid later new
+          (sized_indirect (c.number64-size.result + length c.args.piece.now) inode c.put64.new.octets long c.put64.ensures) c.in_ok-put.ensures.put ready.0 ready.1 done,
+    ))
     c.put_record.ensures.done

@@ -2,6 +2,8 @@ use Rattle.std.proofs.Common.{◌≡◌, ℕ, ◌+◌, ◌-◌, ◌≤◌, List,
 use Rattle.std.proofs.Math.Seq.{take-add}
 use Rattle.fs_inodes.specs.Growing.{GrowsBy}
 use Rattle.fs_inodes.proofs.Grown.{grows_none, grows_then, file_now, size_now, room_now}
+use Rattle.fs_layout.specs.Touches.{Touches, touched_by_growth}
+use Rattle.fs_layout.proofs.Touching.{spread_none, spread_more, spread_all}
 use Rattle.fs_inodes.proofs.growing.extend.Goals as goal
 
 -- a piece of the octets
@@ -21,6 +23,7 @@ loop-from-init g c = record {
     within = omega arith;
     grown = grows_none c.args.inodes c.args.at (g.B.Blocks.blocks c.args.blocks.now) c.requires.room c.requires.rule c.requires.below c.requires.file;
   };
+  spread = spread_none c.args.at c.size_of-size.result (length c.args.octets.now) (g.B.Blocks.blocks c.args.blocks.now);
   kept = refl;
 }
 
@@ -63,5 +66,15 @@ loop-from-preserved g c =
             subst (λ (l : List ℕ). GrowsBy c.args.inodes c.args.at l old new) (piece_more from some octets)
             (grows_then c.args.inodes c.args.at (take from octets) (take (from + some - from) (drop from octets)) old (g.B.Blocks.blocks c.loop-from.blocks) new c.loop-from.invariant.here.grown c.in_ok-add_piece.ensures.grown c.requires.room.count_few);
       };
+      spread =
+          spread_more c.args.at c.size_of-size.result from some (length c.args.octets.now) old (g.B.Blocks.blocks c.loop-from.blocks) new c.loop-from.invariant.spread c.in_ok-add_piece.ensures.touches
+          (omega arith) (omega arith) (λ more. omega (arith, more)) (omega (arith, c.loop-from.invariant.here.within));
       kept = c.in_ok-add_piece.ensures.kept ∙ c.loop-from.invariant.kept;
     }
+
+pub returns-clause-touches : goal.returns-clause-touches
+returns-clause-touches g c =
+    let old = g.B.Blocks.blocks c.args.blocks.now in
+    let new = g.B.Blocks.blocks c.loop-from.blocks in
+    subst (λ (n : ℕ). Touches (touched_by_growth n (length c.args.octets.now)) old new) c.size_of-size.ensures
+    (spread_all c.args.at c.size_of-size.result c.loop-from.from (length c.args.octets.now) old new c.loop-from.invariant.spread c.loop-from.invariant.here.within)

@@ -1,5 +1,6 @@
 use Rattle.std.proofs.Common.{◌≡◌, ◌-◌, ◌≤◌, ℕ, length, take, List}
 use Rattle.fs_inodes.specs.Growing.{GrowsBy}
+use Rattle.fs_layout.proofs.Touching.{Spread}
 use Rattle.fs_inodes.proofs.growing.extend.Given as goal
 
 pub record Grown (inodes k from : ℕ) (octets : List ℕ) (old new : List (List ℕ)) : Type 0 where
@@ -10,6 +11,7 @@ abbrev pub invariant-loop-from : goal.invariant-loop-from
 invariant-loop-from g l =
     record {
       here : Grown l.inodes l.at l.from l.octets (g.B.Blocks.blocks l.fn.blocks) (g.B.Blocks.blocks l.blocks);
+      spread : Spread l.at l.size l.from (length l.octets) (g.B.Blocks.blocks l.fn.blocks) (g.B.Blocks.blocks l.blocks);
       kept : g.B.Blocks.applied l.blocks ≡ g.B.Blocks.applied l.fn.blocks;
     }
 

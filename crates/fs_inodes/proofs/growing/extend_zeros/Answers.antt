@@ -3,6 +3,8 @@ use Rattle.std.proofs.lemmas.List.{length-replicate, take-replicate, replicate-a
 use Rattle.model.specs.Files.{entry, size}
 use Rattle.fs_inodes.specs.Growing.{GrowsBy, HasRoomFor}
 use Rattle.fs_inodes.proofs.Grown.{grows_none, grows_then, file_now, size_now, room_now}
+use Rattle.fs_layout.specs.Touches.{Touches, touched_by_growth}
+use Rattle.fs_layout.proofs.Touching.{spread_none, spread_more, spread_all}
 use Rattle.fs_inodes.proofs.growing.extend_zeros.Goals as goal
 
 -- a front of a block of zeros
@@ -15,6 +17,7 @@ loop-from-init g c = record {
     within = omega arith;
     grown = grows_none c.args.inodes c.args.at (g.B.Blocks.blocks c.args.blocks.now) c.requires.room c.requires.rule c.requires.below c.requires.file;
   };
+  spread = spread_none c.args.at c.size_of-size.result (c.args.count) (g.B.Blocks.blocks c.args.blocks.now);
   kept = refl;
 }
 
@@ -61,5 +64,15 @@ loop-from-preserved g c =
             (grows_then c.args.inodes c.args.at (replicate from 0) (replicate some 0) old mid new c.loop-from.invariant.here.grown
             (subst (λ (l : List ℕ). GrowsBy c.args.inodes c.args.at l mid new) (front_is some (omega arith)) grown) c.requires.room.count_few);
       };
+      spread =
+          spread_more c.args.at c.size_of-size.result from some (c.args.count) old (g.B.Blocks.blocks c.loop-from.blocks) new c.loop-from.invariant.spread c.in_ok-add_piece.ensures.touches
+          (omega arith) (omega arith) (λ more. omega (arith, more)) (omega (arith, c.loop-from.invariant.here.within));
       kept = c.in_ok-add_piece.ensures.kept ∙ c.loop-from.invariant.kept;
     }
+
+pub returns-clause-touches : goal.returns-clause-touches
+returns-clause-touches g c =
+    let old = g.B.Blocks.blocks c.args.blocks.now in
+    let new = g.B.Blocks.blocks c.loop-from.blocks in
+    subst (λ (n : ℕ). Touches (touched_by_growth n (c.args.count)) old new) c.size_of-size.ensures
+    (spread_all c.args.at c.size_of-size.result c.loop-from.from (c.args.count) old new c.loop-from.invariant.spread c.loop-from.invariant.here.within)

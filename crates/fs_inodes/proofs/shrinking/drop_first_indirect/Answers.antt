@@ -1,4 +1,4 @@
-use Rattle.std.proofs.Common.{◌≡◌, ◌≢◌, ℕ, ◌+◌, ◌<◌, ◌≤◌, List, [], length, take, sym, ◌∙◌, ap, subst, arith, refl}
+use Rattle.std.proofs.Common.{◌≡◌, ◌≢◌, ℕ, ◌+◌, ◌<◌, ◌≤◌, List, [], length, take, sym, ◌∙◌, ap, subst, arith, refl, inl, inr, ◌*◌, get_or, ◌⊎◌}
 use Rattle.byteorder.specs.Endian.{little_bytes}
 use Rattle.disk.specs.Image.{overwritten}
 use Rattle.model.specs.Volume.{number_at}
@@ -9,6 +9,8 @@ use Rattle.fs_inodes.proofs.Dropped.{last_inside, first_drops}
 use Rattle.fs_inodes.proofs.DroppingLow.{fewer}
 use Rattle.fs_layout.proofs.Entries.{owns_indirect}
 use Rattle.fs_layout.proofs.Puts.{on_ok}
+use Rattle.fs_layout.specs.Touches.{TouchesInode, indirect_block}
+use Rattle.fs_layout.proofs.Touching.{inode_record, no_indirect}
 use Rattle.fs_inodes.proofs.shrinking.drop_first_indirect.Goals as goal
 
 eleven : (e : Entry) → block_count e ≡ 11 → 10 + 1 ≡ block_count e
@@ -71,4 +73,18 @@ returns-clause-none_taken g c =
     (c.number32.ensures ∙ ap (λ (o : List ℕ). number_at 52 4 o) c.get_record.ensures)
     c.in_ok-unmark.ensures.done c.in_ok-unmark-2.ensures.done
     (inode_is c.get_record.new.into (inode_of old c.args.at) c.put32.new.octets c.put64.new.octets c.get_record.ensures c.put32.ensures c.put64.ensures) put).1)
+    c.put_record.ensures.done
+
+pub returns-clause-touches : goal.returns-clause-touches
+returns-clause-touches g c =
+    let old = g.B.Blocks.blocks c.args.blocks.now in
+    let mid = g.B.Blocks.blocks c.unmark-2.new.blocks in
+    let new = g.B.Blocks.blocks c.put_record.new.blocks in
+    let inode = c.get_record.new.into in
+    let long : length inode ≡ 64 = omega arith in
+    let read : number_at 52 4 inode ≡ indirect_block old c.args.at = ap (λ (o : List ℕ). number_at 52 4 o) c.get_record.ensures in
+    let same : (b : ℕ) → 2 ≤ b → b ≢ indirect_block old c.args.at → get_or mid b [] ≡ get_or old b [] = λ b some other. c.in_ok-unmark-2.ensures.done.blocks b some ∙ c.in_ok-unmark.ensures.done.blocks b some in
+    let is : (number_at 52 4 c.put64.new.octets ≡ indirect_block old c.args.at) ⊎ (number_at 52 4 c.put64.new.octets ≡ 0) = inr (no_indirect 40960 inode c.put32.new.octets c.put64.new.octets long c.put32.ensures c.put64.ensures) in
+    on_ok c.put_record.result (PutsRecord 2 c.args.at c.put64.new.octets mid new) (TouchesInode c.args.at old new)
+    (λ put. inode_record c.args.at c.put64.new.octets old mid new same put is)
     c.put_record.ensures.done

@@ -1,5 +1,6 @@
-use Rattle.std.proofs.Common.{◌≡◌, ◌≢◌, ℕ, ◌+◌, ◌-◌, ◌*◌, ◌<◌, List, [], length, get_or, take, cond, Bool, sym, ◌∙◌, ap, subst, arith}
+use Rattle.std.proofs.Common.{◌≡◌, ◌≢◌, ℕ, ◌+◌, ◌-◌, ◌*◌, ◌<◌, List, [], length, get_or, take, cond, Bool, sym, ◌∙◌, ap, subst, arith, inl, inr, ◌≤◌, ◌⊎◌}
 use Rattle.std.proofs.lemmas.Bool.{ne_eqb}
+use Rattle.std.proofs.lemmas.List.{get_or-set_other}
 use Rattle.byteorder.specs.Endian.{little_bytes}
 use Rattle.disk.specs.Image.{overwritten}
 use Rattle.model.specs.Volume.{number_at}
@@ -11,6 +12,8 @@ use Rattle.fs_inodes.proofs.DroppingHigh.{without}
 use Rattle.fs_layout.proofs.Entries.{owns_indirect}
 use Rattle.fs_inodes.proofs.Owned.{high_pointer}
 use Rattle.fs_layout.proofs.Puts.{on_ok}
+use Rattle.fs_layout.specs.Touches.{TouchesInode, indirect_block}
+use Rattle.fs_layout.proofs.Touching.{inode_record, sized_indirect}
 use Rattle.fs_inodes.proofs.shrinking.drop_indirect.Goals as goal
 
 module _ (inodes at last : ℕ) (old : List (List ℕ)) (fs : IsFileSystem inodes old) (low : at < inodes) (file : IsFile (entry inodes old at)) (counted : last + 1 ≡ block_count (entry inodes old at)) (many : 10 < last) where
@@ -88,4 +91,21 @@ returns-clause-none_taken g c =
     (c.put32.ensures ∙ ap (λ (o : List ℕ). without c.args.last o) read)
     c.in_ok-put.ensures.put
     (inode_is c.args.last c.get_record.new.into (inode_of old c.args.at) c.put64.new.octets c.get_record.ensures c.put64.ensures) put).1)
+    c.put_record.ensures.done
+
+pub returns-clause-touches : goal.returns-clause-touches
+returns-clause-touches g c =
+    let old = g.B.Blocks.blocks c.args.blocks.now in
+    let mid = g.B.Blocks.blocks c.put.new.self in
+    let new = g.B.Blocks.blocks c.put_record.new.blocks in
+    let inode = c.get_record.new.into in
+    let long : length inode ≡ 64 = omega arith in
+    let read : number_at 52 4 inode ≡ indirect_block old c.args.at = ap (λ (o : List ℕ). number_at 52 4 o) c.get_record.ensures in
+    let same : (b : ℕ) → 2 ≤ b → b ≢ indirect_block old c.args.at → get_or mid b [] ≡ get_or old b [] = λ b some other.
+    ap (λ (bs : List (List ℕ)). get_or bs b []) c.in_ok-put.ensures.put
+    ∙ get_or-set_other (g.B.Blocks.blocks c.unmark.new.blocks) c.number32-indirect.result b c.put32.new.octets [] (λ here. other (here ∙ c.number32-indirect.ensures ∙ read))
+    ∙ c.in_ok-unmark.ensures.done.blocks b some in
+    let is : (number_at 52 4 c.put64.new.octets ≡ indirect_block old c.args.at) ⊎ (number_at 52 4 c.put64.new.octets ≡ 0) = inl (sized_indirect (c.args.last * 4096) inode c.put64.new.octets long c.put64.ensures ∙ read) in
+    on_ok c.put_record.result (PutsRecord 2 c.args.at c.put64.new.octets mid new) (TouchesInode c.args.at old new)
+    (λ put. inode_record c.args.at c.put64.new.octets old mid new same put is)
     c.put_record.ensures.done

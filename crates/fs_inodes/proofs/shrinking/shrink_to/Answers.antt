@@ -6,6 +6,8 @@ use Rattle.fs_inodes.specs.Changes.{ReplacesContent, TakesNone}
 use Rattle.fs_layout.proofs.Entries.{length-content}
 use Rattle.fs_layout.proofs.Puts.{on_ok}
 use Rattle.fs_inodes.proofs.Replacing.{replaces_none, replaces_same, replaces_then, named_now, size_now}
+use Rattle.fs_layout.specs.Touches.{TouchesInode}
+use Rattle.fs_layout.proofs.Touching.{inode_none, inode_then}
 use Rattle.fs_inodes.proofs.shrinking.shrink_to.Invariants.{Shrunk}
 use Rattle.fs_inodes.proofs.shrinking.shrink_to.Goals as goal
 
@@ -23,6 +25,7 @@ module _ (inodes at end keep : ℕ) (old : List (List ℕ)) (room : HasRoom inod
     counted = sym is;
     replaced = replaces_none inodes at (take (4096 * left) content) old room fs low file (take_all (4096 * left) content (omega (arith, long)));
     none_taken = λ b small marked. marked;
+    touched = inode_none at old;
   }
 
   module _ (left : ℕ) (new : List (List ℕ)) (so_far : Shrunk inodes at keep left old new) where
@@ -35,8 +38,8 @@ module _ (inodes at end keep : ℕ) (old : List (List ℕ)) (room : HasRoom inod
     sized : size (entry inodes new at) ≡ length (take (4096 * left) content)
     sized = size_now inodes at (take (4096 * left) content) old new low so_far.replaced
 
-    more : (last : ℕ) (newer : List (List ℕ)) → last + 1 ≡ left → keep < left → ReplacesContent inodes at (take (4096 * last) (content_of new (entry inodes new at))) new newer → TakesNone new newer → Shrunk inodes at keep last old newer
-    more last newer is above then taken =
+    more : (last : ℕ) (newer : List (List ℕ)) → last + 1 ≡ left → keep < left → ReplacesContent inodes at (take (4096 * last) (content_of new (entry inodes new at))) new newer → TakesNone new newer → TouchesInode at new newer → Shrunk inodes at keep last old newer
+    more last newer is above then taken touches =
         let front : length (take (4096 * last) content) ≡ 4096 * last = length-take-le (4096 * last) content (omega (arith, long, so_far.at_most)) in
         let content_is : take (4096 * last) (content_of new (entry inodes new at)) ≡ take (4096 * last) content =
         ap (λ (o : List ℕ). take (4096 * last) o) (sym content_now) ∙ take-take (4096 * last) (4096 * left) content (omega arith) in
@@ -49,6 +52,7 @@ module _ (inodes at end keep : ℕ) (old : List (List ℕ)) (room : HasRoom inod
           counted = omega (arith, size_then, front);
           replaced = replaced;
           none_taken = λ b small marked. so_far.none_taken b small (taken b small marked);
+          touched = inode_then at old new newer so_far.touched touches;
         }
 
     module _ (ends : left ≤ keep) where
@@ -81,7 +85,7 @@ pub loop-left-preserved : goal.loop-left-preserved
 loop-left-preserved g c =
     let last : c.loop-left.left - 1 + 1 ≡ c.loop-left.left = omega arith in (
       more c.args.inodes c.args.at c.args.end c.content_blocks-keep.result (g.B.Blocks.blocks c.args.blocks.now) c.requires.room c.requires.rule c.requires.below c.requires.file c.requires.shorter c.content_blocks-keep.ensures c.loop-left.left (g.B.Blocks.blocks c.loop-left.blocks) c.loop-left.invariant.0
-          (c.loop-left.left - 1) (g.B.Blocks.blocks c.drop_block.new.blocks) last (omega arith) c.in_ok-drop_block.ensures.done c.in_ok-drop_block.ensures.none_taken,
+          (c.loop-left.left - 1) (g.B.Blocks.blocks c.drop_block.new.blocks) last (omega arith) c.in_ok-drop_block.ensures.done c.in_ok-drop_block.ensures.none_taken c.in_ok-drop_block.ensures.touches,
       c.in_ok-drop_block.ensures.kept ∙ c.loop-left.invariant.1,
     )
 
@@ -101,3 +105,12 @@ returns-clause-done g c =
     on_ok c.cut.result (ReplacesContent c.args.inodes c.args.at (take c.args.end (content_of mid (entry c.args.inodes mid c.args.at))) mid new) (ReplacesContent c.args.inodes c.args.at (take c.args.end (content_of old (entry c.args.inodes old c.args.at))) old new)
     (λ then. all c.args.inodes c.args.at c.args.end c.content_blocks-keep.result old c.requires.room c.requires.rule c.requires.below c.requires.file c.requires.shorter c.content_blocks-keep.ensures c.loop-left.left mid c.loop-left.invariant.0 (omega arith) new then)
     c.cut.ensures.done
+
+pub returns-clause-touches : goal.returns-clause-touches
+returns-clause-touches g c =
+    let old = g.B.Blocks.blocks c.args.blocks.now in
+    let mid = g.B.Blocks.blocks c.loop-left.blocks in
+    let new = g.B.Blocks.blocks c.cut.new.blocks in
+    on_ok c.cut.result (TouchesInode c.args.at mid new) (TouchesInode c.args.at old new)
+    (λ then. inode_then c.args.at old mid new c.loop-left.invariant.0.touched then)
+    c.cut.ensures.touches

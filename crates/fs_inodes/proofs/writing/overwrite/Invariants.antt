@@ -2,6 +2,8 @@ use Rattle.std.proofs.Common.{◌≡◌, ◌≤◌, ◌-◌, ℕ, length, take, 
 use Rattle.disk.specs.Image.{overwritten}
 use Rattle.model.specs.Files.{content_of, entry}
 use Rattle.fs_inodes.specs.Changes.{ReplacesContent, SameMarks}
+use Rattle.fs_layout.specs.Touches.{SameBut}
+use Rattle.fs_layout.proofs.Touching.{Reached}
 use Rattle.fs_inodes.proofs.writing.overwrite.Given as goal
 
 -- so many of the octets stand in the file
@@ -9,6 +11,9 @@ pub record Wrote (inodes at place done : ℕ) (octets : List ℕ) (old new : Lis
   pub within : done ≤ length octets
   pub replaced : ReplacesContent inodes at (overwritten place (take done octets) (content_of old (entry inodes old at))) old new
   pub marks : SameMarks old new
+  pub blocks : List ℕ
+  pub touched : SameBut blocks old new
+  pub reached : Reached place done (length octets) (length blocks)
 
 abbrev pub invariant-loop-done : goal.invariant-loop-done
 invariant-loop-done g l =

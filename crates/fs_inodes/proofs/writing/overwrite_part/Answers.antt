@@ -1,4 +1,4 @@
-use Rattle.std.proofs.Common.{◌≡◌, ◌≢◌, ℕ, ◌/◌, ◌%◌, ◌<◌, ◌≤◌, List, [], length, get_or, set, sym, ◌∙◌, ap, subst, arith}
+use Rattle.std.proofs.Common.{◌≡◌, ◌≢◌, ℕ, ◌/◌, ◌%◌, ◌<◌, ◌≤◌, List, [], length, get_or, set, sym, ◌∙◌, ap, subst, arith, ◌∷◌}
 use Rattle.disk.specs.Image.{overwritten}
 use Rattle.model.specs.Volume.{number_at}
 use Rattle.model.specs.Files.{Entry, entry, pointer, content_of, indirect_of, indirect_pointer, block_count}
@@ -6,6 +6,8 @@ use Rattle.fs_inodes.specs.Changes.{ReplacesContent, SameMarks}
 use Rattle.fs_layout.proofs.Entries.{owns_pointer, owns_indirect}
 use Rattle.fs_inodes.proofs.Overwriting.{overwrites, overwrites_marks}
 use Rattle.fs_layout.proofs.Puts.{on_put}
+use Rattle.fs_layout.specs.Touches.{SameBut}
+use Rattle.fs_layout.proofs.Touching.{same_put}
 use Rattle.fs_inodes.proofs.writing.overwrite_part.Goals as goal
 
 pub pointer_at-number-requires-clause-indirect : goal.pointer_at-number-requires-clause-indirect
@@ -56,3 +58,12 @@ returns-clause-marks g c =
     (λ put. subst (λ (bs : List (List ℕ)). SameMarks old bs)
     (sym (put ∙ ap (λ (n : ℕ). set old n c.put_part.new.block) is ∙ ap (λ (b : List ℕ). set old (pointer e i) b) block))
     (overwrites_marks c.args.inodes c.args.at c.args.place octets old c.requires.room c.requires.rule c.requires.below c.requires.file c.requires.some c.requires.fits c.requires.one_block))
+
+pub returns-clause-touches : goal.returns-clause-touches
+returns-clause-touches g c =
+    let old = g.B.Blocks.blocks c.args.blocks.now in
+    let new = g.B.Blocks.blocks c.put.new.self in
+    let number = c.pointer_at-number.result in
+    on_put c.put.result ((block : ℕ) × SameBut (block ∷ []) old new) new old
+    (set old number c.put_part.new.block) c.put.ensures.put
+    (λ put. (number, subst (λ (bs : List (List ℕ)). SameBut (number ∷ []) old bs) (sym put) (same_put number c.put_part.new.block old)))
