@@ -86,7 +86,12 @@ fn without_end(line: &[u8]) -> &[u8] {
 }
 
 /// Plays a line, and answers what the next one acts on.
-fn play<D: Device, W: Write>(alloc: Global, stage: Stage<D>, line: Line, output: &mut W) -> Result<Stage<D>, Failure>
+fn play<D: Device, W: Write>(
+    alloc: Global,
+    stage: Stage<D>,
+    line: Line,
+    output: &mut W,
+) -> Result<Stage<D>, Failure>
     requires { IsLawful line }
 {
     match (stage, line) {
@@ -277,11 +282,7 @@ impl Until {
 }
 
 /// Makes device calls until one answers what is awaited, or is refused.
-fn carry<D: Device>(
-    alloc: Global,
-    sim: &mut Sim<D>,
-    until: Until,
-) -> Result<Answer, StepError> {
+fn carry<D: Device>(alloc: Global, sim: &mut Sim<D>, until: Until) -> Result<Answer, StepError> {
     for _ in 0..MOST_CALLS {
         if let Answer::Progressed(progress) = sim.step(alloc, &Event::Dev)? {
             if until.is_met(progress) {
