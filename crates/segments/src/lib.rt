@@ -1,33 +1,41 @@
-//! What several open segments stand for while they are filled, carried home and closed. The laws hold for any blocks;
-//! the functions do nothing.
+//! What an image stands for while its segments are filled, opened, carried home and closed: a law for each kind of write.
+//! There may be any number of segments, in any places, with batches of any numbers. The functions do nothing.
 #![tactic(auto)]
 
-ghost use Rattle.std.specs.Prelude.{◌≡◌, ◌<◌, ◌≢◌, ℕ, List, [], ◌∷◌, ◌++◌, length, slice_index};
-ghost use Rattle.model.specs.Volume.{Batch, all_laid_over, laid_over, rising};
-ghost use Rattle.segments.specs.Batches.{AgreeBut, AreAbove, AreBelow, AreFull};
+ghost use Rattle.std.specs.Prelude.{◌≡◌, ◌≢◌, ◌⊎◌, ◌<◌, ℕ, List, false, true};
+ghost use Rattle.model.specs.Volume.{IsDescriptor, StandsFor, all_laid_over, batch_in, block, descriptor_place, gate_place, home, home_size, is_open, laid_over, segment_count};
+ghost use Rattle.segments.specs.Images.{IsCarried, IsHomeOfOpen, IsInside, IsOpenIn, SameBut, open_batches};
 
-/// Blocks of the home of which an open segment has an image don't matter. So a crash within the home writes of a checkpoint
-/// leaves what stood for before them.
-pub fn torn_homes_stand_for_the_same()
-    ensures { (batches : List Batch) (old new : List (List ℕ)) → AreFull batches → AgreeBut batches old new → all_laid_over new batches ≡ all_laid_over old batches }
+/// A closed segment isn't read. So a crash while its descriptor and images are written leaves what stood there before.
+pub fn a_closed_segment_is_not_read()
+    ensures { (old new label : List ℕ) (blocks : List (List ℕ)) (s : ℕ) → StandsFor old label blocks → is_open s old ≡ false → s < segment_count old
+        → SameBut (IsInside s) old new → StandsFor new label blocks }
 {}
 
-/// A home on the way to what the segments stand for differs from the first one in such blocks alone.
-pub fn homes_on_the_way_agree()
-    ensures { (done left : List Batch) (batch : Batch) (home : List (List ℕ)) (numbers : List ℕ) (images : List (List ℕ)) → ((k : ℕ) → ((i : ℕ) → i < length batch.numbers → k ≢ slice_index batch.numbers i) → (i : ℕ) → i < length numbers → k ≢ slice_index numbers i) → AgreeBut (done ++ batch ∷ left) home (laid_over (all_laid_over home done) numbers images) }
+/// The batch with the greatest number is laid over last, whatever its place. So a crash while its gate is opened leaves the
+/// blocks before the batch, or with it.
+pub fn an_opened_gate_lays_its_batch_last()
+    ensures { (old new label : List ℕ) (blocks : List (List ℕ)) (s : ℕ) → StandsFor old label blocks → is_open s old ≡ false → s < segment_count old
+        → IsDescriptor (home_size old) (block (descriptor_place s) old) → ((t : ℕ) → IsOpenIn t old → (batch_in t old).number < (batch_in s old).number)
+        → SameBut (λ k. k ≡ gate_place s) old new
+        → StandsFor new label blocks ⊎ StandsFor new label (laid_over blocks (batch_in s old).numbers (batch_in s old).images) }
 {}
 
-/// Once all are carried home, each front of them, in rising number, may be closed.
-pub fn a_front_may_be_closed()
-    ensures { (closed left : List Batch) (home : List (List ℕ)) → AreFull (closed ++ left) → all_laid_over (all_laid_over home (closed ++ left)) left ≡ all_laid_over home (closed ++ left) }
+/// Home blocks of which an open segment has an image don't matter. So a crash while images are carried home leaves what
+/// stood there before.
+pub fn torn_homes_are_laid_over()
+    ensures { (old new label : List ℕ) (blocks : List (List ℕ)) → StandsFor old label blocks → SameBut (IsHomeOfOpen old) old new → StandsFor new label blocks }
 {}
 
-/// The segment that a batch opens is the last to be laid over, whatever its place.
-pub fn the_greatest_is_laid_last()
-    ensures { (before behind : List Batch) (batch : Batch) → AreBelow batch.number before → AreBelow batch.number behind → rising (before ++ batch ∷ behind) ≡ rising (before ++ behind) ++ batch ∷ [] }
+/// Once the home is what the open segments say, it stays so however many of the first are closed.
+pub fn what_lies_at_home_is_carried()
+    ensures { (image : List ℕ) (first : List (List ℕ)) → home image ≡ all_laid_over first (open_batches image) → IsCarried image }
 {}
 
-/// The segment that is closed first is the first to be laid over, whatever its place.
-pub fn the_least_is_laid_first()
-    ensures { (before behind : List Batch) (batch : Batch) → AreAbove batch.number before → AreAbove batch.number behind → rising (before ++ batch ∷ behind) ≡ batch ∷ rising (before ++ behind) }
+/// Then the segment with the least number may be closed, and the next one after it. So a crash while its gate is closed
+/// leaves what stood there before.
+pub fn the_oldest_gate_may_be_closed()
+    ensures { (old new label : List ℕ) (blocks : List (List ℕ)) (s : ℕ) → StandsFor old label blocks → IsOpenIn s old
+        → ((t : ℕ) → IsOpenIn t old → t ≢ s → (batch_in s old).number < (batch_in t old).number) → IsCarried old
+        → SameBut (λ k. k ≡ gate_place s) old new → StandsFor new label blocks × IsCarried new }
 {}

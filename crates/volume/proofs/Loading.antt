@@ -19,6 +19,8 @@ module _ {D : Type 0} (device : D → Device) where
     blocks = λ tells. refl;
     idle = idle;
     time = record { size = refl; tells = refl; later = omega arith };
+    writes = refl;
+    syncs = refl;
     now = now;
     since = λ tells t c before left. inl left;
   }
@@ -54,6 +56,8 @@ module _ {D : Type 0} (device : D → Device) where
       tells = second.time.tells ∙ first.time.tells;
       later = omega (arith, first.time.later, second.time.later);
     };
+    writes = second.writes ∙ first.writes;
+    syncs = second.syncs ∙ first.syncs;
     now = second.now;
     since = λ tells t c before left. elim (second.since (told tells) t c (omega (arith, first.time.later)) left) [
       | inr admits ↦ inr admits

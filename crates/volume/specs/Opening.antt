@@ -9,5 +9,7 @@ pub record Loads {D : Type 0} (device : D → Device) (old new : JournalView D) 
   pub blocks : IsTrue (device old.disk).tells → new.blocks ≡ old.blocks
   pub idle : IsIdle new
   pub time : Elapses (device old.disk) (device new.disk)
+  pub writes : (device new.disk).writes ≡ (device old.disk).writes
+  pub syncs : (device new.disk).syncs ≡ (device old.disk).syncs
   pub now : LeavesAdmitted device new
   pub since : LeftAdmitted device old new
