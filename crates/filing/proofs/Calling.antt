@@ -11,10 +11,10 @@ use Rattle.fs_inodes.proofs.Grown.{one_name}
 use Rattle.fs_layout.proofs.Tables.{length-table}
 use Rattle.filing.specs.Calls.{Calls}
 
-pub created : (inodes : ℕ) (name : Octets) (old new : List Octets) → Creates inodes name old new → (files : List File) → IsPermutation (files_in (table inodes old)) files → IsPermutation (files_in (table inodes new)) (after_call files (Create name))
-created inodes name old new made files same =
+pub created : (inodes : ℕ) (name : Octets) (place : ℕ) (old new : List Octets) → Creates inodes name place old new → (files : List File) → IsPermutation (files_in (table inodes old)) files → IsPermutation (files_in (table inodes new)) (after_call files (Create name))
+created inodes name place old new made files same =
     subst (λ (t : List (Option File)). IsPermutation (files_in t) (after_call files (Create name))) (sym made.makes.files_are)
-        (creates_one files (table inodes old) made.place name (omega (arith, made.below, length-table inodes old)) made.free same)
+    (creates_one files (table inodes old) place name (omega (arith, made.below, length-table inodes old)) made.free same)
 
 pub appended_to : (inodes : ℕ) (name octets : Octets) (old new : List Octets) → IsFileSystem inodes old → Appends inodes name octets old new → (files : List File) → IsPermutation (files_in (table inodes old)) files → IsPermutation (files_in (table inodes new)) (after_call files (Append name octets))
 appended_to inodes name octets old new rule (k, content, there, grown) files same =
@@ -24,9 +24,9 @@ appended_to inodes name octets old new rule (k, content, there, grown) files sam
     subst (λ (t : List (Option File)). IsPermutation (files_in t) (after_call files (Append grown.name octets))) (sym grown.makes.files_are) its in
     subst (λ (n : Octets). IsPermutation (files_in (table inodes new)) (after_call files (Append n octets))) named moved
 
-pub made : (inodes : ℕ) (name octets : Octets) (old mid new : List Octets) → Creates inodes name old mid → Appends inodes name octets mid new → Calls inodes (making_calls name octets) old new
-made inodes name octets old mid new creates (k, content, there, grown) = record {
+pub made : (inodes : ℕ) (name octets : Octets) (place : ℕ) (old mid new : List Octets) → Creates inodes name place old mid → Appends inodes name octets mid new → Calls inodes (making_calls name octets) old new
+made inodes name octets place old mid new creates (k, content, there, grown) = record {
   room = grown.makes.room;
   rule = grown.makes.rule;
-  files = λ files same. appended_to inodes name octets mid new creates.makes.rule (k, content, there, grown) (after_call files (Create name)) (created inodes name old mid creates files same);
+  files = λ files same. appended_to inodes name octets mid new creates.makes.rule (k, content, there, grown) (after_call files (Create name)) (created inodes name place old mid creates files same);
 }

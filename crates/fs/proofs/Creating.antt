@@ -164,10 +164,9 @@ module _ (inodes at : ℕ) (name : Octets) (a b c : List Octets) (room : HasRoom
       ∙ ap (λ (e : Entry). Some (record { name = name; content = content_of c e })) here
       ∙ ap (λ (n : ℕ). Some (record { name = name; content = take n (flat_map (λ i. get_or c (pointer (new_entry name) i) []) (range_with_len 0 ((n + 4095) / 4096))) })) (new_number 3 8)
 
-  pub creates : Creates inodes name a c
+  pub creates : Creates inodes name at a c
   creates = record {
     absent = no_slot inodes a fs name none;
-    place = at;
     below = found.below;
     free = get_or-table inodes a at found.below ∙ file_at_free inodes a at was_free;
     lowest = λ k low is. elim (fs.each k (omega (arith, found.below))) [

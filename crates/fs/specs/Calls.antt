@@ -5,10 +5,9 @@ use Rattle.model.specs.Files.{table}
 pub use Rattle.fs_layout.specs.Table.{IsName, IsFileAt, IsThere, file_names, Makes}
 pub use Rattle.fs_inodes.specs.Growing.{blocks_for, HasNoRoomFor}
 
--- a new file in the lowest free inode
-pub record Creates (inodes : ℕ) (name : Octets) (old new : List Octets) : Type 0 where
+-- a new file in this inode, the lowest that is free
+pub record Creates (inodes : ℕ) (name : Octets) (place : ℕ) (old new : List Octets) : Type 0 where
   pub absent : ¬ (IsThere (table inodes old) name)
-  pub place : ℕ
   pub below : place < inodes
   pub free : slice_index_or (table inodes old) place None ≡ None
   pub lowest : (k : ℕ) → k < place → slice_index_or (table inodes old) k None ≢ None

@@ -28,13 +28,13 @@ pub fn size<B: Blocks>(blocks: &B, inodes: u32, name: &[u8]) -> Result<u64, FsEr
     Ok(size_of(blocks, inodes, at))
 }
 
-/// Makes an empty file in the lowest free inode. `Exists` exactly where the name is there, else `Full` exactly
+/// Makes an empty file in the lowest free inode, and answers that. `Exists` exactly where the name is there, else `Full` exactly
 /// where no inode is free; both change nothing. After `Memory` the caller drops the stage.
-pub fn create<B: Blocks>(blocks: &mut B, inodes: u32, name: &[u8]) -> Result<(), FsError>
+pub fn create<B: Blocks>(blocks: &mut B, inodes: u32, name: &[u8]) -> Result<u32, FsError>
     requires room { HasRoom inodes (B.blocks blocks.old) }
     requires name { IsName name.now }
     requires rule { IsFileSystem inodes (B.blocks blocks.old) }
-    ensures created { OnOk result (Creates inodes name.now (B.blocks blocks.old) (B.blocks blocks.new)) }
+    ensures created { IfOk result (λ at. Creates inodes name.now at (B.blocks blocks.old) (B.blocks blocks.new)) }
     ensures touches { OnOk result (Touches 2 (B.blocks blocks.old) (B.blocks blocks.new)) }
     ensures exists { IfErr result (λ e. e ≡ FsError.Exists
         → IsThere (table inodes (B.blocks blocks.old)) name.now × (blocks.new ≡ blocks.old)) }
@@ -55,7 +55,7 @@ pub fn create<B: Blocks>(blocks: &mut B, inodes: u32, name: &[u8]) -> Result<(),
     inode[0] = FILE_KIND;
     put_record(blocks, INODES_AT + inodes / 64, at, &slot)?;
     put_record(blocks, INODES_AT, at, &inode)?;
-    Ok(())
+    Ok(at)
 }
 
 /// Removes a file and gives up its blocks. `NotFound` exactly where the name isn't there; it changes nothing.

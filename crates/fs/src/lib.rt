@@ -1,5 +1,6 @@
 //! A map of names to octets, in files over numbered blocks: bitmap, inodes, directory, data.
-//! Each call is lent the blocks and told the number of inodes.
+//! Each call is lent the blocks and told the number of inodes. Who knows the inode of a file, as `create` answers it,
+//! reads and changes the file by the calls of `by_inode`, without a search for its name.
 #![tactic(auto)]
 
 mod directory;
@@ -8,6 +9,7 @@ mod whole;
 
 pub use directory::{create, names, size, unlink};
 pub use fs_check::check;
+pub use fs_inodes as by_inode;
 pub use fs_layout::FsError;
 pub use fs_layout::inodes::free_inode_count;
 pub use fs_layout::marks::free_block_count;

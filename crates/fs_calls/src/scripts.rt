@@ -60,7 +60,7 @@ const SCRIPTS: &[(&str, Script<'static>)] = &[
         "a file goes",
         &[
             ("a", Call::Create, Ok(0)),
-            ("b", Call::Create, Ok(0)),
+            ("b", Call::Create, Ok(1)),
             ("a", Call::Unlink, Ok(0)),
             ("a", Call::Size, Err(FsError::NotFound)),
             ("b", Call::Size, Ok(0)),
@@ -131,7 +131,7 @@ const SCRIPTS: &[(&str, Script<'static>)] = &[
         "appends are read back",
         &[
             ("a", Call::Create, Ok(0)),
-            ("b", Call::Create, Ok(0)),
+            ("b", Call::Create, Ok(1)),
             ("a", Call::Append(b'f', 5), Ok(0)),
             ("b", Call::Append(b'o', 5), Ok(0)),
             ("a", Call::Append(b'x', 50_000), Ok(0)),

@@ -91,7 +91,11 @@ fn calls_leave_what_a_plain_list_has(rt: HostRuntime) -> Result<(), Fail> {
         let call = numbers.call();
         if let Some(file) = plain.get_mut(at) {
             let wanted = change(alloc, file, call)?;
-            assert_eq!(rt; answer(alloc, &mut volume, &name_at(at), call), wanted);
+            let answered = match (call, answer(alloc, &mut volume, &name_at(at), call)) {
+                (Call::Create, Ok(_)) => Ok(0),
+                (_, answered) => answered,
+            };
+            assert_eq!(rt; answered, wanted);
         }
         assert!(rt; contents(alloc, &volume, NAMES)? == plain);
     }

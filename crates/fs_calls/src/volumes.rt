@@ -20,6 +20,7 @@ const COUNT: u32 = 1024;
 /// A call about the file of a name, or about the volume.
 #[derive(Clone, Copy)]
 pub enum Call {
+    /// Creates a file, and answers its inode.
     Create,
     Unlink,
     /// Appends so many octets of one value.
@@ -90,13 +91,13 @@ fn is_name(name: &[u8]) -> bool
     1 <= name.len() && name.len() <= 63
 }
 
-/// Makes a call, and answers what it counts, or 0. `Damaged` where the volume isn't sound before it.
+/// Makes a call, and answers what it counts or finds, or 0. `Damaged` where the volume isn't sound before it.
 pub fn answer(alloc: Global, volume: &mut Volume, name: &[u8], call: Call) -> Result<u64, FsError> {
     if !is_name(name) || !is_sound(alloc, volume)? {
         return Err(FsError::Damaged);
     }
     match call {
-        Call::Create => done(create(volume, INODES, name)),
+        Call::Create => Ok(u64::from(create(volume, INODES, name)?)),
         Call::Unlink => done(unlink(volume, INODES, name)),
         Call::Append(octet, count) => {
             let octets = vec![in alloc; octet; count]?;
@@ -168,7 +169,7 @@ fn create_many(alloc: Global, volume: &mut Volume) -> Result<u64, FsError> {
             return Err(FsError::Damaged);
         }
         match create(volume, INODES, &[octet]) {
-            Ok(()) => (),
+            Ok(_) => (),
             Err(FsError::Full) => return Ok(u64::from(octet - 128)),
             Err(error) => return Err(error),
         }

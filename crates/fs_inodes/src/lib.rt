@@ -7,6 +7,7 @@ mod room;
 mod shrinking;
 mod writing;
 
+pub use fs_layout::inodes::size_of;
 pub use growing::{extend, extend_zeros};
 pub use reading::read_entry;
 pub use room::has_room_for;

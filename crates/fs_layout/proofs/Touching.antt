@@ -68,8 +68,8 @@ slot_then_inode inodes k octets slot old mid new first second = record {
   others = inode_block k ∷ slot_block inodes k ∷ [];
   few = omega arith;
   same = λ b some lacks.
-    second.blocks b (λ is. lacks (is_first (inode_block k) (slot_block inodes k ∷ []) b is))
-    ∙ first.blocks b (λ is. lacks (is_later (inode_block k) (slot_block inodes k ∷ []) b (is_first (slot_block inodes k) [] b is)));
+      second.blocks b (λ is. lacks (is_first (inode_block k) (slot_block inodes k ∷ []) b is))
+      ∙ first.blocks b (λ is. lacks (is_later (inode_block k) (slot_block inodes k ∷ []) b (is_first (slot_block inodes k) [] b is)));
 }
 
 -- ---- an inode and its indirect block
@@ -80,11 +80,11 @@ inode_none k old = record { same = λ b some other indirect. refl; indirect = in
 pub inode_then : (k : ℕ) (old mid new : List Octets) → TouchesInode k old mid → TouchesInode k mid new → TouchesInode k old new
 inode_then k old mid new first second = record {
   same = λ b some other indirect.
-    second.same b some other (elim first.indirect [
-      | inl stays ↦ λ is. indirect (is ∙ stays)
-      | inr goes ↦ λ is. omega (arith, some, is, goes)
-    ])
-    ∙ first.same b some other indirect;
+      second.same b some other (elim first.indirect [
+        | inl stays ↦ λ is. indirect (is ∙ stays)
+        | inr goes ↦ λ is. omega (arith, some, is, goes)
+      ])
+      ∙ first.same b some other indirect;
   indirect = elim second.indirect [
     | inl stays ↦ elim first.indirect [ inl stayed ↦ inl (stays ∙ stayed) | inr gone ↦ inr (stays ∙ gone) ]
     | inr goes ↦ inr goes
@@ -106,8 +106,8 @@ inode_touches k old new touches = record {
   others = inode_block k ∷ indirect_block old k ∷ [];
   few = omega arith;
   same = λ b some lacks.
-    touches.same b some (λ is. lacks (is_first (inode_block k) (indirect_block old k ∷ []) b is))
-    (λ is. lacks (is_later (inode_block k) (indirect_block old k ∷ []) b (is_first (indirect_block old k) [] b is)));
+      touches.same b some (λ is. lacks (is_first (inode_block k) (indirect_block old k ∷ []) b is))
+      (λ is. lacks (is_later (inode_block k) (indirect_block old k ∷ []) b (is_first (indirect_block old k) [] b is)));
 }
 
 -- and then its slot
@@ -116,10 +116,10 @@ inode_and_slot inodes k old mid new first second = record {
   others = slot_block inodes k ∷ inode_block k ∷ indirect_block old k ∷ [];
   few = omega arith;
   same = λ b some lacks.
-    let other : b ≢ inode_block k = λ is. lacks (is_later (slot_block inodes k) (inode_block k ∷ indirect_block old k ∷ []) b (is_first (inode_block k) (indirect_block old k ∷ []) b is)) in
-    let indirect : b ≢ indirect_block old k = λ is. lacks (is_later (slot_block inodes k) (inode_block k ∷ indirect_block old k ∷ []) b (is_later (inode_block k) (indirect_block old k ∷ []) b (is_first (indirect_block old k) [] b is))) in
-    let slot : b ≢ slot_block inodes k = λ is. lacks (is_first (slot_block inodes k) (inode_block k ∷ indirect_block old k ∷ []) b is) in
-    second b some (not_two (inode_block k) (slot_block inodes k) b other slot) ∙ first.same b some other indirect;
+      let other : b ≢ inode_block k = λ is. lacks (is_later (slot_block inodes k) (inode_block k ∷ indirect_block old k ∷ []) b (is_first (inode_block k) (indirect_block old k ∷ []) b is)) in
+      let indirect : b ≢ indirect_block old k = λ is. lacks (is_later (slot_block inodes k) (inode_block k ∷ indirect_block old k ∷ []) b (is_later (inode_block k) (indirect_block old k ∷ []) b (is_first (indirect_block old k) [] b is))) in
+      let slot : b ≢ slot_block inodes k = λ is. lacks (is_first (slot_block inodes k) (inode_block k ∷ indirect_block old k ∷ []) b is) in
+      second b some (not_two (inode_block k) (slot_block inodes k) b other slot) ∙ first.same b some other indirect;
 }
 
 -- ---- data
@@ -130,11 +130,11 @@ data_none k old = record { same = λ b some other indirect lacks. refl; indirect
 pub data_then : (k : ℕ) (xs ys : List ℕ) (old mid new : List Octets) → TouchesData k xs old mid → TouchesData k ys mid new → TouchesData k (ys ++ xs) old new
 data_then k xs ys old mid new first second = record {
   same = λ b some other indirect lacks.
-    second.same b some other indirect (λ has. lacks (Contains-append_left ys xs b has))
-    ∙ first.same b some other (elim second.indirect [
-      | inl none ↦ λ is. omega (arith, some, is, none)
-      | inr stays ↦ λ is. indirect (is ∙ sym stays)
-    ]) (λ has. lacks (Contains-append_right ys xs b has));
+      second.same b some other indirect (λ has. lacks (Contains-append_left ys xs b has))
+      ∙ first.same b some other (elim second.indirect [
+        | inl none ↦ λ is. omega (arith, some, is, none)
+        | inr stays ↦ λ is. indirect (is ∙ sym stays)
+      ]) (λ has. lacks (Contains-append_right ys xs b has));
   indirect = elim first.indirect [
     | inl none ↦ inl none
     | inr stayed ↦ elim second.indirect [ inl none ↦ inl (sym stayed ∙ none) | inr stays ↦ inr (stays ∙ stayed) ]
@@ -147,9 +147,9 @@ piece_touches k number block inode octets old mid later new sized put first indi
     let is : indirect_block new k ≡ number_at 52 4 inode = ap (λ (o : Octets). number_at 52 4 o) puts.here ∙ sized in
     record {
       same = λ b some other apart lacks.
-        puts.blocks b other ∙ ap (λ (bs : List Octets). get_or bs b []) put
-        ∙ get_or-set_other mid number b block [] (λ same. lacks (is_first number [] b same))
-        ∙ first b some (λ same. apart (same ∙ sym is));
+          puts.blocks b other ∙ ap (λ (bs : List Octets). get_or bs b []) put
+          ∙ get_or-set_other mid number b block [] (λ same. lacks (is_first number [] b same))
+          ∙ first b some (λ same. apart (same ∙ sym is));
       indirect = elim indirect [ inl none ↦ inl none | inr stays ↦ inr (is ∙ stays) ];
     }
 
@@ -220,7 +220,7 @@ spread_all k size from count old new so_far within = record {
   others = inode_block k ∷ indirect_block new k ∷ so_far.blocks;
   few = omega (arith, reached_all size from count (length so_far.blocks) so_far.reached within);
   same = λ b some lacks.
-    so_far.touched.same b some (λ is. lacks (is_first (inode_block k) (indirect_block new k ∷ so_far.blocks) b is))
-    (λ is. lacks (is_later (inode_block k) (indirect_block new k ∷ so_far.blocks) b (is_first (indirect_block new k) so_far.blocks b is)))
-    (λ has. lacks (is_later (inode_block k) (indirect_block new k ∷ so_far.blocks) b (is_later (indirect_block new k) so_far.blocks b has)));
+      so_far.touched.same b some (λ is. lacks (is_first (inode_block k) (indirect_block new k ∷ so_far.blocks) b is))
+      (λ is. lacks (is_later (inode_block k) (indirect_block new k ∷ so_far.blocks) b (is_first (indirect_block new k) so_far.blocks b is)))
+      (λ has. lacks (is_later (inode_block k) (indirect_block new k ∷ so_far.blocks) b (is_later (indirect_block new k) so_far.blocks b has)));
 }

@@ -140,14 +140,16 @@ returns-clause-touches g c =
           subst (λ (bs : List (List ℕ)). AddsBlock n number (inode_of old at) inode old bs) (sym blocks_are)
           (subst (λ (o : List ℕ). AddsBlock n number (inode_of old at) o old (g.B.Blocks.blocks w.add_block.new.blocks)) (sym w.inode-is)
           (subst (λ (m : ℕ). AddsBlock n m (inode_of old at) w.add_block.new.inode old (g.B.Blocks.blocks w.add_block.new.blocks)) (sym w.number-is)
-          (subst (λ (o : List ℕ). AddsBlock n w.in_ok-number.number o w.add_block.new.inode old (g.B.Blocks.blocks w.add_block.new.blocks)) c.get_record.ensures w.in_ok-number.ensures.done))) in
-          (adds.blocks, elim adds.indirect_is [
-            | inl stays ↦ inr stays.2
-            | inr comes ↦ inl (elim (cases_eq (indirect_pointer e) 0) [
-              | inl is ↦ is
-              | inr has ↦ absurd (omega (arith, c.requires.file.indirect_where.1 has, comes.0, sized, none))
-            ])
-          ])
+          (subst (λ (o : List ℕ). AddsBlock n w.in_ok-number.number o w.add_block.new.inode old (g.B.Blocks.blocks w.add_block.new.blocks)) c.get_record.ensures w.in_ok-number.ensures.done))) in (
+            adds.blocks,
+            elim adds.indirect_is [
+              | inl stays ↦ inr stays.2
+              | inr comes ↦ inl (elim (cases_eq (indirect_pointer e) 0) [
+                | inl is ↦ is
+                | inr has ↦ absurd (omega (arith, c.requires.file.indirect_where.1 has, comes.0, sized, none))
+              ])
+            ],
+          )
       | else-within-eq0 w ↦
           let blocks_are : mid ≡ old = ap (λ (b : g.row.B.Denot). g.B.Blocks.blocks b) w.blocks-is in
           ((λ b some other. ap (λ (bs : List (List ℕ)). get_or bs b []) blocks_are), inr (ap (λ (o : List ℕ). number_at 52 4 o) (w.inode-is ∙ c.get_record.ensures)))
