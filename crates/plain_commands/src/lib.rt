@@ -1,0 +1,91 @@
+//! The commands that read nothing of the spool, and the answers where there is no room or the server has stopped. Each answers
+//! as `specs/Answer.antt` of the crate `model` says. An error is that memory is refused.
+#![tactic(auto)]
+
+ghost use Rattle.std.specs.Prelude.{◌≡◌, ◌∷◌, ◌++◌, ◌<◌, [], IfOk, codes, map};
+ghost use Rattle.model.specs.Answer as answers;
+ghost use Rattle.model.specs.Calendar.{date_reply, moment_limit};
+ghost use Rattle.model.specs.Replies.{bye, greeting, service_ends};
+ghost use Rattle.model.specs.Stream.{line};
+ghost use Rattle.model.specs.declared.session.Awaits.TheVariants as waits;
+ghost use Rattle.replies.specs.Answered.{answered, replied};
+ghost use Rattle.replies.specs.Replies.{sent, sent_block};
+
+use model::{Awaits, Session};
+use replies::{
+    Answered, Block, Reply, answer, awaiting, push_greeting, push_line, push_reply, says,
+};
+use std::alloc::{AllocError, Global};
+
+/// CAPABILITIES, HELP and LIST OVERVIEW.FMT (RFC 3977, sections 5.2, 7.2 and 8.4).
+pub fn fixed(alloc: Global, session: &Session, which: Block) -> Result<Answered, AllocError>
+    ensures { IfOk result (λ said. said ≡ answered (answers.says session.now (sent_block which)) 0) }
+{
+    says(alloc, session, which.text().to_vec(alloc)?, 0)
+}
+
+/// MODE READER (RFC 3977, section 5.3).
+pub fn mode_reader(alloc: Global, session: &Session, host: &[u8]) -> Result<Answered, AllocError>
+    ensures { IfOk result (λ said. said ≡ answered (answers.says session.now (greeting host.now)) 0) }
+{
+    let mut reply = Vec::new(alloc);
+    push_greeting(&mut reply, host)?;
+    says(alloc, session, reply, 0)
+}
+
+/// DATE (RFC 3977, section 7.1), at a moment in seconds since 1970, below 253,402,300,800.
+pub fn date(alloc: Global, session: &Session, moment: u64) -> Result<Answered, AllocError>
+    requires { moment < moment_limit }
+    ensures { IfOk result (λ said. said ≡ answered (answers.says session.now (line (codes "111 " ++ date_reply moment))) 0) }
+{
+    let mut reply = Vec::new(alloc);
+    reply.extend_from_slice(b"111 ")?;
+    push_line(&mut reply, &stamp::date_reply(alloc, moment)?)?;
+    says(alloc, session, reply, 0)
+}
+
+/// QUIT (RFC 3977, section 5.4). The session is closed.
+pub fn quit(alloc: Global, session: &Session) -> Result<Answered, AllocError>
+    ensures { IfOk result (λ said. said ≡ answered (answers.says (answers.awaiting session.now waits.Nothing) bye) 0) }
+{
+    closes(alloc, session, Reply::Bye)
+}
+
+/// The answer of a server that has stopped (RFC 3977, section 3.2.1). The session is closed.
+pub fn stopped(alloc: Global, session: &Session) -> Result<Answered, AllocError>
+    ensures { IfOk result (λ said. said ≡ answered (answers.says (answers.awaiting session.now waits.Nothing) service_ends) 0) }
+{
+    closes(alloc, session, Reply::ServiceEnds)
+}
+
+/// The answer to an article for which there is no room: it may be offered again, or is not accepted
+/// (RFC 3977, sections 6.3.1 and 6.3.2).
+pub fn full(alloc: Global, session: &Session) -> Result<Answered, AllocError>
+    ensures { IfOk result (λ said. said ≡ answered (answers.full_answer session.now session.now.awaits) 0) }
+{
+    let which = match &session.awaits {
+        Awaits::IhaveBlock(_) => Reply::TryLater,
+        _ => Reply::NotAccepted,
+    };
+    ends(alloc, session, which, Awaits::Line)
+}
+
+fn closes(alloc: Global, session: &Session, which: Reply) -> Result<Answered, AllocError>
+    ensures { IfOk result (λ said. said ≡ answered (replied (sent which) (answers.awaiting session.now waits.Nothing)) 0) }
+{
+    ends(alloc, session, which, Awaits::Nothing)
+}
+
+/// A reply of one line behind which this is awaited.
+pub fn ends(
+    alloc: Global,
+    session: &Session,
+    which: Reply,
+    awaits: Awaits,
+) -> Result<Answered, AllocError>
+    ensures { IfOk result (λ said. said ≡ answered (replied (sent which) (answers.awaiting session.now awaits)) 0) }
+{
+    let mut reply = Vec::new(alloc);
+    push_reply(&mut reply, which)?;
+    Ok(answer(reply, awaiting(alloc, session, awaits)?, 0))
+}
