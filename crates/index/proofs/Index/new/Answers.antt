@@ -1,0 +1,7 @@
+use Rattle.std.proofs.Common.{map, ap}
+use Rattle.index.specs.Shown.{shown}
+use Rattle.index.proofs.Growing.{none_indexed}
+use Rattle.index.proofs.Index.new.Goals as goal
+
+pub returns : goal.returns
+returns c = none_indexed _ c.new.ensures.items (ap (map shown) c.new-2.ensures.items) c.new-4.ensures

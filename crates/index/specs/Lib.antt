@@ -1,0 +1,5 @@
+pub mod Shown
+pub mod View
+pub mod Naming
+pub mod Filing
+pub mod Finding

@@ -1,0 +1,204 @@
+//! The index of a spool in memory: what its look-ups need beside the files, equal to the list of changes.
+#![tactic(auto)]
+
+ghost use Rattle.std.specs.Prelude.{◌≡◌, ◌+◌, ◌-◌, ◌^◌, ◌<◌, ◌≤◌, ◌∷◌, ◌++◌, ℕ, List, [], false, map, length, option_map, slice_index, slice_index_or, OnOk, OnErr, bytes_eq};
+ghost use Rattle.std.specs.List.{All, list_any};
+ghost use Rattle.model.specs.Stream.{Octets};
+ghost use Rattle.model.specs.Article as article;
+ghost use Rattle.model.specs.Indexed.{group_index};
+ghost use Rattle.model.specs.Lawful.{IsLawful, MayExpire, MayFile, MayMake};
+ghost use Rattle.model.specs.Spool.{Spool, by_id, by_number, expired_at, group_named, groups};
+ghost use Rattle.model.specs.declared.change.Change.{Change};
+ghost use Rattle.index.specs.Shown.{shown};
+ghost use Rattle.index.specs.Filing.{AreLineSizes, EndBelow};
+ghost use Rattle.index.specs.Naming.{heads};
+
+mod filing;
+mod group;
+mod keys;
+mod note;
+
+use filing::{expire_one, place_of, push_lines, reserve_lines};
+pub use group::Group;
+use keys::Keys;
+use model::{Names, Text};
+pub use note::Note;
+use std::alloc::{AllocError, Global};
+use std::marker::Model;
+
+/// What is kept in memory beside the files of a spool.
+#[derive(Drop)]
+pub struct Index {
+    alloc: Global,
+    notes: Vec<Note>,
+    groups: Vec<Group>,
+    /// the places of the groups by their names
+    places: Keys,
+    /// the serials of the articles by their ids
+    ids: Keys,
+}
+
+impl Model for Index {
+    ghost use Rattle.std.specs.Prelude.{map};
+    ghost use Rattle.index.specs.Shown.{shown};
+    ghost use Rattle.index.specs.Naming.{AreNamed, heads};
+    ghost use Rattle.index.specs.View.{IndexView};
+
+    ghost Value = { IndexView };
+
+    ghost view = { λ x. record { notes = x.notes.items; groups = map shown x.groups.items; ids = x.ids } };
+
+    ghost invariant = { λ x. AreNamed x.places (heads (map shown x.groups.items)) };
+}
+
+impl Index {
+    ghost use Rattle.index.specs.View.{Indexes};
+
+    /// The index of no change.
+    pub fn new(alloc: Global) -> Index
+        ensures { Indexes [] result }
+    {
+        Index {
+            alloc,
+            notes: Vec::new(alloc),
+            groups: Vec::new(alloc),
+            places: Keys::new(alloc),
+            ids: Keys::new(alloc),
+        }
+    }
+
+    /// How many changes there are.
+    pub fn len(&self) -> u64
+        ensures { (S : Spool) → Indexes S self.now → result ≡ length S }
+    {
+        self.notes.len() as u64
+    }
+
+    /// The groups, in rising serial.
+    pub fn groups(&self) -> &[Group]
+        ensures { (S : Spool) → Indexes S self.now → map shown result.now ≡ map (group_index S) (groups S) }
+    {
+        self.groups.as_slice()
+    }
+
+    /// The group with this name.
+    pub fn group(&self, name: &[u8]) -> Option<&Group>
+        ensures { (S : Spool) → Indexes S self.now → option_map (λ g. shown g.now) result ≡ option_map (group_index S) (group_named S name.now) }
+    {
+        match place_of(&self.places, &self.groups, name) {
+            Some(place) => Some(&self.groups[place]),
+            None => None,
+        }
+    }
+
+    /// The serial of the article that is in the group under this number; none in a group that isn't here.
+    pub fn by_number(&self, group: &[u8], number: u64) -> Option<u64>
+        ensures { (host : Octets) (S : Spool) → IsLawful host S → Indexes S self.now → result ≡ option_map (λ a. a.serial) (by_number S group.now number) }
+    {
+        match self.group(group) {
+            Some(group) => group.by_number(number),
+            None => None,
+        }
+    }
+
+    /// The serial of the article with this message-id, also of one that was taken out of its groups.
+    pub fn by_id(&self, wanted: &[u8]) -> Option<u64>
+        ensures { (S : Spool) → Indexes S self.now → result ≡ option_map (λ a. a.serial) (by_id S wanted.now) }
+    {
+        self.ids.get(wanted)
+    }
+
+    /// The serial of the expiry that took this number out of the group, 0 where none did.
+    pub fn expired_at(&self, group: &[u8], number: u64) -> u64
+        ensures { (host : Octets) (S : Spool) → IsLawful host S → Indexes S self.now → result ≡ expired_at S group.now number }
+    {
+        match self.group(group) {
+            Some(group) => group.expired_at(number),
+            None => 0,
+        }
+    }
+
+    /// Adds a group. An `Err` is out of memory and changes nothing.
+    pub fn push_group(
+        &mut self,
+        name: &[u8],
+        status: u8,
+        description: &[u8],
+        moment: u64,
+    ) -> Result<(), AllocError>
+        requires { list_any (bytes_eq name.now) (heads self.old.groups) ≡ false }
+        ensures ok { OnOk result ((host : Octets) (S : Spool) → IsLawful host S → MayMake S name.now status description.now moment → Indexes S self.old
+            → Indexes (S ++ Change.Group name.now status description.now moment ∷ []) self.new) }
+        ensures err { OnErr result (self.new ≡ self.old) }
+    {
+        let serial = self.notes.len() as u64 + 1;
+        let group = Group::new(self.alloc, serial, name, status, description, moment)?;
+        self.notes.reserve(1)?;
+        self.groups.reserve(1)?;
+        self.places.insert(name, self.groups.len() as u64)?;
+        let Ok(()) = self.groups.push(group) else {
+            unreachable!()
+        };
+        let Ok(()) = self.notes.push(Note::Group) else {
+            unreachable!()
+        };
+        Ok(())
+    }
+
+    /// Adds an article, with the sizes of its overview lines in its groups. An `Err` is out of memory and changes nothing.
+    pub fn push_article(
+        &mut self,
+        id: &[u8],
+        size: u64,
+        filed: Names,
+        moment: u64,
+        sizes: &[u64],
+    ) -> Result<(), AllocError>
+        requires few { length filed ≤ 16 }
+        requires sizes { length sizes.now ≡ length filed }
+        requires small { All (λ n. n < 2 ^ 32) sizes.now }
+        requires fits { EndBelow (2 ^ 32) self.old.groups }
+        ensures ok { OnOk result ((host : Octets) (S : Spool) (text : Octets) → MayFile host S text filed moment → id.now ≡ article.id text → size ≡ length text
+            → AreLineSizes S text filed sizes.now → Indexes S self.old → Indexes (S ++ Change.Article text filed moment ∷ []) self.new) }
+        ensures err { OnErr result (self.new ≡ self.old) }
+    {
+        let serial = self.notes.len() as u64 + 1;
+        self.notes.reserve(1)?;
+        reserve_lines(&mut self.groups, &self.places, filed.as_slice())?;
+        self.ids.insert(id, serial)?;
+        push_lines(
+            &mut self.groups,
+            &self.places,
+            serial,
+            filed.as_slice(),
+            sizes,
+        );
+        let groups = filed;
+        let note = Note::Article {
+            size,
+            groups,
+            moment,
+        };
+        let Ok(()) = self.notes.push(note) else {
+            unreachable!()
+        };
+        Ok(())
+    }
+
+    /// Adds an expiry of a group that is here. An `Err` is out of memory and changes nothing.
+    pub fn push_expiry(&mut self, name: &[u8], number: u64) -> Result<(), AllocError>
+        requires { number < 2 ^ 63 }
+        ensures ok { OnOk result ((host : Octets) (S : Spool) → MayExpire S name.now number → Indexes S self.old
+            → Indexes (S ++ Change.Expire name.now number ∷ []) self.new) }
+        ensures err { OnErr result (self.new ≡ self.old) }
+    {
+        let serial = self.notes.len() as u64 + 1;
+        let group = Text::new(Vec::from_slice(self.alloc, name)?);
+        self.notes.reserve(1)?;
+        expire_one(&mut self.groups, &self.places, name, serial, number)?;
+        let Ok(()) = self.notes.push(Note::Expiry { group, number }) else {
+            unreachable!()
+        };
+        Ok(())
+    }
+}
