@@ -1,0 +1,138 @@
+//! GROUP and LISTGROUP.
+
+ghost use Rattle.std.specs.Prelude.{◌≡◌, ◌∷◌, decimal, ◌+◌, ◌-◌, ◌++◌, ◌≤◌, IfOk, OnOk};
+ghost use Rattle.model.specs.Stream.{line};
+ghost use Rattle.model.specs.Answer as answers;
+ghost use Rattle.model.specs.Names.{numbers_from};
+ghost use Rattle.model.specs.Reads.{group_reads, selected_reads};
+ghost use Rattle.model.specs.Spool.{contents, contents_if_here, last_naming};
+ghost use Rattle.lookups.specs.Held.{IsCounts};
+ghost use Rattle.replies.specs.Answered.{answered};
+ghost use Rattle.reading_commands.specs.Words.{counted};
+
+use crate::ranges::{numbers_in, push_numbers};
+use lookups::{Counts, LookUps, counts_of, find_group};
+use model::{Range, Session};
+use replies::{Answered, Reply, answer, push_end, push_line, push_number, says_line, selecting};
+use std::alloc::{AllocError, Global};
+
+/// How many articles are in a group with these numbers.
+fn count(counts: Counts) -> u64
+    requires { 1 ≤ counts.low }
+    ensures { result ≡ counts.high + 1 - counts.low }
+{
+    if counts.low > counts.high {
+        return 0;
+    }
+    counts.high - counts.low + 1
+}
+
+/// A number, and a space in front.
+fn push_spaced(reply: &mut Vec<u8>, number: u64) -> Result<(), AllocError>
+    ensures { OnOk result (reply.new.items ≡ reply.old.items ++ 32 ∷ decimal number) }
+{
+    reply.extend_from_slice(b" ")?;
+    push_number(reply, number)
+}
+
+/// Count, lowest and highest number, and name.
+fn push_counted(reply: &mut Vec<u8>, counts: Counts, group: &[u8]) -> Result<(), AllocError>
+    requires { 1 ≤ counts.low }
+    ensures { OnOk result (reply.new.items ≡ reply.old.items ++ counted counts.low counts.high group.now) }
+{
+    reply.extend_from_slice(b"211")?;
+    push_spaced(reply, count(counts))?;
+    push_spaced(reply, counts.low)?;
+    push_spaced(reply, counts.high)?;
+    reply.extend_from_slice(b" ")?;
+    reply.extend_from_slice(group)
+}
+
+/// GROUP (RFC 3977, section 6.1.1).
+pub fn group<L: LookUps>(
+    alloc: Global,
+    spool: &L,
+    session: &Session,
+    group: &[u8],
+) -> Result<Answered, AllocError>
+    ensures { IfOk result (λ r. r ≡ answered (answers.if_here session.now (contents_if_here (L.changes spool.now) group.now) (answers.group_answer session.now group.now)) (group_reads (L.changes spool.now) group.now)) }
+{
+    match find_group(spool, group) {
+        Some(found) => selected(alloc, spool, session, group, found.counts),
+        None => says_line(alloc, session, Reply::NoSuchGroup, 0),
+    }
+}
+
+fn selected<L: LookUps>(
+    alloc: Global,
+    spool: &L,
+    session: &Session,
+    group: &[u8],
+    counts: Counts,
+) -> Result<Answered, AllocError>
+    requires { IsCounts (L.changes spool.now) group.now counts }
+    ensures { IfOk result (λ r. r ≡ answered (answers.group_answer session.now group.now (contents (L.changes spool.now) group.now)) (last_naming (L.changes spool.now) group.now)) }
+{
+    let mut reply = Vec::new(alloc);
+    push_counted(&mut reply, counts, group)?;
+    reply.extend_from_slice(b"\r\n")?;
+    let next = selecting(alloc, session, group, counts.low, count(counts))?;
+    Ok(answer(reply, next, counts.last))
+}
+
+/// LISTGROUP of a group that is named (RFC 3977, section 6.1.2).
+pub fn list_group<L: LookUps>(
+    alloc: Global,
+    spool: &L,
+    session: &Session,
+    group: &[u8],
+    range: &Range,
+) -> Result<Answered, AllocError>
+    ensures { IfOk result (λ r. r ≡ answered (answers.if_here session.now (contents_if_here (L.changes spool.now) group.now) (answers.listgroup_answer session.now range.now group.now)) (group_reads (L.changes spool.now) group.now)) }
+{
+    match find_group(spool, group) {
+        Some(found) => numbered(alloc, spool, session, group, range, found.counts),
+        None => says_line(alloc, session, Reply::NoSuchGroup, 0),
+    }
+}
+
+/// LISTGROUP of the selected group (RFC 3977, section 6.1.2).
+pub fn list_selected<L: LookUps>(
+    alloc: Global,
+    spool: &L,
+    session: &Session,
+) -> Result<Answered, AllocError>
+    ensures { IfOk result (λ r. r ≡ answered (answers.in_selected (L.changes spool.now) session.now session.now.group (answers.listgroup_answer session.now (numbers_from 1))) (selected_reads (L.changes spool.now) session.now.group)) }
+{
+    let all = Range {
+        first: 1,
+        last: None,
+    };
+    match &session.group {
+        Some(group) => {
+            let counts = counts_of(spool, group.as_slice());
+            numbered(alloc, spool, session, group.as_slice(), &all, counts)
+        }
+        None => says_line(alloc, session, Reply::NoGroupSelected, 0),
+    }
+}
+
+fn numbered<L: LookUps>(
+    alloc: Global,
+    spool: &L,
+    session: &Session,
+    group: &[u8],
+    range: &Range,
+    counts: Counts,
+) -> Result<Answered, AllocError>
+    requires { IsCounts (L.changes spool.now) group.now counts }
+    ensures { IfOk result (λ r. r ≡ answered (answers.listgroup_answer session.now range.now group.now (contents (L.changes spool.now) group.now)) (last_naming (L.changes spool.now) group.now)) }
+{
+    let mut reply = Vec::new(alloc);
+    push_counted(&mut reply, counts, group)?;
+    push_line(&mut reply, b" list follows")?;
+    push_numbers(&mut reply, numbers_in(range, counts))?;
+    push_end(&mut reply)?;
+    let next = selecting(alloc, session, group, counts.low, count(counts))?;
+    Ok(answer(reply, next, counts.last))
+}

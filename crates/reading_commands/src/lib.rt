@@ -1,0 +1,15 @@
+//! The commands on the selected group and on articles (RFC 3977, sections 6 and 8.3). Each answers as `specs/Answer.antt` of
+//! the crate `model` says, with what `specs/Reads.antt` says that it reads. An error is that memory is refused.
+#![tactic(auto)]
+
+mod fetch;
+mod groups;
+mod moves;
+mod overviews;
+mod parts;
+mod ranges;
+
+pub use fetch::{fetch_current, fetch_id, fetch_number};
+pub use groups::{group, list_group, list_selected};
+pub use moves::{last, next};
+pub use overviews::{over_current, over_id, over_range};
