@@ -23,11 +23,7 @@ mod index;
 mod laws;
 mod origin;
 mod reading;
-#[cfg(test)]
-mod reading_tests;
 mod string;
-#[cfg(test)]
-mod tests;
 
 use article::{groups, id};
 pub use batch::{BATCH_BLOCKS, BatchBuf};

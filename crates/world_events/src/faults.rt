@@ -1,11 +1,10 @@
 //! Device calls counted, and a fault at each of them.
 
-use crate::events::Row;
 use crate::first_script::{
-    COMMITTED, HELD, MADE, POSTED, RELEASED, SETTLED, first_wrong, is_opened,
+    committed, first_wrong, held, is_opened, made, posted, released, settled,
 };
-use crate::sealed::{BLOCKS, Device, Sim};
 use memdisk::Pick;
+use sim_world::{BLOCKS, Device, Row, Sim};
 use std::alloc::Global;
 use std::test::Fail;
 use world::OpenError;
@@ -39,7 +38,7 @@ fn with_fault(alloc: Global, call: u64) -> Result<Sim, Fail> {
     let mut sim = Sim::new(alloc)?;
     sim.fail_at(call);
     let mut left = call;
-    for rows in [MADE, SETTLED, POSTED, COMMITTED] {
+    for rows in [made(), settled(), posted(), committed()] {
         left = play_faulted(alloc, &mut sim, rows, left)?;
     }
     if left != 0 {
@@ -60,8 +59,8 @@ fn is_survived(
     let sim = with_fault(alloc, call)?;
     let octets = match durable {
         0 => b"".as_slice(),
-        1 => HELD,
-        _ => RELEASED,
+        1 => held(),
+        _ => released(),
     };
     let (_, is_durable, _) = sim.counts();
     if is_durable != durable || !sim.has_released(1, octets) {
@@ -74,26 +73,28 @@ fn is_survived(
 /// The first and the last device call of the script where a fault leaves the same: how many changes are durable, and how many
 /// are opened where the last gate is as it was and where it is as it was written. It is written and not synced at the calls 4, 5,
 /// 13 and 14.
-const FAULTS: [(u64, u64, u64, u64, u64); 5] = [
-    (1, 3, 0, 0, 0),
-    (4, 5, 0, 0, 1),
-    (6, 12, 1, 1, 1),
-    (13, 14, 1, 1, 2),
-    (15, 18, 2, 2, 2),
-];
+fn faults() -> &'static [(u64, u64, u64, u64, u64)] {
+    &[
+        (1, 3, 0, 0, 0),
+        (4, 5, 0, 0, 1),
+        (6, 12, 1, 1, 1),
+        (13, 14, 1, 1, 2),
+        (15, 18, 2, 2, 2),
+    ]
+}
 
 #[test]
 fn fault_at_each_device_call(rt: HostRuntime) -> Result<(), Fail> {
     let alloc = rt.alloc();
-    for (first, last, durable, closed, open) in FAULTS {
-        for call in first..=last {
+    for (first, last, durable, closed, open) in faults() {
+        for call in *first..=*last {
             for (pick, opened) in [
-                (Pick::Old, closed),
-                (Pick::New, open),
-                (Pick::Fill(1), open),
-                (Pick::Fill(77), closed),
+                (Pick::Old, *closed),
+                (Pick::New, *open),
+                (Pick::Fill(1), *open),
+                (Pick::Fill(77), *closed),
             ] {
-                assert!(rt; is_survived(alloc, call, durable, pick, opened)?, "{call}");
+                assert!(rt; is_survived(alloc, call, *durable, pick, opened)?, "{call}");
             }
         }
     }
@@ -107,7 +108,7 @@ fn fault_at_each_device_call(rt: HostRuntime) -> Result<(), Fail> {
 fn fault_within_an_opening(rt: HostRuntime) -> Result<(), Fail> {
     let alloc = rt.alloc();
     let mut sim = Sim::new(alloc)?;
-    assert_eq!(rt; first_wrong(alloc, &mut sim, MADE)?, None);
+    assert_eq!(rt; first_wrong(alloc, &mut sim, made())?, None);
     let mut device = sim.into_device();
     for call in [1, 2, 3, 4, 5, 6, 7, 8, 9, 10, 11, 3 + BLOCKS] {
         device = faulted_opening(alloc, device, call)?;
@@ -131,31 +132,35 @@ fn faulted_opening(alloc: Global, mut device: Device, call: u64) -> Result<Devic
 }
 
 /// A batch of one image begins.
-const TAKEN: &[Row] = &[
-    ("group x.a y 1000000000 test", "made 1"),
-    ("take", "took Some(1)"),
-];
+fn taken() -> &'static [Row] {
+    &[
+        ("group x.a y 1000000000 test", "made 1"),
+        ("take", "took Some(1)"),
+    ]
+}
 
 /// What its device calls answer, with the writes and syncs up to each of them.
-const CALLS: &[(&str, u64, u64)] = &[
-    ("Working", 1, 0),
-    ("Working", 2, 0),
-    ("Working", 2, 1),
-    ("Working", 3, 1),
-    ("Committed(1)", 3, 2),
-    ("Working", 4, 2),
-    ("Working", 4, 3),
-    ("Working", 5, 3),
-    ("Idle", 5, 4),
-    ("Idle", 5, 4),
-];
+fn calls() -> &'static [(&'static str, u64, u64)] {
+    &[
+        ("Working", 1, 0),
+        ("Working", 2, 0),
+        ("Working", 2, 1),
+        ("Working", 3, 1),
+        ("Committed(1)", 3, 2),
+        ("Working", 4, 2),
+        ("Working", 4, 3),
+        ("Working", 5, 3),
+        ("Idle", 5, 4),
+        ("Idle", 5, 4),
+    ]
+}
 
 /// How many writes and syncs the device was asked for by a batch's first calls. Each is to be answered so.
 fn counts_after(alloc: Global, calls: &[(&str, u64, u64)]) -> Result<(u64, u64), Fail> {
     let device = Device::new(alloc)?;
     let (writes, syncs) = device.counts();
     let mut sim = Sim::over(alloc, device)?;
-    if first_wrong(alloc, &mut sim, TAKEN)?.is_some() {
+    if first_wrong(alloc, &mut sim, taken())?.is_some() {
         return Err("no batch")?;
     }
     for (answer, _, _) in calls {
@@ -173,8 +178,8 @@ fn counts_after(alloc: Global, calls: &[(&str, u64, u64)]) -> Result<(u64, u64),
 
 #[test]
 fn device_calls_of_a_batch(rt: HostRuntime) -> Result<(), Fail> {
-    for (place, (_, writes, syncs)) in CALLS.iter().enumerate() {
-        let counts = counts_after(rt.alloc(), CALLS.get(..=place).unwrap_or(CALLS))?;
+    for (place, (_, writes, syncs)) in calls().iter().enumerate() {
+        let counts = counts_after(rt.alloc(), calls().get(..=place).unwrap_or(calls()))?;
         assert_eq!(rt; counts, (*writes, *syncs), "{place}");
     }
     Ok(())

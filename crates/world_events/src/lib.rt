@@ -5,8 +5,6 @@
 #[cfg(test)]
 mod answers;
 #[cfg(test)]
-mod events;
-#[cfg(test)]
 mod faults;
 #[cfg(test)]
 mod first_script;
@@ -14,5 +12,3 @@ mod first_script;
 mod lines;
 #[cfg(test)]
 mod refusals;
-#[cfg(test)]
-mod sealed;

@@ -38,15 +38,17 @@ fn lines_without_text(rt: HostRuntime) {
 }
 
 /// Lines with which octets arrive for session 1.
-const ARRIVALS: &[(&str, &[u8])] = &[
-    ("line 1", b"\r\n"),
-    ("line 1 ", b"\r\n"),
-    ("line 1 POST", b"POST\r\n"),
-    ("line 1  Subject: one ", b" Subject: one \r\n"),
-    ("hex 1 504f5354", b"POST"),
-    ("hex 1 0D0a00fF", b"\r\n\x00\xff"),
-    ("hex 1 19afAF", b"\x19\xaf\xaf"),
-];
+fn arrivals() -> &'static [(&'static str, &'static [u8])] {
+    &[
+        ("line 1", b"\r\n"),
+        ("line 1 ", b"\r\n"),
+        ("line 1 POST", b"POST\r\n"),
+        ("line 1  Subject: one ", b" Subject: one \r\n"),
+        ("hex 1 504f5354", b"POST"),
+        ("hex 1 0D0a00fF", b"\r\n\x00\xff"),
+        ("hex 1 19afAF", b"\x19\xaf\xaf"),
+    ]
+}
 
 /// Whether these octets arrive for session 1.
 fn arrive(alloc: Global, line: &str, wanted: &[u8]) -> bool {
@@ -58,27 +60,36 @@ fn arrive(alloc: Global, line: &str, wanted: &[u8]) -> bool {
 
 #[test]
 fn lines_with_octets(rt: HostRuntime) {
-    for (line, octets) in ARRIVALS {
+    for (line, octets) in arrivals() {
         assert!(rt; arrive(rt.alloc(), line, octets), "{line}");
     }
 }
 
 /// Lines that make the group x.a, with its status, moment and description.
-const GROUPS: &[(&str, u8, u64, &[u8])] = &[
-    ("group x.a n 1000000000 a b  c", b'n', 1_000_000_000, b"a b  c"),
-    ("group x.a y 0 ", b'y', 0, b""),
-    ("group x.a y 253402300799 ~", b'y', 253_402_300_799, b"~"),
-];
+fn groups() -> &'static [(&'static str, u8, u64, &'static [u8])] {
+    &[
+        (
+            "group x.a n 1000000000 a b  c",
+            b'n',
+            1_000_000_000,
+            b"a b  c",
+        ),
+        ("group x.a y 0 ", b'y', 0, b""),
+        ("group x.a y 253402300799 ~", b'y', 253_402_300_799, b"~"),
+    ]
+}
 
 /// Whether the group x.a is made so.
 fn is_group(alloc: Global, line: &str, wanted: (u8, u64, &[u8])) -> bool {
     match parse(alloc, line.as_bytes()) {
-        Ok(Line::Group {
-            name,
-            status,
-            moment,
-            description,
-        }) => {
+        Ok(
+            Line::Group {
+                name,
+                status,
+                moment,
+                description,
+            },
+        ) => {
             name.as_slice() == b"x.a".as_slice()
                 && (status, moment, description.as_slice()) == wanted
         }
@@ -88,7 +99,7 @@ fn is_group(alloc: Global, line: &str, wanted: (u8, u64, &[u8])) -> bool {
 
 #[test]
 fn lines_with_a_group(rt: HostRuntime) {
-    for (line, status, moment, description) in GROUPS {
+    for (line, status, moment, description) in groups() {
         assert!(rt;
             is_group(rt.alloc(), line, (*status, *moment, *description)),
             "{line}"
@@ -97,54 +108,56 @@ fn lines_with_a_group(rt: HostRuntime) {
 }
 
 /// Lines outside the grammar.
-const BAD: &[&[u8]] = &[
-    b"",
-    b" ",
-    b"join ",
-    b"join 1",
-    b" join",
-    b"JOIN",
-    b"joins",
-    b"take 1",
-    b"leave",
-    b"leave ",
-    b"leave x",
-    b"leave 1 2",
-    b"leave -1",
-    b"leave +1",
-    b"leave 18446744073709551616",
-    b"line",
-    b"line x POST",
-    b"line  1 POST",
-    b"hex 1",
-    b"hex 1 ",
-    b"hex 1 5",
-    b"hex 1 50 4f",
-    b"hex 1 5g",
-    b"hex x 50",
-    b"exec 1",
-    b"exec 1 253402300800",
-    b"exec 1  0",
-    b"exec 1 0 ",
-    b"fail",
-    b"fail one",
-    b"crash",
-    b"crash Old",
-    b"crash 1",
-    b"crash 001",
-    b"crash 0000",
-    b"crash 0x",
-    b"group x.a y 0",
-    b"group x.a Y 0 t",
-    b"group x.a yn 0 t",
-    b"group x..a y 0 t",
-    b"group x.a y 253402300800 t",
-    b"group  y 0 t",
-    b"group x.a y 0 \x1f",
-    b"group x.a y 0 \x7f",
-    b"group x.a y 0 \xc3\xa9",
-    b"dump",
-];
+fn bad() -> &'static [&'static [u8]] {
+    &[
+        b"",
+        b" ",
+        b"join ",
+        b"join 1",
+        b" join",
+        b"JOIN",
+        b"joins",
+        b"take 1",
+        b"leave",
+        b"leave ",
+        b"leave x",
+        b"leave 1 2",
+        b"leave -1",
+        b"leave +1",
+        b"leave 18446744073709551616",
+        b"line",
+        b"line x POST",
+        b"line  1 POST",
+        b"hex 1",
+        b"hex 1 ",
+        b"hex 1 5",
+        b"hex 1 50 4f",
+        b"hex 1 5g",
+        b"hex x 50",
+        b"exec 1",
+        b"exec 1 253402300800",
+        b"exec 1  0",
+        b"exec 1 0 ",
+        b"fail",
+        b"fail one",
+        b"crash",
+        b"crash Old",
+        b"crash 1",
+        b"crash 001",
+        b"crash 0000",
+        b"crash 0x",
+        b"group x.a y 0",
+        b"group x.a Y 0 t",
+        b"group x.a yn 0 t",
+        b"group x..a y 0 t",
+        b"group x.a y 253402300800 t",
+        b"group  y 0 t",
+        b"group x.a y 0 \x1f",
+        b"group x.a y 0 \x7f",
+        b"group x.a y 0 \xc3\xa9",
+        b"dump",
+    ]
+}
 
 /// A line as it is read, in its debug form, or why it is not.
 fn shown(alloc: Global, line: &[u8]) -> Result<String, Fail> {
@@ -156,7 +169,7 @@ fn shown(alloc: Global, line: &[u8]) -> Result<String, Fail> {
 
 #[test]
 fn bad_lines(rt: HostRuntime) -> Result<(), Fail> {
-    for (place, line) in BAD.iter().enumerate() {
+    for (place, line) in bad().iter().enumerate() {
         assert_eq!(rt; shown(rt.alloc(), line)?.as_str(), "bad event", "{place}");
     }
     assert_eq!(rt; shown(rt.alloc(), b"leave 7")?.as_str(), "Leave(7)");

@@ -7,8 +7,7 @@ use std::test::Fail;
 use world::{OpenError, StepError};
 
 #[test]
-fn errors_are_refusals_by_number_and_name(rt: HostRuntime) -> Result<(), Fail> {
-    let alloc = rt.alloc();
+fn refusals_of_a_world(rt: HostRuntime) -> Result<(), Fail> {
     for (error, text) in [
         (StepError::Fault, "E1 Fault"),
         (StepError::Memory, "E2 Memory"),
@@ -20,27 +19,51 @@ fn errors_are_refusals_by_number_and_name(rt: HostRuntime) -> Result<(), Fail> {
         (StepError::NoSession, "E10 NoSession"),
         (StepError::Exists, "E11 Exists"),
     ] {
-        assert_eq!(rt; error.to_string(alloc)?.as_str(), text);
+        assert_eq!(rt; error.to_string(rt.alloc())?.as_str(), text);
     }
+    Ok(())
+}
+
+#[test]
+fn refusal_of_a_ticket(rt: HostRuntime) -> Result<(), Fail> {
+    assert_eq!(rt; Stale.to_string(rt.alloc())?.as_str(), "E13 Stale");
+    Ok(())
+}
+
+#[test]
+fn refusals_of_an_opening(rt: HostRuntime) -> Result<(), Fail> {
     for (error, text) in [
         (OpenError::Fault, "E1 Fault"),
         (OpenError::Memory, "E2 Memory"),
         (OpenError::NotAVolume, "E3 NotAVolume"),
         (OpenError::Damaged, "E5 Damaged"),
     ] {
-        assert_eq!(rt; error.to_string(alloc)?.as_str(), text);
-        // the program's own refusal at its opening
-        assert_eq!(rt; Failure::NotOpened(error).to_string(alloc)?.as_str(), text);
-        assert_eq!(rt; Failure::NotOpened(error).status(), REFUSED);
+        assert_eq!(rt; error.to_string(rt.alloc())?.as_str(), text);
     }
-    assert_eq!(rt; Stale.to_string(alloc)?.as_str(), "E13 Stale");
+    Ok(())
+}
+
+#[test]
+fn refusals_that_end_the_program(rt: HostRuntime) -> Result<(), Fail> {
     for (failure, text, status) in [
         (Failure::Memory, "E2 Memory", REFUSED),
         (Failure::Bad, "E14 Bad", REFUSED),
+        (Failure::NotOpened(OpenError::Fault), "E1 Fault", REFUSED),
+        (Failure::NotOpened(OpenError::Memory), "E2 Memory", REFUSED),
+        (
+            Failure::NotOpened(OpenError::NotAVolume),
+            "E3 NotAVolume",
+            REFUSED,
+        ),
+        (
+            Failure::NotOpened(OpenError::Damaged),
+            "E5 Damaged",
+            REFUSED,
+        ),
         (Failure::BadEvent(3), "line 3: bad event", NOT_UNDERSTOOD),
     ] {
-        assert_eq!(rt; failure.to_string(alloc)?.as_str(), text);
-        assert_eq!(rt; failure.status(), status);
+        let is_so = failure.to_string(rt.alloc())?.as_str() == text && failure.status() == status;
+        assert!(rt; is_so, "{text}");
     }
     Ok(())
 }

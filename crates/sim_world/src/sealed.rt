@@ -4,6 +4,7 @@ ghost use Rattle.std.specs.Prelude.{◌≡◌, ◌≤◌, slice_get, Some, ℕ};
 ghost use Rattle.std.specs.List.{All};
 ghost use Rattle.world.specs.Events.{MayHappen};
 
+use crate::errors::SimError;
 use crate::events::{Row, event, read, said};
 use disk::{Disk, Faults};
 use journal::format;
@@ -12,11 +13,10 @@ use model::Change;
 use served::Entry;
 use std::alloc::Global;
 use std::marker::Model;
-use std::test::Fail;
 use world::{Answer, Event, OpenError, Refused, StepError, World};
 
 /// The logical blocks of the device.
-pub(crate) const BLOCKS: u64 = 1024;
+pub const BLOCKS: u64 = 1024;
 
 /// Octets of a block.
 const BLOCK: u64 = 4096;
@@ -29,7 +29,7 @@ const LABEL: usize = 128;
 
 /// A device in memory.
 #[derive(Drop)]
-pub(crate) struct Device {
+pub struct Device {
     disk: MemDisk,
 }
 
@@ -41,54 +41,57 @@ impl Model for Device {
 
 impl Device {
     /// One with a new volume of `BLOCKS` blocks, whose label says 64 inodes and the host `news.example`.
-    pub(crate) fn new(alloc: Global) -> Result<Device, Fail> {
+    pub fn new(alloc: Global) -> Result<Device, SimError> {
         formatted(alloc, BLOCKS)
     }
 
     /// How many writes and syncs it was asked for since it was made.
-    pub(crate) fn counts(&self) -> (u64, u64) {
+    pub fn counts(&self) -> (u64, u64) {
         self.disk.counts()
     }
 
     /// The device call fails that is so many from now on.
-    pub(crate) fn fail_at(&mut self, call: u64) {
+    pub fn fail_at(&mut self, call: u64) {
         self.disk.fail_at(call);
     }
 
     /// Each touched octet becomes what the pick makes of it.
-    pub(crate) fn crash(&mut self, pick: Pick) {
+    pub fn crash(&mut self, pick: Pick) {
         self.disk.crash(&[pick]);
     }
 
     /// Writes an octet.
-    pub(crate) fn put(&mut self, at: u64, octet: u8) -> Result<(), Fail> {
+    pub fn put(&mut self, at: u64, octet: u8) -> Result<(), SimError> {
         if at >= self.disk.len() {
-            return Err("no such place")?;
+            return Err(SimError::NoPlace);
         }
-        Ok(self.disk.write(at, &[octet])?)
+        match self.disk.write(at, &[octet]) {
+            Ok(()) => Ok(()),
+            Err(_) => Err(SimError::NoPlace),
+        }
     }
 }
 
 /// A device with a new volume of so many blocks. The number is no constant here, as a proof would count with it.
-fn formatted(alloc: Global, blocks: u64) -> Result<Device, Fail>
+fn formatted(alloc: Global, blocks: u64) -> Result<Device, SimError>
     requires low { 1024 ≤ blocks }
     requires high { blocks ≤ 65536 }
 {
     let mut label = Vec::from_slice(alloc, b"\x40\0\0\0\x0cnews.example")?;
     label.resize(LABEL, 0)?;
     if label.len() != LABEL {
-        return Err("no label")?;
+        return Err(SimError::NotMade);
     }
     let mut disk = MemDisk::new(alloc, (BLOCKS_BEFORE + blocks) * BLOCK)?;
     match format(alloc, &mut disk, blocks, label.as_slice()) {
         Ok(()) => Ok(Device { disk }),
-        Err(error) => Err(error)?,
+        Err(_) => Err(SimError::NotMade),
     }
 }
 
 /// A world over a device in memory.
 #[derive(Drop)]
-pub(crate) struct Sim {
+pub struct Sim {
     world: World<MemDisk>,
 }
 
@@ -100,14 +103,14 @@ impl Model for Sim {
 
 /// A device that was not opened, and why.
 #[derive(Drop)]
-pub(crate) struct NotOpened {
-    pub(crate) device: Device,
-    pub(crate) error: OpenError,
+pub struct NotOpened {
+    pub device: Device,
+    pub error: OpenError,
 }
 
 impl Sim {
     /// Opens a device.
-    pub(crate) fn open(alloc: Global, device: Device) -> Result<Sim, NotOpened> {
+    pub fn open(alloc: Global, device: Device) -> Result<Sim, NotOpened> {
         match opened(alloc, device.disk) {
             Ok(world) => Ok(Sim { world }),
             Err(refused) => {
@@ -121,51 +124,51 @@ impl Sim {
     }
 
     /// Opens a device that is to be opened.
-    pub(crate) fn over(alloc: Global, device: Device) -> Result<Sim, Fail> {
+    pub fn over(alloc: Global, device: Device) -> Result<Sim, SimError> {
         match Sim::open(alloc, device) {
             Ok(sim) => Ok(sim),
-            Err(refused) => Err(refused.error)?,
+            Err(refused) => Err(SimError::NotOpened(refused.error)),
         }
     }
 
     /// Over a device with a new volume.
-    pub(crate) fn new(alloc: Global) -> Result<Sim, Fail> {
+    pub fn new(alloc: Global) -> Result<Sim, SimError> {
         Sim::over(alloc, Device::new(alloc)?)
     }
 
     /// The device crashes, each touched octet by this pick, and is opened again.
-    pub(crate) fn crash(self, alloc: Global, pick: Pick) -> Result<Sim, Fail> {
+    pub fn crash(self, alloc: Global, pick: Pick) -> Result<Sim, SimError> {
         let mut device = self.into_device();
         device.crash(pick);
         Sim::over(alloc, device)
     }
 
-    pub(crate) fn into_device(self) -> Device {
+    pub fn into_device(self) -> Device {
         Device {
             disk: self.world.into_disk(),
         }
     }
 
     /// Does what a line asks, and answers in words.
-    pub(crate) fn tell(&mut self, alloc: Global, line: &str) -> Result<String, Fail> {
+    pub fn tell(&mut self, alloc: Global, line: &str) -> Result<String, SimError> {
         let event = event(alloc, line)?;
         Ok(said(alloc, stepped(alloc, &mut self.world, &event))?)
     }
 
     /// Does what the rows' lines ask by `World::run`, and answers how many events it went through.
-    pub(crate) fn run(&mut self, alloc: Global, rows: &[Row]) -> Result<u64, Fail> {
+    pub fn run(&mut self, alloc: Global, rows: &[Row]) -> Result<u64, SimError> {
         let mut events = Vec::new(alloc);
         read(alloc, rows, &mut events)?;
         Ok(ran(alloc, &mut self.world, &events))
     }
 
     /// The device call fails that is so many from now on.
-    pub(crate) fn fail_at(&mut self, call: u64) {
+    pub fn fail_at(&mut self, call: u64) {
         self.world.fail_at(call);
     }
 
     /// How many changes were there at the opening, are durable, and are accepted.
-    pub(crate) fn counts(&self) -> (u64, u64, u64) {
+    pub fn counts(&self) -> (u64, u64, u64) {
         (
             self.world.opened(),
             self.world.durable(),
@@ -173,25 +176,25 @@ impl Sim {
         )
     }
 
-    pub(crate) fn trace(&self) -> &[Entry] {
+    pub fn trace(&self) -> &[Entry] {
         self.world.trace()
     }
 
-    pub(crate) fn has_arrived(&self, session: u64, octets: &[u8]) -> bool {
+    pub fn has_arrived(&self, session: u64, octets: &[u8]) -> bool {
         self.world.arrived(session) == octets
     }
 
-    pub(crate) fn has_released(&self, session: u64, octets: &[u8]) -> bool {
+    pub fn has_released(&self, session: u64, octets: &[u8]) -> bool {
         self.world.released(session) == octets
     }
 
     /// Whether the change with this serial is a group of this name.
-    pub(crate) fn is_group(&self, serial: u64, name: &[u8]) -> bool {
+    pub fn is_group(&self, serial: u64, name: &[u8]) -> bool {
         self.world.spool().group(name) == Some(serial)
     }
 
     /// Whether the change with this serial is an article of this text.
-    pub(crate) fn is_article(&self, serial: u64, wanted: &[u8]) -> bool {
+    pub fn is_article(&self, serial: u64, wanted: &[u8]) -> bool {
         let spool = self.world.spool();
         if serial < 1 || serial > spool.len() {
             return false;

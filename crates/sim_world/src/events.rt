@@ -5,27 +5,27 @@ ghost use Rattle.std.specs.List.{All};
 ghost use Rattle.script.specs.Script.{IsLawful};
 ghost use Rattle.world.specs.Events.{MayHappen};
 
+use crate::errors::SimError;
 use model::Mark;
 use names::GroupName;
 use script::{Line, parse};
 use std::alloc::{AllocError, Global};
-use std::test::Fail;
 use world::{Answer, Event, StepError};
 
 /// A line of a script, and its answer.
-pub(crate) type Row = (&'static str, &'static str);
+pub type Row = (&'static str, &'static str);
 
 /// What a line asks.
-pub(crate) fn event(alloc: Global, line: &str) -> Result<Event, Fail>
+pub(crate) fn event(alloc: Global, line: &str) -> Result<Event, SimError>
     ensures { IfOk result MayHappen }
 {
     match parse(alloc, line.as_bytes()) {
         Ok(line) => event_of(line),
-        Err(_) => Err("no line")?,
+        Err(_) => Err(SimError::NoEvent),
     }
 }
 
-fn event_of(line: Line) -> Result<Event, Fail>
+fn event_of(line: Line) -> Result<Event, SimError>
     requires { IsLawful line }
     ensures { IfOk result MayHappen }
 {
@@ -52,7 +52,7 @@ fn event_of(line: Line) -> Result<Event, Fail>
         Line::Dev => Ok(Event::Dev),
         Line::Told => Ok(Event::Told),
         Line::Release => Ok(Event::Release),
-        _ => Err("no event")?,
+        _ => Err(SimError::NoEvent),
     }
 }
 
@@ -67,7 +67,7 @@ fn push(events: &mut Vec<Event>, event: Event) -> Result<(), AllocError>
 }
 
 /// Adds what these lines ask.
-pub(crate) fn read(alloc: Global, rows: &[Row], events: &mut Vec<Event>) -> Result<(), Fail>
+pub(crate) fn read(alloc: Global, rows: &[Row], events: &mut Vec<Event>) -> Result<(), SimError>
     requires { All MayHappen events.old.items }
     ensures { OnOk result (All MayHappen events.new.items) }
 {

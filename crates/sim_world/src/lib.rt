@@ -1,0 +1,11 @@
+//! The whole system over a device in memory as text in and text out, for tests. It promises nothing, so that what is proved of
+//! a caller carries no fact of the system.
+#![tactic(auto)]
+
+mod errors;
+mod events;
+mod sealed;
+
+pub use errors::SimError;
+pub use events::Row;
+pub use sealed::{BLOCKS, Device, NotOpened, Sim};
