@@ -42,7 +42,7 @@ fn event_of(line: Line) -> Result<Event, SimError>
                 description,
                 moment,
             }),
-            Err(_) => Err("no name")?,
+            Err(_) => Err(SimError::NoEvent),
         },
         Line::Join => Ok(Event::Join),
         Line::Leave(session) => Ok(Event::Leave(session)),
