@@ -42,7 +42,7 @@ pub record IsReply (host : Octets) (S : Spool) (before cut : ℕ) (o : Origin) (
   pub ends : held.ends ≡ is_none (mode_of (answer_at host S o).next.awaits)
   pub change : first S (o.position + length (made_at host S o)) ≡ first S o.position ++ made_at host S o
 
--- whole replies, each behind the one before it: in the session that that left, on a spool not shorter than that left
+-- whole replies, each after the one before it: in the session that that left, on a spool not shorter than that left
 abbrev pub AreReplies : Octets → Spool → Session → ℕ → ℕ → List Held → Session → Type 0
 AreReplies host S session before from [] last = session ≡ last
 AreReplies host S session before from (held ∷ rest) last =

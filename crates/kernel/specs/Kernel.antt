@@ -148,12 +148,12 @@ pub record Executed (old new : KernelView) (seat : Seat) (m : Message) (t : ℕ)
 
 -- ---- take_ready
 
--- the entries of a release, and the sessions behind it
+-- the entries of a release, and the sessions after it
 pub record Ready : Type 0 where
   pub entries : List Entry
   pub seats : List Seat
 
--- a session behind what it gave
+-- a session after what it gave
 abbrev pub seat_given : Seat → Giving → Seat
 seat_given seat g = record { number = seat.number; session = seat.session; given = g.given; held = g.held }
 

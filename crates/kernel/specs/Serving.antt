@@ -49,7 +49,7 @@ pub record SeatServed (old new : SpoolView) (before after : Seat) (m : Message) 
   pub spool : Grows old new (answer_in old before.session m t done.1).change
   pub reads_next : done.0 ≡ mode_of after.session.awaits
 
--- the reply to what is no command, behind which the session awaits what it did
+-- the reply to what is no command, after which the session awaits what it did
 pub record IsSyntaxError (reply : Reply) : Type 0 where
   pub octets : reply.octets.items ≡ syntax_error
   pub next : reply.next ≡ None

@@ -42,7 +42,7 @@ pub enum OpenError {
 
 impl Kernel {
     /// Opens what the logical blocks hold: all its changes are durable, and no session is there. The journal is idle and
-    /// not halted, as behind its opening; but for reads of the device it stays as it was, and it is halted only at `Fault`.
+    /// not halted, as after its opening; but for reads of the device it stays as it was, and it is halted only at `Fault`.
     /// Refused as `NotAVolume` (E3) where the label isn't one, as `Fault` (E1) where the device fails, as `Damaged` (E5)
     /// where the blocks hold no lawful spool of the label's host, and as `Memory` (E2).
     pub fn open<D: Disk>(alloc: Global, journal: &mut Journal<D>) -> Result<Kernel, OpenError>

@@ -70,7 +70,7 @@ fn too_long(alloc: Global) -> Result<Reply, AllocError>
     ))
 }
 
-/// A reply behind which the session awaits what it did.
+/// A reply after which the session awaits what it did.
 fn stays(octets: Vec<u8>) -> Reply
     ensures { result ≡ record { octets = octets; next = None; mark = Mark.Served } }
 {
@@ -81,7 +81,7 @@ fn stays(octets: Vec<u8>) -> Reply
     }
 }
 
-/// A reply behind which the session awaits this.
+/// A reply after which the session awaits this.
 fn turns(octets: Vec<u8>, next: Awaits, mark: Mark) -> Reply
     ensures { result ≡ record { octets = octets; next = Some next; mark = mark } }
 {

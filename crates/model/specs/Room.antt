@@ -83,11 +83,11 @@ blocks_taken (Append name octets) = (length octets + 4095) / 4096 + 1
 
 -- ---- what a change changes
 
--- the blocks that get octets where so many go behind so many
+-- the blocks that get octets where so many more go to the end of so many
 abbrev pub blocks_spanned : ℕ → ℕ → ℕ
 blocks_spanned size more = (size % 4096 + more + 4095) / 4096
 
--- octets behind a file change its inode, the blocks that get them, and the indirect block, where it has one then
+-- octets at the end of a file change its inode, the blocks that get them, and the indirect block, where it has one then
 abbrev pub blocks_appended : ℕ → ℕ → ℕ
 blocks_appended size more = 1 + blocks_spanned size more + (if nat_lt 40960 (size + more) then 1 else 0)
 
@@ -104,7 +104,7 @@ abbrev pub blocks_filed : Spool → Octets → Octets → ℕ
 blocks_filed S text g =
     blocks_appended (length (numbers_file S g)) (length (next_record S text g)) + blocks_appended (length (overview_file S g)) (length (next_line S text g))
 
--- the blocks that a change behind these changes may change
+-- the blocks that a change after these changes may change
 unfoldable pub blocks_changed : Spool → Change → ℕ
 blocks_changed S (Group name status description moment) =
     bitmap_blocks + blocks_made (length (change_file (record { serial = length S + 1; change = Group name status description moment })).content) + blocks_made 0 + blocks_made 0

@@ -115,12 +115,12 @@ HasRoomInFile n (Expire group number) = (n < 256 ^ 8) × (number < 256 ^ 4)
 
 -- ---- what a change does to the files
 
--- a call on files: an empty file is made; octets go behind those of a file
+-- a call on files: an empty file is made; octets go to the end of a file
 pub data FileCall : Type 0 where
   Create : Octets → FileCall
   Append : Octets → Octets → FileCall
 
--- a file, with these octets behind its own where it has this name
+-- a file, with these octets at its end where it has this name
 abbrev pub appended : Octets → Octets → File → File
 appended name octets file = if bytes_eq name file.name then record { name = file.name; content = file.content ++ octets } else file
 
@@ -128,7 +128,7 @@ abbrev pub after_call : List File → FileCall → List File
 after_call files (Create name) = files ++ record { name = name; content = [] } ∷ []
 after_call files (Append name octets) = map (appended name octets) files
 
--- the files behind some calls, one after the other
+-- the files after some calls, one after the other
 abbrev pub after_calls : List File → List FileCall → List File
 after_calls files [] = files
 after_calls files (call ∷ calls) = after_calls (after_call files call) calls
@@ -147,7 +147,7 @@ filing_calls S text g = Append (numbers_name g) (next_record S text g) ∷ Appen
 abbrev pub making_calls : Octets → Octets → List FileCall
 making_calls name octets = Create name ∷ Append name octets ∷ []
 
--- the calls that a change makes behind these changes
+-- the calls that a change makes after these changes
 abbrev pub change_calls : Spool → Change → List FileCall
 change_calls S (Group name status description moment) =
     making_calls (group_name name) (group_record (record { serial = length S + 1; name = name; status = status; description = description; moment = moment }))

@@ -25,7 +25,7 @@ pub fn creates_add_one_file()
     ensures { CreatesOne }
 {}
 
-/// Octets behind those of a file change no other file.
+/// Octets at the end of a file change no other file.
 pub fn appends_reach_one_file()
     ensures { AppendsToOne }
 {}

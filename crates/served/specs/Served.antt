@@ -143,7 +143,7 @@ replies_to served number = concat ((plain served).connections number).replies
 abbrev pub octets_of_held : List Held → Octets
 octets_of_held held = concat (map (λ (h : Held). h.octets) held)
 
--- The kernel has the plain server's spool. Of a session that is there, what was released and behind it what is held are its
+-- The kernel has the plain server's spool. Of a session that is there, what was released, followed by what is held, are its
 -- replies, and of one that ended all its replies were released.
 pub record FollowsPlain (served : ServedView) : Type 0 where
   pub spool : served.kernel.spool ≡ (plain served).spool

@@ -23,12 +23,12 @@ abbrev pub EmptyHoldsNone : Type 0
 EmptyHoldsNone = (host : Octets) (inodes : ℕ) (blocks : List Octets) → IsFileSystem inodes blocks → table inodes blocks ≡ replicate inodes None →
     Holds host inodes blocks []
 
--- The files of a spool with one change more are those behind the calls that the change makes.
+-- The files of a spool with one change more are those after the calls that the change makes.
 abbrev pub FilesGrow : Type 0
 FilesGrow = (host : Octets) (S : Spool) (c : Change) → length S + 1 < 10 ^ 10 → IsLawful host S → MayFollow host S c →
     files_of (S ++ c ∷ []) ≡ after_calls (files_of S) (change_calls S c)
 
--- Blocks that hold the files behind the calls of a change hold the spool with that change.
+-- Blocks that hold the files after the calls of a change hold the spool with that change.
 abbrev pub SpoolsGrow : Type 0
 SpoolsGrow = (host : Octets) (inodes : ℕ) (blocks : List Octets) (files : List File) (S : Spool) (c : Change) → length S + 1 < 10 ^ 10 →
     IsLawful host S → MayFollow host S c → HoldsFiles inodes blocks files → IsPermutation files (after_calls (files_of S) (change_calls S c)) →
@@ -73,7 +73,7 @@ CreatesOne = (files : List File) (inodes : List (Option File)) (k : ℕ) (name :
     IsPermutation (files_in inodes) files →
     IsPermutation (files_in (slice_set inodes k (Some (record { name = name; content = [] })))) (after_call files (Create name))
 
--- octets behind those of the one file with this name
+-- octets at the end of the one file with this name
 abbrev pub AppendsToOne : Type 0
 AppendsToOne = (files : List File) (inodes : ℕ) (blocks : List Octets) (k : ℕ) (name content octets : Octets) → IsFileSystem inodes blocks →
     slice_index_or (table inodes blocks) k None ≡ Some (record { name = name; content = content }) →
