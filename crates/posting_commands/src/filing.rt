@@ -1,0 +1,130 @@
+//! Where an article is filed.
+
+ghost use Rattle.std.specs.Prelude.{◌≡◌, find, filter, option_map, IfOk, None};
+ghost use Rattle.model.specs.Answer.{groups_here, is_closed, same_id, spool_outcome};
+ghost use Rattle.model.specs.Article.{groups_of};
+ghost use Rattle.model.specs.Spool.{is_here, last_naming};
+ghost use Rattle.posting_commands.specs.Outcomes.{closed_among, outcome_by, told};
+
+use article::Article;
+use lookups::{LookUps, counts_of, find_group};
+use model::{Names, Text};
+use std::alloc::{AllocError, Global};
+
+/// What comes of an article.
+#[derive(Drop)]
+pub enum Outcome {
+    /// It is not filed, by what stands up to this serial.
+    Refused(u64),
+    /// It is filed in these groups.
+    Accepted(Names),
+}
+
+/// Which groups that take no articles are in the way.
+#[derive(Clone, Copy, PartialEq, Eq)]
+pub enum Closed {
+    Refuse,
+    Take,
+}
+
+/// The serial of the article that has the same id, also where it is gone.
+fn same_id<L: LookUps>(spool: &L, article: &Article<'_>) -> Option<u64>
+    ensures { result ≡ option_map (λ a. a.serial) (same_id (L.changes spool.now) article.now) }
+{
+    match article.id() {
+        Some(id) => spool.by_id(id),
+        None => None,
+    }
+}
+
+/// Those of the groups that are here.
+fn groups_here<L: LookUps>(
+    alloc: Global,
+    spool: &L,
+    names: &[Text],
+) -> Result<Vec<Text>, AllocError>
+    ensures { IfOk result (λ here. here.items ≡ filter (is_here (L.changes spool.now)) names.now) }
+{
+    let mut here = Vec::new(alloc);
+    for name in names {
+        if find_group(spool, name.as_slice()).is_some() {
+            here.push(name.copy(alloc)?)?;
+        }
+    }
+    Ok(here)
+}
+
+/// Whether the group is here and takes no articles.
+fn is_closed<L: LookUps>(spool: &L, name: &Text) -> bool
+    ensures { result ≡ is_closed (L.changes spool.now) name.now }
+{
+    match find_group(spool, name.as_slice()) {
+        Some(found) => found.closed,
+        None => false,
+    }
+}
+
+/// The last serial that names the first of the groups that takes no articles.
+fn first_closed<L: LookUps>(spool: &L, names: &[Text]) -> Option<u64>
+    ensures { result ≡ option_map (last_naming (L.changes spool.now)) (find (is_closed (L.changes spool.now)) names.now) }
+{
+    match names.iter().find(|name| is_closed(spool, name)) {
+        Some(name) => Some(counts_of(spool, name.as_slice()).last),
+        None => None,
+    }
+}
+
+/// The last serial that names the first of the groups that is in the way.
+fn last_of_closed<L: LookUps>(spool: &L, closed: Closed, names: &[Text]) -> Option<u64>
+    ensures { result ≡ option_map (last_naming (L.changes spool.now)) (closed_among closed (L.changes spool.now) names.now) }
+{
+    match closed {
+        Closed::Refuse => first_closed(spool, names),
+        Closed::Take => None,
+    }
+}
+
+/// What comes of an article by what is here: its id, its groups, those of them that take no articles.
+pub fn filing<L: LookUps>(
+    alloc: Global,
+    spool: &L,
+    article: &Article<'_>,
+    closed: Closed,
+) -> Result<Outcome, AllocError>
+    ensures { IfOk result (λ outcome. outcome ≡ told (L.changes spool.now) (spool_outcome (same_id (L.changes spool.now) article.now) (groups_here (L.changes spool.now) article.now) (closed_among closed (L.changes spool.now) (groups_of article.now)))) }
+{
+    match same_id(spool, article) {
+        Some(serial) => Ok(Outcome::Refused(serial)),
+        None => by_groups(alloc, spool, article, closed),
+    }
+}
+
+/// What comes of an article whose id is new, by its groups.
+#[tactic(auto, using(crate::proofs::Telling::told_groups))]
+fn by_groups<L: LookUps>(
+    alloc: Global,
+    spool: &L,
+    article: &Article<'_>,
+    closed: Closed,
+) -> Result<Outcome, AllocError>
+    requires { same_id (L.changes spool.now) article.now ≡ None }
+    ensures { IfOk result (λ outcome. outcome ≡ told (L.changes spool.now) (spool_outcome None (groups_here (L.changes spool.now) article.now) (closed_among closed (L.changes spool.now) (groups_of article.now)))) }
+{
+    let names = article.groups(alloc)?;
+    let in_the_way = last_of_closed(spool, closed, &names);
+    let here = groups_here(alloc, spool, &names)?;
+    Ok(made_outcome(here, in_the_way))
+}
+
+/// What comes of it, by its groups that are here and the last serial that names one in the way.
+fn made_outcome(here: Vec<Text>, in_the_way: Option<u64>) -> Outcome
+    ensures { result ≡ outcome_by here.items in_the_way }
+{
+    if here.is_empty() {
+        return Outcome::Refused(0);
+    }
+    match in_the_way {
+        Some(serial) => Outcome::Refused(serial),
+        None => Outcome::Accepted(Names::new(here)),
+    }
+}
