@@ -42,7 +42,7 @@ start-none (x ∷ rest) none =
 abbrev trimmed_end : Octets → Octets
 trimmed_end text = reverse (trimmed_start (reverse text))
 
--- the last octet behind those before it
+-- the last octet after those before it
 reversed : (text : Octets) (n : ℕ) → length text ≡ suc n → reverse text ≡ get_or text n 0 ∷ reverse (take n text)
 reversed text n size =
     ap reverse (sym (take_all (suc n) text (omega (arith, size))) ∙ take-suc text n 0 (omega (arith, size)))
@@ -58,7 +58,7 @@ end-blanks (suc n) e text size each =
     ∙ end-blanks n e front long (λ k low below. ap is_blank (get_or-take (e + n) text k 0 (omega (arith, long))) ∙ each k low (omega (arith, size, long)))
     ∙ sym (ap reverse (ap trimmed_start (reversed text (e + n) (omega (arith, size))) ∙ start-blank (get_or text (e + n) 0) (reverse front) (each (e + n) (omega arith) (omega (arith, size)))))
 
--- behind the last octet that is not blank the trimmed text ends
+-- after the last octet that is not blank the trimmed text ends
 pub end-found : (text : Octets) (at : ℕ) → at < length text → Nowhere (Passes (not_in blanks) text) (at + 1) (length text) → Passes (not_in blanks) text at → take (at + 1) text ≡ trimmed_end text
 end-found text at within after found =
     let front = take (at + 1) text in

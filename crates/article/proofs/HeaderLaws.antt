@@ -144,7 +144,7 @@ IsHeader-rest text rest at before none =
       room = λ below. absurd (omega arith);
     }
 
--- the lines of the text behind some of its lines
+-- the lines of the text after some of its lines
 pub lines-drop : (k : ℕ) (text : Octets) → lines (concat (drop k (lines text))) ≡ drop k (lines text)
 lines-drop zero text = ap lines (concat-lines text)
 lines-drop (suc k) [] = ap (λ l. lines (concat (drop (suc k) l))) lines-empty ∙ lines-empty ∙ sym (ap (drop (suc k)) lines-empty)

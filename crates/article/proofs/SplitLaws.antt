@@ -23,7 +23,7 @@ occurs-whole text last k within at = record {
       ap (λ i. get_or text i 0) place ∙ sym (get_or-drop last text (k + j) 0) ∙ at.reads j below;
 }
 
--- CRLF behind a place stands in what is left from there on
+-- CRLF after a place stands in what is left from there on
 occurs-left : (text : Octets) (last k : ℕ) → last ≤ k → OccursAt text crlf k → OccursAt (drop last text) crlf (k - last)
 occurs-left text last k low at = record {
   fits = omega (arith, at.fits, length-drop last text, low);
@@ -73,7 +73,7 @@ unfolded-never (x ∷ rest) never =
     ∙ cond-false (ends_with nat_eq text crlf) (take (length text - 2) text) text
     (ap (λ t. ends_with nat_eq t crlf) (sym (take_all (length text) text (omega arith))) ∙ never (length text) (omega arith))
 
--- one line, and then what is left where each CRLF is taken out behind it
+-- one line, and then what is left where each CRLF is taken out after it
 unfolded-line : (text : Octets) (last n : ℕ) → last ≤ length text → EndsAt mode.Line (drop last text) n
     → unfolded (drop (last + n) text) ≡ replaced_at text 2 [] (last + n) (matches text crlf (last + n))
     → unfolded (drop last text) ≡ replaced_at text 2 [] last (matches text crlf last)

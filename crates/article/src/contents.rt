@@ -33,7 +33,7 @@ pub(crate) fn find_field<'t>(fields: &[&'t [u8]], name: &[u8]) -> Option<&'t [u8
     fields.iter().find(|field| is_named(name, field)).copied()
 }
 
-/// What stands behind name, colon and one SP.
+/// What stands after name, colon and one SP.
 pub(crate) fn value_of(field: &[u8]) -> &[u8]
     ensures { result.now ≡ drop (length (article.name_of field.now) + 2) field.now }
 {

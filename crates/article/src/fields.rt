@@ -57,7 +57,7 @@ fn is_visible_run(name: &[u8]) -> bool
     !name.is_empty() && are_visible(name)
 }
 
-/// Whether a header line behind the first is one of fields.
+/// Whether a header line after the first is one of fields.
 fn is_field_line(line: &[u8]) -> bool
     ensures { result ≡ (names.begins names.is_blank line.now || article.begins_field line.now) }
 {

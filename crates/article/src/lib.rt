@@ -104,7 +104,7 @@ impl<'t> Article<'t> {
         line_count(self.body())
     }
 
-    /// The content of the first field of this name, in capitals or small letters: what stands behind name, colon and one
+    /// The content of the first field of this name, in capitals or small letters: what stands after name, colon and one
     /// SP, with the lines that go on with it, and each CRLF taken out. An `Err` is out of memory.
     pub fn field(&self, alloc: Global, name: &[u8]) -> Result<Option<Vec<u8>>, AllocError>
         ensures { IfOk result (λ content. option_map (λ octets. octets.items) content ≡ model_article.field name.now self.now) }

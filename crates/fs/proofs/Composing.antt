@@ -1,4 +1,4 @@
--- A change that grows a file behind one that doesn't.
+-- A change that grows a file after one that doesn't.
 use Rattle.std.proofs.Common.{◌≡◌, ◌<◌, ◌≤◌, ℕ, ◌+◌, ◌-◌, Option, List, ◌++◌, length, take, drop, sym, ◌∙◌, ap, subst, arith, length-drop}
 use Rattle.std.proofs.lemmas.List.{length-take-le, take_all}
 use Rattle.std.proofs.lemmas.Bool.{false≢true}
@@ -36,7 +36,7 @@ lowest_none old new few none b c inside inside' was is free = absurd (false≢tr
 pub lowest_same : (old new : List Octets) → length new ≤ 65536 → SameMarks old new → TakesLowest old new
 lowest_same old new few same = lowest_none old new few (λ b small marked. sym (same.marks b small) ∙ marked)
 
--- ---- octets over those of a file, and behind them
+-- ---- octets over those of a file, and after them
 
 module _ (inodes at place : ℕ) (octets name : Octets) (old mid : List Octets) (room : HasRoom inodes old) (fs : IsFileSystem inodes old) (low : at < inodes) (inside : place ≤ size (entry inodes old at)) (beyond : size (entry inodes old at) < place + length octets) (was within : ℕ) (was_is : was ≡ size (entry inodes old at)) (within_is : within ≡ was - place) (first : ReplacesContent inodes at (overwritten place (take within octets) (content_of old (entry inodes old at))) old mid) (same : SameMarks old mid) where
   abbrev content : Octets

@@ -40,7 +40,7 @@ pub fn read_at<B: Blocks>(
     Ok(octets)
 }
 
-/// Puts octets behind those of a file. `NotFound` exactly where the name isn't there, else `Full` exactly where the
+/// Puts octets after those of a file. `NotFound` exactly where the name isn't there, else `Full` exactly where the
 /// file would be too large or need more blocks than are free; both change nothing. After `Memory` the caller drops
 /// the stage.
 pub fn append<B: Blocks>(
@@ -73,7 +73,7 @@ pub fn append<B: Blocks>(
     Ok(())
 }
 
-/// Puts octets into a file from a place on, which is not behind its end: over those that stand there, and behind them.
+/// Puts octets into a file from a place on, which is not after its end: over those that stand there, and after them.
 /// `NotFound` exactly where the name isn't there, else `Full` exactly where the file would be too large or blocks are
 /// too few; both change nothing. After `Memory` the caller drops the stage.
 pub fn write_at<B: Blocks>(
@@ -115,7 +115,7 @@ pub fn write_at<B: Blocks>(
     Ok(())
 }
 
-/// Gives a file a size: it loses what lies behind, or zeros follow. `NotFound` exactly where the name isn't there, else
+/// Gives a file a size: it loses what lies after, or zeros follow. `NotFound` exactly where the name isn't there, else
 /// `Full` exactly where the file would be too large or blocks are too few; both change nothing. After `Memory` the
 /// caller drops the stage.
 pub fn truncate<B: Blocks>(

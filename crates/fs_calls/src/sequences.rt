@@ -41,7 +41,7 @@ impl Numbers {
     }
 }
 
-// Puts octets over those of a content, from a place on that is not behind its end, and behind them.
+// Puts octets over those of a content, from a place on that is not after its end, and after them.
 fn put(content: &mut Vec<u8>, place: usize, octet: u8, count: usize) -> Result<(), Fail> {
     let start = place.min(content.len());
     for at in start..start.saturating_add(count) {

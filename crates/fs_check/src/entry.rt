@@ -38,7 +38,7 @@ pub fn is_entry<B: Blocks>(blocks: &B, inodes: u32, at: u32) -> bool
     }
 }
 
-// The first block behind the directory.
+// The first block after the directory.
 pub fn data_start(inodes: u32) -> u32
     requires { inodes ≤ 32768 }
     ensures { result ≡ first_data inodes }
@@ -97,7 +97,7 @@ fn has_pointers<B: Blocks>(blocks: &B, inodes: u32, inode: &[u8]) -> bool
     ends_at(blocks, inode, count)
 }
 
-// The pointers of an inode, and behind them those in its indirect block, or zeros.
+// The pointers of an inode, and after them those in its indirect block, or zeros.
 pub fn pointers_of<B: Blocks>(blocks: &B, inode: &[u8]) -> [u8; POINTERS_SIZE]
     requires whole { length inode.now ≡ 64 }
     requires there { number_at 52 4 inode.now ≢ 0 → number_at 52 4 inode.now < length (B.blocks blocks.now) }

@@ -178,7 +178,7 @@ module _ (number : ℕ) (old mid : List Octets) (few : length old ≤ 65536) (fi
         two_distinct m n differs zero (suc (suc j)) less inside = absurd (omega arith)
         two_distinct m n differs (suc i) j less inside = absurd (omega arith)
 
--- blocks behind the bitmap change
+-- blocks after the bitmap change
 pub takes_then : (fresh : List ℕ) (old mid new : List Octets) → length old ≤ 65536 → length mid ≡ length old → length new ≡ length mid → ((b : ℕ) → b < 65536 → is_marked_used new b ≡ is_marked_used mid b) → TakesBlocks fresh old mid → TakesBlocks fresh old new
 takes_then fresh old mid new few count_mid count same takes = record {
   free = takes.free;

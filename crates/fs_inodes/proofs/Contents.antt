@@ -49,7 +49,7 @@ module _ (blocks : List Octets) (e : Entry) (whole : All (λ b. length b ≡ 409
       ∙ sym (part_of_front (at % 4096) n 4096 (drop (4096 * (at / 4096)) blocks_of) inside)
       ∙ ap (λ (l : Octets). take n (drop (at % 4096) l)) (block_of_content (at / 4096) low)
 
--- one part behind another
+-- one part after another
 pub take_then : (octets : Octets) (place from some : ℕ) → place ≤ from → take (from + some - place) (drop place octets) ≡ take (from - place) (drop place octets) ++ take some (drop from octets)
 take_then octets place from some low =
     let more : from + some - place ≡ (from - place) + some = omega arith in

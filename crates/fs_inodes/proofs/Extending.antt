@@ -48,7 +48,7 @@ content_front blocks e n (suc r) is few whole =
     ∙ ap (λ (m : ℕ). take m (blocks_octets blocks e n ++ get_or blocks (pointer e n) [])) is
     ∙ take_past (blocks_octets blocks e n) (get_or blocks (pointer e n) []) (4096 * n) (suc r) (length-blocks_octets blocks e n whole)
 
--- a block with octets behind its front
+-- a block with octets after its front
 pub take_overwritten : (at : ℕ) (octets block : Octets) → at ≤ length block → take (at + length octets) (overwritten at octets block) ≡ take at block ++ octets
 take_overwritten at octets block inside =
     take_past (take at block) (octets ++ drop (at + length octets) block) at (length octets) (length-take-le at block inside)

@@ -28,7 +28,7 @@ distinct_cons x xs other distinct zero (suc j) less low = λ same. other (j, ome
 distinct_cons x xs other distinct (suc i) zero less low = absurd (omega arith)
 distinct_cons x xs other distinct (suc i) (suc j) less low = distinct i j (omega arith) (omega arith)
 
--- numbers before and behind others
+-- numbers before and after others
 distinct_around : (xs ys : List ℕ) (n : ℕ) → AreDistinct (xs ++ n ∷ []) → AreDistinct ys → ((b : ℕ) → Contains (xs ++ n ∷ []) b → ¬ (Contains ys b)) → AreDistinct (xs ++ (ys ++ n ∷ []))
 distinct_around [] ys n outer inner apart = distinct_push ys n inner (apart n (0, omega arith, refl))
 distinct_around (x ∷ xs) ys n outer inner apart =

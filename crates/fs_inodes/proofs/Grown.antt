@@ -83,7 +83,7 @@ module _ (inodes k : ℕ) (a : List Octets) (room : HasRoom inodes a) (fs : IsFi
   size_is : length (content_of a (entry inodes a k)) ≡ size (entry inodes a k)
   size_is = length-content a (entry inodes a k) room.blocks_whole (λ b owns. (fs.within k b low owns).1)
 
-  -- nothing is put behind
+  -- nothing is put after
   pub grows_none : GrowsBy inodes k [] a a
   grows_none = record {
     count = refl;

@@ -167,7 +167,7 @@ module _ (inodes k : ℕ) (inode slot : Octets) (touched : ℕ → Type 0) (old 
           let kind_is = (subst (λ (j : ℕ). IsFile (entry inodes new j)) is file).kind_is in
           absurd (omega (arith, free_kind (entry inodes new k) free, kind_is))
 
-  -- the files behind the change
+  -- the files after the change
   pub reowned_makes : HasRoom inodes old → All (λ b. length b ≡ 4096) new → HasDistinctNames inodes new → (file : Option File) → file_at inodes new k ≡ file → Makes inodes (set (table inodes old) k file) new
   reowned_makes room whole names file is = record {
     room = keeps_room inodes old new room puts.count whole;

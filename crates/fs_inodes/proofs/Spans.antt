@@ -1,4 +1,4 @@
--- One write behind another.
+-- One write after another.
 use Rattle.std.proofs.Common.{◌≡◌, ◌≤◌, ℕ, ◌+◌, ◌++◌, length, take, drop, sym, ◌∙◌, ap, arith, length-append, append_assoc}
 use Rattle.std.proofs.lemmas.List.{append-nil, take-append-drop, take_at, drop_at, drop-drop, drop_all, length-take-le}
 use Rattle.disk.specs.Image.{overwritten}

@@ -1,4 +1,4 @@
--- Changes of marks and of blocks behind the directory, and then of one inode.
+-- Changes of marks and of blocks after the directory, and then of one inode.
 use Rattle.std.proofs.Common.{◌≡◌, ◌≢◌, ◌<◌, ◌≤◌, ℕ, ◌+◌, ◌*◌, ◌/◌, ◌%◌, List, [], length, get_or, sym, ◌∙◌, ap, subst, arith}
 use Rattle.std.specs.List.{All, Contains}
 use Rattle.disk.specs.Image.{part}

@@ -91,7 +91,7 @@ pub record GrowsBy (inodes k : ℕ) (octets : Octets) (old new : List Octets) : 
   pub kept : KeepsMarks old new
   pub free : free_blocks new + blocks_for (length was + length octets) ≡ free_blocks old + blocks_for (length was)
 
--- the file of this name has these octets behind its own
+-- the file of this name has these octets after its own
 abbrev pub Appends : ℕ → Octets → Octets → List Octets → List Octets → Type 0
 Appends inodes name octets old new =
     (k : ℕ) × (content : Octets) × IsFileAt (table inodes old) k name content × GrowsBy inodes k octets old new

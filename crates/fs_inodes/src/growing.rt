@@ -62,7 +62,7 @@ fn add_block<B: Blocks>(blocks: &mut B, inode: &mut [u8], i: u32) -> Result<u32,
     Ok(number)
 }
 
-// Puts octets behind those of a file, all of them in its last block or all in a new one.
+// Puts octets after those of a file, all of them in its last block or all in a new one.
 fn add_piece<B: Blocks>(
     blocks: &mut B,
     inodes: u32,
@@ -100,7 +100,7 @@ fn add_piece<B: Blocks>(
     put_record(blocks, INODES_AT, at, &inode)
 }
 
-/// Puts octets behind those of the file of an inode, for which there is room.
+/// Puts octets after those of the file of an inode, for which there is room.
 pub fn extend<B: Blocks>(
     blocks: &mut B,
     inodes: u32,
@@ -128,7 +128,7 @@ pub fn extend<B: Blocks>(
     Ok(())
 }
 
-/// Puts so many zeros behind the octets of the file of an inode, for which there is room.
+/// Puts so many zeros after the octets of the file of an inode, for which there is room.
 pub fn extend_zeros<B: Blocks>(
     blocks: &mut B,
     inodes: u32,

@@ -15,7 +15,7 @@ use fs_layout::records::{RECORD_SIZE, get_record, put_record};
 use std::alloc::AllocError;
 use volume::{BLOCK_SIZE, Blocks};
 
-/// Cuts the file of an inode to an end that isn't behind its own.
+/// Cuts the file of an inode to an end that isn't after its own.
 pub fn shrink_to<B: Blocks>(
     blocks: &mut B,
     inodes: u32,

@@ -10,7 +10,7 @@ use crate::numbers::{number32, number64};
 use crate::records::{RECORD_SIZE, get_record};
 use volume::{BLOCK_SIZE, Blocks};
 
-/// The first block of the inodes, behind the bitmap.
+/// The first block of the inodes, after the bitmap.
 pub const INODES_AT: u32 = 2;
 
 /// The kind of a free inode.

@@ -1,4 +1,4 @@
-//! Slots of the directory: a name of 1 to 63 octets, behind its length.
+//! Slots of the directory: a name of 1 to 63 octets, after its length.
 
 ghost use Rattle.std.specs.Prelude.{◌≡◌, ◌≤◌, length, slice_index, IfOk};
 ghost use Rattle.model.specs.Files.{slot_octets, name_in};

@@ -20,7 +20,7 @@ abbrev Holds : Option Command → Type 0
 Holds None = Unit {0}
 Holds (Some c) = IsInGrammar c
 
--- a command behind a test
+-- a command after a test
 tested : (b : Bool) (o other : Option Command) → (b ≡ true → Holds o) → Holds other → Holds (cond b o other)
 tested true o other holds rest = holds refl
 tested false o other holds rest = rest

@@ -1,4 +1,4 @@
--- The words behind a keyword.
+-- The words after a keyword.
 use Rattle.std.specs.Prelude.{◌≡◌, ℕ, List, [], ◌∷◌}
 use Rattle.grammar.specs.declared.lines.Arguments.{Arguments}
 use Rattle.grammar.specs.declared.lines.Arguments.TheVariants as arguments

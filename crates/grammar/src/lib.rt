@@ -16,7 +16,7 @@ use model::Parsed;
 use std::alloc::{AllocError, Global};
 
 /// What a command line is, without its CRLF: a command, `Unknown` where its keyword is none, or `Bad` where what
-/// stands behind the keyword isn't in its grammar. An empty line and one that begins with a blank are `Unknown`, and a
+/// stands after the keyword isn't in its grammar. An empty line and one that begins with a blank are `Unknown`, and a
 /// line with an octet other than SP, TAB and 33 to 126 is `Bad` where its keyword is known (both this project's rule).
 /// Dates and times are read as digits, whatever they say.
 pub fn read(alloc: Global, line: &[u8]) -> Result<Parsed, AllocError>

@@ -11,7 +11,7 @@ use names::is_visible;
 /// SP and TAB, which part words (RFC 3977, 3.1).
 const BLANKS: &[u8] = b" \t";
 
-/// The words behind a keyword.
+/// The words after a keyword.
 #[derive(Clone, Copy)]
 pub enum Arguments<'a> {
     None,
@@ -68,7 +68,7 @@ pub fn next_word(line: &[u8]) -> Option<(&[u8], &[u8])>
     Some(rest.split_at(end))
 }
 
-/// The words of what stands behind a keyword.
+/// The words of what stands after a keyword.
 pub fn arguments_of(rest: &[u8]) -> Arguments<'_>
     ensures { Says result (words rest.now) }
 {

@@ -121,7 +121,7 @@ executes s s' d f h j seats at seat seat' m t mark rise place grows is =
       still = grown_still s s' (answer_in s seat.session m t mark).change grows;
     }
 
--- ---- the session behind it
+-- ---- the session after it
 
 set_get : (at : ℕ) (seats : List Seat) (seat new : Seat) → slice_get seats at ≡ Some seat → slice_get (set seats at new) at ≡ Some new
 set_get at [] seat new is = absurd (cc is)

@@ -56,7 +56,7 @@ flying_more : (f : Option ℕ) (d n m : ℕ) → n ≤ m → IfSome f (λ last. 
 flying_more None d n m le h = tt
 flying_more (Some last) d n m le h = (h.0, omega (arith, h.1))
 
--- all but the sessions, behind a change or none
+-- all but the sessions, after a change or none
 pub kept_grown : (s s' : SpoolView) (d : ℕ) (f : Option ℕ) (halted : Bool) (j : ℕ) (seats : List Seat) (c : Option Change) → (IsSome c → length s.dirty ≤ 256) → Grows s s' c
     → IsKept (kernel_of s d f halted j seats) → IsKept (kernel_of s' d f halted j seats)
 kept_grown s s' d f halted j seats None room is h = subst (λ (r : SpoolView). IsKept (kernel_of r d f halted j seats)) (sym is) h
@@ -202,7 +202,7 @@ kept_released s d f halted j seats h =
       rising = ready_rises 0 d 65536 seats h.rising;
     }
 
--- behind a change that was accepted, or refused with nothing changed
+-- after a change that was accepted, or refused with nothing changed
 pub kept_added : (E : Type 0) (R : Type 0) (Q : E → Type 0) (T : ℕ → Type 0) (s s' : SpoolView) (d : ℕ) (f : Option ℕ) (halted : Bool) (j : ℕ) (seats : List Seat) (c : Change) (result : Result ℕ E)
     → MatchResult result (λ n. R × (T n × Adds s s' c)) (λ e. Q e × (s' ≡ s)) → length s.dirty ≤ 256 → IsKept (kernel_of s d f halted j seats) → IsKept (kernel_of s' d f halted j seats)
 kept_added E R Q T s s' d f halted j seats c (Ok n) h few k = kept_grown s s' d f halted j seats (Some c) (λ _. few) h.1.1 k

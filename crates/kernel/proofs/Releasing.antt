@@ -28,7 +28,7 @@ or_false true b is = absurd (cc is)
 or_false false b is = (refl, is)
 
 module _ (host : Octets) (S : Spool) where
-  -- whole replies behind an output, as what is held once that is gone
+  -- whole replies after an output, as what is held once that is gone
   as_kept : (session : Session) (before from : ℕ) (held : List Held) (last : Session) → AreReplies host S session before from held last → SeatIsKept host S before held last
   as_kept session before from [] last h = tt
   as_kept session before from (held ∷ rest) last h = inr (h.0, 0, h.1, h.4)
@@ -53,7 +53,7 @@ module _ (host : Octets) (S : Spool) where
       subst (λ (x : Session). IsSome (mode_of x.awaits)) r.3 (none_is_some (mode_of (answer_at host S r.0).next.awaits) (sym r.2.ends ∙ goes_on)))
       h
 
-  -- a session awaits something before its last output, so an output with others behind it does not end
+  -- a session awaits something before its last output, so an output with others after it does not end
   goes_on_before : (given : ℕ) (held later : Held) (rest : List Held) (last : Session) → SeatIsKept host S given (held ∷ later ∷ rest) last → held.ends ≡ false
   goes_on_before given held later rest last h =
       ⊎_elim

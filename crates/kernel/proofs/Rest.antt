@@ -38,7 +38,7 @@ length-entry number g = go (length g.octets == 0 && not g.ended)
 octets_in-append : (front back : List Entry) → octets_in (front ++ back) ≡ octets_in front + octets_in back
 octets_in-append front back = sum_by-append (λ (e : Entry). length e.1) front back
 
--- the room behind a session's entry
+-- the room after a session's entry
 room_behind : (p : ℕ) (entries : List Entry) (seat : Seat) → 65536 - octets_in (entries ++ entry_of seat.number (given_of p entries seat)) ≡ (given_of p entries seat).room
 room_behind p entries seat =
     let g : Giving = given_of p entries seat in

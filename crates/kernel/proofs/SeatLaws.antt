@@ -1,4 +1,4 @@
--- A session behind its reply.
+-- A session after its reply.
 use Rattle.std.proofs.Common.{◌≡◌, ℕ, ◌+◌, List, [], ◌∷◌, ◌++◌, length, refl, ap, ◌∙◌, arith, length-append}
 use Rattle.std.specs.Prelude.{Bool, true, false, not, max, Option, Some, None, is_none, is_some}
 use Rattle.model.specs.Stream.{Octets}
@@ -18,7 +18,7 @@ use Rattle.spool.specs.View.{SpoolView}
 use Rattle.kernel.specs.Kernel.{Seat, answered_by}
 use Rattle.kernel.specs.Serving.{answer_in, Grows, turned}
 
--- what an answer reads is the count of the changes behind it
+-- what an answer reads is the count of the changes after it
 pub reads_behind : (old new : SpoolView) (x : Session) (m : Message) (t : ℕ) (mark : Mark) → Grows old new (answer_in old x m t mark).change → reads old.host old.changes x m t mark ≡ length new.changes
 unfolding reads
 reads_behind old new x m t mark grows = go (answer_in old x m t mark).change grows

@@ -10,7 +10,7 @@ use Rattle.kernel.specs.Kept.{IsSeat, RiseFrom}
 use Rattle.kernel.proofs.Keeping.{SeatIsKept-more}
 use Rattle.kernel.proofs.Releasing.{RiseFrom-lower}
 
--- the number of a session that stands behind some rises above theirs
+-- the number of a session that stands after some rises above theirs
 above : (n at : ℕ) (seats : List Seat) (seat : Seat) → RiseFrom n seats → slice_get seats at ≡ Some seat → n < seat.number
 above n at [] seat rise is = absurd (cc is)
 above n zero (first ∷ seats) seat rise is = let same : first ≡ seat = cc is in omega (arith, rise.0, ap (λ (s : Seat). s.number) same)

@@ -20,7 +20,7 @@ module _ (blocks : List Octets) where
   length-laid base [] = refl
   length-laid base (n ∷ numbers) = length-laid (set base n (slice_index_or blocks n [])) numbers ∙ length-set base n (slice_index_or blocks n [])
 
-  -- a block behind the laying is the cached one where it was so before, or where it is laid
+  -- a block after the laying is the cached one where it was so before, or where it is laid
   laid_at : (base : List Octets) (numbers : List ℕ) (k : ℕ) → k < length base → (list_any (λ n. n == k) numbers ≡ false → get_or base k [] ≡ get_or blocks k []) → get_or (laid_over base numbers (map (λ n. slice_index_or blocks n []) numbers)) k [] ≡ get_or blocks k []
   laid_at base [] k inside h = h refl
   laid_at base (n ∷ numbers) k inside h =

@@ -57,7 +57,7 @@ pub record IsGreeting (host : Octets) (given cut : ℕ) (held : Held) : Type 0 w
   pub ends : held.ends ≡ false
   pub first_output : given ≡ 0
 
--- the front output alone may be cut, and has behind it the number kept for the session
+-- the front output alone may be cut, and has after it the number kept for the session
 abbrev pub SeatIsKept : Octets → Spool → ℕ → List Held → Session → Type 0
 SeatIsKept host S given [] last = Unit {0}
 SeatIsKept host S given (held ∷ rest) last =

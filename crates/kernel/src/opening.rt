@@ -102,7 +102,7 @@ fn begin(alloc: Global, spool: Spool) -> Kernel
     }
 }
 
-// The logical blocks, one behind the other.
+// The logical blocks, one after the other.
 fn load_blocks<D: Disk>(alloc: Global, journal: &mut Journal<D>) -> Result<Vec<u8>, OpenError>
     requires idle { IsIdle journal.old }
     requires running { journal.old.halted ≡ false }

@@ -135,7 +135,7 @@ fn turn(session: &mut Session, next: Option<Awaits>)
     }
 }
 
-/// Holds a reply behind the others, with the greater of what it reads and what the one before it depends on.
+/// Holds a reply after the others, with the greater of what it reads and what the one before it depends on.
 fn hold(queue: &mut Queue, octets: Vec<u8>, reads: u64, ends: bool)
     requires room { 1 ≤ queue.old.room }
     requires countable { buffered queue.old.held + length octets.items < 2 ^ 64 }

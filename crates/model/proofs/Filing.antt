@@ -339,7 +339,7 @@ module _ (S : Spool) (text : Octets) where
         ap (through gs) (ap (λ (n : Octets). appended (overview_name n) (next_line S text n) f) same ∙ hit (overview_name h) (next_line S text h) content)
         ∙ overview_passes h (content ++ next_line S text h) gs once
 
--- the numbers and the overview of a group behind an article
+-- the numbers and the overview of a group after an article
 module _ (S : Spool) (text : Octets) (gs : List Octets) (moment : ℕ) (distinct : are_distinct gs ≡ true) where
   abbrev longer : Spool
   longer = S ++ Article text gs moment ∷ []

@@ -35,7 +35,7 @@ numbers_size S g =
     let filed = filed_in S g in
     omega (arith, records_size 0 (zip filed (overview_lines filed)), zip_size filed (overview_lines filed) (lines_size filed))
 
--- where lines stand that begin behind so many octets
+-- where lines stand that begin after so many octets
 abbrev start_from : ℕ → List ℕ → ℕ → ℕ
 start_from start ends zero = start
 start_from start ends (suc k) = get_or ends k 0

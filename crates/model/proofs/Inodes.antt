@@ -29,7 +29,7 @@ creates_one files inodes k name low free same =
     IsPermutation-trans (files_in (set inodes k (Some f))) (files_in inodes ++ f ∷ []) (files ++ f ∷ []) (one_more inodes k f low free)
     (IsPermutation-append_left (f ∷ []) (files_in inodes) files same)
 
--- ---- octets behind a file
+-- ---- octets after a file
 
 appended_other : (name octets : Octets) (f : File) → f.name ≢ name → appended name octets f ≡ f
 appended_other name octets f other =

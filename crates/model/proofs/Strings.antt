@@ -34,7 +34,7 @@ little_split size n m front back small small' is =
     let parts = append_split (little_bytes size n) (little_bytes size m) front back (length-little size n ∙ sym (length-little size m)) is in
     (sym (little_value-little size n small) ∙ ap (little_number size) parts.0 ∙ little_value-little size m small', parts.1)
 
--- a list behind its length
+-- a list after its length
 pub counted_split : (xs ys front back : Octets) → length xs ∷ xs ++ front ≡ length ys ∷ ys ++ back → (xs ≡ ys) × (front ≡ back)
 counted_split xs ys front back is =
     let counts : length xs ≡ length ys = cc in
@@ -94,7 +94,7 @@ expiry_same n group group' number number' small small' is =
 behind_kind : (a b : ℕ) (xs ys : Octets) → a ∷ xs ≡ b ∷ ys → xs ≡ ys
 behind_kind a b xs ys is = cc
 
--- what stands behind the kind
+-- what stands after the kind
 record_split : (a b front back : Octets) → length a < 256 ^ 4 → length b < 256 ^ 4 → little_bytes 4 (length a) ++ a ++ front ≡ little_bytes 4 (length b) ++ b ++ back → (a ≡ b) × (front ≡ back)
 record_split a b front back small small' is =
     let lengths = little_split 4 (length a) (length b) (a ++ front) (b ++ back) small small' (simp append_assoc at is) in

@@ -27,7 +27,7 @@ note_of e = by_change e.serial e.change where
 
 -- ---- a group
 
--- where each of some lines ends, if they stand one after the other behind so many octets
+-- where each of some lines ends, if they stand one after the other after so many octets
 abbrev pub ends_from : ℕ → List Octets → List ℕ
 ends_from start [] = []
 ends_from start (line ∷ lines) = (start + length line) ∷ ends_from (start + length line) lines

@@ -20,13 +20,13 @@ group_record g = little_bytes 8 g.serial ++ little_bytes 8 g.moment ++ g.status 
 abbrev pub article_record : NewsArticle → Octets
 article_record a = little_bytes 8 a.serial ++ little_bytes 8 a.moment ++ little_bytes 4 (length a.text) ++ length a.groups ∷ flat_map (λ g. length g ∷ g) a.groups ++ a.text
 
--- an expiry: serial, number, the group's name behind its length
+-- an expiry: serial, number, the group's name after its length
 abbrev pub expiry_record : Expiry → Octets
 expiry_record e = little_bytes 8 e.serial ++ little_bytes 4 e.number ++ length e.group ∷ e.group
 
 -- ---- the spool as one string
 
--- what stands behind kind and length: a group's name and record, an article's record, or an expiry's record
+-- what stands after kind and length: a group's name and record, an article's record, or an expiry's record
 abbrev pub change_record : Entry → Octets
 change_record e = by_change e.serial e.change where
   by_change : ℕ → Change → Octets

@@ -36,7 +36,7 @@ expiry_name serial = codes "x." ++ last_digits 10 serial
 abbrev pub number_record : ℕ → ℕ → Octets → Octets
 number_record serial offset line = little_bytes 8 serial ++ little_bytes 4 offset ++ little_bytes 4 (length line)
 
--- for each article its serial, and where its line stands behind the first so many octets of the overview
+-- for each article its serial, and where its line stands after the first so many octets of the overview
 abbrev pub number_records : ℕ → List (NewsArticle × Octets) → Octets
 number_records offset [] = []
 number_records offset (p ∷ rest) = number_record p.0.serial offset p.1 ++ number_records (offset + length p.1) rest

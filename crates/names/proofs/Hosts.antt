@@ -23,7 +23,7 @@ module _ (host id : List ℕ) where
       ap (λ b. of_host (cond b (Some (after_last is_at_sign (take (length id - 1) id))) None))
       (or_from_places (list_any is_at_sign) is_at_sign refl (λ _ _. refl) (take (length id - 1) id) 0 (λ k within. false_from_ne_true _ (none k (omega arith) within)))
 
-  -- it stands behind the last @
+  -- it stands after the last @
   pub side_behind : (at : ℕ) → at < length (take (length id - 1) id) → is_at_sign (get_or (take (length id - 1) id) at 0) ≡ true
       → ((k : ℕ) → at < k → k < length (take (length id - 1) id) → ¬ (is_at_sign (get_or (take (length id - 1) id) k 0) ≡ true))
       → is_of_host host id ≡ bytes_eq (drop (at + 1) (take (length id - 1) id)) host

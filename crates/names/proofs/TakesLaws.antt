@@ -65,7 +65,7 @@ pub record From (test : ℕ → Bool) (low : ℕ) : Type 0 where
   pub holds : test place ≡ true
 
 module _ (items name : List ℕ) where
-  -- whether the items from a place on take the rest of the name from a place on, alone or behind a *
+  -- whether the items from a place on take the rest of the name from a place on, alone or after a *
   abbrev pub tail_takes : ℕ → ℕ → Bool
   tail_takes at k = takes (map item_of (drop at items)) (drop k name)
 
@@ -75,7 +75,7 @@ module _ (items name : List ℕ) where
   more_items : (at : ℕ) → at < length items → map item_of (drop at items) ≡ item_of (get_or items at 0) ∷ map item_of (drop (at + 1) items)
   more_items at within = ap (map item_of) (rest_at items at within)
 
-  -- behind the last item nothing is left
+  -- after the last item nothing is left
   pub tail-end : (k : ℕ) → k < length name → tail_takes (length items) k ≡ false
   tail-end k within =
       ap (λ l. takes (map item_of l) (drop k name)) (drop_all (length items) items (omega arith))
@@ -88,7 +88,7 @@ module _ (items name : List ℕ) where
       ∙ ap (takes []) (drop_all k name after)
       ∙ takes_none-end
 
-  -- behind the name * alone are left
+  -- after the name * alone are left
   pub tail-name : (at k : ℕ) → length name ≤ k → tail_takes at k ≡ takes (map item_of (drop at items)) []
   tail-name at k after = ap (takes (map item_of (drop at items))) (drop_all k name after)
 
@@ -128,14 +128,14 @@ module _ (items name : List ℕ) where
         ∙ ap (takes (item_of (get_or items at 0) ∷ map item_of (drop (at + 1) items))) (drop_all k name after)
         ∙ takes_one-end (get_or items at 0) one (map item_of (drop (at + 1) items))
 
-    -- what it takes, the later items take behind it
+    -- what it takes, the later items take after it
     pub tail-one_on : (k : ℕ) → tail_takes at k ≡ true → tail_takes (at + 1) (k + 1) ≡ true
     tail-one_on k taken = elim (cases_lt k (length name)) [
       | inl before ↦ (and_parts (fits (get_or items at 0) (get_or name k 0)) (tail_takes (at + 1) (k + 1)) (sym (tail-one k before) ∙ taken)).1
       | inr after ↦ absurd (cc (taken, tail-one_past k after))
     ]
 
-  -- what * takes, the items behind it take from some place on
+  -- what * takes, the items after it take from some place on
   pub run-some : (left at k : ℕ) → length name ≤ k + left → run_takes at k ≡ true → From (tail_takes at) k
   run-some zero at k after taken =
       record {
@@ -169,14 +169,14 @@ module _ (items name : List ℕ) where
       let further : k + 1 + left ≡ k + suc left = omega arith in
       run-here at k ∙ or_right (tail_takes at k) (run_takes at (k + 1)) (run-earlier left at (k + 1) (ap (run_takes at) further ∙ taken))
 
-  -- ---- a search that tries the items behind a * at each place in turn
+  -- ---- a search that tries the items after a * at each place in turn
 
   absorbed : (a b : Bool) → (b ≡ true → a ≡ true) → (a || b) ≡ a
   absorbed true b either = refl
   absorbed false true either = sym (either refl)
   absorbed false false either = refl
 
-  -- the items behind the last * were taken up to `at`; later places take them as far
+  -- the items after the last * were taken up to `at`; later places take them as far
   module _ (behind at tried from : ℕ) (low : behind ≤ at) (so_far : tried + (at - behind) ≡ from) (later : (k : ℕ) → tried < k → tail_takes behind k ≡ true → tail_takes at (k + (at - behind)) ≡ true) where
     -- a further * takes what an earlier one could have taken
     pub star-further : at < length items → get_or items at 0 ≡ 42 → (tail_takes at from || run_takes behind (tried + 1)) ≡ (tail_takes (at + 1) from || run_takes (at + 1) (from + 1))

@@ -6,7 +6,7 @@ use Rattle.model.specs.Names.{takes, item_of}
 abbrev pub fits : ℕ → ℕ → Bool
 fits item octet = item == 63 || octet == item
 
--- yes where the pattern takes the name, no where it stands behind !, and nothing where it doesn't take the name
+-- yes where the pattern takes the name, no where it stands after !, and nothing where it doesn't take the name
 abbrev pub verdict_of : List ℕ → List ℕ → Option Bool
 verdict_of name [] = if takes [] name then Some true else None
 verdict_of name (x ∷ items) =

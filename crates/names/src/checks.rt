@@ -157,7 +157,7 @@ pub fn range_of(text: &[u8]) -> Option<Range>
     }
 }
 
-/// The range from this number on, up to what stands behind the dash.
+/// The range from this number on, up to what stands after the dash.
 fn range_from(first: u64, last: &[u8]) -> Option<Range>
     ensures { result ≡ range_from first last.now }
 {

@@ -91,7 +91,7 @@ fn takes(items: &[u8], name: &[u8]) -> bool
     takes_behind_run(&items[at + 1..], &name[at..])
 }
 
-/// Whether `*` and these items take the whole name. Behind the last `*` the items are tried at each place of the name
+/// Whether `*` and these items take the whole name. After the last `*` the items are tried at each place of the name
 /// in turn; what an earlier `*` takes no longer matters then.
 fn takes_behind_run(items: &[u8], name: &[u8]) -> bool
     ensures { result ≡ model.takes (model.AnyRun ∷ map model.item_of items.now) name.now }

@@ -1,4 +1,4 @@
--- An entry more behind those of a buffer.
+-- An entry more after those of a buffer.
 use Rattle.std.proofs.Common.{◌≡◌, ℕ, zero, suc, ◌+◌, ◌-◌, ◌≤◌, Bool, true, false, not, ◌&&◌, List, [], ◌∷◌, ◌++◌, length, take, drop, refl, sym, ◌∙◌, ap, subst, arith, length-append, length-drop}
 use Rattle.std.specs.Prelude.{◌==◌, slice_range, All, if◌then◌else◌}
 use Rattle.std.proofs.lemmas.Bool.{eqb-true, and_parts}
@@ -12,7 +12,7 @@ use Rattle.outbox.specs.Slots.{LiesWithin, entry_at, entries_in, slots_of}
 use Rattle.outbox.specs.Fields.{IsGiven}
 use Rattle.outbox.specs.declared.ready.Slot.{Slot}
 
--- a slot within the octets is not touched by those behind them
+-- a slot within the octets is not touched by those after them
 slice_range-append : (octets more : List ℕ) (start end : ℕ) → start ≤ end → end ≤ length octets → slice_range (octets ++ more) start end ≡ slice_range octets start end
 slice_range-append octets more start end order within =
     ap (take (end - start)) (drop-append-le start octets more (omega arith))

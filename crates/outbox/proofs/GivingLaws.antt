@@ -171,7 +171,7 @@ give-ends p room given (front ∷ rest) =
     let later = give p (room - length front.octets) front.dependency rest in
     or_assoc front.ends later.ended (any_ends later.held) ∙ ap (λ ends. front.ends || ends) (give-ends p (room - length front.octets) front.dependency rest))
 
--- an end comes behind all octets
+-- an end comes after all octets
 pub give-ended : (p room given : ℕ) (held : List Held) → OnlyLastEnds held → (give p room given held).ended ≡ true → (give p room given held).held ≡ []
 give-ended p room given [] last ended = refl
 give-ended p room given (front ∷ rest) last ended =

@@ -25,7 +25,7 @@ pub record IsSoundBuffer (b : buffer.Inside) : Type 0 where
   pub few : vec_len b.slots ≤ 64
   pub room : 64 ≤ vec_capacity b.slots
 
--- what the loop over the front outputs leaves, of them and behind the octets that were there
+-- what the loop over the front outputs leaves, of them and after the octets that were there
 pub record IsGiven (g : Giving) (ended : Bool) (given : ℕ) (held : List Held) (before after : List ℕ) : Type 0 where
   pub ended_is : ended ≡ g.ended
   pub given_is : given ≡ g.given

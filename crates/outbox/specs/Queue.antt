@@ -3,14 +3,14 @@
 use Rattle.std.specs.Prelude.{◌≡◌, ℕ, ◌-◌, Bool, true, false, not, ◌&&◌, ◌||◌, ◌==◌, nat_lt, if◌then◌else◌, List, [], ◌∷◌, ◌++◌, length, take, drop, sum_by}
 
 -- An output that is not handed out whole yet: the octets that are still to go, the number of changes that have to be durable
--- before any of them may, and whether the session ends behind them.
+-- before any of them may, and whether the session ends after them.
 pub record Held : Type 0 where
   pub octets : List ℕ
   pub dependency : ℕ
   pub ends : Bool
 
 -- The dependency of the last output that was handed out whole, 0 at first; the outputs that are held, the next to go in front;
--- and how many more can be put behind them with no memory taken.
+-- and how many more can be put after them with no memory taken.
 pub record QueueView : Type 0 where
   pub given : ℕ
   pub held : List Held
@@ -30,7 +30,7 @@ abbrev pub OnlyLastEnds : List Held → Type 0
 OnlyLastEnds [] = Unit {0}
 OnlyLastEnds (held ∷ rest) = (held.ends ≡ true → rest ≡ []) × OnlyLastEnds rest
 
--- What is given where there is room for so many octets: the room that is left, the octets, whether the session ends behind
+-- What is given where there is room for so many octets: the room that is left, the octets, whether the session ends after
 -- them, and what is kept of `given` and `held`.
 pub record Giving : Type 0 where
   pub room : ℕ
@@ -46,7 +46,7 @@ nothing_more room given held = record { room = room; octets = []; ended = false;
 abbrev pub cut_at : ℕ → Held → Held
 cut_at count held = record { octets = drop count held.octets; dependency = held.dependency; ends = held.ends }
 
--- a whole output, and what is given behind it
+-- a whole output, and what is given after it
 abbrev pub behind : Held → Giving → Giving
 behind held later = record { room = later.room; octets = held.octets ++ later.octets; ended = held.ends || later.ended; given = later.given; held = later.held }
 
@@ -59,7 +59,7 @@ give p room given (held ∷ rest) =
     else if nat_lt room (length held.octets) then record { room = 0; octets = take room held.octets; ended = false; given = given; held = cut_at room held ∷ rest }
     else behind held (give p (room - length held.octets) held.dependency rest)
 
--- an entry of the buffer that a release fills: a session's number, its octets, and whether it ends behind them
+-- an entry of the buffer that a release fills: a session's number, its octets, and whether it ends after them
 abbrev pub Entry : Type 0
 Entry = ℕ × List ℕ × Bool
 

@@ -118,7 +118,7 @@ impl Queue {
         self.outputs.reserve(n)
     }
 
-    /// Puts an output behind the others. It takes no memory.
+    /// Puts an output after the others. It takes no memory.
     pub fn push(&mut self, octets: Vec<u8>, dependency: u64, ends: bool)
         requires room { 1 ≤ self.old.room }
         requires countable { buffered self.old.held + vec_len octets < 2 ^ 64 }
@@ -179,7 +179,7 @@ impl Queue {
     }
 }
 
-/// Moves the octets of the front outputs that depend on `durable` changes at most behind the others, until there are
+/// Moves the octets of the front outputs that depend on `durable` changes at most after the others, until there are
 /// `RELEASE_OCTETS`, and keeps the dependency of the last that went whole. Says whether one that ends the session did.
 fn give_front(
     outputs: &mut VecDeque<Output>,

@@ -1,4 +1,4 @@
-//! The buffer that a release fills: the sessions' octets one behind the other, and where each session's stand.
+//! The buffer that a release fills: the sessions' octets one after the other, and where each session's stand.
 
 ghost use Rattle.std.specs.Prelude.{◌≡◌, ◌<◌, ◌≤◌, ◌==◌, ◌++◌, [], length, vec_len, vec_capacity, Some, IfOk, slice_get};
 ghost use Rattle.outbox.specs.Queue.{octets_in};
@@ -8,7 +8,7 @@ use crate::{RELEASE_ENTRIES, RELEASE_OCTETS};
 use std::alloc::{AllocError, Global};
 use std::marker::Model;
 
-/// Where a session's octets stand, and whether it ends behind them.
+/// Where a session's octets stand, and whether it ends after them.
 #[derive(Drop)]
 pub(crate) struct Slot {
     pub(crate) number: u64,
@@ -72,7 +72,7 @@ impl ReadyBuf {
         self.slots.is_empty()
     }
 
-    /// The session of an entry, its octets, and whether it ends behind them.
+    /// The session of an entry, its octets, and whether it ends after them.
     pub fn entry(&self, index: usize) -> (u64, &[u8], bool)
         requires { index < length self.now }
         ensures { slice_get self.now index ≡ Some (result.0, result.1.now, result.2) }

@@ -1,19 +1,19 @@
-//! The queues of two sessions, one step behind the other.
+//! The queues of two sessions, one step after the other.
 
 use outbox::{Queue, ReadyBuf};
 use std::alloc::{AllocError, Global};
 use std::test::Fail;
 
-/// So many octets of a kind, one run behind the other.
+/// So many octets of a kind, one run after the other.
 type Runs<'a> = &'a [(u8, usize)];
 
-/// What is handed out: the session, its octets, and whether it ends behind them.
+/// What is handed out: the session, its octets, and whether it ends after them.
 type Entry<'a> = (u64, Runs<'a>, bool);
 
 /// A call of the queue of session 1 or 2, each with what it is to answer.
 #[derive(Clone, Copy)]
 enum Step<'a> {
-    /// What is sent, on which change it depends, and whether the session ends behind it.
+    /// What is sent, on which change it depends, and whether the session ends after it.
     Push(u64, Runs<'a>, u64, bool),
     /// What depends on this change at most is handed out of both queues: whether each session ends, and what the buffer has.
     Release(u64, (bool, bool), &'a [Entry<'a>]),
@@ -93,7 +93,7 @@ fn octets_of(alloc: Global, runs: Runs<'_>) -> Result<Vec<u8>, AllocError> {
     Ok(octets)
 }
 
-/// Puts an output behind the others, where they can be counted.
+/// Puts an output after the others, where they can be counted.
 fn push(
     queue: &mut Queue,
     octets: Vec<u8>,

@@ -9,7 +9,7 @@ use Rattle.model.specs.Stream.{Octets}
 use Rattle.model.specs.Names.{is_run_of}
 use Rattle.model.specs.Calendar.{moment_limit}
 
--- what stands before the first SP, and what behind it
+-- what stands before the first SP, and what after it
 abbrev pub split_word : Octets → Option (Octets × Octets)
 split_word text = option_map (λ i. (take i text, drop (i + 1) text)) (position (λ x. x == 32) text)
 

@@ -174,7 +174,7 @@ fn numbered(keyword: &[u8], words: &[u8]) -> Option<Line>
     None
 }
 
-/// `fail N` or `fail KIND N`, behind its first word.
+/// `fail N` or `fail KIND N`, after its first word.
 #[tactic(auto, unfolding(crate::specs::Script::fail_of))]
 fn failing(words: &[u8]) -> Option<Line>
     ensures value { option_map said result ≡ fail_of words.now }
@@ -289,7 +289,7 @@ fn is_description(text: &[u8]) -> bool
     text.len() <= DESCRIPTION_LIMIT && text.iter().all(|octet| 32 <= *octet && *octet <= 126)
 }
 
-/// `group NAME STATUS MOMENT TEXT`, behind its first word.
+/// `group NAME STATUS MOMENT TEXT`, after its first word.
 fn group(alloc: Global, words: &[u8]) -> Result<Line, ParseError>
     ensures ok { IfOk result (λ read. group_of words.now ≡ Some (said read)) }
     ensures lawful { IfOk result IsLawful }
@@ -308,7 +308,7 @@ fn group(alloc: Global, words: &[u8]) -> Result<Line, ParseError>
     })
 }
 
-/// `line S TEXT`, behind its first word: the text and CRLF arrive, without a text CRLF alone.
+/// `line S TEXT`, after its first word: the text and CRLF arrive, without a text CRLF alone.
 #[tactic(auto, unfolding(crate::specs::Script::arrival_of))]
 fn arrival(alloc: Global, words: &[u8]) -> Result<Line, ParseError>
     ensures ok { IfOk result (λ read. arrival_of words.now ≡ Some (said read)) }
@@ -327,7 +327,7 @@ fn arrival(alloc: Global, words: &[u8]) -> Result<Line, ParseError>
     Ok(Line::Arrive { session, octets })
 }
 
-/// `hex S HEX`, behind its first word: one or more octets arrive, each written by two hexadecimal digits.
+/// `hex S HEX`, after its first word: one or more octets arrive, each written by two hexadecimal digits.
 #[tactic(auto, unfolding(crate::specs::Script::hex_of))]
 fn hex_arrival(alloc: Global, words: &[u8]) -> Result<Line, ParseError>
     ensures ok { IfOk result (λ read. hex_of words.now ≡ Some (said read)) }

@@ -10,7 +10,7 @@ ghost use Rattle.script.specs.Words.{moment_of, number_of, split_word, within_u6
 /// The first moment of the year 10000, before which each moment lies, in seconds since 1970.
 pub const MOMENT_LIMIT: u64 = 253_402_300_800;
 
-/// What stands before the first space, and what behind it.
+/// What stands before the first space, and what after it.
 pub(crate) fn split_word(text: &[u8]) -> Option<(&[u8], &[u8])>
     ensures { option_map (λ parts. (parts.0.now, parts.1.now)) result ≡ split_word text.now }
 {

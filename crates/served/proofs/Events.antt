@@ -114,7 +114,7 @@ IsServed-joins served h = (
 
 -- ---- arrive
 
--- the octets that come behind those of this session
+-- the octets that come after those of this session
 abbrev pub more_at : ℕ → Octets → ℕ → Octets
 more_at number octets k = if k == number then octets else []
 

@@ -72,7 +72,7 @@ first_spool served = take served.first served.kernel.spool
 abbrev pub account : ServedView → Account Session Change
 account served = account_of (service served.kernel.host) (first_spool served) (arrived_at served) served.trace
 
--- the next whole message of a session, and the octets behind it
+-- the next whole message of a session, and the octets after it
 abbrev pub next_of : ServedView → ℕ → Option (Message × Octets)
 next_of served number = taken (service served.kernel.host) (account served).server number
 

@@ -9,7 +9,7 @@ use Rattle.model.specs.Commands.{words}
 abbrev is_filled : List ℕ → Bool
 is_filled word = nat_lt 0 (length word)
 
--- the parts behind the first
+-- the parts after the first
 abbrev later : (ℕ → Bool) → List ℕ → List (List ℕ)
 later p [] = []
 later p (x ∷ rest) = slice_split p rest
@@ -48,7 +48,7 @@ parted-front p (x ∷ rest) = go (parted-front p rest) (p x) refl
     go each true is = rw (is, suc_of (prefix_len p rest)) each
     go each false is = rw (is, is) refl
 
--- behind them comes no such octet
+-- after them comes no such octet
 begins-front : (p : ℕ → Bool) (text : List ℕ) → begins p (drop (prefix_len p text) text) ≡ false
 begins-front p [] = refl
 begins-front p (x ∷ rest) = go (begins-front p rest) (p x) refl

@@ -9,7 +9,7 @@ abbrev pub only : List Octets → Option Octets
 only (word ∷ []) = Some word
 only words = None
 
--- a request that takes no arguments, with these words behind it
+-- a request that takes no arguments, with these words after it
 abbrev pub alone : Request → List Octets → Request
 alone asked [] = asked
 alone asked (word ∷ words) = request.Bad

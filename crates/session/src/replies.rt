@@ -77,7 +77,7 @@ pub fn reply_syntax_error(alloc: Global) -> Result<Vec<u8>, AllocError>
     sent_line(alloc, b"501 Syntax error", b"", b"")
 }
 
-/// The line that sends these three texts, one behind the other.
+/// The line that sends these three texts, one after the other.
 fn sent_line(
     alloc: Global,
     first: &[u8],

@@ -62,7 +62,7 @@ fn without_blanks(text: &[u8]) -> &[u8]
     &text[count_blanks(text)..]
 }
 
-/// The first word of a text, and what stands behind it.
+/// The first word of a text, and what stands after it.
 pub(crate) fn next_word(text: &[u8]) -> Option<(&[u8], &[u8])>
     ensures { MatchOption result (words text.now ≡ []) (λ found. words text.now ≡ found.0.now ∷ words found.1.now) }
 {

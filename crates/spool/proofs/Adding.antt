@@ -58,7 +58,7 @@ few_more new old a n distinct among =
     apart i j d before within =
         ne_eqb _ _ (λ same. distinct i j before within (sym (default new i d (omega arith)) ∙ same ∙ default new j d within))
 
--- ---- a string behind the others
+-- ---- a string after the others
 
 -- what was stored of this change
 pub record Stores (old new : Cached) (end : ℕ) (S : Spool) (c : Change) (more : Octets) : Type 0 where

@@ -1,4 +1,4 @@
--- Blocks that are copied one behind the other.
+-- Blocks that are copied one after the other.
 use Rattle.std.proofs.Common.{◌≡◌, ℕ, zero, suc, ◌+◌, ◌-◌, ◌*◌, ◌<◌, ◌≤◌, List, [], ◌∷◌, ◌++◌, length, take, drop, get_or, map, refl, sym, ◌∙◌, ap, arith, length-append}
 use Rattle.std.specs.Prelude.{flat_map}
 use Rattle.std.specs.List.{All}
@@ -38,7 +38,7 @@ images_size octets (n ∷ ns) fit =
     let rest = images_size octets ns (λ k d within. fit (suc k) d (omega arith)) in
     omega (arith, first, rest, length-append (block n octets) (flat_map (λ k. block k octets) ns))
 
--- the blocks from one on, of octets behind others
+-- the blocks from one on, of octets after others
 shifted : (front rest : Octets) (a n : ℕ) → length front ≡ 4096 → blocks_from (a + 1) n (front ++ rest) ≡ blocks_from a n rest
 shifted front rest a zero whole = refl
 shifted front rest a (suc n) whole =

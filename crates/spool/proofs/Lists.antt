@@ -15,7 +15,7 @@ use Rattle.model.specs.Records.{change_string, spool_string}
 use Rattle.model.specs.declared.change.Change.{Change}
 use Rattle.model.specs.declared.change.Change.TheVariants.{Group, Article}
 
--- the entry of a change behind these
+-- the entry of a change after these
 abbrev pub next_entry : Spool → Change → Entry
 next_entry S c = record { serial = length S + 1; change = c }
 

@@ -1,4 +1,4 @@
--- The octets of blocks, and what is put in behind a string.
+-- The octets of blocks, and what is put in after a string.
 use Rattle.std.proofs.Common.{◌≡◌, ◌≢◌, inl, inr, ℕ, zero, suc, ◌+◌, ◌*◌, ◌%◌, ◌<◌, ◌≤◌, [], ◌++◌, length, take, drop, get_or, refl, sym, ◌∙◌, ap, arith, Bool, ◌||◌}
 use Rattle.std.specs.Prelude.{not, bytes_eq}
 use Rattle.std.specs.List.{concat}
@@ -39,7 +39,7 @@ blocks_joined a (suc n) xs =
 pub concat_blocks : (octets : Octets) → length octets ≡ 4096 * block_count octets → concat (blocks_of octets) ≡ octets
 concat_blocks octets whole = blocks_joined 0 (block_count octets) octets ∙ ap (λ (n : ℕ). take n octets) (sym whole) ∙ take-length octets
 
--- ---- a count in front, and octets behind a string
+-- ---- a count in front, and octets after a string
 
 pub length-count : (n : ℕ) → length (little_bytes 8 n) ≡ 8
 length-count n = length-bytes_low_first 0 8 n

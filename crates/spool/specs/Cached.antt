@@ -4,7 +4,7 @@ use Rattle.model.specs.Stream.{Octets}
 use Rattle.model.specs.Volume.{block, blocks_from}
 use Rattle.spool.specs.Dirty.{AreOnce, is_among}
 
--- the octets of the blocks, one behind the other, and the numbers of the dirty blocks
+-- the octets of the blocks, one after the other, and the numbers of the dirty blocks
 pub record Cached : Type 0 where
   pub octets : Octets
   pub dirty : List ℕ

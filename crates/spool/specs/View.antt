@@ -37,7 +37,7 @@ pub record Dirties (before after : SpoolView) : Type 0 where
       is_among k after.dirty ≡ (is_among k before.dirty || not (bytes_eq (slice_index_or before.blocks k []) (slice_index_or after.blocks k [])))
   pub few : length after.dirty ≤ length before.dirty + 256
 
--- this change is accepted: the blocks begin with the string of the changes, and behind it they are as they were
+-- this change is accepted: the blocks begin with the string of the changes, and after it they are as they were
 pub record Adds (before after : SpoolView) (c : Change) : Type 0 where
   pub host : after.host ≡ before.host
   pub inodes : after.inodes ≡ before.inodes

@@ -61,7 +61,7 @@ pub fn groups<'a>(alloc: Global, text: &'a [u8]) -> Result<Vec<&'a [u8]>, AllocE
     Ok(names)
 }
 
-/// What stands behind these octets in the first header line that begins with them.
+/// What stands after these octets in the first header line that begins with them.
 fn content<'a>(start: &[u8], text: &'a [u8]) -> &'a [u8]
     ensures { result.now ≡ line_content start.now text.now }
 {
@@ -90,7 +90,7 @@ fn without_end(line: &[u8]) -> &[u8]
     }
 }
 
-/// What stands behind the first octets.
+/// What stands after the first octets.
 fn behind(octets: &[u8], count: usize) -> &[u8]
     ensures { result.now ≡ drop count octets.now }
 {

@@ -42,7 +42,7 @@ impl Cache {
         Ok(Cache { octets, dirty })
     }
 
-    /// The octets of the blocks, one behind the other.
+    /// The octets of the blocks, one after the other.
     pub(crate) fn octets(&self) -> &[u8]
         ensures value { result.now ≡ self.now.octets }
         ensures sound { IsCache self.now }

@@ -209,7 +209,7 @@ impl Spool {
         &self.changes[(serial - 1) as usize]
     }
 
-    /// How many blocks lie wholly behind the string.
+    /// How many blocks lie wholly after the string.
     fn free_blocks(&self) -> usize
         ensures { result ≡ free_blocks (length self.now.blocks) self.now.changes }
     {

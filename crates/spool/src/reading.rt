@@ -78,7 +78,7 @@ fn number64(octets: &[u8], at: usize) -> u64
     LittleEndian::read_u64(rest)
 }
 
-/// The record behind kind and length, and nothing where it is not whole.
+/// The record after kind and length, and nothing where it is not whole.
 fn record_at(octets: &[u8]) -> &[u8]
     requires { 5 ≤ length octets.now }
     ensures { (e : Entry) (rest : List ℕ) → length (change_record e) < 256 ^ 4 → octets.now ≡ change_string e ++ rest → result.now ≡ change_record e }

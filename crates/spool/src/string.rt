@@ -1,4 +1,4 @@
-//! The string of a spool: the count of its changes, and each change behind it.
+//! The string of a spool: the count of its changes, and each change after it.
 
 ghost use Rattle.std.specs.Prelude.{◌≡◌, ◌≢◌, ◌+◌, ◌<◌, ◌≤◌, ◌∷◌, length, flat_map, slice_index, vec_len, IfOk};
 ghost use Rattle.std.specs.List.{All};
@@ -76,7 +76,7 @@ pub(crate) fn article_string(
     )
 }
 
-/// The names, each behind its length.
+/// The names, each after its length.
 fn names_string(alloc: Global, names: &Names) -> Result<Vec<u8>, AllocError>
     requires count { length names.now ≤ 16 }
     requires names { All (λ g. length g ≤ 40) names.now }
@@ -92,7 +92,7 @@ fn names_string(alloc: Global, names: &Names) -> Result<Vec<u8>, AllocError>
     Ok(octets)
 }
 
-/// The parts, one behind the other.
+/// The parts, one after the other.
 fn joined(alloc: Global, parts: &[&[u8]]) -> Result<Vec<u8>, AllocError>
     ensures { IfOk result (λ octets. octets.items ≡ flat_map (λ part. part.now) parts.now) }
 {
@@ -103,7 +103,7 @@ fn joined(alloc: Global, parts: &[&[u8]]) -> Result<Vec<u8>, AllocError>
     Ok(octets)
 }
 
-/// Puts the string of a change behind the others, which end there, and writes how many there are then.
+/// Puts the string of a change after the others, which end there, and writes how many there are then.
 pub(crate) fn store(cache: &mut Cache, end: usize, count: u64, octets: &[u8])
     requires count { slice_index cache.old.octets 0 ≢ slice_index (little_bytes 8 count) 0 }
     requires behind { 8 ≤ end }

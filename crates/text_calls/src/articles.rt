@@ -49,7 +49,7 @@ const STORED: &[u8] =
 #[derive(Clone, Copy)]
 enum Given<'a> {
     Text(Octets<'a>),
-    /// These fields behind Path, Date, From and Subject, and a body.
+    /// These fields after Path, Date, From and Subject, and a body.
     With(Octets<'a>),
 }
 
@@ -91,7 +91,7 @@ fn cause(alloc: Global, text: &[u8], origin: Origin<'_>) -> Result<Option<Cause>
     }
 }
 
-/// Texts, and their cause where they are posted with serial 2 and where they are carried. Behind Path, Date and
+/// Texts, and their cause where they are posted with serial 2 and where they are carried. After Path, Date and
 /// Message-ID the longest posted text has 262,144 octets.
 const CAUSES: &[(Given<'static>, Option<Cause>, Option<Cause>)] = &[
     (

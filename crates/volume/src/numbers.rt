@@ -58,7 +58,7 @@ impl NumberSet {
         }
     }
 
-    /// Adds a number that is no member, behind the others.
+    /// Adds a number that is no member, after the others.
     pub fn insert(&mut self, number: u32)
         requires below { number < self.old.bound }
         requires other { ¬ (Contains self.old.members number) }

@@ -56,7 +56,7 @@ impl Volume {
         })
     }
 
-    /// Loads all logical blocks of a journal behind its opening and before its first batch. Nothing is staged, and
+    /// Loads all logical blocks of a journal after its opening and before its first batch. Nothing is staged, and
     /// nothing is dirty. After `Fault` the journal is halted; `Memory` comes before the first read.
     pub fn open<D: Disk>(alloc: Global, journal: &mut Journal<D>) -> Result<Volume, OpenError>
         requires { IsReady journal.old }

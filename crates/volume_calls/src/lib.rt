@@ -1,4 +1,4 @@
-//! Tables of what is asked of a volume, one call behind the other, with what it is to answer.
+//! Tables of what is asked of a volume, one call after the other, with what it is to answer.
 #![tactic(auto)]
 
 #[cfg(test)]

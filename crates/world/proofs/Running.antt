@@ -69,7 +69,7 @@ module _ {D : Type 0} (device : D → Device) where
             (since (subst IsTrue (sym h.tells) tells) t image (omega (arith, le, h.later)) left);
       }
 
--- what a crash since an earlier time might have left, behind n events at least as many as these
+-- what a crash since an earlier time might have left, after n events at least as many as these
 pub since_within : {D : Type 0} (device : D → Device) (old now : WorldView D) (events : List Event) (i n : ℕ) → i ≤ n → Running device old now events i
     → LeftFits (device old.journal.disk) (device now.journal.disk) (λ image. (j : ℕ) × (middle : WorldView D) × (j ≤ n) × Went device old (take j events) middle × Fits middle image)
 since_within {D} device old now events i n le h tells t image early left =

@@ -206,7 +206,7 @@ IsTied-takes {D} tells world kept ready has lays h = record { label = h.label; s
 
 -- ---- Dev
 
--- behind the commit, each call stays behind it
+-- after the commit, each call stays after it
 past_following : (n : ℕ) (call : Next) → is_to_commit call ≡ false → is_to_commit (following n call) ≡ false
 past_following n next.Idle is = refl
 past_following n next.Descriptor is = absurd (cc is)

@@ -4,7 +4,7 @@ use Rattle.model.specs.Names as model
 use Rattle.names.proofs.TakesLaws.{tail_takes, run_takes}
 use Rattle.names.proofs.patterns.takes_behind_run.Given as goal
 
--- The items take the name from here on, or those behind the last * take it from a later place on; and where they do,
+-- The items take the name from here on, or those after the last * take it from a later place on; and where they do,
 -- they take as many octets up to here as those that were tried.
 abbrev pub invariant-loop-from : goal.invariant-loop-from
 invariant-loop-from l = record {
