@@ -1,10 +1,10 @@
 -- The index of a spool with one change more.
-use Rattle.std.proofs.Common.{◌≡◌, ◌≢◌, ℕ, zero, suc, ◌+◌, ◌-◌, ◌<◌, ◌≤◌, List, [], ◌∷◌, ◌++◌, length, map, take, get_or, refl, sym, ◌∙◌, ap, subst, arith, zero-add, Bool, true, false, cond, length-append}
+use Rattle.std.proofs.Common.{◌≡◌, ℕ, zero, suc, ◌+◌, ◌<◌, ◌≤◌, List, [], ◌∷◌, ◌++◌, length, map, take, get_or, refl, sym, ◌∙◌, ap, arith, zero-add, Bool, true, false, cond, length-append}
 use Rattle.std.specs.Prelude.{Option, Some, None, bytes_eq, find, filter, filter_map, flat_map, option_map, not, ◌||◌, ◌&&◌, nat_le}
 use Rattle.std.specs.List.{list_any, list_all}
 use Rattle.std.specs.Option.{option_or}
-use Rattle.std.proofs.lemmas.Bool.{and_parts, not-true, or_parts, or_from, true≢false}
-use Rattle.std.proofs.lemmas.List.{append-nil, length-map, map-append, map_push, take_all}
+use Rattle.std.proofs.lemmas.Bool.{and_parts, not-true, or_parts, or_from}
+use Rattle.std.proofs.lemmas.List.{append-nil, length-map, map_push, take_all}
 use Rattle.std.proofs.lemmas.List.Elements.{filter_map-append}
 use Rattle.std.proofs.lemmas.List.Folds.{find-append, list_any_more}
 use Rattle.std.proofs.lemmas.Slice.Eq.{bytes_eq-Decides}
@@ -21,7 +21,7 @@ use Rattle.model.proofs.Filing.{entries_push}
 use Rattle.model.proofs.HoldsOne.{carried_cause}
 use Rattle.model.proofs.Ids.{no_cause}
 use Rattle.model.proofs.Indexing.{articles_grow, empty_index, expiries_grow, groups_grow, notes_grow}
-use Rattle.model.proofs.Joined.{bytes_differ, bytes_swap, map_twice}
+use Rattle.model.proofs.Joined.{bytes_swap, map_twice}
 use Rattle.index.specs.Filing.{AreLineSizes, end_of, filed_by, filed_once, with_line}
 use Rattle.index.specs.Shown.{kept}
 use Rattle.index.specs.View.{IndexView, Indexes}

@@ -1,5 +1,5 @@
 -- What the look-ups find is what the changes say.
-use Rattle.std.proofs.Common.{◌≡◌, ◌≢◌, ℕ, zero, suc, ◌+◌, ◌-◌, ◌<◌, ◌≤◌, List, [], ◌∷◌, ◌++◌, length, map, get_or, refl, sym, ◌∙◌, ap, subst, arith, Bool, true, false, cond, inl, inr}
+use Rattle.std.proofs.Common.{◌≡◌, ℕ, zero, suc, ◌-◌, ◌<◌, ◌≤◌, List, [], ◌∷◌, ◌++◌, length, map, get_or, refl, sym, ◌∙◌, ap, subst, arith, Bool, true, false, cond, inl, inr}
 use Rattle.std.specs.Prelude.{Option, Some, None, bytes_eq, find, filter, filter_map, option_map, slice_get, nat_le, nat_lt, is_some, ◌==◌}
 use Rattle.std.proofs.lemmas.Bool.{cases_lt, cond-false, leb-true, leb-false, le-leb, lt-leb, ltb-true, true≢false}
 use Rattle.std.proofs.lemmas.List.{append_assoc, length-map, get_or-map}
@@ -8,8 +8,7 @@ use Rattle.std.proofs.lemmas.Slice.Eq.{bytes_eq-Decides}
 use Rattle.model.specs.Stream.{Octets}
 use Rattle.model.specs.Indexed.{GroupIndex, group_index, line_start, value_of}
 use Rattle.model.specs.Lawful.{IsLawful, IsLawfulAfter}
-use Rattle.model.specs.Spool.{Spool, Entry, entries_from, entries, Expiry, NewsArticle, NewsGroup, article_at, by_number, contents, expired_at, expiries, expiries_of, expiry_made, filed_in, group_named, groups, is_here, is_name, low, numbered, serial_of}
-use Rattle.model.specs.declared.change.Change.{Change}
+use Rattle.model.specs.Spool.{Spool, entries_from, entries, Expiry, NewsArticle, NewsGroup, by_number, expired_at, expiries, expiries_of, expiry_made, filed_in, group_named, groups, is_here, is_name, low, numbered, serial_of}
 use Rattle.model.specs.declared.change.Change.TheVariants.{Group, Article, Expire}
 use Rattle.model.proofs.Filing.{named_front, new_has_nothing}
 use Rattle.model.proofs.Joined.{bytes_differ}

@@ -1,13 +1,13 @@
 -- One group of a list is changed.
-use Rattle.std.proofs.Common.{◌≡◌, ◌≢◌, ◌⊎◌, ℕ, zero, suc, ◌+◌, ◌*◌, ◌^◌, ◌<◌, ◌≤◌, List, [], ◌∷◌, ◌++◌, length, map, take, drop, get_or, set, refl, sym, ◌∙◌, ap, subst, arith, inl, inr, Bool, true, false, cond, vec_len, vec_capacity}
+use Rattle.std.proofs.Common.{◌≡◌, ◌⊎◌, ℕ, zero, suc, ◌+◌, ◌<◌, ◌≤◌, List, [], ◌∷◌, ◌++◌, length, map, take, drop, get_or, set, refl, sym, ◌∙◌, ap, subst, arith, inl, inr, Bool, true, false, cond, vec_len, vec_capacity}
 use Rattle.std.specs.Prelude.{Option, Some, None, Result, Ok, Err, OnOk, OnErr, bytes_eq, option_map, slice_get}
 use Rattle.std.proofs.lemmas.List.{length-map, map-set, get_or-map, take_at}
-use Rattle.std.proofs.lemmas.Option.{same_Some, slice_get-map, slice_get_within, get_or_from_slice_get}
+use Rattle.std.proofs.lemmas.Option.{same_Some, slice_get-map}
 use Rattle.model.specs.Stream.{Octets}
 use Rattle.model.specs.Indexed.{GroupIndex, line_start, value_of}
 use Rattle.model.proofs.Joined.{map_twice}
 use Rattle.index.specs.Filing.{EndBelow, HasRoomFor, end_of, expired_once, filed_by, filed_once, with_line}
-use Rattle.index.specs.Naming.{AreNamed, heads, name_at}
+use Rattle.index.specs.Naming.{AreNamed, heads}
 use Rattle.index.specs.Shown.{shown}
 use Rattle.index.specs.declared.group.Group.{Group}
 use Rattle.index.proofs.Naming.{Places, here, named_at, none_at, nowhere, only_at, others, within}

@@ -1,6 +1,5 @@
-use Rattle.std.proofs.Common.{map, ap, sym, ◌∙◌}
+use Rattle.std.proofs.Common.{ap, ◌∙◌}
 use Rattle.std.specs.Prelude.{Some}
-use Rattle.model.specs.Indexed.{GroupIndex}
 use Rattle.index.specs.Shown.{shown}
 use Rattle.index.specs.View.{IndexView}
 use Rattle.index.proofs.LookUps.{group_found, group_not_found}

@@ -1,4 +1,4 @@
-use Rattle.std.proofs.Common.{◌≡◌, List, length, ap, ◌∙◌, arith}
+use Rattle.std.proofs.Common.{◌≡◌, length, ap, ◌∙◌, arith}
 use Rattle.index.specs.View.{IndexView}
 use Rattle.index.proofs.Growing.{notes_count}
 use Rattle.index.proofs.Index.len.Goals as goal

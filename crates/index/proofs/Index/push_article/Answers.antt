@@ -1,13 +1,10 @@
-use Rattle.std.proofs.Common.{◌≡◌, ◌+◌, ◌++◌, ◌∷◌, [], ℕ, List, length, map, take, drop, sym, ap, subst, ◌∙◌, arith, cond}
+use Rattle.std.proofs.Common.{◌≡◌, ◌+◌, ◌++◌, ◌∷◌, [], ℕ, List, length, map, sym, ap, subst, ◌∙◌, arith, cond}
 use Rattle.std.specs.Prelude.{Some, bytes_eq}
-use Rattle.std.proofs.lemmas.List.{length-map}
-use Rattle.model.specs.Stream.{Octets}
-use Rattle.model.specs.Indexed.{GroupIndex, value_of}
+use Rattle.model.specs.Indexed.{value_of}
 use Rattle.index.specs.Filing.{filed_by}
 use Rattle.index.specs.Naming.{AreNamed, heads}
 use Rattle.index.specs.Shown.{shown}
 use Rattle.index.specs.View.{IndexView}
-use Rattle.index.specs.declared.group.Group.{Group}
 use Rattle.index.specs.declared.note.Note.{Note}
 use Rattle.index.specs.declared.note.Note.TheVariants as note
 use Rattle.index.proofs.Growing.{article_indexed, new_serial}

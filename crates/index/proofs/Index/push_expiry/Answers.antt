@@ -1,7 +1,5 @@
-use Rattle.std.proofs.Common.{◌≡◌, ◌+◌, ◌++◌, ◌∷◌, [], ℕ, List, length, map, take, drop, sym, ap, subst, ◌∙◌, arith}
-use Rattle.std.proofs.lemmas.List.{length-map}
+use Rattle.std.proofs.Common.{◌≡◌, ◌+◌, ◌++◌, ◌∷◌, [], ℕ, List, length, map, sym, ap, subst, ◌∙◌, arith}
 use Rattle.model.specs.Stream.{Octets}
-use Rattle.model.specs.Indexed.{GroupIndex}
 use Rattle.index.specs.Filing.{expired_once}
 use Rattle.index.specs.Naming.{AreNamed, heads}
 use Rattle.index.specs.Shown.{shown}

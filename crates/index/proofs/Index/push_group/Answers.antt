@@ -1,17 +1,15 @@
-use Rattle.std.proofs.Common.{◌≡◌, ◌+◌, ◌++◌, ◌∷◌, [], ℕ, List, length, map, refl, sym, ap, subst, ◌∙◌, arith, cond, true}
+use Rattle.std.proofs.Common.{◌≡◌, ◌+◌, ◌++◌, ◌∷◌, [], ℕ, List, length, map, refl, ap, ◌∙◌, arith, cond}
 use Rattle.std.specs.Prelude.{Some, bytes_eq}
 use Rattle.std.specs.List.{list_any}
-use Rattle.std.proofs.lemmas.List.{length-map, map_push}
-use Rattle.model.specs.Stream.{Octets}
+use Rattle.std.proofs.lemmas.List.{map_push}
 use Rattle.model.specs.Indexed.{GroupIndex, value_of}
-use Rattle.model.specs.Spool.{Spool}
-use Rattle.index.specs.Naming.{AreNamed, heads}
+use Rattle.index.specs.Naming.{heads}
 use Rattle.index.specs.Shown.{shown}
 use Rattle.index.specs.View.{IndexView}
 use Rattle.index.specs.declared.group.Group.{Group}
 use Rattle.index.specs.declared.note.Note.{Note}
 use Rattle.index.specs.declared.note.Note.TheVariants as note
-use Rattle.index.proofs.Growing.{group_indexed, notes_count, new_serial}
+use Rattle.index.proofs.Growing.{group_indexed, new_serial}
 use Rattle.index.proofs.Naming.{named_pushed}
 use Rattle.index.proofs.Index.push_group.Goals as goal
 

@@ -1,6 +1,5 @@
-use Rattle.std.proofs.Common.{[], ◌∷◌, ◌++◌, ◌+◌, map}
+use Rattle.std.proofs.Common.{map}
 use Rattle.std.proofs.Math.Seq.{map-set_same}
-use Rattle.model.specs.Indexed.{GroupIndex}
 use Rattle.index.specs.Shown.{shown}
 use Rattle.index.proofs.Steps.{changed_nowhere, changed_there, err_map, expired_by, ok_map}
 use Rattle.index.proofs.filing.expire_one.Goals as goal

@@ -1,7 +1,6 @@
-use Rattle.std.proofs.Common.{◌≡◌, ◌<◌, ◌≤◌, ◌+◌, ◌-◌, ◌*◌, ◌^◌, ◌∙◌, ℕ, List, [], sym, ap, subst, arith, length, map, rules}
+use Rattle.std.proofs.Common.{◌≡◌, ◌<◌, ◌+◌, ◌-◌, ◌*◌, ◌^◌, ◌∙◌, ℕ, List, [], sym, ap, subst, arith, length, map, rules}
 use Rattle.std.specs.Prelude.{slice_index, slice_index_or}
 use Rattle.std.proofs.lemmas.List.{get_or_default, map-id}
-use Rattle.model.specs.Indexed.{GroupIndex}
 use Rattle.index.specs.Filing.{EndBelow, filed_once}
 use Rattle.index.specs.Naming.{AreNamed, heads}
 use Rattle.index.specs.Shown.{shown}

@@ -1,4 +1,4 @@
-use Rattle.std.proofs.Common.{◌≡◌, ◌+◌, ◌-◌, ◌*◌, ◌^◌, ◌<◌, ◌≤◌, ℕ, [], length, map}
+use Rattle.std.proofs.Common.{◌≡◌, ◌+◌, ◌-◌, ◌*◌, ◌^◌, ◌<◌, ℕ, [], length, map}
 use Rattle.std.specs.Prelude.{slice_index_or}
 use Rattle.index.specs.Filing.{EndBelow, HasRoomFor, filed_by}
 use Rattle.index.specs.Shown.{shown}

@@ -1,8 +1,7 @@
-use Rattle.std.proofs.Common.{ℕ, List, ◌≡◌, ◌<◌, ◌≤◌, ◌+◌, ◌^◌, ◌∙◌, ap, arith, map, vec_len, vec_capacity, get_or}
-use Rattle.model.specs.Indexed.{GroupIndex}
-use Rattle.index.specs.Filing.{end_of, with_line}
+use Rattle.std.proofs.Common.{◌^◌, arith, map}
+use Rattle.index.specs.Filing.{with_line}
 use Rattle.index.specs.Shown.{shown}
-use Rattle.index.proofs.Steps.{changed_nowhere, changed_there, end_at, room_at, room_less, room_pushed}
+use Rattle.index.proofs.Steps.{changed_nowhere, changed_there, end_at, room_pushed}
 use Rattle.index.proofs.filing.push_one.Goals as goal
 
 pub file-requires-clause-fits : goal.file-requires-clause-fits

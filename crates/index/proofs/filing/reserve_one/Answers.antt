@@ -1,4 +1,3 @@
-use Rattle.std.proofs.Common.{ap, ◌∙◌, ◌≡◌, sym, arith}
 use Rattle.std.proofs.Math.Seq.{map-set_same}
 use Rattle.index.specs.Shown.{shown}
 use Rattle.index.proofs.Steps.{ok_map, room_kept, room_there}

@@ -1,5 +1,5 @@
-use Rattle.std.proofs.Common.{◌≡◌, ◌<◌, ◌≤◌, ◌∙◌, sym, ap, subst, List, ℕ, length, map, get_or, arith, true, false}
-use Rattle.std.specs.Prelude.{find, nat_le, nat_lt, Some}
+use Rattle.std.proofs.Common.{◌≡◌, ◌<◌, ◌∙◌, sym, ap, subst, List, ℕ, length, map, get_or, arith, true, false}
+use Rattle.std.specs.Prelude.{nat_lt}
 use Rattle.std.proofs.lemmas.List.{length-map, get_or-map}
 use Rattle.model.specs.Spool.{Expiry, serial_of}
 use Rattle.model.proofs.Joined.{map_twice}

@@ -1,4 +1,4 @@
-use Rattle.std.proofs.Common.{◌≡◌, ◌∙◌, sym, ap, subst, List, ℕ, length, map, arith}
+use Rattle.std.proofs.Common.{◌≡◌, ◌∙◌, sym, ap, subst, List, length, map, arith}
 use Rattle.std.specs.Prelude.{filter, nat_le}
 use Rattle.index.specs.Finding.{Rise}
 use Rattle.index.specs.declared.group.Line.{Line}
