@@ -38,7 +38,7 @@ pub struct GroupView<'s> {
 }
 
 /// The accepted changes of a host, to be asked. No call changes them. A call that appends to a reply is refused for memory
-/// alone, and leaves any octets behind those that were there.
+/// alone; the reply may hold any octets then, and is thrown away.
 pub trait LookUps {
     /// The changes.
     ghost changes: { Self → Spool };

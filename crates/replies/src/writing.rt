@@ -1,4 +1,4 @@
-//! What is appended to a reply. Each is refused for memory alone, and may leave octets behind the reply then.
+//! What is appended to a reply. Each is refused for memory alone; the reply may hold any octets then, and is thrown away.
 
 ghost use Rattle.std.specs.Prelude.{◌≡◌, ◌++◌, OnOk, decimal};
 ghost use Rattle.model.specs.Stream.{dot_line, line, stuffed_line};
