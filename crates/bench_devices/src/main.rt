@@ -1,0 +1,108 @@
+//! Counts what 64 batches of 6 images ask of a device, with and without a cache over it, and prints it. Where `--time` is
+//! given, it also prints the time of a write of 64 octets to a cache, of 1,000, of 10,000 and of 100,000 between two syncs:
+//! the last is to be at most twice the first.
+#![tactic(auto)]
+
+use anyhow::{Result, bail, ensure};
+use disk::Disk;
+use journal::{Journal, Progress, format};
+use memdisk::MemDisk;
+use std::alloc::Global;
+use std::rt::Clock;
+use std::time::Instant;
+use wcache::WCache;
+
+const BATCHES: u64 = 64;
+
+/// Octets of six images.
+const IMAGES: usize = 6 * 4096;
+
+/// More device calls than a batch of six images has.
+const MOST_CALLS: u64 = 100;
+
+/// Logical blocks of the volume, and its octets.
+const BLOCKS: u64 = 1024;
+
+const OCTETS: u64 = 4096 * (515 + BLOCKS);
+
+/// Octets of a write to the cache.
+const PIECE: u64 = 64;
+
+/// Carries a batch to its end.
+fn carry<D: Disk>(journal: &mut Journal<D>, last: u64, images: &[u8]) -> Result<()> {
+    ensure!(
+        journal.is_idle() && images.len() == IMAGES && journal.blocks() >= 6,
+        "not idle"
+    );
+    journal.begin(last, &[0, 1, 2, 3, 4, 5], images);
+    for _ in 0..MOST_CALLS {
+        if let Progress::Idle = journal.step()? {
+            return Ok(());
+        }
+    }
+    bail!("a batch does not end")
+}
+
+/// Carries all batches, and hands the device back.
+fn carry_all<D: Disk + Drop>(alloc: Global, disk: D) -> Result<D> {
+    let Ok(mut journal) = Journal::open(alloc, disk) else {
+        bail!("not opened");
+    };
+    let images = vec![in alloc; 7; IMAGES]?;
+    for last in 1..=BATCHES {
+        carry(&mut journal, last, &images)?;
+    }
+    Ok(journal.into_disk())
+}
+
+/// A device with an empty volume, and how many writes and syncs that took.
+fn formatted(alloc: Global) -> Result<(MemDisk, (u64, u64))> {
+    let mut disk = MemDisk::new(alloc, OCTETS)?;
+    ensure!(disk.len() == OCTETS, "another length");
+    format(alloc, &mut disk, BLOCKS, &[0; 128])?;
+    let counts = disk.counts();
+    Ok((disk, counts))
+}
+
+fn show_counts(rt: &impl Print, name: &str, before: (u64, u64), after: (u64, u64)) -> Result<()> {
+    let writes = after.0.wrapping_sub(before.0);
+    let syncs = after.1.wrapping_sub(before.1);
+    rt.println(format_args!(
+        "{name}: {writes} writes and {syncs} syncs for an opening and {BATCHES} batches"
+    ))?;
+    Ok(())
+}
+
+/// The nanoseconds of one of so many writes, side by side, between two syncs.
+fn time_of_writes(rt: &impl Clock, alloc: Global, writes: u64) -> Result<u128> {
+    ensure!(0 < writes && writes <= 1_000_000, "too many writes");
+    let mut cache = WCache::new(alloc, MemDisk::new(alloc, PIECE * writes)?);
+    let start = Instant::now(rt)?;
+    for piece in 0..writes {
+        let at = PIECE * piece;
+        ensure!(at + PIECE <= cache.len(), "past the end");
+        ensure!(cache.write(at, &[7; 64]).is_ok(), "a write was refused");
+    }
+    let spent = start.elapsed(rt)?.as_nanos();
+    ensure!(cache.sync().is_ok(), "a sync was refused");
+    Ok(spent / u128::from(writes))
+}
+
+fn main(rt: HostRuntime) -> Result<()> {
+    let alloc = rt.alloc();
+    let (disk, before) = formatted(alloc)?;
+    let after = carry_all(alloc, disk)?.counts();
+    show_counts(&rt, "without a cache", before, after)?;
+    let (disk, before) = formatted(alloc)?;
+    let after = carry_all(alloc, WCache::new(alloc, disk))?
+        .into_inner()
+        .counts();
+    show_counts(&rt, "with a cache", before, after)?;
+    if std::env::args(&rt)?.count() > 1 {
+        for writes in [1_000, 10_000, 100_000] {
+            let time = time_of_writes(&rt, alloc, writes)?;
+            rt.println(format_args!("{writes} writes: {time} ns each"))?;
+        }
+    }
+    Ok(())
+}
