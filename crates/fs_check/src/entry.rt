@@ -7,7 +7,8 @@ ghost use Rattle.model.specs.Files.{HasRoom, pointer, first_data, indirect_of};
 ghost use Rattle.fs_check.specs.Checking.{IsSlot, HasPointers, HasEntry};
 
 use fs_layout::inodes::{
-    DIRECT_POINTERS, INDIRECT_AT, INODES_AT, MOST_BLOCKS, MOST_OCTETS, POINTERS_AT, SIZE_AT, SPARE_AT,
+    DIRECT_POINTERS, INDIRECT_AT, INODES_AT, MOST_BLOCKS, MOST_OCTETS, POINTERS_AT, SIZE_AT,
+    SPARE_AT,
 };
 use fs_layout::numbers::{number32, number64};
 use fs_layout::records::{RECORD_SIZE, get_record, put_part};
