@@ -12,7 +12,7 @@ use Rattle.fs_inodes.specs.Growing.{inode_entry, AddsBlock}
 use Rattle.fs_layout.proofs.Entries.{owns_pointer, owns_indirect}
 use Rattle.fs_inodes.proofs.Extends.{extends_last, extends_new}
 use Rattle.fs_inodes.proofs.Grows.{Extends, grows}
-use Rattle.fs_layout.specs.Touches.{TouchesData, indirect_block}
+use Rattle.fs_layout.specs.Touches.{indirect_block}
 use Rattle.fs_layout.proofs.Touching.{piece_touches, sized_indirect}
 use Rattle.fs_inodes.proofs.growing.add_piece.Goals as goal
 use Rattle.fs_inodes.proofs.growing.add_piece.Goals.{then-within-eq0+in_ok-number, else-within-eq0}

@@ -1,4 +1,4 @@
-use Rattle.std.proofs.Common.{ℕ, List, take, ◌∙◌, ap, subst, ◌≡◌, length, arith, inl, inr, ◌*◌, get_or, [], ◌≢◌, ◌≤◌, ◌⊎◌, refl}
+use Rattle.std.proofs.Common.{ℕ, List, take, ◌∙◌, ap, subst, ◌≡◌, length, arith, inl, get_or, [], ◌≢◌, ◌≤◌, ◌⊎◌, refl}
 use Rattle.byteorder.specs.Endian.{little_bytes}
 use Rattle.disk.specs.Image.{overwritten}
 use Rattle.model.specs.Volume.{number_at}
