@@ -1,6 +1,7 @@
 //! The string of a spool, and its opening.
 
 use model::Text;
+use names::is_host;
 use spool::{OpenError, Spool};
 use std::alloc::{AllocError, Global};
 
@@ -31,7 +32,7 @@ pub(crate) fn opened(alloc: Global, string: &[u8]) -> Result<Spool, OpenError> {
     let (Ok(host), Ok(octets)) = (host(alloc), blocks(alloc, string)) else {
         return Err(OpenError::Memory);
     };
-    if octets.len() != BLOCKS {
+    if !is_host(host.as_slice()) || octets.len() != BLOCKS {
         return Err(OpenError::Memory);
     }
     Spool::open(alloc, host, INODES, octets)
