@@ -3,6 +3,9 @@
 use kernel::Stale;
 use program::{DONE, Failure, NOT_UNDERSTOOD, REFUSED, run};
 use std::alloc::Global;
+use std::fs::File;
+use std::rt::Files;
+use std::sync::Wait;
 use std::test::Fail;
 use world::{OpenError, StepError};
 
@@ -69,12 +72,18 @@ fn refusals_that_end_the_program(rt: HostRuntime) -> Result<(), Fail> {
 }
 
 /// Runs a script whose output has room for so many octets, and answers the status, the octets of room left, and the faults.
-fn run_into(alloc: Global, script: &[u8], room: &mut [u8]) -> (u8, usize, Vec<u8>) {
+fn run_into<R: Files<File = File> + Wait>(
+    rt: &R,
+    alloc: Global,
+    script: &[u8],
+    room: &mut [u8],
+) -> (u8, usize, Vec<u8>) {
     let mut output = room;
     let mut faults = Vec::new(alloc);
     let words = ["newsd", "sim", "--host", "news.example"];
     let mut input = script;
     let status = run(
+        rt,
         alloc,
         words.as_slice(),
         &mut input,
@@ -93,7 +102,7 @@ fn output_that_has_no_room(rt: HostRuntime) -> Result<(), Fail> {
         (6, REFUSED, "newsd: failed to write whole buffer\n"),
     ] {
         let mut room = vec![in rt.alloc(); 0u8; size]?;
-        let ran = run_into(rt.alloc(), b"join\njoin", &mut room);
+        let ran = run_into(&rt, rt.alloc(), b"join\njoin", &mut room);
         assert!(rt;
             ran.0 == status && ran.1 == 0 && ran.2.as_slice() == faults.as_bytes(),
             "{size}"
