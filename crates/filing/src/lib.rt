@@ -10,7 +10,8 @@ ghost use Rattle.filing.specs.Calls.{Calls};
 use fs::{FsError, append, create};
 use volume::Blocks;
 
-/// Makes a file with these octets.
+/// Makes a file of this name with these octets. A refusal may leave a part of the two calls done; the caller then drops what it staged.
+/// The file has the form that docs/FORMATS.md gives under "Files".
 pub fn make_file<B: Blocks>(
     blocks: &mut B,
     inodes: u32,
