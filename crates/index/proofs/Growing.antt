@@ -214,7 +214,7 @@ unfolding last_from
 ends_total start [] = omega arith
 ends_total start (l ∷ ls) = ends_total (start + length l) ls ∙ omega (arith, length-append l (flat_map (λ x. x) ls))
 
-overview_size : (S : Spool) (g : NewsGroup) → end_of (group_index S g) ≡ length (overview_file S g.name)
+pub overview_size : (S : Spool) (g : NewsGroup) → end_of (group_index S g) ≡ length (overview_file S g.name)
 unfolding overview_of
 overview_size S g =
     let ls : List Octets = overview_lines (filed_in S g.name) in

@@ -3,3 +3,7 @@ pub mod Naming
 pub mod Growing
 pub mod LookUps
 pub mod Steps
+pub mod Lists
+pub mod Serials
+pub mod Known
+pub mod Callers

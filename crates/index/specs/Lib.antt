@@ -2,4 +2,5 @@ pub mod Shown
 pub mod View
 pub mod Naming
 pub mod Filing
+pub mod Notes
 pub mod Finding

@@ -1,8 +1,10 @@
 //! The index of a spool in memory: what its look-ups need beside the files, equal to the list of changes.
 #![tactic(auto)]
 
-ghost use Rattle.std.specs.Prelude.{◌≡◌, ◌+◌, ◌-◌, ◌^◌, ◌<◌, ◌≤◌, ◌∷◌, ◌++◌, ℕ, List, [], false, map, length, option_map, slice_index, slice_index_or, OnOk, OnErr, bytes_eq};
+ghost use Rattle.std.specs.Prelude.{◌≡◌, ◌+◌, ◌-◌, ◌^◌, ◌<◌, ◌≤◌, ◌∷◌, ◌++◌, ℕ, List, [], false, map, length, option_map, slice_get, slice_index, slice_index_or, Some, IfSome, OnOk, OnErr, bytes_eq, is_some};
+ghost use Rattle.std.specs.Bool.{OnTrue};
 ghost use Rattle.std.specs.List.{All, list_any};
+ghost use Rattle.std.specs.Option.{option_and_then};
 ghost use Rattle.model.specs.Stream.{Octets};
 ghost use Rattle.model.specs.Article as article;
 ghost use Rattle.model.specs.Indexed.{group_index};
@@ -13,12 +15,14 @@ ghost use Rattle.index.specs.Shown.{shown};
 ghost use Rattle.index.specs.Filing.{AreLineSizes, EndBelow};
 ghost use Rattle.index.specs.Naming.{heads};
 
+mod articles;
 mod filing;
 mod group;
 mod keys;
 mod note;
+mod views;
 
-use filing::{expire_one, place_of, push_lines, reserve_lines};
+use filing::{expire_one, overviews_below, place_of, push_lines, reserve_lines};
 pub use group::Group;
 use keys::Keys;
 use model::{Names, Text};
@@ -76,14 +80,25 @@ impl Index {
 
     /// The groups, in rising serial.
     pub fn groups(&self) -> &[Group]
-        ensures { (S : Spool) → Indexes S self.now → map shown result.now ≡ map (group_index S) (groups S) }
+        ensures kept { map shown result.now ≡ self.now.groups }
+        ensures spool { (S : Spool) → Indexes S self.now → map shown result.now ≡ map (group_index S) (groups S) }
     {
         self.groups.as_slice()
     }
 
+    /// The place of the group with this name among the groups, from 0.
+    pub fn place(&self, name: &[u8]) -> Option<usize>
+        ensures here { is_some result ≡ list_any (bytes_eq name.now) (heads self.now.groups) }
+        ensures there { IfSome result (λ k. slice_get (heads self.now.groups) k ≡ Some name.now) }
+        ensures spool { (S : Spool) → Indexes S self.now → option_and_then (slice_get (groups S)) result ≡ group_named S name.now }
+    {
+        place_of(&self.places, &self.groups, name)
+    }
+
     /// The group with this name.
     pub fn group(&self, name: &[u8]) -> Option<&Group>
-        ensures { (S : Spool) → Indexes S self.now → option_map (λ g. shown g.now) result ≡ option_map (group_index S) (group_named S name.now) }
+        ensures here { is_some result ≡ list_any (bytes_eq name.now) (heads self.now.groups) }
+        ensures spool { (S : Spool) → Indexes S self.now → option_map (λ g. shown g.now) result ≡ option_map (group_index S) (group_named S name.now) }
     {
         match place_of(&self.places, &self.groups, name) {
             Some(place) => Some(&self.groups[place]),
@@ -116,6 +131,13 @@ impl Index {
             Some(group) => group.expired_at(number),
             None => 0,
         }
+    }
+
+    /// Whether each overview is small enough for another article. It passes over all groups.
+    pub fn overviews_fit(&self) -> bool
+        ensures { OnTrue result (EndBelow (2 ^ 32) self.now.groups) }
+    {
+        overviews_below(&self.groups, 1 << 32)
     }
 
     /// Adds a group. An `Err` is out of memory and changes nothing.

@@ -1,3 +1,7 @@
+//! What is kept of a change.
+
+ghost use Rattle.std.specs.Prelude.{◌≡◌, option_map};
+
 use model::{Names, Text};
 
 /// What is kept of a change, by its serial.
@@ -18,4 +22,41 @@ pub enum Note {
         group: Text,
         number: u64,
     },
+}
+
+impl Note {
+    ghost use Rattle.index.specs.Notes.{groups_in, moment_in, size_in};
+
+    /// The octets of the text, of an article.
+    pub fn size(&self) -> Option<u64>
+        ensures { result ≡ size_in self.now }
+    {
+        match self {
+            Note::Group => None,
+            Note::Article { size, .. } => Some(*size),
+            Note::Expiry { .. } => None,
+        }
+    }
+
+    /// The groups that it was filed in, of an article.
+    pub fn groups(&self) -> Option<&[Text]>
+        ensures { option_map (λ names. names.now) result ≡ groups_in self.now }
+    {
+        match self {
+            Note::Group => None,
+            Note::Article { groups, .. } => Some(groups.as_slice()),
+            Note::Expiry { .. } => None,
+        }
+    }
+
+    /// When it was filed, of an article, in seconds since 1970.
+    pub fn moment(&self) -> Option<u64>
+        ensures { result ≡ moment_in self.now }
+    {
+        match self {
+            Note::Group => None,
+            Note::Article { moment, .. } => Some(*moment),
+            Note::Expiry { .. } => None,
+        }
+    }
 }

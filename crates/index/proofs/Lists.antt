@@ -1,0 +1,68 @@
+-- Loops over lists: whether one passes, and the greatest.
+use Rattle.std.proofs.Common.{◌≡◌, ℕ, zero, suc, ◌+◌, ◌<◌, ◌≤◌, List, [], ◌∷◌, ◌++◌, length, map, take, get_or, refl, sym, ◌∙◌, ap, arith, Bool, true, false, cond}
+use Rattle.std.specs.Prelude.{Option, Some, None, filter, max, slice_get, ◌&&◌, ◌||◌}
+use Rattle.std.specs.List.{list_any}
+use Rattle.std.proofs.lemmas.List.{map_push, take_all, take_more}
+use Rattle.model.specs.Spool.{greatest}
+
+-- ---- an element
+
+pub got : {X : Type 0} (xs : List X) (k : ℕ) (d : X) → k < length xs → slice_get xs k ≡ Some (get_or xs k d)
+got [] k d low = absurd (omega arith)
+got (x ∷ xs) zero d low = refl
+got (x ∷ xs) (suc k) d low = got xs k d (omega arith)
+
+pub got_within : {X : Type 0} (xs : List X) (k : ℕ) (x : X) → slice_get xs k ≡ Some x → k < length xs
+got_within [] k x is = absurd (cc)
+got_within (y ∷ xs) zero x is = omega arith
+got_within (y ∷ xs) (suc k) x is = let rest = got_within xs k x is in omega (arith, rest)
+
+-- ---- whether one passes
+
+pub any_filtered : {X : Type 0} (t p : X → Bool) (xs : List X) → list_any (λ x. t x && p x) xs ≡ list_any t (filter p xs)
+any_filtered t p [] = refl
+any_filtered {X} t p (x ∷ xs) = by_test (p x) (any_filtered t p xs) where
+  both : (b : Bool) → (b && true) ≡ b
+  both true = refl
+  both false = refl
+
+  neither : (b : Bool) → (b && false) ≡ false
+  neither true = refl
+  neither false = refl
+
+  by_test : (b : Bool) → list_any (λ (y : X). t y && p y) xs ≡ list_any t (filter p xs)
+      → ((t x && b) || list_any (λ (y : X). t y && p y) xs) ≡ list_any t (cond b (x ∷ filter p xs) (filter p xs))
+  by_test true rest = λ i. both (t x) i || rest i
+  by_test false rest = λ i. neither (t x) i || rest i
+
+-- ---- the greatest
+
+greatest_push : (ns : List ℕ) (n : ℕ) → greatest (ns ++ n ∷ []) ≡ max (greatest ns) n
+greatest_push [] n = swap n where
+  swap : (m : ℕ) → max m 0 ≡ max 0 m
+  swap m = omega arith
+greatest_push (m ∷ ns) n = ap (max m) (greatest_push ns n) ∙ joined m (greatest ns) n where
+  joined : (a b c : ℕ) → max a (max b c) ≡ max (max a b) c
+  joined a b c = omega arith
+
+pub greatest_step : {X : Type 0} (f : X → ℕ) (xs : List X) (i : ℕ) (x : X) (last : ℕ) → i < length xs → x ≡ get_or xs i x → last ≡ greatest (map f (take i xs)) → max last (f x) ≡ greatest (map f (take (i + 1) xs))
+greatest_step f xs i x last low is before =
+    ap (λ (n : ℕ). max n (f x)) before
+    ∙ ap (max (greatest (map f (take i xs)))) (ap f is)
+    ∙ sym (greatest_push (map f (take i xs)) (f (get_or xs i x)))
+    ∙ ap greatest (sym (map_push f (take i xs) (get_or xs i x)))
+    ∙ ap (λ ys. greatest (map f ys)) (sym (take_more xs i x low))
+
+pub greatest_all : {X : Type 0} (f : X → ℕ) (xs : List X) (n last : ℕ) → length xs ≤ n → last ≡ greatest (map f (take n xs)) → last ≡ greatest (map f xs)
+greatest_all f xs n last all is = is ∙ ap (λ ys. greatest (map f ys)) (take_all n xs all)
+
+pub greatest_tested : {X : Type 0} (f : X → ℕ) (t : X → Bool) (xs : List X) → greatest (map (λ x. cond (t x) (f x) 0) xs) ≡ greatest (map f (filter t xs))
+greatest_tested f t [] = refl
+greatest_tested {X} f t (x ∷ xs) = by_test (t x) (greatest_tested f t xs) where
+  none : (n : ℕ) → max 0 n ≡ n
+  none n = omega arith
+
+  by_test : (b : Bool) → greatest (map (λ (y : X). cond (t y) (f y) 0) xs) ≡ greatest (map f (filter t xs))
+      → max (cond b (f x) 0) (greatest (map (λ (y : X). cond (t y) (f y) 0) xs)) ≡ greatest (map f (cond b (x ∷ filter t xs) (filter t xs)))
+  by_test true rest = ap (max (f x)) rest
+  by_test false rest = none (greatest (map (λ (y : X). cond (t y) (f y) 0) xs)) ∙ rest

@@ -1,0 +1,21 @@
+-- What the note of an article says.
+use Rattle.std.specs.Prelude.{ℕ, List, Option, Some, None}
+use Rattle.model.specs.Stream.{Octets}
+use Rattle.index.specs.declared.note.Note.{Note}
+use Rattle.index.specs.declared.note.Note.TheVariants as note
+
+-- the octets of its text
+abbrev pub size_in : Note → Option ℕ
+size_in note.Group = None
+size_in (note.Article size groups moment) = Some size
+size_in (note.Expiry group number) = None
+
+abbrev pub groups_in : Note → Option (List Octets)
+groups_in note.Group = None
+groups_in (note.Article size groups moment) = Some groups
+groups_in (note.Expiry group number) = None
+
+abbrev pub moment_in : Note → Option ℕ
+moment_in note.Group = None
+moment_in (note.Article size groups moment) = Some moment
+moment_in (note.Expiry group number) = None

@@ -1,0 +1,168 @@
+//! Look-ups of articles by their serials.
+
+ghost use Rattle.std.specs.Prelude.{◌≡◌, ◌&&◌, IsTrue, length, map, option_map};
+ghost use Rattle.std.specs.List.{list_any};
+ghost use Rattle.model.specs.Stream.{Octets};
+ghost use Rattle.model.specs.Names as model;
+ghost use Rattle.model.specs.Indexed.{note_of};
+ghost use Rattle.model.specs.Lawful.{IsLawful};
+ghost use Rattle.model.specs.Spool.{Spool, expired_at, greatest};
+ghost use Rattle.lookups.specs.Held.{article_with, gone_with, groups_now};
+ghost use Rattle.index.specs.Finding.{note_at};
+
+use crate::Index;
+use crate::note::Note;
+use model::Text;
+use names::wildmat_matches;
+
+impl Index {
+    ghost use Rattle.index.specs.Finding.{entry_with, is_still_in, number_upto};
+    ghost use Rattle.index.specs.Shown.{kept};
+    ghost use Rattle.index.specs.View.{Indexes};
+
+    /// What is kept of the change with this serial.
+    pub fn note(&self, serial: u64) -> Option<&Note>
+        ensures at { option_map (λ n. n.now) result ≡ note_at self.now.notes serial }
+        ensures change { (S : Spool) → Indexes S self.now → option_map (λ n. n.now) result ≡ option_map (λ e. kept (note_of e)) (entry_with S serial) }
+    {
+        note_in(&self.notes, serial)
+    }
+
+    /// The octets of the text of the article with this serial, if there is one.
+    pub fn size(&self, serial: u64) -> Option<u64>
+        ensures { (S : Spool) → Indexes S self.now → result ≡ option_map (λ a. length a.text) (article_with S serial) }
+    {
+        match self.note(serial) {
+            Some(note) => note.size(),
+            None => None,
+        }
+    }
+
+    /// The groups that the article with this serial was filed in, if there is one, also those that it was taken out of.
+    pub fn groups_of(&self, serial: u64) -> Option<&[Text]>
+        ensures { (S : Spool) → Indexes S self.now → option_map (λ names. names.now) result ≡ option_map (λ a. a.groups) (article_with S serial) }
+    {
+        match self.note(serial) {
+            Some(note) => note.groups(),
+            None => None,
+        }
+    }
+
+    /// The moment of the article with this serial, if there is one, in seconds since 1970.
+    pub fn moment(&self, serial: u64) -> Option<u64>
+        ensures { (S : Spool) → Indexes S self.now → result ≡ option_map (λ a. a.moment) (article_with S serial) }
+    {
+        match self.note(serial) {
+            Some(note) => note.moment(),
+            None => None,
+        }
+    }
+
+    /// How many articles up to this serial were filed in the group, which is the number of the last of them.
+    pub fn number_in(&self, group: &[u8], serial: u64) -> u64
+        ensures { (host : Octets) (S : Spool) → IsLawful host S → Indexes S self.now → result ≡ number_upto S group.now serial }
+    {
+        match self.group(group) {
+            Some(group) => group.number_of(serial),
+            None => 0,
+        }
+    }
+
+    /// Whether the article with this serial, which was filed in the group, is still in it.
+    pub fn is_in(&self, group: &[u8], serial: u64) -> bool
+        ensures { (host : Octets) (S : Spool) → IsLawful host S → Indexes S self.now → result ≡ is_still_in S serial group.now }
+    {
+        match self.group(group) {
+            Some(group) => group.low() <= group.number_of(serial),
+            None => false,
+        }
+    }
+
+    /// The serial of the expiry that took the article with this serial out of the group that it was filed in, 0 where none did.
+    pub fn taken_at(&self, group: &[u8], serial: u64) -> u64
+        ensures { (host : Octets) (S : Spool) → IsLawful host S → Indexes S self.now → result ≡ expired_at S group.now (number_upto S group.now serial) }
+    {
+        self.expired_at(group, self.number_in(group, serial))
+    }
+
+    /// The serial of the expiry that took the article with this serial out of its last group. None where it is in a group, or
+    /// where no article has this serial.
+    pub fn gone_at(&self, serial: u64) -> Option<u64>
+        ensures { (host : Octets) (S : Spool) → IsLawful host S → Indexes S self.now → result ≡ gone_with S serial }
+    {
+        match self.groups_of(serial) {
+            Some(groups) => {
+                if self.is_in_any(groups, serial) {
+                    return None;
+                }
+                Some(self.last_taken(groups, serial))
+            }
+            None => None,
+        }
+    }
+
+    /// Whether the article with this serial is in a group whose name the wildmat takes.
+    pub fn is_in_one(&self, serial: u64, wildmat: &[u8]) -> bool
+        requires { IsTrue (model.is_wildmat wildmat.now) }
+        ensures { (host : Octets) (S : Spool) → IsLawful host S → Indexes S self.now → result ≡ list_any (model.wildmat_matches wildmat.now) (groups_now S serial) }
+    {
+        match self.groups_of(serial) {
+            Some(groups) => self.is_in_taken(groups, serial, wildmat),
+            None => false,
+        }
+    }
+
+    /// Whether the article with this serial is still in one of the groups that it was filed in.
+    fn is_in_any(&self, groups: &[Text], serial: u64) -> bool
+        ensures { (host : Octets) (S : Spool) → IsLawful host S → Indexes S self.now → result ≡ list_any (is_still_in S serial) groups.now }
+    {
+        for name in groups {
+            if self.is_in(name.as_slice(), serial) {
+                return true;
+            }
+        }
+        false
+    }
+
+    /// The greatest serial of the expiries that took the article with this serial out of the groups that it was filed in.
+    fn last_taken(&self, groups: &[Text], serial: u64) -> u64
+        ensures { (host : Octets) (S : Spool) → IsLawful host S → Indexes S self.now → result ≡ greatest (map (λ g. expired_at S g (number_upto S g serial)) groups.now) }
+    {
+        let mut last: u64 = 0;
+        for name in groups {
+            last = last.max(self.taken_at(name.as_slice(), serial));
+        }
+        last
+    }
+
+    /// Whether the article with this serial is still in one of the groups that it was filed in whose names the wildmat takes.
+    fn is_in_taken(&self, groups: &[Text], serial: u64, wildmat: &[u8]) -> bool
+        requires { IsTrue (model.is_wildmat wildmat.now) }
+        ensures { (host : Octets) (S : Spool) → IsLawful host S → Indexes S self.now → result ≡ list_any (λ g. model.wildmat_matches wildmat.now g && is_still_in S serial g) groups.now }
+    {
+        for name in groups {
+            if self.is_in_if_taken(name.as_slice(), serial, wildmat) {
+                return true;
+            }
+        }
+        false
+    }
+
+    /// Whether the wildmat takes the group's name, and the article with this serial is still in it.
+    fn is_in_if_taken(&self, group: &[u8], serial: u64, wildmat: &[u8]) -> bool
+        requires { IsTrue (model.is_wildmat wildmat.now) }
+        ensures { (host : Octets) (S : Spool) → IsLawful host S → Indexes S self.now → result ≡ (model.wildmat_matches wildmat.now group.now && is_still_in S serial group.now) }
+    {
+        wildmat_matches(wildmat, group) && self.is_in(group, serial)
+    }
+}
+
+/// The note of the change with this serial.
+fn note_in(notes: &[Note], serial: u64) -> Option<&Note>
+    ensures { option_map (λ n. n.now) result ≡ note_at notes.now serial }
+{
+    if serial == 0 || (notes.len() as u64) < serial {
+        return None;
+    }
+    Some(&notes[(serial - 1) as usize])
+}
