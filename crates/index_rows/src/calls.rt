@@ -1,0 +1,184 @@
+//! An index, and calls of it whose conditions are tested as they are made.
+
+use index::{Index, Note};
+use model::{Names, Text};
+use names::is_wildmat;
+use std::alloc::{AllocError, Global};
+
+/// When all groups and articles of the rows were made.
+const MOMENT: u64 = 1_000_000_000;
+
+/// A call, and what it is about. Names and ids are texts.
+#[derive(Clone, Copy)]
+pub enum Call {
+    /// Makes a group, and answers how many changes there are.
+    Make(&'static str),
+    /// Files an article with this id, this size, these groups and the sizes of its lines there, and answers how many changes there are.
+    File(&'static str, u64, &'static [&'static str], &'static [u64]),
+    /// Takes the articles up to a number out of a group, and answers how many changes there are.
+    Expire(&'static str, u64),
+    Len,
+    /// The kind of a change: 0 a group, 1 an article, 2 an expiry.
+    Kind(u64),
+    Size(u64),
+    Moment(u64),
+    /// How many groups an article was filed in.
+    Groups(u64),
+    GroupCount,
+    Place(&'static str),
+    /// The serial of the group with a place.
+    At(usize),
+    Serial(&'static str),
+    Status(&'static str),
+    Low(&'static str),
+    High(&'static str),
+    Last(&'static str),
+    /// The octets of a group's overview.
+    Overview(&'static str),
+    /// Where the overview line with a number begins, and where it ends.
+    Begins(&'static str, u64),
+    Ends(&'static str, u64),
+    ByNumber(&'static str, u64),
+    ById(&'static str),
+    ExpiredAt(&'static str, u64),
+    NumberIn(&'static str, u64),
+    IsIn(&'static str, u64),
+    TakenAt(&'static str, u64),
+    GoneAt(u64),
+    /// Whether an article is in a group whose name the wildmat takes.
+    IsInOne(u64, &'static str),
+    LastNaming(&'static str),
+}
+
+/// Makes a call, and answers what it finds: none where there is nothing, or where what the call asks for doesn't hold.
+pub fn answer(alloc: Global, index: &mut Index, call: Call) -> Result<Option<u64>, AllocError> {
+    match call {
+        Call::Make(name) => make(index, name.as_bytes()),
+        Call::File(id, size, groups, sizes) => file(
+            alloc,
+            index,
+            id.as_bytes(),
+            size,
+            groups,
+            sizes,
+        ),
+        Call::Expire(name, number) => expire(index, name.as_bytes(), number),
+        found => Ok(find(index, found)),
+    }
+}
+
+fn make(index: &mut Index, name: &[u8]) -> Result<Option<u64>, AllocError> {
+    if index.place(name).is_some() {
+        return Ok(None);
+    }
+    index.push_group(name, b'y', b"a group", MOMENT)?;
+    Ok(Some(index.len()))
+}
+
+fn file(
+    alloc: Global,
+    index: &mut Index,
+    id: &[u8],
+    size: u64,
+    groups: &[&str],
+    sizes: &[u64],
+) -> Result<Option<u64>, AllocError> {
+    let filed = names_of(alloc, groups)?;
+    let count = filed.as_slice().len();
+    let small = sizes.iter().all(|size| *size < 1 << 32);
+    if count > 16 || count != sizes.len() || !small || !index.overviews_fit() {
+        return Ok(None);
+    }
+    index.push_article(id, size, filed, MOMENT, sizes)?;
+    Ok(Some(index.len()))
+}
+
+fn names_of(alloc: Global, groups: &[&str]) -> Result<Names, AllocError> {
+    let mut names = Vec::new(alloc);
+    for group in groups {
+        names.push(Text::new(Vec::from_slice(alloc, group.as_bytes())?))?;
+    }
+    Ok(Names::new(names))
+}
+
+fn expire(index: &mut Index, name: &[u8], number: u64) -> Result<Option<u64>, AllocError> {
+    if number >= 1 << 63 {
+        return Ok(None);
+    }
+    index.push_expiry(name, number)?;
+    Ok(Some(index.len()))
+}
+
+fn find(index: &Index, call: Call) -> Option<u64> {
+    match call {
+        Call::Len => Some(index.len()),
+        Call::Kind(serial) => Some(kind(index.note(serial)?)),
+        Call::Size(serial) => index.size(serial),
+        Call::Moment(serial) => index.moment(serial),
+        Call::Groups(serial) => Some(index.groups_of(serial)?.len() as u64),
+        Call::GroupCount => Some(index.group_count() as u64),
+        Call::At(place) => at(index, place),
+        Call::ById(id) => index.by_id(id.as_bytes()),
+        Call::GoneAt(serial) => index.gone_at(serial),
+        Call::IsInOne(serial, wildmat) => is_in_one(index, serial, wildmat.as_bytes()),
+        Call::LastNaming(wildmat) => last_naming(index, wildmat.as_bytes()),
+        of_group => find_in_group(index, of_group),
+    }
+}
+
+fn find_in_group(index: &Index, call: Call) -> Option<u64> {
+    match call {
+        Call::Place(name) => Some(index.place(name.as_bytes())? as u64),
+        Call::Serial(name) => Some(index.view(name.as_bytes())?.serial),
+        Call::Status(name) => Some(u64::from(index.view(name.as_bytes())?.status)),
+        Call::Low(name) => Some(index.view(name.as_bytes())?.low),
+        Call::High(name) => Some(index.view(name.as_bytes())?.high),
+        Call::Last(name) => Some(index.view(name.as_bytes())?.last),
+        Call::Overview(name) => Some(index.group(name.as_bytes())?.overview_size()),
+        Call::Begins(name, number) => Some(line(index, name.as_bytes(), number)?.0),
+        Call::Ends(name, number) => Some(line(index, name.as_bytes(), number)?.1),
+        Call::ByNumber(name, number) => index.by_number(name.as_bytes(), number),
+        Call::ExpiredAt(name, number) => Some(index.expired_at(name.as_bytes(), number)),
+        Call::NumberIn(name, serial) => Some(index.number_in(name.as_bytes(), serial)),
+        Call::IsIn(name, serial) => Some(u64::from(index.is_in(name.as_bytes(), serial))),
+        Call::TakenAt(name, serial) => Some(index.taken_at(name.as_bytes(), serial)),
+        _ => None,
+    }
+}
+
+fn kind(note: &Note) -> u64 {
+    match note {
+        Note::Group => 0,
+        Note::Article { .. } => 1,
+        Note::Expiry { .. } => 2,
+    }
+}
+
+fn at(index: &Index, place: usize) -> Option<u64> {
+    if place >= index.group_count() {
+        return None;
+    }
+    Some(index.view_at(place).serial)
+}
+
+fn line(index: &Index, name: &[u8], number: u64) -> Option<(u64, u64)> {
+    let group = index.group(name)?;
+    if number == 0 || group.high() < number {
+        return None;
+    }
+    Some(group.line(number))
+}
+
+fn is_in_one(index: &Index, serial: u64, wildmat: &[u8]) -> Option<u64> {
+    if !is_wildmat(wildmat) {
+        return None;
+    }
+    Some(u64::from(index.is_in_one(serial, wildmat)))
+}
+
+fn last_naming(index: &Index, wildmat: &[u8]) -> Option<u64> {
+    if !is_wildmat(wildmat) {
+        return None;
+    }
+    Some(index.last_naming(wildmat))
+}
