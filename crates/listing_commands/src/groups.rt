@@ -1,0 +1,150 @@
+//! The groups that a list has, and their lines.
+
+ghost use Rattle.std.specs.Prelude.{◌≡◌, ◌++◌, ◌∷◌, [], IfOk, IfSome, IsTrue, OnOk, decimal};
+ghost use Rattle.model.specs.Answer.{is_listed, is_since};
+ghost use Rattle.model.specs.Names.{is_wildmat};
+ghost use Rattle.model.specs.Spool.{NewsGroup};
+ghost use Rattle.model.specs.Stream.{line, stuffed_line};
+ghost use Rattle.lookups.specs.Held.{all_known, shown};
+ghost use Rattle.listing_commands.specs.Lists.{IsPick, is_picked, last_of, later_of, line_of, lines_of, rest_of, shown_as};
+
+use lookups::{GroupView, LookUps};
+use model::Text;
+use names::wildmat_matches;
+use replies::push_number;
+use std::alloc::AllocError;
+
+/// Which groups a list has.
+#[derive(Clone, Copy)]
+pub enum Pick<'a> {
+    All,
+    /// those whose names the wildmat takes
+    Matching(&'a [u8]),
+    /// those that were made at this moment or later, in seconds since 1970
+    Since(i64),
+}
+
+/// What a list says of a group behind its name.
+#[derive(Clone, Copy)]
+pub enum Show {
+    Active,
+    Times,
+    Newsgroups,
+}
+
+/// Whether a moment is at or after another, both in seconds since 1970.
+pub fn is_since(from: i64, moment: u64) -> bool
+    ensures { result ≡ is_since from moment }
+{
+    from <= 0 || from as u64 <= moment
+}
+
+/// Those whose names the wildmat takes, or all where there is none.
+pub fn pick_of(wildmat: &Option<Text>) -> Pick<'_>
+    requires { IfSome wildmat.now (λ w. IsTrue (is_wildmat w)) }
+    ensures same { (g : NewsGroup) → is_picked result g ≡ is_listed wildmat.now g.name }
+    ensures is { IsPick result }
+{
+    match wildmat {
+        Some(wildmat) => Pick::Matching(wildmat.as_slice()),
+        None => Pick::All,
+    }
+}
+
+fn is_picked(pick: &Pick<'_>, group: &GroupView<'_>) -> bool
+    requires { IsPick pick.now }
+    ensures { result ≡ is_picked pick.now (shown group.now).listed.group }
+{
+    match pick {
+        Pick::All => true,
+        Pick::Matching(wildmat) => wildmat_matches(wildmat, group.name),
+        Pick::Since(from) => is_since(*from, group.moment),
+    }
+}
+
+/// A number, and a space in front.
+fn push_spaced(reply: &mut Vec<u8>, number: u64) -> Result<(), AllocError>
+    ensures { OnOk result (reply.new.items ≡ reply.old.items ++ 32 ∷ decimal number) }
+{
+    reply.push(b' ')?;
+    push_number(reply, number)
+}
+
+/// What stands behind the name of a group, with CRLF.
+fn push_rest(reply: &mut Vec<u8>, show: Show, group: &GroupView<'_>) -> Result<(), AllocError>
+    ensures { OnOk result (reply.new.items ≡ reply.old.items ++ rest_of show (shown group.now).listed) }
+{
+    match show {
+        Show::Active => {
+            push_spaced(reply, group.high)?;
+            push_spaced(reply, group.low)?;
+            reply.extend_from_slice(&[b' ', group.status, b'\r', b'\n'])
+        }
+        Show::Times => {
+            push_spaced(reply, group.moment)?;
+            reply.extend_from_slice(b" admin\r\n")
+        }
+        Show::Newsgroups => {
+            reply.push(b'\t')?;
+            reply.extend_from_slice(group.description)?;
+            reply.extend_from_slice(b"\r\n")
+        }
+    }
+}
+
+/// The first octets of a line of a block, with a dot in front where they begin with one.
+fn push_first(reply: &mut Vec<u8>, text: &[u8]) -> Result<(), AllocError>
+    ensures { OnOk result (reply.new.items ≡ reply.old.items ++ stuffed_line text.now) }
+{
+    if let [b'.', ..] = text {
+        reply.push(b'.')?;
+    }
+    reply.extend_from_slice(text)
+}
+
+/// The line of a group.
+#[tactic(auto, using(crate::proofs::Listing::stuffed_group))]
+fn push_group(reply: &mut Vec<u8>, show: Show, group: &GroupView<'_>) -> Result<(), AllocError>
+    ensures { OnOk result (reply.new.items ≡ reply.old.items ++ stuffed_line (line (shown_as show (shown group.now).listed))) }
+{
+    push_first(reply, group.name)?;
+    push_rest(reply, show, group)
+}
+
+/// The line of a group, if it is picked. The last serial that names one of those so far.
+fn push_picked(
+    reply: &mut Vec<u8>,
+    pick: &Pick<'_>,
+    show: Show,
+    group: &GroupView<'_>,
+    last: u64,
+) -> Result<u64, AllocError>
+    requires { IsPick pick.now }
+    ensures lines { OnOk result (reply.new.items ≡ reply.old.items ++ line_of pick.now show (shown group.now)) }
+    ensures last { IfOk result (λ latest. latest ≡ later_of pick.now last (shown group.now)) }
+{
+    if !is_picked(pick, group) {
+        return Ok(last);
+    }
+    push_group(reply, show, group)?;
+    Ok(last.max(group.last))
+}
+
+/// A line for each group that is picked, in rising serial. The last serial that names one of them, 0 where there is none.
+pub fn push_groups<L: LookUps>(
+    spool: &L,
+    pick: &Pick<'_>,
+    show: Show,
+    reply: &mut Vec<u8>,
+) -> Result<u64, AllocError>
+    requires { IsPick pick.now }
+    ensures lines { OnOk result (reply.new.items ≡ reply.old.items ++ lines_of pick.now show (all_known (L.changes spool.now))) }
+    ensures last { IfOk result (λ last. last ≡ last_of pick.now (all_known (L.changes spool.now))) }
+{
+    let mut last = 0;
+    for place in 0..spool.group_count() {
+        let group = spool.group_at(place);
+        last = push_picked(reply, pick, show, &group, last)?;
+    }
+    Ok(last)
+}

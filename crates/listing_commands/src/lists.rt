@@ -1,0 +1,109 @@
+//! LIST ACTIVE, LIST ACTIVE.TIMES, LIST NEWSGROUPS and NEWGROUPS.
+
+ghost use Rattle.std.specs.Prelude.{◌≡◌, ◌<◌, IfOk, IfSome, IsTrue, None, length};
+ghost use Rattle.model.specs.Answer as answers;
+ghost use Rattle.model.specs.Calendar.{moment_limit, since};
+ghost use Rattle.model.specs.Names.{is_wildmat};
+ghost use Rattle.model.specs.Reads.{list_reads, since_reads};
+ghost use Rattle.model.specs.Spool.{listed};
+ghost use Rattle.listing_commands.specs.Lists.{shown_as};
+ghost use Rattle.replies.specs.Answered.{answered};
+
+use crate::groups::{Pick, Show, pick_of, push_groups};
+use lookups::LookUps;
+use model::{Session, Text};
+use replies::{Answered, Heading, Reply, push_end, push_heading, says, says_line};
+use stamp::read_since;
+use std::alloc::{AllocError, Global};
+
+/// LIST ACTIVE (RFC 3977, section 7.6.3), of the groups whose names the wildmat takes, or of all.
+pub fn list_active<L: LookUps>(
+    alloc: Global,
+    spool: &L,
+    session: &Session,
+    wildmat: &Option<Text>,
+) -> Result<Answered, AllocError>
+    requires { IfSome wildmat.now (λ w. IsTrue (is_wildmat w)) }
+    ensures { IfOk result (λ r. r ≡ answered (answers.list_answer session.now answers.active_line (listed (L.changes spool.now) (answers.is_listed wildmat.now))) (list_reads (L.changes spool.now) wildmat.now)) }
+{
+    list(alloc, spool, session, wildmat, Show::Active)
+}
+
+/// LIST ACTIVE.TIMES (RFC 3977, section 7.6.4), of the groups whose names the wildmat takes, or of all.
+pub fn list_times<L: LookUps>(
+    alloc: Global,
+    spool: &L,
+    session: &Session,
+    wildmat: &Option<Text>,
+) -> Result<Answered, AllocError>
+    requires { IfSome wildmat.now (λ w. IsTrue (is_wildmat w)) }
+    ensures { IfOk result (λ r. r ≡ answered (answers.list_answer session.now answers.times_line (listed (L.changes spool.now) (answers.is_listed wildmat.now))) (list_reads (L.changes spool.now) wildmat.now)) }
+{
+    list(alloc, spool, session, wildmat, Show::Times)
+}
+
+/// LIST NEWSGROUPS (RFC 3977, section 7.6.6), of the groups whose names the wildmat takes, or of all.
+pub fn list_newsgroups<L: LookUps>(
+    alloc: Global,
+    spool: &L,
+    session: &Session,
+    wildmat: &Option<Text>,
+) -> Result<Answered, AllocError>
+    requires { IfSome wildmat.now (λ w. IsTrue (is_wildmat w)) }
+    ensures { IfOk result (λ r. r ≡ answered (answers.list_answer session.now answers.newsgroups_line (listed (L.changes spool.now) (answers.is_listed wildmat.now))) (list_reads (L.changes spool.now) wildmat.now)) }
+{
+    list(alloc, spool, session, wildmat, Show::Newsgroups)
+}
+
+/// A list of groups, which reads the last serial that names one of them.
+fn list<L: LookUps>(
+    alloc: Global,
+    spool: &L,
+    session: &Session,
+    wildmat: &Option<Text>,
+    show: Show,
+) -> Result<Answered, AllocError>
+    requires { IfSome wildmat.now (λ w. IsTrue (is_wildmat w)) }
+    ensures { IfOk result (λ r. r ≡ answered (answers.list_answer session.now (shown_as show) (listed (L.changes spool.now) (answers.is_listed wildmat.now))) (list_reads (L.changes spool.now) wildmat.now)) }
+{
+    let mut reply = Vec::new(alloc);
+    push_heading(&mut reply, Heading::Information)?;
+    let last = push_groups(spool, &pick_of(wildmat), show, &mut reply)?;
+    push_end(&mut reply)?;
+    says(alloc, session, reply, last)
+}
+
+/// NEWGROUPS (RFC 3977, section 7.3): the groups that were made since a date (`yymmdd` or `yyyymmdd`) and a time (`hhmmss`) in
+/// UTC. A date that the calendar does not have is a syntax error. The moment of the command is in seconds since 1970, below
+/// 253,402,300,800.
+pub fn newgroups<L: LookUps>(
+    alloc: Global,
+    spool: &L,
+    session: &Session,
+    date: &[u8],
+    time: &[u8],
+    moment: u64,
+) -> Result<Answered, AllocError>
+    requires { moment < moment_limit }
+    ensures { IfOk result (λ r. r ≡ answered (answers.if_dated session.now (since date.now time.now moment) (answers.newgroups_answer session.now (listed (L.changes spool.now) (answers.is_listed None)))) (since_reads (L.changes spool.now) (since date.now time.now moment))) }
+{
+    match read_since(date, time, moment) {
+        Ok(from) => groups_since(alloc, spool, session, from),
+        Err(_) => says_line(alloc, session, Reply::SyntaxError, 0),
+    }
+}
+
+fn groups_since<L: LookUps>(
+    alloc: Global,
+    spool: &L,
+    session: &Session,
+    from: i64,
+) -> Result<Answered, AllocError>
+    ensures { IfOk result (λ r. r ≡ answered (answers.newgroups_answer session.now (listed (L.changes spool.now) (answers.is_listed None)) from) (length (L.changes spool.now))) }
+{
+    let mut reply = Vec::new(alloc);
+    push_heading(&mut reply, Heading::Groups)?;
+    push_groups(spool, &Pick::Since(from), Show::Active, &mut reply)?;
+    push_end(&mut reply)?;
+    says(alloc, session, reply, spool.len())
+}
