@@ -1,0 +1,195 @@
+-- Files by their places and names.
+use Rattle.std.proofs.Common.{◌≡◌, append-nil, ℕ, zero, suc, ◌+◌, List, [], ◌∷◌, ◌++◌, length, get_or, map, refl, sym, ◌∙◌, ap, subst, arith}
+use Rattle.std.specs.Prelude.{filter_map, Option, Some, None, option_map}
+use Rattle.std.specs.List.{Contains, cons_option}
+use Rattle.std.proofs.lemmas.List.{map_push}
+use Rattle.std.proofs.lemmas.List.Elements.{filter_map-append}
+use Rattle.std.proofs.lemmas.List.Sorted.{IsPermutation-sym, Contains-permutation}
+use Rattle.model.specs.Stream.{Octets}
+use Rattle.model.specs.Files.{File, files_in, table}
+use Rattle.model.specs.Layout.{Holds}
+use Rattle.model.specs.Spool.{Spool, Entry, NewsGroup, entries, entries_from, group_made, groups}
+use Rattle.model.specs.SpoolFiles.{change_file, entry_files, files_of, numbers_file, numbers_name, overview_file, overview_name}
+use Rattle.model.specs.declared.change.Change.{Change}
+use Rattle.model.specs.declared.change.Change.TheVariants.{Group, Article, Expire}
+use Rattle.model.proofs.Filing.{entries_push}
+use Rattle.model.proofs.Inodes.{names_once}
+use Rattle.model.proofs.Joined.{joined_has, map_twice}
+use Rattle.places.specs.Laws.{PlacesAreByName, PlacesGrowByChange, PlacesGrowByGroup, PlacesHaveNames}
+use Rattle.places.specs.Places.{KeepsNames, name_of, names_of}
+
+-- ---- files have names
+
+named_file : (o : Option File) (f : File) → o ≡ Some f → option_map (λ (g : File). g.name) o ≡ Some f.name
+named_file o f is = ap (option_map (λ (g : File). g.name)) is
+
+names_from : {X : Type 0} (inodes : List (Option File)) (f : X → File) (places : List ℕ) (xs : List X) → map (λ k. get_or inodes k None) places ≡ map (λ x. Some (f x)) xs → names_of inodes places ≡ map (λ x. Some (f x).name) xs
+names_from inodes f [] [] same = refl
+names_from inodes f [] (x ∷ xs) same = absurd (cc)
+names_from inodes f (k ∷ places) [] same = absurd (cc)
+names_from inodes f (k ∷ places) (x ∷ xs) same =
+    let first : get_or inodes k None ≡ Some (f x) = cc in
+    let rest : map (λ j. get_or inodes j None) places ≡ map (λ y. Some (f y)) xs = cc in
+    let head = named_file (get_or inodes k None) (f x) first in
+    let tail = names_from inodes f places xs rest in
+    λ i. head i ∷ tail i
+
+pub have_names : PlacesHaveNames
+have_names inodes blocks S places are = record {
+  changes_are = names_from (table inodes blocks) change_file places.changes (entries S) are.changes_are;
+  numbers_are = names_from (table inodes blocks) (λ (g : NewsGroup). record { name = numbers_name g.name; content = numbers_file S g.name }) places.numbers (groups S) are.numbers_are;
+  overviews_are = names_from (table inodes blocks) (λ (g : NewsGroup). record { name = overview_name g.name; content = overview_file S g.name }) places.overviews (groups S) are.overviews_are;
+}
+
+-- ---- names have files
+
+-- a file of this name
+record HasName (o : Option File) (name : Octets) : Type 0 where
+  file : File
+  is : o ≡ Some file
+  named : file.name ≡ name
+
+with_name : (o : Option File) (name : Octets) → option_map (λ (f : File). f.name) o ≡ Some name → HasName o name
+with_name None name is = absurd (cc)
+with_name (Some f) name is = record { file = f; is = refl; named = cc }
+
+where_is : (inodes : List (Option File)) (f : File) → Contains (files_in inodes) f → (k : ℕ) × (get_or inodes k None ≡ Some f)
+where_is [] f (k, low, is) = absurd (omega arith)
+where_is (None ∷ inodes) f has = let rest = where_is inodes f has in (suc rest.0, rest.1)
+where_is (Some g ∷ inodes) f (zero, low, is) = (0, ap Some is)
+where_is (Some g ∷ inodes) f (suc k, low, is) = let rest = where_is inodes f (k, omega arith, is) in (suc rest.0, rest.1)
+
+-- each of these files is the one with its name
+abbrev AreTheirs : List (Option File) → List File → Type 0
+AreTheirs inodes files = (k : ℕ) (f : File) → Contains files f → name_of inodes k ≡ Some f.name → get_or inodes k None ≡ Some f
+
+theirs : (host : Octets) (inodes : ℕ) (blocks : List Octets) (S : Spool) → Holds host inodes blocks S → AreTheirs (table inodes blocks) (files_of S)
+theirs host inodes blocks S held k f has named =
+    let here = with_name (get_or (table inodes blocks) k None) f.name named in
+    let in_files : Contains held.files f = Contains-permutation (files_of S) held.files f (IsPermutation-sym held.files (files_of S) held.same) has in
+    let other = where_is (table inodes blocks) f (subst (λ (fs : List File). Contains fs f) held.held.contents in_files) in
+    let one : k ≡ other.0 = names_once inodes blocks held.held.rule k other.0 here.file f here.is other.1 here.named in
+    ap (λ (j : ℕ). get_or (table inodes blocks) j None) one ∙ other.1
+
+files_from : {X : Type 0} (inodes : List (Option File)) (files : List File) (f : X → File) (places : List ℕ) (xs : List X) → AreTheirs inodes files → ((x : X) → Contains xs x → Contains files (f x))
+    → names_of inodes places ≡ map (λ x. Some (f x).name) xs → map (λ k. get_or inodes k None) places ≡ map (λ x. Some (f x)) xs
+files_from inodes files f [] [] are have same = refl
+files_from inodes files f [] (x ∷ xs) are have same = absurd (cc)
+files_from inodes files f (k ∷ places) [] are have same = absurd (cc)
+files_from inodes files f (k ∷ places) (x ∷ xs) are have same =
+    let first : name_of inodes k ≡ Some (f x).name = cc in
+    let rest : names_of inodes places ≡ map (λ y. Some (f y).name) xs = cc in
+    let head = are k (f x) (have x (0, omega arith, refl)) first in
+    let tail = files_from inodes files f places xs are (λ y has. have y (suc has.0, omega (arith, has.1), has.2)) rest in
+    λ i. head i ∷ tail i
+
+-- a group comes from the change that made it, and its two files stand behind that one's
+record IsMadeBy (S : Spool) (n : ℕ) (R : Spool) (g : NewsGroup) : Type 0 where
+  entry : Entry
+  here : Contains (entries_from n R) entry
+  numbers : Contains (entry_files S entry) (record { name = numbers_name g.name; content = numbers_file S g.name })
+  overview : Contains (entry_files S entry) (record { name = overview_name g.name; content = overview_file S g.name })
+
+later : (S : Spool) (n : ℕ) (c : Change) (R : Spool) (g : NewsGroup) → IsMadeBy S (suc n) R g → IsMadeBy S n (c ∷ R) g
+later S n c R g made = record { entry = made.entry; here = (suc made.here.0, omega (arith, made.here.1), made.here.2); numbers = made.numbers; overview = made.overview }
+
+made_by : (S : Spool) (n : ℕ) (R : Spool) (g : NewsGroup) → Contains (filter_map group_made (entries_from n R)) g → IsMadeBy S n R g
+made_by S n [] g (k, low, is) = absurd (omega arith)
+made_by S n (Group name status description moment ∷ R) g (zero, low, is) =
+    let named : name ≡ g.name = ap (λ (h : NewsGroup). h.name) is in
+    record {
+      entry = record { serial = n; change = Group name status description moment };
+      here = (0, omega arith, refl);
+      numbers = (1, omega arith, ap (λ (q : Octets). record { name = numbers_name q; content = numbers_file S q }) named);
+      overview = (2, omega arith, ap (λ (q : Octets). record { name = overview_name q; content = overview_file S q }) named);
+    }
+made_by S n (Group name status description moment ∷ R) g (suc k, low, is) = later S n (Group name status description moment) R g (made_by S (suc n) R g (k, omega arith, is))
+made_by S n (Article text filed moment ∷ R) g has = later S n (Article text filed moment) R g (made_by S (suc n) R g has)
+made_by S n (Expire group number ∷ R) g has = later S n (Expire group number) R g (made_by S (suc n) R g has)
+
+has_change : (S : Spool) (e : Entry) → Contains (entries S) e → Contains (files_of S) (change_file e)
+unfolding files_of
+has_change S e has = joined_has (entry_files S) (entries S) e (change_file e) has (0, omega arith, refl)
+
+has_numbers : (S : Spool) (g : NewsGroup) → Contains (groups S) g → Contains (files_of S) (record { name = numbers_name g.name; content = numbers_file S g.name })
+unfolding files_of entries groups
+has_numbers S g has =
+    let made = made_by S 1 S g has in
+    joined_has (entry_files S) (entries_from 1 S) made.entry (record { name = numbers_name g.name; content = numbers_file S g.name }) made.here made.numbers
+
+has_overview : (S : Spool) (g : NewsGroup) → Contains (groups S) g → Contains (files_of S) (record { name = overview_name g.name; content = overview_file S g.name })
+unfolding files_of entries groups
+has_overview S g has =
+    let made = made_by S 1 S g has in
+    joined_has (entry_files S) (entries_from 1 S) made.entry (record { name = overview_name g.name; content = overview_file S g.name }) made.here made.overview
+
+pub are_by_name : PlacesAreByName
+are_by_name host inodes blocks S places held named =
+    let are = theirs host inodes blocks S held in
+    record {
+      changes_are = files_from (table inodes blocks) (files_of S) change_file places.changes (entries S) are (has_change S) named.changes_are;
+      numbers_are = files_from (table inodes blocks) (files_of S) (λ (g : NewsGroup). record { name = numbers_name g.name; content = numbers_file S g.name }) places.numbers (groups S) are (has_numbers S) named.numbers_are;
+      overviews_are = files_from (table inodes blocks) (files_of S) (λ (g : NewsGroup). record { name = overview_name g.name; content = overview_file S g.name }) places.overviews (groups S) are (has_overview S) named.overviews_are;
+    }
+
+-- ---- one change more
+
+kept_names : (old new : List (Option File)) (places : List ℕ) (names : List Octets) → KeepsNames old new → names_of old places ≡ map Some names → names_of new places ≡ map Some names
+kept_names old new [] [] keeps same = refl
+kept_names old new [] (q ∷ names) keeps same = absurd (cc)
+kept_names old new (k ∷ places) [] keeps same = absurd (cc)
+kept_names old new (k ∷ places) (q ∷ names) keeps same =
+    let first : name_of old k ≡ Some q = cc in
+    let rest : names_of old places ≡ map Some names = cc in
+    let head = keeps k q first in
+    let tail = kept_names old new places names keeps rest in
+    λ i. head i ∷ tail i
+
+-- with one place more, whose file has this name
+one_more : {X : Type 0} (old new : List (Option File)) (named : X → Octets) (places : List ℕ) (xs : List X) (at : ℕ) (x : X) → KeepsNames old new → names_of old places ≡ map (λ y. Some (named y)) xs → name_of new at ≡ Some (named x)
+    → names_of new (places ++ at ∷ []) ≡ map (λ y. Some (named y)) (xs ++ x ∷ [])
+one_more old new named places xs at x keeps same here =
+    let kept : names_of new places ≡ map (λ y. Some (named y)) xs = kept_names old new places (map named xs) keeps (same ∙ sym (map_twice Some named xs)) ∙ map_twice Some named xs in
+    let joined = map_push (λ k. name_of new k) places at in
+    let other = map_push (λ y. Some (named y)) xs x in
+    joined ∙ (λ i. kept i ++ here i ∷ []) ∙ sym other
+
+entries_more : (S : Spool) (c : Change) → entries (S ++ c ∷ []) ≡ entries S ++ record { serial = length S + 1; change = c } ∷ []
+unfolding entries
+entries_more S c = entries_push 1 S c
+
+groups_more : (S : Spool) (c : Change) → groups (S ++ c ∷ []) ≡ groups S ++ filter_map group_made (record { serial = length S + 1; change = c } ∷ [])
+unfolding groups
+groups_more S c = ap (filter_map group_made) (entries_more S c) ∙ filter_map-append group_made (entries S) (record { serial = length S + 1; change = c } ∷ [])
+
+no_more : (S : Spool) (c : Change) → group_made (record { serial = length S + 1; change = c }) ≡ None → groups (S ++ c ∷ []) ≡ groups S
+no_more S c none = groups_more S c ∙ ap (λ gs. groups S ++ gs) (empty (record { serial = length S + 1; change = c }) none) ∙ append-nil (groups S)
+  where
+    empty : (e : Entry) → group_made e ≡ None → filter_map group_made (e ∷ []) ≡ []
+    empty e is = ap (λ (o : Option NewsGroup). cons_option o []) is
+
+still : {X : Type 0} (old new : List (Option File)) (named : X → Octets) (places : List ℕ) (xs : List X) → KeepsNames old new → names_of old places ≡ map (λ y. Some (named y)) xs → names_of new places ≡ map (λ y. Some (named y)) xs
+still old new named places xs keeps same = kept_names old new places (map named xs) keeps (same ∙ sym (map_twice Some named xs)) ∙ map_twice Some named xs
+
+pub grow_by_change : PlacesGrowByChange
+grow_by_change old new S c places at none named keeps here =
+    let same : groups S ≡ groups (S ++ c ∷ []) = sym (no_more S c none) in
+    record {
+      changes_are = one_more old new (λ (e : Entry). (change_file e).name) places.changes (entries S) at (record { serial = length S + 1; change = c }) keeps named.changes_are here
+          ∙ ap (map (λ (e : Entry). Some (change_file e).name)) (sym (entries_more S c));
+      numbers_are = still old new (λ (g : NewsGroup). numbers_name g.name) places.numbers (groups S) keeps named.numbers_are ∙ ap (map (λ (g : NewsGroup). Some (numbers_name g.name))) same;
+      overviews_are = still old new (λ (g : NewsGroup). overview_name g.name) places.overviews (groups S) keeps named.overviews_are ∙ ap (map (λ (g : NewsGroup). Some (overview_name g.name))) same;
+    }
+
+pub grow_by_group : PlacesGrowByGroup
+grow_by_group old new S name status description moment places at numbers overview named keeps here second third =
+    let c : Change = Group name status description moment in
+    let g : NewsGroup = record { serial = length S + 1; name = name; status = status; description = description; moment = moment } in
+    record {
+      changes_are = one_more old new (λ (e : Entry). (change_file e).name) places.changes (entries S) at (record { serial = length S + 1; change = c }) keeps named.changes_are here
+          ∙ ap (map (λ (e : Entry). Some (change_file e).name)) (sym (entries_more S c));
+      numbers_are = one_more old new (λ (h : NewsGroup). numbers_name h.name) places.numbers (groups S) numbers g keeps named.numbers_are second
+          ∙ ap (map (λ (h : NewsGroup). Some (numbers_name h.name))) (sym (groups_more S c));
+      overviews_are = one_more old new (λ (h : NewsGroup). overview_name h.name) places.overviews (groups S) overview g keeps named.overviews_are third
+          ∙ ap (map (λ (h : NewsGroup). Some (overview_name h.name))) (sym (groups_more S c));
+    }

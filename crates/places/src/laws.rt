@@ -1,0 +1,15 @@
+//! What the places of files rest on. The functions do nothing.
+
+ghost use Rattle.places.specs.Laws.{PlacesAreByName, PlacesGrowByChange, PlacesGrowByGroup, PlacesHaveNames};
+
+/// The places of a spool's files are those that have their names.
+pub fn places_are_by_name()
+    ensures named { PlacesHaveNames }
+    ensures are { PlacesAreByName }
+{}
+
+/// Where each file keeps its inode and its name, a change's new files have their places behind the others.
+pub fn places_grow_with_the_spool()
+    ensures change { PlacesGrowByChange }
+    ensures group { PlacesGrowByGroup }
+{}

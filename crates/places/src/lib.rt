@@ -1,0 +1,106 @@
+//! Where the files of a spool stand: the inode of each change's file by serial, and of the numbers and the overview of each
+//! group. Inodes are found in memory, so no call searches the directory for a name.
+#![tactic(auto)]
+
+ghost use Rattle.std.specs.Prelude.{◌≡◌, ◌∷◌, ℕ, [], OnErr, OnOk};
+ghost use Rattle.model.specs.Indexed.{FilePlaces};
+ghost use Rattle.places.specs.Places.{with_change, with_group};
+
+mod laws;
+
+pub use laws::{places_are_by_name, places_grow_with_the_spool};
+use std::alloc::{AllocError, Global};
+use std::marker::Model;
+
+/// The inodes of a spool's files.
+#[derive(Drop)]
+pub struct Places {
+    changes: Vec<u32>,
+    numbers: Vec<u32>,
+    overviews: Vec<u32>,
+}
+
+impl Model for Places {
+    ghost use Rattle.model.specs.Indexed.{FilePlaces};
+
+    ghost Value = { FilePlaces };
+
+    ghost view = { λ p. record { changes = p.changes.items; numbers = p.numbers.items; overviews = p.overviews.items } };
+}
+
+impl Places {
+    /// The places of no files.
+    pub fn new(alloc: Global) -> Places
+        ensures { result ≡ record { changes = []; numbers = []; overviews = [] } }
+    {
+        Places {
+            changes: Vec::new(alloc),
+            numbers: Vec::new(alloc),
+            overviews: Vec::new(alloc),
+        }
+    }
+
+    /// By serial, the inode of the file of each change.
+    pub fn changes(&self) -> &[u32]
+        ensures { result.now ≡ self.now.changes }
+    {
+        self.changes.as_slice()
+    }
+
+    /// The inode of the numbers of each group, in rising serial.
+    pub fn numbers(&self) -> &[u32]
+        ensures { result.now ≡ self.now.numbers }
+    {
+        self.numbers.as_slice()
+    }
+
+    /// The inode of the overview of each group, in rising serial.
+    pub fn overviews(&self) -> &[u32]
+        ensures { result.now ≡ self.now.overviews }
+    {
+        self.overviews.as_slice()
+    }
+
+    /// Adds the place of the file of an article or an expiry. An `Err` is out of memory and changes nothing.
+    pub fn push_change(&mut self, at: u32) -> Result<(), AllocError>
+        ensures ok { OnOk result (self.new ≡ with_change at self.old) }
+        ensures err { OnErr result (self.new ≡ self.old) }
+    {
+        self.changes.push(at)?;
+        Ok(())
+    }
+
+    /// Adds the places of the files of a group: its record, its numbers, its overview. An `Err` is out of memory and changes
+    /// nothing.
+    pub fn push_group(&mut self, at: u32, numbers: u32, overview: u32) -> Result<(), AllocError>
+        ensures ok { OnOk result (self.new ≡ with_group at numbers overview self.old) }
+        ensures err { OnErr result (self.new ≡ self.old) }
+    {
+        self.changes.reserve(1)?;
+        self.numbers.reserve(1)?;
+        self.overviews.push(overview)?;
+        let Ok(()) = self.numbers.push(numbers) else {
+            unreachable!()
+        };
+        let Ok(()) = self.changes.push(at) else {
+            unreachable!()
+        };
+        Ok(())
+    }
+
+    /// Takes out what the last `push_change` added.
+    pub fn pop_change(&mut self)
+        ensures { (old : FilePlaces) (at : ℕ) → self.old ≡ with_change at old → self.new ≡ old }
+    {
+        let _ = self.changes.pop();
+    }
+
+    /// Takes out what the last `push_group` added.
+    pub fn pop_group(&mut self)
+        ensures { (old : FilePlaces) (at numbers overview : ℕ) → self.old ≡ with_group at numbers overview old → self.new ≡ old }
+    {
+        let _ = self.changes.pop();
+        let _ = self.numbers.pop();
+        let _ = self.overviews.pop();
+    }
+}
