@@ -1,11 +1,12 @@
 -- What a crash leaves at each call of a batch.
 use Rattle.std.proofs.Common.{◌≡◌, ◌≢◌, inl, inr, ◌<◌, ℕ, ◌+◌, true, false, eqb, List, [], length, get_or, refl, sym, ◌∙◌, ap, subst, arith, zero-add}
 use Rattle.std.proofs.lemmas.Bool.{cases_Bool}
-use Rattle.journal.specs.Inside.{SameBut, IsStaged, IsWritten, IsHome, Touched, IsAdmitted, blocks_without}
+use Rattle.journal.specs.Inside.{IsStaged, IsWritten, IsHome, Touched, IsAdmitted, blocks_without}
+use Rattle.segments.specs.Images.{SameBut}
 use Rattle.model.specs.Volume.{block, blocks_from, home_size, label_of, IsSuperblock, is_open, laid_over, home, logical_blocks, StandsFor}
 use Rattle.journal.specs.declared.Next.{Next}
 use Rattle.journal.specs.declared.Next.TheVariants.{Idle, Descriptor, Image, Seal, OpenGate, Commit, Home, Settle, CloseGate, Finish}
-use Rattle.journal.proofs.Blocks.{length-blocks_from, get_or-blocks_from}
+use Rattle.segments.proofs.Blocks.{length-blocks_from, get_or-blocks_from}
 use Rattle.journal.proofs.Laid.{laid_over_done, laid_over_agree}
 use Rattle.journal.proofs.Volumes.{get_or-home, length-home, stands_closed, its_superblock, label_same, home_size_same, home_same, is_closed, is_opened, closed_home}
 

@@ -3,7 +3,8 @@ use Rattle.std.proofs.Common.{◌≡◌, ◌≢◌, ◌⊎◌, inl, inr, ⊎_eli
 use Rattle.disk.specs.Device.{Device, Elapses, IsTornImage, TearsAt, LeftTornAt}
 use Rattle.disk.specs.Image.{part, overwritten}
 use Rattle.disk.proofs.Images.{length-part}
-use Rattle.journal.specs.Inside.{SameBut, InFlight, IsStaged, IsWithin, Holds, Touched, IsAdmitted, IsKept, blocks_without}
+use Rattle.journal.specs.Inside.{InFlight, IsStaged, IsWithin, Holds, Touched, IsAdmitted, IsKept, blocks_without}
+use Rattle.segments.specs.Images.{SameBut}
 use Rattle.journal.specs.Calls.{Does, Writes, Syncs, call_at}
 use Rattle.journal.specs.Order.{at_fault, following}
 use Rattle.model.specs.Volume.{block, blocks_from, home_size, laid_over}
@@ -11,7 +12,7 @@ use Rattle.journal.specs.declared.Next.{Next}
 use Rattle.journal.specs.declared.Next.TheVariants.{Idle, Descriptor, Image, Seal, OpenGate, Commit, Home, Settle, CloseGate, Finish}
 use Rattle.std.proofs.lemmas.Bool.{true≢false}
 use Rattle.journal.proofs.Admitted.{Bears}
-use Rattle.journal.proofs.Blocks.{get_or-blocks_from}
+use Rattle.segments.proofs.Blocks.{get_or-blocks_from}
 use Rattle.journal.proofs.Contents.{within_image, within_home, flight_image, flight_home, touched_image, touched_home, after_image, after_home, holds_descriptor, holds_image, holds_opened, holds_home, holds_closed, without_opened, without_committed}
 use Rattle.journal.proofs.Transitions.{admitted_after, bears, told_after, without_same, image_torn, images_synced}
 

@@ -2,12 +2,13 @@
 use Rattle.std.proofs.Common.{◌≡◌, ◌≢◌, ◌⊎◌, inl, inr, ◌<◌, ◌≤◌, ℕ, ◌+◌, ◌*◌, true, false, eqb, List, [], ◌∷◌, length, get_or, refl, sym, ◌∙◌, ap, subst, arith}
 use Rattle.std.proofs.lemmas.Bool.{cases_eq, cond_both, eqb-true, eqb-false}
 use Rattle.disk.specs.Image.{overwritten}
-use Rattle.journal.specs.Inside.{SameBut, InFlight, IsStaged, IsWithin, IsWritten, IsHome, Holds, Touched, blocks_without}
+use Rattle.journal.specs.Inside.{InFlight, IsStaged, IsWithin, IsWritten, IsHome, Holds, Touched, blocks_without}
+use Rattle.segments.specs.Images.{SameBut}
 use Rattle.journal.specs.Order.{following}
 use Rattle.model.specs.Volume.{block, blocks_from, home_size, IsSuperblock, is_open, laid_over}
 use Rattle.journal.specs.declared.Next.{Next}
 use Rattle.journal.specs.declared.Next.TheVariants.{Image, Seal, OpenGate, Commit, Home, Settle, Finish}
-use Rattle.journal.proofs.Blocks.{overwritten_same, block-overwritten, first-overwritten}
+use Rattle.segments.proofs.Blocks.{overwritten_same, block-overwritten, first-overwritten}
 use Rattle.journal.proofs.Volumes.{stands_closed, is_opened, closed_home}
 
 -- the call after an image, and after a home block

@@ -10,7 +10,7 @@ use Rattle.journal.specs.declared.JournalError.{JournalError}
 use Rattle.journal.specs.declared.JournalError.TheVariants.{Fault, Memory, NotAVolume, Halted}
 use Rattle.model.specs.Volume.{block, blocks_from, home_size, label_of, number_at, is_open, open_segments, IsSuperblock, IsDescriptor, listed, StandsFor, logical_blocks}
 use Rattle.journal.specs.declared.Next.TheVariants.{Idle, Home}
-use Rattle.journal.proofs.Blocks.{same_but_equal}
+use Rattle.segments.proofs.Blocks.{same_but_equal}
 use Rattle.journal.proofs.Transitions.{told_after}
 use Rattle.journal.proofs.Volumes.{stands_closed, is_opened, none_open, one_open}
 

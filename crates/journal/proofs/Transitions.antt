@@ -2,12 +2,13 @@
 use Rattle.std.proofs.Common.{◌≡◌, ◌≢◌, ◌⊎◌, inl, inr, ◌≤◌, ℕ, ◌+◌, ◌*◌, Bool, false, List, length, refl, sym, ◌∙◌, ap, subst, arith}
 use Rattle.disk.specs.Device.{Device, IsTornImage, LeavesOnly}
 use Rattle.disk.specs.Image.{part}
-use Rattle.journal.specs.Inside.{SameBut, IsStaged, Holds, Touched, IsAdmitted, IsTold, blocks_without}
+use Rattle.journal.specs.Inside.{IsStaged, Holds, Touched, IsAdmitted, IsTold, blocks_without}
+use Rattle.segments.specs.Images.{SameBut}
 use Rattle.model.specs.Volume.{block, blocks_from, home_size, label_of, number_at, IsSuperblock, laid_over, logical_blocks, StandsFor}
 use Rattle.journal.specs.declared.Next.{Next}
 use Rattle.journal.specs.declared.Next.TheVariants.{Idle, Descriptor, Image, Seal, OpenGate, Commit, Home, Settle, CloseGate, Finish}
 use Rattle.journal.proofs.Admitted.{Bears, images_stand}
-use Rattle.journal.proofs.Blocks.{torn_same, same_but_more, same_but_then, same_but_back, same_but_equal}
+use Rattle.segments.proofs.Blocks.{torn_same, same_but_more, same_but_then, same_but_back, same_but_equal}
 use Rattle.journal.proofs.Volumes.{superblock_same, home_same, closed_home}
 
 -- the superblock isn't touched

@@ -5,7 +5,7 @@ use Rattle.std.proofs.lemmas.List.Elements.{All-nil, All-cons, All-head}
 use Rattle.disk.specs.Image.{part}
 use Rattle.model.specs.Volume.{home_place, descriptor_place, block, blocks_from, number_at, home_size, label_of, IsSuperblock, is_open, listed, batch_in, AreDistinct, IsDescriptor, open_segments, laid_over, all_laid_over, rising, home, logical_blocks, StandsFor, gate_closed}
 use Rattle.journal.specs.Inside.{IsStaged, IsWritten}
-use Rattle.journal.proofs.Blocks.{blocks_from_same, length-blocks_from, get_or-blocks_from, overwritten_same, first-overwritten}
+use Rattle.segments.proofs.Blocks.{blocks_from_same, length-blocks_from, get_or-blocks_from, overwritten_same, first-overwritten}
 
 module _ (x : List ℕ) (superblock : IsSuperblock (block 0 x) (length x)) where
   -- the home of a volume of one segment

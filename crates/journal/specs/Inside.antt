@@ -4,6 +4,7 @@ use Rattle.std.specs.List.{All}
 use Rattle.disk.specs.Device.{Device, LeavesOnly, one_more}
 use Rattle.disk.specs.Image.{part}
 use Rattle.model.specs.Volume.{gate_place, descriptor_place, image_place, home_place, descriptor_of, block, blocks_from, number_at, home_size, label_of, is_open, listed, AreDistinct, IsDescriptor, IsSuperblock, StandsFor, laid_over, logical_blocks, gate_closed}
+use Rattle.segments.specs.Images.{SameBut}
 use Rattle.journal.specs.declared.Next.{Next}
 use Rattle.journal.specs.declared.Next.TheVariants.{Idle, Descriptor, Image, Seal, OpenGate, Commit, Home, Settle, CloseGate, Finish}
 
@@ -65,11 +66,6 @@ Touched numbers (Home j) k = (i : ℕ) × (i < length numbers) × (k ≡ home_pl
 Touched numbers Settle k = (i : ℕ) × (i < length numbers) × (k ≡ home_place 1 (slice_index numbers i))
 Touched numbers Finish k = k ≡ gate_place 0
 Touched numbers next k = ⊥
-
--- the images have the same blocks but some
-pub record SameBut (P : ℕ → Type 0) (old new : List ℕ) : Type 0 where
-  pub size : length new ≡ length old
-  pub same : (k : ℕ) → (P k → ⊥) → block k new ≡ block k old
 
 -- a batch is in flight, unless no call comes next
 abbrev pub InFlight : Next → Type 0 → Type 0
