@@ -4,7 +4,6 @@ pub mod Contents
 pub mod During
 pub mod Found
 pub mod Idle
-pub mod Laid
 pub mod Loading
 pub mod Made
 pub mod Order

@@ -4,11 +4,11 @@ use Rattle.disk.specs.Device.{Device, IsRefused, IsUnchanged}
 use Rattle.journal.specs.Inside.{IsAdmitted, IsKept, Holds, Touched, blocks_without}
 use Rattle.segments.specs.Images.{SameBut}
 use Rattle.journal.specs.Journal.{AreWhole}
-use Rattle.model.specs.Volume.{block, blocks_from, home_size, IsSuperblock, label_of, laid_over, StandsFor}
+use Rattle.model.specs.Volume.{gate_closed, logical_blocks, blocks_from, home_size, laid_over, StandsFor}
 use Rattle.journal.specs.declared.Next.{Next}
-use Rattle.segments.proofs.Standing.{length-home}
-use Rattle.segments.proofs.Whole.{home_whole, stands_length, stands_whole as sizes_whole}
-use Rattle.journal.proofs.Volumes.{closed_home}
+use Rattle.segments.proofs.Whole.{stands_length, stands_whole as sizes_whole}
+use Rattle.journal.specs.declared.Next.TheVariants.{Commit}
+use Rattle.journal.proofs.Admitted.{size_shut, stands_shut}
 
 -- what an image stands for
 pub stands_whole : (x label : List ℕ) (blocks : List (List ℕ)) → StandsFor x label blocks → AreWhole (home_size x) blocks
@@ -24,7 +24,8 @@ module _ (device : Device) (blocks : ℕ) (superblock : List ℕ) (next : Next) 
         | inl stands ↦ stands_whole device.content (Rattle.disk.specs.Image.part 20 128 superblock) (blocks_without next device.content) stands
         | inr commits ↦
             subst (λ (s : Next). AreWhole (home_size device.content) (blocks_without s device.content)) (sym commits.0)
-            (subst (λ (bs : List (List ℕ)). AreWhole (home_size device.content) bs) (sym (closed_home device.content told.superblock)) (record { count = length-home device.content; whole = home_whole device.content told.superblock }))
+            (subst (λ (n : ℕ). AreWhole n (blocks_without Commit device.content)) (size_shut device.content (Rattle.disk.specs.Image.part 20 128 superblock) told.stands)
+            (stands_whole (gate_closed 0 device.content) (Rattle.disk.specs.Image.part 20 128 superblock) (blocks_without Commit device.content) (stands_shut device.content (Rattle.disk.specs.Image.part 20 128 superblock) told.stands)))
       ])
 
   -- and it is kept by what leaves all that the device means
@@ -44,9 +45,8 @@ module _ (device : Device) (blocks : ℕ) (superblock : List ℕ) (next : Next) 
     told = λ t.
         let told = kept.told (subst (λ (b : Bool). IsTrue b) same.tells t) in
         record {
-          superblock = subst (λ (x : List ℕ). IsSuperblock (block 0 x) (length x)) (sym same.content) told.superblock;
+          stands = subst (λ (x : List ℕ). StandsFor x (Rattle.disk.specs.Image.part 20 128 superblock) (logical_blocks x)) (sym same.content) told.stands;
           size = ap home_size same.content ∙ told.size;
-          label = ap label_of same.content ∙ told.label;
           admits = λ c left.
               subst (λ (x : List ℕ). IsAdmitted next (Rattle.disk.specs.Image.part 20 128 superblock) (blocks_without next x) (laid_over (blocks_without next x) (take count numbers) (blocks_from 0 (length (take count numbers)) octets)) c) (sym same.content)
               (told.admits c ((same.may_leave c).0 left));
@@ -74,9 +74,8 @@ module _ (device : Device) (blocks : ℕ) (superblock : List ℕ) (next : Next) 
         let told = kept.told before in
         let content = same.content before in
         record {
-          superblock = subst (λ (x : List ℕ). IsSuperblock (block 0 x) (length x)) (sym content) told.superblock;
+          stands = subst (λ (x : List ℕ). StandsFor x (Rattle.disk.specs.Image.part 20 128 superblock) (logical_blocks x)) (sym content) told.stands;
           size = ap home_size content ∙ told.size;
-          label = ap label_of content ∙ told.label;
           admits = λ c left.
               subst (λ (x : List ℕ). IsAdmitted next (Rattle.disk.specs.Image.part 20 128 superblock) (blocks_without next x) (laid_over (blocks_without next x) (take count numbers) (blocks_from 0 (length (take count numbers)) octets)) c) (sym content)
               (told.admits c (same.crash before c left));

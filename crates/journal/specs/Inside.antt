@@ -3,7 +3,7 @@ use Rattle.std.specs.Prelude.{◌≡◌, ◌⊎◌, ◌<◌, ◌≤◌, ℕ, ◌
 use Rattle.std.specs.List.{All}
 use Rattle.disk.specs.Device.{Device, LeavesOnly, one_more}
 use Rattle.disk.specs.Image.{part}
-use Rattle.model.specs.Volume.{gate_place, descriptor_place, image_place, home_place, descriptor_of, block, blocks_from, number_at, home_size, label_of, is_open, listed, AreDistinct, IsDescriptor, IsSuperblock, StandsFor, laid_over, logical_blocks, gate_closed}
+use Rattle.model.specs.Volume.{gate_place, descriptor_place, image_place, home_place, descriptor_of, block, blocks_from, number_at, home_size, is_open, listed, AreDistinct, IsDescriptor, IsSuperblock, StandsFor, laid_over, logical_blocks, gate_closed}
 use Rattle.segments.specs.Images.{SameBut}
 use Rattle.journal.specs.declared.Next.{Next}
 use Rattle.journal.specs.declared.Next.TheVariants.{Idle, Descriptor, Image, Seal, OpenGate, Commit, Home, Settle, CloseGate, Finish}
@@ -80,9 +80,8 @@ IsWithin n next = Unit {0}
 
 -- what the journal knows of a device that tells its octets
 pub record IsTold (device : Device) (blocks : ℕ) (its_label : List ℕ) (next : Next) (halted : Bool) (descriptor numbers octets : List ℕ) : Type 0 where
-  pub superblock : IsSuperblock (block 0 device.content) (length device.content)
+  pub stands : StandsFor device.content its_label (logical_blocks device.content)
   pub size : home_size device.content ≡ blocks
-  pub label : label_of device.content ≡ its_label
   pub admits : (c : List ℕ) → device.may_leave c → IsAdmitted next its_label (blocks_without next device.content) (laid_over (blocks_without next device.content) numbers (blocks_from 0 (length numbers) octets)) c
   pub holds : halted ≡ false → Holds descriptor numbers octets next device.content
   pub same : halted ≡ false → (c : List ℕ) → device.may_leave c → SameBut (Touched numbers next) device.content c

@@ -4,7 +4,7 @@ use Rattle.std.specs.List.{All, filter, range_with_len}
 use Rattle.std.proofs.lemmas.Bool.{cases_Bool, cases_eq}
 use Rattle.std.proofs.lemmas.List.{map-append}
 use Rattle.std.proofs.lemmas.List.Elements.{All-head, All-tail}
-use Rattle.model.specs.Volume.{AreDistinct, Batch, IsDescriptor, StandsFor, all_laid_over, batch_in, block, descriptor_place, gate_place, home, home_place, home_size, image_place, is_open, laid_over, open_segments, rising, segment_count}
+use Rattle.model.specs.Volume.{AreDistinct, Batch, IsDescriptor, StandsFor, all_laid_over, batch_in, block, descriptor_place, gate_place, home, home_place, home_size, image_place, is_open, laid_over, logical_blocks, open_segments, rising, segment_count}
 use Rattle.segments.specs.Batches.{AreAbove, AreBelow, AreFull}
 use Rattle.segments.specs.Held.{AreHeld, AreOpen, AreRising, HaveLess, HaveMore, Held, IsAmong, batches_of}
 use Rattle.segments.specs.Images.{IsCarried, IsInside, IsOpenIn, SameBut, open_batches}
@@ -207,7 +207,7 @@ module _ (x c label : List ℕ) (blocks : List (List ℕ)) (m : ℕ) (stands : S
 
   -- ---- the gate is closed, of the batch with the least number, once all are carried home
 
-  module _ (opened : is_open m x ≡ true) (shut : is_open m c ≡ false) (least : (s : ℕ) → IsOpenIn s x → s ≢ m → (batch_in m x).number < (batch_in s x).number) (carried : IsCarried x) where
+  module _ (opened : is_open m x ≡ true) (shut : is_open m c ≡ false) where
     not_here : (s : ℕ) → is_open s c ≡ true → s ≢ m
     not_here s is e = let both : true ≡ false = sym is ∙ ap (λ (n : ℕ). is_open n c) e ∙ shut in absurd (cc both)
 
@@ -230,46 +230,9 @@ module _ (x c label : List ℕ) (blocks : List (List ℕ)) (m : ℕ) (stands : S
     map_before : {B : Type 0} (f : Batch → B) → map (λ s. f (batch_in s x)) (open_segments x) ≡ map (λ s. f (batch_in s x)) front ++ f (batch_in m x) ∷ map (λ s. f (batch_in s x)) back
     map_before f = ap (map (λ s. f (batch_in s x))) opens_before ∙ map-append (λ s. f (batch_in s x)) front (m ∷ back)
 
-    pub batches_closed : open_batches x ≡ batch_in m x ∷ open_batches c
-    batches_closed =
-        ap rising (map_before (λ b. b))
-        ∙ least_first (map (λ s. batch_in s x) front) (map (λ s. batch_in s x) back) (batch_in m x)
-        (above_all x (batch_in m x).number front (each_of (λ s. (batch_in m x).number < (batch_in s x).number) (tests x) 0 m (λ s low high is. least s (omega (arith, high, within), is) (λ e. absurd (omega (arith, e, high))))))
-        (above_all x (batch_in m x).number back (each_of (λ s. (batch_in m x).number < (batch_in s x).number) (tests x) (m + 1) (segment_count x - m - 1) (λ s low high is. least s (omega (arith, low, high, within), is) (λ e. absurd (omega (arith, e, low))))))
-        ∙ ap (λ (l : List Batch). batch_in m x ∷ rising l) (sym (map_left (λ b. b)))
-
-    -- the segments in memory, without this one
-    pub held_closed : (h : Held) (held : List Held) → h.place ≡ m → AreOpen (h ∷ held) x → AreOpen held c
-    held_closed h held here are = record {
-      batches = let all : batch_in m x ∷ open_batches c ≡ h.batch ∷ batches_of held = sym batches_closed ∙ are.batches in cc;
-      each = held_left held are.rise.0 are.each.1;
-      all = λ s is.
-          let there : s < segment_count x = omega (arith, is.0, count_same x c zeroth same.size) in
-          elim (are.all s (still_open s there is.1)) [
-            | inl first ↦ absurd (not_here s is.1 (first ∙ here))
-            | inr rest ↦ rest
-          ];
-      rise = are.rise.1;
-    }
-      where
-        held_left : (hs : List Held) → HaveMore h.batch.number hs → AreHeld hs x → AreHeld hs c
-        held_left [] more each = tt
-        held_left (g ∷ hs) more each =
-            let other : g.place ≢ m = λ e. absurd (
-            let same_batch : g.batch ≡ h.batch = sym each.0.1 ∙ ap (λ (s : ℕ). batch_in s x) (e ∙ sym here) ∙ are.each.0.1 in
-            let equal : g.batch.number ≡ h.batch.number = ap (λ (b : Batch). b.number) same_batch in
-            omega (arith, more.0, equal)
-            ) in (
-              ((omega (arith, each.0.0.0, count_same x c zeroth same.size), other_gate g.place other ∙ each.0.0.1), its_batch g.place (valid_open x label blocks stands g.place each.0.0) ∙ each.0.1),
-              held_left hs more.1 each.1,
-            )
-
-    pub still_carried : IsCarried c
-    still_carried closed left is =
-        ap (λ (h : List (List ℕ)). all_laid_over h left) homes ∙ carried (batch_in m x ∷ closed) left (ap (λ (l : List Batch). batch_in m x ∷ l) is ∙ sym batches_closed) ∙ sym homes
-
-    pub gate_closed_now : StandsFor c label blocks
-    gate_closed_now = record {
+    -- what is open still stands for something
+    pub valid_shut : StandsFor c label (logical_blocks c)
+    valid_shut = record {
       has_superblock = superblock_same x c zeroth same.size stands.has_superblock;
       has_label = label_same x c zeroth same.size ∙ stands.has_label;
       has_batches =
@@ -280,9 +243,52 @@ module _ (x c label : List ℕ) (blocks : List (List ℕ)) (m : ℕ) (stands : S
           (distinct_of (map (λ s. (batch_in s x).number) front ++ map (λ s. (batch_in s x).number) back)
           (once_less (batch_in m x).number (map (λ s. (batch_in s x).number) front) (map (λ s. (batch_in s x).number) back)
           (once_of (map (λ s. (batch_in s x).number) front ++ (batch_in m x).number ∷ map (λ s. (batch_in s x).number) back) (subst (λ (ns : List ℕ). AreDistinct ns) (map_before (λ b. b.number)) stands.has_order))));
-      has_blocks =
-          still_carried [] (open_batches c) refl ∙ homes ∙ sym (carried [] (open_batches x) refl) ∙ stands.has_blocks;
+      has_blocks = refl;
     }
+
+    module _ (least : (s : ℕ) → IsOpenIn s x → s ≢ m → (batch_in m x).number < (batch_in s x).number) (carried : IsCarried x) where
+      pub batches_closed : open_batches x ≡ batch_in m x ∷ open_batches c
+      batches_closed =
+          ap rising (map_before (λ b. b))
+          ∙ least_first (map (λ s. batch_in s x) front) (map (λ s. batch_in s x) back) (batch_in m x)
+          (above_all x (batch_in m x).number front (each_of (λ s. (batch_in m x).number < (batch_in s x).number) (tests x) 0 m (λ s low high is. least s (omega (arith, high, within), is) (λ e. absurd (omega (arith, e, high))))))
+          (above_all x (batch_in m x).number back (each_of (λ s. (batch_in m x).number < (batch_in s x).number) (tests x) (m + 1) (segment_count x - m - 1) (λ s low high is. least s (omega (arith, low, high, within), is) (λ e. absurd (omega (arith, e, low))))))
+          ∙ ap (λ (l : List Batch). batch_in m x ∷ rising l) (sym (map_left (λ b. b)))
+
+      -- the segments in memory, without this one
+      pub held_closed : (h : Held) (held : List Held) → h.place ≡ m → AreOpen (h ∷ held) x → AreOpen held c
+      held_closed h held here are = record {
+        batches = let all : batch_in m x ∷ open_batches c ≡ h.batch ∷ batches_of held = sym batches_closed ∙ are.batches in cc;
+        each = held_left held are.rise.0 are.each.1;
+        all = λ s is.
+            let there : s < segment_count x = omega (arith, is.0, count_same x c zeroth same.size) in
+            elim (are.all s (still_open s there is.1)) [
+              | inl first ↦ absurd (not_here s is.1 (first ∙ here))
+              | inr rest ↦ rest
+            ];
+        rise = are.rise.1;
+      }
+        where
+          held_left : (hs : List Held) → HaveMore h.batch.number hs → AreHeld hs x → AreHeld hs c
+          held_left [] more each = tt
+          held_left (g ∷ hs) more each =
+              let other : g.place ≢ m = λ e. absurd (
+              let same_batch : g.batch ≡ h.batch = sym each.0.1 ∙ ap (λ (s : ℕ). batch_in s x) (e ∙ sym here) ∙ are.each.0.1 in
+              let equal : g.batch.number ≡ h.batch.number = ap (λ (b : Batch). b.number) same_batch in
+              omega (arith, more.0, equal)
+              ) in (
+                ((omega (arith, each.0.0.0, count_same x c zeroth same.size), other_gate g.place other ∙ each.0.0.1), its_batch g.place (valid_open x label blocks stands g.place each.0.0) ∙ each.0.1),
+                held_left hs more.1 each.1,
+              )
+
+      pub still_carried : IsCarried c
+      still_carried closed left is =
+          ap (λ (h : List (List ℕ)). all_laid_over h left) homes ∙ carried (batch_in m x ∷ closed) left (ap (λ (l : List Batch). batch_in m x ∷ l) is ∙ sym batches_closed) ∙ sym homes
+
+      pub gate_closed_now : StandsFor c label blocks
+      gate_closed_now =
+          subst (λ (bs : List (List ℕ)). StandsFor c label bs) (still_carried [] (open_batches c) refl ∙ homes ∙ sym (carried [] (open_batches x) refl) ∙ stands.has_blocks)
+          valid_shut
 
 -- what was carried home lies there, however many of the first gates are closed
 pub carried_home : (x : List ℕ) (first : List (List ℕ)) → AreFull (open_batches x) → home x ≡ all_laid_over first (open_batches x) → IsCarried x
@@ -322,3 +328,10 @@ closed_open x c label blocks h held stands are carried same shut =
       gate_closed_now x c label blocks h.place stands opened.0 same opened.1 shut least carried,
       (still_carried x c label blocks h.place stands opened.0 same opened.1 shut least carried, held_closed x c label blocks h.place stands opened.0 same opened.1 shut least carried h held refl are),
     )
+
+-- whichever gate is shut, the other segments stand for something
+pub any_shut : (x c label : List ℕ) (blocks : List (List ℕ)) (m : ℕ) → StandsFor x label blocks → m < segment_count x → SameBut (λ k. k ≡ gate_place m) x c → is_open m c ≡ false → StandsFor c label (logical_blocks c)
+any_shut x c label blocks m stands within same shut = elim (cases_Bool (is_open m x)) [
+  | inl opened ↦ valid_shut x c label blocks m stands within same opened shut
+  | inr also ↦ let kept = gate_kept x c label blocks m stands within same (shut ∙ sym also) in subst (λ (bs : List (List ℕ)). StandsFor c label bs) (sym kept.has_blocks) kept
+]
