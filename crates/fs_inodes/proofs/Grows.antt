@@ -8,7 +8,7 @@ use Rattle.std.proofs.lemmas.Bool.{cases_eq, cases_lt, ne_eqb, eq-eqb, false≢t
 use Rattle.byteorder.specs.Endian.{little_bytes}
 use Rattle.disk.specs.Image.{part, overwritten}
 use Rattle.disk.proofs.Images.{length-overwritten}
-use Rattle.journal.proofs.Numbers.{number_at_apart, number_at_written}
+use Rattle.volume_format.proofs.Numbers.{number_at_apart, number_at_written}
 use Rattle.model.specs.Stream.{Octets}
 use Rattle.model.specs.Volume.{number_at, AreDistinct}
 use Rattle.model.specs.Files.{Entry, HasRoom, IsFile, kind, size, block_count, indirect_pointer, indirect_blocks, pointer, owned, name_in, content_of, entry, inode_of, slot_of, indirect_of, first_data, is_marked_used, free_blocks, IsFileSystem, file_at}

@@ -7,7 +7,7 @@ use Rattle.std.proofs.lemmas.List.Elements.{Contains-append_left, Contains-appen
 use Rattle.byteorder.specs.Endian.{little_bytes}
 use Rattle.disk.specs.Image.{overwritten}
 use Rattle.disk.proofs.Images.{length-overwritten}
-use Rattle.journal.proofs.Numbers.{number_at_apart, number_at_written}
+use Rattle.volume_format.proofs.Numbers.{number_at_apart, number_at_written}
 use Rattle.model.specs.Stream.{Octets}
 use Rattle.model.specs.Volume.{number_at}
 use Rattle.fs_layout.specs.Blocks.{PutsRecord}

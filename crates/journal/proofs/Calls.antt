@@ -3,17 +3,18 @@ use Rattle.std.proofs.Common.{◌≡◌, ◌≢◌, ◌⊎◌, inl, inr, ⊎_eli
 use Rattle.disk.specs.Device.{Device, Elapses, IsTornImage, TearsAt, LeftTornAt}
 use Rattle.disk.specs.Image.{part, overwritten}
 use Rattle.disk.proofs.Images.{length-part}
-use Rattle.journal.specs.Inside.{SameBut, InFlight, IsStaged, IsWithin, Holds, Touched, IsAdmitted, IsKept, blocks_without}
+use Rattle.journal.specs.Inside.{InFlight, IsStaged, IsWithin, Holds, Touched, IsAdmitted, IsKept, IsTold, blocks_without}
+use Rattle.segments.specs.Images.{SameBut}
 use Rattle.journal.specs.Calls.{Does, Writes, Syncs, call_at}
 use Rattle.journal.specs.Order.{at_fault, following}
 use Rattle.model.specs.Volume.{block, blocks_from, home_size, laid_over}
 use Rattle.journal.specs.declared.Next.{Next}
 use Rattle.journal.specs.declared.Next.TheVariants.{Idle, Descriptor, Image, Seal, OpenGate, Commit, Home, Settle, CloseGate, Finish}
 use Rattle.std.proofs.lemmas.Bool.{true≢false}
-use Rattle.journal.proofs.Admitted.{Bears}
-use Rattle.journal.proofs.Blocks.{get_or-blocks_from}
-use Rattle.journal.proofs.Contents.{within_image, within_home, flight_image, flight_home, touched_image, touched_home, after_image, after_home, holds_descriptor, holds_image, holds_opened, holds_home, holds_closed, without_opened, without_committed}
-use Rattle.journal.proofs.Transitions.{admitted_after, bears, told_after, without_same, image_torn, images_synced}
+use Rattle.journal.proofs.Admitted.{Bears, carried_now, committed_blocks, shut_already}
+use Rattle.segments.proofs.Blocks.{get_or-blocks_from}
+use Rattle.journal.proofs.Contents.{within_image, within_home, flight_image, flight_home, touched_image, touched_home, after_image, after_home, holds_descriptor, holds_image, holds_opened, holds_home, holds_closed}
+use Rattle.journal.proofs.Transitions.{admitted_after, told_after, told_failed, without_same, image_torn, images_synced}
 
 -- the logical blocks after a good call, by what they were before
 abbrev pub blocks_then : Next → List (List ℕ) → List (List ℕ) → List (List ℕ)
@@ -64,12 +65,12 @@ module _ (old new : Device) (blocks : ℕ) (superblock : List ℕ) (last count :
       told = λ tells.
           let t = told_new tells in
           let told = was.told t in
-          told_after descriptor ns octets last old.content told.superblock (staged_at t) new blocks (part 20 128 superblock) f h told.size told.label (bears t) (λ c now. same t c (left t c now)) (law tells) (holds t);
+          told_after descriptor ns octets last old.content (part 20 128 superblock) told.stands (staged_at t) new blocks f h told.size (bears t) (λ c now. same t c (left t c now)) (law tells) (holds t);
     };
-    is_without = λ t. without_same descriptor ns octets last old.content (was.told t).superblock (staged_at t) f new.content (bears t) (now t) ∙ is t;
+    is_without = λ t. without_same descriptor ns octets last old.content (part 20 128 superblock) (was.told t).stands (staged_at t) f new.content (bears t) (now t) ∙ is t;
     is_since = λ t time c before gone.
         ⊎_elim (λ earlier. inl earlier)
-        (λ p. inr (admitted_after descriptor ns octets last old.content (was.told t).superblock (staged_at t) f (part 20 128 superblock) new.content (was.told t).label (bears t) (now t) c (same t c p)))
+        (λ p. inr (admitted_after descriptor ns octets last old.content (part 20 128 superblock) (was.told t).stands (staged_at t) f new.content (bears t) (now t) c (same t c p)))
         (since t time c before gone);
   }
     where
@@ -81,6 +82,9 @@ module _ (old new : Device) (blocks : ℕ) (superblock : List ℕ) (last count :
 
       now : (t : IsTrue old.tells) → SameBut (Touched ns f) old.content new.content
       now t = same t new.content (left t new.content (law (subst (λ (b : Bool). IsTrue b) (sym time.tells) t)))
+
+  staged_old : (s : Next) (was : Was s) → IsStaged blocks descriptor last ns octets → (t : IsTrue old.tells) → IsStaged (home_size old.content) descriptor last ns octets
+  staged_old s was staged t = subst (λ (b : ℕ). IsStaged b descriptor last ns octets) (sym (was.told t).size) staged
 
   -- a write, good or failed
   record HasWritten (at : ℕ) (written : List ℕ) (h : Bool) : Type 0 where
@@ -111,21 +115,21 @@ module _ (old new : Device) (blocks : ℕ) (superblock : List ℕ) (last count :
   after_descriptor h was did =
       after_write Descriptor (Image 0) h 2 descriptor was did (omega (arith, was.descriptor_size)) was.staged (omega (arith, was.staged.some, length-ns Descriptor was)) was.staged (λ e. cc) (omega arith, omega arith) (λ k e. absurd e)
       (λ t. (was.told t).holds refl)
-      (λ t. holds_descriptor descriptor ns octets old.content (was.told t).superblock was.descriptor_size ((was.told t).holds refl))
+      (λ t. holds_descriptor descriptor ns octets old.content (was.told t).stands.has_superblock was.descriptor_size ((was.told t).holds refl))
       (λ t. refl)
 
   after_open_gate : (h : Bool) → Was OpenGate → HasWritten (4096 * 1) (1 ∷ []) h → IsAfter Commit h (blocks_without OpenGate old.content)
   after_open_gate h was did =
       after_write OpenGate Commit h 1 (1 ∷ []) was did (omega arith) was.staged tt was.staged (λ e. cc) refl (λ k e. absurd e)
       (λ t. ((was.told t).holds refl).1)
-      (λ t. holds_opened descriptor ns octets old.content (was.told t).superblock ((was.told t).holds refl).0 ((was.told t).holds refl).1)
-      (λ t. without_opened descriptor ns octets old.content (was.told t).superblock ((was.told t).holds refl).0)
+      (λ t. holds_opened descriptor ns octets old.content (was.told t).stands.has_superblock ((was.told t).holds refl).0 ((was.told t).holds refl).1)
+      (λ t. shut_already old.content (part 20 128 superblock) (was.told t).stands ((was.told t).holds refl).0)
 
   after_close_gate : (h : Bool) → Was CloseGate → HasWritten (4096 * 1) (0 ∷ []) h → IsAfter Finish h (blocks_without CloseGate old.content)
   after_close_gate h was did =
       after_write CloseGate Finish h 1 (0 ∷ []) was did (omega arith) was.staged tt was.staged (λ e. cc) refl (λ k e. absurd e)
-      (λ t. (((was.told t).holds refl).1, ((was.told t).holds refl).2))
-      (λ t. holds_closed descriptor ns octets old.content (was.told t).superblock ((was.told t).holds refl).1 ((was.told t).holds refl).2 (omega (arith, was.few, length-ns CloseGate was)))
+      (λ t. let holds = (was.told t).holds refl in (holds.0, carried_now descriptor ns octets last old.content (part 20 128 superblock) (was.told t).stands (staged_old CloseGate was was.staged t) holds.0 holds.1 holds.2))
+      (λ t. holds_closed descriptor ns octets old.content (was.told t).stands.has_superblock ((was.told t).holds refl).1 ((was.told t).holds refl).2 (omega (arith, was.few, length-ns CloseGate was)))
       (λ t. refl)
 
   whole : (s : Next) → Was s → (i : ℕ) → i < 512 → length (block i octets) ≡ 4096
@@ -148,7 +152,7 @@ module _ (old new : Device) (blocks : ℕ) (superblock : List ℕ) (last count :
       (after_image (λ f. f ≢ Descriptor) (length ns) i (λ e. λ f. cc) (λ e. λ f. cc))
       (touched_image ns (length ns) i (3 + i) (omega arith, omega (arith, within, few))) (λ k e. touched_image ns (length ns) i k e)
       (λ t. after_image (λ s. Bears descriptor ns octets s old.content) (length ns) i (λ e. ((was.told t).holds refl).0) (λ e. ((was.told t).holds refl).0))
-      (λ t. holds_image descriptor ns octets old.content (was.told t).superblock i within few size ((was.told t).holds refl))
+      (λ t. holds_image descriptor ns octets old.content (was.told t).stands.has_superblock i within few size ((was.told t).holds refl))
       (λ t. after_image (λ s. blocks_without s old.content ≡ blocks_without (Image i) old.content) (length ns) i (λ e. refl) (λ e. refl)))
 
   after_a_home : (i : ℕ) (h : Bool) → Was (Home i) → HasWritten (4096 * (515 + get_or ns i 0)) (get_or images i []) h → IsAfter (following count (Home i)) h (blocks_without (Home i) old.content)
@@ -167,7 +171,7 @@ module _ (old new : Device) (blocks : ℕ) (superblock : List ℕ) (last count :
       (λ t. after_home (λ s. Bears descriptor ns octets s old.content) (length ns) i (λ e. (((was.told t).holds refl).0, ((was.told t).holds refl).1)) (λ e. (((was.told t).holds refl).0, ((was.told t).holds refl).1)))
       (λ t.
       let below : get_or ns i 0 < home_size old.content = omega (arith, was.staged.below i 0 within, (was.told t).size) in
-      holds_home descriptor ns octets old.content (was.told t).superblock i within few below (λ k before. was.staged.distinct k i before within) size ((was.told t).holds refl))
+      holds_home descriptor ns octets old.content (was.told t).stands.has_superblock i within few below (λ k before. was.staged.distinct k i before within) size ((was.told t).holds refl))
       (λ t. after_home (λ s. blocks_without s old.content ≡ blocks_without (Home i) old.content) (length ns) i (λ e. refl) (λ e. refl)))
 
   -- after a good sync
@@ -183,24 +187,39 @@ module _ (old new : Device) (blocks : ℕ) (superblock : List ℕ) (last count :
       is
 
   -- a failed one
-  after_failed_sync : {T E : Type 0} (e : E) (s : Next) → s ≢ Descriptor → Was s → Syncs {T = T} {E = E} (Err e) old new → IsStaged blocks descriptor last ns octets → IsAfter s true (blocks_without s old.content)
-  after_failed_sync e s other was did staged =
-      after_call s s true (blocks_without s old.content) (λ c. new.may_leave c) was staged was.within was.staged other (λ t c left. left) (λ t time c before gone. inl (did.since t time c before gone))
-      (λ t. bears descriptor ns octets s old.content ((was.told t).holds refl))
-      (λ t c left. (was.told t).same refl c (did.crash t c left))
-      (λ t runs. absurd (true≢false runs))
-      (λ t. refl)
+  after_failed_sync : {T E : Type 0} (e : E) (s : Next) → s ≢ Descriptor → Was s → Syncs {T = T} {E = E} (Err e) old new → IsAfter s true (blocks_without s old.content)
+  after_failed_sync e s other was did = record {
+    is_kept = record {
+      size = time.size ∙ was.size;
+      low = was.low;
+      high = was.high;
+      superblock_size = was.superblock_size;
+      descriptor_size = was.descriptor_size;
+      numbers_size = was.numbers_size;
+      octets_size = was.octets_size;
+      few = was.few;
+      within = was.within;
+      staged = was.staged;
+      described = λ e. absurd (other e);
+      told = λ tells. (failed (subst (λ (b : Bool). IsTrue b) time.tells tells)).0;
+    };
+    is_without = λ t. (failed t).1;
+    is_since = λ t time c before gone. inl (did.since t time c before gone);
+  }
+    where
+      failed : IsTrue old.tells → IsTold new blocks (part 20 128 superblock) s true descriptor ns octets × (blocks_without s new.content ≡ blocks_without s old.content)
+      failed t = told_failed old new blocks (part 20 128 superblock) s descriptor ns octets (was.told t) (did.crash t) (law (subst (λ (b : Bool). IsTrue b) (sym time.tells) t))
 
   -- the sync that commits lays the batch over
   after_commit : {T E : Type 0} (x : T) → Was Commit → Syncs {T = T} {E = E} (Ok x) old new → IsAfter (Home 0) false (laid_over (blocks_without Commit old.content) ns images)
   after_commit x was did =
       let here : (y : List ℕ) → Holds descriptor ns octets Commit y → Holds descriptor ns octets (Home 0) y = λ y holds. (holds.0, holds.1, λ k low. absurd (omega arith)) in
       after_sync x Commit (Home 0) (laid_over (blocks_without Commit old.content) ns images) was did was.staged (omega (arith, was.staged.some, length-ns Commit was)) was.staged (λ e. cc)
-      (λ t. bears descriptor ns octets (Home 0) old.content (here old.content ((was.told t).holds refl)))
+      (λ t. ((was.told t).holds refl))
       (λ t. here old.content ((was.told t).holds refl))
       (λ t.
       let told = was.told t in
-      without_committed descriptor ns octets old.content told.superblock last (subst (λ (b : ℕ). IsStaged b descriptor last ns octets) (sym told.size) was.staged) (told.holds refl).0 (told.holds refl).1)
+      committed_blocks descriptor ns octets last old.content (part 20 128 superblock) told.stands (staged_old Commit was was.staged t) (told.holds refl).0 (told.holds refl).1)
 
   abbrev Called : {T E : Type 0} → Next → Result T E → Type 0
   Called s result = Does (call_at s descriptor ns images) result old new
@@ -212,27 +231,27 @@ module _ (old new : Device) (blocks : ℕ) (superblock : List ℕ) (last count :
   after_ok T E x (Image i) flies was did = after_an_image i false was (written_ok x (4096 * (3 + i)) (get_or images i []) did)
   after_ok T E x Seal flies was did =
       after_sync x Seal OpenGate (blocks_without Seal old.content) was did was.staged tt was.staged (λ e. cc)
-      (λ t. bears descriptor ns octets OpenGate old.content ((was.told t).holds refl)) (λ t. (was.told t).holds refl) (λ t. refl)
+      (λ t. tt) (λ t. (was.told t).holds refl) (λ t. refl)
   after_ok T E x OpenGate flies was did = after_open_gate false was (written_ok x (4096 * 1) (1 ∷ []) did)
   after_ok T E x Commit flies was did = after_commit x was did
   after_ok T E x (Home i) flies was did = after_a_home i false was (written_ok x (4096 * (515 + get_or ns i 0)) (get_or images i []) did)
   after_ok T E x Settle flies was did =
       after_sync x Settle CloseGate (blocks_without Settle old.content) was did was.staged tt was.staged (λ e. cc)
-      (λ t. bears descriptor ns octets CloseGate old.content ((was.told t).holds refl)) (λ t. (was.told t).holds refl) (λ t. refl)
+      (λ t. tt) (λ t. (was.told t).holds refl) (λ t. refl)
   after_ok T E x CloseGate flies was did = after_close_gate false was (written_ok x (4096 * 1) (0 ∷ []) did)
   after_ok T E x Finish flies was did =
       after_sync x Finish Idle (blocks_without Finish old.content) was did was.staged tt tt (λ e. cc)
-      (λ t. ((was.told t).holds refl).0) (λ t. ((was.told t).holds refl).0) (λ t. refl)
+      (λ t. tt) (λ t. ((was.told t).holds refl).0) (λ t. refl)
 
   -- and after any failed one
   pub after_err : (T E : Type 0) (e : E) (s : Next) → s ≢ Idle → Was s → Called {T = T} {E = E} s (Err e) → IsAfter (at_fault count s) true (blocks_without s old.content)
   after_err T E e Idle flies was did = absurd (flies refl)
   after_err T E e Descriptor flies was did = after_descriptor true was (written_err e (4096 * 2) descriptor did)
   after_err T E e (Image i) flies was did = after_an_image i true was (written_err e (4096 * (3 + i)) (get_or images i []) did)
-  after_err T E e Seal flies was did = after_failed_sync e Seal (λ f. cc) was did was.staged
+  after_err T E e Seal flies was did = after_failed_sync e Seal (λ f. cc) was did
   after_err T E e OpenGate flies was did = after_open_gate true was (written_err e (4096 * 1) (1 ∷ []) did)
-  after_err T E e Commit flies was did = after_failed_sync e Commit (λ f. cc) was did was.staged
+  after_err T E e Commit flies was did = after_failed_sync e Commit (λ f. cc) was did
   after_err T E e (Home i) flies was did = after_a_home i true was (written_err e (4096 * (515 + get_or ns i 0)) (get_or images i []) did)
-  after_err T E e Settle flies was did = after_failed_sync e Settle (λ f. cc) was did was.staged
+  after_err T E e Settle flies was did = after_failed_sync e Settle (λ f. cc) was did
   after_err T E e CloseGate flies was did = after_close_gate true was (written_err e (4096 * 1) (0 ∷ []) did)
-  after_err T E e Finish flies was did = after_failed_sync e Finish (λ f. cc) was did was.staged
+  after_err T E e Finish flies was did = after_failed_sync e Finish (λ f. cc) was did

@@ -1,14 +1,14 @@
 -- What each write leaves of the content.
-use Rattle.std.proofs.Common.{◌≡◌, ◌≢◌, ◌⊎◌, inl, inr, ◌<◌, ◌≤◌, ℕ, ◌+◌, ◌*◌, true, false, eqb, List, [], ◌∷◌, length, get_or, refl, sym, ◌∙◌, ap, subst, arith}
+use Rattle.std.proofs.Common.{◌≡◌, ◌≢◌, ◌⊎◌, inl, inr, ◌<◌, ◌≤◌, ℕ, ◌+◌, ◌*◌, true, false, eqb, List, [], ◌∷◌, length, get_or, sym, ◌∙◌, ap, subst, arith}
 use Rattle.std.proofs.lemmas.Bool.{cases_eq, cond_both, eqb-true, eqb-false}
 use Rattle.disk.specs.Image.{overwritten}
-use Rattle.journal.specs.Inside.{SameBut, InFlight, IsStaged, IsWithin, IsWritten, IsHome, Holds, Touched, blocks_without}
+use Rattle.journal.specs.Inside.{InFlight, IsWithin, IsWritten, IsHome, Holds, Touched}
+use Rattle.segments.specs.Images.{SameBut}
 use Rattle.journal.specs.Order.{following}
-use Rattle.model.specs.Volume.{block, blocks_from, home_size, IsSuperblock, is_open, laid_over}
+use Rattle.model.specs.Volume.{block, home_size, IsSuperblock, is_open}
 use Rattle.journal.specs.declared.Next.{Next}
-use Rattle.journal.specs.declared.Next.TheVariants.{Image, Seal, OpenGate, Commit, Home, Settle, Finish}
-use Rattle.journal.proofs.Blocks.{overwritten_same, block-overwritten, first-overwritten}
-use Rattle.journal.proofs.Volumes.{stands_closed, is_opened, closed_home}
+use Rattle.journal.specs.declared.Next.TheVariants.{Image, Seal, Commit, Home, Settle, Finish}
+use Rattle.segments.proofs.Blocks.{overwritten_same, block-overwritten, first-overwritten}
 
 -- the call after an image, and after a home block
 pub after_image : (P : Next → Type 0) (n i : ℕ) → (i + 1 ≡ n → P Seal) → (i + 1 ≢ n → P (Image (i + 1))) → P (following n (Image i))
@@ -125,12 +125,3 @@ module _ (descriptor ns octets x : List ℕ) (superblock : IsSuperblock (block 0
         written_still (overwritten 4096 (0 ∷ []) x) 1 same written (inl (omega arith)),
         λ k within. same.same (515 + get_or ns k 0) (λ e. absurd (omega arith)) ∙ homes k within,
       )
-
-  -- the blocks without the batch, at the same content
-  pub without_opened : is_open 0 x ≡ false → blocks_without Commit x ≡ blocks_without OpenGate x
-  without_opened shut = closed_home x superblock ∙ sym (stands_closed x superblock shut).has_blocks
-
-  pub without_committed : (last : ℕ) → IsStaged (home_size x) descriptor last ns octets → is_open 0 x ≡ true → IsWritten descriptor ns octets x → blocks_without (Home 0) x ≡ laid_over (blocks_without Commit x) ns (blocks_from 0 (length ns) octets)
-  without_committed last staged opened written =
-      (is_opened x descriptor ns octets (home_size x) last staged written superblock refl opened).has_blocks
-      ∙ ap (λ (bs : List (List ℕ)). laid_over bs ns (blocks_from 0 (length ns) octets)) (sym (closed_home x superblock))

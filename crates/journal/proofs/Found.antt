@@ -10,9 +10,9 @@ use Rattle.journal.specs.declared.JournalError.{JournalError}
 use Rattle.journal.specs.declared.JournalError.TheVariants.{Fault, Memory, NotAVolume, Halted}
 use Rattle.model.specs.Volume.{block, blocks_from, home_size, label_of, number_at, is_open, open_segments, IsSuperblock, IsDescriptor, listed, StandsFor, logical_blocks}
 use Rattle.journal.specs.declared.Next.TheVariants.{Idle, Home}
-use Rattle.journal.proofs.Blocks.{same_but_equal}
+use Rattle.segments.proofs.Blocks.{same_but_equal}
 use Rattle.journal.proofs.Transitions.{told_after}
-use Rattle.journal.proofs.Volumes.{stands_closed, is_opened, none_open, one_open}
+use Rattle.journal.proofs.Volumes.{batch_valid, none_open, one_open, stands_closed, stands_open}
 
 -- why a run of calls stopped
 fault_caused : (error : JournalError) (old new : Device) → IsCaused error old new → error ≡ Fault → new.failures ≢ old.failures
@@ -74,9 +74,8 @@ module _ (device : Device) (superblock descriptor numbers octets : List ℕ) (bl
       staged = tt;
       described = λ e. cc;
       told = λ t. record {
-        superblock = content_superblock None found t;
+        stands = rest_stands t;
         size = content_size None found t;
-        label = content_label None found t;
         admits = λ c left. inl (subst (λ (x : List ℕ). StandsFor x (part 20 128 superblock) (logical_blocks device.content)) (sym (found.synced t c left)) (rest_stands t));
         holds = λ runs. shut t;
         same = λ runs c left. same_but_equal (Touched (take 0 numbers) Idle) device.content c (found.synced t c left);
@@ -127,9 +126,9 @@ module _ (device : Device) (superblock descriptor numbers octets : List ℕ) (bl
 
     pub replay_stands : IsTrue device.tells → StandsFor device.content (part 20 128 superblock) (logical_blocks device.content)
     replay_stands t =
-        let stands = is_opened device.content descriptor ns octets blocks (number_at 8 8 descriptor) (staged blocks refl) (written t) (content_superblock (Some count) found t) (content_size (Some count) found t) (opened t) in
-        subst (λ (l : List ℕ). StandsFor device.content l (logical_blocks device.content)) (content_label (Some count) found t)
-        (subst (λ (bs : List (List ℕ)). StandsFor device.content (label_of device.content) bs) (sym stands.has_blocks) stands)
+        let superblock = content_superblock (Some count) found t in
+        let stands = stands_open device.content superblock (opened t) (batch_valid device.content descriptor ns octets blocks (number_at 8 8 descriptor) (staged blocks refl) (written t) (content_size (Some count) found t)) in
+        subst (λ (l : List ℕ). StandsFor device.content l (logical_blocks device.content)) (content_label (Some count) found t) stands
 
     pub replay_kept : IsKept device blocks superblock (Home 0) false (number_at 8 8 descriptor) count descriptor numbers octets
     replay_kept = record {
@@ -145,7 +144,7 @@ module _ (device : Device) (superblock descriptor numbers octets : List ℕ) (bl
       staged = staged blocks refl;
       described = λ e. cc;
       told = λ t.
-          told_after descriptor ns octets (number_at 8 8 descriptor) device.content (content_superblock (Some count) found t) (staged (home_size device.content) (content_size (Some count) found t)) device blocks (part 20 128 superblock) (Home 0) false (content_size (Some count) found t) (content_label (Some count) found t) (opened t, written t)
+          told_after descriptor ns octets (number_at 8 8 descriptor) device.content (part 20 128 superblock) (replay_stands t) (staged (home_size device.content) (content_size (Some count) found t)) device blocks (Home 0) false (content_size (Some count) found t) (opened t, written t)
           (λ c left. same_but_equal (Touched ns (Home 0)) device.content c (found.synced t c left)) (now t) (λ runs. (opened t, written t, λ k low. absurd (omega arith)));
     }
 

@@ -1,17 +1,12 @@
 pub mod Admitted
-pub mod Blocks
 pub mod Calls
 pub mod Contents
 pub mod During
-pub mod Formatted
 pub mod Found
 pub mod Idle
-pub mod Laid
 pub mod Loading
 pub mod Made
-pub mod Numbers
 pub mod Order
-pub mod Superblock
 pub mod Transitions
 pub mod Volumes
 pub mod Whole

@@ -3,7 +3,8 @@ use Rattle.std.specs.Prelude.{◌≡◌, ◌⊎◌, ◌<◌, ◌≤◌, ℕ, ◌
 use Rattle.std.specs.List.{All}
 use Rattle.disk.specs.Device.{Device, LeavesOnly, one_more}
 use Rattle.disk.specs.Image.{part}
-use Rattle.model.specs.Volume.{gate_place, descriptor_place, image_place, home_place, descriptor_of, block, blocks_from, number_at, home_size, label_of, is_open, listed, AreDistinct, IsDescriptor, IsSuperblock, StandsFor, laid_over, logical_blocks, gate_closed}
+use Rattle.model.specs.Volume.{gate_place, descriptor_place, image_place, home_place, descriptor_of, block, blocks_from, number_at, home_size, is_open, listed, AreDistinct, IsDescriptor, IsSuperblock, StandsFor, laid_over, logical_blocks, gate_closed}
+use Rattle.segments.specs.Images.{SameBut}
 use Rattle.journal.specs.declared.Next.{Next}
 use Rattle.journal.specs.declared.Next.TheVariants.{Idle, Descriptor, Image, Seal, OpenGate, Commit, Home, Settle, CloseGate, Finish}
 
@@ -66,11 +67,6 @@ Touched numbers Settle k = (i : ℕ) × (i < length numbers) × (k ≡ home_plac
 Touched numbers Finish k = k ≡ gate_place 0
 Touched numbers next k = ⊥
 
--- the images have the same blocks but some
-pub record SameBut (P : ℕ → Type 0) (old new : List ℕ) : Type 0 where
-  pub size : length new ≡ length old
-  pub same : (k : ℕ) → (P k → ⊥) → block k new ≡ block k old
-
 -- a batch is in flight, unless no call comes next
 abbrev pub InFlight : Next → Type 0 → Type 0
 InFlight Idle P = Unit {0}
@@ -84,9 +80,8 @@ IsWithin n next = Unit {0}
 
 -- what the journal knows of a device that tells its octets
 pub record IsTold (device : Device) (blocks : ℕ) (its_label : List ℕ) (next : Next) (halted : Bool) (descriptor numbers octets : List ℕ) : Type 0 where
-  pub superblock : IsSuperblock (block 0 device.content) (length device.content)
+  pub stands : StandsFor device.content its_label (logical_blocks device.content)
   pub size : home_size device.content ≡ blocks
-  pub label : label_of device.content ≡ its_label
   pub admits : (c : List ℕ) → device.may_leave c → IsAdmitted next its_label (blocks_without next device.content) (laid_over (blocks_without next device.content) numbers (blocks_from 0 (length numbers) octets)) c
   pub holds : halted ≡ false → Holds descriptor numbers octets next device.content
   pub same : halted ≡ false → (c : List ℕ) → device.may_leave c → SameBut (Touched numbers next) device.content c

@@ -1,5 +1,4 @@
 pub mod Calls
-pub mod Formatting
 pub mod Inside
 pub mod Journal
 pub mod Opening

@@ -4,9 +4,10 @@ ghost use Rattle.std.specs.Prelude.{◌≡◌, ◌≤◌, ◌<◌, ◌+◌, ◌*
 ghost use Rattle.std.specs.List.{All};
 ghost use Rattle.model.specs.Volume.{AreDistinct, blocks_from, number_at, listed, descriptor_of};
 
-use crate::layout::{FIRST_NUMBER, NUMBERS_AT, put_numbers, put32, put64};
 use crate::{Journal, Next};
 use disk::Disk;
+use volume_format::describe_batch;
+use volume_format::layout::FIRST_NUMBER;
 
 impl<D: Disk> Journal<D> {
     ghost use Rattle.journal.specs.Journal.{IsIdle, LeavesAdmitted};
@@ -36,56 +37,12 @@ impl<D: Disk> Journal<D> {
         ensures now { LeavesAdmitted D.device self.new }
     {
         let count = numbers.len();
-        describe_again(&mut self.segment.descriptor, last, numbers);
+        describe_batch(&mut self.segment.descriptor, FIRST_NUMBER, last, numbers);
         put_front(&mut self.segment.numbers, numbers);
         put_front(&mut self.segment.images, images);
         self.segment.last = last;
         self.segment.count = count;
         self.next = Next::Descriptor;
-    }
-}
-
-fn describe_again(descriptor: &mut Vec<u8>, last: u64, numbers: &[u32])
-    requires whole { length descriptor.old.items ≡ 4096 }
-    requires few { length numbers.now ≤ 512 }
-    ensures block { descriptor.new.items ≡ descriptor_of 1 last numbers.now }
-    ensures size { length descriptor.new.items ≡ 4096 }
-    ensures number { number_at 0 8 descriptor.new.items ≡ 1 }
-    ensures last { number_at 8 8 descriptor.new.items ≡ last }
-    ensures count { number_at 16 4 descriptor.new.items ≡ length numbers.now }
-    ensures zero { number_at 20 4 descriptor.new.items ≡ 0 }
-    ensures listed { listed descriptor.new.items ≡ numbers.now }
-{
-    clear(descriptor.as_mut_slice());
-    describe(descriptor.as_mut_slice(), last, numbers);
-}
-
-// Writes the descriptor of a batch into a block of zeros.
-fn describe(descriptor: &mut [u8], last: u64, numbers: &[u32])
-    requires clear { descriptor.old ≡ replicate (length descriptor.old) 0 }
-    requires whole { length descriptor.old ≡ 4096 }
-    requires few { length numbers.now ≤ 512 }
-    ensures block { descriptor.new ≡ descriptor_of 1 last numbers.now }
-    ensures size { length descriptor.new ≡ 4096 }
-    ensures number { number_at 0 8 descriptor.new ≡ 1 }
-    ensures last { number_at 8 8 descriptor.new ≡ last }
-    ensures count { number_at 16 4 descriptor.new ≡ length numbers.now }
-    ensures zero { number_at 20 4 descriptor.new ≡ 0 }
-    ensures listed { listed descriptor.new ≡ numbers.now }
-{
-    put64(descriptor, 0, FIRST_NUMBER);
-    put64(descriptor, 8, last);
-    put32(descriptor, 16, numbers.len() as u32);
-    put32(descriptor, 20, 0);
-    put_numbers(descriptor, NUMBERS_AT, numbers);
-}
-
-// Makes all octets zero.
-pub(crate) fn clear(octets: &mut [u8])
-    ensures { octets.new ≡ replicate (length octets.old) 0 }
-{
-    for at in 0..octets.len() {
-        octets[at] = 0;
     }
 }
 

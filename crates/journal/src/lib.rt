@@ -3,19 +3,17 @@
 #![tactic(auto)]
 
 mod batch;
-mod formatting;
-mod layout;
 mod opening;
 mod stepping;
 
 ghost use Rattle.std.specs.Prelude.{◌≡◌, ◌≢◌, ◌≤◌, ◌<◌, ◌↔◌, ℕ, List, length, true, false, OnOk, IfErr, IsTrue};
 
 use disk::{Disk, DiskCall, Faults};
-pub use formatting::format;
-use layout::{LABEL_AT, SEGMENTS, SUPERBLOCK_USED, home_block, start_of};
 use std::marker::Model;
 pub use stepping::each_call_is_the_next;
 use thiserror::Error;
+use volume_format::layout::{LABEL_AT, SEGMENTS, SUPERBLOCK_USED, home_block, start_of};
+pub use volume_format::{FormatError, format};
 
 /// The device call that comes next.
 #[derive(Clone, Copy, Debug, PartialEq, Eq)]

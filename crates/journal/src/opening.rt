@@ -9,15 +9,13 @@ ghost use Rattle.journal.specs.Inside.{AreLoaded, IsFound, IsQuiet, IsStill, IsS
 ghost use Rattle.journal.specs.Journal.{IsCaused, IsDuring, IsReady, LeavesAdmitted, HasWholeBlocks};
 ghost use Rattle.journal.specs.Opening.{Costs, IsMore, IsNoVolume, NeverSyncs, Opens, Refuses, SyncsFirst, home_syncs, home_writes};
 
-use crate::formatting::zeros;
-use crate::layout::{
-    BLOCK, FEWEST_BLOCKS, MAGIC, MOST_BLOCKS, NUMBERS_AT, OPEN, SEGMENT_IMAGES, SEGMENTS,
-    SUPERBLOCK_USED, VERSION, descriptor_block, gate_block, home_block, image_block, number32,
-    number64, start_of,
-};
 use crate::{Journal, JournalError, Next, Refused, Segment};
 use disk::{Disk, DiskError};
 use std::alloc::{AllocError, Global};
+use volume_format::layout::{
+    BLOCK, OPEN, SEGMENT_IMAGES, descriptor_block, gate_block, image_block, number64, start_of,
+};
+use volume_format::{read_descriptor, read_superblock, zeros};
 
 impl<D: Disk> Journal<D> {
     /// Opens what stands on the device: one sync, then the reads; an open segment's images are carried home and its gate is
@@ -346,96 +344,4 @@ fn load_images<D: Disk>(disk: &mut D, count: usize, images: &mut [u8]) -> Result
         load_image(disk, i, images)?;
     }
     Ok(())
-}
-
-/// How many logical blocks a superblock tells, where it is valid for a device of that size.
-fn read_superblock(octets: &[u8], size: u64) -> Option<u64>
-    requires { length octets.now ≡ 4096 }
-    ensures some { IfSome result (λ blocks. IsSuperblock octets.now size × (number_at 12 4 octets.now ≡ blocks)) }
-    ensures none { IsNone result → IsSuperblock octets.now size → ⊥ }
-{
-    let blocks = u64::from(number32(octets, 12));
-    if has_magic(octets)
-        && number32(octets, 8) == VERSION
-        && number32(octets, 16) == SEGMENTS
-        && FEWEST_BLOCKS <= blocks
-        && blocks <= MOST_BLOCKS
-        && size == start_of(home_block(SEGMENTS, blocks))
-        && has_zeros(octets)
-    {
-        Some(blocks)
-    } else {
-        None
-    }
-}
-
-/// How many numbers a descriptor lists, where it is valid. They go to the front of the room.
-fn read_descriptor(descriptor: &[u8], blocks: u64, numbers: &mut Vec<u32>) -> Option<usize>
-    requires descriptor { length descriptor.now ≡ 4096 }
-    requires room { length numbers.old.items ≡ 512 }
-    ensures room { length numbers.new.items ≡ 512 }
-    ensures some { IfSome result (λ count. IsDescriptor blocks descriptor.now × (number_at 16 4 descriptor.now ≡ count) × (take count numbers.new.items ≡ listed descriptor.now)) }
-    ensures none { IsNone result → IsDescriptor blocks descriptor.now → ⊥ }
-{
-    let count = number32(descriptor, 16) as usize;
-    if count == 0 || SEGMENT_IMAGES < count || number32(descriptor, 20) != 0 {
-        return None;
-    }
-    read_numbers(descriptor, count, numbers);
-    if are_below(&numbers[..count], blocks) && are_distinct(&numbers[..count]) {
-        Some(count)
-    } else {
-        None
-    }
-}
-
-fn read_numbers(descriptor: &[u8], count: usize, numbers: &mut Vec<u32>)
-    requires few { count ≤ 512 }
-    requires descriptor { length descriptor.now ≡ 4096 }
-    requires room { length numbers.old.items ≡ 512 }
-    requires count { number_at 16 4 descriptor.now ≡ count }
-    ensures room { length numbers.new.items ≡ 512 }
-    ensures numbers { take count numbers.new.items ≡ listed descriptor.now }
-{
-    for i in 0..count {
-        numbers[i] = number32(descriptor, NUMBERS_AT + 4 * i);
-    }
-}
-
-fn are_below(numbers: &[u32], blocks: u64) -> bool
-    ensures { IsTrue result ↔ All (λ n. n < blocks) numbers.now }
-{
-    numbers.iter().all(|n| u64::from(*n) < blocks)
-}
-
-fn has_magic(octets: &[u8]) -> bool
-    requires { 8 ≤ length octets.now }
-    ensures { IsTrue result ↔ (take 8 octets.now ≡ magic) }
-{
-    octets[..8] == MAGIC[..]
-}
-
-fn has_zeros(octets: &[u8]) -> bool
-    requires { 148 ≤ length octets.now }
-    ensures { IsTrue result ↔ All (λ octet. octet ≡ 0) (drop 148 octets.now) }
-{
-    for at in SUPERBLOCK_USED..octets.len() {
-        if octets[at] != 0 {
-            return false;
-        }
-    }
-    true
-}
-
-fn are_distinct(numbers: &[u32]) -> bool
-    ensures { IsTrue result ↔ AreDistinct numbers.now }
-{
-    for i in 0..numbers.len() {
-        for j in 0..i {
-            if numbers[j] == numbers[i] {
-                return false;
-            }
-        }
-    }
-    true
 }

@@ -8,12 +8,12 @@ ghost use Rattle.journal.specs.Order.{following, calls_made, writes_made, syncs_
 ghost use Rattle.journal.specs.Opening.{IsMore};
 ghost use Rattle.journal.specs.Calls.{Does, call_at};
 
-use crate::layout::{
+use crate::{Journal, JournalError, Next, Progress, Segment};
+use disk::{Disk, DiskError};
+use volume_format::layout::{
     CLOSED, OPEN, SEGMENTS, block_at, descriptor_block, gate_block, home_block, image_block,
     start_of,
 };
-use crate::{Journal, JournalError, Next, Progress, Segment};
-use disk::{Disk, DiskError};
 
 impl<D: Disk> Journal<D> {
     ghost use Rattle.journal.specs.Journal.{IsCaused, IsDuring, IsIdle, LeavesAdmitted, LeftAdmitted};

@@ -6,8 +6,8 @@ use Rattle.std.proofs.lemmas.List.{append-nil, append_assoc, drop-replicate, len
 use Rattle.std.proofs.lemmas.List.Elements.{All-replicate}
 use Rattle.byteorder.specs.Endian.{little_bytes}
 use Rattle.disk.specs.Image.{overwritten}
-use Rattle.journal.specs.Formatting.{zero_block, zeroed}
-use Rattle.journal.proofs.Formatted.{blocks_are, label_is, length-superblock, stands_formatted, superblock, superblock_valid}
+use Rattle.volume_format.specs.Formatting.{zero_block, zeroed}
+use Rattle.volume_format.proofs.Formatted.{blocks_are, label_is, length-superblock, stands_formatted, superblock, superblock_valid}
 use Rattle.model.specs.FirstPath.{Holds}
 use Rattle.model.specs.Layout.{IsLabel, label_octets}
 use Rattle.model.specs.Names.{is_host}

@@ -6,7 +6,7 @@ use Rattle.disk.specs.Device.{Device, Elapses, IsRead}
 use Rattle.disk.specs.Image.{overwritten}
 use Rattle.journal.specs.Journal.{Admits, HasWholeBlocks, IsIdle, IsSameBatch, JournalView, LeavesAdmitted, LeftAdmitted, with_batch}
 use Rattle.journal.specs.declared.Next.TheVariants.{Commit}
-use Rattle.journal.proofs.Blocks.{block-overwritten, get_or-blocks_from, length-blocks_from, overwritten_same}
+use Rattle.segments.proofs.Blocks.{block-overwritten, get_or-blocks_from, length-blocks_from, overwritten_same}
 use Rattle.model.specs.Volume.{StandsFor, block, blocks_from}
 use Rattle.kernel.specs.Opening.{IsStill, OnlyReads}
 

@@ -1,6 +1,6 @@
 -- What holds of the images of a device.
 use Rattle.std.specs.Prelude.{◌≡◌, ◌≤◌, ℕ, IsTrue, []}
-use Rattle.journal.specs.Formatting.{zeroed}
+use Rattle.volume_format.specs.Formatting.{zeroed}
 use Rattle.model.specs.Layout.{IsLabel}
 use Rattle.model.specs.Volume.{StandsFor}
 use Rattle.model.specs.Stream.{Octets}

@@ -3,7 +3,7 @@
 use crate::Failure;
 use crate::words::Plan;
 use commands::{device_octets, label};
-use journal::{JournalError, format};
+use journal::{FormatError, format};
 use memdisk::MemDisk;
 use std::alloc::Global;
 use world::OpenError;
@@ -14,7 +14,7 @@ pub(crate) fn new_volume(alloc: Global, plan: &Plan<'_>) -> Result<MemDisk, Fail
     let label = label(alloc, plan.host, plan.inodes as u32)?;
     match format(alloc, &mut disk, plan.blocks, label.as_slice()) {
         Ok(()) => Ok(disk),
-        Err(JournalError::Memory) => Err(Failure::Memory),
-        Err(_) => Err(Failure::NotOpened(OpenError::Fault)),
+        Err(FormatError::Memory) => Err(Failure::Memory),
+        Err(FormatError::Fault) => Err(Failure::NotOpened(OpenError::Fault)),
     }
 }

@@ -1,6 +1,6 @@
 -- Batches laid over homes that differ.
 use Rattle.std.proofs.Common.{◌≡◌, ◌≢◌, ◌⊎◌, inl, inr, ◌<◌, ◌≤◌, ℕ, zero, suc, List, [], ◌∷◌, ◌++◌, length, get_or, set, refl, sym, ◌∙◌, ap, arith, length-set}
-use Rattle.std.proofs.lemmas.List.{ext_get_or, get_or-set_same, get_or-set_other, get_or_past}
+use Rattle.std.proofs.lemmas.List.{ext_get_or, set-get_or, get_or-set_same, get_or-set_other, get_or_past}
 use Rattle.std.proofs.lemmas.Bool.{cases_eq, cases_lt}
 use Rattle.model.specs.Volume.{Batch, laid_over, all_laid_over}
 use Rattle.segments.specs.Batches.{AgreeBut, AreFull, HaveNone}
@@ -16,6 +16,14 @@ length-all (b ∷ bs) xs = length-all bs (laid_over xs b.numbers b.images) ∙ l
 
 abbrev None : ℕ → List ℕ → Type 0
 None k ns = (i : ℕ) → i < length ns → k ≢ get_or ns i 0
+
+-- where the blocks are the images already
+pub laid_done : (xs : List (List ℕ)) (ns : List ℕ) (images : List (List ℕ)) → ((i : ℕ) → i < length ns → i < length images → get_or xs (get_or ns i 0) [] ≡ get_or images i []) → laid_over xs ns images ≡ xs
+laid_done xs [] images done = refl
+laid_done xs (n ∷ ns) [] done = refl
+laid_done xs (n ∷ ns) (image ∷ images) done =
+    let same : set xs n image ≡ xs = ap (λ (b : List ℕ). set xs n b) (sym (done 0 (omega arith) (omega arith))) ∙ set-get_or xs n [] in
+    ap (λ (l : List (List ℕ)). laid_over l ns images) same ∙ laid_done xs ns images (λ i h l. done (suc i) (omega arith) (omega arith))
 
 -- a block of which the batch has no image stays
 laid_kept : (ns : List ℕ) (images xs : List (List ℕ)) (k : ℕ) → None k ns → get_or (laid_over xs ns images) k [] ≡ get_or xs k []

@@ -1,6 +1,9 @@
 pub mod Blocks
+pub mod Carrying
 pub mod Gates
 pub mod Laying
 pub mod Ordering
 pub mod Places
+pub mod Sorting
 pub mod Standing
+pub mod Whole

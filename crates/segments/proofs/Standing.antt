@@ -1,17 +1,18 @@
 -- What an image stands for, by what it has in common with another.
-use Rattle.std.proofs.Common.{◌≡◌, ◌≢◌, ◌⊎◌, inl, inr, ◌<◌, ◌≤◌, ltb, if◌then◌else◌, ℕ, zero, suc, ◌+◌, ◌-◌, ◌*◌, cond, eqb, Bool, true, false, List, [], ◌∷◌, ◌++◌, length, get_or, map, refl, sym, ◌∙◌, ap, subst, arith}
+use Rattle.std.proofs.Common.{◌≡◌, ◌≢◌, inl, inr, ◌<◌, ◌≤◌, ltb, if◌then◌else◌, ℕ, zero, suc, ◌+◌, ◌*◌, eqb, Bool, true, false, List, [], ◌∷◌, length, get_or, map, refl, sym, ◌∙◌, ap, subst, arith}
 use Rattle.std.specs.List.{All, filter, range_with_len}
-use Rattle.std.proofs.lemmas.Bool.{cases_Bool, cases_eq, cases_lt}
+use Rattle.std.proofs.lemmas.Bool.{cases_eq, cases_lt}
 use Rattle.std.proofs.lemmas.List.{get_or_past, map-append}
+use Rattle.std.proofs.lemmas.List.Elements.{All-nil}
 use Rattle.std.proofs.lemmas.List.FromFn.{length-map-range_with_len}
 use Rattle.disk.specs.Image.{part}
-use Rattle.model.specs.Volume.{AreDistinct, Batch, IsDescriptor, IsSuperblock, StandsFor, all_laid_over, batch_in, block, blocks_from, descriptor_place, gate_place, home, home_place, home_size, image_place, insert, is_open, label_of, laid_over, listed, logical_blocks, number_at, open_segments, rising, segment_count}
-use Rattle.segments.specs.Batches.{AgreeBut, AreAbove, AreBelow, AreFull, HaveNone}
-use Rattle.segments.specs.Images.{IsCarried, IsHomeOfOpen, IsInside, IsOpenIn, SameBut, open_batches}
+use Rattle.model.specs.Volume.{AreDistinct, Batch, IsDescriptor, IsSuperblock, StandsFor, all_laid_over, batch_in, block, blocks_from, descriptor_place, gate_place, home, home_place, home_size, image_place, insert, is_open, label_of, listed, number_at, open_segments, rising, segment_count}
+use Rattle.segments.specs.Batches.{AgreeBut, AreFull, HaveNone}
+use Rattle.segments.specs.Held.{AreHeld, AreOpen, Held}
+use Rattle.segments.specs.Images.{IsHomeOfOpen, IsInside, IsOpenIn, SameBut, open_batches}
 use Rattle.segments.proofs.Blocks.{blocks_from_same, get_or-blocks_from, length-blocks_from}
-use Rattle.segments.proofs.Laying.{all_append, all_same}
-use Rattle.segments.proofs.Ordering.{greatest_last, least_first}
-use Rattle.segments.proofs.Places.{before, behind, distinct_of, each_at, each_of, filter_same, map_same, NotIn, once_less, once_more, once_of, with_place, without_place}
+use Rattle.segments.proofs.Laying.{all_same}
+use Rattle.segments.proofs.Places.{each_at, each_of, filter_same, map_same}
 
 -- ---- the superblock and the home
 
@@ -106,6 +107,12 @@ pub none_open : (k : ℕ) (x : List ℕ) → HaveNone k (open_batches x) → (s 
 none_open k x none s opened =
     each_at (λ s. None k (batch_in s x).numbers) (λ s. is_open s x) 0 (segment_count x) (none_each k x (open_segments x) (none_rising k (map (λ s. batch_in s x) (open_segments x)) none)) s (omega arith) (omega (arith, opened.0)) opened.1
 
+-- ---- segments in memory
+
+pub held_same : (x c : List ℕ) (held : List Held) → ((s : ℕ) → IsOpenIn s x → IsOpenIn s c × (batch_in s c ≡ batch_in s x)) → AreHeld held x → AreHeld held c
+held_same x c [] same are = tt
+held_same x c (h ∷ held) same are = let s = same h.place are.0.0 in ((s.0, s.1 ∙ are.0.1), held_same x c held same are.1)
+
 -- ---- the same gates, and the same in open segments
 
 pub valid_open : (x label : List ℕ) (blocks : List (List ℕ)) → StandsFor x label blocks → (s : ℕ) → IsOpenIn s x → IsDescriptor (home_size x) (block (descriptor_place s) x)
@@ -133,6 +140,14 @@ module _ (x c label : List ℕ) (blocks : List (List ℕ)) (stands : StandsFor x
   pub batches_same : open_batches c ≡ open_batches x
   batches_same = ap rising (map_open (λ b. b))
 
+  pub are_open_kept : (held : List Held) → AreOpen held x → AreOpen held c
+  are_open_kept held are = record {
+    batches = batches_same ∙ are.batches;
+    each = held_same x c held (λ s opened. ((omega (arith, opened.0, count_same x c zeroth size), gates s opened.0 ∙ opened.1), each_batch s opened)) are.each;
+    all = λ s opened. let there : s < segment_count x = omega (arith, opened.0, count_same x c zeroth size) in are.all s (there, sym (gates s there) ∙ opened.1);
+    rise = are.rise;
+  }
+
   -- whatever the home
   pub stands_over : StandsFor c label (all_laid_over (home c) (open_batches x))
   stands_over = record {
@@ -156,43 +171,85 @@ gate_same s x c same = ap (λ (b : List ℕ). eqb (get_or b 0 0) 1) same
 -- ---- rows
 
 -- a closed segment isn't read
-pub unread : (x c label : List ℕ) (blocks : List (List ℕ)) (m : ℕ) → StandsFor x label blocks → is_open m x ≡ false → m < segment_count x → SameBut (IsInside m) x c → StandsFor c label blocks
-unread x c label blocks m stands shut within same =
-    let zeroth = same.same 0 (λ e. absurd (omega (arith, e.0))) in
-    let over = stands_over x c label blocks stands zeroth same.size
-    (λ s there. gate_same s x c (same.same (gate_place s) (λ e. absurd (omega (arith, e.0, e.1)))))
-    (λ s opened k here. same.same k (λ e. absurd (apart s k opened here e))) in
-    subst (λ (bs : List (List ℕ)). StandsFor c label bs) (ap (λ (h : List (List ℕ)). all_laid_over h (open_batches x)) (home_same x c zeroth same.size (λ k low. same.same (home_place (segment_count x) k) (λ e. absurd (omega (arith, e.1, within))))) ∙ stands.has_blocks) over
-  where
-    apart : (s k : ℕ) → IsOpenIn s x → IsInside s k → IsInside m k → ⊥
-    apart s k opened here e = elim (cases_eq s m) [
-      | inl is ↦ let both : true ≡ false = sym opened.1 ∙ ap (λ (n : ℕ). is_open n x) is ∙ shut in cc
-      | inr other ↦ absurd (omega (arith, here.0, here.1, e.0, e.1, other))
-    ]
+module _ (x c label : List ℕ) (blocks : List (List ℕ)) (m : ℕ) (stands : StandsFor x label blocks) (shut : is_open m x ≡ false) (within : m < segment_count x) (same : SameBut (IsInside m) x c) where
+  unread_zeroth : block 0 c ≡ block 0 x
+  unread_zeroth = same.same 0 (λ e. absurd (omega (arith, e.0)))
+
+  unread_gates : (s : ℕ) → s < segment_count x → is_open s c ≡ is_open s x
+  unread_gates s there = gate_same s x c (same.same (gate_place s) (λ e. absurd (omega (arith, e.0, e.1))))
+
+  unread_apart : (s k : ℕ) → IsOpenIn s x → IsInside s k → IsInside m k → ⊥
+  unread_apart s k opened here e = elim (cases_eq s m) [
+    | inl is ↦ let both : true ≡ false = sym opened.1 ∙ ap (λ (n : ℕ). is_open n x) is ∙ shut in cc
+    | inr other ↦ absurd (omega (arith, here.0, here.1, e.0, e.1, other))
+  ]
+
+  unread_inside : (s : ℕ) → IsOpenIn s x → (k : ℕ) → IsInside s k → block k c ≡ block k x
+  unread_inside s opened k here = same.same k (λ e. absurd (unread_apart s k opened here e))
+
+  pub unread_home : home c ≡ home x
+  unread_home = home_same x c unread_zeroth same.size (λ k low. same.same (home_place (segment_count x) k) (λ e. absurd (omega (arith, e.1, within))))
+
+  pub unread : StandsFor c label blocks
+  unread =
+      subst (λ (bs : List (List ℕ)). StandsFor c label bs) (ap (λ (h : List (List ℕ)). all_laid_over h (open_batches x)) unread_home ∙ stands.has_blocks)
+      (stands_over x c label blocks stands unread_zeroth same.size unread_gates unread_inside)
+
+  pub unread_open : (held : List Held) → AreOpen held x → AreOpen held c
+  unread_open = are_open_kept x c label blocks stands unread_zeroth same.size unread_gates unread_inside
 
 -- torn homes of blocks of which an open segment has an image
-pub torn : (x c label : List ℕ) (blocks : List (List ℕ)) → StandsFor x label blocks → SameBut (IsHomeOfOpen x) x c → StandsFor c label blocks
-torn x c label blocks stands same =
-    subst (λ (bs : List (List ℕ)). StandsFor c label bs) (all_same (open_batches x) (home x) (home c) (full_open x) agree ∙ stands.has_blocks)
-    (stands_over x c label blocks stands zeroth same.size (λ s there. gate_same s x c (low (gate_place s) (omega (arith, there)))) (λ s opened k here. low k (omega (arith, here.1, opened.0))))
-  where
-    -- blocks before the home
-    low : (k : ℕ) → k < home_place (segment_count x) 0 → block k c ≡ block k x
-    low k before_home = same.same k (λ e. absurd (omega (arith, e.2.2, before_home)))
+module _ (x c label : List ℕ) (blocks : List (List ℕ)) (stands : StandsFor x label blocks) (same : SameBut (IsHomeOfOpen x) x c) where
+  -- blocks before the home
+  torn_low : (k : ℕ) → k < home_place (segment_count x) 0 → block k c ≡ block k x
+  torn_low k before_home = same.same k (λ e. absurd (omega (arith, e.2.2, before_home)))
 
-    zeroth : block 0 c ≡ block 0 x
-    zeroth = low 0 (omega arith)
+  torn_zeroth : block 0 c ≡ block 0 x
+  torn_zeroth = torn_low 0 (omega arith)
 
-    agree : AgreeBut (open_batches x) (home x) (home c)
-    agree = record {
-      size = length-home c ∙ home_size_same x c zeroth same.size ∙ sym (length-home x);
-      same = λ k none. elim (cases_lt k (home_size x)) [
-        | inl within ↦
-            get_or-home c k (omega (arith, within, home_size_same x c zeroth same.size))
-            ∙ ap (λ (s : ℕ). block (home_place s k) c) (count_same x c zeroth same.size)
-            ∙ same.same (home_place (segment_count x) k) (λ e. none_open k x none e.0 e.1 e.2.0 e.2.1 (omega (arith, e.2.2)))
-            ∙ sym (get_or-home x k within)
-        | inr past ↦
-            get_or_past (home c) k [] (omega (arith, length-home c, home_size_same x c zeroth same.size, past)) ∙ sym (get_or_past (home x) k [] (omega (arith, length-home x, past)))
-      ];
-    }
+  torn_gates : (s : ℕ) → s < segment_count x → is_open s c ≡ is_open s x
+  torn_gates s there = gate_same s x c (torn_low (gate_place s) (omega (arith, there)))
+
+  torn_inside : (s : ℕ) → IsOpenIn s x → (k : ℕ) → IsInside s k → block k c ≡ block k x
+  torn_inside s opened k here = torn_low k (omega (arith, here.1, opened.0))
+
+  torn_agree : AgreeBut (open_batches x) (home x) (home c)
+  torn_agree = record {
+    size = length-home c ∙ home_size_same x c torn_zeroth same.size ∙ sym (length-home x);
+    same = λ k none. elim (cases_lt k (home_size x)) [
+      | inl within ↦
+          get_or-home c k (omega (arith, within, home_size_same x c torn_zeroth same.size))
+          ∙ ap (λ (s : ℕ). block (home_place s k) c) (count_same x c torn_zeroth same.size)
+          ∙ same.same (home_place (segment_count x) k) (λ e. none_open k x none e.0 e.1 e.2.0 e.2.1 (omega (arith, e.2.2)))
+          ∙ sym (get_or-home x k within)
+      | inr past ↦
+          get_or_past (home c) k [] (omega (arith, length-home c, home_size_same x c torn_zeroth same.size, past)) ∙ sym (get_or_past (home x) k [] (omega (arith, length-home x, past)))
+    ];
+  }
+
+  pub torn : StandsFor c label blocks
+  torn =
+      subst (λ (bs : List (List ℕ)). StandsFor c label bs) (all_same (open_batches x) (home x) (home c) (full_open x) torn_agree ∙ stands.has_blocks)
+      (stands_over x c label blocks stands torn_zeroth same.size torn_gates torn_inside)
+
+  pub torn_open : (held : List Held) → AreOpen held x → AreOpen held c
+  torn_open = are_open_kept x c label blocks stands torn_zeroth same.size torn_gates torn_inside
+
+-- ---- no open segment
+
+filter_none : (a n : ℕ) → filter (λ s. false) (range_with_len a n) ≡ []
+filter_none a zero = refl
+filter_none a (suc n) = filter_none (a + 1) n
+
+pub none_are_open : (x : List ℕ) → ((s : ℕ) → s < segment_count x → is_open s x ≡ false) → open_segments x ≡ []
+none_are_open x shut = filter_same (λ s. is_open s x) (λ s. false) 0 (segment_count x) (λ s low high. shut s (omega (arith, high))) ∙ filter_none 0 (segment_count x)
+
+-- then the logical blocks are the home
+pub stands_bare : (x : List ℕ) → IsSuperblock (block 0 x) (length x) → open_segments x ≡ [] → StandsFor x (label_of x) (home x)
+stands_bare x superblock none = record {
+  has_superblock = superblock;
+  has_label = refl;
+  has_batches = subst (λ (ss : List ℕ). All (λ s. IsDescriptor (home_size x) (block (descriptor_place s) x)) ss) (sym none) (All-nil (λ s. IsDescriptor (home_size x) (block (descriptor_place s) x)));
+  has_order = subst (λ (ss : List ℕ). AreDistinct (map (λ s. (batch_in s x).number) ss)) (sym none) (λ i j low within. absurd (omega arith));
+  has_blocks = ap (λ (ss : List ℕ). all_laid_over (home x) (rising (map (λ s. batch_in s x) ss))) none;
+}

@@ -2,29 +2,57 @@
 //! There may be any number of segments, in any places, with batches of any numbers. The functions do nothing.
 #![tactic(auto)]
 
-ghost use Rattle.std.specs.Prelude.{◌≡◌, ◌≢◌, ◌⊎◌, ◌<◌, ℕ, List, false, true};
-ghost use Rattle.model.specs.Volume.{IsDescriptor, StandsFor, all_laid_over, batch_in, block, descriptor_place, gate_place, home, home_size, is_open, laid_over, segment_count};
+ghost use Rattle.std.specs.Prelude.{◌≡◌, ◌≢◌, ◌⊎◌, ◌<◌, ◌≤◌, ◌+◌, ◌*◌, ◌++◌, ℕ, List, [], ◌∷◌, false, true, length, slice_index, slice_index_or};
+ghost use Rattle.std.specs.List.{All};
+ghost use Rattle.disk.specs.Image.{overwritten};
+ghost use Rattle.model.specs.Volume.{Batch, IsDescriptor, StandsFor, all_laid_over, batch_in, block, descriptor_place, gate_place, home, home_place, home_size, is_open, laid_over, segment_count};
+ghost use Rattle.segments.specs.Held.{AreOpen, HaveLess, Held, IsHomeOnTheWay, batches_of, held_in};
 ghost use Rattle.segments.specs.Images.{IsCarried, IsHomeOfOpen, IsInside, IsOpenIn, SameBut, open_batches};
+
+/// What an image stands for has as many blocks as its superblock says, of 4,096 octets each; and the segments that are
+/// open in it are found by their gates, sorted by number.
+pub fn an_image_is_read()
+    ensures count { (image label : List ℕ) (blocks : List (List ℕ)) → StandsFor image label blocks → length blocks ≡ home_size image }
+    ensures whole { (image label : List ℕ) (blocks : List (List ℕ)) → StandsFor image label blocks → All (λ block. length block ≡ 4096) blocks }
+    ensures open { (image label : List ℕ) (blocks : List (List ℕ)) → StandsFor image label blocks → AreOpen (held_in image) image }
+{}
 
 /// A closed segment isn't read. So a crash while its descriptor and images are written leaves what stood there before.
 pub fn a_closed_segment_is_not_read()
-    ensures { (old new label : List ℕ) (blocks : List (List ℕ)) (s : ℕ) → StandsFor old label blocks → is_open s old ≡ false → s < segment_count old
+    ensures stands { (old new label : List ℕ) (blocks : List (List ℕ)) (s : ℕ) → StandsFor old label blocks → is_open s old ≡ false → s < segment_count old
         → SameBut (IsInside s) old new → StandsFor new label blocks }
+    ensures open { (old new label : List ℕ) (blocks : List (List ℕ)) (s : ℕ) (held : List Held) → StandsFor old label blocks → is_open s old ≡ false → s < segment_count old
+        → SameBut (IsInside s) old new → AreOpen held old → AreOpen held new }
 {}
 
 /// The batch with the greatest number is laid over last, whatever its place. So a crash while its gate is opened leaves the
 /// blocks before the batch, or with it.
 pub fn an_opened_gate_lays_its_batch_last()
-    ensures { (old new label : List ℕ) (blocks : List (List ℕ)) (s : ℕ) → StandsFor old label blocks → is_open s old ≡ false → s < segment_count old
+    ensures stands { (old new label : List ℕ) (blocks : List (List ℕ)) (s : ℕ) → StandsFor old label blocks → is_open s old ≡ false → s < segment_count old
         → IsDescriptor (home_size old) (block (descriptor_place s) old) → ((t : ℕ) → IsOpenIn t old → (batch_in t old).number < (batch_in s old).number)
         → SameBut (λ k. k ≡ gate_place s) old new
         → StandsFor new label blocks ⊎ StandsFor new label (laid_over blocks (batch_in s old).numbers (batch_in s old).images) }
+    ensures open { (old new label : List ℕ) (blocks : List (List ℕ)) (s : ℕ) (held : List Held) → StandsFor old label blocks → is_open s old ≡ false → s < segment_count old
+        → IsDescriptor (home_size old) (block (descriptor_place s) old) → AreOpen held old → HaveLess (batch_in s old).number held
+        → SameBut (λ k. k ≡ gate_place s) old new → is_open s new ≡ true
+        → StandsFor new label (laid_over blocks (batch_in s old).numbers (batch_in s old).images) × AreOpen (held ++ record { place = s; batch = batch_in s old } ∷ []) new }
 {}
 
 /// Home blocks of which an open segment has an image don't matter. So a crash while images are carried home leaves what
 /// stood there before.
 pub fn torn_homes_are_laid_over()
-    ensures { (old new label : List ℕ) (blocks : List (List ℕ)) → StandsFor old label blocks → SameBut (IsHomeOfOpen old) old new → StandsFor new label blocks }
+    ensures stands { (old new label : List ℕ) (blocks : List (List ℕ)) → StandsFor old label blocks → SameBut (IsHomeOfOpen old) old new → StandsFor new label blocks }
+    ensures open { (old new label : List ℕ) (blocks : List (List ℕ)) (held : List Held) → StandsFor old label blocks → SameBut (IsHomeOfOpen old) old new → AreOpen held old → AreOpen held new }
+{}
+
+/// A home write carries one image more of the batch that is next, and after its last image the batch is done.
+pub fn a_home_write_carries_one_image()
+    ensures one { (first : List (List ℕ)) (done : List Held) (next : Batch) (i : ℕ) (image : List ℕ) → i < length next.numbers → i < length next.images
+        → length (slice_index_or next.images i []) ≡ 4096 → slice_index next.numbers i < home_size image → 4096 * home_place (segment_count image) (home_size image) ≤ length image
+        → IsHomeOnTheWay first done next i image
+        → IsHomeOnTheWay first done next (i + 1) (overwritten (4096 * home_place (segment_count image) (slice_index next.numbers i)) (slice_index_or next.images i []) image) }
+    ensures all { (first : List (List ℕ)) (done : List Held) (h : Held) (image : List ℕ) → length h.batch.images ≡ length h.batch.numbers
+        → IsHomeOnTheWay first done h.batch (length h.batch.numbers) image → home image ≡ all_laid_over first (batches_of (done ++ h ∷ [])) }
 {}
 
 /// Once the home is what the open segments say, it stays so however many of the first are closed.
@@ -35,7 +63,10 @@ pub fn what_lies_at_home_is_carried()
 /// Then the segment with the least number may be closed, and the next one after it. So a crash while its gate is closed
 /// leaves what stood there before.
 pub fn the_oldest_gate_may_be_closed()
-    ensures { (old new label : List ℕ) (blocks : List (List ℕ)) (s : ℕ) → StandsFor old label blocks → IsOpenIn s old
+    ensures stands { (old new label : List ℕ) (blocks : List (List ℕ)) (s : ℕ) → StandsFor old label blocks → IsOpenIn s old
         → ((t : ℕ) → IsOpenIn t old → t ≢ s → (batch_in s old).number < (batch_in t old).number) → IsCarried old
         → SameBut (λ k. k ≡ gate_place s) old new → StandsFor new label blocks × IsCarried new }
+    ensures open { (old new label : List ℕ) (blocks : List (List ℕ)) (h : Held) (held : List Held) → StandsFor old label blocks → AreOpen (h ∷ held) old → IsCarried old
+        → SameBut (λ k. k ≡ gate_place h.place) old new → is_open h.place new ≡ false
+        → StandsFor new label blocks × (IsCarried new × AreOpen held new) }
 {}

@@ -1,10 +1,10 @@
 -- An opening, and what a crash during it might have left.
-use Rattle.std.proofs.Common.{◌≡◌, ◌≢◌, inr, ⊎_elim, ℕ, false, List, [], length, take, None, refl, ap, sym, ◌∙◌, subst, arith}
+use Rattle.std.proofs.Common.{◌≡◌, ◌≢◌, inr, ⊎_elim, ℕ, ◌+◌, false, List, [], length, take, None, refl, ap, sym, ◌∙◌, subst, arith}
 use Rattle.std.specs.Prelude.{IsTrue, slice_index_or}
 use Rattle.std.proofs.lemmas.List.{take_all}
 use Rattle.disk.specs.Device.{Device, Elapses}
 use Rattle.journal.specs.Journal.{Admits, JournalView}
-use Rattle.journal.specs.Opening.{AreSameVolume, IsNoVolume, LeftKept, Opens, SyncsFirst}
+use Rattle.journal.specs.Opening.{AreSameVolume, Costs, IsMore, IsNoVolume, LeftKept, Opens, SyncsFirst, home_syncs, home_writes}
 use Rattle.journal.specs.declared.JournalError.{JournalError}
 use Rattle.journal.specs.declared.JournalError.TheVariants as journal
 use Rattle.journal.specs.declared.Next.TheVariants.{Commit, Idle}
@@ -18,7 +18,7 @@ use Rattle.model.specs.Layout.{IsLabel}
 use Rattle.model.specs.News.{Holds, Stands}
 use Rattle.model.specs.Spool.{Spool}
 use Rattle.model.specs.Stream.{Octets}
-use Rattle.model.specs.Volume.{StandsFor}
+use Rattle.model.specs.Volume.{StandsFor, open_segments}
 use Rattle.served.specs.Events.{opens}
 use Rattle.served.specs.Served.{ServedView}
 use Rattle.world.specs.Fields.{IsSound}
@@ -88,6 +88,13 @@ module _ {D : Type 0} (device : D → Device) (only_now : (d : D) (image : Octet
             (λ (admits : Admits two image). inr (same_as first one two image o r tells admits))
             (r.since (subst IsTrue (sym o.time.tells) tells) t image (omega (arith, le, s.later)) left);
       }
+
+-- reads cost no write and no sync
+pub costs_both : (content : List ℕ) (first one two : Device) → Costs 1 content first one → two.writes ≡ one.writes → two.syncs ≡ one.syncs → Costs 1 content first two
+costs_both content first one two c writes syncs = record {
+  writes = subst (IsMore (home_writes content (open_segments content)) first.writes) (sym writes) c.writes;
+  syncs = subst (IsMore (1 + home_syncs (open_segments content)) first.syncs) (sym syncs) c.syncs;
+}
 
 -- ---- what stood there
 

@@ -15,7 +15,7 @@ ghost use Rattle.world.specs.Events.{Did, DidDev, DidExec, DidTake, MayHappen, R
 ghost use Rattle.world.specs.Fields.{durable_news};
 ghost use Rattle.disk.specs.Device.{Elapses};
 ghost use Rattle.journal.specs.Journal.{IsReady};
-ghost use Rattle.journal.specs.Opening.{LeftKept, NeverSyncs, SyncsFirst};
+ghost use Rattle.journal.specs.Opening.{Costs, LeftKept, NeverSyncs, SyncsFirst};
 ghost use Rattle.model.specs.News.{Stands};
 ghost use Rattle.world.specs.Images.{EachNow, EachSince, Fits, IsDamagedVolume, IsNoNewsVolume, KeepsSpools, LeftFits, StandsForNone};
 ghost use Rattle.world.specs.Opening.{IsNew, open_error};
@@ -96,6 +96,8 @@ impl<D: Disk> World<D> {
         ensures time { MatchResult result (λ w. Elapses (D.device disk) (D.device w.journal.disk)) (λ refused. Elapses (D.device disk) (D.device refused.disk)) }
         ensures volume { MatchResult result (λ w. LeftKept (D.device disk) (D.device w.journal.disk)) (λ refused. LeftKept (D.device disk) (D.device refused.disk)) }
         ensures moment { MatchResult result (λ w. SyncsFirst D.device disk w.journal.disk) (λ refused. SyncsFirst D.device disk refused.disk ⊎ NeverSyncs D.device disk refused.disk) }
+        ensures judged { IfErr result (λ refused. (refused.error ≡ OpenError.NotAVolume) ⊎ (refused.error ≡ OpenError.Damaged) → SyncsFirst D.device disk refused.disk) }
+        ensures cost { IsTrue (D.device disk).tells → IfOk result (λ w. Costs 1 (D.device disk).content (D.device disk) (D.device w.journal.disk)) }
         ensures idle { IfOk result (λ w. IsReady w.journal) }
         ensures fault { IfErr result (λ refused. refused.error ≡ OpenError.Fault → (D.device refused.disk).failures ≢ (D.device disk).failures) }
         ensures memory { IfErr result (λ refused. refused.error ≡ OpenError.Memory → (D.device refused.disk).failures ≡ (D.device disk).failures) }

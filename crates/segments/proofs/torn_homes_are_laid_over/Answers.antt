@@ -1,5 +1,8 @@
-use Rattle.segments.proofs.Standing.{torn}
+use Rattle.segments.proofs.Standing.{torn, torn_open}
 use Rattle.segments.proofs.torn_homes_are_laid_over.Goals as goal
 
-pub returns : goal.returns
-returns c = torn
+pub returns-clause-stands : goal.returns-clause-stands
+returns-clause-stands c old new label blocks stands same = torn old new label blocks stands same
+
+pub returns-clause-open : goal.returns-clause-open
+returns-clause-open c old new label blocks held stands same are = torn_open old new label blocks stands same held are

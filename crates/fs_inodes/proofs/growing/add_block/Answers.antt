@@ -2,7 +2,7 @@ use Rattle.std.proofs.Common.{◌≡◌, inl, inr, ℕ, ◌<◌, Bool, cond, Lis
 use Rattle.std.proofs.lemmas.Bool.{cases_order, eq-eqb}
 use Rattle.byteorder.specs.Endian.{little_bytes}
 use Rattle.disk.specs.Image.{overwritten}
-use Rattle.journal.proofs.Numbers.{number_at_written}
+use Rattle.volume_format.proofs.Numbers.{number_at_written}
 use Rattle.model.specs.Volume.{number_at}
 use Rattle.fs_inodes.specs.Growing.{PutsPointer, AddsBlock, taken_with}
 use Rattle.fs_inodes.proofs.Attaching.{adds_direct, adds_indirect, indirect_past}

@@ -1,7 +1,7 @@
 use Rattle.std.proofs.Common.{◌≡◌, ℕ, List, length, take, ◌∙◌, ap, refl}
 use Rattle.std.proofs.lemmas.List.{take_at}
 use Rattle.model.specs.Volume.{blocks_from}
-use Rattle.journal.proofs.Blocks.{blocks_from_front}
+use Rattle.segments.proofs.Blocks.{blocks_from_front}
 use Rattle.journal.proofs.Journal.begin.Goals as goal
 
 pub returns-clause-images : goal.returns-clause-images

@@ -1,4 +1,4 @@
-use Rattle.std.proofs.Common.{◌≡◌, ◌⊎◌, inl, IsTrue, sym, subst, Bool, IfOk}
+use Rattle.std.proofs.Common.{◌≡◌, ◌⊎◌, inl, IsTrue, sym, subst, Bool}
 use Rattle.std.proofs.lemmas.Result.{IfOk-weaker}
 use Rattle.journal.specs.Journal.{JournalView}
 use Rattle.journal.specs.Opening.{Opens, Refuses, SyncsFirst, NeverSyncs}

@@ -4,7 +4,7 @@ use Rattle.disk.proofs.Images.{length-part}
 use Rattle.model.specs.Volume.{block, blocks_from}
 use Rattle.journal.specs.Inside.{IsWithin}
 use Rattle.journal.specs.declared.Next.{Next}
-use Rattle.journal.proofs.Blocks.{get_or-blocks_from}
+use Rattle.segments.proofs.Blocks.{get_or-blocks_from}
 use Rattle.journal.proofs.Made.{did_write}
 use Rattle.journal.proofs.stepping.ask.Goals as goal
 

@@ -1,6 +1,6 @@
 use Rattle.std.proofs.Common.{◌≡◌, ◌/◌, ℕ, IsTrue, List, length, sym, ◌∙◌, ap, subst, arith, rules}
 use Rattle.std.proofs.lemmas.Result.{IfErr-weaker, IfOk-weaker}
-use Rattle.journal.proofs.Blocks.{length-blocks_from}
+use Rattle.segments.proofs.Blocks.{length-blocks_from}
 use Rattle.model.specs.Layout.{IsLabel}
 use Rattle.model.specs.News.{Holds}
 use Rattle.model.specs.Volume.{blocks_from}

@@ -6,7 +6,7 @@ use Rattle.world.specs.Images.{KeepsSpools}
 use Rattle.std.proofs.Common.{[]}
 use Rattle.world.proofs.Fitting.{now_fits}
 use Rattle.disk.specs.Device.{Elapses}
-use Rattle.world.proofs.Opening.{elapses_both, is_damaged, journal_finds_no_damage, journal_lacked_memory, journal_missed, keeps_both, keeps_left, left_both, no_label, no_volume, none_damaged, none_unlabelled, stands_opened, syncs_both}
+use Rattle.world.proofs.Opening.{costs_both, elapses_both, is_damaged, journal_finds_no_damage, journal_lacked_memory, journal_missed, keeps_both, keeps_left, left_both, no_label, no_volume, none_damaged, none_unlabelled, stands_opened, syncs_both}
 use Rattle.journal.specs.Opening.{LeftKept, SyncsFirst}
 use Rattle.world.proofs.World.open.Goals as goal
 
@@ -99,3 +99,16 @@ returns-clause-volume g c = left_both g.D.Disk.device g.met.D.Disk.only_now g.me
 
 pub returns-clause-moment : goal.returns-clause-moment
 returns-clause-moment g c = syncs_both g.D.Disk.device g.met.D.Disk.only_now g.met.D.Disk.counts_content c.args.disk c.in-Ok.journal c.open-2.new.journal c.in-Ok.ensures.ok c.in-Ok.ensures.moment c.open-2.ensures.reads
+
+pub returns-in-Err-clause-judged : goal.returns-in-Err-clause-judged
+returns-in-Err-clause-judged g c judged =
+    ⊎_elim
+    (λ (a : c.journal_error.result ≡ NotAVolume). c.in-Err.ensures.judged (journal_missed c.in-Err.refused.error c.journal_error.result c.journal_error.ensures a))
+    (λ (b : c.journal_error.result ≡ Damaged). absurd (journal_finds_no_damage c.in-Err.refused.error c.journal_error.result c.journal_error.ensures b))
+    judged
+
+pub returns-in-Err-open-clause-judged : goal.returns-in-Err-open-clause-judged
+returns-in-Err-open-clause-judged g c judged = subst (SyncsFirst g.D.Disk.device c.args.disk) (sym c.into_disk-disk.ensures) (syncs_both g.D.Disk.device g.met.D.Disk.only_now g.met.D.Disk.counts_content c.args.disk c.in-Ok.journal c.open-2.new.journal c.in-Ok.ensures.ok c.in-Ok.ensures.moment c.open-2.ensures.reads)
+
+pub returns-clause-cost : goal.returns-clause-cost
+returns-clause-cost g c tells = costs_both (g.D.Disk.device c.args.disk).content (g.D.Disk.device c.args.disk) (g.D.Disk.device c.in-Ok.journal.disk) (g.D.Disk.device c.open-2.new.journal.disk) (c.in-Ok.ensures.cost tells) c.open-2.ensures.reads.writes c.open-2.ensures.reads.syncs

@@ -1,0 +1,185 @@
+-- What the writes of a new volume leave.
+use Rattle.std.proofs.Common.{◌≡◌, ◌≢◌, ◌⊎◌, inl, inr, ◌<◌, ◌≤◌, ℕ, ◌+◌, ◌-◌, ◌*◌, ◌^◌, Bool, false, eqb, List, [], ◌∷◌, length, get_or, take, drop, replicate, refl, sym, ◌∙◌, ap, subst, arith}
+use Rattle.std.specs.List.{All}
+use Rattle.std.proofs.lemmas.Bool.{cases_eq}
+use Rattle.std.proofs.lemmas.List.{ext_get_or, get_or-drop, get_or-replicate, length-replicate}
+use Rattle.std.proofs.lemmas.List.Elements.{All-from_get_or, All-get_or}
+use Rattle.byteorder.specs.Endian.{little_bytes}
+use Rattle.disk.specs.Image.{part, overwritten}
+use Rattle.disk.proofs.Images.{length-overwritten, overwritten_above, part-overwritten, part-overwritten_apart}
+use Rattle.volume_format.specs.Formatting.{zero_block, zeroed}
+use Rattle.model.specs.Volume.{block, gate_place, home, home_place, home_size, IsSuperblock, is_open, label_of, magic, number_at, open_segments, segment_count, StandsFor}
+use Rattle.segments.proofs.Blocks.{overwritten_same, block-overwritten}
+use Rattle.volume_format.proofs.Numbers.{number_at_apart, number_at_written}
+use Rattle.segments.proofs.Standing.{get_or-home, length-home, none_are_open, stands_bare}
+
+abbrev IsZero : ℕ → Type 0
+IsZero octet = octet ≡ 0
+
+-- 4,096 zeros are the zero block
+is_zero_block : (xs : List ℕ) → length xs ≡ 4096 → All IsZero xs → xs ≡ zero_block
+unfolding zero_block
+is_zero_block xs size zero =
+    ext_get_or 0 xs (replicate (length xs) 0) (sym (length-replicate (length xs) 0)) (λ i within. All-get_or IsZero xs i 0 within zero ∙ sym (get_or-replicate (length xs) i 0 0 within))
+    ∙ ap (λ (n : ℕ). replicate n 0) size
+
+-- the superblock, written part by part
+module _ (old label : List ℕ) (blocks : ℕ) (whole : length old ≡ 4096) (zero : All IsZero old) (label_size : length label ≡ 128) (low : 1024 ≤ blocks) (high : blocks ≤ 65536) where
+  abbrev first : List ℕ
+  first = overwritten 0 magic old
+
+  abbrev second : List ℕ
+  second = overwritten 8 (little_bytes 4 1) first
+
+  abbrev third : List ℕ
+  third = overwritten 12 (little_bytes 4 blocks) second
+
+  abbrev fourth : List ℕ
+  fourth = overwritten 16 (little_bytes 4 1) third
+
+  abbrev pub superblock : List ℕ
+  superblock = overwritten 20 label fourth
+
+  size1 : length first ≡ 4096
+  size1 = length-overwritten 0 magic old (omega (arith, whole)) ∙ whole
+
+  size2 : length second ≡ 4096
+  size2 = length-overwritten 8 (little_bytes 4 1) first (omega (arith, size1)) ∙ size1
+
+  size3 : length third ≡ 4096
+  size3 = length-overwritten 12 (little_bytes 4 blocks) second (omega (arith, size2)) ∙ size2
+
+  size4 : length fourth ≡ 4096
+  size4 = length-overwritten 16 (little_bytes 4 1) third (omega (arith, size3)) ∙ size3
+
+  fits : 20 + length label ≤ length fourth
+  fits = omega (arith, size4, label_size)
+
+  pub length-superblock : length superblock ≡ 4096
+  length-superblock = length-overwritten 20 label fourth fits ∙ size4
+
+  begins : take 8 superblock ≡ magic
+  begins =
+      part-overwritten_apart 20 label fourth fits 0 8 (inl (omega arith))
+      ∙ part-overwritten_apart 16 (little_bytes 4 1) third (omega (arith, size3)) 0 8 (inl (omega arith))
+      ∙ part-overwritten_apart 12 (little_bytes 4 blocks) second (omega (arith, size2)) 0 8 (inl (omega arith))
+      ∙ part-overwritten_apart 8 (little_bytes 4 1) first (omega (arith, size1)) 0 8 (inl (omega arith))
+      ∙ part-overwritten 0 magic old (omega (arith, whole))
+
+  version_is : number_at 8 4 superblock ≡ 1
+  version_is =
+      number_at_apart 20 label fourth fits 8 4 (inl (omega arith))
+      ∙ number_at_apart 16 (little_bytes 4 1) third (omega (arith, size3)) 8 4 (inl (omega arith))
+      ∙ number_at_apart 12 (little_bytes 4 blocks) second (omega (arith, size2)) 8 4 (inl (omega arith))
+      ∙ number_at_written 8 4 1 first (omega (arith, size1)) (omega arith)
+
+  pub blocks_are : number_at 12 4 superblock ≡ blocks
+  blocks_are =
+      number_at_apart 20 label fourth fits 12 4 (inl (omega arith))
+      ∙ number_at_apart 16 (little_bytes 4 1) third (omega (arith, size3)) 12 4 (inl (omega arith))
+      ∙ number_at_written 12 4 blocks second (omega (arith, size2)) (omega (arith, high))
+
+  segments_are : number_at 16 4 superblock ≡ 1
+  segments_are =
+      number_at_apart 20 label fourth fits 16 4 (inl (omega arith))
+      ∙ number_at_written 16 4 1 third (omega (arith, size3)) (omega arith)
+
+  pub label_is : part 20 128 superblock ≡ label
+  label_is = ap (λ (n : ℕ). part 20 n superblock) (sym label_size) ∙ part-overwritten 20 label fourth fits
+
+  -- the octets behind those that are used
+  zeros_stay : All IsZero (drop 148 superblock)
+  zeros_stay = All-from_get_or IsZero (drop 148 superblock) 0 each
+    where
+      each : (i : ℕ) → i < length (drop 148 superblock) → IsZero (get_or (drop 148 superblock) i 0)
+      each i within =
+          let inside : 148 + i < length old = omega (arith, Rattle.std.proofs.Common.length-drop 148 superblock, length-superblock, whole) in
+          get_or-drop 148 superblock i 0
+          ∙ overwritten_above 20 label fourth fits (148 + i) 0 (omega (arith, label_size))
+          ∙ overwritten_above 16 (little_bytes 4 1) third (omega (arith, size3)) (148 + i) 0 (omega arith)
+          ∙ overwritten_above 12 (little_bytes 4 blocks) second (omega (arith, size2)) (148 + i) 0 (omega arith)
+          ∙ overwritten_above 8 (little_bytes 4 1) first (omega (arith, size1)) (148 + i) 0 (omega arith)
+          ∙ overwritten_above 0 magic old (omega (arith, whole)) (148 + i) 0 (omega arith)
+          ∙ All-get_or IsZero old (148 + i) 0 inside zero
+
+  pub superblock_valid : IsSuperblock superblock (4096 * home_place 1 blocks)
+  superblock_valid = record {
+    begins = begins;
+    version_is = version_is;
+    low = omega (arith, blocks_are, low);
+    high = omega (arith, blocks_are, high);
+    segments = segments_are;
+    zeros = zeros_stay;
+    exactly = omega (arith, blocks_are, segments_are);
+  }
+
+-- one more block is written
+pub blocks_more : (k : ℕ) (octets old new : List ℕ) → new ≡ overwritten (4096 * k) octets old → length octets ≡ 4096 → 4096 * k + 4096 ≤ length old → ((j : ℕ) → 0 < j → j < k → block j old ≡ octets) → (j : ℕ) → 0 < j → j < k + 1 → block j new ≡ octets
+blocks_more k octets old new is whole room so_far j some low =
+    let fits : 4096 * k + length octets ≤ length old = omega (arith, whole, room) in
+    ap (block j) is
+    ∙ elim (cases_eq j k) [
+      | inl same ↦ ap (λ (i : ℕ). block i (overwritten (4096 * k) octets old)) same ∙ block-overwritten k octets old whole fits
+      | inr other ↦ (overwritten_same k octets old (omega (arith, whole)) fits).same j other ∙ so_far j some (omega arith)
+    ]
+
+-- a gate of zeros is closed
+shut_gate : (x octets : List ℕ) (s : ℕ) → length octets ≡ 4096 → All IsZero octets → block (gate_place s) x ≡ octets → is_open s x ≡ false
+shut_gate x octets s whole zero is =
+    ap (λ (n : ℕ). eqb n 1) (ap (λ (b : List ℕ). get_or b 0 0) is ∙ All-get_or IsZero octets 0 0 (omega (arith, whole)) zero)
+
+-- the volume, once each block is written
+pub stands_formatted : (blocks : ℕ) (octets super old new label : List ℕ) → length old ≡ 4096 * home_place 1 blocks → length octets ≡ 4096 → All IsZero octets → length super ≡ 4096 → IsSuperblock super (4096 * home_place 1 blocks) → number_at 12 4 super ≡ blocks → part 20 128 super ≡ label
+    → ((k : ℕ) → 0 < k → k < home_place 1 blocks → block k old ≡ octets) → new ≡ overwritten 0 super old → StandsFor new label (zeroed blocks)
+stands_formatted blocks octets super old new label size whole zero super_size valid blocks_is label_is written is =
+    subst (λ (x : List ℕ). StandsFor x label (zeroed blocks)) (sym is)
+    (subst (λ (l : List ℕ). StandsFor image l (zeroed blocks)) (ap (λ (b : List ℕ). part 20 128 b) first ∙ label_is)
+    (subst (λ (bs : List (List ℕ)). StandsFor image (label_of image) bs) home_zeroed (stands_bare image has_superblock none)))
+  where
+    image : List ℕ
+    image = overwritten (4096 * 0) super old
+
+    fits : 4096 * 0 + length super ≤ length old
+    fits = omega (arith, super_size, size)
+
+    first : block 0 image ≡ super
+    first = block-overwritten 0 super old super_size fits
+
+    rest : (k : ℕ) → 0 < k → k < home_place 1 blocks → block k image ≡ octets
+    rest k some low = (overwritten_same 0 super old (omega (arith, super_size)) fits).same k (λ e. absurd (omega arith)) ∙ written k some low
+
+    image_size : length image ≡ 4096 * home_place 1 blocks
+    image_size = length-overwritten (4096 * 0) super old fits ∙ size
+
+    has_superblock : IsSuperblock (block 0 image) (length image)
+    has_superblock = subst (λ (n : ℕ). IsSuperblock (block 0 image) n) (sym image_size) (subst (λ (b : List ℕ). IsSuperblock b (4096 * home_place 1 blocks)) (sym first) valid)
+
+    home_is : home_size image ≡ blocks
+    home_is = ap (number_at 12 4) first ∙ blocks_is
+
+    count_is : segment_count image ≡ 1
+    count_is = ap (number_at 16 4) first ∙ valid.segments
+
+    none : open_segments image ≡ []
+    none = none_are_open image (λ s low. shut_gate image octets s whole zero (rest (gate_place s) (omega arith) (omega (arith, low, count_is))))
+
+    home_zeroed : home image ≡ zeroed blocks
+    home_zeroed = ext_get_or [] (home image) (zeroed blocks) (length-home image ∙ home_is ∙ sym (length-replicate blocks zero_block)) each
+      where
+        each : (k : ℕ) → k < length (home image) → get_or (home image) k [] ≡ get_or (zeroed blocks) k []
+        each k within =
+            let inside : k < home_size image = omega (arith, length-home image) in
+            let low : k < blocks = omega (arith, home_is, inside) in
+            get_or-home image k inside ∙ rest (home_place (segment_count image) k) (omega arith) (omega (arith, low, count_is)) ∙ is_zero_block octets whole zero ∙ sym (get_or-replicate blocks k zero_block [] low)
+
+-- its segments are closed
+pub none_formatted : (blocks : ℕ) (octets super old new : List ℕ) → length old ≡ 4096 * home_place 1 blocks → length octets ≡ 4096 → All IsZero octets → length super ≡ 4096 → number_at 16 4 super ≡ 1
+    → ((k : ℕ) → 0 < k → k < home_place 1 blocks → block k old ≡ octets) → new ≡ overwritten 0 super old → open_segments new ≡ []
+none_formatted blocks octets super old new size whole zero super_size segments_are written is =
+    let fits : 4096 * 0 + length super ≤ length old = omega (arith, super_size, size) in
+    let image = overwritten (4096 * 0) super old in
+    let count : segment_count image ≡ 1 = ap (number_at 16 4) (block-overwritten 0 super old super_size fits) ∙ segments_are in
+    ap open_segments is
+    ∙ none_are_open image (λ s low.
+    shut_gate image octets s whole zero
+    ((overwritten_same 0 super old (omega (arith, super_size)) fits).same (gate_place s) (λ e. absurd (omega (arith, e))) ∙ written (gate_place s) (omega arith) (omega (arith, low, count))))

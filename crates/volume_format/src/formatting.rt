@@ -1,0 +1,114 @@
+//! A new volume.
+
+ghost use Rattle.std.specs.Prelude.{◌≡◌, ◌^◌, ◌⊎◌, ◌+◌, ◌*◌, ◌<◌, ◌≤◌, ℕ, [], length, OnOk, IfOk, IfErr, IsTrue};
+ghost use Rattle.std.specs.List.{All};
+ghost use Rattle.disk.specs.Device.{Elapses, LeavesOnly};
+ghost use Rattle.disk.specs.Image.{overwritten, part};
+ghost use Rattle.model.specs.Volume.{IsSuperblock, StandsFor, block, home_place, number_at, open_segments};
+ghost use Rattle.volume_format.specs.Formatting.{CountsFaults, zeroed};
+
+use crate::FormatError;
+use crate::layout::{BLOCK, SEGMENTS, home_block, start_of};
+use crate::superblock::describe_in;
+use disk::{Disk, DiskError};
+use std::alloc::{AllocError, Global};
+
+/// Writes a volume of zeroed logical blocks with this label and a closed segment, and syncs.
+/// `label` has 128 octets, which the journal doesn't read, and there are 1,024 to 65,536 blocks.
+///
+/// A refusal, for memory too, may leave anything there.
+pub fn format<D: Disk>(
+    alloc: Global,
+    disk: &mut D,
+    blocks: u64,
+    label: &[u8],
+) -> Result<(), FormatError>
+    requires low { 1024 ≤ blocks }
+    requires high { blocks ≤ 65536 }
+    requires label { length label.now ≡ 128 }
+    requires size { (D.device disk.old).size ≡ 4096 * home_place 1 blocks }
+    ensures volume { IsTrue (D.device disk.old).tells → OnOk result (StandsFor (D.device disk.new).content label.now (zeroed blocks)) }
+    ensures synced { IsTrue (D.device disk.old).tells → OnOk result (LeavesOnly (D.device disk.new) (D.device disk.new).content) }
+    ensures closed { IsTrue (D.device disk.old).tells → OnOk result (open_segments (D.device disk.new).content ≡ []) }
+    ensures time { Elapses (D.device disk.old) (D.device disk.new) }
+    ensures failures { CountsFaults result (D.device disk.old) (D.device disk.new) }
+{
+    match zeros(alloc, BLOCK) {
+        Ok(octets) => write_volume(disk, blocks, label, octets),
+        Err(_) => Err(FormatError::Memory),
+    }
+}
+
+// Writes the volume, in which each block but the first is the given one of zeros.
+fn write_volume<D: Disk>(
+    disk: &mut D,
+    blocks: u64,
+    label: &[u8],
+    mut octets: Vec<u8>,
+) -> Result<(), FormatError>
+    requires low { 1024 ≤ blocks }
+    requires high { blocks ≤ 65536 }
+    requires label { length label.now ≡ 128 }
+    requires size { (D.device disk.old).size ≡ 4096 * home_place 1 blocks }
+    requires whole { length octets.items ≡ 4096 }
+    requires zero { All (λ octet. octet ≡ 0) octets.items }
+    ensures volume { IsTrue (D.device disk.old).tells → OnOk result (StandsFor (D.device disk.new).content label.now (zeroed blocks)) }
+    ensures synced { IsTrue (D.device disk.old).tells → OnOk result (LeavesOnly (D.device disk.new) (D.device disk.new).content) }
+    ensures closed { IsTrue (D.device disk.old).tells → OnOk result (open_segments (D.device disk.new).content ≡ []) }
+    ensures time { Elapses (D.device disk.old) (D.device disk.new) }
+    ensures failures { CountsFaults result (D.device disk.old) (D.device disk.new) }
+{
+    write_blocks(disk, home_block(SEGMENTS, blocks), octets.as_slice())?;
+    describe_in(&mut octets, blocks as u32, label);
+    write_part(disk, 0, octets.as_slice())?;
+    sync_last(disk)
+}
+
+// Writes these octets into each block from the second on.
+fn write_blocks<D: Disk>(disk: &mut D, end: u64, octets: &[u8]) -> Result<(), FormatError>
+    requires low { end < 2 ^ 40 }
+    requires whole { length octets.now ≡ 4096 }
+    requires size { (D.device disk.old).size ≡ 4096 * end }
+    ensures blocks { IsTrue (D.device disk.old).tells → OnOk result ((k : ℕ) → 0 < k → k < end → block k (D.device disk.new).content ≡ octets.now) }
+    ensures time { Elapses (D.device disk.old) (D.device disk.new) }
+    ensures failures { CountsFaults result (D.device disk.old) (D.device disk.new) }
+{
+    for k in 1..end {
+        write_part(disk, start_of(k), octets)?;
+    }
+    Ok(())
+}
+
+fn write_part<D: Disk>(disk: &mut D, at: u64, from: &[u8]) -> Result<(), FormatError>
+    requires { at + length from.now ≤ (D.device disk.old).size }
+    ensures content { IsTrue (D.device disk.old).tells → OnOk result ((D.device disk.new).content ≡ overwritten at from.now (D.device disk.old).content) }
+    ensures time { Elapses (D.device disk.old) (D.device disk.new) }
+    ensures failures { CountsFaults result (D.device disk.old) (D.device disk.new) }
+{
+    match disk.write(at, from) {
+        Ok(()) => Ok(()),
+        Err(DiskError::Fault) => Err(FormatError::Fault),
+        Err(DiskError::Memory) => Err(FormatError::Memory),
+    }
+}
+
+fn sync_last<D: Disk>(disk: &mut D) -> Result<(), FormatError>
+    ensures content { IsTrue (D.device disk.old).tells → OnOk result ((D.device disk.new).content ≡ (D.device disk.old).content) }
+    ensures synced { IsTrue (D.device disk.old).tells → OnOk result (LeavesOnly (D.device disk.new) (D.device disk.old).content) }
+    ensures time { Elapses (D.device disk.old) (D.device disk.new) }
+    ensures failures { CountsFaults result (D.device disk.old) (D.device disk.new) }
+{
+    match disk.sync() {
+        Ok(()) => Ok(()),
+        Err(DiskError::Fault) => Err(FormatError::Fault),
+        Err(DiskError::Memory) => Err(FormatError::Memory),
+    }
+}
+
+/// That many zeros.
+pub fn zeros(alloc: Global, size: usize) -> Result<Vec<u8>, AllocError>
+    ensures size { IfOk result (λ octets. length octets.items ≡ size) }
+    ensures zero { IfOk result (λ octets. All (λ octet. octet ≡ 0) octets.items) }
+{
+    vec![in alloc; 0; size]
+}

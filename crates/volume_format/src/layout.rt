@@ -1,0 +1,132 @@
+//! Where things stand on the device, and numbers in octets. `Volume.antt` of the model says the same as definitions.
+
+ghost use Rattle.std.specs.Prelude.{◌≡◌, ◌^◌, ◌<◌, ◌≤◌, ◌+◌, ◌*◌, ℕ, length};
+ghost use Rattle.std.specs.List.{flat_map};
+ghost use Rattle.byteorder.specs.Endian.{little_bytes};
+ghost use Rattle.disk.specs.Image.{overwritten};
+ghost use Rattle.model.specs.Volume.{number_at, gate_place, descriptor_place, image_place, home_place, block};
+
+use byteorder::{ByteOrder, LittleEndian};
+
+/// How many octets a block has.
+pub const BLOCK: usize = 4096;
+/// How many segments a volume has.
+pub const SEGMENTS: u32 = 1;
+/// How many images a segment has room for.
+pub const SEGMENT_IMAGES: usize = 512;
+/// How many blocks a segment has: its gate, its descriptor and its images.
+pub const SEGMENT_BLOCKS: u64 = 514;
+/// The fewest and the most logical blocks.
+pub const FEWEST_BLOCKS: u64 = 1024;
+
+pub const MOST_BLOCKS: u64 = 65536;
+
+pub const MAGIC: [u8; 8] = [0x58, 0x4e, 0x4e, 0x54, 0x50, 0x46, 0x53, 0x31];
+
+pub const VERSION: u32 = 1;
+/// Where the label stands in the superblock. It ends the octets that are used; those behind are zero.
+pub const LABEL_AT: usize = 20;
+
+pub const SUPERBLOCK_USED: usize = 148;
+/// The first octet of an open gate, and of a closed one that the journal writes.
+pub const OPEN: u8 = 1;
+
+pub const CLOSED: u8 = 0;
+/// The number of a batch where no segment is open.
+pub const FIRST_NUMBER: u64 = 1;
+/// Where the numbers of a descriptor begin.
+pub const NUMBERS_AT: usize = 24;
+
+/// The first octet of a block.
+pub fn start_of(block: u64) -> u64
+    requires { block < 2 ^ 40 }
+    ensures { result ≡ 4096 * block }
+{
+    BLOCK as u64 * block
+}
+
+/// The block of the gate of a segment.
+pub fn gate_block(segment: u32) -> u64
+    ensures { result ≡ gate_place segment }
+{
+    1 + SEGMENT_BLOCKS * u64::from(segment)
+}
+
+pub fn descriptor_block(segment: u32) -> u64
+    ensures { result ≡ descriptor_place segment }
+{
+    2 + SEGMENT_BLOCKS * u64::from(segment)
+}
+
+/// The block of the i-th image of a segment.
+pub fn image_block(segment: u32, i: usize) -> u64
+    requires { i < 512 }
+    ensures { result ≡ image_place segment i }
+{
+    3 + SEGMENT_BLOCKS * u64::from(segment) + i as u64
+}
+
+/// The home of a logical block.
+pub fn home_block(segments: u32, number: u64) -> u64
+    requires { number < 2 ^ 32 }
+    ensures { result ≡ home_place segments number }
+{
+    1 + SEGMENT_BLOCKS * u64::from(segments) + number
+}
+
+/// The i-th of the blocks in memory.
+pub fn block_at(octets: &[u8], i: usize) -> &[u8]
+    requires { 4096 * i + 4096 ≤ length octets.now }
+    ensures { result.now ≡ block i octets.now }
+{
+    &octets[BLOCK * i..BLOCK * i + BLOCK]
+}
+
+#[tactic(auto, unfolding(model::specs::Volume::number_at))]
+pub fn number32(octets: &[u8], at: usize) -> u32
+    requires { at + 4 ≤ length octets.now }
+    ensures { result ≡ number_at at 4 octets.now }
+{
+    LittleEndian::read_u32(&octets[at..])
+}
+
+#[tactic(auto, unfolding(model::specs::Volume::number_at))]
+pub fn number64(octets: &[u8], at: usize) -> u64
+    requires { at + 8 ≤ length octets.now }
+    ensures { result ≡ number_at at 8 octets.now }
+{
+    LittleEndian::read_u64(&octets[at..])
+}
+
+/// Puts a number into the eight octets from a place on.
+pub fn put64(octets: &mut [u8], at: usize, n: u64)
+    requires { at + 8 ≤ length octets.old }
+    ensures { octets.new ≡ overwritten at (little_bytes 8 n) octets.old }
+{
+    let end = at + 8;
+    LittleEndian::write_u64(&mut octets[at..end], n);
+}
+
+pub fn put32(octets: &mut [u8], at: usize, n: u32)
+    requires { at + 4 ≤ length octets.old }
+    ensures { octets.new ≡ overwritten at (little_bytes 4 n) octets.old }
+{
+    let end = at + 4;
+    LittleEndian::write_u32(&mut octets[at..end], n);
+}
+
+pub fn put_numbers(octets: &mut [u8], at: usize, numbers: &[u32])
+    requires { at + 4 * length numbers.now ≤ length octets.old }
+    ensures { octets.new ≡ overwritten at (flat_map (little_bytes 4) numbers.now) octets.old }
+{
+    let end = at + 4 * numbers.len();
+    LittleEndian::write_u32_into(numbers, &mut octets[at..end]);
+}
+
+pub fn put_octets(octets: &mut [u8], at: usize, from: &[u8])
+    requires { at + length from.now ≤ length octets.old }
+    ensures { octets.new ≡ overwritten at from.now octets.old }
+{
+    let end = at + from.len();
+    octets[at..end].copy_from_slice(from);
+}

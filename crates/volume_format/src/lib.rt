@@ -1,0 +1,24 @@
+//! Where things stand on the device of a volume, the octets of its superblock and of a batch's descriptor, and a new
+//! volume. `Volume.antt` of the model says the same as definitions, docs/FORMATS.md in words.
+#![tactic(auto)]
+
+mod descriptor;
+mod formatting;
+pub mod layout;
+mod superblock;
+
+pub use descriptor::{describe_batch, read_descriptor};
+pub use formatting::{format, zeros};
+pub use superblock::read_superblock;
+use thiserror::Error;
+
+/// Why a volume was not written.
+#[derive(Clone, Copy, Debug, PartialEq, Eq, Error)]
+pub enum FormatError {
+    /// The device failed in this call.
+    #[error("E1 Fault")]
+    Fault,
+    /// A growth was refused in this call.
+    #[error("E2 Memory")]
+    Memory,
+}

@@ -1,0 +1,84 @@
+//! The superblock, from its octets and into them.
+
+ghost use Rattle.std.specs.Prelude.{◌≡◌, ◌↔◌, ◌*◌, ◌≤◌, [], ℕ, IfSome, IsNone, IsTrue, drop, length, take};
+ghost use Rattle.std.specs.List.{All};
+ghost use Rattle.disk.specs.Image.{part};
+ghost use Rattle.model.specs.Volume.{IsSuperblock, home_place, magic, number_at};
+
+use crate::layout::{
+    FEWEST_BLOCKS, LABEL_AT, MAGIC, MOST_BLOCKS, SEGMENTS, SUPERBLOCK_USED, VERSION, home_block,
+    number32, put_octets, put32, start_of,
+};
+
+/// Makes a superblock of a block of zeros.
+pub(crate) fn describe_in(octets: &mut Vec<u8>, blocks: u32, label: &[u8])
+    requires low { 1024 ≤ blocks }
+    requires high { blocks ≤ 65536 }
+    requires whole { length octets.old.items ≡ 4096 }
+    requires zero { All (λ octet. octet ≡ 0) octets.old.items }
+    requires label { length label.now ≡ 128 }
+    ensures valid { IsSuperblock octets.new.items (4096 * home_place 1 blocks) }
+    ensures blocks { number_at 12 4 octets.new.items ≡ blocks }
+    ensures label { part 20 128 octets.new.items ≡ label.now }
+    ensures size { length octets.new.items ≡ 4096 }
+{
+    describe_volume(octets.as_mut_slice(), blocks, label);
+}
+
+fn describe_volume(octets: &mut [u8], blocks: u32, label: &[u8])
+    requires low { 1024 ≤ blocks }
+    requires high { blocks ≤ 65536 }
+    requires whole { length octets.old ≡ 4096 }
+    requires zero { All (λ octet. octet ≡ 0) octets.old }
+    requires label { length label.now ≡ 128 }
+    ensures valid { IsSuperblock octets.new (4096 * home_place 1 blocks) }
+    ensures blocks { number_at 12 4 octets.new ≡ blocks }
+    ensures label { part 20 128 octets.new ≡ label.now }
+    ensures size { length octets.new ≡ 4096 }
+{
+    put_octets(octets, 0, &MAGIC);
+    put32(octets, 8, VERSION);
+    put32(octets, 12, blocks);
+    put32(octets, 16, SEGMENTS);
+    put_octets(octets, LABEL_AT, label);
+}
+
+/// How many logical blocks a superblock tells, where it is valid for a device of that size.
+pub fn read_superblock(octets: &[u8], size: u64) -> Option<u64>
+    requires { length octets.now ≡ 4096 }
+    ensures some { IfSome result (λ blocks. IsSuperblock octets.now size × (number_at 12 4 octets.now ≡ blocks)) }
+    ensures none { IsNone result → IsSuperblock octets.now size → ⊥ }
+{
+    let blocks = u64::from(number32(octets, 12));
+    if has_magic(octets)
+        && number32(octets, 8) == VERSION
+        && number32(octets, 16) == SEGMENTS
+        && FEWEST_BLOCKS <= blocks
+        && blocks <= MOST_BLOCKS
+        && size == start_of(home_block(SEGMENTS, blocks))
+        && has_zeros(octets)
+    {
+        Some(blocks)
+    } else {
+        None
+    }
+}
+
+fn has_magic(octets: &[u8]) -> bool
+    requires { 8 ≤ length octets.now }
+    ensures { IsTrue result ↔ (take 8 octets.now ≡ magic) }
+{
+    octets[..8] == MAGIC[..]
+}
+
+fn has_zeros(octets: &[u8]) -> bool
+    requires { 148 ≤ length octets.now }
+    ensures { IsTrue result ↔ All (λ octet. octet ≡ 0) (drop 148 octets.now) }
+{
+    for at in SUPERBLOCK_USED..octets.len() {
+        if octets[at] != 0 {
+            return false;
+        }
+    }
+    true
+}
