@@ -64,9 +64,8 @@ pub fn pointer_at<B: Blocks>(blocks: &B, inode: &[u8], i: u32) -> u32
     if i < DIRECT_POINTERS {
         return number32(inode, POINTERS_AT + 4 * i as usize);
     }
-    let mut pointers = [0; BLOCK_SIZE];
-    blocks.get(number32(inode, INDIRECT_AT), &mut pointers);
-    number32(&pointers, 4 * (i - DIRECT_POINTERS) as usize)
+    let pointers = blocks.block(number32(inode, INDIRECT_AT));
+    number32(pointers, 4 * (i - DIRECT_POINTERS) as usize)
 }
 
 /// How many blocks the content of so many octets takes.
@@ -83,10 +82,8 @@ pub fn free_inode_count<B: Blocks>(blocks: &B, inodes: u32) -> u32
     ensures { result ≡ free_inodes inodes (B.blocks blocks.now) }
 {
     let mut free = 0;
-    let mut block = [0; BLOCK_SIZE];
     for table in 0..inodes / 64 {
-        blocks.get(INODES_AT + table, &mut block);
-        free += count_free(&block, RECORDS);
+        free += count_free(blocks.block(INODES_AT + table), RECORDS);
     }
     free
 }

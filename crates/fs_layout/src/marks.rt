@@ -18,16 +18,13 @@ fn lowest_free<B: Blocks>(blocks: &B) -> Option<u32>
     ensures { MatchOption result (HasNoFreeBlock (B.blocks blocks.now)) (IsLowestFree (B.blocks blocks.now)) }
 {
     let count = blocks.len() as usize;
-    let mut bitmap = [0; BLOCK_SIZE];
-    blocks.get(0, &mut bitmap);
-    if let Some(bit) = lowest_clear(&bitmap, count.min(BLOCK_BITS)) {
+    if let Some(bit) = lowest_clear(blocks.block(0), count.min(BLOCK_BITS)) {
         return Some(bit as u32);
     }
     if count <= BLOCK_BITS {
         return None;
     }
-    blocks.get(1, &mut bitmap);
-    let Some(bit) = lowest_clear(&bitmap, count - BLOCK_BITS) else {
+    let Some(bit) = lowest_clear(blocks.block(1), count - BLOCK_BITS) else {
         return None;
     };
     Some((BLOCK_BITS + bit) as u32)
@@ -84,12 +81,9 @@ pub fn free_block_count<B: Blocks>(blocks: &B, inodes: u32) -> u32
     ensures { result ≡ free_blocks (B.blocks blocks.now) }
 {
     let count = blocks.len() as usize;
-    let mut bitmap = [0; BLOCK_SIZE];
-    blocks.get(0, &mut bitmap);
-    let low = count_clear(&bitmap, count.min(BLOCK_BITS));
+    let low = count_clear(blocks.block(0), count.min(BLOCK_BITS));
     if count <= BLOCK_BITS {
         return low;
     }
-    blocks.get(1, &mut bitmap);
-    low + count_clear(&bitmap, count - BLOCK_BITS)
+    low + count_clear(blocks.block(1), count - BLOCK_BITS)
 }

@@ -18,8 +18,7 @@ pub fn get_record<B: Blocks>(blocks: &B, first: u32, at: u32, into: &mut [u8])
     requires whole { length into.old ≡ 64 }
     ensures { into.new ≡ part (at % 64 * 64) 64 (slice_index_or (B.blocks blocks.now) (first + at / 64) []) }
 {
-    let mut block = [0; BLOCK_SIZE];
-    blocks.get(first + at / 64, &mut block);
+    let block = blocks.block(first + at / 64);
     let start = (at % 64) as usize * RECORD_SIZE;
     into.copy_from_slice(&block[start..start + RECORD_SIZE]);
 }
@@ -60,10 +59,9 @@ pub fn find<B: Blocks>(blocks: &B, inodes: u32, slot: &[u8]) -> Option<u32>
         ((k : ℕ) → k < inodes → slot_of inodes (B.blocks blocks.now) k ≢ slot.now)
         (IsFound inodes (B.blocks blocks.now) slot.now) }
 {
-    let mut block = [0; BLOCK_SIZE];
     for table in 0..inodes / 64 {
-        blocks.get(2 + inodes / 64 + table, &mut block);
-        if let Some(place) = find_in(&block, slot) {
+        let block = blocks.block(2 + inodes / 64 + table);
+        if let Some(place) = find_in(block, slot) {
             return Some(64 * table + place);
         }
     }

@@ -23,11 +23,20 @@ pub trait Blocks {
         ensures count { result ≡ length (blocks self.now) }
         ensures whole { All (λ octets. length octets ≡ 4096) (blocks self.now) };
 
+    /// The octets of a block.
+    fn block(&self, number: u32) -> &[u8]
+        requires { number < length (blocks self.now) }
+        ensures octets { result.now ≡ slice_index_or (blocks self.now) number [] }
+        ensures whole { length result.now ≡ 4096 };
+
     /// Copies the octets of a block.
     fn get(&self, number: u32, into: &mut [u8])
         requires there { number < length (blocks self.now) }
         requires whole { length into.old ≡ 4096 }
-        ensures { into.new ≡ slice_index_or (blocks self.now) number [] };
+        ensures { into.new ≡ slice_index_or (blocks self.now) number [] }
+    {
+        into.copy_from_slice(self.block(number));
+    }
 
     /// Replaces the octets of a block. Where memory is refused nothing changes.
     fn put(&mut self, number: u32, from: &[u8]) -> Result<(), AllocError>

@@ -230,12 +230,11 @@ impl Blocks for Volume {
         (self.cache.len() / BLOCK_SIZE) as u32
     }
 
-    fn get(&self, number: u32, into: &mut [u8]) {
-        let octets = match self.staged.place(number) {
+    fn block(&self, number: u32) -> &[u8] {
+        match self.staged.place(number) {
             Some(place) => block_of(&self.images, place),
             None => block_of(&self.cache, number as usize),
-        };
-        into.copy_from_slice(octets);
+        }
     }
 
     fn put(&mut self, number: u32, from: &[u8]) -> Result<(), AllocError> {

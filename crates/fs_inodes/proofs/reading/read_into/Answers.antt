@@ -1,10 +1,19 @@
-use Rattle.std.proofs.Common.{◌≡◌, ◌≢◌, inl, inr, ℕ, ◌+◌, ◌-◌, ◌/◌, ◌%◌, ◌<◌, ◌≤◌, List, [], ◌++◌, length, get_or, take, drop, refl, sym, ◌∙◌, ap, subst, arith}
+use Rattle.std.proofs.Common.{◌≡◌, inl, inr, ℕ, ◌+◌, ◌-◌, ◌%◌, ◌<◌, ◌≤◌, List, [], ◌++◌, length, take, drop, refl, sym, ◌∙◌, ap, arith, append_assoc, length-drop}
+use Rattle.std.specs.Prelude.{min}
 use Rattle.std.proofs.lemmas.Bool.{cases_lt}
-use Rattle.model.specs.Volume.{number_at}
-use Rattle.model.specs.Files.{Entry, entry, size, pointer, content_of, indirect_of, indirect_pointer, block_count}
-use Rattle.fs_layout.proofs.Entries.{owns_pointer, owns_indirect, length-content}
-use Rattle.fs_inodes.proofs.Contents.{content_part, take_then, taken_all}
-use Rattle.fs_inodes.proofs.reading.read_entry.Goals as goal
+use Rattle.std.proofs.lemmas.List.{append-nil, length-take}
+use Rattle.model.specs.Files.{Entry, entry, size, content_of}
+use Rattle.fs_layout.proofs.Entries.{length-content}
+use Rattle.fs_inodes.proofs.Contents.{take_then, taken_all}
+use Rattle.fs_inodes.proofs.reading.read_into.Goals as goal
+
+-- how many octets a piece has
+piece_size : (content octets : List ℕ) (from end few : ℕ) → octets ≡ take (min (end - from) few) (drop from content) → end ≤ length content → from ≤ end → length octets ≡ min (end - from) few
+piece_size content octets from end few is fits order =
+    ap (λ (l : List ℕ). length l) is ∙ length-take (min (end - from) few) (drop from content) ∙ shorter (end - from) few (length (drop from content)) (omega (arith, length-drop from content))
+  where
+    shorter : (a b c : ℕ) → a ≤ c → min (min a b) c ≡ min a b
+    shorter a b c low = omega arith
 
 pub loop-from-init : goal.loop-from-init
 loop-from-init g c =
@@ -13,64 +22,67 @@ loop-from-init g c =
     record {
       from_place = omega arith;
       to_end = inl refl;
-      octets_are = c.new-octets.ensures.items ∙ sym (ap (λ (n : ℕ). take n (drop c.args.place (content_of blocks (entry c.args.inodes blocks c.args.at)))) none);
+      octets_are = sym (ap (λ (n : ℕ). c.args.into.now.items ++ take n (drop c.args.place (content_of blocks (entry c.args.inodes blocks c.args.at)))) none ∙ append-nil c.args.into.now.items);
     }
 
-pub pointer_at-requires-clause-indirect : goal.pointer_at-requires-clause-indirect
-pointer_at-requires-clause-indirect g c =
+pub overflow_add-from : goal.overflow_add-from
+overflow_add-from g c =
     let blocks = g.B.Blocks.blocks c.args.blocks.now in
     let e : Entry = entry c.args.inodes blocks c.args.at in
-    let sized : c.number64.result ≡ size e = c.number64.ensures ∙ ap (λ (o : List ℕ). number_at 4 8 o) c.get_record.ensures in
-    subst (λ (o : List ℕ). 10 ≤ c.loop-from.from / 4096 → (number_at 52 4 o ≢ 0) × (number_at 52 4 o < length blocks)) (sym c.get_record.ensures)
-    (λ high.
-    let more : 10 < block_count e = omega arith in
-    let some = c.requires.file.indirect_where.0 more in
-    (some, (c.requires.rule.within c.args.at (indirect_pointer e) c.requires.below (owns_indirect e some)).1))
-
-pub get-requires-clause-there : goal.get-requires-clause-there
-get-requires-clause-there g c =
-    let blocks = g.B.Blocks.blocks c.args.blocks.now in
-    let e : Entry = entry c.args.inodes blocks c.args.at in
-    let i = c.loop-from.from / 4096 in
-    let sized : c.number64.result ≡ size e = c.number64.ensures ∙ ap (λ (o : List ℕ). number_at 4 8 o) c.get_record.ensures in
-    let low : i < block_count e = omega arith in
-    let is : c.pointer_at.result ≡ pointer e i = c.pointer_at.ensures ∙ ap (λ (o : List ℕ). pointer (record { inode = o; slot = []; indirect = indirect_of blocks (number_at 52 4 o) }) i) c.get_record.ensures in
-    subst (λ (n : ℕ). n < length blocks) (sym is) ((c.requires.rule.within c.args.at (pointer e i) c.requires.below (owns_pointer e i low)).1)
+    let content = content_of blocks e in
+    let from = c.loop-from.from in
+    let long = length-content blocks e c.requires.room.blocks_whole (λ b owns. (c.requires.rule.within c.args.at b c.requires.below owns).1) in
+    let sized = c.size_of.ensures in
+    let fits : c.min-end.result ≤ length content = omega arith in
+    let many = piece_size content c.piece-octets.result.now from c.min-end.result (4096 - from % 4096) c.piece-octets.ensures fits (omega arith) in
+    omega (arith, many)
 
 pub loop-from-preserved : goal.loop-from-preserved
 loop-from-preserved g c =
     let blocks = g.B.Blocks.blocks c.args.blocks.now in
     let e : Entry = entry c.args.inodes blocks c.args.at in
+    let content = content_of blocks e in
     let from = c.loop-from.from in
-    let some = c.min-some.result in
-    let i = from / 4096 in
-    let sized : c.number64.result ≡ size e = c.number64.ensures ∙ ap (λ (o : List ℕ). number_at 4 8 o) c.get_record.ensures in
-    let is : c.pointer_at.result ≡ pointer e i = c.pointer_at.ensures ∙ ap (λ (o : List ℕ). pointer (record { inode = o; slot = []; indirect = indirect_of blocks (number_at 52 4 o) }) i) c.get_record.ensures in
-    let part = content_part blocks e c.requires.room.blocks_whole (λ b owns. (c.requires.rule.within c.args.at b c.requires.below owns).1) from some (omega arith) (omega arith) (omega arith) in
-    let width : from % 4096 + some - from % 4096 ≡ some = omega arith in
+    let long = length-content blocks e c.requires.room.blocks_whole (λ b owns. (c.requires.rule.within c.args.at b c.requires.below owns).1) in
+    let sized = c.size_of.ensures in
+    let fits : c.min-end.result ≤ length content = omega arith in
+    let many = piece_size content c.piece-octets.result.now from c.min-end.result (4096 - from % 4096) c.piece-octets.ensures fits (omega arith) in
+    let some = length c.piece-octets.result.now in
     record {
       from_place = omega (arith, c.loop-from.invariant.from_place);
       to_end = inr (omega arith);
       octets_are =
           c.in_ok-extend_from_slice.ensures.items
-          ∙ ap (λ (l : List ℕ). l ++ take (from % 4096 + some - from % 4096) (drop (from % 4096) c.get.new.into)) c.loop-from.invariant.octets_are
-          ∙ ap (λ (l : List ℕ). take (from - c.args.place) (drop c.args.place (content_of blocks e)) ++ l) (
-          ap (λ (n : ℕ). take n (drop (from % 4096) c.get.new.into)) width
-          ∙ ap (λ (l : List ℕ). take some (drop (from % 4096) l)) (c.get.ensures ∙ ap (λ (n : ℕ). get_or blocks n []) is)
-          ∙ sym part)
-          ∙ sym (take_then (content_of blocks e) c.args.place from some c.loop-from.invariant.from_place);
+          ∙ ap (λ (l : List ℕ). l ++ c.piece-octets.result.now) c.loop-from.invariant.octets_are
+          ∙ append_assoc c.args.into.now.items (take (from - c.args.place) (drop c.args.place content)) c.piece-octets.result.now
+          ∙ ap (λ (l : List ℕ). c.args.into.now.items ++ l)
+          (ap (λ (l : List ℕ). take (from - c.args.place) (drop c.args.place content) ++ l) (c.piece-octets.ensures ∙ ap (λ (n : ℕ). take n (drop from content)) (sym many))
+          ∙ sym (take_then content c.args.place from some c.loop-from.invariant.from_place));
     }
+
+pub loop-from-smaller : goal.loop-from-smaller
+loop-from-smaller g c =
+    let blocks = g.B.Blocks.blocks c.args.blocks.now in
+    let e : Entry = entry c.args.inodes blocks c.args.at in
+    let content = content_of blocks e in
+    let from = c.loop-from.from in
+    let long = length-content blocks e c.requires.room.blocks_whole (λ b owns. (c.requires.rule.within c.args.at b c.requires.below owns).1) in
+    let sized = c.size_of.ensures in
+    let fits : c.min-end.result ≤ length content = omega arith in
+    let many = piece_size content c.piece-octets.result.now from c.min-end.result (4096 - from % 4096) c.piece-octets.ensures fits (omega arith) in
+    omega (arith, many)
 
 pub returns : goal.returns
 returns g c =
     let blocks = g.B.Blocks.blocks c.args.blocks.now in
     let e : Entry = entry c.args.inodes blocks c.args.at in
-    let sized : c.number64.result ≡ size e = c.number64.ensures ∙ ap (λ (o : List ℕ). number_at 4 8 o) c.get_record.ensures in
+    let sized = c.size_of.ensures in
     let long = length-content blocks e c.requires.room.blocks_whole (λ b owns. (c.requires.rule.within c.args.at b c.requires.below owns).1) in
     let small = c.requires.file.small in
     c.loop-from.invariant.octets_are
-    ∙ taken_all (content_of blocks e) c.args.place c.args.count c.loop-from.from c.min-end.result (omega arith) c.loop-from.invariant.from_place c.loop-from.invariant.to_end
+    ∙ ap (λ (l : List ℕ). c.args.into.now.items ++ l)
+    (taken_all (content_of blocks e) c.args.place c.args.count c.loop-from.from c.min-end.result (omega arith) c.loop-from.invariant.from_place c.loop-from.invariant.to_end
     (elim (cases_lt (c.args.place + c.args.count) (size e)) [
       | inl asked ↦ inr (omega arith)
       | inr past ↦ inl (omega arith)
-    ]) (omega arith) (omega arith)
+    ]) (omega arith) (omega arith))

@@ -27,7 +27,7 @@ pub returns-then-count-le-BLOCK_BITS : goal.returns-then-count-le-BLOCK_BITS
 returns-then-count-le-BLOCK_BITS g c =
     let blocks = g.B.Blocks.blocks c.args.blocks.now in
     let some : c.min.result ≡ length blocks = omega (arith, c.len-count.ensures.count) in
-    low_blocks blocks c.get.new.into c.count_clear-low.result c.min.result c.get.ensures (omega arith) c.count_clear-low.ensures.clear
+    low_blocks blocks c.block.result.now c.count_clear-low.result c.min.result c.block.ensures.octets (omega arith) c.count_clear-low.ensures.clear
     ∙ ap (λ (n : ℕ). count_by (λ b. not (is_marked_used blocks b)) (range_with_len 0 n)) some
 
 pub returns : goal.returns
@@ -36,8 +36,8 @@ returns g c =
     let many : c.min.result ≡ 32768 = omega arith in
     let rest : c.len-count.result - 32768 ≤ 32768 = omega (arith, c.len-count.ensures.count, c.requires.count_few) in
     let whole : c.min.result + (c.len-count.result - 32768) ≡ length blocks = omega (arith, c.len-count.ensures.count) in
-    let low = low_blocks blocks c.get.new.into c.count_clear-low.result c.min.result c.get.ensures (omega arith) c.count_clear-low.ensures.clear in
-    let high = high_blocks blocks c.get-2.new.into c.count_clear.result (c.len-count.result - 32768) c.min.result c.get-2.ensures many rest c.count_clear.ensures.clear in
+    let low = low_blocks blocks c.block.result.now c.count_clear-low.result c.min.result c.block.ensures.octets (omega arith) c.count_clear-low.ensures.clear in
+    let high = high_blocks blocks c.block-2.result.now c.count_clear.result (c.len-count.result - 32768) c.min.result c.block-2.ensures.octets many rest c.count_clear.ensures.clear in
     ap (λ (n : ℕ). n + c.count_clear.result) low
     ∙ ap (λ (n : ℕ). count_by (λ b. not (is_marked_used blocks b)) (range_with_len 0 c.min.result) + n) high
     ∙ sym (count_split (λ b. not (is_marked_used blocks b)) 0 c.min.result (c.len-count.result - 32768))

@@ -8,14 +8,14 @@ pub returns-in_default-lowest_clear : goal.returns-in_default-lowest_clear
 returns-in_default-lowest_clear g c =
     let blocks = g.B.Blocks.blocks c.args.blocks.now in
     let before : (b : ℕ) → b < 32768 → is_marked_used blocks b ≡ true =
-    λ b low. first_full blocks c.get.new.into c.min.result c.get.ensures (omega arith) c.in_default.ensures b (omega arith) in
-    second_full blocks c.get-2.new.into c.get-2.ensures c.requires.few before (λ b low. c.in_default-lowest_clear.ensures b (omega arith))
+    λ b low. first_full blocks c.block.result.now c.min.result c.block.ensures.octets (omega arith) c.in_default.ensures b (omega arith) in
+    second_full blocks c.block-2.result.now c.block-2.ensures.octets c.requires.few before (λ b low. c.in_default-lowest_clear.ensures b (omega arith))
 
 pub returns : goal.returns
 returns g c =
     let blocks = g.B.Blocks.blocks c.args.blocks.now in
     let before : (b : ℕ) → b < 32768 → is_marked_used blocks b ≡ true =
-    λ b low. first_full blocks c.get.new.into c.min.result c.get.ensures (omega arith) c.in_default.ensures b (omega arith) in
+    λ b low. first_full blocks c.block.result.now c.min.result c.block.ensures.octets (omega arith) c.in_default.ensures b (omega arith) in
     let many = ap (λ (n : ℕ). n - 32768) c.len-count.ensures.count in
-    lowest_in_second blocks c.get-2.new.into c.in-Some-lowest_clear.bit c.get-2.ensures c.requires.few before
-    (subst (λ (n : ℕ). IsLowestClear c.get-2.new.into n c.in-Some-lowest_clear.bit) many c.in-Some-lowest_clear.ensures)
+    lowest_in_second blocks c.block-2.result.now c.in-Some-lowest_clear.bit c.block-2.ensures.octets c.requires.few before
+    (subst (λ (n : ℕ). IsLowestClear c.block-2.result.now n c.in-Some-lowest_clear.bit) many c.in-Some-lowest_clear.ensures)
