@@ -9,4 +9,5 @@ pub mod Made
 pub mod Order
 pub mod Transitions
 pub mod Volumes
+pub mod Waiting
 pub mod Whole

@@ -8,7 +8,7 @@ use Rattle.model.specs.Volume.{StandsFor, laid_over}
 use Rattle.journal.specs.declared.JournalError.{JournalError}
 use Rattle.journal.specs.declared.JournalError.TheVariants.{Fault, Memory}
 use Rattle.journal.specs.declared.Next.{Next}
-use Rattle.journal.specs.declared.Next.TheVariants.{Idle}
+use Rattle.journal.specs.declared.Next.TheVariants.{Descriptor, Idle}
 
 -- a journal over a device of the type D
 pub record JournalView (D : Type 0) : Type 0 where
@@ -34,6 +34,10 @@ IsIdle journal = journal.next ≡ Idle
 
 abbrev pub IsReady : {D : Type 0} → JournalView D → Type 0
 IsReady journal = (journal.halted ≡ false) × IsIdle journal
+
+-- a journal that takes a batch
+abbrev pub begins : {D : Type 0} → JournalView D → ℕ → List ℕ → List (List ℕ) → JournalView D
+begins journal last numbers images = record journal { next = Descriptor; number = 1; last = last; numbers = numbers; images = images }
 
 -- how many device calls of the batch in flight were made
 abbrev pub calls : {D : Type 0} → JournalView D → ℕ

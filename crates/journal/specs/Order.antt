@@ -31,6 +31,15 @@ is_sync next = false
 abbrev pub at_fault : ℕ → Next → Next
 at_fault n next = if is_sync next then next else following n next
 
+-- whether the batch whose call this is still has to be committed
+abbrev pub is_to_commit : Next → Bool
+is_to_commit Descriptor = true
+is_to_commit (Image j) = true
+is_to_commit Seal = true
+is_to_commit OpenGate = true
+is_to_commit Commit = true
+is_to_commit next = false
+
 -- how many calls of the batch were made
 abbrev pub calls_made : ℕ → Next → ℕ
 calls_made n Idle = 2 * n + 7

@@ -7,3 +7,4 @@ pub mod Places
 pub mod Sorting
 pub mod Standing
 pub mod Whole
+pub mod Writing

@@ -1,6 +1,6 @@
 -- The open segments of an image, as a journal keeps them in memory.
-use Rattle.std.specs.Prelude.{◌≡◌, ◌⊎◌, ◌<◌, ℕ, List, [], ◌∷◌, if◌then◌else◌, map, nat_lt, take}
-use Rattle.model.specs.Volume.{Batch, all_laid_over, batch_in, home, laid_over, open_segments}
+use Rattle.std.specs.Prelude.{◌≡◌, ◌⊎◌, ◌<◌, ℕ, List, [], ◌∷◌, if◌then◌else◌, length, map, nat_lt, slice_index, slice_index_or, take}
+use Rattle.model.specs.Volume.{Batch, all_laid_over, batch_in, block, descriptor_place, home, home_place, image_place, laid_over, listed, number_at, open_segments}
 use Rattle.segments.specs.Images.{IsOpenIn, open_batches}
 
 -- a segment by its place, and the batch that it holds
@@ -61,3 +61,18 @@ held_at image places = map (λ s. record { place = s; batch = batch_in s image }
 
 abbrev pub held_in : List ℕ → List Held
 held_in image = sorted_held (held_at image (open_segments image))
+
+-- a block is the home of one of which one of these has an image
+abbrev pub IsHomeOfHeld : ℕ → List Held → ℕ → Type 0
+IsHomeOfHeld segments [] k = ⊥
+IsHomeOfHeld segments (h ∷ held) k =
+    ((i : ℕ) × (i < length h.batch.numbers) × (k ≡ home_place segments (slice_index h.batch.numbers i))) ⊎ IsHomeOfHeld segments held k
+
+-- a segment has this descriptor block, and these images
+pub record IsWrittenIn (s : ℕ) (descriptor : List ℕ) (images : List (List ℕ)) (image : List ℕ) : Type 0 where
+  pub descriptor_is : block (descriptor_place s) image ≡ descriptor
+  pub images_are : (i : ℕ) → i < length images → block (image_place s i) image ≡ slice_index_or images i []
+
+-- the batch that a descriptor block and images say
+abbrev pub batch_of : List ℕ → List (List ℕ) → Batch
+batch_of descriptor images = record { number = number_at 0 8 descriptor; last = number_at 8 8 descriptor; numbers = listed descriptor; images = images }

@@ -5,8 +5,8 @@
 ghost use Rattle.std.specs.Prelude.{◌≡◌, ◌≢◌, ◌⊎◌, ◌<◌, ◌≤◌, ◌+◌, ◌*◌, ◌++◌, ℕ, List, [], ◌∷◌, false, true, length, slice_index, slice_index_or};
 ghost use Rattle.std.specs.List.{All};
 ghost use Rattle.disk.specs.Image.{overwritten};
-ghost use Rattle.model.specs.Volume.{Batch, IsDescriptor, StandsFor, all_laid_over, batch_in, block, descriptor_place, gate_place, home, home_place, home_size, is_open, laid_over, segment_count};
-ghost use Rattle.segments.specs.Held.{AreOpen, HaveLess, Held, IsHomeOnTheWay, batches_of, held_in};
+ghost use Rattle.model.specs.Volume.{Batch, IsDescriptor, StandsFor, all_laid_over, batch_in, block, descriptor_place, gate_place, home, home_place, home_size, is_open, laid_over, number_at, segment_count};
+ghost use Rattle.segments.specs.Held.{AreOpen, HaveLess, Held, IsHomeOfHeld, IsHomeOnTheWay, IsWrittenIn, batch_of, batches_of, held_in};
 ghost use Rattle.segments.specs.Images.{IsCarried, IsHomeOfOpen, IsInside, IsOpenIn, SameBut, open_batches};
 
 /// What an image stands for has as many blocks as its superblock says, of 4,096 octets each; and the segments that are
@@ -23,6 +23,12 @@ pub fn a_closed_segment_is_not_read()
         → SameBut (IsInside s) old new → StandsFor new label blocks }
     ensures open { (old new label : List ℕ) (blocks : List (List ℕ)) (s : ℕ) (held : List Held) → StandsFor old label blocks → is_open s old ≡ false → s < segment_count old
         → SameBut (IsInside s) old new → AreOpen held old → AreOpen held new }
+{}
+
+/// What was written into a segment is the batch that it holds.
+pub fn a_segment_holds_what_was_written()
+    ensures { (s : ℕ) (descriptor : List ℕ) (images : List (List ℕ)) (image : List ℕ) → IsWrittenIn s descriptor images image → number_at 16 4 descriptor ≡ length images
+        → batch_in s image ≡ batch_of descriptor images }
 {}
 
 /// The batch with the greatest number is laid over last, whatever its place. So a crash while its gate is opened leaves the
@@ -43,6 +49,7 @@ pub fn an_opened_gate_lays_its_batch_last()
 pub fn torn_homes_are_laid_over()
     ensures stands { (old new label : List ℕ) (blocks : List (List ℕ)) → StandsFor old label blocks → SameBut (IsHomeOfOpen old) old new → StandsFor new label blocks }
     ensures open { (old new label : List ℕ) (blocks : List (List ℕ)) (held : List Held) → StandsFor old label blocks → SameBut (IsHomeOfOpen old) old new → AreOpen held old → AreOpen held new }
+    ensures held { (old new label : List ℕ) (blocks : List (List ℕ)) (held : List Held) → StandsFor old label blocks → AreOpen held old → SameBut (IsHomeOfHeld (segment_count old) held) old new → StandsFor new label blocks }
 {}
 
 /// A home write carries one image more of the batch that is next, and after its last image the batch is done.

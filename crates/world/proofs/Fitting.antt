@@ -22,7 +22,8 @@ use Rattle.served.specs.Served.{Sent, ServedView, IsServed, IsSession, account, 
 use Rattle.served.proofs.Lawful.{lawful}
 use Rattle.world.specs.World.{WorldView, kernel_of}
 use Rattle.world.specs.Images.{Fits, IsSynchronous, MayBeLeft}
-use Rattle.world.specs.Tied.{IsTied, IsWorld, LieBehind, Phase, Quiet, Flying, IsToBeTold, is_to_commit}
+use Rattle.journal.specs.Order.{is_to_commit}
+use Rattle.world.specs.Tied.{IsTied, IsWorld, LieBehind, Phase, Quiet, Flying, IsToBeTold}
 
 -- what was released to a session, also to one that never joined
 released_of : (host : Octets) (durable : ℕ) (sent : Option Sent) (seat : Option Seat) (connection : Connection Session) (outputs : List Output) → IsSession host durable sent seat connection outputs → IsReleased durable (unwrap_or sent nobody).released outputs

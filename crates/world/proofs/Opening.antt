@@ -24,7 +24,8 @@ use Rattle.served.specs.Served.{ServedView}
 use Rattle.world.specs.Fields.{IsSound}
 use Rattle.world.specs.Images.{IsDamagedVolume, IsNoNewsVolume, KeepsSpools, StandsForNone}
 use Rattle.world.specs.Opening.{IsNew, open_error}
-use Rattle.world.specs.Tied.{AreFaults, IsQuiet, Quiet, is_to_commit}
+use Rattle.journal.specs.Order.{is_to_commit}
+use Rattle.world.specs.Tied.{AreFaults, IsQuiet, Quiet}
 
 -- a volume's label and blocks are those of its image
 same_volume : (host image other its_label : Octets) (blocks : List Octets) (S : Spool) → StandsFor image its_label blocks → StandsFor other its_label blocks → Stands host image S → Stands host other S

@@ -1,21 +1,20 @@
 -- What a crash at some moment of an event might have left.
-use Rattle.std.proofs.Common.{◌≡◌, ◌⊎◌, inl, inr, ⊎_elim, ℕ, ◌≤◌, Bool, true, false, length, Option, Some, None, refl, ap, sym, ◌∙◌, subst, arith}
+use Rattle.std.proofs.Common.{◌≡◌, ◌≢◌, ◌⊎◌, inl, inr, ⊎_elim, ℕ, ◌≤◌, Bool, true, false, Option, Some, None, refl, ap, sym, ◌∙◌, subst, arith}
 use Rattle.std.specs.Prelude.{IsTrue, IfErr, MatchResult, Result, Ok, Err}
 use Rattle.disk.specs.Device.{Device, Elapses}
 use Rattle.journal.specs.Calls.{IsRetried, MakesCall, OnMade, OnRetried}
-use Rattle.journal.specs.Journal.{Admits, IsReady, JournalView, LeftAdmitted}
+use Rattle.journal.specs.Journal.{Admits, JournalView, LeftAdmitted}
 use Rattle.journal.specs.declared.JournalError.{JournalError}
-use Rattle.journal.specs.declared.Next.{Next}
+use Rattle.journal.proofs.Waiting.{idle_or_flies}
 use Rattle.journal.specs.declared.Next.TheVariants as next
 use Rattle.journal.specs.declared.Progress.{Progress}
 use Rattle.kernel.specs.Kernel.{Refusal, TestedOrMemory, has_batch, join_refusal, mode_at}
 use Rattle.model.specs.Stream.{Octets}
 use Rattle.model.specs.declared.message.Message.{Message}
 use Rattle.model.specs.declared.message.Mode.{Mode}
-use Rattle.served.specs.Events.{arrive_refusal, arrives, joins}
+use Rattle.served.specs.Events.{arrive_refusal}
 use Rattle.served.specs.Served.{ServedView, arrived_at, first_spool, next_of, released_at}
-use Rattle.world.specs.Events.{Did, DidDev, DidExec, DidTake, dev_answer, of_kernel}
-use Rattle.world.specs.declared.events.Answer.TheVariants as answer
+use Rattle.world.specs.Events.{Did, DidDev, DidExec, DidTake, of_kernel}
 use Rattle.journal.specs.declared.JournalError.TheVariants as journal
 use Rattle.world.specs.Images.{EachSince, Fits, IsSynchronous, LeftFits, MayBeLeft}
 use Rattle.world.specs.Tied.{IsWorld}
@@ -64,32 +63,21 @@ module _ {D : Type 0} (device : D → Device) (old new : WorldView D) where
   left_exec number moment (Some mode) (Some found) (Err e) d = by_world d.1
 
   left_take : (r : Result Answer StepError) → DidTake old r new → Left
-  left_take r d = go old.journal.halted refl old.journal.next refl (has_batch (kernel_of old)) refl
+  left_take r d = go old.journal.halted refl (idle_or_flies old.journal.next) (has_batch (kernel_of old)) refl
     where
       begins : old.journal.halted ≡ false → old.journal.next ≡ next.Idle → has_batch (kernel_of old) ≡ true → Left
       begins runs idle has = same_disk (ap (λ (w : WorldView D). w.journal.disk) (d.takes (runs, idle) has).1)
 
-      busy : (call : Next) → old.journal.next ≡ call → (next.Idle ≡ call → ⊥) → Left
-      busy call at differs = by_world (d.stays (λ ready has. differs (sym ready.1 ∙ at))).1
-
-      go : (halted : Bool) → old.journal.halted ≡ halted → (call : Next) → old.journal.next ≡ call → (has : Bool) → has_batch (kernel_of old) ≡ has → Left
-      go true is call at has is_there = by_world (d.stays (λ ready b. absurd (let both : true ≡ false = sym is ∙ ready.0 in cc))).1
-      go false is call at false is_there = by_world (d.stays (λ ready b. absurd (let both : false ≡ true = sym is_there ∙ b in cc))).1
-      go false is next.Idle at true is_there = begins is at is_there
-      go false is next.Descriptor at true is_there = busy next.Descriptor at (λ e. absurd (cc e))
-      go false is (next.Image j) at true is_there = busy (next.Image j) at (λ e. absurd (cc e))
-      go false is next.Seal at true is_there = busy next.Seal at (λ e. absurd (cc e))
-      go false is next.OpenGate at true is_there = busy next.OpenGate at (λ e. absurd (cc e))
-      go false is next.Commit at true is_there = busy next.Commit at (λ e. absurd (cc e))
-      go false is (next.Home j) at true is_there = busy (next.Home j) at (λ e. absurd (cc e))
-      go false is next.Settle at true is_there = busy next.Settle at (λ e. absurd (cc e))
-      go false is next.CloseGate at true is_there = busy next.CloseGate at (λ e. absurd (cc e))
-      go false is next.Finish at true is_there = busy next.Finish at (λ e. absurd (cc e))
+      go : (halted : Bool) → old.journal.halted ≡ halted → (old.journal.next ≡ next.Idle) ⊎ (old.journal.next ≢ next.Idle) → (has : Bool) → has_batch (kernel_of old) ≡ has → Left
+      go true is at has is_there = by_world (d.stays (λ ready b. absurd (let both : true ≡ false = sym is ∙ ready.0 in cc))).1
+      go false is at false is_there = by_world (d.stays (λ ready b. absurd (let both : false ≡ true = sym is_there ∙ b in cc))).1
+      go false is (inl idle) true is_there = begins is idle is_there
+      go false is (inr flies) true is_there = by_world (d.stays (λ ready has. flies ready.1)).1
 
   -- a device call
   left_dev : (r : Result Answer StepError) → IsWorld device new → DidDev device old r new → Left
   unfolding Left FitsAt
-  left_dev r h d = go old.journal.halted refl old.journal.next refl
+  left_dev r h d = go old.journal.halted refl (idle_or_flies old.journal.next)
     where
       same : new.journal ≡ old.journal → Left
       same is = same_disk (ap (λ (j : JournalView D). j.disk) is)
@@ -110,18 +98,10 @@ module _ {D : Type 0} (device : D → Device) (old new : WorldView D) where
       calls : old.journal.halted ≡ false → (old.journal.next ≡ next.Idle → ⊥) → Left
       calls runs busy = by_answer d.answered (d.steps.call runs busy) (d.steps.retried runs busy) (d.steps.no_other runs)
 
-      go : (halted : Bool) → old.journal.halted ≡ halted → (call : Next) → old.journal.next ≡ call → Left
-      go true is call at = same (d.steps.halted is).1
-      go false is next.Idle at = same (d.steps.idle is at).1
-      go false is next.Descriptor at = calls is (λ e. absurd (let both : next.Idle ≡ next.Descriptor = sym e ∙ at in cc))
-      go false is (next.Image j) at = calls is (λ e. absurd (let both : next.Idle ≡ next.Image j = sym e ∙ at in cc))
-      go false is next.Seal at = calls is (λ e. absurd (let both : next.Idle ≡ next.Seal = sym e ∙ at in cc))
-      go false is next.OpenGate at = calls is (λ e. absurd (let both : next.Idle ≡ next.OpenGate = sym e ∙ at in cc))
-      go false is next.Commit at = calls is (λ e. absurd (let both : next.Idle ≡ next.Commit = sym e ∙ at in cc))
-      go false is (next.Home j) at = calls is (λ e. absurd (let both : next.Idle ≡ next.Home j = sym e ∙ at in cc))
-      go false is next.Settle at = calls is (λ e. absurd (let both : next.Idle ≡ next.Settle = sym e ∙ at in cc))
-      go false is next.CloseGate at = calls is (λ e. absurd (let both : next.Idle ≡ next.CloseGate = sym e ∙ at in cc))
-      go false is next.Finish at = calls is (λ e. absurd (let both : next.Idle ≡ next.Finish = sym e ∙ at in cc))
+      go : (halted : Bool) → old.journal.halted ≡ halted → (old.journal.next ≡ next.Idle) ⊎ (old.journal.next ≢ next.Idle) → Left
+      go true is at = same (d.steps.halted is).1
+      go false is (inl idle) = same (d.steps.idle is idle).1
+      go false is (inr flies) = calls is flies
 
   left_release : (r : Result Answer StepError) (P : Answer → Type 0) → ((a : Answer) → P a → Left) → MatchResult r P (λ e. (e ≡ error.Memory) × (new ≡ old)) → Left
   left_release (Ok a) P f h = f a h

@@ -3,10 +3,10 @@ use Rattle.std.proofs.Common.{◌≡◌, ◌≢◌, ◌⊎◌, inl, inr, ⊎_eli
 use Rattle.std.proofs.lemmas.List.{append-nil}
 use Rattle.disk.specs.Device.{Device}
 use Rattle.journal.specs.Calls.{MakesCall, OnMade}
-use Rattle.journal.specs.Order.{answer as journal_answer}
+use Rattle.journal.specs.Order.{is_to_commit, answer as journal_answer}
 use Rattle.journal.specs.declared.JournalError.{JournalError}
 use Rattle.journal.specs.declared.JournalError.TheVariants as journal
-use Rattle.journal.specs.declared.Next.{Next}
+use Rattle.journal.proofs.Waiting.{committed_at}
 use Rattle.journal.specs.declared.Next.TheVariants as next
 use Rattle.journal.specs.declared.Progress.{Progress}
 use Rattle.journal.specs.declared.Progress.TheVariants as progress
@@ -31,7 +31,7 @@ use Rattle.served.specs.Events.{DidExec as ServedExec, releases, with_kernel}
 use Rattle.served.specs.Served.{ServedView}
 use Rattle.world.specs.Events.{DidExec, Steps, begun, commits, exec_answer, fails, news_of, of_exec_error, of_kernel, told}
 use Rattle.world.specs.Fields.{IsSound, durable_news, failed_news, news_in}
-use Rattle.world.specs.Tied.{AreFaults, IsTied, Phase, Quiet, Flying, IsToBeTold, is_to_commit}
+use Rattle.world.specs.Tied.{AreFaults, IsTied, Phase, Quiet, Flying, IsToBeTold}
 use Rattle.world.specs.World.{IsDurable, HasFailed, News, WorldView, kernel_of, with_served}
 use Rattle.world.proofs.Tying.{Grows, Grows-executed, Grows-refl, IsTied-grows, IsTied-steps, IsTied-takes, IsTied-told_durable, IsTied-told_failed, batch_parts}
 
@@ -168,18 +168,6 @@ not_failed (Some t) false true is =
 not_failed (Some t) true true is =
     ⊎_elim (λ (e : IsDurable t.last ∷ HasFailed ∷ [] ≡ []). absurd (cc e)) (λ (e : (last : ℕ) × (IsDurable t.last ∷ HasFailed ∷ [] ≡ IsDurable last ∷ [])). absurd (let f = e.1 in cc f)) is
 
-commit_is : (last l : ℕ) (call : Next) → Committed last ≡ journal_answer l call → (call ≡ next.Commit) × (last ≡ l)
-commit_is last l next.Idle is = absurd (cc is)
-commit_is last l next.Descriptor is = absurd (cc is)
-commit_is last l (next.Image j) is = absurd (cc is)
-commit_is last l next.Seal is = absurd (cc is)
-commit_is last l next.OpenGate is = absurd (cc is)
-commit_is last l next.Commit is = (refl, cc is)
-commit_is last l (next.Home j) is = absurd (cc is)
-commit_is last l next.Settle is = absurd (cc is)
-commit_is last l next.CloseGate is = absurd (cc is)
-commit_is last l next.Finish is = absurd (cc is)
-
 -- the batch of a commit has its ticket, and nothing is untold
 committed_news : (ticket : Option Ticket) (committed failed : Bool) (last : ℕ) → option_map (λ (t : Ticket). t.last) ticket ≡ Some last → news_in ticket committed failed ≡ [] → news_in ticket (committed || true) (failed || false) ≡ news_in ticket committed failed ++ IsDurable last ∷ []
 committed_news None committed failed last is none = absurd (cc is)
@@ -207,7 +195,7 @@ dev_news {D} device old new ticket committed failed answered is s h = go answere
         call = subst (λ r. OnMade r (MakesCall device old.journal new answered)) e (s.call runs (λ idle. absurd (let both : Ok (progress.Committed last) ≡ Ok progress.Idle = sym e ∙ (s.idle runs idle).0 in cc)))
 
         at : (old.journal.next ≡ next.Commit) × (last ≡ old.journal.last)
-        at = commit_is last old.journal.last old.journal.next (answers answered e call.answers)
+        at = committed_at last old.journal.last old.journal.next (answers answered e call.answers)
           where
             answers : (a : Result Progress JournalError) → a ≡ Ok (progress.Committed last) → IfOk a (λ p. p ≡ journal_answer old.journal.last old.journal.next) → progress.Committed last ≡ journal_answer old.journal.last old.journal.next
             answers (Ok p) f g = let same : p ≡ progress.Committed last = cc f in sym same ∙ g

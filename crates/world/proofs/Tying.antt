@@ -1,18 +1,19 @@
 -- Each event keeps the tie between journal and kernel.
-use Rattle.std.proofs.Common.{◌≡◌, ◌⊎◌, inl, inr, ⊎_elim, ℕ, ◌+◌, ◌≤◌, ◌<◌, ◌==◌, Bool, true, false, List, [], ◌∷◌, ◌++◌, length, take, Option, Some, None, refl, ap, sym, ◌∙◌, subst, arith}
-use Rattle.std.specs.Prelude.{bytes_eq, slice_index_or, not, ◌||◌, is_some, IfErr, IsTrue, map, if◌then◌else◌, Result, Ok, Err}
+use Rattle.std.proofs.Common.{◌≡◌, ◌≢◌, ◌⊎◌, inl, inr, ⊎_elim, ℕ, ◌≤◌, ◌<◌, ◌==◌, Bool, true, false, List, [], ◌∷◌, ◌++◌, length, take, Option, Some, None, refl, ap, sym, ◌∙◌, subst, arith}
+use Rattle.std.specs.Prelude.{bytes_eq, slice_index_or, not, ◌||◌, is_some, IfErr, IsTrue, map, Result, Ok, Err}
 use Rattle.std.specs.Option.{option_to_list}
 use Rattle.std.proofs.lemmas.List.{append-nil, take-append-le, take_all}
 use Rattle.std.proofs.lemmas.Slice.Eq.{bytes_eq-Decides}
 use Rattle.disk.specs.Device.{Device}
 use Rattle.journal.specs.Calls.{IsRetried, MakesCall, OnMade, OnRetried, blocks_after}
 use Rattle.journal.specs.Journal.{JournalView, IsReady, IsSameBatch, with_batch}
-use Rattle.journal.specs.Order.{answer, at_fault, following}
+use Rattle.journal.specs.Order.{is_to_commit, answer, at_fault, following}
 use Rattle.journal.specs.declared.JournalError.{JournalError}
 use Rattle.journal.specs.declared.JournalError.TheVariants.{Fault, Memory}
 use Rattle.journal.specs.declared.Next.{Next}
 use Rattle.journal.specs.declared.Next.TheVariants as next
 use Rattle.journal.specs.declared.Progress.{Progress}
+use Rattle.journal.specs.declared.Progress.TheVariants.{Working}
 use Rattle.kernel.specs.Kernel.{KernelView, Seat, AgreesBehind, Dirties, Executed, Administers, has_batch, halted_for_good, is_dirty, made_durable, taken}
 use Rattle.kernel.specs.Kept.{IsKept}
 use Rattle.model.specs.Layout.{IsLabel}
@@ -27,8 +28,9 @@ use Rattle.served.specs.Served.{ServedView}
 use Rattle.served.specs.Events.{with_kernel}
 use Rattle.world.specs.World.{News, IsDurable, HasFailed, WorldView, kernel_of, with_served}
 use Rattle.world.specs.Events.{begun, news_of, Steps}
-use Rattle.world.specs.Tied.{AreFaults, IsTied, IsQuiet, IsFlying, LieBehind, Phase, Quiet, Flying, IsToBeTold, is_to_commit}
+use Rattle.world.specs.Tied.{AreFaults, IsTied, IsQuiet, IsFlying, LieBehind, Phase, Quiet, Flying, IsToBeTold}
 use Rattle.world.proofs.Fitting.{flying_last}
+use Rattle.journal.proofs.Waiting.{idle_or_flies, past_answer, past_at_fault, past_commit, past_following, waits_at_fault, waits_or_commits}
 
 -- ---- the kernel accepts more
 
@@ -206,92 +208,9 @@ IsTied-takes {D} tells world kept ready has lays h = record { label = h.label; s
 
 -- ---- Dev
 
--- after the commit, each call stays after it
-past_following : (n : ℕ) (call : Next) → is_to_commit call ≡ false → is_to_commit (following n call) ≡ false
-past_following n next.Idle is = refl
-past_following n next.Descriptor is = absurd (cc is)
-past_following n (next.Image j) is = absurd (cc is)
-past_following n next.Seal is = absurd (cc is)
-past_following n next.OpenGate is = absurd (cc is)
-past_following n next.Commit is = absurd (cc is)
-past_following n (next.Home j) is = go (j + 1 == n)
-  where
-    go : (b : Bool) → is_to_commit (if b then next.Settle else next.Home (j + 1)) ≡ false
-    go true = refl
-    go false = refl
-past_following n next.Settle is = refl
-past_following n next.CloseGate is = refl
-past_following n next.Finish is = refl
-
-past_at_fault : (n : ℕ) (call : Next) → is_to_commit call ≡ false → is_to_commit (at_fault n call) ≡ false
-past_at_fault n next.Idle is = refl
-past_at_fault n next.Descriptor is = absurd (cc is)
-past_at_fault n (next.Image j) is = absurd (cc is)
-past_at_fault n next.Seal is = absurd (cc is)
-past_at_fault n next.OpenGate is = absurd (cc is)
-past_at_fault n next.Commit is = absurd (cc is)
-past_at_fault n (next.Home j) is = past_following n (next.Home j) is
-past_at_fault n next.Settle is = refl
-past_at_fault n next.CloseGate is = refl
-past_at_fault n next.Finish is = refl
-
--- such a call commits nothing
-past_news : (last : ℕ) (call : Next) → is_to_commit call ≡ false → news_of (Ok (answer last call)) ≡ []
-past_news last next.Idle is = refl
-past_news last next.Descriptor is = refl
-past_news last (next.Image j) is = refl
-past_news last next.Seal is = refl
-past_news last next.OpenGate is = refl
-past_news last next.Commit is = absurd (cc is)
-past_news last (next.Home j) is = refl
-past_news last next.Settle is = refl
-past_news last next.CloseGate is = refl
-past_news last next.Finish is = refl
-
-past_blocks : {D : Type 0} (journal : JournalView D) (call : Next) → is_to_commit call ≡ false → blocks_after journal (answer journal.last call) ≡ journal.blocks
-past_blocks journal next.Idle is = refl
-past_blocks journal next.Descriptor is = refl
-past_blocks journal (next.Image j) is = refl
-past_blocks journal next.Seal is = refl
-past_blocks journal next.OpenGate is = refl
-past_blocks journal next.Commit is = absurd (cc is)
-past_blocks journal (next.Home j) is = refl
-past_blocks journal next.Settle is = refl
-past_blocks journal next.CloseGate is = refl
-past_blocks journal next.Finish is = refl
-
--- before it, a call commits, or the batch waits on
-WaitsOn : {D : Type 0} → JournalView D → ℕ → Next → Type 0
-WaitsOn journal n call = (is_to_commit (following n call) ≡ true) × ((last : ℕ) → news_of (Ok (answer last call)) ≡ []) × (blocks_after journal (answer journal.last call) ≡ journal.blocks)
-
-image_waits : {D : Type 0} (journal : JournalView D) (n j : ℕ) (b : Bool) → is_to_commit (if b then next.Seal else next.Image (j + 1)) ≡ true
-image_waits journal n j true = refl
-image_waits journal n j false = refl
-
-waits_or_commits : {D : Type 0} (journal : JournalView D) (n : ℕ) (call : Next) → is_to_commit call ≡ true → (call ≡ next.Commit) ⊎ WaitsOn journal n call
-unfolding WaitsOn
-waits_or_commits journal n next.Idle is = absurd (cc is)
-waits_or_commits journal n next.Descriptor is = inr (refl, λ last. refl, refl)
-waits_or_commits journal n (next.Image j) is = inr (image_waits journal n j (j + 1 == n), λ last. refl, refl)
-waits_or_commits journal n next.Seal is = inr (refl, λ last. refl, refl)
-waits_or_commits journal n next.OpenGate is = inr (refl, λ last. refl, refl)
-waits_or_commits journal n next.Commit is = inl refl
-waits_or_commits journal n (next.Home j) is = absurd (cc is)
-waits_or_commits journal n next.Settle is = absurd (cc is)
-waits_or_commits journal n next.CloseGate is = absurd (cc is)
-waits_or_commits journal n next.Finish is = absurd (cc is)
-
-waits_at_fault : {D : Type 0} (journal : JournalView D) (n : ℕ) (call : Next) → is_to_commit call ≡ true → is_to_commit (at_fault n call) ≡ true
-waits_at_fault journal n next.Idle is = absurd (cc is)
-waits_at_fault journal n next.Descriptor is = refl
-waits_at_fault journal n (next.Image j) is = image_waits journal n j (j + 1 == n)
-waits_at_fault journal n next.Seal is = refl
-waits_at_fault journal n next.OpenGate is = refl
-waits_at_fault journal n next.Commit is = refl
-waits_at_fault journal n (next.Home j) is = absurd (cc is)
-waits_at_fault journal n next.Settle is = absurd (cc is)
-waits_at_fault journal n next.CloseGate is = absurd (cc is)
-waits_at_fault journal n next.Finish is = absurd (cc is)
+-- before the commit a batch waits on
+abbrev WaitsOn : ℕ → Next → Type 0
+WaitsOn n call = (is_to_commit (following n call) ≡ true) × ((last : ℕ) → answer last call ≡ Working)
 
 -- what a call leaves of what the tie speaks of
 module _ {D : Type 0} (tells : Bool) (old new : JournalView D) (kernel : KernelView) (runs : old.halted ≡ false) where
@@ -347,7 +266,7 @@ module _ {D : Type 0} (tells : Bool) (old new : JournalView D) (kernel : KernelV
   phase_faulted untold n call halted last_is numbers images same (Quiet q) =
       Quiet (record { none = q.none; past = ap is_to_commit call ∙ past_at_fault n old.next q.past; blocks = lies_on kernel.durable same q.blocks; faults = faulted kernel.halted untold q.faults halted })
   phase_faulted untold n call halted last_is numbers images same (Flying last f) =
-      Flying last (flies_on last untold (untold ++ HasFailed ∷ []) f last_is numbers images same (ap is_to_commit call ∙ waits_at_fault old n old.next f.waits) (faulted kernel.halted untold f.faults halted))
+      Flying last (flies_on last untold (untold ++ HasFailed ∷ []) f last_is numbers images same (ap is_to_commit call ∙ waits_at_fault n old.next f.waits) (faulted kernel.halted untold f.faults halted))
   phase_faulted untold n call halted last_is numbers images same (IsToBeTold last c) =
       IsToBeTold last (record {
         flies = c.flies;
@@ -379,13 +298,12 @@ module _ {D : Type 0} (tells : Bool) (old new : JournalView D) (kernel : KernelV
   -- a call that went well
   phase_went : (untold : List News) (n : ℕ) → new.next ≡ following n old.next → new.halted ≡ false → new.last ≡ old.last → new.numbers ≡ old.numbers → new.images ≡ old.images → (IsTrue tells → new.blocks ≡ blocks_after old (answer old.last old.next))
       → Phase tells old kernel untold → Phase tells new kernel (untold ++ news_of (Ok (answer old.last old.next)))
-  unfolding WaitsOn
   phase_went untold n call halted last_is numbers images blocks phase = go (is_to_commit old.next) refl
     where
       goes_past : is_to_commit old.next ≡ false → Phase tells new kernel (untold ++ news_of (Ok (answer old.last old.next)))
       goes_past was =
-          subst (Phase tells new kernel) (sym (ap (λ xs. untold ++ xs) (past_news old.last old.next was) ∙ append-nil untold))
-          (phase_past untold (ap is_to_commit call ∙ past_following n old.next was) halted (λ t. blocks t ∙ past_blocks old old.next was) was phase)
+          subst (Phase tells new kernel) (sym (ap (λ xs. untold ++ xs) (past_answer (λ p. news_of (Ok p) ≡ []) old.last old.next refl refl was) ∙ append-nil untold))
+          (phase_past untold (ap is_to_commit call ∙ past_following n old.next was) halted (λ t. blocks t ∙ past_answer (λ p. blocks_after old p ≡ old.blocks) old.last old.next refl refl was) was phase)
 
       commits : old.next ≡ next.Commit → Phase tells old kernel untold → Phase tells new kernel (untold ++ news_of (Ok (answer old.last old.next)))
       commits is (Quiet q) = absurd (let both : true ≡ false = sym (ap is_to_commit is) ∙ q.past in cc)
@@ -394,7 +312,7 @@ module _ {D : Type 0} (tells : Bool) (old new : JournalView D) (kernel : KernelV
           let quiet = no_faults kernel.halted untold f.faults in
           IsToBeTold last (record {
             flies = f.flies;
-            past = ap is_to_commit (call ∙ ap (following n) is);
+            past = ap is_to_commit (call ∙ ap (following n) is) ∙ past_commit n;
             blocks = λ t. subst (λ blocks. LieBehind kernel blocks last) (sym (blocks t ∙ ap (λ (c : Next). blocks_after old (answer old.last c)) is)) (f.after t);
             running = quiet.0;
             later = [];
@@ -402,16 +320,16 @@ module _ {D : Type 0} (tells : Bool) (old new : JournalView D) (kernel : KernelV
             faults = subst (λ b. AreFaults b false []) (sym halted) (refl, refl);
           })
 
-      waits_on : WaitsOn old n old.next → Phase tells old kernel untold → is_to_commit old.next ≡ true → Phase tells new kernel (untold ++ news_of (Ok (answer old.last old.next)))
+      waits_on : WaitsOn n old.next → Phase tells old kernel untold → is_to_commit old.next ≡ true → Phase tells new kernel (untold ++ news_of (Ok (answer old.last old.next)))
       waits_on w (Quiet q) was = absurd (let both : true ≡ false = sym was ∙ q.past in cc)
       waits_on w (IsToBeTold last c) was = absurd (let both : true ≡ false = sym was ∙ c.past in cc)
       waits_on w (Flying last f) was =
-          subst (Phase tells new kernel) (sym (ap (λ xs. untold ++ xs) (w.1 old.last) ∙ append-nil untold))
-          (Flying last (flies_on last untold untold f last_is numbers images (λ t. blocks t ∙ w.2) (ap is_to_commit call ∙ w.0) (subst (λ b. AreFaults b kernel.halted untold) (runs ∙ sym halted) f.faults)))
+          subst (Phase tells new kernel) (sym (ap (λ xs. untold ++ xs) (ap (λ p. news_of (Ok p)) (w.1 old.last)) ∙ append-nil untold))
+          (Flying last (flies_on last untold untold f last_is numbers images (λ t. blocks t ∙ ap (blocks_after old) (w.1 old.last)) (ap is_to_commit call ∙ w.0) (subst (λ b. AreFaults b kernel.halted untold) (runs ∙ sym halted) f.faults)))
 
       go : (b : Bool) → is_to_commit old.next ≡ b → Phase tells new kernel (untold ++ news_of (Ok (answer old.last old.next)))
       go false was = goes_past was
-      go true was = ⊎_elim (λ (is : old.next ≡ next.Commit). commits is phase) (λ (w : WaitsOn old n old.next). waits_on w phase was) (waits_or_commits old n old.next was)
+      go true was = ⊎_elim (λ (is : old.next ≡ next.Commit). commits is phase) (λ (w : WaitsOn n old.next). waits_on w phase was) (waits_or_commits n old.next was)
 
 -- one call of a batch in flight
 phase_calls : {D : Type 0} (device : D → Device) (tells : Bool) (old new : JournalView D) (kernel : KernelView) (untold : List News) (answered : Result Progress JournalError) → tells ≡ (device old.disk).tells → old.halted ≡ false
@@ -441,7 +359,7 @@ step_same device old new (Err error) made retried (inr is) = ((retried is).same,
 -- what a step leaves: a device that tells as before, and the tie
 pub IsTied-steps : {D : Type 0} (device : D → Device) (world : WorldView D) (new : JournalView D) (answered : Result Progress JournalError) → Steps device world.journal answered new → IsTied (device world.journal.disk).tells world
     → IsTied (device new.disk).tells (record { journal = new; served = world.served; untold = world.untold ++ news_of answered })
-IsTied-steps {D} device world new answered s h = go world.journal.halted refl world.journal.next refl
+IsTied-steps {D} device world new answered s h = go world.journal.halted refl (idle_or_flies world.journal.next)
   where
     kernel : KernelView
     kernel = kernel_of world
@@ -470,21 +388,10 @@ IsTied-steps {D} device world new answered s h = go world.journal.halted refl wo
     idles : old.halted ≡ false → old.next ≡ next.Idle → Goal
     idles runs is = let i = s.idle runs is in nothing i.1 (ap news_of i.0)
 
-    calls : old.halted ≡ false → (old.next ≡ next.Idle → ⊥) → Goal
-    calls runs not_idle = called runs not_idle
-
-    go : (halted : Bool) → old.halted ≡ halted → (call : Next) → old.next ≡ call → Goal
-    go true is call at = let stays = s.halted is in nothing stays.1 (ap news_of stays.0)
-    go false is next.Idle at = idles is at
-    go false is next.Descriptor at = calls is (λ e. absurd (let both : next.Idle ≡ next.Descriptor = sym e ∙ at in cc))
-    go false is (next.Image j) at = calls is (λ e. absurd (let both : next.Idle ≡ next.Image j = sym e ∙ at in cc))
-    go false is next.Seal at = calls is (λ e. absurd (let both : next.Idle ≡ next.Seal = sym e ∙ at in cc))
-    go false is next.OpenGate at = calls is (λ e. absurd (let both : next.Idle ≡ next.OpenGate = sym e ∙ at in cc))
-    go false is next.Commit at = calls is (λ e. absurd (let both : next.Idle ≡ next.Commit = sym e ∙ at in cc))
-    go false is (next.Home j) at = calls is (λ e. absurd (let both : next.Idle ≡ next.Home j = sym e ∙ at in cc))
-    go false is next.Settle at = calls is (λ e. absurd (let both : next.Idle ≡ next.Settle = sym e ∙ at in cc))
-    go false is next.CloseGate at = calls is (λ e. absurd (let both : next.Idle ≡ next.CloseGate = sym e ∙ at in cc))
-    go false is next.Finish at = calls is (λ e. absurd (let both : next.Idle ≡ next.Finish = sym e ∙ at in cc))
+    go : (halted : Bool) → old.halted ≡ halted → (old.next ≡ next.Idle) ⊎ (old.next ≢ next.Idle) → Goal
+    go true is at = let stays = s.halted is in nothing stays.1 (ap news_of stays.0)
+    go false is (inl idle) = idles is idle
+    go false is (inr flies) = called is flies
 
 -- ---- Told
 

@@ -5,10 +5,9 @@ use Rattle.model.specs.Lawful.{is_description_octet}
 use Rattle.std.specs.Prelude.{◌⊎◌, ◌<◌, ◌≤◌, IsTrue, ◌≡◌, ◌≢◌, ℕ, ◌+◌, Bool, true, false, List, [], ◌∷◌, ◌++◌, length, drop, map, slice_index_or, Option, Some, None, Result, Ok, Err, IfErr, MatchResult, slice_get, take}
 use Rattle.disk.specs.Device.{Device}
 use Rattle.journal.specs.Calls.{IsRetried, MakesCall, OnMade, OnRetried}
-use Rattle.journal.specs.Journal.{IsIdle, IsReady, JournalView}
+use Rattle.journal.specs.Journal.{begins, IsIdle, IsReady, JournalView}
 use Rattle.journal.specs.declared.JournalError.{JournalError}
 use Rattle.journal.specs.declared.JournalError.TheVariants as journal
-use Rattle.journal.specs.declared.Next.TheVariants.{Descriptor}
 use Rattle.journal.specs.declared.Progress.{Progress}
 use Rattle.journal.specs.declared.Progress.TheVariants as progress
 use Rattle.kernel.specs.Kernel.{KernelView, Refusal, Tested, TestedOrMemory, admin_refusal_of, early_refusal, exec_refusal, halted_for_good, has_batch, join_refusal, made_durable, mode_at, taken}
@@ -59,8 +58,7 @@ DidExec old number moment (Some mode) (Some found) result new =
 
 -- the journal with the kernel's dirty blocks as its batch
 abbrev pub begun : {D : Type 0} → JournalView D → KernelView → JournalView D
-begun journal kernel =
-    record journal { next = Descriptor; number = 1; last = length kernel.spool; numbers = kernel.dirty; images = map (λ n. slice_index_or kernel.blocks n []) kernel.dirty }
+begun journal kernel = begins journal (length kernel.spool) kernel.dirty (map (λ n. slice_index_or kernel.blocks n []) kernel.dirty)
 
 -- a batch begins exactly where the journal is idle, and not halted, and the kernel has one
 pub record DidTake {D : Type 0} (old : WorldView D) (result : Result Answer StepError) (new : WorldView D) : Type 0 where

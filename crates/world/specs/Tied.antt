@@ -2,8 +2,7 @@
 use Rattle.std.specs.Prelude.{◌≡◌, ℕ, Bool, true, false, IsTrue, List, [], ◌∷◌, length, take, Some, None}
 use Rattle.disk.specs.Device.{Device}
 use Rattle.journal.specs.Journal.{JournalView, LeavesAdmitted, with_batch}
-use Rattle.journal.specs.declared.Next.{Next}
-use Rattle.journal.specs.declared.Next.TheVariants.{Descriptor, Image, Seal, OpenGate, Commit}
+use Rattle.journal.specs.Order.{is_to_commit}
 use Rattle.kernel.specs.Kernel.{KernelView, AgreesBehind}
 use Rattle.kernel.specs.Kept.{IsKept}
 use Rattle.model.specs.Stream.{Octets}
@@ -11,15 +10,6 @@ use Rattle.model.specs.Layout.{IsLabel}
 use Rattle.model.specs.News.{Holds}
 use Rattle.served.specs.Served.{FollowsPlain, IsServed}
 use Rattle.world.specs.World.{News, IsDurable, HasFailed, WorldView, kernel_of}
-
--- whether the batch whose call this is still has to be committed
-abbrev pub is_to_commit : Next → Bool
-is_to_commit Descriptor = true
-is_to_commit (Image j) = true
-is_to_commit Seal = true
-is_to_commit OpenGate = true
-is_to_commit Commit = true
-is_to_commit next = false
 
 -- blocks that hold the first p changes, and are the cached ones but for the dirty ones
 pub record LieBehind (kernel : KernelView) (blocks : List Octets) (p : ℕ) : Type 0 where

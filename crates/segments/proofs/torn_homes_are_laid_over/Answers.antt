@@ -1,4 +1,5 @@
 use Rattle.segments.proofs.Standing.{torn, torn_open}
+use Rattle.segments.proofs.Writing.{torn_held}
 use Rattle.segments.proofs.torn_homes_are_laid_over.Goals as goal
 
 pub returns-clause-stands : goal.returns-clause-stands
@@ -6,3 +7,6 @@ returns-clause-stands c old new label blocks stands same = torn old new label bl
 
 pub returns-clause-open : goal.returns-clause-open
 returns-clause-open c old new label blocks held stands same are = torn_open old new label blocks stands same held are
+
+pub returns-clause-held : goal.returns-clause-held
+returns-clause-held c = torn_held

@@ -1,4 +1,4 @@
-use Rattle.std.proofs.Common.{◌≡◌, inl, ⊎_elim, ap, sym, subst}
+use Rattle.std.proofs.Common.{◌≡◌, inl, ⊎_elim, sym, subst}
 use Rattle.kernel.specs.declared.opening.OpenError.TheVariants.{NotAVolume, Damaged}
 use Rattle.model.specs.News.{Stands}
 use Rattle.served.specs.Served.{ServedView}

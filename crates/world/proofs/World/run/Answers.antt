@@ -1,4 +1,4 @@
-use Rattle.std.proofs.Common.{◌≡◌, ◌≤◌, ℕ, subst, ◌∙◌, sym, refl, length, arith}
+use Rattle.std.proofs.Common.{◌≡◌, ℕ, subst, ◌∙◌, sym, refl, length, arith}
 use Rattle.std.proofs.lemmas.Option.{slice_get_read}
 use Rattle.world.specs.Events.{Ran}
 use Rattle.world.proofs.Running.{memory_is, memory_not, ran_all, ran_before, refused_during, refused_since, running_more, running_none, since_within}
