@@ -1,14 +1,15 @@
 //! Names, and the inodes that they name.
 
-ghost use Rattle.std.specs.Prelude.{◌≡◌, ◌≢◌, ℕ, List, length, map, IfErr, OnOk, IfOk};
+ghost use Rattle.std.specs.Prelude.{◌≡◌, ◌≢◌, ◌<◌, ℕ, List, length, map, slice_index_or, None, IfErr, OnOk, IfOk};
 ghost use Rattle.model.specs.Files.{HasRoom, IsFileSystem, table};
+ghost use Rattle.fs.specs.Changes.{SameMarks};
 ghost use Rattle.fs.specs.Touches.{Touches};
 ghost use Rattle.fs.specs.Calls.{IsName, IsThere, IsFileAt, Creates, HasNoFreeInode, Unlinks, file_names};
 
 use fs_inodes::{remove_empty, shrink_to};
 use fs_layout::FsError;
 use fs_layout::inodes::{FILE_KIND, INODES_AT, size_of};
-use fs_layout::records::{RECORD_SIZE, find, get_record, put_record};
+use fs_layout::records::{RECORD_SIZE, find, find_from, get_record, put_record};
 use fs_layout::slots::{name_of, slot_for};
 use std::alloc::{AllocError, Global};
 use volume::Blocks;
@@ -36,6 +37,7 @@ pub fn create<B: Blocks>(blocks: &mut B, inodes: u32, name: &[u8]) -> Result<u32
     requires rule { IsFileSystem inodes (B.blocks blocks.old) }
     ensures created { IfOk result (λ at. Creates inodes name.now at (B.blocks blocks.old) (B.blocks blocks.new)) }
     ensures touches { OnOk result (Touches 2 (B.blocks blocks.old) (B.blocks blocks.new)) }
+    ensures marks { OnOk result (SameMarks (B.blocks blocks.old) (B.blocks blocks.new)) }
     ensures exists { IfErr result (λ e. e ≡ FsError.Exists
         → IsThere (table inodes (B.blocks blocks.old)) name.now × (blocks.new ≡ blocks.old)) }
     ensures full { IfErr result (λ e. e ≡ FsError.Full
@@ -44,13 +46,37 @@ pub fn create<B: Blocks>(blocks: &mut B, inodes: u32, name: &[u8]) -> Result<u32
     ensures no_other { IfErr result (λ e. (e ≢ FsError.Damaged) × (e ≢ FsError.NotFound)) }
     ensures kept { B.applied blocks.new ≡ B.applied blocks.old }
 {
-    let slot = slot_for(name);
-    if let Some(_) = find(blocks, inodes, &slot) {
+    if let Some(_) = find(blocks, inodes, &slot_for(name)) {
         return Err(FsError::Exists);
     }
-    let Some(at) = find(blocks, inodes, &[0; RECORD_SIZE]) else {
+    create_absent(blocks, inodes, name, 0)
+}
+
+/// Makes an empty file of a new name in the lowest free inode, and answers that, where no inode below `from` is free: it looks for
+/// a free one from there on alone, and for the name nowhere. `Full` exactly where no inode is free; it changes nothing. After
+/// `Memory` the caller drops the stage.
+pub fn create_absent<B: Blocks>(
+    blocks: &mut B,
+    inodes: u32,
+    name: &[u8],
+    from: u32,
+) -> Result<u32, FsError>
+    requires room { HasRoom inodes (B.blocks blocks.old) }
+    requires name { IsName name.now }
+    requires rule { IsFileSystem inodes (B.blocks blocks.old) }
+    requires absent { ¬ (IsThere (table inodes (B.blocks blocks.old)) name.now) }
+    requires used { (k : ℕ) → k < from → slice_index_or (table inodes (B.blocks blocks.old)) k None ≢ None }
+    ensures created { IfOk result (λ at. Creates inodes name.now at (B.blocks blocks.old) (B.blocks blocks.new)) }
+    ensures touches { OnOk result (Touches 2 (B.blocks blocks.old) (B.blocks blocks.new)) }
+    ensures marks { OnOk result (SameMarks (B.blocks blocks.old) (B.blocks blocks.new)) }
+    ensures full { IfErr result (λ e. e ≡ FsError.Full → HasNoFreeInode inodes (B.blocks blocks.old) × (blocks.new ≡ blocks.old)) }
+    ensures no_other { IfErr result (λ e. (e ≢ FsError.Damaged) × (e ≢ FsError.NotFound) × (e ≢ FsError.Exists)) }
+    ensures kept { B.applied blocks.new ≡ B.applied blocks.old }
+{
+    let Some(at) = find_from(blocks, inodes, from, &[0; RECORD_SIZE]) else {
         return Err(FsError::Full);
     };
+    let slot = slot_for(name);
     let mut inode = [0; RECORD_SIZE];
     inode[0] = FILE_KIND;
     put_record(blocks, INODES_AT + inodes / 64, at, &slot)?;

@@ -7,7 +7,7 @@ mod directory;
 mod octets;
 mod whole;
 
-pub use directory::{create, names, size, unlink};
+pub use directory::{create, create_absent, names, size, unlink};
 pub use fs_check::check;
 pub use fs_inodes as by_inode;
 pub use fs_layout::FsError;

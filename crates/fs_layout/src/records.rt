@@ -59,7 +59,19 @@ pub fn find<B: Blocks>(blocks: &B, inodes: u32, slot: &[u8]) -> Option<u32>
         ((k : ℕ) → k < inodes → slot_of inodes (B.blocks blocks.now) k ≢ slot.now)
         (IsFound inodes (B.blocks blocks.now) slot.now) }
 {
-    for table in 0..inodes / 64 {
+    find_from(blocks, inodes, 0, slot)
+}
+
+/// The lowest inode whose slot has these octets, where none below `from` has them. It passes over the slots from there on.
+pub fn find_from<B: Blocks>(blocks: &B, inodes: u32, from: u32, slot: &[u8]) -> Option<u32>
+    requires room { HasRoom inodes (B.blocks blocks.now) }
+    requires whole { length slot.now ≡ 64 }
+    requires before { (k : ℕ) → k < from → slot_of inodes (B.blocks blocks.now) k ≢ slot.now }
+    ensures { MatchOption result
+        ((k : ℕ) → k < inodes → slot_of inodes (B.blocks blocks.now) k ≢ slot.now)
+        (IsFound inodes (B.blocks blocks.now) slot.now) }
+{
+    for table in from / 64..inodes / 64 {
         let block = blocks.block(2 + inodes / 64 + table);
         if let Some(place) = find_in(block, slot) {
             return Some(64 * table + place);

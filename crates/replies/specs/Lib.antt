@@ -1,2 +1,4 @@
 pub mod Replies
 pub mod Answered
+pub mod Stuffing
+pub mod Pieces

@@ -2,10 +2,12 @@
 #![tactic(auto)]
 
 mod sessions;
+mod stuffing;
 mod texts;
 mod writing;
 
 pub use sessions::{Answered, answer, at_number, awaiting, copy, says, says_line, selecting};
+pub use stuffing::{Stuffing, pieces_make_the_text};
 pub use texts::{Block, Heading, Reply};
 pub use writing::{
     push_end, push_greeting, push_heading, push_line, push_number, push_number_line, push_reply,

@@ -1,39 +1,34 @@
-use Rattle.std.proofs.Common.{ℕ, ◌+◌, ◌/◌, List, refl, sym, ◌∙◌, subst}
-use Rattle.model.specs.Files.{entry, content_of}
-use Rattle.fs_layout.specs.Blocks.{PutsRecord}
+use Rattle.std.proofs.Common.{◌≡◌, refl, sym, ◌∙◌}
+use Rattle.std.specs.Prelude.{Result, Ok, Err, IfErr}
+use Rattle.model.specs.Files.{entry, content_of, table}
+use Rattle.fs_layout.specs.declared.errors.FsError.{FsError}
+use Rattle.fs_layout.specs.declared.errors.FsError.TheVariants.{Full}
 use Rattle.fs_layout.proofs.Tables.{no_slot, there_from_slot}
-use Rattle.fs.proofs.Creating.{no_free_inode, creates}
-use Rattle.fs_layout.proofs.Touching.{slot_then_inode}
+use Rattle.fs.specs.Calls.{HasNoFreeInode, IsThere}
 use Rattle.fs.proofs.directory.create.Goals as goal
+
+-- what is said of a refusal says more of it
+if_err : {T : Type 0} (r : Result T FsError) (P Q : FsError → Type 0) → ((e : FsError) → P e → Q e) → IfErr r P → IfErr r Q
+if_err (Ok x) P Q more is = is
+if_err (Err e) P Q more is = more e is
 
 pub returns-in-Some-clause-exists : goal.returns-in-Some-clause-exists
 returns-in-Some-clause-exists g c =
     let blocks = g.B.Blocks.blocks c.args.blocks.now in
     let found = c.in-Some.ensures in
     λ e. (
-      (c.in-Some.field-0, content_of blocks (entry c.args.inodes blocks c.in-Some.field-0), there_from_slot c.args.inodes blocks c.requires.rule c.in-Some.field-0 c.args.name.now found.below c.requires.name.0 (found.is ∙ c.slot_for-slot.ensures)),
+      (c.in-Some.field-0, content_of blocks (entry c.args.inodes blocks c.in-Some.field-0), there_from_slot c.args.inodes blocks c.requires.rule c.in-Some.field-0 c.args.name.now found.below c.requires.name.0 (found.is ∙ c.slot_for.ensures)),
       refl,
     )
 
-pub returns-in_default-find-clause-full : goal.returns-in_default-find-clause-full
-returns-in_default-find-clause-full g c =
-    let blocks = g.B.Blocks.blocks c.args.blocks.now in
-    λ e. (
-      no_slot c.args.inodes blocks c.requires.rule c.args.name.now (λ k low same. c.in_default.ensures k low (same ∙ sym c.slot_for-slot.ensures)),
-      no_free_inode c.args.inodes blocks c.requires.room c.requires.rule c.in_default-find.ensures,
-      refl,
-    )
+pub create_absent-requires-clause-absent : goal.create_absent-requires-clause-absent
+create_absent-requires-clause-absent g c =
+    no_slot c.args.inodes (g.B.Blocks.blocks c.args.blocks.now) c.requires.rule c.args.name.now (λ k low same. c.in_default.ensures k low (same ∙ sym c.slot_for.ensures))
 
-pub returns-clause-created : goal.returns-clause-created
-returns-clause-created g c =
+pub returns-clause-full : goal.returns-clause-full
+returns-clause-full g c =
     let blocks = g.B.Blocks.blocks c.args.blocks.now in
-    let at = c.in-Some-find.at in
-    creates c.args.inodes at c.args.name.now blocks (g.B.Blocks.blocks c.put_record.new.blocks) (g.B.Blocks.blocks c.put_record-2.new.blocks)
-    c.requires.room c.requires.name c.requires.rule (λ k low same. c.in_default.ensures k low (same ∙ sym c.slot_for-slot.ensures)) c.in-Some-find.ensures
-    (subst (λ (s : List ℕ). PutsRecord (2 + c.args.inodes / 64) at s blocks (g.B.Blocks.blocks c.put_record.new.blocks)) c.slot_for-slot.ensures c.in_ok-put_record.ensures.done)
-    c.in_ok-put_record-2.ensures.done
-
-pub returns-clause-touches : goal.returns-clause-touches
-returns-clause-touches g c =
-    slot_then_inode c.args.inodes c.in-Some-find.at _ c.slot_for-slot.result (g.B.Blocks.blocks c.args.blocks.now) (g.B.Blocks.blocks c.put_record.new.blocks) (g.B.Blocks.blocks c.put_record-2.new.blocks)
-    c.in_ok-put_record.ensures.done c.in_ok-put_record-2.ensures.done
+    let absent = no_slot c.args.inodes blocks c.requires.rule c.args.name.now (λ k low same. c.in_default.ensures k low (same ∙ sym c.slot_for.ensures)) in
+    if_err c.create_absent.result (λ e. e ≡ Full → HasNoFreeInode c.args.inodes blocks × (c.create_absent.new.blocks ≡ c.args.blocks.now))
+    (λ e. e ≡ Full → (¬ (IsThere (table c.args.inodes blocks) c.args.name.now)) × HasNoFreeInode c.args.inodes blocks × (c.create_absent.new.blocks ≡ c.args.blocks.now))
+    (λ e had is. (absent, (had is).0, (had is).1)) c.create_absent.ensures.full
