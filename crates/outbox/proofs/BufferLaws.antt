@@ -69,7 +69,7 @@ slots_of-few number start end ends = go (start == end && not ends)
     go true = omega arith
     go false = omega arith
 
-octets_in-entry_of : (number : ℕ) (g : Giving) → octets_in (entry_of number g) ≡ length g.octets
+pub octets_in-entry_of : (number : ℕ) (g : Giving) → octets_in (entry_of number g) ≡ length g.octets
 octets_in-entry_of number g = go (length g.octets == 0 && not g.ended) refl
   where
     go : (none : Bool) → (length g.octets == 0 && not g.ended) ≡ none → octets_in (if none then [] else (number, g.octets, g.ended) ∷ []) ≡ length g.octets

@@ -1,0 +1,11 @@
+use Rattle.std.proofs.Common.{◌≡◌, ◌≤◌, refl, ap, arith}
+use Rattle.outboxes.specs.Sessions.{holding}
+use Rattle.outboxes.specs.Outbox.{sessions}
+use Rattle.outboxes.proofs.Rising.{joined_holding, sound_with}
+use Rattle.outboxes.proofs.keeping.Outbox.reserve.Goals as goal
+
+pub invariant_of-self-2 : goal.invariant_of-self-2
+invariant_of-self-2 c =
+    let before = c.self.inside.seats.items in
+    let now = c.in_ok-make_room.ensures.ok in
+    sound_with (λ s. s) (λ s. refl) c.args.sid before c.make_room.new.seats.items now c.self.invariant (omega (arith, ap holding now, joined_holding c.args.sid (sessions before), c.self.invariant.few))
