@@ -2,6 +2,7 @@
 
 ghost use Rattle.std.specs.Prelude.{◌≡◌, ◌≢◌, ℕ, List, length, map, IfErr, OnOk, IfOk};
 ghost use Rattle.model.specs.Files.{HasRoom, IsFileSystem, table};
+ghost use Rattle.fs.specs.Changes.{SameMarks};
 ghost use Rattle.fs.specs.Touches.{Touches};
 ghost use Rattle.fs.specs.Calls.{IsName, IsThere, IsFileAt, Creates, HasNoFreeInode, Unlinks, file_names};
 
@@ -36,6 +37,7 @@ pub fn create<B: Blocks>(blocks: &mut B, inodes: u32, name: &[u8]) -> Result<u32
     requires rule { IsFileSystem inodes (B.blocks blocks.old) }
     ensures created { IfOk result (λ at. Creates inodes name.now at (B.blocks blocks.old) (B.blocks blocks.new)) }
     ensures touches { OnOk result (Touches 2 (B.blocks blocks.old) (B.blocks blocks.new)) }
+    ensures marks { OnOk result (SameMarks (B.blocks blocks.old) (B.blocks blocks.new)) }
     ensures exists { IfErr result (λ e. e ≡ FsError.Exists
         → IsThere (table inodes (B.blocks blocks.old)) name.now × (blocks.new ≡ blocks.old)) }
     ensures full { IfErr result (λ e. e ≡ FsError.Full

@@ -1,8 +1,9 @@
-use Rattle.std.proofs.Common.{ℕ, ◌+◌, ◌/◌, List, refl, sym, ◌∙◌, subst}
+use Rattle.std.proofs.Common.{ℕ, ◌+◌, ◌/◌, List, refl, sym, ◌∙◌, subst, arith}
 use Rattle.model.specs.Files.{entry, content_of}
 use Rattle.fs_layout.specs.Blocks.{PutsRecord}
 use Rattle.fs_layout.proofs.Tables.{no_slot, there_from_slot}
 use Rattle.fs.proofs.Creating.{no_free_inode, creates}
+use Rattle.fs_layout.proofs.Keeps.{marks_same}
 use Rattle.fs_layout.proofs.Touching.{slot_then_inode}
 use Rattle.fs.proofs.directory.create.Goals as goal
 
@@ -37,3 +38,14 @@ pub returns-clause-touches : goal.returns-clause-touches
 returns-clause-touches g c =
     slot_then_inode c.args.inodes c.in-Some-find.at _ c.slot_for-slot.result (g.B.Blocks.blocks c.args.blocks.now) (g.B.Blocks.blocks c.put_record.new.blocks) (g.B.Blocks.blocks c.put_record-2.new.blocks)
     c.in_ok-put_record.ensures.done c.in_ok-put_record-2.ensures.done
+
+pub returns-clause-marks : goal.returns-clause-marks
+returns-clause-marks g c =
+    let old = g.B.Blocks.blocks c.args.blocks.now in
+    let new = g.B.Blocks.blocks c.put_record-2.new.blocks in
+    let slot = c.in_ok-put_record.ensures.done in
+    let inode = c.in_ok-put_record-2.ensures.done in
+    record {
+      count = inode.count ∙ slot.count;
+      marks = marks_same old new (inode.blocks 0 (omega arith) ∙ slot.blocks 0 (omega arith)) (inode.blocks 1 (omega arith) ∙ slot.blocks 1 (omega arith));
+    }
