@@ -1,32 +1,132 @@
 -- The calls of the file system, as calls on lists of files.
-use Rattle.std.proofs.Common.{◌≡◌, ◌<◌, ℕ, List, [], ◌∷◌, ◌++◌, length, sym, ◌∙◌, ap, subst, arith}
-use Rattle.std.specs.Prelude.{Option, Some, None, IsPermutation, slice_set}
+use Rattle.std.proofs.Common.{◌≡◌, ◌≢◌, inl, inr, ◌<◌, ◌≤◌, ℕ, zero, suc, ◌+◌, ◌/◌, List, [], ◌∷◌, ◌++◌, length, get_or, set, refl, sym, ◌∙◌, ap, subst, arith, length-append}
+use Rattle.std.specs.Prelude.{Option, Some, None, option_map, IsPermutation}
+use Rattle.std.specs.List.{sum_by}
+use Rattle.std.proofs.lemmas.List.{get_or-set_same, get_or-set_other}
+use Rattle.std.proofs.lemmas.List.Sums.{sum_by-append}
+use Rattle.std.proofs.lemmas.Bool.{cases_eq}
 use Rattle.model.specs.Stream.{Octets}
-use Rattle.model.specs.Files.{File, IsFileSystem, files_in, table}
-use Rattle.model.specs.SpoolFiles.{Create, Append, after_call, after_calls, making_calls}
+use Rattle.model.specs.Files.{File, HasRoom, IsFile, IsFileSystem, entry, files_in, free_blocks, size, table}
+use Rattle.model.specs.Room.{blocks_for, blocks_taken}
+use Rattle.model.specs.SpoolFiles.{FileCall, Create, Append, after_call, after_calls, making_calls}
+use Rattle.model.proofs.Asking.{files_grow_by_blocks}
 use Rattle.model.proofs.Inodes.{appends_to_one, creates_one}
-use Rattle.fs.specs.Calls.{Creates}
-use Rattle.fs.specs.Growing.{Appends}
-use Rattle.fs_inodes.proofs.Grown.{one_name}
-use Rattle.fs_layout.proofs.Tables.{length-table}
-use Rattle.filing.specs.Calls.{Calls}
+use Rattle.fs.specs.Calls.{Creates, HasNoFreeInode, IsFileAt}
+use Rattle.fs.specs.Changes.{SameMarks}
+use Rattle.fs.specs.Growing.{GrowsBy, HasRoomFor}
+use Rattle.fs_inodes.proofs.Grown.{below_table, file_after, one_content, one_name}
+use Rattle.fs_layout.proofs.Entries.{length-content}
+use Rattle.fs_layout.proofs.Marking.{same_free}
+use Rattle.fs_layout.proofs.Tables.{length-table, named_from_there}
+use Rattle.filing.specs.Calls.{AppendsAt, Calls, CreatesAt, MakesAt, MayGrow, SameFilesBut, blocks_for_more}
+use Rattle.places.specs.Places.{KeepsNames, name_of}
 
-pub created : (inodes : ℕ) (name : Octets) (place : ℕ) (old new : List Octets) → Creates inodes name place old new → (files : List File) → IsPermutation (files_in (table inodes old)) files → IsPermutation (files_in (table inodes new)) (after_call files (Create name))
-created inodes name place old new made files same =
-    subst (λ (t : List (Option File)). IsPermutation (files_in t) (after_call files (Create name))) (sym made.makes.files_are)
-    (creates_one files (table inodes old) place name (omega (arith, made.below, length-table inodes old)) made.free same)
+-- ---- calls after calls
 
-pub appended_to : (inodes : ℕ) (name octets : Octets) (old new : List Octets) → IsFileSystem inodes old → Appends inodes name octets old new → (files : List File) → IsPermutation (files_in (table inodes old)) files → IsPermutation (files_in (table inodes new)) (after_call files (Append name octets))
-appended_to inodes name octets old new rule (k, content, there, grown) files same =
-    let named : grown.name ≡ name = one_name (table inodes old) k grown.name name grown.was content grown.there there in
-    let its = appends_to_one files inodes old k grown.name grown.was octets rule grown.there same in
-    let moved : IsPermutation (files_in (table inodes new)) (after_call files (Append grown.name octets)) =
-    subst (λ (t : List (Option File)). IsPermutation (files_in t) (after_call files (Append grown.name octets))) (sym grown.makes.files_are) its in
-    subst (λ (n : Octets). IsPermutation (files_in (table inodes new)) (after_call files (Append n octets))) named moved
+calls_after : (fs : List File) (calls more : List FileCall) → after_calls fs (calls ++ more) ≡ after_calls (after_calls fs calls) more
+calls_after fs [] more = refl
+calls_after fs (call ∷ calls) more = calls_after (after_call fs call) calls more
 
-pub made : (inodes : ℕ) (name octets : Octets) (place : ℕ) (old mid new : List Octets) → Creates inodes name place old mid → Appends inodes name octets mid new → Calls inodes (making_calls name octets) old new
-made inodes name octets place old mid new creates (k, content, there, grown) = record {
-  room = grown.makes.room;
-  rule = grown.makes.rule;
-  files = λ files same. appended_to inodes name octets mid new creates.makes.rule (k, content, there, grown) (after_call files (Create name)) (created inodes name place old mid creates files same);
+pub calls_then : (inodes : ℕ) (calls more : List FileCall) (old mid new : List Octets) → Calls inodes calls old mid → Calls inodes more mid new → Calls inodes (calls ++ more) old new
+calls_then inodes calls more old mid new first second = record {
+  count = second.count ∙ first.count;
+  room = second.room;
+  rule = second.rule;
+  files = λ files same. subst (λ (fs : List File). IsPermutation (files_in (table inodes new)) fs) (sym (calls_after files calls more)) (second.files (after_calls files calls) (first.files files same));
+  names = λ k name named. second.names k name (first.names k name named);
+  free = omega (arith, first.free, second.free, sum_by-append blocks_taken calls more);
 }
+
+pub no_calls : (inodes : ℕ) (blocks : List Octets) → HasRoom inodes blocks → IsFileSystem inodes blocks → Calls inodes [] blocks blocks
+no_calls inodes blocks room rule = record { count = refl; room = room; rule = rule; files = λ files same. same; names = λ k name named. named; free = omega arith }
+
+-- ---- one inode has another file
+
+others_same : (inodes at : ℕ) (file : Option File) (old new : List Octets) → table inodes new ≡ set (table inodes old) at file → SameFilesBut inodes at old new
+others_same inodes at file old new is k other = ap (λ (t : List (Option File)). get_or t k None) is ∙ get_or-set_other (table inodes old) at k file None other
+
+here : (inodes at : ℕ) (file : File) (old new : List Octets) → table inodes new ≡ set (table inodes old) at (Some file) → at < length (table inodes old) → get_or (table inodes new) at None ≡ Some file
+here inodes at file old new is low = ap (λ (t : List (Option File)). get_or t at None) is ∙ get_or-set_same (table inodes old) at (Some file) None low
+
+named_others : (inodes at : ℕ) (old new : List Octets) → SameFilesBut inodes at old new → ((name : Octets) → name_of (table inodes old) at ≡ Some name → name_of (table inodes new) at ≡ Some name) → KeepsNames (table inodes old) (table inodes new)
+named_others inodes at old new others its k name named = elim (cases_eq k at) [
+  | inl same ↦ subst (λ (j : ℕ). name_of (table inodes new) j ≡ Some name) (sym same) (its name (subst (λ (j : ℕ). name_of (table inodes old) j ≡ Some name) same named))
+  | inr other ↦ ap (option_map (λ (f : File). f.name)) (others k other) ∙ named
+]
+
+-- ---- a new file
+
+pub created : (inodes : ℕ) (name : Octets) (at : ℕ) (old new : List Octets) → Creates inodes name at old new → SameMarks old new → CreatesAt inodes at name old new
+created inodes name at old new made marks =
+    let others = others_same inodes at (Some (record { name = name; content = [] })) old new made.makes.files_are in
+    let low : at < length (table inodes old) = omega (arith, made.below, length-table inodes old) in
+    record {
+      calls = record {
+        count = marks.count;
+        room = made.makes.room;
+        rule = made.makes.rule;
+        files = λ files same. subst (λ (t : List (Option File)). IsPermutation (files_in t) (after_call files (Create name))) (sym made.makes.files_are) (creates_one files (table inodes old) at name low made.free same);
+        names = named_others inodes at old new others (λ q named. absurd (let none : None ≡ Some q = ap (option_map (λ (f : File). f.name)) (sym made.free) ∙ named in cc));
+        free = omega (arith, same_free old new marks.count (λ b less. marks.marks b (omega (arith, less, made.makes.room.count_few, marks.count))));
+      };
+      there = here inodes at (record { name = name; content = [] }) old new made.makes.files_are low;
+      others = others;
+    }
+
+all_there : (inodes : List (Option File)) → ((k : ℕ) → k < length inodes → get_or inodes k None ≢ None) → length inodes ≤ length (files_in inodes)
+all_there [] all = omega arith
+all_there (None ∷ inodes) all = absurd (all 0 (omega arith) refl)
+all_there (Some f ∷ inodes) all = omega (arith, all_there inodes (λ k low. all (suc k) (omega arith)))
+
+pub not_all : (inodes : ℕ) (blocks : List Octets) → HasNoFreeInode inodes blocks → length (files_in (table inodes blocks)) < inodes → ⊥
+not_all inodes blocks none few = omega (arith, few, length-table inodes blocks, all_there (table inodes blocks) (λ k low. none k (omega (arith, low, length-table inodes blocks))))
+
+-- ---- octets at the end of a file
+
+module _ (inodes at : ℕ) (blocks : List Octets) (room : HasRoom inodes blocks) (rule : IsFileSystem inodes blocks) (name content : Octets) (there : IsFileAt (table inodes blocks) at name content) where
+  pub is_below : at < inodes
+  is_below = (named_from_there inodes blocks rule at name content there).below
+
+  pub is_file : IsFile (entry inodes blocks at)
+  is_file = (named_from_there inodes blocks rule at name content there).file
+
+  pub its_size : size (entry inodes blocks at) ≡ length content
+  its_size =
+      let its = named_from_there inodes blocks rule at name content there in
+      sym (length-content blocks (entry inodes blocks at) room.blocks_whole (λ b owns. (rule.within at b its.below owns).1)) ∙ ap (λ (o : Octets). length o) (sym its.content_is)
+
+  pub has_room : (more : ℕ) → length content + more ≤ 4235264 → blocks_for_more more ≤ free_blocks blocks → HasRoomFor blocks (size (entry inodes blocks at)) (size (entry inodes blocks at) + more)
+  has_room more small free =
+      subst (λ (n : ℕ). HasRoomFor blocks n (n + more)) (sym its_size) (small, omega (arith, files_grow_by_blocks (length content) more, free))
+
+pub appended : (inodes at : ℕ) (octets : Octets) (old new : List Octets) → IsFileSystem inodes old → GrowsBy inodes at octets old new → AppendsAt inodes at octets old new
+appended inodes at octets old new rule grown =
+    let others = others_same inodes at (Some (record { name = grown.name; content = grown.was ++ octets })) old new grown.makes.files_are in
+    let now = file_after inodes at octets old new grown in
+    record {
+      name = grown.name;
+      content = grown.was;
+      was = grown.there;
+      calls = record {
+        count = grown.count;
+        room = grown.makes.room;
+        rule = grown.makes.rule;
+        files = λ files same. subst (λ (t : List (Option File)). IsPermutation (files_in t) (after_call files (Append grown.name octets))) (sym grown.makes.files_are) (appends_to_one files inodes old at grown.name grown.was octets rule grown.there same);
+        names = named_others inodes at old new others (λ q named. ap (option_map (λ (f : File). f.name)) now ∙ sym (ap (option_map (λ (f : File). f.name)) grown.there) ∙ named);
+        free = omega (arith, grown.free, files_grow_by_blocks (length grown.was) (length octets));
+      };
+      there = now;
+      others = others;
+    }
+
+-- ---- a new file with octets
+
+pub made : (inodes at : ℕ) (name octets : Octets) (old mid new : List Octets) → CreatesAt inodes at name old mid → AppendsAt inodes at octets mid new → MakesAt inodes at name octets old new
+made inodes at name octets old mid new creates appends =
+    let named : appends.name ≡ name = one_name (table inodes mid) at appends.name name appends.content [] appends.was creates.there in
+    let empty : appends.content ≡ [] = one_content (table inodes mid) at appends.name name appends.content [] appends.was creates.there in
+    record {
+      calls = calls_then inodes (Create name ∷ []) (Append name octets ∷ []) old mid new creates.calls (subst (λ (q : Octets). Calls inodes (Append q octets ∷ []) mid new) named appends.calls);
+      there = subst (λ (q : Octets). IsFileAt (table inodes new) at q octets) named (subst (λ (o : Octets). IsFileAt (table inodes new) at appends.name (o ++ octets)) empty appends.there);
+      others = λ k other. appends.others k other ∙ creates.others k other;
+    }

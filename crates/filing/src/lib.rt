@@ -1,29 +1,77 @@
-//! The calls on files that a change of the spool makes.
+//! The calls on files that a change of the spool makes, by inode: each is one call on the list of the files, whatever their order.
 #![tactic(auto)]
 
-ghost use Rattle.std.specs.Prelude.{OnOk};
-ghost use Rattle.model.specs.Files.{HasRoom, IsFileSystem};
-ghost use Rattle.model.specs.SpoolFiles.{making_calls};
-ghost use Rattle.fs.specs.Calls.{IsName};
-ghost use Rattle.filing.specs.Calls.{Calls};
+ghost use Rattle.std.specs.Prelude.{◌≡◌, ◌+◌, ◌*◌, ◌/◌, ◌<◌, ◌≤◌, ℕ, List, length, IfOk, OnOk};
+ghost use Rattle.model.specs.Files.{HasRoom, IsFileSystem, files_in, free_blocks, table};
+ghost use Rattle.fs.specs.Calls.{IsFileAt, IsName, IsThere};
+ghost use Rattle.fs.specs.Touches.{Touches, touched_by_growth};
+ghost use Rattle.filing.specs.Calls.{AppendsAt, CreatesAt, MakesAt, MayGrow, blocks_for_more};
 
-use fs::{FsError, append, create};
+use fs::by_inode::extend;
+use fs::{FsError, create};
+use std::alloc::AllocError;
 use volume::Blocks;
 
-/// Makes a file of this name with these octets. A refusal may leave a part of the two calls done; the caller then drops what it staged.
-/// The file has the form that docs/FORMATS.md gives under "Files".
+/// Makes an empty file of a new name, for which an inode is free, and answers its inode. An `Err` is out of memory; the caller then
+/// drops what it staged.
+pub fn create_file<B: Blocks>(blocks: &mut B, inodes: u32, name: &[u8]) -> Result<u32, AllocError>
+    requires room { HasRoom inodes (B.blocks blocks.old) }
+    requires rule { IsFileSystem inodes (B.blocks blocks.old) }
+    requires name { IsName name.now }
+    requires new { ¬ (IsThere (table inodes (B.blocks blocks.old)) name.now) }
+    requires few { length (files_in (table inodes (B.blocks blocks.old))) < inodes }
+    ensures created { IfOk result (λ at. CreatesAt inodes at name.now (B.blocks blocks.old) (B.blocks blocks.new)) }
+    ensures touches { OnOk result (Touches 2 (B.blocks blocks.old) (B.blocks blocks.new)) }
+    ensures kept { B.applied blocks.new ≡ B.applied blocks.old }
+{
+    match create(blocks, inodes, name) {
+        Ok(at) => Ok(at),
+        Err(FsError::Exists) => unreachable!(),
+        Err(FsError::Full) => unreachable!(),
+        Err(_) => Err(AllocError),
+    }
+}
+
+/// Puts octets after those of the file of an inode, for which there is room. An `Err` is out of memory; the caller then drops what it
+/// staged.
+pub fn append_to<B: Blocks>(
+    blocks: &mut B,
+    inodes: u32,
+    at: u32,
+    octets: &[u8],
+) -> Result<(), AllocError>
+    requires room { HasRoom inodes (B.blocks blocks.old) }
+    requires rule { IsFileSystem inodes (B.blocks blocks.old) }
+    requires there { MayGrow inodes at (length octets.now) (B.blocks blocks.old) }
+    requires free { blocks_for_more (length octets.now) ≤ free_blocks (B.blocks blocks.old) }
+    ensures appended { OnOk result (AppendsAt inodes at octets.now (B.blocks blocks.old) (B.blocks blocks.new)) }
+    ensures touches { OnOk result ((name content : List ℕ) → IsFileAt (table inodes (B.blocks blocks.old)) at name content
+        → Touches (touched_by_growth (length content) (length octets.now)) (B.blocks blocks.old) (B.blocks blocks.new)) }
+    ensures kept { B.applied blocks.new ≡ B.applied blocks.old }
+{
+    extend(blocks, inodes, at, octets)
+}
+
+/// Makes a file of a new name with these octets, for which there is room, and answers its inode. An `Err` is out of memory; the caller
+/// then drops what it staged. The file has the form that docs/FORMATS.md gives under "Files".
 pub fn make_file<B: Blocks>(
     blocks: &mut B,
     inodes: u32,
     name: &[u8],
     octets: &[u8],
-) -> Result<(), FsError>
+) -> Result<u32, AllocError>
     requires room { HasRoom inodes (B.blocks blocks.old) }
-    requires name { IsName name.now }
     requires rule { IsFileSystem inodes (B.blocks blocks.old) }
-    ensures { OnOk result (Calls inodes (making_calls name.now octets.now) (B.blocks blocks.old) (B.blocks blocks.new)) }
+    requires name { IsName name.now }
+    requires new { ¬ (IsThere (table inodes (B.blocks blocks.old)) name.now) }
+    requires few { length (files_in (table inodes (B.blocks blocks.old))) < inodes }
+    requires small { length octets.now ≤ 4235264 }
+    requires free { blocks_for_more (length octets.now) ≤ free_blocks (B.blocks blocks.old) }
+    ensures made { IfOk result (λ at. MakesAt inodes at name.now octets.now (B.blocks blocks.old) (B.blocks blocks.new)) }
+    ensures touches { OnOk result (Touches (2 + touched_by_growth 0 (length octets.now)) (B.blocks blocks.old) (B.blocks blocks.new)) }
+    ensures kept { B.applied blocks.new ≡ B.applied blocks.old }
 {
-    create(blocks, inodes, name)?;
-    append(blocks, inodes, name, octets)?;
-    Ok(())
+    let at = create_file(blocks, inodes, name)?;
+    append_to(blocks, inodes, at, octets)?;
+    Ok(at)
 }

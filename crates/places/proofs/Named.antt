@@ -154,11 +154,11 @@ one_more old new named places xs at x keeps same here =
     let other = map_push (λ y. Some (named y)) xs x in
     joined ∙ (λ i. kept i ++ here i ∷ []) ∙ sym other
 
-entries_more : (S : Spool) (c : Change) → entries (S ++ c ∷ []) ≡ entries S ++ record { serial = length S + 1; change = c } ∷ []
+pub entries_more : (S : Spool) (c : Change) → entries (S ++ c ∷ []) ≡ entries S ++ record { serial = length S + 1; change = c } ∷ []
 unfolding entries
 entries_more S c = entries_push 1 S c
 
-groups_more : (S : Spool) (c : Change) → groups (S ++ c ∷ []) ≡ groups S ++ filter_map group_made (record { serial = length S + 1; change = c } ∷ [])
+pub groups_more : (S : Spool) (c : Change) → groups (S ++ c ∷ []) ≡ groups S ++ filter_map group_made (record { serial = length S + 1; change = c } ∷ [])
 unfolding groups
 groups_more S c = ap (filter_map group_made) (entries_more S c) ∙ filter_map-append group_made (entries S) (record { serial = length S + 1; change = c } ∷ [])
 

@@ -1,7 +1,15 @@
+use Rattle.std.proofs.Common.{length, [], arith}
+use Rattle.fs.specs.Touches.{touched_by_growth}
+use Rattle.fs_layout.proofs.Touching.{touches_then}
 use Rattle.filing.proofs.Calling.{made}
 use Rattle.filing.proofs.make_file.Goals as goal
 
-pub returns : goal.returns
-returns g c =
-    made c.args.inodes c.args.name.now c.args.octets.now _ (g.B.Blocks.blocks c.args.blocks.now) (g.B.Blocks.blocks c.create.new.blocks) (g.B.Blocks.blocks c.append.new.blocks)
-    c.in_ok-create.ensures.created c.in_ok-append.ensures.appended
+pub returns-clause-made : goal.returns-clause-made
+returns-clause-made g c =
+    made c.args.inodes c.in_ok-at.at c.args.name.now c.args.octets.now (g.B.Blocks.blocks c.args.blocks.now) (g.B.Blocks.blocks c.create_file.new.blocks) (g.B.Blocks.blocks c.append_to.new.blocks)
+    c.in_ok-at.ensures.created c.in_ok-append_to.ensures.appended
+
+pub returns-clause-touches : goal.returns-clause-touches
+returns-clause-touches g c =
+    touches_then 2 (touched_by_growth 0 (length c.args.octets.now)) (g.B.Blocks.blocks c.args.blocks.now) (g.B.Blocks.blocks c.create_file.new.blocks) (g.B.Blocks.blocks c.append_to.new.blocks)
+    c.in_ok-at.ensures.touches (c.in_ok-append_to.ensures.touches c.args.name.now [] c.in_ok-at.ensures.created.there)

@@ -1,0 +1,133 @@
+-- What blocks that hold a spool leave free, and the change that they get.
+use Rattle.std.proofs.Common.{◌≡◌, ◌≢◌, ◌<◌, ◌≤◌, ◌^◌, ℕ, zero, suc, ◌+◌, ◌-◌, ◌*◌, false, List, [], ◌∷◌, ◌++◌, length, get_or, refl, sym, ◌∙◌, ap, subst, arith, length-append}
+use Rattle.std.specs.Prelude.{OnErr, Result, Ok, Err, Option, Some, None, IsPermutation, nat_lt, ◌||◌, filter_map}
+use Rattle.std.specs.List.{Contains}
+use Rattle.std.proofs.lemmas.Bool.{ltb-false, or_parts}
+use Rattle.std.proofs.lemmas.List.Sorted.{Contains-permutation, length_permutation, sum_by-IsPermutation}
+use Rattle.model.specs.Stream.{Octets}
+use Rattle.model.specs.Files.{File, HoldsFiles, IsFileSystem, files_in, first_data, free_blocks, table}
+use Rattle.model.specs.Lawful.{MayFollow}
+use Rattle.model.specs.Room.{blocks_asked, blocks_for, blocks_of_files, extends_large, files_made, free_blocks_beside, free_inodes_beside, has_all_groups, is_full, is_full_for}
+use Rattle.model.specs.Spool.{Spool, group_made, groups}
+use Rattle.model.specs.SpoolFiles.{change_calls, files_of}
+use Rattle.model.specs.declared.change.Change.{Change}
+use Rattle.model.specs.declared.change.Change.TheVariants.{Group, Article, Expire}
+use Rattle.model.proofs.Counting.{free_is_beside}
+use Rattle.model.proofs.Filing.{spools_grow}
+use Rattle.model.proofs.HoldsOne.{changes_few, holds_one}
+use Rattle.model.proofs.Opening.{files_counted}
+use Rattle.fs.specs.Calls.{IsThere}
+use Rattle.filing.specs.Calls.{Calls}
+use Rattle.places.proofs.Named.{groups_more}
+use Rattle.spool_files.specs.Growing.{HasFree}
+use Rattle.std.proofs.Math.Logic.{∥∥₁_elim}
+use Rattle.model.specs.Indexed.{FilePlaces}
+use Rattle.index.specs.View.{IndexView}
+use Rattle.volume.specs.Volume.{VolumeView}
+use Rattle.spool_files.specs.Kept.{AreFree, IsHeld, IsKept, StandsIn, spool_set}
+use Rattle.spool_files.specs.View.{Adds, Dirties, SpoolView}
+
+there_among : (inodes : List (Option File)) (k : ℕ) (f : File) → get_or inodes k None ≡ Some f → Contains (files_in inodes) f
+there_among [] k f is = absurd (cc)
+there_among (None ∷ inodes) zero f is = absurd (cc)
+there_among (None ∷ inodes) (suc k) f is = there_among inodes k f is
+there_among (Some g ∷ inodes) zero f is = let same : g ≡ f = cc in (0, omega arith, same)
+there_among (Some g ∷ inodes) (suc k) f is = let rest = there_among inodes k f is in (suc rest.0, omega (arith, rest.1), rest.2)
+
+module _ (host : Octets) (inodes : ℕ) (blocks : List Octets) (S : Spool) (is : IsHeld host inodes blocks S) where
+  pub changes_are_few : length S ≤ 32768
+  changes_are_few = omega (arith, changes_few host inodes blocks S is.held, is.room.few)
+
+  pub files_are : IsPermutation (files_in (table inodes blocks)) (files_of S)
+  files_are = subst (λ (fs : List File). IsPermutation fs (files_of S)) is.held.held.contents is.held.same
+
+  pub files_count : length (files_in (table inodes blocks)) ≡ length (files_of S)
+  files_count = sym (length_permutation (files_in (table inodes blocks)) (files_of S) files_are)
+
+  pub blocks_beside : free_blocks blocks ≡ free_blocks_beside (length blocks) inodes (files_of S)
+  blocks_beside =
+      (free_is_beside inodes blocks is.held.files is.room is.held.held).blocks_are
+      ∙ ap (λ (n : ℕ). length blocks - (first_data inodes + n)) (sym (sum_by-IsPermutation (λ (f : File). blocks_for (length f.content)) is.held.files (files_of S) is.held.same))
+
+  pub not_there : (q : Octets) → ((f : File) → Contains (files_of S) f → f.name ≢ q) → ¬ (IsThere (table inodes blocks) q)
+  not_there q lacks (k, content, there) =
+      let f : File = record { name = q; content = content } in
+      lacks f (Contains-permutation (files_in (table inodes blocks)) (files_of S) f files_are (there_among (table inodes blocks) k f there)) refl
+
+  pub enough : (c : Change) → is_full (length blocks) inodes S (Some c) ≡ false → HasFree inodes (files_made c) blocks
+  unfolding is_full_for
+  enough c room =
+      let free = free_blocks_beside (length blocks) inodes (files_of S) in
+      let left = free_inodes_beside inodes (files_of S) in
+      let first = or_parts (nat_lt free blocks_asked) (nat_lt left (files_made c) || (extends_large S c || has_all_groups S c)) room in
+      let second = or_parts (nat_lt left (files_made c)) (extends_large S c || has_all_groups S c) first.1 in
+      let some : 1 ≤ files_made c = one_at_least c in
+      record {
+        inodes_free = omega (arith, ltb-false left (files_made c) second.0, files_count, some);
+        blocks_free = omega (arith, ltb-false free blocks_asked first.0, blocks_beside);
+      }
+    where
+      one_at_least : (d : Change) → 1 ≤ files_made d
+      one_at_least (Group name status description moment) = omega arith
+      one_at_least (Article text filed moment) = omega arith
+      one_at_least (Expire group number) = omega arith
+
+  -- the calls of a change lead to the blocks that hold it
+  pub grown : (c : Change) (new : List Octets) → MayFollow host S c → Calls inodes (change_calls S c) blocks new → IsHeld host inodes new (S ++ c ∷ [])
+  grown c new may calls = record {
+    room = calls.room;
+    held = spools_grow host inodes new (files_in (table inodes new)) S c (omega (arith, changes_are_few)) is.held.lawful may (record { rule = calls.rule; contents = refl }) (calls.files (files_of S) files_are);
+  }
+
+groups_made : (S : Spool) (c : Change) → length (groups (S ++ c ∷ [])) ≡ length (groups S) + length (filter_map group_made (record { serial = length S + 1; change = c } ∷ []))
+groups_made S c = ap (λ (gs : List _). length gs) (groups_more S c) ∙ length-append (groups S) (filter_map group_made (record { serial = length S + 1; change = c } ∷ []))
+
+pub files_more : (S : Spool) (c : Change) → length (files_of (S ++ c ∷ [])) ≡ length (files_of S) + files_made c
+files_more S (Group name status description moment) =
+    omega (arith, files_counted S, files_counted (S ++ Group name status description moment ∷ []), groups_made S (Group name status description moment), length-append S (Group name status description moment ∷ []))
+files_more S (Article text filed moment) =
+    omega (arith, files_counted S, files_counted (S ++ Article text filed moment ∷ []), groups_made S (Article text filed moment), length-append S (Article text filed moment ∷ []))
+files_more S (Expire group number) =
+    omega (arith, files_counted S, files_counted (S ++ Expire group number ∷ []), groups_made S (Expire group number), length-append S (Expire group number ∷ []))
+
+pub free_after : (free inodes : ℕ) (S : Spool) (c : Change) → AreFree free inodes S → files_made c ≤ free → AreFree (free - files_made c) inodes (S ++ c ∷ [])
+free_after free inodes S c are some = omega (arith, are, some, files_more S c)
+
+-- ---- the fields of a spool that is used whole
+
+pub the_changes : (host : Octets) (inodes : ℕ) (blocks : List Octets) (S : Spool) → IsHeld host inodes blocks S → (T : StandsIn host inodes blocks) → T.changes ≡ S
+the_changes host inodes blocks S is T = ∥∥₁_elim T.held (spool_set T.changes S) (λ other. holds_one host host inodes blocks T.changes S is.room.few other.held is.held)
+
+-- with the changes that stand in the blocks
+pub kept_stands : (host : Octets) (inodes : ℕ) (v : VolumeView) (i : IndexView) (p : FilePlaces) (free : ℕ) (S : Spool) (T : StandsIn host inodes v.cache) → IsKept host inodes v i p S → AreFree free inodes S
+    → IsKept host inodes v i p T.changes × AreFree free inodes T.changes
+kept_stands host inodes v i p free S T kept are =
+    subst (λ (R : Spool). IsKept host inodes v i p R × AreFree free inodes R) (sym (the_changes host inodes v.cache S kept.is T)) (kept, are)
+
+pub kept_same : (host : Octets) (inodes : ℕ) (v w : VolumeView) (i j : IndexView) (p q : FilePlaces) (S : Spool) → w ≡ v → j ≡ i → q ≡ p → IsKept host inodes v i p S → IsKept host inodes w j q S
+kept_same host inodes v w i j p q S same_v same_i same_p kept =
+    subst (λ (x : VolumeView). IsKept host inodes x j q S) (sym same_v) (subst (λ (x : IndexView). IsKept host inodes v x q S) (sym same_i) (subst (λ (x : FilePlaces). IsKept host inodes v i x S) (sym same_p) kept))
+
+pub kept_view : (host : Octets) (inodes : ℕ) (v w : VolumeView) (S R : Spool) → w ≡ v → R ≡ S
+    → ◌≡◌ {A = SpoolView} (record { host = host; inodes = inodes; changes = R; blocks = w.cache; dirty = w.dirty }) (record { host = host; inodes = inodes; changes = S; blocks = v.cache; dirty = v.dirty })
+kept_view host inodes v w S R same changes = λ i. record { host = host; inodes = inodes; changes = changes i; blocks = (same i).cache; dirty = (same i).dirty }
+
+pub cleaned : (host : Octets) (inodes : ℕ) (v w : VolumeView) (i : IndexView) (p : FilePlaces) (S : Spool) → w ≡ record v { dirty = [] } → IsKept host inodes v i p S → IsKept host inodes w i p S
+cleaned host inodes v w i p S same kept =
+    let clean : IsKept host inodes (record v { dirty = [] }) i p S = record { is = kept.is; seen = kept.seen; indexed = kept.indexed; placed = kept.placed } in
+    subst (λ (x : VolumeView). IsKept host inodes x i p S) (sym same) clean
+
+-- the spool with the change
+pub added : (host : Octets) (inodes : ℕ) (v w : VolumeView) (S R : Spool) (c : Change) (old : SpoolView) → record { host = host; inodes = inodes; changes = S; blocks = v.cache; dirty = v.dirty } ≡ old → R ≡ S ++ c ∷ [] → Dirties v.cache w.cache v.dirty w.dirty
+    → Adds old (record { host = host; inodes = inodes; changes = R; blocks = w.cache; dirty = w.dirty }) c
+added host inodes v w S R c old view changes dirties =
+    subst (λ (x : SpoolView). Adds x (record { host = host; inodes = inodes; changes = R; blocks = w.cache; dirty = w.dirty }) c) view (record { host = refl; inodes = refl; changes = changes; dirties = dirties })
+
+-- inodes enough are left
+pub enough_left : (host : Octets) (inodes : ℕ) (v : VolumeView) (i : IndexView) (p : FilePlaces) (free : ℕ) (S : Spool) (c : Change) → IsKept host inodes v i p S → AreFree free inodes S → is_full (length v.cache) inodes S (Some c) ≡ false → files_made c ≤ free
+enough_left host inodes v i p free S c kept are room =
+    omega (arith, (enough host inodes v.cache S kept.is c room).inodes_free, files_count host inodes v.cache S kept.is, are)
+
+pub if_err : {T E P : Type 0} (r : Result T E) → P → OnErr r P
+if_err (Ok x) is = tt
+if_err (Err e) is = is

@@ -1,0 +1,48 @@
+-- What a spool keeps beside its blocks.
+use Rattle.std.specs.Prelude.{◌≡◌, ℕ, ◌+◌, ◌≤◌, List, length}
+use mathlib.Core.HLevel.{is_prop→PathP}
+use mathlib.Core.Path.{PathP}
+use Rattle.std.proofs.Math.Logic.{∥∥₁_elim, ∥∥₁_prop}
+use Rattle.std.proofs.Props.{props}
+use Rattle.model.specs.Files.{HasRoom}
+use Rattle.model.specs.Indexed.{ArePlaces, FilePlaces}
+use Rattle.model.specs.Layout.{Holds}
+use Rattle.model.specs.Spool.{Spool}
+use Rattle.model.specs.SpoolFiles.{files_of}
+use Rattle.model.specs.Stream.{Octets}
+use Rattle.model.proofs.HoldsOne.{holds_one}
+use Rattle.index.specs.View.{IndexView, Indexes}
+use Rattle.volume.specs.Volume.{VolumeView}
+
+-- blocks with room for so many inodes hold these changes
+pub record IsHeld (host : Octets) (inodes : ℕ) (blocks : List Octets) (S : Spool) : Type 0 where
+  pub room : HasRoom inodes blocks
+  pub held : Holds host inodes blocks S
+
+-- the changes that stand in the blocks
+pub record StandsIn (host : Octets) (inodes : ℕ) (blocks : List Octets) : Type 0 where
+  pub changes : Spool
+  pub held : ∥ IsHeld host inodes blocks changes ∥₁
+
+pub spool_set : (S R : Spool) → IsProp (S ≡ R)
+spool_set = Prim.hlevel props
+
+-- there is one list of changes at most
+pub one_stands : (host : Octets) (inodes : ℕ) (blocks : List Octets) → IsProp (StandsIn host inodes blocks)
+one_stands host inodes blocks p q = λ i. record { changes = same i; held = along i } where
+  same : p.changes ≡ q.changes
+  same = ∥∥₁_elim p.held (spool_set p.changes q.changes) (λ one. ∥∥₁_elim q.held (spool_set p.changes q.changes) (λ other. holds_one host host inodes blocks p.changes q.changes one.room.few one.held other.held))
+
+  along : PathP (λ i. ∥ IsHeld host inodes blocks (same i) ∥₁) p.held q.held
+  along = is_prop→PathP (λ i. ∥ IsHeld host inodes blocks (same i) ∥₁) (λ i. ∥∥₁_prop) p.held q.held
+
+-- the blocks hold these changes; index and places are theirs; nothing is staged
+pub record IsKept (host : Octets) (inodes : ℕ) (volume : VolumeView) (index : IndexView) (places : FilePlaces) (S : Spool) : Type 0 where
+  pub is : IsHeld host inodes volume.cache S
+  pub seen : volume.seen ≡ volume.cache
+  pub indexed : Indexes S index
+  pub placed : ArePlaces inodes volume.cache S places
+
+-- so many inodes have no file
+abbrev pub AreFree : ℕ → ℕ → Spool → Type 0
+AreFree free inodes S = free + length (files_of S) ≡ inodes

@@ -1,0 +1,4 @@
+pub mod Kept
+pub mod View
+pub mod Growing
+pub mod Refusals

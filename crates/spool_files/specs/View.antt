@@ -1,0 +1,33 @@
+-- The spool as its callers see it, and what a change leaves of it.
+use Rattle.std.specs.Prelude.{◌≡◌, ◌⊎◌, ◌↔◌, ℕ, ◌+◌, ◌≤◌, List, [], ◌∷◌, ◌++◌, length}
+use Rattle.std.specs.List.{Contains}
+use Rattle.model.specs.Stream.{Octets}
+use Rattle.model.specs.Spool.{Spool}
+use Rattle.model.specs.declared.change.Change.{Change}
+use Rattle.volume.specs.Volume.{Differs}
+use Rattle.spool_files.specs.Kept.{IsHeld}
+
+-- its host, the inodes of its volume, the accepted changes, the cached blocks, and the numbers of those that no batch has taken
+-- since they changed
+pub record SpoolView : Type 0 where
+  pub host : Octets
+  pub inodes : ℕ
+  pub changes : Spool
+  pub blocks : List Octets
+  pub dirty : List ℕ
+
+-- what holds of every spool
+abbrev pub IsSpool : SpoolView → Type 0
+IsSpool s = IsHeld s.host s.inodes s.blocks s.changes
+
+-- the dirty blocks are those that were dirty and those whose octets differ now; a change dirties at most 256
+pub record Dirties (old new : List Octets) (before after : List ℕ) : Type 0 where
+  pub exactly : (k : ℕ) → Contains after k ↔ (Contains before k ⊎ Differs old new k)
+  pub few : length after ≤ length before + 256
+
+-- this change is accepted
+pub record Adds (before after : SpoolView) (c : Change) : Type 0 where
+  pub host : after.host ≡ before.host
+  pub inodes : after.inodes ≡ before.inodes
+  pub changes : after.changes ≡ before.changes ++ c ∷ []
+  pub dirties : Dirties before.blocks after.blocks before.dirty after.dirty

@@ -1,0 +1,85 @@
+//! One change more in all that a spool keeps: its files on the stage, then their places and the index, and last the stage is
+//! applied, which takes no memory. Where memory is refused, all is as it was.
+
+ghost use Rattle.std.specs.Prelude.{◌≡◌, OnErr, OnOk};
+ghost use Rattle.model.specs.declared.change.Change.{Change};
+ghost use Rattle.spool_files.specs.Growing.{IsGrown, IsReady};
+
+use crate::staging::{make_expiry, make_group};
+use index::Index;
+use places::Places;
+use records::{expiry_record, group_record};
+use std::alloc::{AllocError, Global};
+use volume::Volume;
+
+/// Adds a group that may be made and for which there is room. An `Err` is out of memory and changes nothing.
+pub(crate) fn grow_by_group(
+    alloc: Global,
+    inodes: u32,
+    volume: &mut Volume,
+    index: &mut Index,
+    places: &mut Places,
+    name: &[u8],
+    status: u8,
+    description: &[u8],
+    moment: u64,
+) -> Result<(), AllocError>
+    requires { IsReady inodes volume.old index.old places.old (Change.Group name.now status description.now moment) }
+    ensures grown { OnOk result (IsGrown inodes volume.old volume.new index.old index.new places.old places.new (Change.Group name.now status description.now moment)) }
+    ensures volume { OnErr result (volume.new ≡ volume.old) }
+    ensures index { OnErr result (index.new ≡ index.old) }
+    ensures places { OnErr result (places.new ≡ places.old) }
+{
+    let serial = index.len() + 1;
+    let record = group_record(alloc, serial, moment, status, description)?;
+    let Ok(made) = make_group(alloc, volume, inodes, name, &record) else {
+        volume.drop_stage();
+        return Err(AllocError);
+    };
+    let Ok(()) = places.push_group(made.at, made.numbers, made.overview) else {
+        volume.drop_stage();
+        return Err(AllocError);
+    };
+    let Ok(()) = index.push_group(name, status, description, moment) else {
+        places.pop_group();
+        volume.drop_stage();
+        return Err(AllocError);
+    };
+    volume.apply();
+    Ok(())
+}
+
+/// Adds an expiry that may follow and for which there is room. An `Err` is out of memory and changes nothing.
+pub(crate) fn grow_by_expiry(
+    alloc: Global,
+    inodes: u32,
+    volume: &mut Volume,
+    index: &mut Index,
+    places: &mut Places,
+    name: &[u8],
+    number: u32,
+) -> Result<(), AllocError>
+    requires { IsReady inodes volume.old index.old places.old (Change.Expire name.now number) }
+    ensures grown { OnOk result (IsGrown inodes volume.old volume.new index.old index.new places.old places.new (Change.Expire name.now number)) }
+    ensures volume { OnErr result (volume.new ≡ volume.old) }
+    ensures index { OnErr result (index.new ≡ index.old) }
+    ensures places { OnErr result (places.new ≡ places.old) }
+{
+    let serial = index.len() + 1;
+    let record = expiry_record(alloc, serial, name, number)?;
+    let Ok(at) = make_expiry(alloc, volume, inodes, serial, &record) else {
+        volume.drop_stage();
+        return Err(AllocError);
+    };
+    let Ok(()) = places.push_change(at) else {
+        volume.drop_stage();
+        return Err(AllocError);
+    };
+    let Ok(()) = index.push_expiry(name, number as u64) else {
+        places.pop_change();
+        volume.drop_stage();
+        return Err(AllocError);
+    };
+    volume.apply();
+    Ok(())
+}

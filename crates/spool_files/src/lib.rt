@@ -1,0 +1,240 @@
+//! The list of accepted changes, in files over the cached logical blocks, with an index and the places of the files in memory.
+#![tactic(auto)]
+
+ghost use Rattle.std.specs.Prelude.{◌≡◌, ◌⊎◌, ◌+◌, ◌-◌, ◌<◌, ◌≤◌, ◌||◌, ◌^◌, ◌&&◌, nat_lt, nat_le, ℕ, List, [], false, length, slice_index_or, IsTrue, IfOk, OnErr, OnOk};
+ghost use Rattle.std.specs.List.{All, flat_map, list_all};
+ghost use Rattle.model.specs.Calendar.{moment_limit};
+ghost use Rattle.model.specs.Lawful.{MayExpire, MayMake, is_description_octet};
+ghost use Rattle.model.specs.Layout.{Holds};
+ghost use Rattle.model.specs.Names.{is_group_name, is_host};
+ghost use Rattle.model.specs.Room.{free_blocks_beside, free_inodes_beside};
+ghost use Rattle.model.specs.Spool.{is_here};
+ghost use Rattle.model.specs.SpoolFiles.{files_of};
+ghost use Rattle.model.specs.Volume.{AreDistinct, blocks_from, laid_over};
+ghost use Rattle.model.specs.declared.change.Change.{Change};
+ghost use Rattle.volume.specs.Volume.{AgreeOutside};
+
+mod errors;
+mod growing;
+mod staging;
+
+pub use errors::{AddError, ExpireError};
+use fs::free_block_count;
+use growing::{grow_by_expiry, grow_by_group};
+use index::Index;
+use model::Text;
+use places::Places;
+use std::alloc::{AllocError, Global};
+use std::marker::Model;
+use volume::{BatchBuf, Volume};
+
+/// A change is refused where fewer blocks are free.
+const BLOCKS_ASKED: u32 = 256;
+
+/// The most groups on a server.
+const GROUPS: usize = 4096;
+
+/// The files of a group: its record, its numbers, its overview.
+const GROUP_FILES: u32 = 3;
+
+/// The accepted changes of a host, in files, and the cache of the logical blocks that hold them.
+#[derive(Drop)]
+pub struct Spool {
+    alloc: Global,
+    host: Text,
+    inodes: u32,
+    free_inodes: u32,
+    volume: Volume,
+    index: Index,
+    places: Places,
+    ghost stands: { StandsIn host inodes volume.cache } by { one_stands host inodes volume.cache },
+}
+
+ghost use Rattle.spool_files.specs.Kept.{StandsIn, one_stands};
+
+impl Model for Spool {
+    ghost use Rattle.spool_files.specs.Kept.{AreFree, IsKept};
+    ghost use Rattle.spool_files.specs.View.{SpoolView};
+
+    ghost Value = { SpoolView };
+
+    ghost view = { λ s. record { host = s.host; inodes = s.inodes; changes = s.stands.changes; blocks = s.volume.cache; dirty = s.volume.dirty } };
+
+    ghost invariant = { λ s. IsKept s.host s.inodes s.volume s.index s.places s.stands.changes × AreFree s.free_inodes s.inodes s.stands.changes };
+}
+
+impl Spool {
+    ghost use Rattle.spool_files.specs.Kept.{AreFree, IsKept};
+    ghost use Rattle.spool_files.specs.Refusals.{Tested, expiry_refusal, group_refusal, has_number, is_full_for};
+    ghost use Rattle.spool_files.specs.View.{Adds, IsSpool};
+
+    /// The host that the spool belongs to.
+    pub fn host(&self) -> &Text
+        ensures { result.now ≡ self.now.host }
+    {
+        &self.host
+    }
+
+    /// How many inodes the volume's label has.
+    pub fn inodes(&self) -> u32
+        ensures { result ≡ self.now.inodes }
+    {
+        self.inodes
+    }
+
+    /// How many changes are accepted.
+    pub fn len(&self) -> u64
+        ensures count { result ≡ length self.now.changes }
+        ensures sound { IsSpool self.now }
+    {
+        self.index.len()
+    }
+
+    /// How many blocks are dirty.
+    pub fn dirty_len(&self) -> usize
+        ensures { result ≡ length self.now.dirty }
+    {
+        self.volume.dirty_len()
+    }
+
+    /// Copies the dirty blocks, of which there are at most 512, in place of what was in the buffer. Then none is dirty.
+    pub fn copy_dirty(&mut self, into: &mut BatchBuf)
+        requires { length self.old.dirty ≤ 512 }
+        ensures clean { self.new ≡ record self.old { dirty = [] } }
+        ensures numbers { into.new.numbers ≡ self.old.dirty }
+        ensures images { into.new.images ≡ flat_map (λ n. slice_index_or self.old.blocks n []) self.old.dirty }
+        ensures distinct { AreDistinct into.new.numbers }
+        ensures below { All (λ n. n < length self.old.blocks) into.new.numbers }
+        ensures laid { (blocks : List (List ℕ)) → AgreeOutside into.new.numbers blocks self.old.blocks
+            → laid_over blocks into.new.numbers (blocks_from 0 (length into.new.numbers) into.new.images) ≡ self.old.blocks }
+    {
+        self.volume.copy_dirty(into);
+    }
+
+    /// Whether the group is here.
+    fn is_here(&self, name: &[u8]) -> bool
+        ensures { result ≡ is_here self.now.changes name.now }
+    {
+        self.index.group(name).is_some()
+    }
+
+    /// Whether too few blocks are free for a change, or too few inodes for its files.
+    fn lacks_room(&self, files: u32) -> bool
+        ensures { result ≡ (nat_lt (free_blocks_beside (length self.now.blocks) self.now.inodes (files_of self.now.changes)) 256
+            || nat_lt (free_inodes_beside self.now.inodes (files_of self.now.changes)) files) }
+    {
+        free_block_count(&self.volume, self.inodes) < BLOCKS_ASKED || self.free_inodes < files
+    }
+
+    /// Whether there is no room for a group.
+    fn is_full_for_group(&self) -> bool
+        ensures { result ≡ is_full_for self.now (Change.Group [] 0 [] 0) }
+    {
+        self.lacks_room(GROUP_FILES) || GROUPS <= self.index.groups().len()
+    }
+
+    /// Adds a group and answers its serial. Refused as `Exists`, `Full` or `Memory`, in that order, but `Memory` may come before
+    /// the others. A refusal changes nothing.
+    pub fn add_group(
+        &mut self,
+        name: &[u8],
+        status: u8,
+        description: &[u8],
+        moment: u64,
+    ) -> Result<u64, AddError>
+        requires name { IsTrue (is_group_name name.now) }
+        requires status { (status ≡ 121) ⊎ (status ≡ 110) }
+        requires short { length description.now ≤ 200 }
+        requires printable { IsTrue (list_all is_description_octet description.now) }
+        requires in_time { moment < moment_limit }
+        ensures { Tested AddError.Memory (group_refusal self.old name.now (Change.Group name.now status description.now moment)) self.old self.new result
+            (λ serial. (serial ≡ length self.old.changes + 1) × Adds self.old self.new (Change.Group name.now status description.now moment)) }
+    {
+        if self.is_here(name) {
+            return Err(AddError::Exists);
+        }
+        if self.is_full_for_group() {
+            return Err(AddError::Full);
+        }
+        match self.push_group(name, status, description, moment) {
+            Ok(()) => Ok(self.len()),
+            Err(_) => Err(AddError::Memory),
+        }
+    }
+
+    /// Adds a group that may be made and for which there is room. An `Err` is out of memory and changes nothing.
+    fn push_group(
+        &mut self,
+        name: &[u8],
+        status: u8,
+        description: &[u8],
+        moment: u64,
+    ) -> Result<(), AllocError>
+        requires may { MayMake self.old.changes name.now status description.now moment }
+        requires room { is_full_for self.old (Change.Group name.now status description.now moment) ≡ false }
+        ensures ok { OnOk result (Adds self.old self.new (Change.Group name.now status description.now moment)) }
+        ensures err { OnErr result (self.new ≡ self.old) }
+    {
+        grow_by_group(
+            self.alloc,
+            self.inodes,
+            &mut self.volume,
+            &mut self.index,
+            &mut self.places,
+            name,
+            status,
+            description,
+            moment,
+        )?;
+        self.free_inodes -= GROUP_FILES;
+        Ok(())
+    }
+
+    /// Whether a number is in a group that is here, from its lowest to its highest.
+    fn has_number(&self, name: &[u8], number: u32) -> bool
+        ensures { result ≡ has_number self.now.changes name.now number }
+    {
+        match self.index.group(name) {
+            Some(group) => group.low() <= number as u64 && number as u64 <= group.high(),
+            None => false,
+        }
+    }
+
+    /// Takes the articles of a group up to a number out of it, and answers the serial of that change. Refused as `NotFound`, `Full`
+    /// or `Memory`, in that order, but `Memory` may come before the others. A refusal changes nothing.
+    pub fn expire(&mut self, name: &[u8], number: u32) -> Result<u64, ExpireError>
+        ensures { Tested ExpireError.Memory (expiry_refusal self.old name.now number) self.old self.new result
+            (λ serial. (serial ≡ length self.old.changes + 1) × Adds self.old self.new (Change.Expire name.now number)) }
+    {
+        if !self.has_number(name, number) {
+            return Err(ExpireError::NotFound);
+        }
+        if self.lacks_room(1) {
+            return Err(ExpireError::Full);
+        }
+        match self.push_expiry(name, number) {
+            Ok(()) => Ok(self.len()),
+            Err(_) => Err(ExpireError::Memory),
+        }
+    }
+
+    /// Adds an expiry that may follow and for which there is room. An `Err` is out of memory and changes nothing.
+    fn push_expiry(&mut self, name: &[u8], number: u32) -> Result<(), AllocError>
+        requires may { MayExpire self.old.changes name.now number }
+        requires room { is_full_for self.old (Change.Expire name.now number) ≡ false }
+        ensures ok { OnOk result (Adds self.old self.new (Change.Expire name.now number)) }
+        ensures err { OnErr result (self.new ≡ self.old) }
+    {
+        grow_by_expiry(
+            self.alloc,
+            self.inodes,
+            &mut self.volume,
+            &mut self.index,
+            &mut self.places,
+            name,
+            number,
+        )?;
+        self.free_inodes -= 1;
+        Ok(())
+    }
+}
