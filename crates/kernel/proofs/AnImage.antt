@@ -8,7 +8,7 @@ use Rattle.byteorder.specs.Endian.{little_bytes}
 use Rattle.disk.specs.Image.{overwritten}
 use Rattle.volume_format.specs.Formatting.{zero_block, zeroed}
 use Rattle.volume_format.proofs.Formatted.{blocks_are, label_is, length-superblock, stands_formatted, superblock, superblock_valid}
-use Rattle.model.specs.FirstPath.{Holds}
+use Rattle.model.specs.News.{Holds}
 use Rattle.model.specs.Layout.{IsLabel, label_octets}
 use Rattle.model.specs.Names.{is_host}
 use Rattle.model.specs.Spool.{entries}

@@ -3,7 +3,9 @@ use Rattle.std.proofs.Common.{◌≡◌, ℕ, zero, suc, ◌≤◌, ◌<◌, ◌
 use Rattle.std.specs.Prelude.{Option, Some, None, Result, Ok, Err, MatchResult, IsSome, is_none, is_some, not, ◌||◌, ◌&&◌, bytes_eq, nat_le, nat_lt, slice_get, slice_index_or, if◌then◌else◌}
 use Rattle.std.proofs.Math.Bool.{or-false}
 use Rattle.std.proofs.lemmas.Bool.{eqb-false, eqb-true, le-leb, leb-true, ltb-false}
+use Rattle.model.specs.declared.session.Answer.{Answer}
 use Rattle.model.specs.declared.session.Session.{Session}
+use Rattle.model.proofs.NewsLaws.{stopped_answer}
 use Rattle.outbox.specs.Queue.{buffered as octets_held}
 use Rattle.kernel.specs.Errors.{of_exec}
 use Rattle.kernel.specs.declared.errors.ExecError.{ExecError}
@@ -11,7 +13,6 @@ use Rattle.kernel.specs.declared.errors.ExecError.TheVariants.{Memory}
 use Rattle.std.proofs.lemmas.Slice.Eq.{bytes_eq-Decides}
 use Rattle.model.specs.Stream.{Octets}
 use Rattle.model.specs.Service.{mode_of}
-use Rattle.model.specs.FirstPath.{answer}
 use Rattle.model.specs.declared.change.Change.{Change}
 use Rattle.model.specs.declared.message.Message.{Message}
 use Rattle.model.specs.declared.message.Mark.{Mark}
@@ -189,8 +190,7 @@ served_mark s d f h j seats x m t is = sym (ap (λ (b : Bool). if b then mark.St
 
 -- a session that is told that the service ends changes nothing
 pub stopped_stays : (s : SpoolView) (x : Session) (m : Message) (t : ℕ) → Grows s s (answer_in s x m t mark.Stopped).change
-unfolding answer
-stopped_stays s x m t = refl
+stopped_stays s x m t = subst (λ (a : Answer). Grows s s a.change) (sym (stopped_answer s.host s.changes x m t)) refl
 
 pub some_of : {T : Type 0} (b : Bool) (o : Option T) → is_some o ≡ not b → b ≡ false → IsSome o
 some_of b o is off = is ∙ ap not off
@@ -214,12 +214,10 @@ leb-not a b lt = go (nat_le a b) refl
     go false is = is
 
 pub stopped_changes_nothing : (s : SpoolView) (x : Session) (m : Message) (t : ℕ) → IsSome (answer_in s x m t mark.Stopped).change → ⊥
-unfolding answer
-stopped_changes_nothing s x m t some = cc some
+stopped_changes_nothing s x m t some = let none = ap (λ (a : Answer). is_some a.change) (stopped_answer s.host s.changes x m t) in cc (some, none)
 
 pub stopped_mode : (s : SpoolView) (m : Message) (t : ℕ) (before after : Seat) → after ≡ answered_by s.host s.changes m t mark.Stopped before → None ≡ mode_of after.session.awaits
-unfolding answer
-stopped_mode s m t before after is = sym (ap (λ (x : Seat). mode_of x.session.awaits) is)
+stopped_mode s m t before after is = sym (ap (λ (x : Seat). mode_of x.session.awaits) is ∙ ap (λ (a : Answer). mode_of a.next.awaits) (stopped_answer s.host s.changes before.session m t))
 
 -- where an article comes, there are few dirty blocks
 pub room_for : (s : SpoolView) (x : Session) (m : Message) (t : ℕ) (mark : Mark) → (is_block m && nat_lt 256 (length s.dirty)) ≡ false → IsSome (answer_in s x m t mark).change → length s.dirty ≤ 256

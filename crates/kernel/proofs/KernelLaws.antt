@@ -6,19 +6,14 @@ use Rattle.std.proofs.lemmas.List.{length-set}
 use Rattle.std.proofs.lemmas.List.Elements.{All-head, All-tail, All-weaker, All-push, All-set, All-filter}
 use Rattle.model.specs.Stream.{Octets}
 use Rattle.model.specs.Spool.{Spool}
-use Rattle.model.specs.Answer.{full_answer}
 use Rattle.model.specs.Replies.{greeting}
-use Rattle.model.specs.FirstPath.{answer, line_answer, request_line, served}
 use Rattle.model.specs.Service.{mode_of}
-use Rattle.model.proofs.FirstPathLaws.{first_path_lawful}
+use Rattle.model.proofs.NewsLaws.{lawful, only_blocks_change as its_changes}
 use Rattle.model.specs.declared.change.Change.{Change}
 use Rattle.model.specs.declared.message.Message.{Message}
 use Rattle.model.specs.declared.message.Message.TheVariants.{Line, Block, TooLong}
 use Rattle.model.specs.declared.message.Mark.{Mark}
 use Rattle.model.specs.declared.message.Mode.{Mode}
-use Rattle.model.specs.declared.message.Mark.TheVariants as mark
-use Rattle.model.specs.declared.session.Awaits.{Awaits}
-use Rattle.model.specs.declared.session.Awaits.TheVariants as awaits
 use Rattle.model.specs.declared.session.Session.{Session}
 use Rattle.outbox.specs.Queue.{Held}
 use Rattle.spool.specs.View.{SpoolView, Adds}
@@ -29,7 +24,6 @@ use Rattle.kernel.specs.Stored.{kernel_of}
 use Rattle.kernel.proofs.Keeping.{SeatIsKept-answered}
 use Rattle.kernel.proofs.Releasing.{ready_seats, ready_rises, ready_few}
 use Rattle.kernel.proofs.SeatsLaws.{RiseFrom-filter, RiseFrom-push, RiseFrom-set, below_differs, filter_above, find_at, seats_more}
-use Rattle.kernel.proofs.ServeLaws.{line_changes_nothing}
 
 -- what holds of each session holds of the one at a place
 pub all_at : (P : Seat → Type 0) (at : ℕ) (seats : List Seat) (seat : Seat) → All P seats → slice_get seats at ≡ Some seat → P seat
@@ -92,7 +86,7 @@ kept_served s s' d f halted j seats at seat seat' m t mark place awaited room gr
     let k = kept_grown s s' d f halted j seats (answer_in s seat.session m t mark).change room grows h in
     let g = grown s s' (answer_in s seat.session m t mark).change grows in
     let was = all_at (IsSeat s.host s.changes j) at seats seat h.seats place in
-    let full = filled (answer_in s seat.session m t mark).reply ((first_path_lawful s.host).replies s.changes seat.session m t mark) in
+    let full = filled (answer_in s seat.session m t mark).reply ((lawful s.host).replies s.changes seat.session m t mark) in
     let outputs = SeatIsKept-answered s.host s.changes seat.session m t mark seat.given seat.held awaited full was.outputs in
     let now : IsSeat s.host (s.changes ++ option_to_list (answer_in s seat.session m t mark).change) j (answered_by s.host s.changes m t mark seat) =
     record { outputs = outputs; awaits = some_awaits seat.held _ _; some = was.some; spent = was.spent } in
@@ -109,32 +103,14 @@ kept_served s s' d f halted j seats at seat seat' m t mark place awaited room gr
       rising = RiseFrom-set 0 at seats seat seat' h.rising place (ap (λ (x : Seat). x.number) is);
     }
 
-full_none : (x : Session) (what : Awaits) → IsSome (full_answer x what).change → ⊥
-full_none x awaits.Line got = cc got
-full_none x awaits.PostBlock got = cc got
-full_none x (awaits.IhaveBlock id) got = cc got
-full_none x awaits.Nothing got = cc got
+no_block : (m : Message) → is_block m ≡ false → (text : Octets) → m ≢ Block text
+no_block (Line line) is text same = cc same
+no_block (Block block) is text same = cc is
+no_block TooLong is text same = cc same
 
 -- only a block makes a change
 pub only_blocks_change : (s : SpoolView) (x : Session) (m : Message) (t : ℕ) (mark : Mark) → is_block m ≡ false → IsSome (answer_in s x m t mark).change → ⊥
-unfolding answer served
-only_blocks_change s x m t mark.Served other some = no_change x.awaits m refl other some
-  where
-    line_none : (text : Octets) → IsSome (line_answer s.changes x (request_line text)).change → ⊥
-    line_none text is = let none = line_changes_nothing s x t (request_line text) in cc (is, ap (λ (o : Option Change). is_some o) none)
-
-    no_change : (what : Awaits) (n : Message) → what ≡ x.awaits → is_block n ≡ false → IsSome (served s.host s.changes x t what n).change → ⊥
-    no_change awaits.Line (Line text) same is got = line_none text got
-    no_change awaits.Line (Block text) same is got = cc is
-    no_change awaits.Line TooLong same is got = cc got
-    no_change awaits.PostBlock (Line text) same is got = cc got
-    no_change awaits.PostBlock (Block text) same is got = cc is
-    no_change awaits.PostBlock TooLong same is got = cc got
-    no_change (awaits.IhaveBlock id) n same is got = cc got
-    no_change awaits.Nothing n same is got = cc got
-only_blocks_change s x m t mark.Full other some = full_none x x.awaits some
-only_blocks_change s x m t mark.Long other some = full_none x x.awaits some
-only_blocks_change s x m t mark.Stopped other some = cc some
+only_blocks_change s x m t mark other some = let none = its_changes s.host s.changes x m t mark (no_block m other) in cc (some, ap (λ (o : Option Change). is_some o) none)
 
 -- ---- join, leave, take_ready
 
@@ -142,7 +118,7 @@ only_blocks_change s x m t mark.Stopped other some = cc some
 new_is_kept : (host : Octets) (S : Spool) (j : ℕ) → IsSeat host S (j + 1) (new_seat host (j + 1))
 new_is_kept host S j =
     record {
-      outputs = inl (0, record { cut_within = filled (greeting host) (first_path_lawful host).greets; octets = refl; dependency = refl; ends = refl; first_output = refl }, refl);
+      outputs = inl (0, record { cut_within = filled (greeting host) (lawful host).greets; octets = refl; dependency = refl; ends = refl; first_output = refl }, refl);
       awaits = tt;
       some = omega arith;
       spent = omega arith;

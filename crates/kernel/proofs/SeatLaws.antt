@@ -1,40 +1,26 @@
 -- A session after its reply.
-use Rattle.std.proofs.Common.{◌≡◌, ℕ, ◌+◌, List, [], ◌∷◌, ◌++◌, length, refl, ap, ◌∙◌, arith, length-append}
+use Rattle.std.proofs.Common.{◌≡◌, ℕ, List, [], ◌∷◌, ◌++◌, refl, ap, ◌∙◌}
 use Rattle.std.specs.Prelude.{Bool, true, false, not, max, Option, Some, None, is_none, is_some}
 use Rattle.model.specs.Stream.{Octets}
 use Rattle.model.specs.Spool.{Spool}
-use Rattle.model.specs.FirstPath.{answer, reads}
+use Rattle.model.specs.News.{answer, reads}
 use Rattle.model.specs.Service.{mode_of}
-use Rattle.model.specs.Reads.{count_of_change}
-use Rattle.model.specs.declared.change.Change.{Change}
 use Rattle.model.specs.declared.message.Message.{Message}
 use Rattle.model.specs.declared.message.Mark.{Mark}
 use Rattle.model.specs.Replies.{service_ends}
 use Rattle.model.specs.declared.message.Mark.TheVariants.{Stopped}
+use Rattle.model.specs.declared.session.Answer.{Answer}
 use Rattle.model.specs.declared.session.Awaits.TheVariants.{Nothing}
 use Rattle.model.specs.declared.session.Session.{Session}
+use Rattle.model.proofs.NewsLaws.{stopped_answer}
 use Rattle.outbox.specs.Queue.{Held, last_dependency}
 use Rattle.spool.specs.View.{SpoolView}
 use Rattle.kernel.specs.Kernel.{Seat, answered_by}
-use Rattle.kernel.specs.Serving.{answer_in, Grows, turned}
-
--- what an answer reads is the count of the changes after it
-pub reads_behind : (old new : SpoolView) (x : Session) (m : Message) (t : ℕ) (mark : Mark) → Grows old new (answer_in old x m t mark).change → reads old.host old.changes x m t mark ≡ length new.changes
-unfolding reads
-reads_behind old new x m t mark grows = go (answer_in old x m t mark).change grows
-  where
-    go : (change : Option Change) → Grows old new change → length old.changes + count_of_change change ≡ length new.changes
-    go None is = omega (arith, ap (λ (s : SpoolView). length s.changes) is)
-    go (Some c) adds = omega (arith, ap length adds.changes, length-append old.changes (c ∷ []))
+use Rattle.kernel.specs.Serving.{answer_in, turned}
 
 -- the answer where the kernel is halted
-pub stopped_answer : (s : SpoolView) (x : Session) (m : Message) (t : ℕ) → ((answer_in s x m t Stopped).next ≡ turned x (Some Nothing)) × ((answer_in s x m t Stopped).reply ≡ service_ends)
-unfolding answer
-stopped_answer s x m t = (refl, refl)
-
-pub stopped_reads : (s : SpoolView) (x : Session) (m : Message) (t : ℕ) → reads s.host s.changes x m t Stopped ≡ length s.changes
-unfolding answer reads
-stopped_reads s x m t = omega arith
+pub stopped_says : (s : SpoolView) (x : Session) (m : Message) (t : ℕ) → ((answer_in s x m t Stopped).next ≡ turned x (Some Nothing)) × ((answer_in s x m t Stopped).reply ≡ service_ends)
+stopped_says s x m t = let said = stopped_answer s.host s.changes x m t in (ap (λ (a : Answer). a.next) said, ap (λ (a : Answer). a.reply) said)
 
 -- a session with one output more, as the answer leaves it
 pub answered_is : (host : Octets) (S : Spool) (m : Message) (t : ℕ) (mark : Mark) (before after : Seat) (octets : List ℕ) (dependency : ℕ) → after.number ≡ before.number → after.given ≡ before.given

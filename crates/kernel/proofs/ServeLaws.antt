@@ -1,17 +1,19 @@
 -- Replies, case by case, are the plain server's answers.
-use Rattle.std.proofs.Common.{◌≡◌, ◌≢◌, ◌⊎◌, inl, inr, ℕ, Bool, true, false, List, [], ◌∷◌, length, refl, ap, sym, ◌∙◌, subst}
+use Rattle.std.proofs.Common.{◌≡◌, ◌≢◌, ◌⊎◌, inl, inr, ℕ, ◌+◌, Bool, true, false, List, [], ◌∷◌, length, refl, ap, sym, ◌∙◌, subst, arith, length-append}
 use Rattle.std.specs.Prelude.{Result, Ok, Err, IfOk, Option, Some, None, if◌then◌else◌, find}
 use Rattle.model.specs.Stream.{Octets}
 use Rattle.model.specs.Spool.{Spool, NewsArticle}
+use Rattle.model.specs.Reads.{count_of_change}
 use Rattle.model.specs.Replies.{received, not_accepted, syntax_error}
 use Rattle.model.specs.Answer.{Outcome, not_an_article, article_answer, awaiting, full_answer, is_closed, says, spool_outcome}
-use Rattle.model.specs.FirstPath.{answer, by_id, groups_here, groups_of, id, is_article, is_full, line_answer, post_outcome, request_line, served, stat_answer}
+use Rattle.model.specs.FirstPath.{answer, reads, by_id, groups_here, groups_of, id, is_article, is_full, line_answer, post_outcome, request_line, served, stat_answer}
 use Rattle.model.specs.declared.change.Change.{Change}
 use Rattle.model.specs.declared.change.Change.TheVariants.{Article}
 use Rattle.model.specs.declared.first_path.Request.{Request}
 use Rattle.model.specs.declared.first_path.Request.TheVariants as request
 use Rattle.model.specs.declared.message.Message.{Message}
 use Rattle.model.specs.declared.message.Message.TheVariants.{Line, Block, TooLong}
+use Rattle.model.specs.declared.message.Mark.{Mark}
 use Rattle.model.specs.declared.message.Mark.TheVariants as mark
 use Rattle.model.specs.declared.session.Answer.{Answer}
 use Rattle.model.specs.declared.session.Awaits.{Awaits}
@@ -218,3 +220,18 @@ module _ (s : SpoolView) (x : Session) (t : ℕ) where
       → reply.mark ≡ mark.Served → reply.octets.items ≡ not_accepted → reply.next ≡ Some awaits.Line → IsReplyTo s s x (Block text) t reply
   post_refused text e reply is is_one fails other served_so octets next =
       reply_served s s x (Block text) t reply refused_answer (post_by text is is_one ∙ refused_when text (by_id s.changes (id text)) (groups_here s.changes text) (find (is_closed s.changes) (groups_of text)) e fails other) refl served_so octets (ap (turned x) next) refl
+
+-- ---- what an answer reads
+
+-- what an answer reads is the count of the changes after it
+pub reads_behind : (old new : SpoolView) (x : Session) (m : Message) (t : ℕ) (mark : Mark) → Grows old new (answer_in old x m t mark).change → reads old.host old.changes x m t mark ≡ length new.changes
+unfolding reads
+reads_behind old new x m t mark grows = go (answer_in old x m t mark).change grows
+  where
+    go : (change : Option Change) → Grows old new change → length old.changes + count_of_change change ≡ length new.changes
+    go None is = omega (arith, ap (λ (s : SpoolView). length s.changes) is)
+    go (Some c) adds = omega (arith, ap length adds.changes, length-append old.changes (c ∷ []))
+
+pub stopped_reads : (s : SpoolView) (x : Session) (m : Message) (t : ℕ) → reads s.host s.changes x m t mark.Stopped ≡ length s.changes
+unfolding answer reads
+stopped_reads s x m t = omega arith

@@ -1,6 +1,6 @@
 -- What serving a message does to the spool and to the session.
 use Rattle.std.specs.Prelude.{◌≡◌, ℕ, length, Option, Some, None, if◌then◌else◌}
-use Rattle.model.specs.News.{answer, is_long, is_full, mode_of}
+use Rattle.model.specs.News.{answer, reads, is_long, is_full, mode_of}
 use Rattle.model.specs.Replies.{syntax_error}
 use Rattle.model.specs.declared.change.Change.{Change}
 use Rattle.model.specs.declared.message.Message.{Message}
@@ -12,6 +12,7 @@ use Rattle.model.specs.declared.session.Awaits.{Awaits}
 use Rattle.model.specs.declared.session.Session.{Session}
 use Rattle.spool.specs.View.{SpoolView, Adds}
 use Rattle.kernel.specs.Kernel.{Seat, answered_by}
+use Rattle.kernel.specs.declared.serve.Answered.{Answered}
 use Rattle.kernel.specs.declared.serve.Reply.{Reply}
 
 -- the answer of a spool
@@ -41,6 +42,11 @@ pub record IsReplyTo (old new : SpoolView) (x : Session) (m : Message) (t : ℕ)
   pub octets : reply.octets.items ≡ (answer_in old x m t reply.mark).reply
   pub next : turned x reply.next ≡ (answer_in old x m t reply.mark).next
   pub spool : Grows old new (answer_in old x m t reply.mark).change
+
+-- so it is, with what the answer reads
+pub record IsAnswered (old new : SpoolView) (x : Session) (m : Message) (t : ℕ) (answered : Answered) : Type 0 where
+  pub reply : IsReplyTo old new x m t answered.reply
+  pub reads : answered.reads ≡ reads old.host old.changes x m t answered.reply.mark
 
 -- the session was served: it has one reply more
 pub record SeatServed (old new : SpoolView) (before after : Seat) (m : Message) (t : ℕ) (done : Option Mode × Mark) : Type 0 where

@@ -7,7 +7,7 @@ ghost use Rattle.model.specs.Calendar.{moment_limit};
 ghost use Rattle.model.specs.News.{mode_of};
 ghost use Rattle.outbox.specs.Queue.{buffered, entry_of, last_dependency};
 
-use crate::serve::{Reply, serve};
+use crate::serve::{Answered, Reply, serve, stopped_reads};
 use model::{Awaits, Mark, Message, Mode, Session};
 use outbox::{Queue, ReadyBuf};
 use spool::Spool;
@@ -87,11 +87,12 @@ impl Seat {
         ensures spool { OnErr result (spool.new ≡ spool.old) }
     {
         self.queue.reserve(1)?;
-        let reply = serve(alloc, spool, &self.session, message, moment)?;
+        let answered = serve(alloc, spool, &self.session, message, moment)?;
+        let Answered { reply, reads } = answered;
         let Reply { octets, next, mark } = reply;
         turn(&mut self.session, next);
         let mode = mode_of(&self.session.awaits);
-        hold(&mut self.queue, octets, spool.len(), mode.is_none());
+        hold(&mut self.queue, octets, reads, mode.is_none());
         Ok((mode, mark))
     }
 
@@ -121,7 +122,7 @@ impl Seat {
         self.queue.reserve(1)?;
         let octets = session::reply_service_ends(alloc)?;
         turn(&mut self.session, Some(Awaits::Nothing));
-        hold(&mut self.queue, octets, spool.len(), true);
+        hold(&mut self.queue, octets, stopped_reads(spool), true);
         Ok(())
     }
 }

@@ -2,10 +2,12 @@
 
 ghost use Rattle.std.specs.Prelude.{IsSome, ◌≡◌, ◌≤◌, ◌<◌, ℕ, Some, None, IfOk, OnErr, length};
 ghost use Rattle.kernel.specs.Kernel.{FitsMode};
-ghost use Rattle.kernel.specs.Serving.{IsReplyTo, IsSyntaxError};
+ghost use Rattle.kernel.specs.Serving.{IsAnswered, IsReplyTo, IsSyntaxError};
 ghost use Rattle.model.specs.Calendar.{moment_limit};
 ghost use Rattle.model.specs.FirstPath.{by_id, stat_answer};
-ghost use Rattle.model.specs.News.{mode_of};
+ghost use Rattle.model.specs.News.{mode_of, reads};
+ghost use Rattle.model.specs.declared.message.Mark.TheVariants.{Stopped};
+ghost use Rattle.model.specs.declared.message.Message.{Message as MessageView};
 ghost use Rattle.model.specs.declared.message.Message.TheVariants.{Block, Line, TooLong};
 ghost use Rattle.model.specs.declared.session.Session.{Session as SessionView};
 ghost use Rattle.spool.specs.View.{SpoolView};
@@ -22,8 +24,41 @@ pub(crate) struct Reply {
     pub(crate) mark: Mark,
 }
 
+/// A reply, and the serial up to which it reads the spool.
+#[derive(Drop)]
+pub(crate) struct Answered {
+    pub(crate) reply: Reply,
+    pub(crate) reads: u64,
+}
+
 /// Answers a message of the kind that the session awaits. A refusal changes nothing.
 pub(crate) fn serve(
+    alloc: Global,
+    spool: &mut Spool,
+    session: &Session,
+    message: &Message,
+    moment: u64,
+) -> Result<Answered, AllocError>
+    requires kind { FitsMode (mode_of session.now.awaits) message.now }
+    requires awaits { IsSome (mode_of session.now.awaits) }
+    requires moment { moment < moment_limit }
+    ensures ok { IfOk result (IsAnswered spool.old spool.new session.now message.now moment) }
+    ensures err { OnErr result (spool.new ≡ spool.old) }
+{
+    let reply = reply_to(alloc, spool, session, message, moment)?;
+    let reads = spool.len();
+    Ok(Answered { reply, reads })
+}
+
+/// What the answer of a server that has stopped reads, whatever the message.
+pub(crate) fn stopped_reads(spool: &Spool) -> u64
+    ensures { (x : SessionView) (m : MessageView) (t : ℕ) → result ≡ reads spool.now.host spool.now.changes x m t Stopped }
+{
+    spool.len()
+}
+
+/// The reply to a message of the kind that the session awaits. A refusal changes nothing.
+fn reply_to(
     alloc: Global,
     spool: &mut Spool,
     session: &Session,

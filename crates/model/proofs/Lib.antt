@@ -25,6 +25,7 @@ pub mod AllRead
 pub mod Strings
 pub mod ServiceLaws
 pub mod FirstPathLaws
+pub mod NewsLaws
 pub mod Joined
 pub mod Owning
 pub mod HoldsOne

@@ -24,7 +24,7 @@ use Rattle.synchrony.proofs.Filled.{outputs_are_filled}
 use Rattle.served.specs.Served.{Sent, ServedView, Trace, nobody, session_at, sent_at, with_sent, arrived_at, first_spool, account, next_of, IsPresent, IsUnknown, IsKnown, IsSession, IsServed}
 use Rattle.served.specs.Events.{joins, arrives, leaves, releases, with_kernel, with_released, Serves, Makes}
 use Rattle.served.specs.Fields.{given_in}
-use Rattle.served.proofs.Lawful.{lawful}
+use Rattle.model.proofs.NewsLaws.{lawful}
 use Rattle.served.proofs.Seats.{seat_in, seat_in-number, seat_in-joined, seat_in-left, seat_in-answered, ready_gives, by_number, updated-same, updated-other, eqb-other, eqb-same}
 use Rattle.served.proofs.Sessions.{session_at-joined, session_at-with, session_at-past, length-with_sent, with_released-at, length-with_released, ready_known, sent_more}
 use Rattle.served.proofs.Standing.{IsSession-along, IsSession-raise, IsSession-joins, IsSession-arrives, IsSession-left, IsSession-served, IsSession-releases, there_joined, sent_arrived}

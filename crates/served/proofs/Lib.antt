@@ -1,7 +1,6 @@
 pub mod Giving
 pub mod Seats
 pub mod Sessions
-pub mod Lawful
 pub mod Plain
 pub mod Standing
 pub mod Events

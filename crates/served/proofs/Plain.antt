@@ -17,7 +17,7 @@ use Rattle.synchrony.proofs.Cut.{IsCut, sync_cut}
 use Rattle.synchrony.proofs.Released.{octets_of-unreleased}
 use Rattle.synchrony.proofs.Theorems.{account_sync}
 use Rattle.served.specs.Served.{FollowsPlain, IsServed, IsSession, Sent, ServedView, account, arrived_at, first_spool, nobody, octets_of_held, plain, replies_to, session_at, without_ends}
-use Rattle.served.proofs.Lawful.{lawful}
+use Rattle.model.proofs.NewsLaws.{lawful}
 
 held_octets : (held : List Held) → octets_of (without_ends held) ≡ octets_of_held held
 held_octets [] = refl

@@ -19,7 +19,7 @@ use Rattle.synchrony.specs.Synchrony.{IsExternallySynchronous, IsReleased}
 use Rattle.synchrony.proofs.Released.{IsReleased-none, IsReleased-raise}
 use Rattle.synchrony.proofs.Theorems.{account_sync, releases_are_synchronous}
 use Rattle.served.specs.Served.{Sent, ServedView, IsServed, IsSession, account, arrived_at, first_spool, nobody, released_at, session_at}
-use Rattle.served.proofs.Lawful.{lawful}
+use Rattle.model.proofs.NewsLaws.{lawful}
 use Rattle.world.specs.World.{WorldView, kernel_of}
 use Rattle.world.specs.Images.{Fits, IsSynchronous, MayBeLeft}
 use Rattle.journal.specs.Order.{is_to_commit}
