@@ -1,10 +1,10 @@
 //! What the program does: each of its commands but the simulation, and the server.
 
-use crate::simulation::simulate;
 use crate::words::{Asked, Service, read_words};
-use crate::{DONE, Failure, NOT_UNDERSTOOD, REFUSED};
 use names::GroupName;
+use printing::{DONE, Failure, NOT_UNDERSTOOD};
 use script::{Line, ParseError, parse};
+use simulation::simulate;
 use std::alloc::Global;
 use std::convert::AsStr;
 use std::fs::File;

@@ -1,32 +1,17 @@
 //! The program's words.
 
-ghost use Rattle.std.specs.Prelude.{◌≡◌, ◌≤◌, ◌⊎◌, IsTrue, length};
-ghost use Rattle.commands.specs.Sizes.{are_sizes};
-ghost use Rattle.model.specs.Names.{is_host};
-
 use crate::grammar::{
     BLOCKS, CACHE, DESCRIPTION, HOST, INODES, MOMENT, NAME, PATH, PORT, STATUS, grammar,
 };
-use crate::{DONE, Failure, NOT_UNDERSTOOD};
 use clap::ArgMatches;
 use clap::error::ErrorKind;
-use commands::are_sizes;
 use names::is_host;
+use new_volume::{Plan, are_sizes};
+use printing::{DONE, Failure, NOT_UNDERSTOOD};
 use script::number;
 use std::alloc::Global;
 use std::convert::AsStr;
 use std::io::Write;
-
-/// What a new volume is. Its words are in their grammars and ranges.
-#[derive(Drop)]
-pub(crate) struct Plan<'a> {
-    pub(crate) host: &'a [u8],
-    pub(crate) blocks: u64,
-    pub(crate) inodes: u64,
-    ghost named: { IsTrue (is_host host.now) },
-    ghost short: { length host.now ≤ 64 },
-    ghost sized: { IsTrue (are_sizes blocks inodes) },
-}
 
 /// What the words ask for.
 #[derive(Drop)]

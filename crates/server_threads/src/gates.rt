@@ -1,6 +1,6 @@
 //! Where a test stops the flusher or the releaser, and what its threads tell one another.
 
-use server::Gate;
+use flusher::Gate;
 use std::sync::atomic::{AtomicBool, AtomicU64, Ordering};
 use std::thread;
 

@@ -3,12 +3,12 @@
 ghost use Rattle.std.specs.Prelude.{◌≡◌};
 
 use crate::gates::Flags;
+use flusher::{Kern, Locked};
 use kernel::{AdminError, ExecError, JoinError, Kernel, Stale, Ticket};
 use mark::{Mark, Seat};
 use model::{Mark as Served, Message, Mode};
 use names::GroupName;
 use outbox::ReadyBuf;
-use server::{Kern, Locked};
 use spool::BatchBuf;
 use std::alloc::Global;
 use std::sync::atomic::Ordering;

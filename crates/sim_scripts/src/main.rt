@@ -2,14 +2,15 @@
 //!
 //! A line `== NAME` of standard input begins a script that is played, a line `-- NAME` one that only later scripts use. The
 //! lines up to the next of these are its own. There `$ WORD` is one of the program's words, which without any are
-//! `newsd sim --host news.example`; `+ N NAME` stands for the lines of an earlier script, N times.
+//! `newsd sim --host news.example`; `+ N NAME` stands for the lines of an earlier script, N times; `> N` gives the output room for
+//! N octets alone, of which it says how many are left, and has the last line end without an LF.
 #![tactic(auto)]
 
 use anyhow::{Result, anyhow};
 use program::run;
 use std::alloc::{AllocError, Global};
 use std::fs::File;
-use std::io::{self, BufRead, BufReader, BufWriter, Write};
+use std::io::{BufRead, BufReader, BufWriter, Write};
 use std::rt::Files;
 use std::sync::Wait;
 
@@ -22,6 +23,7 @@ struct Script {
     name: String,
     is_played: bool,
     words: Vec<String>,
+    room: Option<usize>,
     lines: String,
 }
 
@@ -31,6 +33,7 @@ impl Script {
             name: String::from_str(alloc, name)?,
             is_played,
             words: Vec::new(alloc),
+            room: None,
             lines: String::new(alloc),
         })
     }
@@ -41,6 +44,8 @@ impl Script {
             self.words.push(String::from_str(alloc, word)?)?;
         } else if let Some(used) = line.strip_prefix("+ ") {
             self.push_lines(used, earlier)?;
+        } else if let Some(room) = line.strip_prefix("> ") {
+            self.room = Some(room.parse::<usize>()?);
         } else {
             self.lines.push_str(line)?;
             self.lines.push('\n')?;
@@ -59,30 +64,60 @@ impl Script {
         Ok(())
     }
 
-    /// Runs the program on it.
+    /// Runs the program on it, and prints what it prints, its status and its faults.
     fn play<R: Files<File = File> + Wait, W: Write>(
         &self,
         rt: &R,
         alloc: Global,
         output: &mut W,
-    ) -> io::Result<()> {
+    ) -> Result<()> {
         writeln!(output, "== {}", self.name)?;
-        let mut input = self.lines.as_bytes();
         let mut faults = Vec::new(alloc);
-        let status = if self.words.is_empty() {
-            run(rt, alloc, WORDS.as_slice(), &mut input, output, &mut faults)
-        } else {
-            run(
-                rt,
-                alloc,
-                self.words.as_slice(),
-                &mut input,
-                output,
-                &mut faults,
-            )
+        let status = match self.room {
+            None => self.run(rt, alloc, self.lines.as_bytes(), output, &mut faults),
+            Some(size) => self.run_into(rt, alloc, size, output, &mut faults)?,
         };
         writeln!(output, "status {status}")?;
-        output.write_all(faults.as_slice())
+        output.write_all(faults.as_slice())?;
+        Ok(())
+    }
+
+    /// Runs the program on it with room for so many octets, and answers its status.
+    fn run_into<R: Files<File = File> + Wait, W: Write>(
+        &self,
+        rt: &R,
+        alloc: Global,
+        size: usize,
+        output: &mut W,
+        faults: &mut Vec<u8>,
+    ) -> Result<u8> {
+        let mut octets = vec![in alloc; 0u8; size]?;
+        let mut room = octets.as_mut_slice();
+        let lines = self.lines.as_bytes();
+        let lines = lines.strip_suffix(b"\n").unwrap_or(lines);
+        let status = self.run(rt, alloc, lines, &mut room, faults);
+        let left = room.len();
+        output.write_all(octets.as_slice())?;
+        writeln!(output)?;
+        writeln!(output, "room {left}")?;
+        Ok(status)
+    }
+
+    /// Runs the program on its words and these lines, and answers its status.
+    fn run<R: Files<File = File> + Wait, W: Write>(
+        &self,
+        rt: &R,
+        alloc: Global,
+        lines: &[u8],
+        output: &mut W,
+        faults: &mut Vec<u8>,
+    ) -> u8 {
+        let mut input = lines;
+        if self.words.is_empty() {
+            run(rt, alloc, WORDS.as_slice(), &mut input, output, faults)
+        } else {
+            run(rt, alloc, self.words.as_slice(), &mut input, output, faults)
+        }
     }
 }
 

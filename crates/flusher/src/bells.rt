@@ -1,0 +1,147 @@
+//! How the threads wake one another. Each waiter has its bell; a ring that comes before the wait is not lost.
+
+use crate::Gate;
+use std::sync::Wait;
+use std::sync::atomic::{AtomicU64, Ordering};
+use std::thread::Parker;
+
+/// A bell on which any number of threads wait. Who waits notes the count first, looks whether there is something to do,
+/// and then sleeps for as long as the count is the one that it noted.
+#[derive(Drop)]
+pub struct Bell {
+    rings: AtomicU64,
+    sleepers: AtomicU64,
+}
+
+impl Bell {
+    pub fn new() -> Bell {
+        Bell {
+            rings: AtomicU64::new(0),
+            sleepers: AtomicU64::new(0),
+        }
+    }
+
+    pub fn count(&self) -> u64 {
+        self.rings.load(Ordering::SeqCst)
+    }
+
+    pub fn ring(&self) {
+        self.rings.fetch_add(1, Ordering::SeqCst);
+        if self.sleepers.load(Ordering::SeqCst) != 0 {
+            self.rings.wake_all();
+        }
+    }
+
+    pub fn wait_past<R: Wait>(&self, rt: &R, noted: u64) {
+        self.sleepers.fetch_add(1, Ordering::SeqCst);
+        for _ in rt.forever() {
+            if self.count() != noted {
+                break;
+            }
+            self.rings.park(rt, (noted & 0xffff_ffff) as u32);
+        }
+        self.sleepers.fetch_sub(1, Ordering::SeqCst);
+    }
+}
+
+/// How far the flusher is, by the numbers of its turns, from 1.
+#[derive(Drop)]
+pub struct Turns {
+    begun: AtomicU64,
+    ended: AtomicU64,
+}
+
+impl Turns {
+    pub fn new() -> Turns {
+        Turns {
+            begun: AtomicU64::new(0),
+            ended: AtomicU64::new(0),
+        }
+    }
+
+    /// The flusher begins a turn.
+    pub fn begin(&self) {
+        self.begun.fetch_add(1, Ordering::SeqCst);
+    }
+
+    /// It has ended the turn that it began.
+    pub fn end(&self) {
+        self.ended
+            .store(self.begun.load(Ordering::SeqCst), Ordering::SeqCst);
+    }
+
+    /// The number of the turn that begins next. Once it has ended, all that was accepted before this call is durable.
+    pub fn next(&self) -> u64 {
+        self.begun.load(Ordering::SeqCst).wrapping_add(1)
+    }
+
+    /// The number of the turn that ended last.
+    pub fn ended(&self) -> u64 {
+        self.ended.load(Ordering::SeqCst)
+    }
+}
+
+/// The bells of the server's threads.
+#[derive(Drop)]
+pub struct Bells {
+    /// There may be something to flush.
+    pub flusher: Parker,
+    /// There may be something to release, or a caller has come or gone.
+    pub releaser: Parker,
+    /// The mark was raised, or the flusher has stopped.
+    pub operator: Parker,
+    /// A batch was taken or something was released: what was put off may be asked again.
+    pub later: Bell,
+    pub turns: Turns,
+    /// How many callers are gone whose sessions still stand.
+    pub parting: AtomicU64,
+}
+
+impl Bells {
+    pub fn new() -> Bells {
+        Bells {
+            flusher: Parker::new(),
+            releaser: Parker::new(),
+            operator: Parker::new(),
+            later: Bell::new(),
+            turns: Turns::new(),
+            parting: AtomicU64::new(0),
+        }
+    }
+
+    /// The flusher has ended a turn.
+    pub fn end_turn(&self) {
+        self.turns.end();
+        if self.parting.load(Ordering::SeqCst) != 0 {
+            self.releaser.unpark();
+        }
+    }
+}
+
+/// A gate that rings the bells of a flush before it calls the other one.
+#[derive(Clone, Copy)]
+pub struct Ringing<'a, 'b, G: Gate> {
+    pub bells: &'a Bells,
+    pub gate: &'b G,
+}
+
+impl<'a, 'b, G: Gate> Gate for Ringing<'a, 'b, G> {
+    fn before_flush(&self) {
+        self.bells.later.ring();
+        self.gate.before_flush();
+    }
+
+    fn after_flush(&self) {
+        self.bells.releaser.unpark();
+        self.bells.operator.unpark();
+        self.gate.after_flush();
+    }
+
+    fn before_release(&self, sid: u64) {
+        self.gate.before_release(sid);
+    }
+
+    fn after_release(&self, sid: u64) {
+        self.gate.after_release(sid);
+    }
+}

@@ -1,0 +1,220 @@
+//! The flusher: it takes what changed, carries it to the device without the lock, and tells what is durable.
+
+ghost use Rattle.std.specs.Prelude.{◌≡◌, ◌≢◌, ◌++◌, ◌∷◌, ◌+◌, ◌*◌, ◌<◌, ◌≤◌, [], length, true, false, OnOk, OnErr, IfOk, IfErr, IfSome, IfNone, IsTrue};
+ghost use Rattle.std.specs.List.{All};
+ghost use Rattle.journal.specs.Journal.{IsDuring, IsIdle, IsReady, LeavesAdmitted};
+ghost use Rattle.journal.specs.declared.Next.{Next};
+ghost use Rattle.model.specs.Volume.{AreDistinct};
+ghost use Rattle.flusher.specs.Flush.{Commits, Failed, HasBegun, MayBegin, Turns, has_failed};
+
+use crate::bells::Bells;
+use crate::{Gate, Kern};
+use disk::Disk;
+use journal::{Journal, JournalError, Progress};
+use mark::{FlushSeat, Mark};
+use spool::{BATCH_BLOCKS, BatchBuf};
+use std::sync::Wait;
+use std::thread;
+use thiserror::Error;
+
+/// The octets of a block.
+const BLOCK: usize = 4096;
+
+/// Why a turn of the flusher was refused. The kernel is halted then, and the mark stopped.
+#[derive(Clone, Copy, Debug, Drop, PartialEq, Eq, Error)]
+pub enum FlushError {
+    /// The device failed in this turn.
+    #[error("E1 Fault")]
+    Fault,
+    /// The journal was halted before, or the kernel's answers were none that a kernel gives which one flusher calls.
+    #[error("E4 Halted")]
+    Halted,
+}
+
+/// One turn: what changed is taken as a batch and carried to the device; once it is committed there, the kernel is told, and
+/// then the mark is raised. `None` where nothing was taken. A refusal has halted the kernel and stopped the mark.
+pub fn flush_turn<R: Wait, D: Disk, K: Kern, G: Gate>(
+    rt: &R,
+    journal: &mut Journal<D>,
+    kern: &K,
+    mark: &Mark,
+    seat: &mut FlushSeat,
+    batch: &mut BatchBuf,
+    gate: &G,
+) -> Result<Option<u64>, FlushError>
+    requires idle { IsIdle journal.old }
+    requires seat { seat.old.mark ≡ mark.now }
+    ensures turn { Turns D.device journal.old journal.new seat.old.raised seat.new.raised batch.new }
+    ensures some { IfOk result (λ raised. IfSome raised (λ n. seat.new.raised ≡ seat.old.raised ++ n ∷ [])) }
+    ensures none { IfOk result (λ raised. IfNone raised (seat.new.raised ≡ seat.old.raised)) }
+    ensures running { OnOk result (seat.new.stopped ≡ seat.old.stopped) }
+    ensures stopped { OnErr result (seat.new.stopped ≡ true) }
+    ensures fault { IfErr result (λ error. error ≡ FlushError.Fault → Failed D.device journal.old journal.new) }
+    ensures idle { OnOk result (IsIdle journal.new) }
+    ensures mark { seat.new.mark ≡ seat.old.mark }
+{
+    match carry(rt, journal, kern, mark, seat, batch, gate) {
+        Ok(raised) => Ok(raised),
+        Err(error) => {
+            kern.halt(rt);
+            mark.stop(seat);
+            Err(error)
+        }
+    }
+}
+
+// A turn, without what follows a refusal.
+fn carry<R: Wait, D: Disk, K: Kern, G: Gate>(
+    rt: &R,
+    journal: &mut Journal<D>,
+    kern: &K,
+    mark: &Mark,
+    seat: &mut FlushSeat,
+    batch: &mut BatchBuf,
+    gate: &G,
+) -> Result<Option<u64>, FlushError>
+    requires idle { IsIdle journal.old }
+    requires seat { seat.old.mark ≡ mark.now }
+    ensures turn { Turns D.device journal.old journal.new seat.old.raised seat.new.raised batch.new }
+    ensures some { IfOk result (λ raised. IfSome raised (λ n. seat.new.raised ≡ seat.old.raised ++ n ∷ [])) }
+    ensures none { IfOk result (λ raised. IfNone raised (seat.new.raised ≡ seat.old.raised)) }
+    ensures fault { IfErr result (λ error. error ≡ FlushError.Fault → Failed D.device journal.old journal.new) }
+    ensures stopped { seat.new.stopped ≡ seat.old.stopped }
+    ensures idle { OnOk result (IsIdle journal.new) }
+    ensures mark { seat.new.mark ≡ seat.old.mark }
+{
+    let Some(ticket) = kern.take_batch(rt, batch) else {
+        return Ok(None);
+    };
+    if !may_begin(journal, batch) {
+        return Err(FlushError::Halted);
+    }
+    gate.before_flush();
+    let last = ticket.last();
+    journal.begin(last, batch.numbers(), batch.images());
+    commit(rt, journal)?;
+    if kern.committed(rt, ticket).is_err() {
+        return Err(FlushError::Halted);
+    }
+    mark.raise(seat, last);
+    gate.after_flush();
+    settle(rt, journal)?;
+    Ok(Some(last))
+}
+
+/// Whether the journal can begin this batch.
+fn may_begin<D: Disk>(journal: &Journal<D>, batch: &BatchBuf) -> bool
+    ensures { IsTrue result → MayBegin journal.now batch.now }
+{
+    let numbers = batch.numbers();
+    let count = numbers.len();
+    if !journal.is_idle() || count == 0 || count > BATCH_BLOCKS {
+        return false;
+    }
+    batch.images().len() == BLOCK * count
+        && are_below(numbers, journal.blocks())
+        && are_distinct(numbers)
+}
+
+fn are_below(numbers: &[u32], blocks: u64) -> bool
+    ensures { IsTrue result → All (λ n. n < blocks) numbers.now }
+{
+    numbers.iter().all(|n| u64::from(*n) < blocks)
+}
+
+fn are_distinct(numbers: &[u32]) -> bool
+    ensures { IsTrue result → AreDistinct numbers.now }
+{
+    for i in 0..numbers.len() {
+        for j in 0..i {
+            if numbers[j] == numbers[i] {
+                return false;
+            }
+        }
+    }
+    true
+}
+
+/// The device calls of a batch up to the one that commits it. One that is refused for memory is asked again.
+fn commit<R: Wait, D: Disk>(rt: &R, journal: &mut Journal<D>) -> Result<(), FlushError>
+    requires begun { HasBegun D.device journal.old }
+    requires now { LeavesAdmitted D.device journal.old }
+    ensures ok { OnOk result (Commits D.device journal.old journal.new) }
+    ensures err { IfErr result (λ error. (error ≡ FlushError.Fault) × Failed D.device journal.old journal.new) }
+{
+    'calls: for _ in rt.forever() {
+        match journal.step() {
+            Ok(Progress::Committed(_)) => return Ok(()),
+            Ok(_) => {}
+            Err(JournalError::Memory) => thread::yield_now(),
+            Err(_) => return Err(FlushError::Fault),
+        }
+    }
+    unreachable!()
+}
+
+/// Those behind it, to the batch's end.
+fn settle<R: Wait, D: Disk>(rt: &R, journal: &mut Journal<D>) -> Result<(), FlushError>
+    requires next { journal.old.next ≡ Next.Home 0 }
+    requires running { journal.old.halted ≡ false }
+    requires some { 1 ≤ length journal.old.numbers }
+    requires now { LeavesAdmitted D.device journal.old }
+    ensures during { IsDuring D.device journal.old journal.new }
+    ensures ok { OnOk result (IsReady journal.new) }
+    ensures err { IfErr result (λ error. (error ≡ FlushError.Fault) × Failed D.device journal.old journal.new) }
+{
+    'calls: for _ in rt.forever() {
+        if journal.is_idle() {
+            return Ok(());
+        }
+        if has_failed(journal.step()) {
+            return Err(FlushError::Fault);
+        }
+    }
+    unreachable!()
+}
+
+/// Whether a call failed. One that was refused for memory did not: it is asked again, once other threads had their turn.
+fn has_failed(answer: Result<Progress, JournalError>) -> bool
+    ensures { result ≡ has_failed answer }
+{
+    match answer {
+        Ok(_) => false,
+        Err(JournalError::Memory) => {
+            thread::yield_now();
+            false
+        }
+        Err(_) => true,
+    }
+}
+
+/// Flushes whenever there is something, until a turn is refused.
+pub fn flush_all<R: Wait, D: Disk + Drop, K: Kern, G: Gate>(
+    rt: &R,
+    journal: Journal<D>,
+    kern: &K,
+    mark: &Mark,
+    seat: FlushSeat,
+    batch: BatchBuf,
+    gate: &G,
+    bells: &Bells,
+) -> FlushError
+    requires idle { IsIdle journal }
+    requires seat { seat.mark ≡ mark.now }
+{
+    let mut journal = journal;
+    let mut seat = seat;
+    let mut batch = batch;
+    'turns: for _ in rt.forever() {
+        bells.turns.begin();
+        match flush_turn(rt, &mut journal, kern, mark, &mut seat, &mut batch, gate) {
+            Ok(Some(_)) => bells.end_turn(),
+            Ok(None) => {
+                bells.end_turn();
+                bells.flusher.park(rt);
+            }
+            Err(error) => return error,
+        }
+    }
+    unreachable!()
+}

@@ -1,0 +1,15 @@
+//! The flusher of a server, over any kernel that threads share and any gate: it takes what changed, carries it to the device
+//! without the lock, tells the kernel, and raises the mark. `specs/Flush.antt` says what a turn of it does.
+#![tactic(auto)]
+
+mod bells;
+mod flushing;
+mod gate;
+mod kern;
+mod locked;
+
+pub use bells::{Bell, Bells, Ringing, Turns};
+pub use flushing::{FlushError, flush_all, flush_turn};
+pub use gate::{Gate, NoGate};
+pub use kern::Kern;
+pub use locked::Locked;

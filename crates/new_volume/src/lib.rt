@@ -1,0 +1,61 @@
+//! What a new volume is: its sizes, the octets of its device, and its label. docs/FORMATS.md has both layouts.
+#![tactic(auto)]
+
+ghost use Rattle.std.specs.Prelude.{◌≡◌, ◌≤◌, ◌+◌, ◌*◌, length, vec_len, IfOk, IsTrue};
+ghost use Rattle.model.specs.Layout.{label_octets};
+ghost use Rattle.model.specs.Names.{is_host};
+ghost use Rattle.new_volume.specs.Sizes.{are_sizes};
+
+use std::alloc::{AllocError, Global};
+
+/// Octets of a block.
+const BLOCK: u64 = 4096;
+
+/// Device blocks before the logical ones: the superblock, and a segment's gate, descriptor and 512 images.
+const BLOCKS_BEFORE: u64 = 1 + 514;
+
+/// Octets of a label.
+const LABEL: usize = 128;
+
+/// What a new volume is. Its words are in their grammars and ranges.
+#[derive(Drop)]
+pub struct Plan<'a> {
+    pub host: &'a [u8],
+    pub blocks: u64,
+    pub inodes: u64,
+    ghost named: { IsTrue (is_host host.now) },
+    ghost short: { length host.now ≤ 64 },
+    ghost sized: { IsTrue (are_sizes blocks inodes) },
+}
+
+/// Whether a volume may have so many blocks and inodes.
+pub fn are_sizes(blocks: u64, inodes: u64) -> bool
+    ensures { result ≡ are_sizes blocks inodes }
+{
+    if blocks < 1024 || blocks > 65_536 || inodes < 64 || inodes > 32_768 {
+        return false;
+    }
+    inodes % 64 == 0 && 2 + 2 * inodes / 64 + 256 <= blocks
+}
+
+/// The octets of the device of a volume with so many blocks.
+pub fn device_octets(blocks: u64) -> u64
+    requires { blocks ≤ 65536 }
+    ensures { result ≡ (515 + blocks) * 4096 }
+{
+    (BLOCKS_BEFORE + blocks) * BLOCK
+}
+
+/// The label of a volume: inodes, the host's length, the host, zeros.
+pub fn label(alloc: Global, host: &[u8], inodes: u32) -> Result<Vec<u8>, AllocError>
+    requires { length host.now ≤ 64 }
+    ensures octets { IfOk result (λ label. label.items ≡ label_octets inodes host.now) }
+    ensures whole { IfOk result (λ label. vec_len label ≡ 128) }
+{
+    let mut label = Vec::with_capacity(alloc, LABEL)?;
+    label.extend_from_slice(&inodes.to_le_bytes())?;
+    label.push(host.len() as u8)?;
+    label.extend_from_slice(host)?;
+    label.resize(LABEL, 0)?;
+    Ok(label)
+}

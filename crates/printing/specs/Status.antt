@@ -1,0 +1,13 @@
+-- The status with which the program ends.
+use Rattle.std.specs.Prelude.{ℕ}
+use Rattle.printing.specs.declared.failure.Failure.{Failure}
+use Rattle.printing.specs.declared.failure.Failure.TheVariants.{Memory, Bad, NotOpened, BadEvent, Command, Stream}
+
+-- 2 where an event wasn't understood, else 1
+abbrev pub status_of : Failure → ℕ
+status_of (BadEvent line) = 2
+status_of Memory = 1
+status_of Bad = 1
+status_of (NotOpened error) = 1
+status_of (Stream error) = 1
+status_of (Command error) = 1

@@ -1,0 +1,54 @@
+use journal::JournalError;
+use kernel::{AdminError, OpenError};
+use std::alloc::AllocError;
+use std::io;
+use thiserror::Error;
+
+/// Why a command over a volume in a file ends without having been done.
+#[derive(Debug, Drop, Error)]
+pub enum CommandError {
+    /// The file can't be had, or the device failed.
+    #[error("E1 Fault")]
+    Fault,
+    /// A growth was refused.
+    #[error("E2 Memory")]
+    Memory,
+    /// No volume stands in the file.
+    #[error("E3 NotAVolume")]
+    NotAVolume,
+    /// The journal was halted before.
+    #[error("E4 Halted")]
+    Halted,
+    /// The volume holds no spool.
+    #[error("{0}")]
+    NotOpened(OpenError),
+    /// The group is not made.
+    #[error("{0}")]
+    NotMade(AdminError),
+    /// A socket or a stream failed.
+    #[error("{0}")]
+    Stream(io::Error),
+}
+
+impl From<AllocError> for CommandError {
+    fn from(_error: AllocError) -> CommandError {
+        CommandError::Memory
+    }
+}
+
+impl From<io::Error> for CommandError {
+    fn from(error: io::Error) -> CommandError {
+        CommandError::Stream(error)
+    }
+}
+
+impl From<JournalError> for CommandError {
+    fn from(error: JournalError) -> CommandError {
+        match error {
+            JournalError::Fault => CommandError::Fault,
+            JournalError::Memory => CommandError::Memory,
+            JournalError::NotAVolume => CommandError::NotAVolume,
+            JournalError::Halted => CommandError::Halted,
+        }
+    }
+}

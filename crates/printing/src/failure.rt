@@ -1,0 +1,72 @@
+ghost use Rattle.std.specs.Prelude.{◌≡◌};
+ghost use Rattle.printing.specs.declared.failure.Failure.TheVariants.{Memory};
+ghost use Rattle.printing.specs.Status.{status_of};
+
+use crate::{CommandError, NOT_UNDERSTOOD, REFUSED};
+use kernel::OpenError;
+use std::alloc::{AllocError, AllocFailed};
+use std::io;
+use thiserror::Error;
+
+/// Why the program ends before its input does.
+#[derive(Debug, Drop, Error)]
+pub enum Failure {
+    /// A growth was refused.
+    #[error("E2 Memory")]
+    Memory,
+    /// A word is outside its grammar or range.
+    #[error("E14 Bad")]
+    Bad,
+    /// The new volume was refused.
+    #[error("{0}")]
+    NotOpened(OpenError),
+    /// The line with this number, from 1, is no event. Those before it are done and printed.
+    #[error("line {0}: bad event")]
+    BadEvent(u64),
+    /// A command over a volume in a file was refused.
+    #[error("{0}")]
+    Command(CommandError),
+    /// The input could not be read or the output not written.
+    #[error("{0}")]
+    Stream(io::Error),
+}
+
+impl Failure {
+    /// The status with which the program ends.
+    pub fn status(&self) -> u8
+        ensures { result ≡ status_of self.now }
+    {
+        match self {
+            Failure::BadEvent(_) => NOT_UNDERSTOOD,
+            _ => REFUSED,
+        }
+    }
+}
+
+impl From<AllocError> for Failure {
+    ghost from_gives = { λ _ failure. failure ≡ Memory };
+
+    fn from(_error: AllocError) -> Failure {
+        Failure::Memory
+    }
+}
+
+impl<T: Drop> From<AllocFailed<T>> for Failure {
+    ghost from_gives = { λ _ failure. failure ≡ Memory };
+
+    fn from(_error: AllocFailed<T>) -> Failure {
+        Failure::Memory
+    }
+}
+
+impl From<CommandError> for Failure {
+    fn from(error: CommandError) -> Failure {
+        Failure::Command(error)
+    }
+}
+
+impl From<io::Error> for Failure {
+    fn from(error: io::Error) -> Failure {
+        Failure::Stream(error)
+    }
+}

@@ -1,0 +1,33 @@
+//! What an event of a simulation prints.
+
+use crate::Failure;
+use outbox::ReadyBuf;
+use script::escaped;
+use std::alloc::Global;
+use std::fmt::Display;
+use std::io::{self, Write};
+
+/// Prints a refusal on a line of its own.
+pub fn print_refusal<E: Display, W: Write>(error: &E, output: &mut W) -> io::Result<()> {
+    writeln!(output, "{error}")
+}
+
+/// Prints what was handed out: for each session its octets, where there are any, then its end, where it ends.
+pub fn print_released<W: Write>(
+    alloc: Global,
+    ready: &ReadyBuf,
+    output: &mut W,
+) -> Result<(), Failure> {
+    for index in 0..ready.len() {
+        let (session, octets, ends) = ready.entry(index);
+        if !octets.is_empty() {
+            write!(output, "out {session} ")?;
+            output.write_all(escaped(alloc, octets)?.as_slice())?;
+            writeln!(output)?;
+        }
+        if ends {
+            writeln!(output, "end {session}")?;
+        }
+    }
+    Ok(())
+}

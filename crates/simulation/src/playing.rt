@@ -1,0 +1,286 @@
+//! A script of events, played over a device in memory.
+
+ghost use Rattle.script.specs.Script.{IsLawful};
+ghost use Rattle.world.specs.Events.{MayHappen};
+
+use crate::devices::Device;
+use crate::sim::{Closed, Sim};
+use crate::stage::Stage;
+use crate::volume::formatted;
+use journal::Progress;
+use memdisk::{MemDisk, Pick};
+use names::GroupName;
+use new_volume::Plan;
+use printing::{Failure, print_refusal, print_released, print_spool};
+use script::{Line, ParseError, parse};
+use std::alloc::Global;
+use std::io::{BufRead, Write};
+use wcache::WCache;
+use world::{Answer, Event, StepError};
+
+/// The device calls of the largest batch, of 512 images, to its end.
+const MOST_CALLS: u32 = 2 * 512 + 7;
+
+/// Plays the script that `input` holds, one event a line, and prints what it does. A refused event prints its refusal,
+/// and the script goes on. What ends it before is a growth that is refused to the simulation itself (`Memory`), a new volume
+/// that isn't made (`NotOpened`), a line that is no event (`BadEvent`), and a stream that fails (`Stream`); what was done until then
+/// is printed.
+pub fn simulate<R: BufRead, W: Write>(
+    alloc: Global,
+    plan: &Plan<'_>,
+    is_cached: bool,
+    input: &mut R,
+    output: &mut W,
+) -> Result<(), Failure> {
+    if is_cached {
+        play_lines::<WCache<MemDisk>, R, W>(alloc, plan, input, output)
+    } else {
+        play_lines::<MemDisk, R, W>(alloc, plan, input, output)
+    }
+}
+
+/// The same over one kind of device.
+fn play_lines<D: Device, R: BufRead, W: Write>(
+    alloc: Global,
+    plan: &Plan<'_>,
+    input: &mut R,
+    output: &mut W,
+) -> Result<(), Failure> {
+    let device = Closed::new(D::over(alloc, formatted(alloc, plan)?));
+    match Stage::open(alloc, device) {
+        Ok(stage) => {
+            let mut stage = stage;
+            play_all(alloc, &mut stage, input, output)
+        }
+        Err(error) => Err(Failure::NotOpened(error)),
+    }
+}
+
+/// Plays each line.
+fn play_all<D: Device, R: BufRead, W: Write>(
+    alloc: Global,
+    stage: &mut Stage<D>,
+    input: &mut R,
+    output: &mut W,
+) -> Result<(), Failure> {
+    let mut text = Vec::new(alloc);
+    for number in 1..=u64::MAX {
+        text.clear();
+        if input.read_until(b'\n', &mut text)? == 0 {
+            break;
+        }
+        play_text(alloc, stage, without_end(&text), number, output)?;
+    }
+    Ok(())
+}
+
+/// Plays the line with this number.
+fn play_text<D: Device, W: Write>(
+    alloc: Global,
+    stage: &mut Stage<D>,
+    text: &[u8],
+    number: u64,
+    output: &mut W,
+) -> Result<(), Failure> {
+    match parse(alloc, text) {
+        Ok(line) => play(alloc, stage, line, output),
+        Err(ParseError::Bad) => Err(Failure::BadEvent(number)),
+        Err(ParseError::Memory) => Err(Failure::Memory),
+    }
+}
+
+/// A line without its LF.
+fn without_end(line: &[u8]) -> &[u8] {
+    match line {
+        [text @ .., b'\n'] => text,
+        _ => line,
+    }
+}
+
+/// Plays a line.
+fn play<D: Device, W: Write>(
+    alloc: Global,
+    stage: &mut Stage<D>,
+    line: Line,
+    output: &mut W,
+) -> Result<(), Failure>
+    requires { IsLawful line }
+{
+    match line {
+        Line::Crash(pick) => reopen(alloc, stage, pick, output),
+        Line::FailAt(call) => {
+            stage.fail_at(call);
+            Ok(())
+        }
+        Line::FailKind(kind, call) => {
+            stage.fail_kind(kind, call);
+            Ok(())
+        }
+        line => match &mut stage.sim {
+            Some(sim) => act(alloc, sim, line, output),
+            None => Ok(print_refusal(&StepError::Halted, output)?),
+        },
+    }
+}
+
+/// The device crashes, each touched octet by this pick, and is opened again.
+fn reopen<D: Device, W: Write>(
+    alloc: Global,
+    stage: &mut Stage<D>,
+    pick: Pick,
+    output: &mut W,
+) -> Result<(), Failure> {
+    match stage.crash(alloc, pick) {
+        Ok(opened) => Ok(writeln!(output, "opened {opened}")?),
+        Err(error) => Ok(print_refusal(&error, output)?),
+    }
+}
+
+/// Does what a line asks of the world, and prints what it says of it.
+fn act<D: Device, W: Write>(
+    alloc: Global,
+    sim: &mut Sim<D>,
+    line: Line,
+    output: &mut W,
+) -> Result<(), Failure>
+    requires { IsLawful line }
+{
+    match line {
+        Line::Group {
+            name,
+            status,
+            moment,
+            description,
+        } => {
+            // a lawful line has a group name
+            let Ok(name) = GroupName::read(name.as_slice()) else {
+                return Err(Failure::Bad);
+            };
+            let group = Event::Admin {
+                name,
+                status,
+                description,
+                moment,
+            };
+            step(alloc, sim, group, output)
+        }
+        Line::Join => join(alloc, sim, output),
+        Line::Leave(session) => step(alloc, sim, Event::Leave(session), output),
+        Line::Arrive { session, octets } => {
+            step(alloc, sim, Event::Arrive(session, octets), output)
+        }
+        Line::Exec { session, moment } => step(alloc, sim, Event::Exec(session, moment), output),
+        Line::Take => step(alloc, sim, Event::Take, output),
+        Line::Dev => step(alloc, sim, Event::Dev, output),
+        Line::Told => step(alloc, sim, Event::Told, output),
+        Line::Release => release(alloc, sim, output),
+        Line::Commit => commit(alloc, sim, output),
+        Line::Settle => settle(alloc, sim, output),
+        Line::Spool => Ok(print_spool(sim.spool(), output)?),
+        // these act on the device too, see `play`
+        Line::Crash(_) | Line::FailAt(_) | Line::FailKind(_, _) => Ok(()),
+    }
+}
+
+/// An event that prints nothing but its refusal.
+fn step<D: Device, W: Write>(
+    alloc: Global,
+    sim: &mut Sim<D>,
+    event: Event,
+    output: &mut W,
+) -> Result<(), Failure>
+    requires { MayHappen event }
+{
+    match sim.step(alloc, &event) {
+        Ok(_) => Ok(()),
+        Err(error) => Ok(print_refusal(&error, output)?),
+    }
+}
+
+/// A session begins; its number is printed.
+fn join<D: Device, W: Write>(
+    alloc: Global,
+    sim: &mut Sim<D>,
+    output: &mut W,
+) -> Result<(), Failure> {
+    match sim.step(alloc, &Event::Join) {
+        Ok(Answer::Joined(session)) => Ok(writeln!(output, "join {session}")?),
+        Ok(_) => Ok(()),
+        Err(error) => Ok(print_refusal(&error, output)?),
+    }
+}
+
+/// What is ready is handed out and printed.
+fn release<D: Device, W: Write>(
+    alloc: Global,
+    sim: &mut Sim<D>,
+    output: &mut W,
+) -> Result<(), Failure> {
+    match sim.step(alloc, &Event::Release) {
+        Ok(_) => print_released(alloc, sim.ready(), output),
+        Err(error) => Ok(print_refusal(&error, output)?),
+    }
+}
+
+/// A batch is taken and carried to its commit, of which the kernel is told. Where none was taken, nothing happens.
+fn commit<D: Device, W: Write>(
+    alloc: Global,
+    sim: &mut Sim<D>,
+    output: &mut W,
+) -> Result<(), Failure> {
+    match sim.step(alloc, &Event::Take) {
+        Ok(Answer::Took(Some(_))) => {}
+        Ok(_) => return Ok(()),
+        Err(error) => return Ok(print_refusal(&error, output)?),
+    }
+    let refused = carry(alloc, sim, Until::Committed);
+    let told = sim.step(alloc, &Event::Told);
+    match refused.and(told) {
+        Ok(_) => {
+            let durable = sim.durable();
+            Ok(writeln!(output, "durable {durable}")?)
+        }
+        Err(error) => Ok(print_refusal(&error, output)?),
+    }
+}
+
+/// The batch in flight is carried to its end.
+fn settle<D: Device, W: Write>(
+    alloc: Global,
+    sim: &mut Sim<D>,
+    output: &mut W,
+) -> Result<(), Failure> {
+    match carry(alloc, sim, Until::Ended) {
+        Ok(_) => Ok(()),
+        Err(error) => Ok(print_refusal(&error, output)?),
+    }
+}
+
+/// What a batch is carried to.
+#[derive(Clone, Copy)]
+enum Until {
+    Committed,
+    Ended,
+}
+
+impl Until {
+    /// Whether this answer of a device call is what was awaited.
+    fn is_met(self, progress: Progress) -> bool {
+        match (self, progress) {
+            (Until::Committed, Progress::Committed(_)) | (Until::Ended, Progress::Idle) => true,
+            _ => false,
+        }
+    }
+}
+
+/// Makes device calls until one answers what is awaited, or is refused.
+fn carry<D: Device>(alloc: Global, sim: &mut Sim<D>, until: Until) -> Result<Answer, StepError> {
+    for _ in 0..MOST_CALLS {
+        if let Answer::Progressed(progress) = sim.step(alloc, &Event::Dev)? {
+            if until.is_met(progress) {
+                break;
+            }
+        }
+    }
+    Ok(Answer::Done)
+}

@@ -1,0 +1,80 @@
+//! What the events of a script act on.
+
+use crate::devices::Device;
+use crate::sim::{Closed, Sim};
+use disk::DiskCall;
+use memdisk::Pick;
+use std::alloc::Global;
+use world::OpenError;
+
+/// A world, or the device where the last opening was refused: a crash opens it again.
+#[derive(Drop)]
+pub(crate) struct Stage<D: Device> {
+    pub(crate) sim: Option<Sim<D>>,
+    closed: Option<Closed<D>>,
+}
+
+impl<D: Device> Stage<D> {
+    /// The world of a device.
+    pub(crate) fn open(alloc: Global, device: Closed<D>) -> Result<Stage<D>, OpenError> {
+        match device.open(alloc) {
+            Ok(sim) => Ok(Stage {
+                sim: Some(sim),
+                closed: None,
+            }),
+            Err((_, error)) => Err(error),
+        }
+    }
+
+    /// The n-th device call from now on fails.
+    pub(crate) fn fail_at(&mut self, call: u64) {
+        if let Some(sim) = &mut self.sim {
+            sim.fail_at(call);
+        }
+        if let Some(device) = &mut self.closed {
+            device.fail_at(call);
+        }
+    }
+
+    /// The n-th device call of this kind from now on fails.
+    pub(crate) fn fail_kind(&mut self, kind: DiskCall, call: u64) {
+        if let Some(sim) = &mut self.sim {
+            sim.fail_kind(kind, call);
+        }
+        if let Some(device) = &mut self.closed {
+            device.fail_kind(kind, call);
+        }
+    }
+
+    /// The device crashes, each touched octet by this pick, and is opened again. Answers how many changes it holds.
+    pub(crate) fn crash(&mut self, alloc: Global, pick: Pick) -> Result<u64, OpenError> {
+        match self.take_device() {
+            Some(device) => self.reopen(alloc, device.crashed(alloc, pick)),
+            // one of both is always there
+            None => Err(OpenError::Fault),
+        }
+    }
+
+    /// Takes the device out.
+    fn take_device(&mut self) -> Option<Closed<D>> {
+        match self.sim.take() {
+            Some(sim) => Some(sim.close()),
+            None => self.closed.take(),
+        }
+    }
+
+    /// Opens a device in place of the one that was taken out.
+    fn reopen(&mut self, alloc: Global, device: Closed<D>) -> Result<u64, OpenError> {
+        match device.open(alloc) {
+            Ok(sim) => {
+                let opened = sim.opened();
+                self.sim = Some(sim);
+                Ok(opened)
+            }
+            Err((device, error)) => {
+                self.closed = Some(device);
+                Err(error)
+            }
+        }
+    }
+}
