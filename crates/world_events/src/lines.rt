@@ -1,40 +1,42 @@
 //! How the lines of a script are read, and octets printed.
 
-use memdisk::Pick;
 use script::{Line, ParseError, escaped, number, parse};
 use std::alloc::Global;
 use std::test::Fail;
 
-#[test]
-fn lines_without_text(rt: HostRuntime) {
-    for (line, want) in [
-        ("join", Line::Join),
-        ("take", Line::Take),
-        ("dev", Line::Dev),
-        ("told", Line::Told),
-        ("release", Line::Release),
-        ("commit", Line::Commit),
-        ("settle", Line::Settle),
-        ("spool", Line::Spool),
-        ("leave 7", Line::Leave(7)),
+/// Lines without text, each with its debug form.
+fn without_text() -> &'static [(&'static str, &'static str)] {
+    &[
+        ("join", "Join"),
+        ("take", "Take"),
+        ("dev", "Dev"),
+        ("told", "Told"),
+        ("release", "Release"),
+        ("commit", "Commit"),
+        ("settle", "Settle"),
+        ("spool", "Spool"),
+        ("leave 7", "Leave(7)"),
         (
             "exec 2 253402300799",
-            Line::Exec {
-                session: 2,
-                moment: 253_402_300_799,
-            },
+            "Exec { session: 2, moment: 253402300799 }",
         ),
-        ("fail 18446744073709551615", Line::FailAt(u64::MAX)),
-        ("fail 007", Line::FailAt(7)),
-        ("crash old", Line::Crash(Pick::Old)),
-        ("crash new", Line::Crash(Pick::New)),
-        ("crash 4d", Line::Crash(Pick::Fill(77))),
-        ("crash 4D", Line::Crash(Pick::Fill(77))),
-        ("crash 01", Line::Crash(Pick::Fill(1))),
-        ("crash fF", Line::Crash(Pick::Fill(255))),
-    ] {
-        assert!(rt; parse(rt.alloc(), line.as_bytes()) == Ok(want), "{line}");
+        ("fail 18446744073709551615", "FailAt(18446744073709551615)"),
+        ("fail 007", "FailAt(7)"),
+        ("crash old", "Crash(Old)"),
+        ("crash new", "Crash(New)"),
+        ("crash 4d", "Crash(Fill(77))"),
+        ("crash 4D", "Crash(Fill(77))"),
+        ("crash 01", "Crash(Fill(1))"),
+        ("crash fF", "Crash(Fill(255))"),
+    ]
+}
+
+#[test]
+fn lines_without_text(rt: HostRuntime) -> Result<(), Fail> {
+    for (line, want) in without_text() {
+        assert_eq!(rt; shown(rt.alloc(), line.as_bytes())?.as_str(), *want);
     }
+    Ok(())
 }
 
 /// Lines with which octets arrive for session 1.
@@ -172,7 +174,6 @@ fn bad_lines(rt: HostRuntime) -> Result<(), Fail> {
     for (place, line) in bad().iter().enumerate() {
         assert_eq!(rt; shown(rt.alloc(), line)?.as_str(), "bad event", "{place}");
     }
-    assert_eq!(rt; shown(rt.alloc(), b"leave 7")?.as_str(), "Leave(7)");
     Ok(())
 }
 

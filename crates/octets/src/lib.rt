@@ -1,4 +1,5 @@
-//! Octets of a row.
+//! Octets of a row of a table, for tests. It promises nothing.
+#![tactic(auto)]
 
 use std::alloc::{AllocError, Global};
 

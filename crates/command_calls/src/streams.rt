@@ -2,8 +2,8 @@
 
 ghost use Rattle.std.specs.Prelude.{◌≡◌};
 
-use crate::octets::Octets;
 use framing::{Message, Mode, Reader, stuff};
+use octets::Octets;
 use std::alloc::{AllocError, Global};
 use std::test::Fail;
 
@@ -236,11 +236,23 @@ fn first_wrong(alloc: Global, arrivals: &[Arrival<'_>]) -> Result<Option<usize>,
     Ok(None)
 }
 
+/// The name of the first stream that has another message, and the place of that. The rows come from outside, so that no proof
+/// reads them.
+fn first_misread<'a>(
+    alloc: Global,
+    rows: &[(&'a str, &[Arrival<'_>])],
+) -> Result<Option<(&'a str, usize)>, Fail> {
+    for (name, arrivals) in rows {
+        if let Some(place) = first_wrong(alloc, arrivals)? {
+            return Ok(Some((*name, place)));
+        }
+    }
+    Ok(None)
+}
+
 #[test]
 fn messages_of_streams(rt: HostRuntime) -> Result<(), Fail> {
-    for (name, arrivals) in STREAMS {
-        assert_eq!(rt; first_wrong(rt.alloc(), arrivals)?, None, "{name}");
-    }
+    assert_eq!(rt; first_misread(rt.alloc(), STREAMS)?, None);
     Ok(())
 }
 

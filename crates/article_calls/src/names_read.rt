@@ -1,10 +1,10 @@
 //! Names, patterns and dates that are read.
 
-use crate::octets::Octets;
 use names::{
     GroupName, MessageId, NameError, Wildmat, is_group_name, is_host, is_message_id, is_of_host,
     is_wildmat, number_of, range_of,
 };
+use octets::Octets;
 use stamp::{SinceError, date_header, date_reply, read_since};
 use std::alloc::{AllocError, Global};
 use std::test::Fail;
@@ -18,82 +18,78 @@ enum Kind {
     Wildmat,
 }
 
-/// A kind, texts of it, and texts that are none of it.
-const NAMES: &[(Kind, &[Octets<'static>], &[Octets<'static>])] = &[
-    (
-        Kind::Group,
-        &[
-            Octets::Are(b"x.a"),
-            Octets::Are(b"comp.lang.c++"),
-            Octets::Are(b"a_b.c-d"),
-            Octets::Are(b"0"),
-            Octets::Long(b"", b'a', 40, b""),
+/// A text with so many `a` in its middle.
+type Text = (&'static [u8], u32, &'static [u8]);
+
+/// Texts of a kind.
+fn good(kind: Kind) -> &'static [Text] {
+    match kind {
+        Kind::Group => &[
+            (b"x.a", 0, b""),
+            (b"comp.lang.c++", 0, b""),
+            (b"a_b.c-d", 0, b""),
+            (b"0", 0, b""),
+            (b"", 40, b""),
         ],
-        &[
-            Octets::Are(b""),
-            Octets::Are(b"."),
-            Octets::Are(b"x."),
-            Octets::Are(b".x"),
-            Octets::Are(b"x..y"),
-            Octets::Are(b"x y"),
-            Octets::Are(b"x*"),
-            Octets::Are(b"x\xc3\xbf"),
-            Octets::Long(b"", b'a', 41, b""),
+        Kind::Id => &[
+            (b"<1@a.example>", 0, b""),
+            (b"<a>", 0, b""),
+            (b"<<@@>", 0, b""),
+            (b"<", 248, b">"),
         ],
-    ),
-    (
-        Kind::Id,
-        &[
-            Octets::Are(b"<1@a.example>"),
-            Octets::Are(b"<a>"),
-            Octets::Are(b"<<@@>"),
-            Octets::Long(b"<", b'a', 248, b">"),
+        Kind::Host => &[(b"news.example", 0, b""), (b"", 64, b"")],
+        Kind::Wildmat => &[(b"a,!b,c", 0, b""), (b"x.*,!x.b*,x.bc", 0, b"")],
+    }
+}
+
+/// Texts that are none of it.
+fn bad(kind: Kind) -> &'static [Text] {
+    match kind {
+        Kind::Group => &[
+            (b"", 0, b""),
+            (b".", 0, b""),
+            (b"x.", 0, b""),
+            (b".x", 0, b""),
+            (b"x..y", 0, b""),
+            (b"x y", 0, b""),
+            (b"x*", 0, b""),
+            (b"x\xc3\xbf", 0, b""),
+            (b"", 41, b""),
         ],
-        &[
-            Octets::Are(b"<>"),
-            Octets::Are(b"1@a.example"),
-            Octets::Are(b"<1@a.example"),
-            Octets::Are(b"<a>b>"),
-            Octets::Are(b"<a b>"),
-            Octets::Are(b"<a>>"),
-            Octets::Are(b""),
-            Octets::Long(b"<", b'a', 249, b">"),
+        Kind::Id => &[
+            (b"<>", 0, b""),
+            (b"1@a.example", 0, b""),
+            (b"<1@a.example", 0, b""),
+            (b"<a>b>", 0, b""),
+            (b"<a b>", 0, b""),
+            (b"<a>>", 0, b""),
+            (b"", 0, b""),
+            (b"<", 249, b">"),
         ],
-    ),
-    (
-        Kind::Host,
-        &[
-            Octets::Are(b"news.example"),
-            Octets::Long(b"", b'a', 64, b""),
+        Kind::Host => &[
+            (b"", 0, b""),
+            (b"a b", 0, b""),
+            (b"a_b", 0, b""),
+            (b"a..b", 0, b""),
+            (b".a", 0, b""),
+            (b"", 65, b""),
         ],
-        &[
-            Octets::Are(b""),
-            Octets::Are(b"a b"),
-            Octets::Are(b"a_b"),
-            Octets::Are(b"a..b"),
-            Octets::Are(b".a"),
-            Octets::Long(b"", b'a', 65, b""),
+        Kind::Wildmat => &[
+            (b"x.[ab]", 0, b""),
+            (b"", 0, b""),
+            (b",", 0, b""),
+            (b"a,", 0, b""),
+            (b",a", 0, b""),
+            (b"!a", 0, b""),
+            (b"a,!", 0, b""),
+            (b"a,,b", 0, b""),
+            (b"a!b", 0, b""),
+            (b"a\\b", 0, b""),
+            (b"a b", 0, b""),
+            (b"]", 0, b""),
         ],
-    ),
-    (
-        Kind::Wildmat,
-        &[Octets::Are(b"a,!b,c"), Octets::Are(b"x.*,!x.b*,x.bc")],
-        &[
-            Octets::Are(b"x.[ab]"),
-            Octets::Are(b""),
-            Octets::Are(b","),
-            Octets::Are(b"a,"),
-            Octets::Are(b",a"),
-            Octets::Are(b"!a"),
-            Octets::Are(b"a,!"),
-            Octets::Are(b"a,,b"),
-            Octets::Are(b"a!b"),
-            Octets::Are(b"a\\b"),
-            Octets::Are(b"a b"),
-            Octets::Are(b"]"),
-        ],
-    ),
-];
+    }
+}
 
 /// The octets of what a text is read as.
 fn read_back(alloc: Global, kind: Kind, text: &[u8]) -> Result<Vec<u8>, NameError> {
@@ -118,13 +114,9 @@ fn is_of_kind(kind: Kind, text: &[u8]) -> bool {
 }
 
 /// The place of the first text that isn't read, or is read as another.
-fn first_refused(
-    alloc: Global,
-    kind: Kind,
-    texts: &[Octets<'_>],
-) -> Result<Option<usize>, AllocError> {
-    for (place, text) in texts.iter().enumerate() {
-        let text = text.in_memory(alloc)?;
+fn first_refused(alloc: Global, kind: Kind, texts: &[Text]) -> Result<Option<usize>, AllocError> {
+    for (place, (front, count, end)) in texts.iter().enumerate() {
+        let text = Octets::Long(front, b'a', *count, end).in_memory(alloc)?;
         let same = match read_back(alloc, kind, text.as_slice()) {
             Ok(read) => read.as_slice() == text.as_slice(),
             Err(_) => false,
@@ -137,13 +129,9 @@ fn first_refused(
 }
 
 /// The place of the first text that is read.
-fn first_read(
-    alloc: Global,
-    kind: Kind,
-    texts: &[Octets<'_>],
-) -> Result<Option<usize>, AllocError> {
-    for (place, text) in texts.iter().enumerate() {
-        let text = text.in_memory(alloc)?;
+fn first_read(alloc: Global, kind: Kind, texts: &[Text]) -> Result<Option<usize>, AllocError> {
+    for (place, (front, count, end)) in texts.iter().enumerate() {
+        let text = Octets::Long(front, b'a', *count, end).in_memory(alloc)?;
         let read = read_back(alloc, kind, text.as_slice());
         if read.err() != Some(NameError::Bad) || is_of_kind(kind, text.as_slice()) {
             return Ok(Some(place));
@@ -154,9 +142,13 @@ fn first_read(
 
 #[test]
 fn names_and_patterns(rt: HostRuntime) -> Result<(), Fail> {
-    for (kind, good, bad) in NAMES {
-        assert_eq!(rt; first_refused(rt.alloc(), *kind, good)?, None, "{kind:?}");
-        assert_eq!(rt; first_read(rt.alloc(), *kind, bad)?, None, "{kind:?}");
+    for kind in [Kind::Group, Kind::Id, Kind::Host, Kind::Wildmat] {
+        assert_eq!(rt;
+            first_refused(rt.alloc(), kind, good(kind))?,
+            None,
+            "{kind:?}"
+        );
+        assert_eq!(rt; first_read(rt.alloc(), kind, bad(kind))?, None, "{kind:?}");
     }
     Ok(())
 }
@@ -211,27 +203,29 @@ fn ranges(rt: HostRuntime) {
 }
 
 /// Each row: a wildmat, a name, and whether the one takes the other.
-const TAKEN: &[(&str, &str, bool)] = &[
-    ("x.*,!x.b*,x.bc", "x.a", true),
-    ("x.*,!x.b*,x.bc", "x.bd", false),
-    ("x.*,!x.b*,x.bc", "x.bc", true),
-    ("*", "a", true),
-    ("a*", "a", true),
-    ("a?", "a", false),
-    ("?", "a", true),
-    ("*.*.c", "a.b.c", true),
-    ("*.c.*", "a.b.c", false),
-    ("a.b", "a.bc", false),
-    ("A", "a", false),
-    ("x,y", "a", false),
-    ("*ab*abc", "abababc", true),
-    ("*a?c*", "aabcc", true),
-    (
-        "*a*a*a*a*b",
-        "aaaaaaaaaaaaaaaaaaaaaaaaaaaaaaaaaaaaaaaa",
-        false,
-    ),
-];
+fn taken() -> &'static [(&'static str, &'static str, bool)] {
+    &[
+        ("x.*,!x.b*,x.bc", "x.a", true),
+        ("x.*,!x.b*,x.bc", "x.bd", false),
+        ("x.*,!x.b*,x.bc", "x.bc", true),
+        ("*", "a", true),
+        ("a*", "a", true),
+        ("a?", "a", false),
+        ("?", "a", true),
+        ("*.*.c", "a.b.c", true),
+        ("*.c.*", "a.b.c", false),
+        ("a.b", "a.bc", false),
+        ("A", "a", false),
+        ("x,y", "a", false),
+        ("*ab*abc", "abababc", true),
+        ("*a?c*", "aabcc", true),
+        (
+            "*a*a*a*a*b",
+            "aaaaaaaaaaaaaaaaaaaaaaaaaaaaaaaaaaaaaaaa",
+            false,
+        ),
+    ]
+}
 
 /// Whether a wildmat takes a name.
 fn takes(alloc: Global, wildmat: &str, name: &str) -> Result<bool, NameError> {
@@ -241,7 +235,7 @@ fn takes(alloc: Global, wildmat: &str, name: &str) -> Result<bool, NameError> {
 
 #[test]
 fn wildmats(rt: HostRuntime) -> Result<(), Fail> {
-    for (wildmat, name, taken) in TAKEN {
+    for (wildmat, name, taken) in taken() {
         assert_eq!(rt;
             takes(rt.alloc(), wildmat, name)?,
             *taken,
