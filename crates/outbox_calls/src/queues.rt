@@ -1,14 +1,9 @@
 //! The queues of two sessions, one step after the other.
 
+use crate::runs::{Entry, Runs, has, octets_of};
 use outbox::{Queue, ReadyBuf};
 use std::alloc::{AllocError, Global};
 use std::test::Fail;
-
-/// So many octets of a kind, one run after the other.
-type Runs<'a> = &'a [(u8, usize)];
-
-/// What is handed out: the session, its octets, and whether it ends after them.
-type Entry<'a> = (u64, Runs<'a>, bool);
 
 /// A call of the queue of session 1 or 2, each with what it is to answer.
 #[derive(Clone, Copy)]
@@ -83,16 +78,6 @@ const QUEUES: &[(&str, &[Step<'static>])] = &[
     ),
 ];
 
-/// The octets of the runs.
-fn octets_of(alloc: Global, runs: Runs<'_>) -> Result<Vec<u8>, AllocError> {
-    let mut octets = Vec::new(alloc);
-    for (octet, count) in runs {
-        let run = vec![in alloc; *octet; *count]?;
-        octets.extend_from_slice(run.as_slice())?;
-    }
-    Ok(octets)
-}
-
 /// Puts an output after the others, where they can be counted.
 fn push(
     queue: &mut Queue,
@@ -114,23 +99,6 @@ fn give(queue: &mut Queue, number: u64, durable: u64, ready: &mut ReadyBuf) -> O
         return None;
     }
     Some(queue.give(number, durable, ready))
-}
-
-/// Whether the buffer has these entries.
-fn has(alloc: Global, ready: &ReadyBuf, entries: &[Entry<'_>]) -> Result<bool, AllocError> {
-    if ready.len() != entries.len() || ready.is_empty() != entries.is_empty() {
-        return Ok(false);
-    }
-    for (index, (number, runs, ends)) in entries.iter().enumerate() {
-        if index >= ready.len() {
-            return Ok(false);
-        }
-        let octets = octets_of(alloc, runs)?;
-        if ready.entry(index) != (*number, octets.as_slice(), *ends) {
-            return Ok(false);
-        }
-    }
-    Ok(true)
 }
 
 /// The queues of sessions 1 and 2, and the buffer of a release.

@@ -1,9 +1,12 @@
 -- The sessions stand in rising number, and few of them hold outputs.
-use Rattle.std.proofs.Common.{◌≡◌, ℕ, zero, suc, ◌+◌, ◌<◌, ◌≤◌, Bool, true, false, cond, List, [], ◌∷◌, length, map, refl, sym, ◌∙◌, ap, subst, arith, inl, inr}
-use Rattle.std.specs.Prelude.{◌==◌, filter, nat_le, nat_lt}
+use Rattle.std.proofs.Common.{◌≡◌, ℕ, zero, suc, ◌+◌, ◌<◌, ◌≤◌, Bool, true, false, cond, List, [], ◌∷◌, length, map, refl, sym, ◌∙◌, ap, subst, arith, inl, inr, get_or, take, length-append}
+use Rattle.std.specs.Prelude.{◌==◌, filter, not}
 use Rattle.std.proofs.lemmas.Bool.{cases_eq, eq-eqb, le-leb, ne_eqb}
 use Rattle.std.proofs.lemmas.Bool.Decides.{leb_tells}
-use Rattle.outboxes.specs.Sessions.{RiseFrom, Session, holding, is_holding, joined, session_of, silent, with_session}
+use Rattle.std.proofs.lemmas.List.{map-append, take_more}
+use Rattle.std.proofs.lemmas.List.Elements.{filter-append}
+use Rattle.outbox.specs.Queue.{Held}
+use Rattle.outboxes.specs.Sessions.{RiseFrom, Session, holding, is_holding, joined, sent, session_of, silent, with_output, with_session}
 use Rattle.outboxes.specs.Outbox.{IsSound, Kept, session_in, sessions}
 
 pub rise_from : (m n : ℕ) (ss : List Session) → m ≤ n → RiseFrom n ss → RiseFrom m ss
@@ -88,6 +91,48 @@ joined_holding n (s ∷ ss) = elim (leb_tells n s.number) [
       ]
   | inr below ↦ let lower = below.0 in rw lower (one_more (is_holding s) s (filter is_holding (joined n ss)) (filter is_holding ss) (joined_holding n ss))
 ]
+
+-- with an output more, one more holds some
+pub sent_holding : (output : Held) (n : ℕ) (ss : List Session) → holding (sent n output ss) ≤ holding ss + 1
+sent_holding output n [] = omega arith
+sent_holding output n (s ∷ ss) = elim (leb_tells n s.number) [
+  | inl from ↦
+      let here = from.0 in
+      elim (cases_eq s.number n) [
+        | inl same ↦ let eq = eq-eqb s.number n same in rw (here, eq) (either (is_holding (with_output output s)) (is_holding s) (with_output output s) s (filter is_holding ss))
+        | inr other ↦ let ne = ne_eqb s.number n other in rw (here, ne) (omega arith)
+      ]
+  | inr below ↦ let lower = below.0 in rw lower (both (is_holding s) s (filter is_holding (sent n output ss)) (filter is_holding ss) (sent_holding output n ss))
+]
+  where
+    either : (a b : Bool) (x y : Session) (xs : List Session) → length (cond a (x ∷ xs) xs) ≤ length (cond b (y ∷ xs) xs) + 1
+    either true true x y xs = omega arith
+    either true false x y xs = omega arith
+    either false true x y xs = omega arith
+    either false false x y xs = omega arith
+
+    both : (b : Bool) (x : Session) (xs ys : List Session) → length xs ≤ length ys + 1 → length (cond b (x ∷ xs) xs) ≤ length (cond b (x ∷ ys) ys) + 1
+    both true x xs ys le = omega arith
+    both false x xs ys le = le
+
+-- one session more
+pub holding_more : (ks : List Kept) (at : ℕ) (d : Kept) → at < length ks → holding (sessions (take (at + 1) ks)) ≡ holding (sessions (take at ks)) + cond (is_holding (session_in (get_or ks at d))) 1 0
+holding_more ks at d within =
+    ap (λ xs. holding (sessions xs)) (take_more ks at d within)
+    ∙ ap holding (map-append session_in (take at ks) (get_or ks at d ∷ []))
+    ∙ ap length (filter-append is_holding (sessions (take at ks)) (session_in (get_or ks at d) ∷ []))
+    ∙ length-append (filter is_holding (sessions (take at ks))) (filter is_holding (session_in (get_or ks at d) ∷ []))
+    ∙ ap (λ n. holding (sessions (take at ks)) + n) (one (is_holding (session_in (get_or ks at d))))
+  where
+    one : (b : Bool) → length (cond b (session_in (get_or ks at d) ∷ []) []) ≡ cond b 1 0
+    one true = refl
+    one false = refl
+
+pub some_held : (k : Kept) → is_holding (session_in k) ≡ not (length k.held == 0)
+some_held k = by_held k.held where
+  by_held : (held : List Held) → is_holding (record { number = k.number; given = k.given; held = held }) ≡ not (length held == 0)
+  by_held [] = refl
+  by_held (h ∷ held) = sym (ap not (ne_eqb (suc (length held)) 0 (λ same. omega (arith, same))))
 
 -- ---- some of them
 

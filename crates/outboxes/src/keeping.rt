@@ -1,7 +1,7 @@
 //! The outputs of all sessions.
 
-ghost use Rattle.std.specs.Prelude.{◌≡◌, ◌⊎◌, true, false, ◌+◌, ◌^◌, ◌<◌, ◌≤◌, [], length, max, slice_index_or, vec_len, IfOk, IfSome, IsNone, MatchOption, OnErr, OnOk};
-ghost use Rattle.outbox.specs.Queue.{buffered, last_dependency};
+ghost use Rattle.std.specs.Prelude.{◌≡◌, ◌⊎◌, ℕ, true, false, ◌+◌, ◌^◌, ◌<◌, ◌≤◌, [], length, max, slice_index_or, vec_len, IfOk, IfSome, IsNone, MatchOption, OnErr, OnOk};
+ghost use Rattle.outbox.specs.Queue.{Held, buffered, last_dependency};
 ghost use Rattle.outboxes.specs.Sessions.{RiseFrom, holding, joined, release, sent, session_of, silent};
 ghost use Rattle.outboxes.specs.Outbox.{HaveRoom, Kept, Stands, place_of, room_of, session_in, sessions, without};
 
@@ -95,6 +95,14 @@ impl Outbox {
         }
     }
 
+    /// How many sessions hold outputs. With an output more, one session more may.
+    pub fn holding(&self) -> usize
+        ensures count { result ≡ holding (sessions self.now) }
+        ensures more { (n : ℕ) (output : Held) → holding (sent n output (sessions self.now)) ≤ result + 1 }
+    {
+        count_holding(&self.seats)
+    }
+
     /// Drops a session with its outputs; nothing where it is not kept. It takes no memory.
     pub fn forget(&mut self, sid: u64)
         ensures { self.new ≡ without sid self.old }
@@ -129,6 +137,18 @@ fn seat_of(seats: &[Seat], sid: u64) -> Option<&Seat>
         }
     }
     None
+}
+
+/// How many sessions hold outputs.
+#[tactic(auto, using(crate::proofs::Rising::holding_more))]
+fn count_holding(seats: &[Seat]) -> usize
+    ensures { result ≡ holding (sessions seats.now) }
+{
+    let mut count = 0;
+    for seat in seats {
+        count += seat.holding();
+    }
+    count
 }
 
 /// The place of the first session whose number is not below this one, or their count.

@@ -1,8 +1,8 @@
 //! One session and its outputs.
 
-ghost use Rattle.std.specs.Prelude.{◌≡◌, ◌+◌, ◌-◌, ◌^◌, ◌<◌, ◌≤◌, ◌++◌, [], length, vec_len, OnErr, OnOk};
+ghost use Rattle.std.specs.Prelude.{◌≡◌, ◌+◌, ◌-◌, ◌^◌, ◌<◌, ◌≤◌, ◌++◌, [], length, vec_len, if◌then◌else◌, OnErr, OnOk};
 ghost use Rattle.outbox.specs.Queue.{buffered, entry_of, give, last_dependency, octets_in};
-ghost use Rattle.outboxes.specs.Sessions.{after_giving, silent, with_output};
+ghost use Rattle.outboxes.specs.Sessions.{after_giving, is_holding, silent, with_output};
 ghost use Rattle.outboxes.specs.Outbox.{session_in};
 
 use outbox::{Queue, ReadyBuf};
@@ -51,6 +51,14 @@ impl Seat {
         ensures { result ≡ last_dependency self.now.given self.now.held }
     {
         self.queue.last_dependency()
+    }
+
+    /// One if it holds outputs, else none.
+    #[tactic(auto, using(crate::proofs::Rising::some_held))]
+    pub(crate) fn holding(&self) -> usize
+        ensures { result ≡ (if is_holding (session_in self.now) then 1 else 0) }
+    {
+        if self.queue.is_empty() { 0 } else { 1 }
     }
 
     pub(crate) fn reserve(&mut self, n: usize) -> Result<(), AllocError>
