@@ -1,0 +1,4 @@
+pub mod Saying
+pub mod Finding
+pub mod Fronts
+pub mod Growing
