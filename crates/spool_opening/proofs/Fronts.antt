@@ -15,9 +15,9 @@ use Rattle.model.specs.declared.change.Change.{Change}
 use Rattle.model.specs.declared.change.Change.TheVariants.{Group, Article, Expire}
 use Rattle.model.proofs.Filing.{filed_article, filed_no_more, named_front, numbers_push, overview_push}
 use Rattle.model.proofs.HoldsOne.{changes_few, fits_lawful, no_change}
-use Rattle.model.proofs.Inodes.{names_once}
+use Rattle.fs_layout.proofs.Tables.{there_once}
 use Rattle.model.proofs.Opening.{changes_counted, fronts_read}
-use Rattle.spool_opening.specs.Stored.{AreRead, HasFront, HasPiece, IsFileAt, Numbers, Overview, Which, file_for, name_for, piece_for}
+use Rattle.spool_opening.specs.Stored.{AreRead, NextIs, HasFront, HasPiece, IsFileAt, Numbers, Overview, Which, file_for, name_for, piece_for}
 use Rattle.spool_opening.proofs.Finding.{has_change, has_index, in_blocks, in_spool, index_is, is_among, where_is}
 
 -- ---- the next change
@@ -27,13 +27,6 @@ may_next host before [] k lawful low = absurd (omega arith)
 may_next host before (c ∷ cs) zero lawful low = subst (λ (S : Spool). MayFollow host S c) (sym (append-nil before)) lawful.0
 may_next host before (c ∷ cs) (suc k) lawful low =
     subst (λ (S : Spool). MayFollow host S (get_or cs k no_change)) (append_assoc before (c ∷ []) (take k cs)) (may_next host (before ++ c ∷ []) cs k lawful.1 (omega arith))
-
-pub record NextIs (host : Octets) (inodes : ℕ) (blocks : List Octets) (R S : Spool) : Type 0 where
-  pub change : Change
-  pub may : MayFollow host R change
-  pub room : HasRoomInFile (length R + 1) change
-  pub there : Contains (files_in (table inodes blocks)) (change_file (record { serial = length R + 1; change = change }))
-  pub front : R ++ change ∷ [] ≡ first S (length R + 1)
 
 pub is_front : (host : Octets) (inodes : ℕ) (blocks : List Octets) (S R : Spool) → inodes ≤ 32768 → Holds host inodes blocks S → AreRead host inodes blocks R → R ≡ first S (length R)
 is_front host inodes blocks S R room held read = fronts_read host inodes blocks S R room held read.changes
@@ -127,15 +120,6 @@ piece_stands host inodes blocks R S w text gs moment g held front filed here =
     }
 
 -- ---- one change more is read
-
-pub there_once : (inodes : ℕ) (blocks : List Octets) → IsFileSystem inodes blocks → (k l : ℕ) (name c d : Octets) → IsFileAt (table inodes blocks) k name c → IsFileAt (table inodes blocks) l name d → c ≡ d
-there_once inodes blocks fs k l name c d first' second =
-    let one : File = record { name = name; content = c } in
-    let two : File = record { name = name; content = d } in
-    let same : k ≡ l = names_once inodes blocks fs k l one two first' second refl in
-    let both : Some one ≡ Some two = sym first' ∙ ap (λ (j : ℕ). get_or (table inodes blocks) j None) same ∙ second in
-    let files : one ≡ two = cc in
-    ap (λ (f : File). f.content) files
 
 longer : (front piece content : Octets) → take (length front) content ≡ front → take (length piece) (drop (length front) content) ≡ piece → take (length (front ++ piece)) content ≡ front ++ piece
 longer front piece content one two =

@@ -4,7 +4,7 @@ use Rattle.std.specs.Prelude.{slice_get, find, filter_map, IsTrue, bytes_eq, is_
 use Rattle.std.specs.List.{All, Contains, list_any}
 use Rattle.std.specs.Option.{option_or}
 use Rattle.std.proofs.lemmas.Bool.{true≢false, cases_lt}
-use Rattle.std.proofs.lemmas.List.{append_assoc, append-nil, get_or_default, get_or-append-left, take_all}
+use Rattle.std.proofs.lemmas.List.{append_assoc, append-nil, take_all}
 use Rattle.std.proofs.lemmas.List.Elements.{filter_map-append}
 use Rattle.std.proofs.lemmas.List.Folds.{find-append}
 use Rattle.std.proofs.lemmas.Option.{slice_get_past, slice_get-get_or}
@@ -13,7 +13,7 @@ use Rattle.model.specs.Stream.{Octets}
 use Rattle.model.specs.Files.{File, HoldsFiles, IsFileSystem, files_in, table}
 use Rattle.model.specs.Layout.{Holds}
 use Rattle.model.specs.Lawful.{IsLawful, IsLawfulAfter, MayFollow}
-use Rattle.model.specs.Spool.{Spool, NewsGroup, entries, first, group_made, group_named, groups, is_here, is_name}
+use Rattle.model.specs.Spool.{Spool, NewsGroup, entries, entries_from, first, group_made, group_named, groups, is_here, is_name}
 use Rattle.model.specs.SpoolFiles.{HasRoomInFile, change_file, files_of, is_of_change, numbers_of, overview_of}
 use Rattle.model.specs.declared.change.Change.{Change}
 use Rattle.model.specs.declared.change.Change.TheVariants.{Group, Article, Expire}
@@ -41,7 +41,7 @@ changes_more P (e ∷ R) c old new (suc n) d is = changes_more (λ m. P (suc m))
 
 groups_more : (S : Spool) (c : Change) → groups (S ++ c ∷ []) ≡ groups S ++ filter_map group_made (record { serial = length S + 1; change = c } ∷ [])
 unfolding groups entries
-groups_more S c = ap (filter_map group_made) (entries_push 1 S c) ∙ filter_map-append group_made _ (record { serial = length S + 1; change = c } ∷ [])
+groups_more S c = ap (filter_map group_made) (entries_push 1 S c) ∙ filter_map-append group_made (entries_from 1 S) (record { serial = length S + 1; change = c } ∷ [])
 
 here_more : (S : Spool) (c : Change) (g : Octets) → group_named (S ++ c ∷ []) g ≡ option_or (group_named S g) (find (λ (h : NewsGroup). is_name g h.name) (filter_map group_made (record { serial = length S + 1; change = c } ∷ [])))
 unfolding group_named
@@ -60,6 +60,12 @@ here_before S c g none here =
 
 named_same : (inodes : ℕ) (blocks : List Octets) (w : Which) (g : Octets) (old new : Octets) → new ≡ old → HasFront (table inodes blocks) (name_for w g) old → HasFront (table inodes blocks) (name_for w g) new
 named_same inodes blocks w g old new same has = subst (HasFront (table inodes blocks) (name_for w g)) (sym same) has
+
+-- a new group has nothing yet
+nothing : (host : Octets) (R : Spool) (name : Octets) → IsLawful host R → group_named R name ≡ None → (w : Which) → file_for w R name ≡ []
+unfolding numbers_of overview_of
+nothing host R name lawful new Numbers = ap numbers_of (new_has_nothing host R name lawful new)
+nothing host R name lawful new Overview = ap overview_of (new_has_nothing host R name lawful new)
 
 module _ (host : Octets) (inodes : ℕ) (blocks : List Octets) (R : Spool) (read : AreRead host inodes blocks R) where
   pub expiry_is_read : (group : Octets) (number : ℕ) → let c = Expire group number in MayFollow host R c → HasRoomInFile (length R + 1) c → Contains (files_in (table inodes blocks)) (change_file (record { serial = length R + 1; change = c }))
@@ -95,16 +101,6 @@ module _ (host : Octets) (inodes : ℕ) (blocks : List Octets) (R : Spool) (read
     changes = changes_more (λ n c. HasRoomInFile (n + 1) c × Contains (files_in (table inodes blocks)) (change_file (record { serial = n + 1; change = c }))) R (Group name status description moment) read.changes (room, there);
     fronts = λ w g here. by_test w g (bytes_eq name g) refl here;
   } where
-    nothing : (w : Which) → file_for w R name ≡ []
-    nothing Numbers = none_numbered where
-      none_numbered : file_for Numbers R name ≡ []
-      unfolding numbers_of overview_of
-      none_numbered = ap numbers_of (new_has_nothing host R name read.lawful may.new)
-    nothing Overview = none_shown where
-      none_shown : file_for Overview R name ≡ []
-      unfolding numbers_of overview_of
-      none_shown = ap overview_of (new_has_nothing host R name read.lawful may.new)
-
     or_other : (o : Option NewsGroup) → is_some (option_or o None) ≡ true → is_some o ≡ true
     or_other None some = some
     or_other (Some h) some = refl
@@ -113,7 +109,7 @@ module _ (host : Octets) (inodes : ℕ) (blocks : List Octets) (R : Spool) (read
     by_test w g true same here =
         let one : name ≡ g = (bytes_eq-Decides name g).0 same in
         let file = files w in
-        let none : file_for w (R ++ Group name status description moment ∷ []) g ≡ [] = other_grows w R (Group name status description moment) g refl ∙ ap (file_for w R) (sym one) ∙ nothing w in
+        let none : file_for w (R ++ Group name status description moment ∷ []) g ≡ [] = other_grows w R (Group name status description moment) g refl ∙ ap (file_for w R) (sym one) ∙ nothing host R name read.lawful may.new w in
         record {
           place = file.0;
           content = file.1.0;
@@ -138,9 +134,8 @@ pub none_is_read : (host : Octets) (inodes : ℕ) (blocks : List Octets) → Are
 unfolding group_named groups entries
 none_is_read host inodes blocks = record {
   lawful = tt;
-  changes = λ n c is. absurd (no_element n c is);
+  changes = λ n c is. absurd (no_element [] n c refl is);
   fronts = λ w g here. absurd (true≢false (sym here));
 } where
-  no_element : (n : ℕ) (c : Change) → slice_get {A = Change} [] n ≡ Some c → ⊥
-  no_element zero c is = absurd (cc)
-  no_element (suc n) c is = absurd (cc)
+  no_element : (R : Spool) (n : ℕ) (c : Change) → length R ≡ 0 → slice_get R n ≡ Some c → ⊥
+  no_element R n c none is = absurd (let past = slice_get_past R n (omega arith) in cc)

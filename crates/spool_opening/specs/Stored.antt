@@ -1,16 +1,13 @@
 -- What was found of a spool in the files of blocks.
-use Rattle.std.specs.Prelude.{◌≡◌, Option, ◌<◌, ◌≤◌, ℕ, ◌+◌, take, drop, length, slice_get, slice_index_or, None, List, [], ◌∷◌, ◌++◌, Some, IsTrue}
+use Rattle.std.specs.Prelude.{◌≡◌, Option, ◌<◌, ◌≤◌, ℕ, ◌+◌, take, drop, length, slice_get, List, [], ◌∷◌, ◌++◌, Some, IsTrue}
 use Rattle.std.specs.List.{Contains}
 use Rattle.model.specs.Stream.{Octets}
 use Rattle.model.specs.Files.{File, files_in, table}
-use Rattle.model.specs.Lawful.{IsLawful}
-use Rattle.model.specs.Spool.{Spool, is_here}
+use Rattle.model.specs.Lawful.{IsLawful, MayFollow}
+use Rattle.model.specs.Spool.{Spool, first, is_here}
 use Rattle.model.specs.SpoolFiles.{HasRoomInFile, change_file, next_line, next_record, numbers_file, numbers_name, overview_file, overview_name}
 use Rattle.model.specs.declared.change.Change.{Change}
-
--- inode k has a file of this name and content
-abbrev pub IsFileAt : List (Option File) → ℕ → Octets → Octets → Type 0
-IsFileAt files k name content = slice_index_or files k None ≡ Some (record { name = name; content = content })
+pub use Rattle.fs_layout.specs.Table.{IsFileAt}
 
 -- ---- the numbers and the overview of a group
 
@@ -52,3 +49,11 @@ pub record AreRead (host : Octets) (inodes : ℕ) (blocks : List Octets) (R : Sp
   pub lawful : IsLawful host R
   pub changes : (n : ℕ) (c : Change) → slice_get R n ≡ Some c → HasRoomInFile (n + 1) c × Contains (files_in (table inodes blocks)) (change_file (record { serial = n + 1; change = c }))
   pub fronts : (w : Which) (g : Octets) → IsTrue (is_here R g) → HasFront (table inodes blocks) (name_for w g) (file_for w R g)
+
+-- the next change of a spool that begins with these
+pub record NextIs (host : Octets) (inodes : ℕ) (blocks : List Octets) (R S : Spool) : Type 0 where
+  pub change : Change
+  pub may : MayFollow host R change
+  pub room : HasRoomInFile (length R + 1) change
+  pub there : Contains (files_in (table inodes blocks)) (change_file (record { serial = length R + 1; change = change }))
+  pub front : R ++ change ∷ [] ≡ first S (length R + 1)

@@ -6,14 +6,12 @@ ghost use Rattle.model.specs.SpoolFiles.{group_name};
 ghost use Rattle.model.specs.declared.change.Change.{Change};
 ghost use Rattle.spool_opening.specs.Said.{IsFileOf, change_of};
 
-use records::{
-    FileKind, kind_of, read_article, read_expiry, read_group, serial_digits,
-};
+use records::{FileKind, kind_of, read_article, read_expiry, read_group, serial_digits};
 use std::alloc::{AllocError, Global};
 
 /// What the file of a change says.
 #[derive(Drop)]
-pub(crate) enum Said<'a> {
+pub enum Said<'a> {
     Group {
         name: &'a [u8],
         status: u8,
@@ -33,7 +31,7 @@ pub(crate) enum Said<'a> {
 }
 
 /// What the file of this name says, if it is of the change with this serial.
-pub(crate) fn read_change<'a>(
+pub fn read_change<'a>(
     alloc: Global,
     name: &'a [u8],
     content: &'a [u8],
