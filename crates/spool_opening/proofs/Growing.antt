@@ -1,0 +1,141 @@
+-- One change more is read, and the end.
+use Rattle.std.proofs.Common.{◌≡◌, ◌≢◌, ◌<◌, ◌≤◌, ℕ, zero, suc, ◌+◌, ◌-◌, ◌*◌, Bool, true, false, cond, List, [], ◌∷◌, ◌++◌, length, get_or, take, drop, refl, sym, ◌∙◌, ap, subst, arith, Option, Some, None, inl, inr, length-append}
+use Rattle.std.specs.Prelude.{slice_get, find, filter_map, IsTrue, bytes_eq, is_some, count_by}
+use Rattle.std.specs.List.{All, Contains, list_any}
+use Rattle.std.specs.Option.{option_or}
+use Rattle.std.proofs.lemmas.Bool.{true≢false, cases_lt}
+use Rattle.std.proofs.lemmas.List.{append_assoc, append-nil, take_all}
+use Rattle.std.proofs.lemmas.List.Elements.{filter_map-append}
+use Rattle.std.proofs.lemmas.List.Folds.{find-append}
+use Rattle.std.proofs.lemmas.Option.{slice_get_past, slice_get-get_or}
+use Rattle.std.proofs.lemmas.Slice.Eq.{bytes_eq-Decides}
+use Rattle.model.specs.Stream.{Octets}
+use Rattle.model.specs.Files.{File, HoldsFiles, IsFileSystem, files_in, table}
+use Rattle.model.specs.Layout.{Holds}
+use Rattle.model.specs.Lawful.{IsLawful, IsLawfulAfter, MayFollow}
+use Rattle.model.specs.Spool.{Spool, NewsGroup, entries, entries_from, first, group_made, group_named, groups, is_here, is_name}
+use Rattle.model.specs.SpoolFiles.{HasRoomInFile, change_file, files_of, is_of_change, numbers_of, overview_of}
+use Rattle.model.specs.declared.change.Change.{Change}
+use Rattle.model.specs.declared.change.Change.TheVariants.{Group, Article, Expire}
+use Rattle.model.proofs.Filing.{entries_push, new_has_nothing}
+use Rattle.model.proofs.HoldsOne.{no_change}
+use Rattle.model.proofs.Opening.{changes_counted, files_make_spool, files_counted}
+use Rattle.spool_opening.specs.Stored.{AreRead, HasFront, HasPiece, IsFileAt, Numbers, Overview, Which, file_for, name_for, piece_for}
+use Rattle.spool_opening.proofs.Fronts.{article_grows, front_grows, is_front, other_grows}
+
+-- ---- lawful
+
+pub lawful_more : (host : Octets) (before cs : Spool) (c : Change) → IsLawfulAfter host before cs → MayFollow host (before ++ cs) c → IsLawfulAfter host before (cs ++ c ∷ [])
+lawful_more host before [] c lawful may = (rw append-nil at may, tt)
+lawful_more host before (d ∷ cs) c lawful may = (lawful.0, lawful_more host (before ++ d ∷ []) cs c lawful.1 (rw append_assoc may))
+
+-- ---- the changes
+
+changes_more : (P : ℕ → Change → Type 0) (R : Spool) (c : Change) → ((n : ℕ) (d : Change) → slice_get R n ≡ Some d → P n d) → P (length R) c → (n : ℕ) (d : Change) → slice_get (R ++ c ∷ []) n ≡ Some d → P n d
+changes_more P [] c old new zero d is = let same : c ≡ d = cc in subst (P 0) same new
+changes_more P [] c old new (suc n) d is = absurd (cc)
+changes_more P (e ∷ R) c old new zero d is = old 0 d is
+changes_more P (e ∷ R) c old new (suc n) d is = changes_more (λ m. P (suc m)) R c (λ m f at. old (suc m) f at) new n d is
+
+-- ---- groups that are here
+
+groups_more : (S : Spool) (c : Change) → groups (S ++ c ∷ []) ≡ groups S ++ filter_map group_made (record { serial = length S + 1; change = c } ∷ [])
+unfolding groups entries
+groups_more S c = ap (filter_map group_made) (entries_push 1 S c) ∙ filter_map-append group_made (entries_from 1 S) (record { serial = length S + 1; change = c } ∷ [])
+
+here_more : (S : Spool) (c : Change) (g : Octets) → group_named (S ++ c ∷ []) g ≡ option_or (group_named S g) (find (λ (h : NewsGroup). is_name g h.name) (filter_map group_made (record { serial = length S + 1; change = c } ∷ [])))
+unfolding group_named
+here_more S c g = ap (find (λ (h : NewsGroup). is_name g h.name)) (groups_more S c) ∙ find-append (λ (h : NewsGroup). is_name g h.name) (groups S) _
+
+or_none : (o : Option NewsGroup) → is_some (option_or o None) ≡ true → is_some o ≡ true
+or_none None some = some
+or_none (Some h) some = refl
+
+-- no group is made
+here_before : (S : Spool) (c : Change) (g : Octets) → filter_map group_made (record { serial = length S + 1; change = c } ∷ []) ≡ [] → is_here (S ++ c ∷ []) g ≡ true → is_here S g ≡ true
+here_before S c g none here =
+    or_none (group_named S g) (sym (ap (λ (o : Option NewsGroup). is_some o) (here_more S c g ∙ ap (λ (gs : List NewsGroup). option_or (group_named S g) (find (λ (h : NewsGroup). is_name g h.name) gs)) none)) ∙ here)
+
+-- ---- a file with more in front
+
+named_same : (inodes : ℕ) (blocks : List Octets) (w : Which) (g : Octets) (old new : Octets) → new ≡ old → HasFront (table inodes blocks) (name_for w g) old → HasFront (table inodes blocks) (name_for w g) new
+named_same inodes blocks w g old new same has = subst (HasFront (table inodes blocks) (name_for w g)) (sym same) has
+
+-- a new group has nothing yet
+nothing : (host : Octets) (R : Spool) (name : Octets) → IsLawful host R → group_named R name ≡ None → (w : Which) → file_for w R name ≡ []
+unfolding numbers_of overview_of
+nothing host R name lawful new Numbers = ap numbers_of (new_has_nothing host R name lawful new)
+nothing host R name lawful new Overview = ap overview_of (new_has_nothing host R name lawful new)
+
+module _ (host : Octets) (inodes : ℕ) (blocks : List Octets) (R : Spool) (read : AreRead host inodes blocks R) where
+  pub expiry_is_read : (group : Octets) (number : ℕ) → let c = Expire group number in MayFollow host R c → HasRoomInFile (length R + 1) c → Contains (files_in (table inodes blocks)) (change_file (record { serial = length R + 1; change = c }))
+      → AreRead host inodes blocks (R ++ c ∷ [])
+  expiry_is_read group number may room there = record {
+    lawful = lawful_more host [] R (Expire group number) read.lawful may;
+    changes = changes_more (λ n c. HasRoomInFile (n + 1) c × Contains (files_in (table inodes blocks)) (change_file (record { serial = n + 1; change = c }))) R (Expire group number) read.changes (room, there);
+    fronts = λ w g here. named_same inodes blocks w g _ _ (other_grows w R (Expire group number) g refl) (read.fronts w g (here_before R (Expire group number) g refl here));
+  }
+
+  pub article_is_read : (text : Octets) (gs : List Octets) (moment : ℕ) → let c = Article text gs moment in IsFileSystem inodes blocks → MayFollow host R c → HasRoomInFile (length R + 1) c
+      → Contains (files_in (table inodes blocks)) (change_file (record { serial = length R + 1; change = c }))
+      → ((w : Which) (g : Octets) → list_any (is_name g) gs ≡ true → HasPiece (table inodes blocks) (name_for w g) (length (file_for w R g)) (piece_for w R text g))
+      → AreRead host inodes blocks (R ++ c ∷ [])
+  article_is_read text gs moment rule may room there pieces = record {
+    lawful = lawful_more host [] R (Article text gs moment) read.lawful may;
+    changes = changes_more (λ n c. HasRoomInFile (n + 1) c × Contains (files_in (table inodes blocks)) (change_file (record { serial = n + 1; change = c }))) R (Article text gs moment) read.changes (room, there);
+    fronts = λ w g here. by_test w g (read.fronts w g (here_before R (Article text gs moment) g refl here)) (list_any (is_name g) gs) refl;
+  } where
+    by_test : (w : Which) (g : Octets) → HasFront (table inodes blocks) (name_for w g) (file_for w R g) → (b : Bool) → list_any (is_name g) gs ≡ b → HasFront (table inodes blocks) (name_for w g) (file_for w (R ++ Article text gs moment ∷ []) g)
+    by_test w g has true filed =
+        named_same inodes blocks w g _ _ (article_grows w R text gs moment g ∙ ap (λ (b : Bool). file_for w R g ++ cond b (piece_for w R text g) []) filed)
+        (front_grows inodes blocks (name_for w g) (file_for w R g) (piece_for w R text g) rule has (pieces w g filed))
+    by_test w g has false filed =
+        named_same inodes blocks w g _ _ (article_grows w R text gs moment g ∙ ap (λ (b : Bool). file_for w R g ++ cond b (piece_for w R text g) []) filed ∙ append-nil (file_for w R g)) has
+
+  pub group_is_read : (name : Octets) (status : ℕ) (description : Octets) (moment : ℕ) → let c = Group name status description moment in MayFollow host R c → HasRoomInFile (length R + 1) c
+      → Contains (files_in (table inodes blocks)) (change_file (record { serial = length R + 1; change = c }))
+      → ((w : Which) → (k : ℕ) × ((content : Octets) × IsFileAt (table inodes blocks) k (name_for w name) content))
+      → AreRead host inodes blocks (R ++ c ∷ [])
+  group_is_read name status description moment may room there files = record {
+    lawful = lawful_more host [] R (Group name status description moment) read.lawful may;
+    changes = changes_more (λ n c. HasRoomInFile (n + 1) c × Contains (files_in (table inodes blocks)) (change_file (record { serial = n + 1; change = c }))) R (Group name status description moment) read.changes (room, there);
+    fronts = λ w g here. by_test w g (bytes_eq name g) refl here;
+  } where
+    or_other : (o : Option NewsGroup) → is_some (option_or o None) ≡ true → is_some o ≡ true
+    or_other None some = some
+    or_other (Some h) some = refl
+
+    by_test : (w : Which) (g : Octets) (b : Bool) → bytes_eq name g ≡ b → is_here (R ++ Group name status description moment ∷ []) g ≡ true → HasFront (table inodes blocks) (name_for w g) (file_for w (R ++ Group name status description moment ∷ []) g)
+    by_test w g true same here =
+        let one : name ≡ g = (bytes_eq-Decides name g).0 same in
+        let file = files w in
+        let none : file_for w (R ++ Group name status description moment ∷ []) g ≡ [] = other_grows w R (Group name status description moment) g refl ∙ ap (file_for w R) (sym one) ∙ nothing host R name read.lawful may.new w in
+        record {
+          place = file.0;
+          content = file.1.0;
+          there = subst (λ (o : Octets). IsFileAt (table inodes blocks) file.0 (name_for w o) file.1.0) one file.1.1;
+          front = ap (λ (o : Octets). take (length o) file.1.0) none ∙ sym none;
+        }
+    by_test w g false same here =
+        let its : NewsGroup = record { serial = length R + 1; name = name; status = status; description = description; moment = moment } in
+        let before : is_here R g ≡ true = or_other (group_named R g) (sym (ap (λ (o : Option NewsGroup). is_some o) (here_more R (Group name status description moment) g ∙ ap (λ (b : Bool). option_or (group_named R g) (cond b (Some its) None)) same)) ∙ here) in
+        named_same inodes blocks w g _ _ (other_grows w R (Group name status description moment) g refl) (read.fronts w g before)
+
+  -- ---- the end
+
+  -- where as many changes were read as there are files of changes, each spool that the blocks hold is these
+  pub all_is_read : (S : Spool) → inodes ≤ 32768 → Holds host inodes blocks S → count_by is_of_change (files_in (table inodes blocks)) ≡ length R → S ≡ R
+  all_is_read S few held count =
+      let size : length S ≤ length R = omega (arith, changes_counted host inodes blocks S held, count) in
+      sym (is_front host inodes blocks S R few held read ∙ take_all (length R) S size)
+
+-- no change was read yet
+pub none_is_read : (host : Octets) (inodes : ℕ) (blocks : List Octets) → AreRead host inodes blocks []
+unfolding group_named groups entries
+none_is_read host inodes blocks = record {
+  lawful = tt;
+  changes = λ n c is. absurd (no_element [] n c refl is);
+  fronts = λ w g here. absurd (true≢false (sym here));
+} where
+  no_element : (R : Spool) (n : ℕ) (c : Change) → length R ≡ 0 → slice_get R n ≡ Some c → ⊥
+  no_element R n c none is = absurd (let past = slice_get_past R n (omega arith) in cc)

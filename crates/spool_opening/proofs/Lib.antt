@@ -1,0 +1,12 @@
+pub mod Saying
+pub mod Finding
+pub mod Fronts
+pub mod Growing
+pub mod Slots
+pub mod Testing
+pub mod Replaying
+pub mod Contents
+pub mod Going
+pub mod Passing
+pub mod Sizes
+pub mod Filed

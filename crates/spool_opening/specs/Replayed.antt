@@ -1,0 +1,53 @@
+-- The changes that were replayed, with their index and the places of their files.
+use Rattle.std.specs.Prelude.{◌≡◌, ◌<◌, ◌≤◌, ◌^◌, ℕ, true, List, [], length, slice_index_or, Option}
+use Rattle.model.specs.Stream.{Octets}
+use Rattle.model.specs.Files.{File, table}
+use Rattle.model.specs.Indexed.{FilePlaces}
+use Rattle.model.specs.Spool.{Spool, is_here}
+use Rattle.model.specs.SpoolFiles.{overview_file}
+use Rattle.model.specs.declared.change.Change.{Change}
+use Rattle.index.specs.View.{IndexView, Indexes}
+use Rattle.places.specs.Places.{AreNamed}
+use Rattle.spool_opening.specs.Said.{IsFileOf}
+use Rattle.spool_opening.specs.Stored.{AreRead, HasPiece, IsFileAt, Which, file_for, name_for, piece_for}
+
+pub record IsReplayed (host : Octets) (inodes : ℕ) (blocks : List Octets) (index : IndexView) (places : FilePlaces) (R : Spool) : Type 0 where
+  pub read : AreRead host inodes blocks R
+  pub indexed : Indexes R index
+  pub placed : AreNamed (table inodes blocks) R places
+
+-- of some blocks
+pub record AreReplayed (index : IndexView) (places : FilePlaces) : Type 0 where
+  pub host : Octets
+  pub inodes : ℕ
+  pub blocks : List Octets
+  pub changes : Spool
+  pub replayed : IsReplayed host inodes blocks index places changes
+
+-- of these blocks, with room for one serial more
+pub record CanReplay (host : Octets) (inodes : ℕ) (blocks : List Octets) (index : IndexView) (places : FilePlaces) : Type 0 where
+  pub changes : Spool
+  pub replayed : IsReplayed host inodes blocks index places changes
+  pub few : length changes < 32768
+
+-- an inode has the file of this change with this serial
+pub record IsItsFile (inodes : ℕ) (blocks : List Octets) (at serial : ℕ) (c : Change) : Type 0 where
+  pub name : Octets
+  pub content : Octets
+  pub is : IsFileOf serial c name content
+  pub there : IsFileAt (table inodes blocks) at name content
+
+-- the index is that of few changes, and each overview is short
+pub record IsBounded (index : IndexView) : Type 0 where
+  pub changes : Spool
+  pub indexed : Indexes changes index
+  pub few : length changes ≤ 32768
+  pub short : (g : Octets) → is_here changes g ≡ true → length (overview_file changes g) < 2 ^ 32
+
+-- the numbers and the overviews of these groups go on with this article
+abbrev pub AllGoOn : List (Option File) → Spool → Octets → List Octets → Type 0
+AllGoOn inodes S text names = (k : ℕ) (w : Which) → k < length names → HasPiece inodes (name_for w (slice_index_or names k [])) (length (file_for w S (slice_index_or names k []))) (piece_for w S text (slice_index_or names k []))
+
+-- these groups are here
+abbrev pub AreHere : Spool → List Octets → Type 0
+AreHere S names = (k : ℕ) → k < length names → is_here S (slice_index_or names k []) ≡ true

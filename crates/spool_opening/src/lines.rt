@@ -1,0 +1,131 @@
+//! Whether the numbers and the overview of a group go on with an article.
+
+ghost use Rattle.std.specs.Prelude.{◌≡◌, ◌+◌, ◌*◌, ◌^◌, ◌<◌, ◌≤◌, ◌↔◌, ℕ, List, IsTrue, false, length, IfOk, IfSome, MatchOption};
+ghost use Rattle.std.specs.List.{All};
+ghost use Rattle.model.specs.Article.{overview_line};
+ghost use Rattle.model.specs.Files.{HasRoom, IsFileSystem, table};
+ghost use Rattle.model.specs.SpoolFiles.{is_of_change};
+ghost use Rattle.model.specs.Spool.{Spool};
+ghost use Rattle.index.specs.Filing.{AreLineSizes, end_of};
+ghost use Rattle.index.specs.View.{Indexes};
+ghost use Rattle.spool_opening.specs.Replayed.{AllGoOn, AreHere, IsBounded};
+ghost use Rattle.index.specs.Shown.{shown};
+ghost use Rattle.spool_opening.specs.Sorted.{AreSorted};
+ghost use Rattle.spool_opening.specs.Stored.{HasPiece};
+ghost use Rattle.spool_opening.specs.Tests.{GoesOn};
+
+use crate::files::read_file;
+use crate::sorting::Files;
+use crate::tests::find_group;
+use article::Article;
+use index::{Group, Index};
+use model::Text;
+use overview::line;
+use records::{FileKind, file_name, number_record};
+use std::alloc::{AllocError, Global};
+use volume::Blocks;
+
+/// The octets of the number of an article.
+const NUMBER_SIZE: u64 = 16;
+
+/// Whether a file of this name has these octets after so many others. Refused for memory alone.
+fn stands<B: Blocks>(
+    alloc: Global,
+    blocks: &B,
+    inodes: u32,
+    files: &Files,
+    name: &[u8],
+    after: u64,
+    piece: &[u8],
+) -> Result<bool, AllocError>
+    requires room { HasRoom inodes (B.blocks blocks.now) }
+    requires rule { IsFileSystem inodes (B.blocks blocks.now) }
+    requires sorted { AreSorted (table inodes (B.blocks blocks.now)) (length (table inodes (B.blocks blocks.now))) files.now.slots.items files.now.named }
+    requires index { (content : List ℕ) → is_of_change (record { name = name.now; content = content }) ≡ false }
+    ensures stands { IfOk result (λ stands. IsTrue stands ↔ HasPiece (table inodes (B.blocks blocks.now)) name.now after piece.now) }
+    ensures short { IfOk result (λ stands. IsTrue stands → length piece.now ≤ 4235264) }
+{
+    let Some(at) = files.named.get(name) else {
+        return Ok(false);
+    };
+    let there = read_file(alloc, blocks, inodes, at, after, piece.len() as u64)?;
+    Ok(there.as_slice() == piece)
+}
+
+/// The octets of an article's line in the overview of a group; nothing where the group's numbers and overview do not go on with
+/// the article. Refused for memory alone.
+pub fn goes_on<B: Blocks>(
+    alloc: Global,
+    blocks: &B,
+    inodes: u32,
+    files: &Files,
+    group: &Group,
+    serial: u64,
+    article: &Article<'_>,
+) -> Result<Option<u64>, AllocError>
+    requires room { HasRoom inodes (B.blocks blocks.now) }
+    requires rule { IsFileSystem inodes (B.blocks blocks.now) }
+    requires sorted { AreSorted (table inodes (B.blocks blocks.now)) (length (table inodes (B.blocks blocks.now))) files.now.slots.items files.now.named }
+    requires few { length (shown group.now).filed ≤ 32768 }
+    requires short { end_of (shown group.now) < 2 ^ 32 }
+    ensures { IfOk result (λ size. MatchOption size
+        (GoesOn (table inodes (B.blocks blocks.now)) (shown group.now) serial article.now → ⊥)
+        (λ n. GoesOn (table inodes (B.blocks blocks.now)) (shown group.now) serial article.now
+        × (n ≡ length (overview_line (length (shown group.now).filed + 1) article.now)) × (n < 2 ^ 32))) }
+{
+    let high = group.high();
+    let end = group.overview_size();
+    let line = line(alloc, high + 1, article)?;
+    let overview = file_name(alloc, FileKind::Overview, group.name())?;
+    if !stands(alloc, blocks, inodes, files, &overview, end, &line)? {
+        return Ok(None);
+    }
+    let record = number_record(serial, end as u32, &line);
+    let numbers = file_name(alloc, FileKind::Numbers, group.name())?;
+    if !stands(
+        alloc,
+        blocks,
+        inodes,
+        files,
+        &numbers,
+        NUMBER_SIZE * high,
+        &record,
+    )? {
+        return Ok(None);
+    }
+    Ok(Some(line.len() as u64))
+}
+
+/// The octets of an article's lines in the overviews of these groups; nothing where the numbers or the overview of one do not go
+/// on with the article. Refused for memory alone.
+pub fn line_sizes<B: Blocks>(
+    alloc: Global,
+    blocks: &B,
+    inodes: u32,
+    files: &Files,
+    index: &Index,
+    serial: u64,
+    article: &Article<'_>,
+    here: &[Text],
+) -> Result<Option<Vec<u64>>, AllocError>
+    requires room { HasRoom inodes (B.blocks blocks.now) }
+    requires rule { IsFileSystem inodes (B.blocks blocks.now) }
+    requires sorted { AreSorted (table inodes (B.blocks blocks.now)) (length (table inodes (B.blocks blocks.now))) files.now.slots.items files.now.named }
+    requires bounded { IsBounded index.now }
+    ensures lines { IfOk result (λ sizes. (S : Spool) → Indexes S index.now → serial ≡ length S + 1 → AreHere S here.now → MatchOption sizes
+        (AllGoOn (table inodes (B.blocks blocks.now)) S article.now here.now → ⊥)
+        (λ v. AllGoOn (table inodes (B.blocks blocks.now)) S article.now here.now × AreLineSizes S article.now here.now v.items)) }
+    ensures small { IfOk result (λ sizes. IfSome sizes (λ v. (length v.items ≡ length here.now) × All (λ n. n < 2 ^ 32) v.items)) }
+{
+    let mut sizes = Vec::new(alloc);
+    for name in here {
+        let Some(group) = find_group(index, name.as_slice()) else {
+            return Ok(None);
+        };
+        let Some(size) = goes_on(alloc, blocks, inodes, files, group, serial, article)? else {
+            return Ok(None);
+        };
+        sizes.push(size)?;
+    }
+    Ok(Some(sizes))
+}

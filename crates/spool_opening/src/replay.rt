@@ -1,0 +1,147 @@
+//! The changes of a spool are replayed, each by its file.
+
+ghost use Rattle.std.specs.Prelude.{◌≡◌, ◌<◌, ◌≤◌, ◌+◌, ◌++◌, ◌∷◌, [], ℕ, List, Some, None, length, map, IfErr, OnOk};
+ghost use Rattle.model.specs.Lawful.{MayExpire, MayFile, MayMake};
+ghost use Rattle.model.specs.Spool.{Spool};
+ghost use Rattle.model.specs.declared.change.Change.{Change};
+ghost use Rattle.index.specs.View.{Indexes};
+ghost use Rattle.model.specs.Files.{HasRoom, IsFileSystem, table};
+ghost use Rattle.model.specs.SpoolFiles.{numbers_name, overview_name};
+ghost use Rattle.spool_opening.specs.Replayed.{AllGoOn, AreReplayed, CanReplay, IsItsFile, IsReplayed};
+ghost use Rattle.spool_opening.specs.Sorted.{AreSorted};
+ghost use Rattle.spool_opening.specs.Stored.{IsFileAt};
+
+use crate::errors::OpenError;
+use crate::lines::line_sizes;
+use crate::sorting::Files;
+use crate::tests::{groups_here, id_of, may_expire, may_file, may_make};
+use article::{Article, Origin, ReadError};
+use index::Index;
+use model::Names;
+use places::Places;
+use std::alloc::Global;
+use volume::Blocks;
+
+/// The index of the changes that were replayed, and the places of their files.
+#[derive(Drop)]
+pub struct Replay {
+    pub index: Index,
+    pub places: Places,
+}
+
+/// Replays an expiry, whose file has this inode. `Damaged` exactly where it may not follow the changes before it.
+pub fn replay_expiry(
+    replay: &mut Replay,
+    at: u32,
+    group: &[u8],
+    number: u32,
+) -> Result<(), OpenError>
+    ensures ok { OnOk result ((host : List ℕ) (inodes : ℕ) (blocks : List (List ℕ)) (R : Spool) → IsReplayed host inodes blocks replay.old.index replay.old.places R
+        → IsItsFile inodes blocks at (length R + 1) (Change.Expire group.now number) → IsReplayed host inodes blocks replay.new.index replay.new.places (R ++ Change.Expire group.now number ∷ [])) }
+    ensures damaged { IfErr result (λ e. e ≡ OpenError.Damaged → (S : Spool) → Indexes S replay.old.index → MayExpire S group.now number → ⊥) }
+{
+    if !may_expire(&replay.index, group, number as u64) {
+        return Err(OpenError::Damaged);
+    }
+    replay.index.push_expiry(group, number as u64)?;
+    replay.places.push_change(at)?;
+    Ok(())
+}
+
+/// Replays a group, whose files have these inodes. `Damaged` exactly where it may not follow the changes before it.
+pub fn replay_group(
+    replay: &mut Replay,
+    at: u32,
+    numbers: u32,
+    overview: u32,
+    name: &[u8],
+    status: u8,
+    description: &[u8],
+    moment: u64,
+) -> Result<(), OpenError>
+    requires { AreReplayed replay.old.index replay.old.places }
+    ensures ok { OnOk result ((host : List ℕ) (inodes : ℕ) (blocks : List (List ℕ)) (R : Spool) → IsReplayed host inodes blocks replay.old.index replay.old.places R
+        → IsItsFile inodes blocks at (length R + 1) (Change.Group name.now status description.now moment)
+        → ((content : List ℕ) × IsFileAt (table inodes blocks) numbers (numbers_name name.now) content)
+        → ((content : List ℕ) × IsFileAt (table inodes blocks) overview (overview_name name.now) content)
+        → IsReplayed host inodes blocks replay.new.index replay.new.places (R ++ Change.Group name.now status description.now moment ∷ [])) }
+    ensures damaged { IfErr result (λ e. e ≡ OpenError.Damaged → (S : Spool) → Indexes S replay.old.index → MayMake S name.now status description.now moment → ⊥) }
+{
+    if !may_make(&replay.index, name, status, description, moment) {
+        return Err(OpenError::Damaged);
+    }
+    replay.index.push_group(name, status, description, moment)?;
+    replay.places.push_group(at, numbers, overview)?;
+    Ok(())
+}
+
+/// Replays an article, whose file has this inode. `Damaged` exactly where it may not follow the changes before it, or where the
+/// numbers and the overview of one of its groups do not go on with it.
+pub fn replay_article<B: Blocks>(
+    alloc: Global,
+    blocks: &B,
+    inodes: u32,
+    host: &[u8],
+    files: &Files,
+    replay: &mut Replay,
+    at: u32,
+    text: &[u8],
+    groups: &[&[u8]],
+    moment: u64,
+) -> Result<(), OpenError>
+    requires room { HasRoom inodes (B.blocks blocks.now) }
+    requires rule { IsFileSystem inodes (B.blocks blocks.now) }
+    requires sorted { AreSorted (table inodes (B.blocks blocks.now)) (length (table inodes (B.blocks blocks.now))) files.now.slots.items files.now.named }
+    requires replayed { CanReplay host.now inodes (B.blocks blocks.now) replay.old.index replay.old.places }
+    ensures ok { OnOk result ((R : Spool) → IsReplayed host.now inodes (B.blocks blocks.now) replay.old.index replay.old.places R
+        → IsItsFile inodes (B.blocks blocks.now) at (length R + 1) (Change.Article text.now (map (λ g. g.now) groups.now) moment)
+        → IsReplayed host.now inodes (B.blocks blocks.now) replay.new.index replay.new.places (R ++ Change.Article text.now (map (λ g. g.now) groups.now) moment ∷ [])) }
+    ensures damaged { IfErr result (λ e. e ≡ OpenError.Damaged → (S : Spool) → Indexes S replay.old.index → MayFile host.now S text.now (map (λ g. g.now) groups.now) moment
+        → AllGoOn (table inodes (B.blocks blocks.now)) S text.now (map (λ g. g.now) groups.now) → ⊥) }
+{
+    let article = match Article::read(alloc, text, Origin::Carried) {
+        Ok(article) => article,
+        Err(ReadError::Bad(_)) => return Err(OpenError::Damaged),
+        Err(ReadError::Memory) => return Err(OpenError::Memory),
+    };
+    let names = article.groups(alloc)?;
+    let listed = names.as_slice();
+    let here = groups_here(alloc, &replay.index, listed)?;
+    let count = replay.index.len();
+    let serial = count + 1;
+    let filed = here.as_slice();
+    let may = may_file(
+        alloc,
+        &replay.index,
+        host,
+        serial,
+        &article,
+        filed,
+        groups,
+        moment,
+    )?;
+    if !may {
+        return Err(OpenError::Damaged);
+    }
+    let Some(sizes) = line_sizes(
+        alloc,
+        blocks,
+        inodes,
+        files,
+        &replay.index,
+        serial,
+        &article,
+        filed,
+    )?
+    else {
+        return Err(OpenError::Damaged);
+    };
+    let id = id_of(&article);
+    let size = text.len() as u64;
+    let lengths = sizes.as_slice();
+    replay
+        .index
+        .push_article(id, size, Names::new(here), moment, lengths)?;
+    replay.places.push_change(at)?;
+    Ok(())
+}
