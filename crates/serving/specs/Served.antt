@@ -1,5 +1,5 @@
 -- What serving a message answers, and what it does to the spool.
-use Rattle.std.specs.Prelude.{◌≡◌, ℕ, Bool, false, Option, Some, None, unwrap_or, option_map, if◌then◌else◌}
+use Rattle.std.specs.Prelude.{◌≡◌, ℕ, Bool, false, Option, Some, None, if◌then◌else◌}
 use Rattle.model.specs.Stream.{Octets}
 use Rattle.model.specs.Answer.{answer, is_long}
 use Rattle.model.specs.Reads.{reads}

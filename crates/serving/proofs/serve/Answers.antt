@@ -1,8 +1,7 @@
 use Rattle.std.proofs.Common.{◌≡◌, ◌+◌, ◌<◌, ◌^◌, ap, sym, ◌∙◌, subst, arith, length}
 use Rattle.std.specs.Prelude.{Some, true}
-use Rattle.model.specs.Answer.{answer, full_answer}
+use Rattle.model.specs.Answer.{answer}
 use Rattle.model.specs.declared.session.Answer.{Answer}
-use Rattle.replies.specs.Answered.{answered}
 use Rattle.serving.specs.Served.{IsServed}
 use Rattle.serving.specs.declared.Served.{Served}
 use Rattle.serving.proofs.Serving.{full_served, is_full_served, no_room, not_long}
