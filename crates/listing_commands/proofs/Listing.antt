@@ -71,9 +71,6 @@ all_taken S = take_all (length (groups S)) (all_known S) (let size = length-map 
 
 -- ---- the groups that a list has
 
-listing : Spool → NewsGroup → Listed
-listing S g = (known S g).listed
-
 kept_first : {X Y : Type 0} (f : X → Y) (x : X) (xs : List X) (b : Bool) → cond b (f x ∷ map f xs) (map f xs) ≡ map f (cond b (x ∷ xs) xs)
 kept_first f x xs true = refl
 kept_first f x xs false = refl
