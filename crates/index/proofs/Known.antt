@@ -1,5 +1,5 @@
 -- Groups by place, and as the commands see them.
-use Rattle.std.proofs.Common.{◌≡◌, ℕ, zero, suc, ◌+◌, ◌<◌, ◌≤◌, List, [], ◌∷◌, length, map, get_or, refl, sym, ◌∙◌, ap, subst, arith, Bool, true, false, cond}
+use Rattle.std.proofs.Common.{◌≡◌, ℕ, suc, ◌<◌, List, [], ◌∷◌, length, map, get_or, refl, sym, ◌∙◌, ap, arith, Bool, true, false, cond}
 use Rattle.std.specs.Prelude.{Option, Some, None, MatchOption, IfSome, bytes_eq, filter, is_some, option_map, slice_get}
 use Rattle.std.specs.List.{list_any}
 use Rattle.std.specs.Option.{option_and_then}
@@ -19,7 +19,7 @@ use Rattle.index.specs.Naming.{AreNamed, heads, name_at}
 use Rattle.index.specs.View.{IndexView, Indexes}
 use Rattle.index.proofs.Lists.{got}
 use Rattle.index.proofs.LookUps.{group_found, group_not_found, not_here}
-use Rattle.index.proofs.Naming.{Places, here, nowhere, within}
+use Rattle.index.proofs.Naming.{Places, here, nowhere}
 
 -- ---- names
 

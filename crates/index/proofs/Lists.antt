@@ -1,6 +1,6 @@
 -- Loops over lists: whether one passes, and the greatest.
 use Rattle.std.proofs.Common.{◌≡◌, ℕ, zero, suc, ◌+◌, ◌<◌, ◌≤◌, List, [], ◌∷◌, ◌++◌, length, map, take, get_or, refl, sym, ◌∙◌, ap, arith, Bool, true, false, cond}
-use Rattle.std.specs.Prelude.{Option, Some, None, filter, max, slice_get, ◌&&◌, ◌||◌}
+use Rattle.std.specs.Prelude.{Some, filter, max, slice_get, ◌&&◌, ◌||◌}
 use Rattle.std.specs.List.{list_any}
 use Rattle.std.proofs.lemmas.List.{map_push, take_all, take_more}
 use Rattle.model.specs.Spool.{greatest}
