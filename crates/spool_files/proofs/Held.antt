@@ -1,30 +1,30 @@
 -- What blocks that hold a spool leave free, and the change that they get.
 use Rattle.std.proofs.Common.{◌≡◌, ◌≢◌, ◌<◌, ◌≤◌, ◌^◌, ℕ, zero, suc, ◌+◌, ◌-◌, ◌*◌, false, List, [], ◌∷◌, ◌++◌, length, get_or, refl, sym, ◌∙◌, ap, subst, arith, length-append}
-use Rattle.std.specs.Prelude.{OnErr, Result, Ok, Err, Option, Some, None, IsPermutation, nat_lt, ◌||◌, filter_map}
+use Rattle.std.specs.Prelude.{replicate, OnErr, Result, Ok, Err, Option, Some, None, IsPermutation, nat_lt, ◌||◌, filter_map}
 use Rattle.std.specs.List.{Contains}
 use Rattle.std.proofs.lemmas.Bool.{ltb-false, or_parts}
 use Rattle.std.proofs.lemmas.List.Sorted.{Contains-permutation, length_permutation, sum_by-IsPermutation}
 use Rattle.model.specs.Stream.{Octets}
-use Rattle.model.specs.Files.{File, HoldsFiles, IsFileSystem, files_in, first_data, free_blocks, table}
+use Rattle.model.specs.Files.{File, HasRoom, HoldsFiles, IsFileSystem, files_in, first_data, free_blocks, table}
 use Rattle.model.specs.Lawful.{MayFollow}
 use Rattle.model.specs.Room.{blocks_asked, blocks_for, blocks_of_files, extends_large, files_made, free_blocks_beside, free_inodes_beside, has_all_groups, is_full, is_full_for}
-use Rattle.model.specs.Spool.{Spool, group_made, groups}
+use Rattle.model.specs.Spool.{Spool, entries, group_made, groups}
 use Rattle.model.specs.SpoolFiles.{change_calls, files_of}
 use Rattle.model.specs.declared.change.Change.{Change}
 use Rattle.model.specs.declared.change.Change.TheVariants.{Group, Article, Expire}
 use Rattle.model.proofs.Counting.{free_is_beside}
 use Rattle.model.proofs.Filing.{spools_grow}
-use Rattle.model.proofs.HoldsOne.{changes_few, holds_one}
+use Rattle.model.proofs.HoldsOne.{changes_few, empty_none, holds_one}
 use Rattle.model.proofs.Opening.{files_counted}
 use Rattle.fs.specs.Calls.{IsThere}
 use Rattle.filing.specs.Calls.{Calls}
 use Rattle.places.proofs.Named.{groups_more}
 use Rattle.spool_files.specs.Growing.{HasFree}
 use Rattle.std.proofs.Math.Logic.{∥∥₁_elim}
-use Rattle.model.specs.Indexed.{FilePlaces}
-use Rattle.index.specs.View.{IndexView}
+use Rattle.model.specs.Indexed.{ArePlaces, FilePlaces}
+use Rattle.index.specs.View.{IndexView, Indexes}
 use Rattle.volume.specs.Volume.{VolumeView}
-use Rattle.spool_files.specs.Kept.{AreFree, IsHeld, IsKept, StandsIn, spool_set}
+use Rattle.spool_files.specs.Kept.{AreFree, CanStand, IsHeld, IsKept, StandsIn, spool_set}
 use Rattle.spool_files.specs.View.{Adds, Dirties, SpoolView}
 
 there_among : (inodes : List (Option File)) (k : ℕ) (f : File) → get_or inodes k None ≡ Some f → Contains (files_in inodes) f
@@ -131,3 +131,18 @@ enough_left host inodes v i p free S c kept are room =
 pub if_err : {T E P : Type 0} (r : Result T E) → P → OnErr r P
 if_err (Ok x) is = tt
 if_err (Err e) is = is
+
+-- a spool without changes stands in an empty file system
+pub nothing_stands : (host : Octets) (inodes : ℕ) (v : VolumeView) (i : IndexView) (p : FilePlaces) → HasRoom inodes v.cache → IsFileSystem inodes v.cache → table inodes v.cache ≡ replicate inodes None → v.seen ≡ v.cache
+    → Indexes [] i → p ≡ record { changes = []; numbers = []; overviews = [] } → CanStand host inodes inodes v i p
+unfolding files_of entries groups
+nothing_stands host inodes v i p room rule none seen indexed places = record {
+  changes = [];
+  kept = record {
+    is = record { room = room; held = empty_none host inodes v.cache rule none };
+    seen = seen;
+    indexed = indexed;
+    placed = subst (ArePlaces inodes v.cache []) (sym places) (record { changes_are = refl; numbers_are = refl; overviews_are = refl });
+  };
+  free_are = omega arith;
+}

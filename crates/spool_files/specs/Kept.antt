@@ -46,3 +46,9 @@ pub record IsKept (host : Octets) (inodes : ℕ) (volume : VolumeView) (index : 
 -- so many inodes have no file
 abbrev pub AreFree : ℕ → ℕ → Spool → Type 0
 AreFree free inodes S = free + length (files_of S) ≡ inodes
+
+-- some changes stand so
+pub record CanStand (host : Octets) (inodes free : ℕ) (volume : VolumeView) (index : IndexView) (places : FilePlaces) : Type 0 where
+  pub changes : Spool
+  pub kept : IsKept host inodes volume index places changes
+  pub free_are : AreFree free inodes changes

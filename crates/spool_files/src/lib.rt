@@ -1,14 +1,17 @@
 //! The list of accepted changes, in files over the cached logical blocks, with an index and the places of the files in memory.
 #![tactic(auto)]
 
-ghost use Rattle.std.specs.Prelude.{◌≡◌, ◌⊎◌, ◌+◌, ◌-◌, ◌<◌, ◌≤◌, ◌||◌, ◌^◌, ◌&&◌, nat_lt, nat_le, ℕ, List, [], false, length, slice_index_or, IsTrue, IfOk, OnErr, OnOk};
+ghost use Rattle.std.specs.Prelude.{◌≡◌, ◌⊎◌, ◌+◌, ◌-◌, ◌<◌, ◌≤◌, ◌||◌, ◌^◌, ◌&&◌, nat_lt, nat_le, ℕ, List, [], false, None, length, option_map, replicate, slice_index_or, IsTrue, IfOk, OnErr, OnOk};
 ghost use Rattle.std.specs.List.{All, flat_map, list_all};
 ghost use Rattle.model.specs.Calendar.{moment_limit};
 ghost use Rattle.model.specs.Lawful.{MayExpire, MayMake, is_description_octet};
 ghost use Rattle.model.specs.Layout.{Holds};
 ghost use Rattle.model.specs.Names.{is_group_name, is_host};
 ghost use Rattle.model.specs.Room.{free_blocks_beside, free_inodes_beside};
-ghost use Rattle.model.specs.Spool.{is_here};
+ghost use Rattle.model.specs.Files.{HasRoom, IsFileSystem, table};
+ghost use Rattle.model.specs.Indexed.{group_index};
+ghost use Rattle.model.specs.Spool.{by_id, by_number, expired_at, group_named, is_here};
+ghost use Rattle.index.specs.Shown.{shown};
 ghost use Rattle.model.specs.SpoolFiles.{files_of};
 ghost use Rattle.model.specs.Volume.{AreDistinct, blocks_from, laid_over};
 ghost use Rattle.model.specs.declared.change.Change.{Change};
@@ -21,12 +24,12 @@ mod staging;
 pub use errors::{AddError, ExpireError};
 use fs::free_block_count;
 use growing::{grow_by_expiry, grow_by_group};
-use index::Index;
+use index::{Group, Index};
 use model::Text;
 use places::Places;
 use std::alloc::{AllocError, Global};
 use std::marker::Model;
-use volume::{BatchBuf, Volume};
+use volume::{BatchBuf, Blocks, Volume};
 
 /// A change is refused where fewer blocks are free.
 const BLOCKS_ASKED: u32 = 256;
@@ -64,9 +67,60 @@ impl Model for Spool {
 }
 
 impl Spool {
-    ghost use Rattle.spool_files.specs.Kept.{AreFree, IsKept};
+    ghost use Rattle.spool_files.specs.Kept.{CanStand};
     ghost use Rattle.spool_files.specs.Refusals.{Tested, expiry_refusal, group_refusal, has_number, is_full_for};
     ghost use Rattle.spool_files.specs.View.{Adds, IsSpool};
+
+    /// The spool that stands in the blocks of a volume, with its index, the places of its files, and how many inodes are free.
+    pub fn of(
+        alloc: Global,
+        host: Text,
+        inodes: u32,
+        free_inodes: u32,
+        volume: Volume,
+        index: Index,
+        places: Places,
+    ) -> Spool
+        requires { CanStand host inodes free_inodes volume index places }
+        ensures host { result.host ≡ host }
+        ensures inodes { result.inodes ≡ inodes }
+        ensures changes { (S : List Change) → Holds host inodes volume.cache S → result.changes ≡ S }
+        ensures blocks { result.blocks ≡ volume.cache }
+        ensures dirty { result.dirty ≡ volume.dirty }
+    {
+        Spool {
+            alloc,
+            host,
+            inodes,
+            free_inodes,
+            volume,
+            index,
+            places,
+        }
+    }
+
+    /// The spool without changes, in an empty file system.
+    pub fn empty(alloc: Global, host: Text, inodes: u32, volume: Volume) -> Spool
+        requires room { HasRoom inodes volume.cache }
+        requires rule { IsFileSystem inodes volume.cache }
+        requires none { table inodes volume.cache ≡ replicate inodes None }
+        requires seen { volume.seen ≡ volume.cache }
+        ensures host { result.host ≡ host }
+        ensures inodes { result.inodes ≡ inodes }
+        ensures changes { result.changes ≡ [] }
+        ensures blocks { result.blocks ≡ volume.cache }
+        ensures dirty { result.dirty ≡ volume.dirty }
+    {
+        Spool::of(
+            alloc,
+            host,
+            inodes,
+            inodes,
+            volume,
+            Index::new(alloc),
+            Places::new(alloc),
+        )
+    }
 
     /// The host that the spool belongs to.
     pub fn host(&self) -> &Text
@@ -88,6 +142,41 @@ impl Spool {
         ensures sound { IsSpool self.now }
     {
         self.index.len()
+    }
+
+    /// How many logical blocks there are.
+    pub fn blocks(&self) -> u32
+        ensures { result ≡ length self.now.blocks }
+    {
+        self.volume.len()
+    }
+
+    /// What is kept of the group with this name.
+    pub fn group(&self, name: &[u8]) -> Option<&Group>
+        ensures { option_map (λ g. shown g.now) result ≡ option_map (group_index self.now.changes) (group_named self.now.changes name.now) }
+    {
+        self.index.group(name)
+    }
+
+    /// The serial of the article with this message-id, also of one that was taken out of its groups.
+    pub fn by_id(&self, id: &[u8]) -> Option<u64>
+        ensures { result ≡ option_map (λ a. a.serial) (by_id self.now.changes id.now) }
+    {
+        self.index.by_id(id)
+    }
+
+    /// The serial of the article that is in the group under this number; none in a group that isn't here.
+    pub fn by_number(&self, group: &[u8], number: u64) -> Option<u64>
+        ensures { result ≡ option_map (λ a. a.serial) (by_number self.now.changes group.now number) }
+    {
+        self.index.by_number(group, number)
+    }
+
+    /// The serial of the expiry that took this number out of the group, 0 where none did.
+    pub fn expired_at(&self, group: &[u8], number: u64) -> u64
+        ensures { result ≡ expired_at self.now.changes group.now number }
+    {
+        self.index.expired_at(group, number)
     }
 
     /// How many blocks are dirty.
