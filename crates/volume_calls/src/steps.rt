@@ -2,7 +2,7 @@
 
 ghost use Rattle.std.specs.Prelude.{◌≤◌};
 
-use journal::{Journal, JournalError};
+use journal::{FormatError, Journal};
 use memdisk::MemDisk;
 use std::alloc::{AllocError, Global};
 use std::test::Fail;
@@ -33,12 +33,12 @@ pub fn zeros(alloc: Global) -> Result<Volume, AllocError> {
 }
 
 /// A device with a volume of so many zeroed blocks.
-fn formatted(alloc: Global, blocks: u64) -> Result<MemDisk, JournalError>
+fn formatted(alloc: Global, blocks: u64) -> Result<MemDisk, FormatError>
     requires low { 1024 ≤ blocks }
     requires high { blocks ≤ 65536 }
 {
     let made = MemDisk::new(alloc, BLOCK_SIZE as u64 * (515 + blocks));
-    let mut disk = made.map_err(|_| JournalError::Memory)?;
+    let mut disk = made.map_err(|_| FormatError::Memory)?;
     journal::format(alloc, &mut disk, blocks, &[0; 128])?;
     Ok(disk)
 }
