@@ -4,7 +4,7 @@ use crate::grammar::{
     BLOCKS, CACHE, DESCRIPTION, HOST, INODES, MOMENT, NAME, PATH, PORT, STATUS, grammar,
 };
 use clap::ArgMatches;
-use clap::error::ErrorKind;
+use clap::error::{Error, ErrorKind};
 use names::is_host;
 use new_volume::{Plan, are_sizes};
 use printing::{DONE, Failure, NOT_UNDERSTOOD};
@@ -43,18 +43,21 @@ pub(crate) fn read_words<'a, S: AsStr, W: Write, F: Write>(
 ) -> Result<Asked<'a>, Failure> {
     match grammar(alloc)?.try_get_matches_from(words) {
         Ok(matches) => read_request(alloc, &matches),
-        Err(error) => {
-            if error.kind() == ErrorKind::OutOfMemory {
-                return Err(Failure::Memory);
-            }
-            if error.use_stderr() {
-                write!(faults, "{error}")?;
-                return Ok(Asked::Nothing(NOT_UNDERSTOOD));
-            }
-            write!(output, "{error}")?;
-            Ok(Asked::Nothing(DONE))
-        }
+        Err(error) => Ok(Asked::Nothing(tell(&error, output, faults)?)),
     }
+}
+
+/// Writes what the parser has to say, and answers the status that the program ends with.
+fn tell<W: Write, F: Write>(error: &Error, output: &mut W, faults: &mut F) -> Result<u8, Failure> {
+    if error.kind() == ErrorKind::OutOfMemory {
+        return Err(Failure::Memory);
+    }
+    if error.use_stderr() {
+        write!(faults, "{error}")?;
+        return Ok(NOT_UNDERSTOOD);
+    }
+    write!(output, "{error}")?;
+    Ok(DONE)
 }
 
 /// What the words that were understood ask for, where each is in its grammar and range.

@@ -34,7 +34,6 @@ use std::alloc::{AllocError, Global};
 use std::marker::Model;
 
 /// The kernel, with what its sessions sent and were sent, and the trace.
-#[derive(Drop)]
 pub struct Served {
     kernel: Kernel,
     first: u64,
@@ -42,6 +41,19 @@ pub struct Served {
     peers: Vec<Peer>,
     trace: Vec<Entry>,
     ready: ReadyBuf,
+}
+
+// By hand: who drops one would prove a derived one again, field by field.
+impl Drop for Served {
+    fn drop(self) {
+        let Served {
+            kernel: _,
+            first: _,
+            peers: _,
+            trace: _,
+            ready: _,
+        } = self;
+    }
 }
 
 impl Model for Served {

@@ -28,9 +28,15 @@ const BLOCKS_BEFORE: u64 = 1 + 514;
 const LABEL: usize = 128;
 
 /// A device in memory.
-#[derive(Drop)]
 pub struct Device {
     disk: MemDisk,
+}
+
+// By hand, as a caller proves a derived one again, field by field.
+impl Drop for Device {
+    fn drop(self) {
+        let Device { disk: _ } = self;
+    }
 }
 
 impl Model for Device {
@@ -43,6 +49,11 @@ impl Device {
     /// One with a new volume of `BLOCKS` blocks, whose label says 64 inodes and the host `news.example`.
     pub fn new(alloc: Global) -> Result<Device, SimError> {
         formatted(alloc, BLOCKS)
+    }
+
+    fn into_disk(self) -> MemDisk {
+        let Device { disk } = self;
+        disk
     }
 
     /// How many writes and syncs it was asked for since it was made.
@@ -90,9 +101,14 @@ fn formatted(alloc: Global, blocks: u64) -> Result<Device, SimError>
 }
 
 /// A world over a device in memory.
-#[derive(Drop)]
 pub struct Sim {
     world: World<MemDisk>,
+}
+
+impl Drop for Sim {
+    fn drop(self) {
+        let Sim { world: _ } = self;
+    }
 }
 
 impl Model for Sim {
@@ -111,7 +127,7 @@ pub struct NotOpened {
 impl Sim {
     /// Opens a device.
     pub fn open(alloc: Global, device: Device) -> Result<Sim, NotOpened> {
-        match opened(alloc, device.disk) {
+        match opened(alloc, device.into_disk()) {
             Ok(world) => Ok(Sim { world }),
             Err(refused) => {
                 let Refused { disk, error } = refused;
@@ -144,8 +160,9 @@ impl Sim {
     }
 
     pub fn into_device(self) -> Device {
+        let Sim { world } = self;
         Device {
-            disk: self.world.into_disk(),
+            disk: world.into_disk(),
         }
     }
 

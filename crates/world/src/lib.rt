@@ -39,7 +39,6 @@ use std::alloc::Global;
 use std::marker::Model;
 
 /// A journal over a device, and what is served.
-#[derive(Drop)]
 pub struct World<D: Disk> {
     journal: Journal<D>,
     served: Served,
@@ -57,6 +56,20 @@ pub struct World<D: Disk> {
 pub struct Refused<D> {
     pub disk: D,
     pub error: OpenError,
+}
+
+// By hand: who drops one would prove a derived one again, field by field.
+impl<D: Disk + Drop> Drop for World<D> {
+    fn drop(self) {
+        let World {
+            journal: _,
+            served: _,
+            batch: _,
+            ticket: _,
+            is_committed: _,
+            has_failed: _,
+        } = self;
+    }
 }
 
 impl<D: Disk> Model for World<D> {
@@ -241,7 +254,14 @@ impl<D: Disk> World<D> {
     pub fn into_disk(self) -> D
         ensures { result ≡ self.journal.disk }
     {
-        let World { journal, .. } = self;
+        let World {
+            journal,
+            served: _,
+            batch: _,
+            ticket: _,
+            is_committed: _,
+            has_failed: _,
+        } = self;
         journal.into_disk()
     }
 

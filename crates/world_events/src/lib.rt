@@ -1,5 +1,4 @@
-//! A world under events, each a line of a script: how lines are read, what each event answers, what a fault of the device
-//! leaves, and how refusals are printed.
+//! A world under events, each a line of a script: what each event answers, and what a fault of the device leaves.
 #![tactic(auto)]
 
 #[cfg(test)]
@@ -8,7 +7,3 @@ mod answers;
 mod faults;
 #[cfg(test)]
 mod first_script;
-#[cfg(test)]
-mod lines;
-#[cfg(test)]
-mod refusals;

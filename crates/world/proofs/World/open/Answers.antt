@@ -3,10 +3,10 @@ use Rattle.kernel.specs.declared.opening.OpenError.TheVariants.{NotAVolume, Dama
 use Rattle.model.specs.News.{Stands}
 use Rattle.served.specs.Served.{ServedView}
 use Rattle.world.specs.Images.{KeepsSpools}
-use Rattle.std.proofs.Common.{[]}
+use Rattle.std.proofs.Common.{[], rules}
 use Rattle.world.proofs.Fitting.{now_fits}
 use Rattle.disk.specs.Device.{Elapses}
-use Rattle.world.proofs.Opening.{costs_both, elapses_both, is_damaged, journal_finds_no_damage, journal_lacked_memory, journal_missed, keeps_both, keeps_left, left_both, no_label, no_volume, none_damaged, none_unlabelled, stands_opened, syncs_both}
+use Rattle.world.proofs.Opening.{costs_both, elapses_both, is_damaged, journal_finds_no_damage, journal_lacked_memory, journal_missed, keeps_both, keeps_left, left_both, no_label, no_volume, none_damaged, none_unlabelled, sound_new, stands_opened, syncs_both}
 use Rattle.journal.specs.Opening.{LeftKept, SyncsFirst}
 use Rattle.world.proofs.World.open.Goals as goal
 
@@ -112,3 +112,7 @@ returns-in-Err-open-clause-judged g c judged = subst (SyncsFirst g.D.Disk.device
 
 pub returns-clause-cost : goal.returns-clause-cost
 returns-clause-cost g c tells = costs_both (g.D.Disk.device c.args.disk).content (g.D.Disk.device c.args.disk) (g.D.Disk.device c.in-Ok.journal.disk) (g.D.Disk.device c.open-2.new.journal.disk) (c.in-Ok.ensures.cost tells) c.open-2.ensures.reads.writes c.open-2.ensures.reads.syncs
+
+pub invariant_of-world : goal.invariant_of-world
+invariant_of-world g c =
+    sound_new g.D.Disk.device c.in-Ok.journal c.open-2.new.journal c.in-Ok-open.kernel c.in-Ok-new.served c.in-Ok-new.ensures c.in-Ok-open.ensures.ok c.open-2.ensures.reads (search rules)
