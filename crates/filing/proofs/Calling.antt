@@ -1,24 +1,23 @@
 -- The calls of the file system, as calls on lists of files.
-use Rattle.std.proofs.Common.{◌≡◌, ◌≢◌, inl, inr, ◌<◌, ◌≤◌, ℕ, zero, suc, ◌+◌, ◌/◌, List, [], ◌∷◌, ◌++◌, length, get_or, set, refl, sym, ◌∙◌, ap, subst, arith, length-append}
+use Rattle.std.proofs.Common.{◌≡◌, ◌≢◌, inl, inr, ◌<◌, ◌≤◌, ℕ, suc, ◌+◌, List, [], ◌∷◌, ◌++◌, length, get_or, set, refl, sym, ◌∙◌, ap, subst, arith}
 use Rattle.std.specs.Prelude.{Option, Some, None, option_map, IsPermutation}
-use Rattle.std.specs.List.{sum_by}
 use Rattle.std.proofs.lemmas.List.{get_or-set_same, get_or-set_other}
 use Rattle.std.proofs.lemmas.List.Sums.{sum_by-append}
 use Rattle.std.proofs.lemmas.Bool.{cases_eq}
 use Rattle.model.specs.Stream.{Octets}
 use Rattle.model.specs.Files.{File, HasRoom, IsFile, IsFileSystem, entry, files_in, free_blocks, size, table}
-use Rattle.model.specs.Room.{blocks_for, blocks_taken}
-use Rattle.model.specs.SpoolFiles.{FileCall, Create, Append, after_call, after_calls, making_calls}
+use Rattle.model.specs.Room.{blocks_taken}
+use Rattle.model.specs.SpoolFiles.{FileCall, Create, Append, after_call, after_calls}
 use Rattle.model.proofs.Asking.{files_grow_by_blocks}
 use Rattle.model.proofs.Inodes.{appends_to_one, creates_one}
 use Rattle.fs.specs.Calls.{Creates, HasNoFreeInode, IsFileAt}
 use Rattle.fs.specs.Changes.{SameMarks}
 use Rattle.fs.specs.Growing.{GrowsBy, HasRoomFor}
-use Rattle.fs_inodes.proofs.Grown.{below_table, file_after, one_content, one_name}
+use Rattle.fs_inodes.proofs.Grown.{file_after, one_content, one_name}
 use Rattle.fs_layout.proofs.Entries.{length-content}
 use Rattle.fs_layout.proofs.Marking.{same_free}
 use Rattle.fs_layout.proofs.Tables.{length-table, named_from_there}
-use Rattle.filing.specs.Calls.{AppendsAt, Calls, CreatesAt, MakesAt, MayGrow, SameFilesBut, blocks_for_more}
+use Rattle.filing.specs.Calls.{AppendsAt, Calls, CreatesAt, MakesAt, SameFilesBut, blocks_for_more}
 use Rattle.places.specs.Places.{KeepsNames, name_of}
 
 -- ---- calls after calls

@@ -1,12 +1,13 @@
 -- Calls on the files of blocks, whatever the order of their inodes.
-use Rattle.std.specs.Prelude.{◌≡◌, ◌≢◌, ℕ, ◌+◌, ◌/◌, ◌<◌, ◌≤◌, List, [], ◌∷◌, ◌++◌, length, slice_index_or, None, IsPermutation}
+use Rattle.std.specs.Prelude.{◌≡◌, ◌≢◌, ℕ, ◌+◌, ◌/◌, ◌<◌, ◌≤◌, List, [], ◌∷◌, ◌++◌, length, map, take, slice_get, slice_index_or, unwrap_or, Option, Some, None, IsPermutation}
 use Rattle.std.specs.List.{sum_by}
 use Rattle.model.specs.Stream.{Octets}
 use Rattle.model.specs.Files.{File, HasRoom, IsFileSystem, files_in, free_blocks, table}
 use Rattle.model.specs.Room.{blocks_taken}
 use Rattle.model.specs.SpoolFiles.{FileCall, Create, Append, after_calls, making_calls}
 use Rattle.fs.specs.Calls.{IsFileAt}
-use Rattle.places.specs.Places.{KeepsNames}
+use Rattle.places.specs.Places.{KeepsNames, name_of}
+use Rattle.filing.specs.declared.Piece.{Piece}
 
 -- these calls were made on the files; each file keeps its inode and its name
 pub record Calls (inodes : ℕ) (calls : List FileCall) (old new : List Octets) : Type 0 where
@@ -53,3 +54,24 @@ pub record MakesAt (inodes at : ℕ) (name octets : Octets) (old new : List Octe
   pub calls : Calls inodes (making_calls name octets) old new
   pub there : IsFileAt (table inodes new) at name octets
   pub others : SameFilesBut inodes at old new
+
+-- ---- pieces
+
+-- a piece has few octets
+abbrev pub most_octets : ℕ
+most_octets = 8_191
+
+-- with each of the pieces the file of its inode grows, and no two go to one file
+pub record MayAllGrow (inodes : ℕ) (pieces : List Piece) (blocks : List Octets) : Type 0 where
+  pub each : (k : ℕ) (p : Piece) → slice_get pieces k ≡ Some p → MayGrow inodes p.at (length p.octets.items) blocks
+  pub small : (k : ℕ) (p : Piece) → slice_get pieces k ≡ Some p → length p.octets.items ≤ most_octets
+  pub apart : (j k : ℕ) (p q : Piece) → j < k → slice_get pieces j ≡ Some p → slice_get pieces k ≡ Some q → p.at ≢ q.at
+
+-- the call that puts a piece at the end of its file
+abbrev pub append_call : List (Option File) → Piece → FileCall
+append_call inodes p = Append (unwrap_or (name_of inodes p.at) []) p.octets.items
+
+-- the first so many of these pieces were put at the ends of their files, and no other file changed
+pub record AppendsFirst (inodes : ℕ) (pieces : List Piece) (n : ℕ) (old new : List Octets) : Type 0 where
+  pub calls : Calls inodes (map (append_call (table inodes old)) (take n pieces)) old new
+  pub others : (i : ℕ) → ((k : ℕ) (p : Piece) → k < n → slice_get pieces k ≡ Some p → i ≢ p.at) → slice_index_or (table inodes new) i None ≡ slice_index_or (table inodes old) i None

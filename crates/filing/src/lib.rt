@@ -5,7 +5,7 @@ ghost use Rattle.std.specs.Prelude.{◌≡◌, ◌+◌, ◌*◌, ◌/◌, ◌<�
 ghost use Rattle.model.specs.Files.{HasRoom, IsFileSystem, files_in, free_blocks, table};
 ghost use Rattle.fs.specs.Calls.{IsFileAt, IsName, IsThere};
 ghost use Rattle.fs.specs.Touches.{Touches, touched_by_growth};
-ghost use Rattle.filing.specs.Calls.{AppendsAt, CreatesAt, MakesAt, MayGrow, blocks_for_more};
+ghost use Rattle.filing.specs.Calls.{AppendsAt, AppendsFirst, CreatesAt, MakesAt, MayAllGrow, MayGrow, blocks_for_more};
 
 use fs::by_inode::extend;
 use fs::{FsError, create};
@@ -74,4 +74,33 @@ pub fn make_file<B: Blocks>(
     let at = create_file(blocks, inodes, name)?;
     append_to(blocks, inodes, at, octets)?;
     Ok(at)
+}
+
+/// Octets that go to the end of a file, at most 8,191.
+#[derive(Drop)]
+pub struct Piece {
+    /// the inode of the file
+    pub at: u32,
+    pub octets: Vec<u8>,
+}
+
+/// Puts pieces at the ends of their files, one after the other, where there is room for all. No two go to one file. An `Err` is out
+/// of memory; the caller then drops what it staged.
+pub fn append_all<B: Blocks>(
+    blocks: &mut B,
+    inodes: u32,
+    pieces: &[Piece],
+) -> Result<(), AllocError>
+    requires room { HasRoom inodes (B.blocks blocks.old) }
+    requires rule { IsFileSystem inodes (B.blocks blocks.old) }
+    requires there { MayAllGrow inodes pieces.now (B.blocks blocks.old) }
+    requires free { 3 * length pieces.now ≤ free_blocks (B.blocks blocks.old) }
+    ensures appended { OnOk result (AppendsFirst inodes pieces.now (length pieces.now) (B.blocks blocks.old) (B.blocks blocks.new)) }
+    ensures touches { OnOk result (Touches (5 * length pieces.now) (B.blocks blocks.old) (B.blocks blocks.new)) }
+    ensures kept { B.applied blocks.new ≡ B.applied blocks.old }
+{
+    for piece in pieces {
+        append_to(blocks, inodes, piece.at, &piece.octets)?;
+    }
+    Ok(())
 }

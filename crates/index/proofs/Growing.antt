@@ -171,7 +171,7 @@ filter_distinct p (x ∷ names) distinct =
     by_test true none rest = ap (λ (t : Bool). not t && are_distinct (filter p names)) none ∙ rest
     by_test false none rest = rest
 
-filed_distinct : (host : Octets) (S : Spool) (text : Octets) (filed : List Octets) (moment : ℕ) → MayFile host S text filed moment → are_distinct filed ≡ true
+pub filed_distinct : (host : Octets) (S : Spool) (text : Octets) (filed : List Octets) (moment : ℕ) → MayFile host S text filed moment → are_distinct filed ≡ true
 filed_distinct host S text filed moment may =
     ap are_distinct may.filed
     ∙ filter_distinct (is_here S) (groups_of text) (and_parts (nat_le (length (groups_of text)) 16 && list_all is_group_name (groups_of text)) (are_distinct (groups_of text)) (no_cause Carried text (carried_cause text may.carried)).good_groups).1

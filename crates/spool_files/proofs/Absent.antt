@@ -12,7 +12,7 @@ use Rattle.model.specs.declared.change.Change.{Change}
 use Rattle.model.specs.declared.change.Change.TheVariants.{Group, Article, Expire}
 use Rattle.model.proofs.Joined.{bytes_same}
 
-not_first : (a b : Octets) (x y : ℕ) → get_or a 0 0 ≡ x → get_or b 0 0 ≡ y → x ≢ y → a ≢ b
+pub not_first : (a b : Octets) (x y : ℕ) → get_or a 0 0 ≡ x → get_or b 0 0 ≡ y → x ≢ y → a ≢ b
 not_first a b x y p q other same = other (sym p ∙ ap (λ (o : Octets). get_or o 0 0) same ∙ q)
 
 -- ---- a group's names
@@ -34,7 +34,7 @@ other_group : (name g : Octets) → bytes_eq g name ≡ false → g ≢ name
 other_group name g other same = absurd (let one : bytes_eq g name ≡ true = ap (λ (q : Octets). bytes_eq q name) same ∙ bytes_same name in cc)
 
 -- a list's names begin otherwise, or are of another group
-group_files_lack : (name g : Octets) → g ≢ name → LacksNames name (group_name g) × LacksNames name (numbers_name g) × LacksNames name (overview_name g)
+pub group_files_lack : (name g : Octets) → g ≢ name → LacksNames name (group_name g) × LacksNames name (numbers_name g) × LacksNames name (overview_name g)
 group_files_lack name g other = (
   record {
     group = λ same. other (ap (λ (o : Octets). drop 2 o) same);

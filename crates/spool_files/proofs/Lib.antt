@@ -4,3 +4,6 @@ pub mod Held
 pub mod Grown
 pub mod Here
 pub mod Full
+pub mod Adding
+pub mod Filed
+pub mod Large

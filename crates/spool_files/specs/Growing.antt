@@ -1,5 +1,5 @@
 -- One change more, in all that a spool keeps.
-use Rattle.std.specs.Prelude.{◌≡◌, ℕ, ◌+◌, ◌<◌, ◌≤◌, false, List, [], ◌∷◌, ◌++◌, length, Some, None}
+use Rattle.std.specs.Prelude.{◌≡◌, ℕ, ◌+◌, ◌<◌, ◌≤◌, false, List, [], ◌∷◌, ◌++◌, length, map, Some, None}
 use Rattle.model.specs.Files.{files_in, free_blocks, table}
 use Rattle.model.specs.Indexed.{FilePlaces}
 use Rattle.model.specs.Lawful.{MayFollow}
@@ -10,7 +10,8 @@ use Rattle.model.specs.SpoolFiles.{FileCall, Create, group_name, making_calls, n
 use Rattle.model.specs.Stream.{Octets}
 use Rattle.model.specs.declared.change.Change.{Change}
 use Rattle.fs.specs.Calls.{IsThere}
-use Rattle.filing.specs.Calls.{Calls}
+use Rattle.filing.specs.declared.Piece.{Piece}
+use Rattle.filing.specs.Calls.{Calls, append_call}
 use Rattle.index.specs.View.{IndexView}
 use Rattle.places.specs.Places.{name_of}
 use Rattle.volume.specs.Volume.{VolumeView}
@@ -55,3 +56,10 @@ pub record IsReady (inodes : ℕ) (volume : VolumeView) (index : IndexView) (pla
 pub record IsGrown (inodes : ℕ) (v w : VolumeView) (i j : IndexView) (p q : FilePlaces) (c : Change) : Type 0 where
   pub kept : (host : Octets) (S : Spool) → IsKept host inodes v i p S → MayFollow host S c → IsKept host inodes w j q (S ++ c ∷ [])
   pub dirties : Dirties v.cache w.cache v.dirty w.dirty
+
+-- ---- an article
+
+-- its file was made in this inode, and then these pieces were put at the ends of their files
+pub record FilesArticle (inodes at : ℕ) (name octets : Octets) (pieces : List Piece) (old new : List Octets) : Type 0 where
+  pub calls : Calls inodes (making_calls name octets ++ map (append_call (table inodes old)) pieces) old new
+  pub article : name_of (table inodes new) at ≡ Some name

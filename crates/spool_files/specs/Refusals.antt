@@ -5,6 +5,8 @@ use Rattle.model.specs.Spool.{Spool, high, is_here, low}
 use Rattle.model.specs.Room.{is_full}
 use Rattle.model.specs.declared.change.Change.{Change}
 use Rattle.model.specs.declared.change.Change.TheVariants.{Expire}
+use Rattle.serving.specs.declared.FileError.{FileError}
+use Rattle.serving.specs.declared.FileError.TheVariants as file
 use Rattle.spool_files.specs.View.{SpoolView}
 use Rattle.spool_files.specs.declared.errors.AddError.{AddError}
 use Rattle.spool_files.specs.declared.errors.AddError.TheVariants as add
@@ -30,3 +32,7 @@ has_number S g n = is_here S g && (nat_le (low S g) n && nat_le n (high S g))
 -- an expiry: the group or the number isn't there, or there is no room
 abbrev pub expiry_refusal : SpoolView → Octets → ℕ → Option ExpireError
 expiry_refusal s g n = if has_number s.changes g n then (if is_full_for s (Expire g n) then Some expire.Full else None) else Some expire.NotFound
+
+-- an article that may follow: there is no room
+abbrev pub article_refusal : SpoolView → Change → Option FileError
+article_refusal s c = if is_full_for s c then Some file.Full else None

@@ -5,10 +5,15 @@ ghost use Rattle.std.specs.Prelude.{◌≡◌, OnErr, OnOk};
 ghost use Rattle.model.specs.declared.change.Change.{Change};
 ghost use Rattle.spool_files.specs.Growing.{IsGrown, IsReady};
 
-use crate::staging::{make_expiry, make_group};
+use crate::articles::{copy_names, record_of};
+use crate::lines::lines_of;
+use crate::staging::{file_article, make_expiry, make_group};
+use article::Article;
 use index::Index;
+use model::Text;
 use places::Places;
 use records::{expiry_record, group_record};
+use spool_opening::id_of;
 use std::alloc::{AllocError, Global};
 use volume::Volume;
 
@@ -76,6 +81,46 @@ pub(crate) fn grow_by_expiry(
         return Err(AllocError);
     };
     let Ok(()) = index.push_expiry(name, number as u64) else {
+        places.pop_change();
+        volume.drop_stage();
+        return Err(AllocError);
+    };
+    volume.apply();
+    Ok(())
+}
+
+/// Files an article in these groups, where that change may follow and there is room for it. An `Err` is out of memory and changes
+/// nothing.
+pub(crate) fn grow_by_article(
+    alloc: Global,
+    inodes: u32,
+    volume: &mut Volume,
+    index: &mut Index,
+    places: &mut Places,
+    article: &Article<'_>,
+    groups: &[Text],
+    moment: u64,
+) -> Result<(), AllocError>
+    requires { IsReady inodes volume.old index.old places.old (Change.Article article.now groups.now moment) }
+    ensures grown { OnOk result (IsGrown inodes volume.old volume.new index.old index.new places.old places.new (Change.Article article.now groups.now moment)) }
+    ensures volume { OnErr result (volume.new ≡ volume.old) }
+    ensures index { OnErr result (index.new ≡ index.old) }
+    ensures places { OnErr result (places.new ≡ places.old) }
+{
+    let serial = index.len() + 1;
+    let filed = copy_names(alloc, groups)?;
+    let octets = record_of(alloc, serial, article, groups, moment)?;
+    let lines = lines_of(alloc, index, places, serial, article, groups)?;
+    let Ok(at) = file_article(alloc, volume, inodes, serial, &octets, &lines.pieces) else {
+        volume.drop_stage();
+        return Err(AllocError);
+    };
+    let Ok(()) = places.push_change(at) else {
+        volume.drop_stage();
+        return Err(AllocError);
+    };
+    let size = article.text().len() as u64;
+    let Ok(()) = index.push_article(id_of(article), size, filed, moment, &lines.sizes) else {
         places.pop_change();
         volume.drop_stage();
         return Err(AllocError);

@@ -4,7 +4,7 @@
 ghost use Rattle.std.specs.Prelude.{◌≡◌, ◌⊎◌, ◌+◌, ◌-◌, ◌<◌, ◌≤◌, ◌||◌, ◌^◌, ◌&&◌, nat_lt, nat_le, ℕ, List, [], false, None, length, option_map, replicate, slice_index_or, IsTrue, IfOk, OnErr, OnOk};
 ghost use Rattle.std.specs.List.{All, flat_map, list_all};
 ghost use Rattle.model.specs.Calendar.{moment_limit};
-ghost use Rattle.model.specs.Lawful.{MayExpire, MayMake, is_description_octet};
+ghost use Rattle.model.specs.Lawful.{MayExpire, MayFile, MayMake, is_description_octet};
 ghost use Rattle.model.specs.Layout.{Holds};
 ghost use Rattle.model.specs.Names.{is_group_name, is_host};
 ghost use Rattle.model.specs.Room.{free_blocks_beside, free_inodes_beside};
@@ -15,18 +15,25 @@ ghost use Rattle.index.specs.Shown.{shown};
 ghost use Rattle.model.specs.SpoolFiles.{files_of};
 ghost use Rattle.model.specs.Volume.{AreDistinct, blocks_from, laid_over};
 ghost use Rattle.model.specs.declared.change.Change.{Change};
+ghost use Rattle.spool_opening.specs.Replayed.{AreHere};
 ghost use Rattle.volume.specs.Volume.{AgreeOutside};
 
+mod articles;
 mod errors;
 mod growing;
+mod lines;
+mod room;
 mod staging;
 
+use article::{Article, Origin, ReadError};
 pub use errors::{AddError, ExpireError};
 use fs::free_block_count;
-use growing::{grow_by_expiry, grow_by_group};
+use growing::{grow_by_article, grow_by_expiry, grow_by_group};
 use index::{Group, Index};
 use model::Text;
 use places::Places;
+use room::extends_large;
+use serving::FileError;
 use std::alloc::{AllocError, Global};
 use std::marker::Model;
 use volume::{BatchBuf, Blocks, Volume};
@@ -68,7 +75,7 @@ impl Model for Spool {
 
 impl Spool {
     ghost use Rattle.spool_files.specs.Kept.{CanStand};
-    ghost use Rattle.spool_files.specs.Refusals.{Tested, expiry_refusal, group_refusal, has_number, is_full_for};
+    ghost use Rattle.spool_files.specs.Refusals.{Tested, article_refusal, expiry_refusal, group_refusal, has_number, is_full_for};
     ghost use Rattle.spool_files.specs.View.{Adds, IsSpool};
 
     /// The spool that stands in the blocks of a volume, with its index, the places of its files, and how many inodes are free.
@@ -276,6 +283,66 @@ impl Spool {
             moment,
         )?;
         self.free_inodes -= GROUP_FILES;
+        Ok(())
+    }
+
+    /// Whether there is no room for an article in these groups, which are here.
+    fn is_full_for_article(&self, groups: &[Text]) -> bool
+        requires { AreHere self.now.changes groups.now }
+        ensures { result ≡ is_full_for self.now (Change.Article [] groups.now 0) }
+    {
+        self.lacks_room(1) || extends_large(&self.index, groups)
+    }
+
+    /// Files an article, whose change may follow, in these groups, and answers its serial. Refused as `Full` or `Memory`, which may
+    /// come before that test. A refusal changes nothing.
+    pub fn add_article(
+        &mut self,
+        text: &[u8],
+        groups: &[Text],
+        moment: u64,
+    ) -> Result<u64, FileError>
+        requires { MayFile self.old.host self.old.changes text.now groups.now moment }
+        ensures { Tested FileError.Memory (article_refusal self.old (Change.Article text.now groups.now moment)) self.old self.new result
+            (λ serial. (serial ≡ length self.old.changes + 1) × Adds self.old self.new (Change.Article text.now groups.now moment)) }
+    {
+        if self.is_full_for_article(groups) {
+            return Err(FileError::Full);
+        }
+        let article = match Article::read(self.alloc, text, Origin::Carried) {
+            Ok(article) => article,
+            Err(ReadError::Bad(_)) => unreachable!(),
+            Err(ReadError::Memory) => return Err(FileError::Memory),
+        };
+        match self.push_article(&article, groups, moment) {
+            Ok(()) => Ok(self.len()),
+            Err(_) => Err(FileError::Memory),
+        }
+    }
+
+    /// Files an article that may be filed in these groups and for which there is room. An `Err` is out of memory and changes nothing.
+    fn push_article(
+        &mut self,
+        article: &Article<'_>,
+        groups: &[Text],
+        moment: u64,
+    ) -> Result<(), AllocError>
+        requires may { MayFile self.old.host self.old.changes article.now groups.now moment }
+        requires room { is_full_for self.old (Change.Article article.now groups.now moment) ≡ false }
+        ensures ok { OnOk result (Adds self.old self.new (Change.Article article.now groups.now moment)) }
+        ensures err { OnErr result (self.new ≡ self.old) }
+    {
+        grow_by_article(
+            self.alloc,
+            self.inodes,
+            &mut self.volume,
+            &mut self.index,
+            &mut self.places,
+            article,
+            groups,
+            moment,
+        )?;
+        self.free_inodes -= 1;
         Ok(())
     }
 

@@ -3,13 +3,13 @@
 ghost use Rattle.std.specs.Prelude.{◌≡◌, ◌+◌, ◌^◌, ◌<◌, ◌≤◌, IfOk, OnOk, length};
 ghost use Rattle.model.specs.Files.{HasRoom, IsFileSystem, files_in, table};
 ghost use Rattle.model.specs.Records as model_records;
-ghost use Rattle.model.specs.SpoolFiles.{expiry_name};
+ghost use Rattle.model.specs.SpoolFiles.{article_name, expiry_name};
 ghost use Rattle.fs.specs.Calls.{IsThere};
 ghost use Rattle.fs.specs.Touches.{Touches};
-ghost use Rattle.filing.specs.Calls.{MakesAt};
-ghost use Rattle.spool_files.specs.Growing.{HasFree, LacksGroup, MakesGroup};
+ghost use Rattle.filing.specs.Calls.{MakesAt, MayAllGrow};
+ghost use Rattle.spool_files.specs.Growing.{FilesArticle, HasFree, LacksGroup, MakesGroup};
 
-use filing::{create_file, make_file};
+use filing::{Piece, append_all, create_file, make_file};
 use records::{FileKind, expiry_record, file_name, group_record, serial_digits};
 use std::alloc::{AllocError, Global};
 use volume::Blocks;
@@ -73,4 +73,31 @@ pub(crate) fn make_expiry<B: Blocks>(
 {
     let name = file_name(alloc, FileKind::Expiry, &serial_digits(serial))?;
     make_file(blocks, inodes, &name, record)
+}
+
+/// Makes the file of an article, and puts what it adds to its groups at the ends of their files. An `Err` is out of memory; the caller
+/// then drops what it staged.
+pub(crate) fn file_article<B: Blocks>(
+    alloc: Global,
+    blocks: &mut B,
+    inodes: u32,
+    serial: u64,
+    octets: &[u8],
+    pieces: &[Piece],
+) -> Result<u32, AllocError>
+    requires room { HasRoom inodes (B.blocks blocks.old) }
+    requires rule { IsFileSystem inodes (B.blocks blocks.old) }
+    requires short { length octets.now ≤ 262821 }
+    requires lacks { ¬ (IsThere (table inodes (B.blocks blocks.old)) (article_name serial)) }
+    requires free { HasFree inodes 1 (B.blocks blocks.old) }
+    requires grow { MayAllGrow inodes pieces.now (B.blocks blocks.old) }
+    requires few { length pieces.now ≤ 32 }
+    ensures filed { IfOk result (λ at. FilesArticle inodes at (article_name serial) octets.now pieces.now (B.blocks blocks.old) (B.blocks blocks.new)) }
+    ensures touches { OnOk result (Touches 254 (B.blocks blocks.old) (B.blocks blocks.new)) }
+    ensures kept { B.applied blocks.new ≡ B.applied blocks.old }
+{
+    let name = file_name(alloc, FileKind::Article, &serial_digits(serial))?;
+    let at = make_file(blocks, inodes, &name, octets)?;
+    append_all(blocks, inodes, pieces)?;
+    Ok(at)
 }

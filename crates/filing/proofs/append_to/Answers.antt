@@ -1,6 +1,5 @@
-use Rattle.std.proofs.Common.{List, length, sym, ◌∙◌, ap, subst, ℕ}
+use Rattle.std.proofs.Common.{List, length, subst, ℕ}
 use Rattle.fs.specs.Touches.{Touches, touched_by_growth}
-use Rattle.fs_inodes.proofs.Grown.{one_content}
 use Rattle.fs_layout.proofs.Puts.{on_ok}
 use Rattle.fs.specs.Calls.{IsFileAt}
 use Rattle.fs.specs.Growing.{GrowsBy}

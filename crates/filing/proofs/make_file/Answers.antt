@@ -1,4 +1,4 @@
-use Rattle.std.proofs.Common.{length, [], arith}
+use Rattle.std.proofs.Common.{length, []}
 use Rattle.fs.specs.Touches.{touched_by_growth}
 use Rattle.fs_layout.proofs.Touching.{touches_then}
 use Rattle.filing.proofs.Calling.{made}

@@ -1,0 +1,51 @@
+//! Whether the files of groups have room for an article.
+
+ghost use Rattle.std.specs.Prelude.{◌≡◌, ◌*◌, ◌||◌, true, length, nat_lt};
+ghost use Rattle.std.specs.List.{list_any};
+ghost use Rattle.model.specs.Room as model_room;
+ghost use Rattle.model.specs.Spool.{Spool, is_here};
+ghost use Rattle.model.specs.SpoolFiles.{numbers_file, overview_file};
+ghost use Rattle.index.specs.Filing.{end_of};
+ghost use Rattle.index.specs.Shown.{shown};
+ghost use Rattle.index.specs.View.{Indexes};
+ghost use Rattle.spool_opening.specs.Replayed.{AreHere};
+
+use index::{Group, Index};
+use model::Text;
+
+/// A file that gets more has at most so many octets: 12,288 less than the largest.
+const MOST_OCTETS: u64 = 4_222_976;
+
+/// The articles whose numbers are so many octets, 16 for each.
+const MOST_NUMBERS: u64 = MOST_OCTETS / 16;
+
+/// Whether the numbers or the overview of a group are too large for another article.
+fn is_large(group: &Group) -> bool
+    ensures { result ≡ (nat_lt 4222976 (16 * length (shown group.now).filed) || nat_lt 4222976 (end_of (shown group.now))) }
+{
+    MOST_NUMBERS < group.high() || MOST_OCTETS < group.overview_size()
+}
+
+/// Whether those of the group with this name, which is here, are.
+fn is_large_in(index: &Index, name: &[u8]) -> bool
+    ensures { (S : Spool) → Indexes S index.now → is_here S name.now ≡ true
+        → result ≡ (model_room.is_large (numbers_file S name.now) || model_room.is_large (overview_file S name.now)) }
+{
+    match index.group(name) {
+        Some(group) => is_large(group),
+        None => false,
+    }
+}
+
+/// Whether those of one of these groups, which are here, are.
+pub(crate) fn extends_large(index: &Index, groups: &[Text]) -> bool
+    ensures { (S : Spool) → Indexes S index.now → AreHere S groups.now
+        → result ≡ list_any (λ g. model_room.is_large (numbers_file S g) || model_room.is_large (overview_file S g)) groups.now }
+{
+    for name in groups {
+        if is_large_in(index, name.as_slice()) {
+            return true;
+        }
+    }
+    false
+}
