@@ -1,5 +1,5 @@
 -- An article is replayed.
-use Rattle.std.proofs.Common.{◌≡◌, ◌<◌, ◌≤◌, ℕ, zero, suc, ◌+◌, ◌^◌, Bool, true, false, cond, List, [], ◌∷◌, ◌++◌, length, get_or, map, take, refl, sym, ◌∙◌, ap, subst, arith, Option, Some, None}
+use Rattle.std.proofs.Common.{◌≡◌, ◌<◌, ◌≤◌, ℕ, zero, suc, ◌+◌, ◌^◌, Bool, true, false, cond, List, [], ◌∷◌, ◌++◌, length, get_or, refl, sym, ◌∙◌, ap, subst, arith, Option, Some, None}
 use Rattle.std.specs.Prelude.{bytes_eq, filter, find, is_some, nat_le, option_map, slice_get, ◌&&◌, ◌||◌}
 use Rattle.std.specs.List.{list_all, list_any}
 use Rattle.std.proofs.lemmas.Bool.{and_parts, leb-true}
@@ -14,18 +14,16 @@ use Rattle.model.specs.Lawful.{MayFile}
 use Rattle.model.specs.Names.{is_group_name}
 use Rattle.model.specs.Spool.{Spool, NewsGroup, group_named, groups, is_here, is_name}
 use Rattle.model.specs.SpoolFiles.{overview_file, overview_name}
-use Rattle.model.specs.declared.change.Change.{Change}
 use Rattle.model.specs.declared.change.Change.TheVariants.{Article}
 use Rattle.model.proofs.HoldsOne.{carried_cause}
 use Rattle.model.proofs.Ids.{no_cause}
-use Rattle.model.proofs.Joined.{bytes_same}
 use Rattle.index.specs.Filing.{AreLineSizes, EndBelow, end_of}
 use Rattle.index.specs.View.{IndexView, Indexes}
 use Rattle.places.specs.Places.{AreNamed, with_change}
 use Rattle.places.proofs.Named.{grow_by_change}
 use Rattle.spool_opening.specs.Replayed.{AllGoOn, AreHere, IsBounded, IsItsFile, IsReplayed}
 use Rattle.spool_opening.specs.Stored.{HasPiece, Overview, Which, file_for, name_for, piece_for}
-use Rattle.spool_opening.proofs.Contents.{content_fits}
+use Rattle.spool_reading.proofs.Contents.{content_fits}
 use Rattle.spool_opening.proofs.Going.{overview_size}
 use Rattle.spool_opening.proofs.Growing.{article_is_read}
 use Rattle.spool_opening.proofs.Replaying.{its_file_there, its_name}

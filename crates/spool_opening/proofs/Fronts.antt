@@ -1,24 +1,26 @@
 -- The changes that were read are the first ones of each spool that the blocks hold.
-use Rattle.std.proofs.Common.{◌≡◌, ◌≢◌, ◌<◌, ◌≤◌, ℕ, zero, suc, ◌+◌, ◌-◌, Bool, true, false, cond, List, [], ◌∷◌, ◌++◌, length, get_or, take, drop, refl, sym, ◌∙◌, ap, subst, arith, Option, Some, None, length-append}
-use Rattle.std.specs.Prelude.{slice_get, filter_map, IsTrue, bytes_eq, is_some}
-use Rattle.std.specs.List.{Contains, list_any}
-use Rattle.std.proofs.Math.Seq.{take-append-add, drop-append_seam, take-append_seam, take-length, drop-append-add}
-use Rattle.std.proofs.lemmas.Bool.{true≢false, cases_lt}
-use Rattle.std.proofs.lemmas.List.{append_assoc, append-nil, length-take-le, take_more, take-append-drop, take_all}
+use Rattle.std.proofs.Common.{◌≡◌, ◌<◌, ◌≤◌, ℕ, zero, suc, ◌+◌, Bool, true, false, cond, List, [], ◌∷◌, ◌++◌, length, get_or, take, drop, refl, sym, ◌∙◌, ap, subst, arith, Option, Some, None, length-append}
+use Rattle.std.specs.Prelude.{filter_map, is_some, slice_get}
+use Rattle.std.specs.List.{list_any}
+use Rattle.std.proofs.Math.Seq.{take-append-add, drop-append_seam, take-append_seam}
+use Rattle.std.proofs.lemmas.Bool.{true≢false}
+use Rattle.std.proofs.lemmas.List.{append_assoc, append-nil, take_more, take-append-drop}
+use Rattle.std.proofs.lemmas.Option.{slice_get-get_or}
 use Rattle.model.specs.Stream.{Octets}
-use Rattle.model.specs.Files.{File, IsFileSystem, files_in, table}
+use Rattle.model.specs.Files.{IsFileSystem, table}
 use Rattle.model.specs.Layout.{Holds}
-use Rattle.model.specs.Lawful.{IsLawful, IsLawfulAfter, MayFollow}
+use Rattle.model.specs.Lawful.{IsLawfulAfter, MayFollow}
 use Rattle.model.specs.Spool.{Spool, NewsGroup, article_filed, filed_in, first, group_named, is_here, is_name}
-use Rattle.model.specs.SpoolFiles.{HasRoomInFile, change_file, next_line, next_record, numbers_file, numbers_of, overview_file, overview_of}
+use Rattle.model.specs.SpoolFiles.{HasRoomInFile, next_line, next_record, numbers_file, numbers_of, overview_file, overview_of}
 use Rattle.model.specs.declared.change.Change.{Change}
 use Rattle.model.specs.declared.change.Change.TheVariants.{Group, Article, Expire}
 use Rattle.model.proofs.Filing.{filed_article, filed_no_more, named_front, numbers_push, overview_push}
 use Rattle.model.proofs.HoldsOne.{changes_few, fits_lawful, no_change}
 use Rattle.fs_layout.proofs.Tables.{there_once}
-use Rattle.model.proofs.Opening.{changes_counted, fronts_read}
+use Rattle.model.proofs.Opening.{fronts_read}
 use Rattle.spool_opening.specs.Stored.{AreRead, NextIs, HasFront, HasPiece, IsFileAt, Numbers, Overview, Which, file_for, name_for, piece_for}
-use Rattle.spool_opening.proofs.Finding.{has_change, has_index, in_blocks, in_spool, index_is, is_among, where_is}
+use Rattle.spool_reading.proofs.Finding.{has_change, in_blocks, in_spool, is_among, where_is}
+use Rattle.spool_opening.proofs.GroupFiles.{has_index, index_is}
 
 -- ---- the next change
 
@@ -42,6 +44,11 @@ next_is host inodes blocks R S room held front low =
       there = in_blocks host inodes blocks S _ held (has_change S (length R) low);
       front = ap (λ (T : Spool). T ++ get_or S (length R) no_change ∷ []) front ∙ sym (take_more S (length R) no_change low);
     }
+
+pub next_there : (host : Octets) (inodes : ℕ) (blocks : List Octets) (R S : Spool) (room : inodes ≤ 32768) (held : Holds host inodes blocks S) (front : R ≡ first S (length R)) (low : length R < length S)
+    → slice_get S (length R) ≡ Some (next_is host inodes blocks R S room held front low).change
+unfolding next_is
+next_there host inodes blocks R S room held front low = slice_get-get_or S (length R) no_change low
 
 -- ---- one change more
 

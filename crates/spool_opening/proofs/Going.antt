@@ -1,21 +1,21 @@
 -- What is asked of an article's lines by the index is what the definitions say.
-use Rattle.std.proofs.Common.{◌≡◌, ◌<◌, ◌≤◌, ◌↔◌, ℕ, zero, suc, ◌+◌, ◌*◌, Bool, true, false, List, [], ◌∷◌, ◌++◌, length, get_or, take, drop, refl, sym, ◌∙◌, ap, subst, arith, Option, Some, None, inl, inr, length-append, zero-add}
-use Rattle.std.specs.Prelude.{bytes_eq, flat_map, option_map, IsTrue}
-use Rattle.std.proofs.lemmas.Bool.{cases_lt, true≢false}
+use Rattle.std.proofs.Common.{◌≡◌, ◌<◌, ◌≤◌, ◌↔◌, ℕ, ◌+◌, ◌*◌, Bool, false, List, [], ◌∷◌, length, get_or, take, drop, refl, sym, ◌∙◌, ap, subst, arith, Option, None, inl, inr, length-append, zero-add}
+use Rattle.std.specs.Prelude.{bytes_eq, flat_map, IsTrue}
+use Rattle.std.proofs.lemmas.Bool.{cases_lt}
 use Rattle.std.proofs.lemmas.List.{get_or_past, length-take, length-drop, length-map}
 use Rattle.std.proofs.lemmas.Slice.Eq.{bytes_eq-Decides}
 use Rattle.model.specs.Stream.{Octets}
 use Rattle.model.specs.Article.{overview_line}
 use Rattle.model.specs.Files.{File, HasRoom, IsFileSystem, table}
-use Rattle.model.specs.Indexed.{GroupIndex, ends_from, group_index, line_start, value_of}
+use Rattle.model.specs.Indexed.{ends_from, group_index, line_start, value_of}
 use Rattle.model.specs.Spool.{Spool, NewsArticle, NewsGroup, filed_in, high}
 use Rattle.model.specs.SpoolFiles.{is_of_change, next_line, next_record, number_record, numbers_file, numbers_name, overview_file, overview_lines, overview_name, overview_of}
 use Rattle.model.proofs.Indexing.{numbers_size}
 use Rattle.index.specs.Filing.{end_of}
-use Rattle.spool_opening.specs.Sorted.{AreSorted}
+use Rattle.spool_reading.specs.Sorted.{AreSorted}
 use Rattle.spool_opening.specs.Stored.{HasPiece, IsFileAt, Numbers, Overview, Which, file_for, name_for, piece_for}
-use Rattle.spool_opening.specs.Tests.{GoesOn}
-use Rattle.spool_opening.proofs.Contents.{content_fits}
+use Rattle.spool_opening.specs.Following.{GoesOn}
+use Rattle.spool_reading.proofs.Contents.{content_fits}
 use Rattle.fs_layout.proofs.Tables.{there_once}
 
 -- ---- a file with a piece

@@ -1,27 +1,24 @@
 -- One change more is read, and the end.
-use Rattle.std.proofs.Common.{◌≡◌, ◌≢◌, ◌<◌, ◌≤◌, ℕ, zero, suc, ◌+◌, ◌-◌, ◌*◌, Bool, true, false, cond, List, [], ◌∷◌, ◌++◌, length, get_or, take, drop, refl, sym, ◌∙◌, ap, subst, arith, Option, Some, None, inl, inr, length-append}
-use Rattle.std.specs.Prelude.{slice_get, find, filter_map, IsTrue, bytes_eq, is_some, count_by}
-use Rattle.std.specs.List.{All, Contains, list_any}
+use Rattle.std.proofs.Common.{◌≡◌, ℕ, zero, suc, ◌+◌, Bool, true, false, cond, List, [], ◌∷◌, ◌++◌, length, take, refl, sym, ◌∙◌, ap, subst, arith, Option, Some, None}
+use Rattle.std.specs.Prelude.{slice_get, find, filter_map, bytes_eq, is_some}
+use Rattle.std.specs.List.{Contains, list_any}
 use Rattle.std.specs.Option.{option_or}
-use Rattle.std.proofs.lemmas.Bool.{true≢false, cases_lt}
-use Rattle.std.proofs.lemmas.List.{append_assoc, append-nil, take_all}
+use Rattle.std.proofs.lemmas.Bool.{true≢false}
+use Rattle.std.proofs.lemmas.List.{append_assoc, append-nil}
 use Rattle.std.proofs.lemmas.List.Elements.{filter_map-append}
 use Rattle.std.proofs.lemmas.List.Folds.{find-append}
-use Rattle.std.proofs.lemmas.Option.{slice_get_past, slice_get-get_or}
+use Rattle.std.proofs.lemmas.Option.{slice_get_past}
 use Rattle.std.proofs.lemmas.Slice.Eq.{bytes_eq-Decides}
 use Rattle.model.specs.Stream.{Octets}
-use Rattle.model.specs.Files.{File, HoldsFiles, IsFileSystem, files_in, table}
-use Rattle.model.specs.Layout.{Holds}
+use Rattle.model.specs.Files.{IsFileSystem, files_in, table}
 use Rattle.model.specs.Lawful.{IsLawful, IsLawfulAfter, MayFollow}
-use Rattle.model.specs.Spool.{Spool, NewsGroup, entries, entries_from, first, group_made, group_named, groups, is_here, is_name}
-use Rattle.model.specs.SpoolFiles.{HasRoomInFile, change_file, files_of, is_of_change, numbers_of, overview_of}
+use Rattle.model.specs.Spool.{Spool, NewsGroup, entries, entries_from, group_made, group_named, groups, is_here, is_name}
+use Rattle.model.specs.SpoolFiles.{HasRoomInFile, change_file, numbers_of, overview_of}
 use Rattle.model.specs.declared.change.Change.{Change}
 use Rattle.model.specs.declared.change.Change.TheVariants.{Group, Article, Expire}
 use Rattle.model.proofs.Filing.{entries_push, new_has_nothing}
-use Rattle.model.proofs.HoldsOne.{no_change}
-use Rattle.model.proofs.Opening.{changes_counted, files_make_spool, files_counted}
 use Rattle.spool_opening.specs.Stored.{AreRead, HasFront, HasPiece, IsFileAt, Numbers, Overview, Which, file_for, name_for, piece_for}
-use Rattle.spool_opening.proofs.Fronts.{article_grows, front_grows, is_front, other_grows}
+use Rattle.spool_opening.proofs.Fronts.{article_grows, front_grows, other_grows}
 
 -- ---- lawful
 
@@ -43,7 +40,7 @@ groups_more : (S : Spool) (c : Change) → groups (S ++ c ∷ []) ≡ groups S +
 unfolding groups entries
 groups_more S c = ap (filter_map group_made) (entries_push 1 S c) ∙ filter_map-append group_made (entries_from 1 S) (record { serial = length S + 1; change = c } ∷ [])
 
-here_more : (S : Spool) (c : Change) (g : Octets) → group_named (S ++ c ∷ []) g ≡ option_or (group_named S g) (find (λ (h : NewsGroup). is_name g h.name) (filter_map group_made (record { serial = length S + 1; change = c } ∷ [])))
+pub here_more : (S : Spool) (c : Change) (g : Octets) → group_named (S ++ c ∷ []) g ≡ option_or (group_named S g) (find (λ (h : NewsGroup). is_name g h.name) (filter_map group_made (record { serial = length S + 1; change = c } ∷ [])))
 unfolding group_named
 here_more S c g = ap (find (λ (h : NewsGroup). is_name g h.name)) (groups_more S c) ∙ find-append (λ (h : NewsGroup). is_name g h.name) (groups S) _
 
@@ -120,14 +117,6 @@ module _ (host : Octets) (inodes : ℕ) (blocks : List Octets) (R : Spool) (read
         let its : NewsGroup = record { serial = length R + 1; name = name; status = status; description = description; moment = moment } in
         let before : is_here R g ≡ true = or_other (group_named R g) (sym (ap (λ (o : Option NewsGroup). is_some o) (here_more R (Group name status description moment) g ∙ ap (λ (b : Bool). option_or (group_named R g) (cond b (Some its) None)) same)) ∙ here) in
         named_same inodes blocks w g _ _ (other_grows w R (Group name status description moment) g refl) (read.fronts w g before)
-
-  -- ---- the end
-
-  -- where as many changes were read as there are files of changes, each spool that the blocks hold is these
-  pub all_is_read : (S : Spool) → inodes ≤ 32768 → Holds host inodes blocks S → count_by is_of_change (files_in (table inodes blocks)) ≡ length R → S ≡ R
-  all_is_read S few held count =
-      let size : length S ≤ length R = omega (arith, changes_counted host inodes blocks S held, count) in
-      sym (is_front host inodes blocks S R few held read ∙ take_all (length R) S size)
 
 -- no change was read yet
 pub none_is_read : (host : Octets) (inodes : ℕ) (blocks : List Octets) → AreRead host inodes blocks []

@@ -1,12 +1,11 @@
-pub mod Saying
-pub mod Finding
+pub mod GroupFiles
 pub mod Fronts
 pub mod Growing
-pub mod Slots
 pub mod Testing
 pub mod Replaying
-pub mod Contents
 pub mod Going
-pub mod Passing
 pub mod Sizes
 pub mod Filed
+pub mod Nexts
+pub mod Whole
+pub mod Holding

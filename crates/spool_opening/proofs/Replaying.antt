@@ -1,16 +1,16 @@
 -- One change more is replayed.
-use Rattle.std.proofs.Common.{◌≡◌, ℕ, ◌+◌, ◌<◌, Bool, true, false, cond, List, [], ◌∷◌, ◌++◌, length, get_or, map, refl, sym, ◌∙◌, ap, subst, arith, Option, Some, None}
+use Rattle.std.proofs.Common.{◌≡◌, ℕ, ◌+◌, Bool, true, false, cond, List, [], ◌∷◌, ◌++◌, length, map, refl, sym, ◌∙◌, ap, subst, Some, None}
 use Rattle.std.specs.Prelude.{bytes_eq, find, option_map}
 use Rattle.std.specs.List.{Contains, list_any}
 use Rattle.std.proofs.lemmas.Bool.{or_from}
 use Rattle.model.specs.Stream.{Octets}
 use Rattle.model.specs.Files.{File, files_in, table}
 use Rattle.model.specs.Indexed.{FilePlaces, GroupIndex, group_index}
-use Rattle.model.specs.Lawful.{MayExpire, MayFollow, MayMake}
-use Rattle.model.specs.Spool.{Spool, NewsGroup, group_made, group_named, groups, is_name}
+use Rattle.model.specs.Lawful.{MayExpire, MayMake}
+use Rattle.model.specs.Spool.{Spool, NewsGroup, group_named, groups, is_name}
 use Rattle.model.specs.SpoolFiles.{change_file, numbers_name, overview_name}
 use Rattle.model.specs.declared.change.Change.{Change}
-use Rattle.model.specs.declared.change.Change.TheVariants.{Group, Article, Expire}
+use Rattle.model.specs.declared.change.Change.TheVariants.{Group, Expire}
 use Rattle.model.proofs.Joined.{bytes_swap}
 use Rattle.index.specs.Naming.{heads}
 use Rattle.index.specs.View.{IndexView, Indexes}
@@ -18,7 +18,7 @@ use Rattle.places.specs.Places.{AreNamed, name_of, with_change, with_group}
 use Rattle.places.proofs.Named.{grow_by_change, grow_by_group}
 use Rattle.spool_opening.specs.Replayed.{IsItsFile, IsReplayed}
 use Rattle.spool_opening.specs.Stored.{IsFileAt, Numbers, Overview, Which, name_for}
-use Rattle.spool_opening.proofs.Finding.{is_among}
+use Rattle.spool_reading.proofs.Finding.{is_among}
 use Rattle.spool_opening.proofs.Growing.{expiry_is_read, group_is_read}
 
 pub its_file_there : (inodes : ℕ) (blocks : List Octets) (at serial : ℕ) (c : Change) → IsItsFile inodes blocks at serial c → Contains (files_in (table inodes blocks)) (change_file (record { serial = serial; change = c }))

@@ -1,19 +1,19 @@
 -- The tests of a change decide whether it may follow.
-use Rattle.std.proofs.Common.{◌≡◌, ◌≢◌, ◌⊎◌, inl, inr, ◌<◌, ◌≤◌, ◌↔◌, ℕ, zero, suc, ◌+◌, Bool, true, false, List, [], ◌∷◌, length, get_or, map, refl, sym, ◌∙◌, ap, subst, arith, Option, Some, None}
+use Rattle.std.proofs.Common.{◌≡◌, ◌⊎◌, inl, inr, ◌<◌, ◌≤◌, ◌↔◌, ℕ, ◌+◌, Bool, true, false, List, [], length, get_or, map, refl, sym, ◌∙◌, ap, arith, Option, Some, None}
 use Rattle.std.specs.Prelude.{bytes_eq, ◌==◌, ◌&&◌, ◌||◌, not, nat_le, nat_lt, filter, option_map, is_some, IsTrue}
 use Rattle.std.specs.List.{list_all}
 use Rattle.std.proofs.lemmas.Bool.{true≢false, or_cases, or_left, or_right, and_parts, eq-eqb, eqb-true, le-leb, leb-true, lt-ltb, ltb-true, not-true}
 use Rattle.std.proofs.lemmas.List.{get_or-map, get_or_read, length-map}
 use Rattle.std.proofs.lemmas.Slice.Eq.{bytes_eq-Decides}
 use Rattle.model.specs.Stream.{Octets}
-use Rattle.model.specs.Names.{is_group_name, is_of_host}
+use Rattle.model.specs.Names.{is_group_name}
 use Rattle.model.specs.Article.{Carried, cause, groups_of, id, made_id}
 use Rattle.model.specs.Calendar.{moment_limit}
 use Rattle.model.specs.Indexed.{GroupIndex, group_index}
 use Rattle.model.specs.Lawful.{MayExpire, MayFile, MayMake, is_description_octet}
-use Rattle.model.specs.Spool.{Spool, NewsArticle, NewsGroup, by_id, expiries_of, filed_in, group_named, high, is_here, low}
+use Rattle.model.specs.Spool.{Spool, NewsArticle, NewsGroup, filed_in, group_named, high, is_here, low}
 use Rattle.index.proofs.LookUps.{group_is, not_here}
-use Rattle.spool_opening.specs.Tests.{MayHaveId, are_group_fields}
+use Rattle.spool_opening.specs.Following.{MayHaveId, are_group_fields}
 
 -- ---- groups
 

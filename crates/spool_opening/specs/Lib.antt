@@ -1,6 +1,5 @@
-pub mod Said
 pub mod Stored
-pub mod Sorted
-pub mod Tests
+pub mod Following
 pub mod Replayed
 pub mod Laws
+pub mod Ended

@@ -8,7 +8,7 @@ use Rattle.model.specs.SpoolFiles.{overview_file}
 use Rattle.model.specs.declared.change.Change.{Change}
 use Rattle.index.specs.View.{IndexView, Indexes}
 use Rattle.places.specs.Places.{AreNamed}
-use Rattle.spool_opening.specs.Said.{IsFileOf}
+use Rattle.spool_reading.specs.Said.{IsFileOf}
 use Rattle.spool_opening.specs.Stored.{AreRead, HasPiece, IsFileAt, Which, file_for, name_for, piece_for}
 
 pub record IsReplayed (host : Octets) (inodes : ℕ) (blocks : List Octets) (index : IndexView) (places : FilePlaces) (R : Spool) : Type 0 where
@@ -29,6 +29,12 @@ pub record CanReplay (host : Octets) (inodes : ℕ) (blocks : List Octets) (inde
   pub changes : Spool
   pub replayed : IsReplayed host inodes blocks index places changes
   pub few : length changes < 32768
+
+-- so many changes
+pub record AreReplayedTo (host : Octets) (inodes : ℕ) (blocks : List Octets) (index : IndexView) (places : FilePlaces) (count : ℕ) : Type 0 where
+  pub changes : Spool
+  pub replayed : IsReplayed host inodes blocks index places changes
+  pub count_is : length changes ≡ count
 
 -- an inode has the file of this change with this serial
 pub record IsItsFile (inodes : ℕ) (blocks : List Octets) (at serial : ℕ) (c : Change) : Type 0 where

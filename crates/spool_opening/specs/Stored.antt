@@ -1,5 +1,5 @@
 -- What was found of a spool in the files of blocks.
-use Rattle.std.specs.Prelude.{◌≡◌, Option, ◌<◌, ◌≤◌, ℕ, ◌+◌, take, drop, length, slice_get, List, [], ◌∷◌, ◌++◌, Some, IsTrue}
+use Rattle.std.specs.Prelude.{◌≡◌, Option, ℕ, ◌+◌, take, drop, length, slice_get, List, [], ◌∷◌, ◌++◌, Some, IsTrue}
 use Rattle.std.specs.List.{Contains}
 use Rattle.model.specs.Stream.{Octets}
 use Rattle.model.specs.Files.{File, files_in, table}
@@ -57,3 +57,8 @@ pub record NextIs (host : Octets) (inodes : ℕ) (blocks : List Octets) (R S : S
   pub room : HasRoomInFile (length R + 1) change
   pub there : Contains (files_in (table inodes blocks)) (change_file (record { serial = length R + 1; change = change }))
   pub front : R ++ change ∷ [] ≡ first S (length R + 1)
+
+-- this is the next change of a spool that begins with these
+pub record IsNext (host : Octets) (R S : Spool) (c : Change) : Type 0 where
+  pub may : MayFollow host R c
+  pub front : R ++ c ∷ [] ≡ first S (length R + 1)

@@ -10,23 +10,22 @@ ghost use Rattle.index.specs.Filing.{AreLineSizes, end_of};
 ghost use Rattle.index.specs.View.{Indexes};
 ghost use Rattle.spool_opening.specs.Replayed.{AllGoOn, AreHere, IsBounded};
 ghost use Rattle.index.specs.Shown.{shown};
-ghost use Rattle.spool_opening.specs.Sorted.{AreSorted};
+ghost use Rattle.spool_reading.specs.Sorted.{AreSorted};
 ghost use Rattle.spool_opening.specs.Stored.{HasPiece};
-ghost use Rattle.spool_opening.specs.Tests.{GoesOn};
+ghost use Rattle.spool_opening.specs.Following.{GoesOn};
 
-use crate::files::read_file;
-use crate::sorting::Files;
-use crate::tests::find_group;
+use crate::following::find_group;
 use article::Article;
 use index::{Group, Index};
 use model::Text;
 use overview::line;
 use records::{FileKind, file_name, number_record};
+use spool_reading::{Files, read_file};
 use std::alloc::{AllocError, Global};
 use volume::Blocks;
 
 /// The octets of the number of an article.
-const NUMBER_SIZE: u64 = 16;
+pub(crate) const NUMBER_SIZE: u64 = 16;
 
 /// Whether a file of this name has these octets after so many others. Refused for memory alone.
 fn stands<B: Blocks>(

@@ -8,17 +8,16 @@ ghost use Rattle.index.specs.View.{Indexes};
 ghost use Rattle.model.specs.Files.{HasRoom, IsFileSystem, table};
 ghost use Rattle.model.specs.SpoolFiles.{numbers_name, overview_name};
 ghost use Rattle.spool_opening.specs.Replayed.{AllGoOn, AreReplayed, CanReplay, IsItsFile, IsReplayed};
-ghost use Rattle.spool_opening.specs.Sorted.{AreSorted};
+ghost use Rattle.spool_reading.specs.Sorted.{AreSorted};
 ghost use Rattle.spool_opening.specs.Stored.{IsFileAt};
 
-use crate::errors::OpenError;
+use crate::following::{groups_here, id_of, may_expire, may_file, may_make};
 use crate::lines::line_sizes;
-use crate::sorting::Files;
-use crate::tests::{groups_here, id_of, may_expire, may_file, may_make};
 use article::{Article, Origin, ReadError};
 use index::Index;
 use model::Names;
 use places::Places;
+use spool_reading::{Files, OpenError};
 use std::alloc::Global;
 use volume::Blocks;
 

@@ -1,7 +1,5 @@
-use Rattle.std.proofs.Common.{◌≡◌, ◌++◌, ◌∷◌, [], ◌+◌, length, sym, ◌∙◌, ap}
-use Rattle.model.specs.Spool.{Spool, first}
+use Rattle.std.proofs.Common.{◌++◌, ◌∷◌, [], sym, ◌∙◌, ap}
 use Rattle.model.specs.declared.change.Change.{Change}
-use Rattle.model.specs.declared.change.Change.TheVariants.{Article}
 use Rattle.spool_opening.proofs.Fronts.{its_content, its_file, piece_stands}
 use Rattle.spool_opening.proofs.laws.numbers_and_overviews_are_the_spools.Goals as goal
 

@@ -1,8 +1,6 @@
-use Rattle.std.proofs.Common.{sym, ◌∙◌, ◌↔◌}
-use Rattle.std.specs.Prelude.{IsTrue}
+use Rattle.std.proofs.Common.{sym, ◌∙◌}
 use Rattle.std.proofs.lemmas.Bool.{true≢false}
 use Rattle.model.specs.Files.{table}
-use Rattle.spool_opening.specs.Stored.{HasPiece}
 use Rattle.spool_opening.proofs.Going.{no_piece, piece_by_test, piece_fits}
 use Rattle.spool_opening.proofs.lines.stands.Goals as goal
 

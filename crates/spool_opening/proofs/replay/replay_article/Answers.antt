@@ -1,9 +1,7 @@
 use Rattle.std.proofs.Common.{◌≡◌, ◌+◌, ◌++◌, ◌∷◌, [], ℕ, List, ap, arith, length, map, refl, subst, sym, ◌∙◌}
-use Rattle.std.specs.Prelude.{filter}
-use Rattle.model.specs.Article.{groups_of, id}
+use Rattle.model.specs.Article.{id}
 use Rattle.model.specs.Files.{table}
 use Rattle.model.specs.Lawful.{MayFile}
-use Rattle.model.specs.Spool.{is_here}
 use Rattle.model.specs.declared.change.Change.TheVariants.{Article}
 use Rattle.index.specs.View.{Indexes}
 use Rattle.spool_opening.proofs.Filed.{all_of_text, article_replayed, bounded, ends_below, few_groups, filed_are, filed_here, may_of_text, no_cause_there, same_groups, sizes_of_text}

@@ -1,0 +1,24 @@
+use Rattle.std.proofs.Common.{sym, ◌∙◌}
+use Rattle.index.proofs.Steps.{ok_map}
+use Rattle.spool_opening.specs.Stored.{Numbers, Overview}
+use Rattle.spool_opening.proofs.Nexts.{group_named_there, named_at}
+use Rattle.spool_opening.proofs.next.replay_named.Goals as goal
+
+pub returns-in_default-clause-damaged : goal.returns-in_default-clause-damaged
+returns-in_default-clause-damaged c = λ e host inodes blocks R S sorted replayed held next.
+    group_named_there host inodes blocks R S c.args.files.now.slots.items c.args.files.now.named Numbers c.args.name.now c.deref.result.now c.args.status c.args.description.now c.args.moment sorted held next
+    (c.deref.ensures.value ∙ c.in_ok-numbers.ensures) c.in_default.ensures
+
+pub returns-in_default-get-clause-damaged : goal.returns-in_default-get-clause-damaged
+returns-in_default-get-clause-damaged c = λ e host inodes blocks R S sorted replayed held next.
+    group_named_there host inodes blocks R S c.args.files.now.slots.items c.args.files.now.named Overview c.args.name.now c.deref-2.result.now c.args.status c.args.description.now c.args.moment sorted held next
+    (c.deref-2.ensures.value ∙ c.in_ok-overview.ensures) c.in_default-get.ensures
+
+pub returns-clause-ok : goal.returns-clause-ok
+returns-clause-ok c =
+    ok_map c.replay_group.result
+    (λ goes host inodes blocks R sorted replayed its.
+    goes host inodes blocks R replayed its
+    (named_at inodes blocks Numbers c.args.name.now c.deref.result.now c.in-Some.first (c.deref.ensures.value ∙ c.in_ok-numbers.ensures) (sorted.from c.deref.result.now c.in-Some.first (sym c.in-Some.ensures)))
+    (named_at inodes blocks Overview c.args.name.now c.deref-2.result.now c.in-Some-get.second (c.deref-2.ensures.value ∙ c.in_ok-overview.ensures) (sorted.from c.deref-2.result.now c.in-Some-get.second (sym c.in-Some-get.ensures))))
+    c.replay_group.ensures.ok

@@ -1,0 +1,29 @@
+-- The files beside those of changes.
+use Rattle.std.specs.Prelude.{◌≡◌, ℕ, true, false, List, length, slice_index_or, Option, Some, None}
+use Rattle.model.specs.Stream.{Octets}
+use Rattle.model.specs.Files.{File}
+use Rattle.model.specs.Indexed.{ArePlaces, FilePlaces}
+use Rattle.model.specs.Layout.{Holds}
+use Rattle.model.specs.Spool.{Spool, is_here}
+use Rattle.model.specs.SpoolFiles.{is_of_change}
+use Rattle.index.specs.View.{IndexView, Indexes}
+use Rattle.spool_opening.specs.Stored.{Which, file_for, name_for}
+
+-- the name of the numbers or of the overview of a group that is here, which have so many octets
+pub record IsNameOf (S : Spool) (name : Octets) (size : ℕ) : Type 0 where
+  pub which : Which
+  pub group : Octets
+  pub here : is_here S group ≡ true
+  pub is : name ≡ name_for which group
+  pub size_is : size ≡ length (file_for which S group)
+
+-- the file of an inode is a change's, or has the name and the size of such a one
+abbrev pub IsWholeAt : List (Option File) → Spool → ℕ → Type 0
+IsWholeAt inodes S k = (f : File) → slice_index_or inodes k None ≡ Some f → is_of_change f ≡ false → IsNameOf S f.name (length f.content)
+
+-- the blocks hold some changes of the host, whose index and places these are
+pub record IsOpened (host : Octets) (inodes : ℕ) (blocks : List Octets) (index : IndexView) (places : FilePlaces) : Type 0 where
+  pub changes : Spool
+  pub held : Holds host inodes blocks changes
+  pub indexed : Indexes changes index
+  pub placed : ArePlaces inodes blocks changes places

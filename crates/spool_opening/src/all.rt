@@ -1,0 +1,45 @@
+//! All changes of a spool are replayed.
+
+ghost use Rattle.std.specs.Prelude.{◌≡◌, length, IfErr, IfOk};
+ghost use Rattle.model.specs.Files.{HasRoom, IsFileSystem, table};
+ghost use Rattle.model.specs.Layout.{Holds};
+ghost use Rattle.model.specs.Spool.{Spool};
+ghost use Rattle.spool_opening.specs.Replayed.{AreReplayedTo};
+ghost use Rattle.spool_reading.specs.Sorted.{AreFirst, AreSorted};
+
+use crate::next::replay_next;
+use crate::replay::Replay;
+use index::Index;
+use places::Places;
+use spool_reading::{Files, OpenError};
+use std::alloc::Global;
+use volume::Blocks;
+
+/// Replays all changes, whose files stand in the first so many slots. `Damaged` only where the blocks hold no spool of the host.
+pub fn replay_all<B: Blocks>(
+    alloc: Global,
+    blocks: &B,
+    inodes: u32,
+    host: &[u8],
+    files: &Files,
+    count: usize,
+) -> Result<Replay, OpenError>
+    requires room { HasRoom inodes (B.blocks blocks.now) }
+    requires rule { IsFileSystem inodes (B.blocks blocks.now) }
+    requires sorted { AreSorted (table inodes (B.blocks blocks.now)) (length (table inodes (B.blocks blocks.now))) files.now.slots.items files.now.named }
+    requires first { AreFirst count files.now.slots.items }
+    ensures ok { IfOk result (λ replay. AreReplayedTo host.now inodes (B.blocks blocks.now) replay.index replay.places count) }
+    ensures damaged { IfErr result (λ e. e ≡ OpenError.Damaged → (S : Spool) → Holds host.now inodes (B.blocks blocks.now) S → ⊥) }
+{
+    let mut replay = Replay {
+        index: Index::new(alloc),
+        places: Places::new(alloc),
+    };
+    for done in 0..count {
+        match replay_next(alloc, blocks, inodes, host, files, &mut replay, done) {
+            Ok(()) => {}
+            Err(error) => return Err(error),
+        }
+    }
+    Ok(replay)
+}

@@ -1,0 +1,126 @@
+//! Whether the files are those of the changes that were replayed, and no other.
+
+ghost use Rattle.std.specs.Prelude.{◌≡◌, ◌<◌, ◌+◌, ◌*◌, ◌↔◌, ℕ, List, true, length, IfOk, IsTrue, MatchOption};
+ghost use Rattle.model.specs.Files.{HasRoom, IsFileSystem, files_in, table};
+ghost use Rattle.model.specs.Spool as spool;
+ghost use Rattle.model.specs.Spool.{Spool, groups};
+ghost use Rattle.model.specs.SpoolFiles.{is_of_change, numbers_file, overview_file};
+ghost use Rattle.index.specs.View.{Indexes};
+ghost use Rattle.spool_opening.specs.Ended.{IsNameOf, IsWholeAt};
+ghost use Rattle.spool_opening.specs.Replayed.{IsBounded};
+
+use crate::following::find_group;
+use crate::lines::NUMBER_SIZE;
+use fs_layout::inodes::free_inode_count;
+use index::Index;
+use records::{FileKind, kind_of};
+use spool_reading::{file_name_at, file_size_at};
+use std::alloc::{AllocError, Global};
+use volume::Blocks;
+
+/// Whether a file of this name is a change's.
+fn names_change(name: &[u8]) -> bool
+    ensures { (content : List ℕ) → is_of_change (record { name = name.now; content = content }) ≡ result }
+{
+    let Some(first) = name.first() else {
+        return false;
+    };
+    *first == b'g' || (*first == b'a' || *first == b'x')
+}
+
+/// The octets of the numbers of a group; nothing where it is not here.
+fn numbers_size(index: &Index, group: &[u8]) -> Option<u64>
+    requires { IsBounded index.now }
+    ensures { (S : Spool) → Indexes S index.now → MatchOption result (spool.is_here S group.now ≡ true → ⊥) (λ n. (spool.is_here S group.now ≡ true) × (n ≡ length (numbers_file S group.now))) }
+{
+    let Some(found) = find_group(index, group) else {
+        return None;
+    };
+    let high = found.high();
+    Some(NUMBER_SIZE * high)
+}
+
+/// The octets of the overview of a group; nothing where it is not here.
+fn overview_size(index: &Index, group: &[u8]) -> Option<u64>
+    ensures { (S : Spool) → Indexes S index.now → MatchOption result (spool.is_here S group.now ≡ true → ⊥) (λ n. (spool.is_here S group.now ≡ true) × (n ≡ length (overview_file S group.now))) }
+{
+    let Some(found) = find_group(index, group) else {
+        return None;
+    };
+    Some(found.overview_size())
+}
+
+/// The octets of the file of this name, if that is the numbers or the overview of a group that is here.
+fn size_by_name(index: &Index, name: &[u8]) -> Option<u64>
+    requires { IsBounded index.now }
+    ensures { (S : Spool) → Indexes S index.now → MatchOption result ((n : ℕ) → IsNameOf S name.now n → ⊥) (λ n. IsNameOf S name.now n) }
+{
+    match kind_of(name) {
+        Some((FileKind::Numbers, group)) => numbers_size(index, group),
+        Some((FileKind::Overview, group)) => overview_size(index, group),
+        Some((FileKind::Group, _)) => None,
+        Some((FileKind::Article, _)) => None,
+        Some((FileKind::Expiry, _)) => None,
+        None => None,
+    }
+}
+
+/// Whether the file of an inode, if it has one, is a change's, or the numbers or the overview of a group that is here, with as
+/// many octets as the articles filed in it give. Refused for memory alone.
+fn is_whole<B: Blocks>(
+    alloc: Global,
+    blocks: &B,
+    inodes: u32,
+    index: &Index,
+    at: u32,
+) -> Result<bool, AllocError>
+    requires room { HasRoom inodes (B.blocks blocks.now) }
+    requires rule { IsFileSystem inodes (B.blocks blocks.now) }
+    requires below { at < inodes }
+    requires bounded { IsBounded index.now }
+    ensures { IfOk result (λ whole. (S : Spool) → Indexes S index.now → (IsTrue whole ↔ IsWholeAt (table inodes (B.blocks blocks.now)) S at)) }
+{
+    let Some(name) = file_name_at(alloc, blocks, inodes, at)? else {
+        return Ok(true);
+    };
+    let octets = name.as_slice();
+    if names_change(octets) {
+        return Ok(true);
+    }
+    let Some(size) = size_by_name(index, octets) else {
+        return Ok(false);
+    };
+    Ok(file_size_at(blocks, inodes, at) == size)
+}
+
+/// Whether each file is a change's, or that of a group that is here, of its size. Refused for memory alone.
+pub fn are_whole<B: Blocks>(
+    alloc: Global,
+    blocks: &B,
+    inodes: u32,
+    index: &Index,
+) -> Result<bool, AllocError>
+    requires room { HasRoom inodes (B.blocks blocks.now) }
+    requires rule { IsFileSystem inodes (B.blocks blocks.now) }
+    requires bounded { IsBounded index.now }
+    ensures { IfOk result (λ whole. (S : Spool) → Indexes S index.now → (IsTrue whole ↔ ((k : ℕ) → k < inodes → IsWholeAt (table inodes (B.blocks blocks.now)) S k))) }
+{
+    for at in 0..inodes {
+        if !is_whole(alloc, blocks, inodes, index, at)? {
+            return Ok(false);
+        }
+    }
+    Ok(true)
+}
+
+/// Whether there are as many files as the changes have: one each, and two more of each group.
+pub fn are_as_many<B: Blocks>(blocks: &B, inodes: u32, index: &Index) -> bool
+    requires room { HasRoom inodes (B.blocks blocks.now) }
+    requires rule { IsFileSystem inodes (B.blocks blocks.now) }
+    requires bounded { IsBounded index.now }
+    ensures { (S : Spool) → Indexes S index.now → (IsTrue result ↔ (length (files_in (table inodes (B.blocks blocks.now))) ≡ length S + 2 * length (groups S))) }
+{
+    let free = free_inode_count(blocks, inodes) as u64;
+    let group_count = index.groups().len() as u64;
+    free + index.len() + 2 * group_count == inodes as u64
+}

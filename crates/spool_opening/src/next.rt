@@ -1,0 +1,123 @@
+//! The next change of a spool is read from its file and replayed.
+
+ghost use Rattle.std.specs.Prelude.{◌≡◌, ◌≢◌, ◌<◌, ◌+◌, ◌++◌, ◌∷◌, [], ℕ, List, length, slice_index, IfErr, OnOk};
+ghost use Rattle.model.specs.Files.{HasRoom, IsFileSystem, table};
+ghost use Rattle.model.specs.Layout.{Holds};
+ghost use Rattle.model.specs.Spool.{Spool};
+ghost use Rattle.model.specs.declared.change.Change.{Change};
+ghost use Rattle.spool_opening.specs.Replayed.{AreReplayed, AreReplayedTo, CanReplay, IsItsFile, IsReplayed};
+ghost use Rattle.spool_opening.specs.Stored.{IsNext};
+ghost use Rattle.spool_reading.specs.Said.{change_of};
+ghost use Rattle.spool_reading.specs.Sorted.{AreSorted, free};
+
+use crate::replay::{Replay, replay_article, replay_expiry, replay_group};
+use records::{FileKind, file_name};
+use spool_reading::{Files, OpenError, Said, file_at, read_change};
+use std::alloc::Global;
+use volume::Blocks;
+
+/// Replays a group, whose numbers and overview are found by their names. `Damaged` only where it is not the next change of a
+/// spool that the blocks hold: it may not follow the changes before it, or one of its files is not there.
+fn replay_named(
+    alloc: Global,
+    files: &Files,
+    replay: &mut Replay,
+    at: u32,
+    name: &[u8],
+    status: u8,
+    description: &[u8],
+    moment: u64,
+) -> Result<(), OpenError>
+    requires { AreReplayed replay.old.index replay.old.places }
+    ensures ok { OnOk result ((host : List ℕ) (inodes : ℕ) (blocks : List (List ℕ)) (R : Spool) → AreSorted (table inodes blocks) (length (table inodes blocks)) files.now.slots.items files.now.named
+        → IsReplayed host inodes blocks replay.old.index replay.old.places R → IsItsFile inodes blocks at (length R + 1) (Change.Group name.now status description.now moment)
+        → IsReplayed host inodes blocks replay.new.index replay.new.places (R ++ Change.Group name.now status description.now moment ∷ [])) }
+    ensures damaged { IfErr result (λ e. e ≡ OpenError.Damaged → (host : List ℕ) (inodes : ℕ) (blocks : List (List ℕ)) (R S : Spool) → AreSorted (table inodes blocks) (length (table inodes blocks)) files.now.slots.items files.now.named
+        → IsReplayed host inodes blocks replay.old.index replay.old.places R → Holds host inodes blocks S → IsNext host R S (Change.Group name.now status description.now moment) → ⊥) }
+{
+    let numbers = file_name(alloc, FileKind::Numbers, name)?;
+    let overview = file_name(alloc, FileKind::Overview, name)?;
+    let Some(first) = files.named.get(&numbers) else {
+        return Err(OpenError::Damaged);
+    };
+    let Some(second) = files.named.get(&overview) else {
+        return Err(OpenError::Damaged);
+    };
+    replay_group(replay, at, first, second, name, status, description, moment)
+}
+
+/// Replays what the file of an inode says. `Damaged` only where that is not the next change of a spool that the blocks hold.
+fn replay_said<B: Blocks>(
+    alloc: Global,
+    blocks: &B,
+    inodes: u32,
+    host: &[u8],
+    files: &Files,
+    replay: &mut Replay,
+    at: u32,
+    said: Said<'_>,
+) -> Result<(), OpenError>
+    requires room { HasRoom inodes (B.blocks blocks.now) }
+    requires rule { IsFileSystem inodes (B.blocks blocks.now) }
+    requires sorted { AreSorted (table inodes (B.blocks blocks.now)) (length (table inodes (B.blocks blocks.now))) files.now.slots.items files.now.named }
+    requires replayed { CanReplay host.now inodes (B.blocks blocks.now) replay.old.index replay.old.places }
+    ensures ok { OnOk result ((R : Spool) → IsReplayed host.now inodes (B.blocks blocks.now) replay.old.index replay.old.places R → IsItsFile inodes (B.blocks blocks.now) at (length R + 1) (change_of said.entry)
+        → IsReplayed host.now inodes (B.blocks blocks.now) replay.new.index replay.new.places (R ++ change_of said.entry ∷ [])) }
+    ensures damaged { IfErr result (λ e. e ≡ OpenError.Damaged → (R S : Spool) → IsReplayed host.now inodes (B.blocks blocks.now) replay.old.index replay.old.places R
+        → Holds host.now inodes (B.blocks blocks.now) S → IsNext host.now R S (change_of said.entry) → ⊥) }
+{
+    match said {
+        Said::Group {
+            name,
+            status,
+            description,
+            moment,
+        } => replay_named(alloc, files, replay, at, name, status, description, moment),
+        Said::Article {
+            text,
+            groups,
+            moment,
+        } => replay_article(
+            alloc,
+            blocks,
+            inodes,
+            host,
+            files,
+            replay,
+            at,
+            text,
+            groups.as_slice(),
+            moment,
+        ),
+        Said::Expiry { group, number } => replay_expiry(replay, at, group, number),
+    }
+}
+
+/// Replays the change after so many, whose file stands in its slot. `Damaged` only where no spool of the host that the blocks hold
+/// has more changes.
+pub fn replay_next<B: Blocks>(
+    alloc: Global,
+    blocks: &B,
+    inodes: u32,
+    host: &[u8],
+    files: &Files,
+    replay: &mut Replay,
+    done: usize,
+) -> Result<(), OpenError>
+    requires room { HasRoom inodes (B.blocks blocks.now) }
+    requires rule { IsFileSystem inodes (B.blocks blocks.now) }
+    requires sorted { AreSorted (table inodes (B.blocks blocks.now)) (length (table inodes (B.blocks blocks.now))) files.now.slots.items files.now.named }
+    requires below { done < length files.now.slots.items }
+    requires taken { slice_index files.now.slots.items done ≢ free }
+    requires replayed { AreReplayedTo host.now inodes (B.blocks blocks.now) replay.old.index replay.old.places done }
+    ensures ok { OnOk result (AreReplayedTo host.now inodes (B.blocks blocks.now) replay.new.index replay.new.places (done + 1)) }
+    ensures damaged { IfErr result (λ e. e ≡ OpenError.Damaged → (S : Spool) → Holds host.now inodes (B.blocks blocks.now) S → done < length S → ⊥) }
+{
+    let at = files.slots[done];
+    let file = file_at(alloc, blocks, inodes, at)?;
+    let serial = done as u64 + 1;
+    let Some(said) = read_change(alloc, &file.name, &file.content, serial)? else {
+        return Err(OpenError::Damaged);
+    };
+    replay_said(alloc, blocks, inodes, host, files, replay, at, said)
+}

@@ -1,0 +1,68 @@
+//! Opening a spool.
+
+ghost use Rattle.std.specs.Prelude.{◌≡◌, IfErr, IfOk};
+ghost use Rattle.model.specs.Files.{HasRoom, IsFileSystem};
+ghost use Rattle.model.specs.Layout.{Holds};
+ghost use Rattle.model.specs.Spool.{Spool};
+ghost use Rattle.spool_opening.specs.Ended.{IsOpened};
+
+use crate::all::replay_all;
+use crate::ending::{are_as_many, are_whole};
+use crate::replay::Replay;
+use fs_check::check;
+use fs_layout::FsError;
+use spool_reading::{OpenError, sort};
+use std::alloc::Global;
+use volume::Blocks;
+
+/// Opens the spool of a host that stands in the blocks, for every content of these: its index, and the places of its files.
+/// `Damaged` exactly where the blocks hold no spool of the host, as the rule of blocks or the rule of files is broken
+/// (docs/FORMATS.md); `Memory` where a growth was refused. Each file is read once, and the work is n log n in what is stored.
+pub fn open<B: Blocks>(
+    alloc: Global,
+    blocks: &B,
+    inodes: u32,
+    host: &[u8],
+) -> Result<Replay, OpenError>
+    requires { HasRoom inodes (B.blocks blocks.now) }
+    ensures ok { IfOk result (λ opened. IsOpened host.now inodes (B.blocks blocks.now) opened.index opened.places) }
+    ensures damaged { IfErr result (λ e. e ≡ OpenError.Damaged → (S : Spool) → Holds host.now inodes (B.blocks blocks.now) S → ⊥) }
+{
+    match check(alloc, blocks, inodes) {
+        Ok(()) => open_checked(alloc, blocks, inodes, host),
+        Err(FsError::Memory) => Err(OpenError::Memory),
+        Err(_) => Err(OpenError::Damaged),
+    }
+}
+
+/// Opens the spool of a host in blocks that keep the rule of blocks. `Damaged` exactly where the rule of files is broken.
+fn open_checked<B: Blocks>(
+    alloc: Global,
+    blocks: &B,
+    inodes: u32,
+    host: &[u8],
+) -> Result<Replay, OpenError>
+    requires room { HasRoom inodes (B.blocks blocks.now) }
+    requires rule { IsFileSystem inodes (B.blocks blocks.now) }
+    ensures ok { IfOk result (λ opened. IsOpened host.now inodes (B.blocks blocks.now) opened.index opened.places) }
+    ensures damaged { IfErr result (λ e. e ≡ OpenError.Damaged → (S : Spool) → Holds host.now inodes (B.blocks blocks.now) S → ⊥) }
+{
+    let files = match sort(alloc, blocks, inodes) {
+        Ok(files) => files,
+        Err(error) => return Err(error),
+    };
+    let Some(count) = files.change_count() else {
+        return Err(OpenError::Damaged);
+    };
+    let replay = match replay_all(alloc, blocks, inodes, host, &files, count) {
+        Ok(replay) => replay,
+        Err(error) => return Err(error),
+    };
+    if !are_as_many(blocks, inodes, &replay.index) {
+        return Err(OpenError::Damaged);
+    }
+    if !are_whole(alloc, blocks, inodes, &replay.index)? {
+        return Err(OpenError::Damaged);
+    }
+    Ok(replay)
+}

@@ -1,0 +1,5 @@
+pub mod Saying
+pub mod Finding
+pub mod Slots
+pub mod Contents
+pub mod Passing

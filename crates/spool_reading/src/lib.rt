@@ -1,0 +1,19 @@
+//! What is read from the files of a volume before a spool is opened (docs/FORMATS.md): the files are sorted, those of changes by
+//! serial and the others by name, and what the file of a change says is read exactly.
+#![tactic(auto)]
+
+mod errors;
+mod files;
+mod inodes;
+mod laws;
+mod pass;
+mod reading;
+mod sorting;
+
+pub use errors::OpenError;
+pub use files::{NamedFile, file_at, file_name_at, file_size_at, read_file};
+pub use inodes::Inodes;
+pub use laws::files_are_sorted_by_serial;
+pub use pass::sort;
+pub use reading::{Said, read_change};
+pub use sorting::{Files, SERIAL_SIZE, is_change};

@@ -1,0 +1,129 @@
+//! What the files of changes say.
+
+ghost use Rattle.std.specs.Prelude.{◌≡◌, ◌^◌, ◌<◌, ◌++◌, ◌↔◌, length, codes, IfOk, IsTrue, MatchOption};
+ghost use Rattle.model.specs.Records.{last_digits};
+ghost use Rattle.model.specs.SpoolFiles.{group_name};
+ghost use Rattle.model.specs.declared.change.Change.{Change};
+ghost use Rattle.spool_reading.specs.Said.{IsFileOf, change_of};
+
+use records::{FileKind, kind_of, read_article, read_expiry, read_group, serial_digits};
+use std::alloc::{AllocError, Global};
+
+/// What the file of a change says.
+#[derive(Drop)]
+pub enum Said<'a> {
+    Group {
+        name: &'a [u8],
+        status: u8,
+        description: &'a [u8],
+        /// seconds since 1970
+        moment: u64,
+    },
+    Article {
+        text: &'a [u8],
+        groups: Vec<&'a [u8]>,
+        moment: u64,
+    },
+    Expiry {
+        group: &'a [u8],
+        number: u32,
+    },
+}
+
+/// What the file of this name says, if it is of the change with this serial.
+pub fn read_change<'a>(
+    alloc: Global,
+    name: &'a [u8],
+    content: &'a [u8],
+    serial: u64,
+) -> Result<Option<Said<'a>>, AllocError>
+    requires { length content.now < 2 ^ 32 }
+    ensures { IfOk result (λ said. MatchOption said
+        ((c : Change) → IsFileOf serial c name.now content.now → ⊥)
+        (λ s. IsFileOf serial (change_of s) name.now content.now)) }
+{
+    match kind_of(name) {
+        Some((FileKind::Group, group)) => Ok(group_said(group, content, serial)),
+        Some((FileKind::Article, digits)) => article_said(alloc, digits, content, serial),
+        Some((FileKind::Expiry, digits)) => Ok(expiry_said(digits, content, serial)),
+        Some((FileKind::Numbers, _)) => Ok(None),
+        Some((FileKind::Overview, _)) => Ok(None),
+        None => Ok(None),
+    }
+}
+
+/// What the file of a group says.
+fn group_said<'a>(group: &'a [u8], content: &'a [u8], serial: u64) -> Option<Said<'a>>
+    ensures { MatchOption result
+        ((c : Change) → IsFileOf serial c (group_name group.now) content.now → ⊥)
+        (λ s. IsFileOf serial (change_of s) (group_name group.now) content.now) }
+{
+    let Some(said) = read_group(content) else {
+        return None;
+    };
+    if said.serial != serial {
+        return None;
+    }
+    Some(Said::Group {
+        name: group,
+        status: said.status,
+        description: said.description,
+        moment: said.moment,
+    })
+}
+
+/// What the file of an article with these digits says.
+fn article_said<'a>(
+    alloc: Global,
+    digits: &'a [u8],
+    content: &'a [u8],
+    serial: u64,
+) -> Result<Option<Said<'a>>, AllocError>
+    requires { length content.now < 2 ^ 32 }
+    ensures { IfOk result (λ said. MatchOption said
+        ((c : Change) → IsFileOf serial c (codes "a." ++ digits.now) content.now → ⊥)
+        (λ s. IsFileOf serial (change_of s) (codes "a." ++ digits.now) content.now)) }
+{
+    if !is_serial(digits, serial) {
+        return Ok(None);
+    }
+    let Some(said) = read_article(alloc, content)? else {
+        return Ok(None);
+    };
+    if said.serial != serial {
+        return Ok(None);
+    }
+    Ok(Some(Said::Article {
+        text: said.text,
+        groups: said.groups,
+        moment: said.moment,
+    }))
+}
+
+/// What the file of an expiry with these digits says.
+fn expiry_said<'a>(digits: &'a [u8], content: &'a [u8], serial: u64) -> Option<Said<'a>>
+    ensures { MatchOption result
+        ((c : Change) → IsFileOf serial c (codes "x." ++ digits.now) content.now → ⊥)
+        (λ s. IsFileOf serial (change_of s) (codes "x." ++ digits.now) content.now) }
+{
+    if !is_serial(digits, serial) {
+        return None;
+    }
+    let Some(said) = read_expiry(content) else {
+        return None;
+    };
+    if said.serial != serial {
+        return None;
+    }
+    Some(Said::Expiry {
+        group: said.group,
+        number: said.number,
+    })
+}
+
+/// Whether these are the digits of a serial in a file's name.
+fn is_serial(digits: &[u8], serial: u64) -> bool
+    ensures { IsTrue result ↔ (digits.now ≡ last_digits 10 serial) }
+{
+    digits == serial_digits(serial).as_slice()
+}
