@@ -2,7 +2,7 @@
 use Rattle.std.proofs.Common.{◌≡◌, ◌≢◌, ◌≤◌, ◌<◌, ◌+◌, ◌-◌, ◌*◌, ℕ, Bool, false, eqb, IsTrue, List, length, refl, sym, ◌∙◌, ap, subst, arith, ◌⊎◌, inl, inr, true, Result, Ok, Err, IfErr}
 use Rattle.disk.specs.Device.{Device}
 use Rattle.journal.specs.Calls.{IsRetried, MakesCall, OnMade, OnRetried, blocks_after}
-use Rattle.journal.specs.Journal.{IsIdle, JournalView, LeavesAdmitted, calls, with_batch}
+use Rattle.journal.specs.Journal.{IsIdle, JournalView, LeavesAdmitted, calls, sizes, with_batch}
 use Rattle.journal.specs.Opening.{IsMore}
 use Rattle.journal.specs.Order.{answer, calls_made, following, syncs_made, writes_made}
 use Rattle.journal.specs.declared.Next.{Next}
@@ -10,8 +10,8 @@ use Rattle.journal.specs.declared.Next.TheVariants.{Idle, Descriptor, Image, Sea
 use Rattle.journal.specs.declared.Progress.{Progress}
 use Rattle.journal.specs.declared.Progress.TheVariants.{Working, Committed, Idle as Ended}
 use Rattle.journal.specs.declared.JournalError.{JournalError}
-use Rattle.journal.proofs.Contents.{after_image}
-use Rattle.journal.proofs.During.{IsLeft, IsOnTheWay, on_the_way, stepped_on}
+use Rattle.journal.proofs.Flights.{after_image}
+use Rattle.journal.proofs.During.{IsLeft, IsOnTheWay, on_the_way, same_sizes, stepped_on}
 use Rattle.journal.specs.declared.JournalError.TheVariants.{Fault, Halted, Memory, NotAVolume}
 use Rattle.model.specs.Volume.{laid_over}
 use Rattle.flusher.specs.Flush.{Commits, HasBegun, has_failed}
@@ -19,7 +19,7 @@ use Rattle.flusher.specs.Flush.{Commits, HasBegun, has_failed}
 -- the calls up to the commit, in a batch of n images
 abbrev pub IsBody : ℕ → Next → Type 0
 IsBody n Descriptor = Unit {0}
-IsBody n (Image j) = j < n
+IsBody n (Image i) = i < n
 IsBody n Seal = Unit {0}
 IsBody n OpenGate = Unit {0}
 IsBody n Commit = Unit {0}
@@ -28,52 +28,52 @@ IsBody n next = ⊥
 body_flies : (n : ℕ) (next : Next) → IsBody n next → next ≢ Idle
 body_flies n Idle b = absurd b
 body_flies n Descriptor b = λ e. cc
-body_flies n (Image j) b = λ e. cc
+body_flies n (Image i) b = λ e. cc
 body_flies n Seal b = λ e. cc
 body_flies n OpenGate b = λ e. cc
 body_flies n Commit b = λ e. cc
-body_flies n (Home j) b = absurd b
+body_flies n (Home j i) b = absurd b
 body_flies n Settle b = absurd b
-body_flies n CloseGate b = absurd b
-body_flies n Finish b = absurd b
+body_flies n (CloseGate j) b = absurd b
+body_flies n (Finish j) b = absurd b
 
 -- only the commit answers that the batch is committed
-committed_at : (n last k : ℕ) (next : Next) → IsBody n next → answer last next ≡ Committed k → next ≡ Commit
-committed_at n last k Idle b e = absurd b
-committed_at n last k Descriptor b e = absurd (cc)
-committed_at n last k (Image j) b e = absurd (cc)
-committed_at n last k Seal b e = absurd (cc)
-committed_at n last k OpenGate b e = absurd (cc)
-committed_at n last k Commit b e = refl
-committed_at n last k (Home j) b e = absurd b
-committed_at n last k Settle b e = absurd b
-committed_at n last k CloseGate b e = absurd b
-committed_at n last k Finish b e = absurd b
+committed_at : (n last k : ℕ) (counts : List ℕ) (next : Next) → IsBody n next → answer last counts next ≡ Committed k → next ≡ Commit
+committed_at n last k counts Idle b e = absurd b
+committed_at n last k counts Descriptor b e = absurd (cc)
+committed_at n last k counts (Image i) b e = absurd (cc)
+committed_at n last k counts Seal b e = absurd (cc)
+committed_at n last k counts OpenGate b e = absurd (cc)
+committed_at n last k counts Commit b e = refl
+committed_at n last k counts (Home j i) b e = absurd b
+committed_at n last k counts Settle b e = absurd b
+committed_at n last k counts (CloseGate j) b e = absurd b
+committed_at n last k counts (Finish j) b e = absurd b
 
 -- each other one is followed by one of them, and leaves the blocks
-body_more : (n last : ℕ) (next : Next) → 1 ≤ n → IsBody n next → answer last next ≢ Committed last → IsBody n (following n next)
-body_more n last Idle some b other = absurd b
-body_more n last Descriptor some b other = omega arith
-body_more n last (Image j) some b other = after_image (IsBody n) n j (λ e. tt) (λ e. omega arith)
-body_more n last Seal some b other = tt
-body_more n last OpenGate some b other = tt
-body_more n last Commit some b other = absurd (other refl)
-body_more n last (Home j) some b other = absurd b
-body_more n last Settle some b other = absurd b
-body_more n last CloseGate some b other = absurd b
-body_more n last Finish some b other = absurd b
+body_more : (n last : ℕ) (counts : List ℕ) (next : Next) → 1 ≤ n → IsBody n next → answer last counts next ≢ Committed last → IsBody n (following n counts next)
+body_more n last counts Idle some b other = absurd b
+body_more n last counts Descriptor some b other = omega arith
+body_more n last counts (Image i) some b other = after_image (IsBody n) n counts i (λ e. tt) (λ e. omega (arith, b, e))
+body_more n last counts Seal some b other = tt
+body_more n last counts OpenGate some b other = tt
+body_more n last counts Commit some b other = absurd (other refl)
+body_more n last counts (Home j i) some b other = absurd b
+body_more n last counts Settle some b other = absurd b
+body_more n last counts (CloseGate j) some b other = absurd b
+body_more n last counts (Finish j) some b other = absurd b
 
-working : {D : Type 0} (journal : JournalView D) (n last : ℕ) (next : Next) → IsBody n next → answer last next ≢ Committed last → blocks_after journal (answer last next) ≡ journal.blocks
-working journal n last Idle b other = absurd b
-working journal n last Descriptor b other = refl
-working journal n last (Image j) b other = refl
-working journal n last Seal b other = refl
-working journal n last OpenGate b other = refl
-working journal n last Commit b other = absurd (other refl)
-working journal n last (Home j) b other = absurd b
-working journal n last Settle b other = absurd b
-working journal n last CloseGate b other = absurd b
-working journal n last Finish b other = absurd b
+working : {D : Type 0} (journal : JournalView D) (n last : ℕ) (counts : List ℕ) (next : Next) → IsBody n next → answer last counts next ≢ Committed last → blocks_after journal (answer last counts next) ≡ journal.blocks
+working journal n last counts Idle b other = absurd b
+working journal n last counts Descriptor b other = refl
+working journal n last counts (Image i) b other = refl
+working journal n last counts Seal b other = refl
+working journal n last counts OpenGate b other = refl
+working journal n last counts Commit b other = absurd (other refl)
+working journal n last counts (Home j i) b other = absurd b
+working journal n last counts Settle b other = absurd b
+working journal n last counts (CloseGate j) b other = absurd b
+working journal n last counts (Finish j) b other = absurd b
 
 -- what stands between two calls of the loop
 pub record IsBefore {D : Type 0} (device : D → Device) (old now : JournalView D) : Type 0 where
@@ -112,19 +112,19 @@ module _ {D : Type 0} (device : D → Device) (old now new : JournalView D) (so_
   -- a call that did not commit
   pub goes_on : (p : Progress) → ((k : ℕ) → p ≢ Committed k) → MakesCall device now new (Ok p) → IsBefore device old new
   goes_on p other call =
-      let not_yet : answer now.last now.next ≢ Committed now.last = λ e. other now.last (call.answers ∙ e) in
+      let not_yet : answer now.last (sizes now) now.next ≢ Committed now.last = λ e. other now.last (call.answers ∙ e) in
       record {
         running = call.next.1;
         body = subst (λ (n : Next). IsBody (length new.numbers) n) (sym call.next.0)
-            (subst (λ (ns : List ℕ). IsBody (length ns) (following (length now.numbers) now.next)) (sym call.same.numbers)
-            (body_more (length now.numbers) now.last now.next so_far.some so_far.body not_yet));
+            (subst (λ (ns : List ℕ). IsBody (length ns) (following (length now.numbers) (sizes now) now.next)) (sym call.same.numbers)
+            (body_more (length now.numbers) now.last (sizes now) now.next so_far.some so_far.body not_yet));
         some = subst (λ (ns : List ℕ). 1 ≤ length ns) (sym call.same.numbers) so_far.some;
         tells = call.time.tells ∙ so_far.tells;
         label = call.same.label ∙ so_far.label;
         last = call.same.last ∙ so_far.last;
         numbers = call.same.numbers ∙ so_far.numbers;
         images = call.same.images ∙ so_far.images;
-        blocks = λ t. (call.blocks (tells_now t) ∙ ap (λ (q : Progress). blocks_after now q) call.answers ∙ working now (length now.numbers) now.last now.next so_far.body not_yet) ∙ so_far.blocks t;
+        blocks = λ t. (call.blocks (tells_now t) ∙ ap (λ (q : Progress). blocks_after now q) call.answers ∙ working now (length now.numbers) now.last (sizes now) now.next so_far.body not_yet) ∙ so_far.blocks t;
         failures = call.failures.ok ∙ so_far.failures;
       }
 
@@ -147,11 +147,11 @@ module _ {D : Type 0} (device : D → Device) (old now new : JournalView D) (so_
   -- the call that did
   pub commits : (k : ℕ) → MakesCall device now new (Ok (Committed k)) → LeavesAdmitted device new → Commits device old new
   commits k call left =
-      let here : now.next ≡ Commit = committed_at (length now.numbers) now.last k now.next so_far.body (sym call.answers) in
+      let here : now.next ≡ Commit = committed_at (length now.numbers) now.last k (sizes now) now.next so_far.body (sym call.answers) in
       record {
         tells = call.time.tells ∙ so_far.tells;
         running = call.next.1;
-        next = call.next.0 ∙ ap (λ (n : Next). following (length now.numbers) n) here;
+        next = call.next.0 ∙ ap (λ (n : Next). following (length now.numbers) (sizes now) n) here ∙ sym (λ i. following (length (call.same.numbers i)) (same_sizes now new call.same i) Commit);
         label = call.same.label ∙ so_far.label;
         last = call.same.last ∙ so_far.last;
         numbers = call.same.numbers ∙ so_far.numbers;
@@ -172,13 +172,16 @@ module _ {D : Type 0} (device : D → Device) (old now new : JournalView D) (so_
 pub settles_again : {D : Type 0} (device : D → Device) (old now new : JournalView D) (so_far : IsOnTheWay device old now) (moves : now.next ≢ Idle) → IsRetried device now new → IsOnTheWay device old new
 settles_again device old now new so_far moves call = record {
   during = stepped_on device old now new so_far moves (Err Memory) (λ is. absurd (cc)) (λ is. call) (inr refl);
-  left = subst (λ (n : Next). IsLeft (length new.numbers) n) (sym call.next)
-      (subst (λ (ns : List ℕ). IsLeft (length ns) now.next) (sym call.same.numbers) so_far.left);
+  left = subst IsLeft (sym call.next) so_far.left;
   running = call.running ∙ so_far.running;
   failures = call.refused.failures ∙ so_far.failures;
   writes = λ w is. subst (λ (k : ℕ). IsMore w (device old.disk).writes k) (sym call.refused.writes)
-      (so_far.writes w (subst (λ (ns : List ℕ). length ns + 2 + w ≡ writes_made (length ns) now.next) call.same.numbers (is ∙ ap (λ (n : Next). writes_made (length new.numbers) n) call.next)));
-  syncs = λ s is. subst (λ (k : ℕ). IsMore s (device old.disk).syncs k) (sym call.refused.syncs) (so_far.syncs s (is ∙ ap syncs_made call.next));
+      (so_far.writes w
+      (subst (λ (k : ℕ). k + 2 + w ≡ writes_made k (sizes now) now.next) (ap length call.same.numbers)
+      (subst (λ (l : List ℕ). length new.numbers + 2 + w ≡ writes_made (length new.numbers) l now.next) (same_sizes now new call.same)
+      (is ∙ ap (λ (n : Next). writes_made (length new.numbers) (sizes new) n) call.next))));
+  syncs = λ s is. subst (λ (k : ℕ). IsMore s (device old.disk).syncs k) (sym call.refused.syncs)
+      (so_far.syncs s (subst (λ (l : List ℕ). 2 + s ≡ syncs_made l now.next) (same_sizes now new call.same) (is ∙ ap (λ (n : Next). syncs_made (sizes new) n) call.next)));
 }
 
 -- one that did not fail

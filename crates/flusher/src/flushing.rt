@@ -2,7 +2,8 @@
 
 ghost use Rattle.std.specs.Prelude.{◌≡◌, ◌≢◌, ◌++◌, ◌∷◌, ◌+◌, ◌*◌, ◌<◌, ◌≤◌, [], length, true, false, OnOk, OnErr, IfOk, IfErr, IfSome, IfNone, IsTrue};
 ghost use Rattle.std.specs.List.{All};
-ghost use Rattle.journal.specs.Journal.{IsDuring, IsIdle, IsReady, LeavesAdmitted};
+ghost use Rattle.journal.specs.Journal.{IsDuring, IsIdle, IsReady, LeavesAdmitted, sizes};
+ghost use Rattle.journal.specs.Order.{following};
 ghost use Rattle.journal.specs.declared.Next.{Next};
 ghost use Rattle.model.specs.Volume.{AreDistinct};
 ghost use Rattle.flusher.specs.Flush.{Commits, Failed, HasBegun, MayBegin, Turns, has_failed};
@@ -155,9 +156,8 @@ fn commit<R: Wait, D: Disk>(rt: &R, journal: &mut Journal<D>) -> Result<(), Flus
 
 /// Those behind it, to the batch's end.
 fn settle<R: Wait, D: Disk>(rt: &R, journal: &mut Journal<D>) -> Result<(), FlushError>
-    requires next { journal.old.next ≡ Next.Home 0 }
+    requires next { journal.old.next ≡ following (length journal.old.numbers) (sizes journal.old) Next.Commit }
     requires running { journal.old.halted ≡ false }
-    requires some { 1 ≤ length journal.old.numbers }
     requires now { LeavesAdmitted D.device journal.old }
     ensures during { IsDuring D.device journal.old journal.new }
     ensures ok { OnOk result (IsReady journal.new) }

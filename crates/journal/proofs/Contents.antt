@@ -1,127 +1,175 @@
 -- What each write leaves of the content.
-use Rattle.std.proofs.Common.{◌≡◌, ◌≢◌, ◌⊎◌, inl, inr, ◌<◌, ◌≤◌, ℕ, ◌+◌, ◌*◌, true, false, eqb, List, [], ◌∷◌, length, get_or, sym, ◌∙◌, ap, subst, arith}
-use Rattle.std.proofs.lemmas.Bool.{cases_eq, cond_both, eqb-true, eqb-false}
+use Rattle.std.proofs.Common.{◌≡◌, ◌≢◌, ◌⊎◌, inl, inr, ◌<◌, ◌≤◌, ℕ, ◌+◌, ◌*◌, true, false, eqb, List, [], ◌∷◌, ◌++◌, length, get_or, take, drop, refl, sym, ◌∙◌, ap, subst, arith}
+use Rattle.std.proofs.lemmas.Bool.{cases_eq}
+use Rattle.std.proofs.lemmas.List.{drop_more, take_more}
+use Rattle.std.proofs.Math.Seq.{take-length}
 use Rattle.disk.specs.Image.{overwritten}
-use Rattle.journal.specs.Inside.{InFlight, IsWithin, IsWritten, IsHome, Holds, Touched}
-use Rattle.segments.specs.Images.{SameBut}
+use Rattle.model.specs.Volume.{StandsFor, all_laid_over, block, descriptor_place, gate_closed, gate_place, home, home_place, home_size, image_place, is_open, logical_blocks, segment_count}
+use Rattle.segments.specs.Held.{AreOpen, Held, IsHomeOfHeld, IsHomeOnTheWay, IsWrittenIn, batches_of}
+use Rattle.segments.specs.Images.{IsCarried, IsInside, SameBut}
+use Rattle.segments.proofs.Blocks.{block-overwritten, first-overwritten, overwritten_same, same_but_more, same_but_then}
+use Rattle.segments.proofs.Carrying.{all_home, none_home, one_home}
+use Rattle.segments.proofs.Gates.{carried_home, closed_open, held_kept}
+use Rattle.segments.proofs.Standing.{full_open, unread_open}
+use Rattle.segments.proofs.Writing.{home_of_held, torn_held_open}
+use Rattle.journal.specs.Flight.{Flight, IsSound, IsStaged, all_of, held_as, held_at, none_held, sizes_of}
+use Rattle.journal.specs.Inside.{Holds}
 use Rattle.journal.specs.Order.{following}
-use Rattle.model.specs.Volume.{block, home_size, IsSuperblock, is_open}
 use Rattle.journal.specs.declared.Next.{Next}
-use Rattle.journal.specs.declared.Next.TheVariants.{Image, Seal, Commit, Home, Settle, Finish}
-use Rattle.segments.proofs.Blocks.{overwritten_same, block-overwritten, first-overwritten}
+use Rattle.journal.specs.declared.Next.TheVariants.{Idle, Image, Seal, Commit, Home, Settle, CloseGate, Finish}
+use Rattle.journal.proofs.Admitted.{is_shut, shut_same}
+use Rattle.journal.proofs.Flights.{after_home, after_image, length-sizes, size_at}
 
--- the call after an image, and after a home block
-pub after_image : (P : Next → Type 0) (n i : ℕ) → (i + 1 ≡ n → P Seal) → (i + 1 ≢ n → P (Image (i + 1))) → P (following n (Image i))
-after_image P n i last more = cond_both (eqb (i + 1) n) Seal (Image (i + 1)) P (λ e. last (eqb-true (i + 1) n e)) (λ e. more (eqb-false (i + 1) n e))
+module _ (f : Flight) (x label : List ℕ) (stands : StandsFor x label (logical_blocks x)) (there : f.batch.place < segment_count x) where
+  abbrev m : ℕ
+  m = f.batch.place
 
-pub after_home : (P : Next → Type 0) (n i : ℕ) → (i + 1 ≡ n → P Settle) → (i + 1 ≢ n → P (Home (i + 1))) → P (following n (Home i))
-after_home P n i last more = cond_both (eqb (i + 1) n) Settle (Home (i + 1)) P (λ e. last (eqb-true (i + 1) n e)) (λ e. more (eqb-false (i + 1) n e))
+  size : length x ≡ 4096 * home_place (segment_count x) (home_size x)
+  size = stands.has_superblock.exactly
 
--- each is within the batch
-pub within_image : (n i : ℕ) → i < n → IsWithin n (following n (Image i))
-within_image n i within = after_image (IsWithin n) n i (λ e. tt) (λ e. omega arith)
+  -- a write inside the closed segment of the batch
+  module _ (k : ℕ) (octets : List ℕ) (inside : IsInside m k) (whole : length octets ≡ 4096) where
+    abbrev y : List ℕ
+    y = overwritten (4096 * k) octets x
 
-pub within_home : (n i : ℕ) → i < n → IsWithin n (following n (Home i))
-within_home n i within = after_home (IsWithin n) n i (λ e. tt) (λ e. omega arith)
+    fits_in : 4096 * k + length octets ≤ length x
+    fits_in = omega (arith, size, inside.1, there, whole)
 
-pub flight_image : (P : Type 0) (n i : ℕ) → P → InFlight (following n (Image i)) P
-flight_image P n i p = after_image (λ f. InFlight f P) n i (λ e. p) (λ e. p)
+    same_in : SameBut (λ n. n ≡ k) x y
+    same_in = overwritten_same k octets x (omega (arith, whole)) fits_in
 
-pub flight_home : (P : Type 0) (n i : ℕ) → P → InFlight (following n (Home i)) P
-flight_home P n i p = after_home (λ f. InFlight f P) n i (λ e. p) (λ e. p)
+    put_in : block k y ≡ octets
+    put_in = block-overwritten k octets x whole fits_in
 
--- what they touch
-pub touched_image : (ns : List ℕ) (n i k : ℕ) → (1 < k) × (k < 515) → Touched ns (following n (Image i)) k
-touched_image ns n i k t = after_image (λ f. Touched ns f k) n i (λ e. t) (λ e. t)
+    shut_in : is_open m x ≡ false → is_open m y ≡ false
+    shut_in shut = ap (λ (b : List ℕ). eqb (get_or b 0 0) 1) (same_in.same (gate_place m) (λ e. absurd (omega (arith, e, inside.0)))) ∙ shut
 
-pub touched_home : (ns : List ℕ) (n i k : ℕ) → (m : ℕ) × (m < length ns) × (k ≡ 515 + get_or ns m 0) → Touched ns (following n (Home i)) k
-touched_home ns n i k t = after_home (λ f. Touched ns f k) n i (λ e. t) (λ e. t)
+    open_in : is_open m x ≡ false → AreOpen f.held x → AreOpen f.held y
+    open_in shut are = unread_open x y label (logical_blocks x) m stands shut there (same_but_more (λ n. n ≡ k) (IsInside m) x y (λ n e. (omega (arith, e, inside.0), omega (arith, e, inside.1))) same_in) f.held are
 
-module _ (descriptor ns octets x : List ℕ) (superblock : IsSuperblock (block 0 x) (length x)) where
-  size : length x ≡ 4096 * (515 + home_size x)
-  size = omega (arith, superblock.exactly, superblock.segments)
-
-  -- the parts of the content in other blocks
-  gate_same : (y : List ℕ) → block 1 y ≡ block 1 x → is_open 0 y ≡ is_open 0 x
-  gate_same y first = ap (λ (b : List ℕ). eqb (get_or b 0 0) 1) first
-
-  written_still : (y : List ℕ) (j : ℕ) → SameBut (λ k. k ≡ j) x y → IsWritten descriptor ns octets x → (j < 2) ⊎ (2 + length ns < j) → IsWritten descriptor ns octets y
-  written_still y j same written apart = record {
-    descriptor_is = same.same 2 (λ e. absurd (elim apart [ inl a ↦ omega arith | inr a ↦ omega arith ])) ∙ written.descriptor_is;
-    images_are = λ k within. same.same (3 + k) (λ e. absurd (elim apart [ inl a ↦ omega arith | inr a ↦ omega arith ])) ∙ written.images_are k within;
-  }
-
-  pub holds_descriptor : length descriptor ≡ 4096 → is_open 0 x ≡ false → Holds descriptor ns octets (Image 0) (overwritten 8192 descriptor x)
-  holds_descriptor whole shut =
-      let fits : 4096 * 2 + length descriptor ≤ length x = omega (arith, size) in
-      let same = overwritten_same 2 descriptor x (omega arith) fits in (
-        gate_same (overwritten 8192 descriptor x) (same.same 1 (λ e. absurd (omega arith))) ∙ shut,
-        block-overwritten 2 descriptor x whole fits,
-        λ k within. absurd (omega arith),
+  pub holds_descriptor : length f.batch.descriptor ≡ 4096 → Holds f Next.Descriptor x → Holds f (Image 0) (overwritten (4096 * descriptor_place m) f.batch.descriptor x)
+  holds_descriptor whole holds =
+      let inside : IsInside m (descriptor_place m) = (omega arith, omega arith) in (
+        open_in (descriptor_place m) f.batch.descriptor inside whole holds.1 holds.0,
+        shut_in (descriptor_place m) f.batch.descriptor inside whole holds.1,
+        put_in (descriptor_place m) f.batch.descriptor inside whole,
+        λ k within. absurd (omega (arith, within)),
       )
 
-  pub holds_image : (i : ℕ) → i < length ns → length ns ≤ 512 → length (block i octets) ≡ 4096 → Holds descriptor ns octets (Image i) x → Holds descriptor ns octets (following (length ns) (Image i)) (overwritten (4096 * (3 + i)) (block i octets) x)
-  holds_image i within few whole holds =
-      after_image (λ f. Holds descriptor ns octets f (overwritten (4096 * (3 + i)) (block i octets) x)) (length ns) i
-      (λ e. (shut, record { descriptor_is = second; images_are = λ k inside. images k (omega arith) }))
-      (λ e. (shut, second, images))
+  pub holds_image : (n : ℕ) (sizes : List ℕ) (i : ℕ) → n ≡ length f.batch.images → i < n → n ≤ 512 → length (get_or f.batch.images i []) ≡ 4096 → Holds f (Image i) x → Holds f (following n sizes (Image i)) (overwritten (4096 * image_place m i) (get_or f.batch.images i []) x)
+  holds_image n sizes i n_is within few whole holds =
+      after_image (λ s. Holds f s (overwritten (4096 * image_place m i) (get_or f.batch.images i []) x)) n sizes i
+      (λ e. (are, shut, record { descriptor_is = second; images_are = λ k low. images k (omega (arith, low, e, n_is)) }))
+      (λ e. (are, shut, second, images))
     where
-      fits : 4096 * (3 + i) + length (block i octets) ≤ length x
-      fits = omega (arith, size, whole)
+      inside : IsInside m (image_place m i)
+      inside = (omega arith, omega (arith, within, few))
 
-      same : SameBut (λ k. k ≡ 3 + i) x (overwritten (4096 * (3 + i)) (block i octets) x)
-      same = overwritten_same (3 + i) (block i octets) x (omega (arith, whole)) fits
+      are : AreOpen f.held (overwritten (4096 * image_place m i) (get_or f.batch.images i []) x)
+      are = open_in (image_place m i) (get_or f.batch.images i []) inside whole holds.1 holds.0
 
-      shut : is_open 0 (overwritten (4096 * (3 + i)) (block i octets) x) ≡ false
-      shut = gate_same (overwritten (4096 * (3 + i)) (block i octets) x) (same.same 1 (λ e. absurd (omega arith))) ∙ holds.0
+      shut : is_open m (overwritten (4096 * image_place m i) (get_or f.batch.images i []) x) ≡ false
+      shut = shut_in (image_place m i) (get_or f.batch.images i []) inside whole holds.1
 
-      second : block 2 (overwritten (4096 * (3 + i)) (block i octets) x) ≡ descriptor
-      second = same.same 2 (λ e. absurd (omega arith)) ∙ holds.1
+      same : SameBut (λ k. k ≡ image_place m i) x (overwritten (4096 * image_place m i) (get_or f.batch.images i []) x)
+      same = same_in (image_place m i) (get_or f.batch.images i []) inside whole
 
-      images : (k : ℕ) → k < i + 1 → block (3 + k) (overwritten (4096 * (3 + i)) (block i octets) x) ≡ block k octets
+      second : block (descriptor_place m) (overwritten (4096 * image_place m i) (get_or f.batch.images i []) x) ≡ f.batch.descriptor
+      second = same.same (descriptor_place m) (λ e. absurd (omega (arith, e))) ∙ holds.2
+
+      images : (k : ℕ) → k < i + 1 → block (image_place m k) (overwritten (4096 * image_place m i) (get_or f.batch.images i []) x) ≡ get_or f.batch.images k []
       images k low = elim (cases_eq k i) [
-        | inl is ↦ subst (λ (m : ℕ). block (3 + m) (overwritten (4096 * (3 + i)) (block i octets) x) ≡ block m octets) (sym is) (block-overwritten (3 + i) (block i octets) x whole fits)
-        | inr other ↦ same.same (3 + k) (λ e. absurd (other (omega arith))) ∙ holds.2 k (omega arith)
+        | inl is ↦
+            subst (λ (n : ℕ). block (image_place m n) (overwritten (4096 * image_place m i) (get_or f.batch.images i []) x) ≡ get_or f.batch.images n []) (sym is)
+            (put_in (image_place m i) (get_or f.batch.images i []) inside whole)
+        | inr other ↦ same.same (image_place m k) (λ e. absurd (other (omega (arith, e)))) ∙ holds.3 k (omega (arith, low, other))
       ]
 
-  pub holds_opened : is_open 0 x ≡ false → IsWritten descriptor ns octets x → Holds descriptor ns octets Commit (overwritten 4096 (1 ∷ []) x)
-  holds_opened shut written =
-      let fits : 4096 * 1 + 1 ≤ length x = omega (arith, size) in (
-        ap (λ (n : ℕ). eqb n 1) (first-overwritten 1 1 x fits),
-        written_still (overwritten 4096 (1 ∷ []) x) 1 (overwritten_same 1 (1 ∷ []) x (omega arith) fits) written (inl (omega arith)),
+  -- the gate is opened
+  pub holds_opened : Holds f Next.OpenGate x → Holds f Commit (overwritten (4096 * gate_place m) (1 ∷ []) x)
+  holds_opened holds =
+      let fits : 4096 * gate_place m + 1 ≤ length x = omega (arith, size, there) in
+      let y = overwritten (4096 * gate_place m) (1 ∷ []) x in
+      let same : SameBut (λ k. k ≡ gate_place m) x y = overwritten_same (gate_place m) (1 ∷ []) x (omega arith) fits in
+      let room : 4096 * gate_place m + 1 ≤ length y = omega (arith, fits, same.size) in
+      let z = gate_closed m y in
+      let back : SameBut (λ k. k ≡ gate_place m) y z = overwritten_same (gate_place m) (0 ∷ []) y (omega arith) room in
+      let shut : is_open m z ≡ false = ap (λ (n : ℕ). eqb n 1) (first-overwritten (gate_place m) 0 y room) in (
+        held_kept x z label (logical_blocks x) m stands there (same_but_then (λ k. k ≡ gate_place m) x y z same back) (shut ∙ sym holds.1) f.held holds.0,
+        ap (λ (n : ℕ). eqb n 1) (first-overwritten (gate_place m) 1 x fits),
+        record {
+          descriptor_is = same.same (descriptor_place m) (λ e. absurd (omega (arith, e))) ∙ holds.2.descriptor_is;
+          images_are = λ k within. same.same (image_place m k) (λ e. absurd (omega (arith, e))) ∙ holds.2.images_are k within;
+        },
       )
 
-  pub holds_home : (i : ℕ) → i < length ns → length ns ≤ 512 → get_or ns i 0 < home_size x → ((k : ℕ) → k < i → get_or ns k 0 ≢ get_or ns i 0) → length (block i octets) ≡ 4096 → Holds descriptor ns octets (Home i) x → Holds descriptor ns octets (following (length ns) (Home i)) (overwritten (4096 * (515 + get_or ns i 0)) (block i octets) x)
-  holds_home i within few below distinct whole holds =
-      after_home (λ f. Holds descriptor ns octets f (overwritten (4096 * (515 + get_or ns i 0)) (block i octets) x)) (length ns) i
-      (λ e. (opened, written, λ k inside. homes k (omega arith)))
-      (λ e. (opened, written, homes))
-    where
-      fits : 4096 * (515 + get_or ns i 0) + length (block i octets) ≤ length x
-      fits = omega (arith, size, whole)
+module _ (f : Flight) (x label : List ℕ) (stands : StandsFor x label (logical_blocks x)) (count : segment_count x ≡ f.segments) where
+  -- what is carried home
+  whole_size : length x ≡ 4096 * home_place (segment_count x) (home_size x)
+  whole_size = stands.has_superblock.exactly
 
-      same : SameBut (λ k. k ≡ 515 + get_or ns i 0) x (overwritten (4096 * (515 + get_or ns i 0)) (block i octets) x)
-      same = overwritten_same (515 + get_or ns i 0) (block i octets) x (omega (arith, whole)) fits
+  pub holds_first : AreOpen (all_of f) x → Holds f (Home 0 0) x
+  holds_first are = (are, (home x, refl))
 
-      opened : is_open 0 (overwritten (4096 * (515 + get_or ns i 0)) (block i octets) x) ≡ true
-      opened = gate_same (overwritten (4096 * (515 + get_or ns i 0)) (block i octets) x) (same.same 1 (λ e. absurd (omega arith))) ∙ holds.0
+  module _ (n j i : ℕ) (last : f.is_last ≡ true) (here : j < length (all_of f)) (sound : IsSound (home_size x) (held_at (all_of f) j).batch) (within : i < length (held_at (all_of f) j).batch.numbers) (holds : Holds f (Home j i) x) where
+    abbrev h : Held
+    h = held_at (all_of f) j
 
-      written : IsWritten descriptor ns octets (overwritten (4096 * (515 + get_or ns i 0)) (block i octets) x)
-      written = written_still (overwritten (4096 * (515 + get_or ns i 0)) (block i octets) x) (515 + get_or ns i 0) same holds.1 (inr (omega arith))
+    abbrev place : ℕ
+    place = home_place f.segments (get_or h.batch.numbers i 0)
 
-      homes : (k : ℕ) → k < i + 1 → block (515 + get_or ns k 0) (overwritten (4096 * (515 + get_or ns i 0)) (block i octets) x) ≡ block k octets
-      homes k low = elim (cases_eq k i) [
-        | inl is ↦ subst (λ (m : ℕ). block (515 + get_or ns m 0) (overwritten (4096 * (515 + get_or ns i 0)) (block i octets) x) ≡ block m octets) (sym is) (block-overwritten (515 + get_or ns i 0) (block i octets) x whole fits)
-        | inr other ↦
-            let before : k < i = omega arith in
-            same.same (515 + get_or ns k 0) (λ e. absurd (distinct k before (omega arith))) ∙ holds.2 k before
-      ]
+    abbrev image : List ℕ
+    image = get_or h.batch.images i []
 
-  pub holds_closed : IsWritten descriptor ns octets x → IsHome (length ns) ns octets x → length ns ≤ 512 → Holds descriptor ns octets Finish (overwritten 4096 (0 ∷ []) x)
-  holds_closed written homes few =
-      let fits : 4096 * 1 + 1 ≤ length x = omega (arith, size) in
-      let same = overwritten_same 1 (0 ∷ []) x (omega arith) fits in (
-        ap (λ (n : ℕ). eqb n 1) (first-overwritten 1 0 x fits),
-        written_still (overwritten 4096 (0 ∷ []) x) 1 same written (inl (omega arith)),
-        λ k within. same.same (515 + get_or ns k 0) (λ e. absurd (omega arith)) ∙ homes k within,
-      )
+    abbrev z : List ℕ
+    z = overwritten (4096 * place) image x
+
+    abbrev first : List (List ℕ)
+    first = holds.1.0
+
+    whole : length image ≡ 4096
+    whole = sound.whole i (omega (arith, within, sound.images))
+
+    below : get_or h.batch.numbers i 0 < home_size x
+    below = sound.below i 0 within
+
+    same : SameBut (λ k. k ≡ place) x z
+    same = overwritten_same place image x (omega (arith, whole)) (omega (arith, whole, whole_size, below, count))
+
+    homes : SameBut (IsHomeOfHeld (segment_count x) (all_of f)) x z
+    homes =
+        subst (λ (k : ℕ). SameBut (IsHomeOfHeld k (all_of f)) x z) (sym count)
+        (same_but_more (λ k. k ≡ place) (IsHomeOfHeld f.segments (all_of f)) x z (λ k e. subst (IsHomeOfHeld f.segments (all_of f)) (sym e) (home_of_held f.segments (all_of f) j i none_held here within)) same)
+
+    are : AreOpen (all_of f) z
+    are = torn_held_open x z label (logical_blocks x) (all_of f) stands holds.0 homes
+
+    more : IsHomeOnTheWay first (take j (all_of f)) h.batch (i + 1) z
+    more =
+        subst (λ (k : ℕ). IsHomeOnTheWay first (take j (all_of f)) h.batch (i + 1) (overwritten (4096 * home_place k (get_or h.batch.numbers i 0)) image x)) count
+        (one_home first (take j (all_of f)) h.batch i x within (omega (arith, within, sound.images)) whole below (omega (arith, whole_size)) holds.1.1)
+
+    ended : i + 1 ≡ get_or (sizes_of f) j 0 → home z ≡ all_laid_over first (batches_of (take (j + 1) (all_of f)))
+    ended e =
+        all_home first (take j (all_of f)) h z sound.images (subst (λ (k : ℕ). IsHomeOnTheWay first (take j (all_of f)) h.batch k z) (e ∙ size_at f j last here) more)
+        ∙ ap (λ (hs : List Held). all_laid_over first (batches_of hs)) (sym (take_more (all_of f) j none_held here))
+
+    pub holds_home : Holds f (following n (sizes_of f) (Home j i)) z
+    holds_home =
+        after_home (λ s. Holds f s z) n (sizes_of f) j i
+        (λ e g. (are, (first, ended e ∙ ap (λ (hs : List Held). all_laid_over first (batches_of hs)) (ap (λ (k : ℕ). take k (all_of f)) (g ∙ length-sizes f last) ∙ take-length (all_of f)))))
+        (λ e g. (are, (first, none_home first (take (j + 1) (all_of f)) (held_at (all_of f) (j + 1)).batch z (ended e))))
+        (λ e. (are, (first, more)))
+
+  -- once all are home, they are carried
+  pub holds_settled : Holds f Settle x → Holds f (CloseGate 0) x
+  holds_settled holds = (holds.0, carried_home x holds.1.0 (full_open x) (holds.1.1 ∙ ap (all_laid_over holds.1.0) (sym holds.0.batches)))
+
+  -- and the first gate is closed
+  pub holds_closed : (j : ℕ) → j < length (all_of f) → Holds f (CloseGate j) x → Holds f (Finish j) (overwritten (4096 * gate_place (held_at (all_of f) j).place) (0 ∷ []) x)
+  holds_closed j here holds =
+      let h = held_at (all_of f) j in
+      let are = subst (λ (hs : List Held). AreOpen hs x) (drop_more (all_of f) j none_held here) holds.0 in
+      let there = are.each.0.0.0 in
+      let closed = closed_open x (gate_closed h.place x) label (logical_blocks x) h (drop (j + 1) (all_of f)) stands are holds.1 (shut_same x label h.place stands there) (is_shut x label h.place stands there) in
+      (closed.1.1, closed.1.0)

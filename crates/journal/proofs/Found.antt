@@ -1,18 +1,25 @@
 -- What an opening finds.
-use Rattle.std.proofs.Common.{◌≡◌, ◌≢◌, ◌⊎◌, inl, inr, ⊎_elim, ◌<◌, ◌≤◌, ℕ, ◌+◌, ◌*◌, ◌%◌, ◌^◌, [], Bool, true, false, IsTrue, Option, Some, None, List, length, take, refl, sym, ◌∙◌, ap, subst, arith, length-take, Result, Ok, Err, IfOk, IfErr, MatchResult}
+use Rattle.std.proofs.Common.{◌≡◌, ◌≢◌, ◌⊎◌, inl, inr, ⊎_elim, ◌<◌, ◌≤◌, ℕ, ◌+◌, ◌*◌, ◌%◌, ◌^◌, [], ◌∷◌, Bool, true, false, IsTrue, List, length, get_or, refl, sym, ◌∙◌, ap, subst, arith, Result, Ok, Err, IfOk, IfErr, MatchResult}
+use Rattle.std.specs.List.{sum}
 use Rattle.std.proofs.Math.Nat.{mod-add-mod}
 use Rattle.disk.specs.Device.{Device, Elapses, LeavesOnly}
 use Rattle.disk.specs.Image.{part}
-use Rattle.journal.specs.Inside.{IsFound, IsKept, IsQuiet, IsStaged, IsStill, IsSynced, LeftAs, IsWritten, Touched}
+use Rattle.segments.specs.Held.{AreOpen, Held, IsWrittenIn, held_at as held_in_places, sorted_held}
+use Rattle.segments.proofs.Sorting.{found_open}
+use Rattle.journal.specs.Flight.{Flight, IsStaged, Staged, all_of, flight_in, held_as, sizes_of, staged_at}
+use Rattle.journal.specs.Inside.{IsFound, IsKept, IsQuiet, IsReadFrom, IsStill, IsSynced, LeftAs, Touched}
 use Rattle.journal.specs.Opening.{AreSameVolume, Costs, IsMore, IsNoVolume, home_syncs, home_writes, LeftKept, Opens, Refuses, SyncsFirst}
 use Rattle.journal.specs.Journal.{AreWhole, HasWholeBlocks, IsCaused, IsDuring, IsReady, JournalView, LeavesAdmitted}
 use Rattle.journal.specs.declared.JournalError.{JournalError}
 use Rattle.journal.specs.declared.JournalError.TheVariants.{Fault, Memory, NotAVolume, Halted}
-use Rattle.model.specs.Volume.{block, blocks_from, home_size, label_of, number_at, is_open, open_segments, IsSuperblock, IsDescriptor, listed, StandsFor, logical_blocks}
+use Rattle.model.specs.Volume.{Batch, batch_in, block, descriptor_place, home_place, home_size, label_of, number_at, is_open, open_segments, segment_count, IsSuperblock, IsDescriptor, StandsFor, logical_blocks}
 use Rattle.journal.specs.declared.Next.TheVariants.{Idle, Home}
 use Rattle.segments.proofs.Blocks.{same_but_equal}
 use Rattle.journal.proofs.Transitions.{told_after}
-use Rattle.journal.proofs.Volumes.{batch_valid, none_open, one_open, stands_closed, stands_open}
+use Rattle.journal.proofs.Admitted.{batch_is}
+use Rattle.journal.proofs.Contents.{holds_first}
+use Rattle.journal.proofs.Volumes.{none_open, one_open, stands_closed, stands_open}
+use Rattle.std.proofs.lemmas.Bool.{true≢false}
 
 -- why a run of calls stopped
 fault_caused : (error : JournalError) (old new : Device) → IsCaused error old new → error ≡ Fault → new.failures ≢ old.failures
@@ -30,122 +37,133 @@ not_caused error old new (inr caused) = (λ e. (let two : Memory ≡ NotAVolume 
 pub caused_elsewhere : (error : JournalError) (old new : Device) → IsCaused error old new → error ≢ NotAVolume
 caused_elsewhere error old new caused = (not_caused error old new caused).0
 
-module _ (device : Device) (superblock descriptor numbers octets : List ℕ) (blocks : ℕ) (superblock_size : length superblock ≡ 4096) (descriptor_size : length descriptor ≡ 4096) (numbers_size : length numbers ≡ 512) (octets_size : length octets ≡ 2097152) (image_size : IsTrue device.tells → length device.content ≡ device.size) (now : IsTrue device.tells → device.may_leave device.content) where
-  module _ (count : Option ℕ) (found : IsFound device superblock descriptor numbers octets blocks count) where
-    pub device_size : device.size ≡ 4096 * (515 + blocks)
-    device_size = omega (arith, found.valid.exactly, found.valid.segments, found.blocks_are)
+module _ (device : Device) (superblock : List ℕ) (blocks : ℕ) (room : List Staged) (image_size : IsTrue device.tells → length device.content ≡ device.size) (now : IsTrue device.tells → device.may_leave device.content) where
+  abbrev f : Flight
+  f = flight_in room 0 true
 
-    pub content_superblock : IsTrue device.tells → IsSuperblock (block 0 device.content) (length device.content)
+  module _ (is_found : Bool) (found : IsFound device superblock blocks room is_found) where
+    device_size : device.size ≡ 4096 * home_place (length room) blocks
+    device_size = omega (arith, found.valid.exactly, found.valid.segments, found.blocks_are, found.one)
+
+    content_superblock : IsTrue device.tells → IsSuperblock (block 0 device.content) (length device.content)
     content_superblock t =
         subst (λ (n : ℕ). IsSuperblock (block 0 device.content) n) (sym (image_size t))
         (subst (λ (b : List ℕ). IsSuperblock b device.size) (found.superblock_is t) found.valid)
 
-    pub content_size : IsTrue device.tells → home_size device.content ≡ blocks
+    content_size : IsTrue device.tells → home_size device.content ≡ blocks
     content_size t = ap (number_at 12 4) (sym (found.superblock_is t)) ∙ found.blocks_are
 
-    pub content_label : IsTrue device.tells → label_of device.content ≡ part 20 128 superblock
+    content_count : IsTrue device.tells → segment_count device.content ≡ length room
+    content_count t = (content_superblock t).segments ∙ sym found.one
+
+    content_label : IsTrue device.tells → label_of device.content ≡ part 20 128 superblock
     content_label t = ap (λ (b : List ℕ). part 20 128 b) (sym (found.superblock_is t))
 
+    there : (staged_at room 0).place < length room
+    there = omega (arith, found.place, found.one)
+
   -- with the segment closed
-  module _ (found : IsFound device superblock descriptor numbers octets blocks None) where
+  module _ (found : IsFound device superblock blocks room false) where
     shut : IsTrue device.tells → is_open 0 device.content ≡ false
     shut t = sym (found.gate t)
 
     pub rest_stands : IsTrue device.tells → StandsFor device.content (part 20 128 superblock) (logical_blocks device.content)
     rest_stands t =
-        let stands = stands_closed device.content (content_superblock None found t) (shut t) in
-        subst (λ (l : List ℕ). StandsFor device.content l (logical_blocks device.content)) (content_label None found t)
+        let stands = stands_closed device.content (content_superblock false found t) (shut t) in
+        subst (λ (l : List ℕ). StandsFor device.content l (logical_blocks device.content)) (content_label false found t)
         (subst (λ (bs : List (List ℕ)). StandsFor device.content (label_of device.content) bs) (sym stands.has_blocks) stands)
 
     pub rest_none : IsTrue device.tells → open_segments device.content ≡ []
-    rest_none t = none_open device.content (content_superblock None found t) (shut t)
+    rest_none t = none_open device.content (content_superblock false found t) (shut t)
 
-    pub rest_kept : IsKept device blocks superblock Idle false 0 0 descriptor numbers octets
+    none_held : IsTrue device.tells → AreOpen [] device.content
+    none_held t = subst (λ (hs : List Held). AreOpen hs device.content) (ap (λ (ss : List ℕ). sorted_held (held_in_places device.content ss)) (rest_none t)) (found_open device.content (part 20 128 superblock) (logical_blocks device.content) (rest_stands t))
+
+    pub rest_kept : IsKept device blocks superblock Idle false room 0 true
     rest_kept = record {
-      size = device_size None found;
+      size = device_size false found;
       low = omega (arith, found.valid.low, found.blocks_are);
       high = omega (arith, found.valid.high, found.blocks_are);
-      superblock_size = superblock_size;
-      descriptor_size = descriptor_size;
-      numbers_size = numbers_size;
-      octets_size = octets_size;
-      few = omega arith;
+      superblock_size = found.superblock_size;
+      one = found.one;
+      few = omega (arith, found.one);
+      there = omega (arith, found.one);
+      place = there false found;
+      left = λ e. absurd (true≢false e);
       within = tt;
-      staged = tt;
+      staged = λ e. absurd (true≢false e);
+      order = λ e. absurd (true≢false e);
       described = λ e. cc;
       told = λ t. record {
         stands = rest_stands t;
-        size = content_size None found t;
+        size = content_size false found t;
+        count = content_count false found t;
         admits = λ c left. inl (subst (λ (x : List ℕ). StandsFor x (part 20 128 superblock) (logical_blocks device.content)) (sym (found.synced t c left)) (rest_stands t));
-        holds = λ runs. shut t;
-        same = λ runs c left. same_but_equal (Touched (take 0 numbers) Idle) device.content c (found.synced t c left);
+        holds = λ runs. none_held t;
+        same = λ runs c left. same_but_equal (Touched f Idle) device.content c (found.synced t c left);
       };
     }
 
   -- with the segment open
-  module _ (count : ℕ) (found : IsFound device superblock descriptor numbers octets blocks (Some count)) where
-    abbrev ns : List ℕ
-    ns = take count numbers
+  module _ (found : IsFound device superblock blocks room true) where
+    abbrev s : Staged
+    s = staged_at room 0
 
-    few : count ≤ 512
-    few = omega (arith, found.batch.0.few, found.batch.1)
-
-    length-ns : length ns ≡ count
-    length-ns = omega (arith, length-take count numbers, numbers_size, few)
-
-    staged : (b : ℕ) → b ≡ blocks → IsStaged b descriptor (number_at 8 8 descriptor) ns octets
-    staged b is = record {
-      size = descriptor_size;
-      last_is = refl;
-      count = found.batch.1 ∙ sym length-ns;
-      zero = found.batch.0.zero;
-      lists = sym found.batch.2;
-      some = omega (arith, found.batch.0.some, found.batch.1, length-ns);
-      few = omega (arith, few, length-ns);
-      below = subst (λ (l : List ℕ). Rattle.std.specs.List.All (λ n. n < b) l) (sym found.batch.2) (subst (λ (m : ℕ). Rattle.std.specs.List.All (λ n. n < m) (listed descriptor)) (sym is) found.batch.0.below);
-      distinct = subst (λ (l : List ℕ). Rattle.model.specs.Volume.AreDistinct l) (sym found.batch.2) found.batch.0.distinct;
-      room = omega (arith, length-ns, few, octets_size);
-    }
-
-    written : IsTrue device.tells → IsWritten descriptor ns octets device.content
-    written t = record {
-      descriptor_is = sym (found.descriptor_is t);
-      images_are = λ k within. found.images_are t k (omega (arith, length-ns));
-    }
+    its_batch : IsReadFrom device blocks s
+    its_batch = found.read refl
 
     opened : IsTrue device.tells → is_open 0 device.content ≡ true
     opened t = sym (found.gate t)
 
-    pub replay_writes : IsTrue device.tells → home_writes device.content (open_segments device.content) ≡ length ns + 1
-    replay_writes t =
-        let count_is : number_at 16 4 (block 2 device.content) ≡ count = ap (number_at 16 4) (sym (found.descriptor_is t)) ∙ found.batch.1 in
-        ap (home_writes device.content) (one_open device.content (content_superblock (Some count) found t) (opened t)) ∙ omega (arith, count_is, length-ns)
+    written : IsTrue device.tells → IsWrittenIn 0 s.descriptor s.images device.content
+    written t = subst (λ (p : ℕ). IsWrittenIn p s.descriptor s.images device.content) found.place (its_batch.written t)
 
-    pub replay_syncs : IsTrue device.tells → home_syncs (open_segments device.content) ≡ 2
-    replay_syncs t = ap home_syncs (one_open device.content (content_superblock (Some count) found t) (opened t))
+    pub replay_some : (0 < length (sizes_of f)) × (0 < get_or (sizes_of f) 0 0)
+    replay_some = (omega arith, omega (arith, its_batch.staged.sound.some))
+
+    pub replay_writes : IsTrue device.tells → home_writes device.content (open_segments device.content) ≡ sum (sizes_of f) + length (sizes_of f)
+    replay_writes t =
+        let count_is : number_at 16 4 (block (descriptor_place 0) device.content) ≡ length s.numbers = ap (number_at 16 4) (written t).descriptor_is ∙ its_batch.staged.count in
+        ap (home_writes device.content) (one_open device.content (content_superblock true found t) (opened t)) ∙ omega (arith, count_is)
+
+    pub replay_syncs : IsTrue device.tells → home_syncs (open_segments device.content) ≡ 1 + length (sizes_of f)
+    replay_syncs t = ap home_syncs (one_open device.content (content_superblock true found t) (opened t))
 
     pub replay_stands : IsTrue device.tells → StandsFor device.content (part 20 128 superblock) (logical_blocks device.content)
     replay_stands t =
-        let superblock = content_superblock (Some count) found t in
-        let stands = stands_open device.content superblock (opened t) (batch_valid device.content descriptor ns octets blocks (number_at 8 8 descriptor) (staged blocks refl) (written t) (content_size (Some count) found t)) in
-        subst (λ (l : List ℕ). StandsFor device.content l (logical_blocks device.content)) (content_label (Some count) found t) stands
+        let superblock = content_superblock true found t in
+        let valid = subst (λ (n : ℕ). IsDescriptor n (block (descriptor_place 0) device.content)) (sym (content_size true found t)) (subst (λ (d : List ℕ). IsDescriptor blocks d) (sym (written t).descriptor_is) its_batch.descriptor) in
+        subst (λ (l : List ℕ). StandsFor device.content l (logical_blocks device.content)) (content_label true found t) (stands_open device.content superblock (opened t) valid)
 
-    pub replay_kept : IsKept device blocks superblock (Home 0) false (number_at 8 8 descriptor) count descriptor numbers octets
+    all_held : IsTrue device.tells → AreOpen (all_of f) device.content
+    all_held t =
+        let is : batch_in s.place device.content ≡ (held_as s).batch = batch_is f blocks its_batch.staged device.content (its_batch.written t) in
+        subst (λ (hs : List Held). AreOpen hs device.content)
+        (ap (λ (ss : List ℕ). sorted_held (held_in_places device.content ss)) (one_open device.content (content_superblock true found t) (opened t))
+        ∙ ap (λ (p : ℕ). let h : Held = record { place = p; batch = batch_in p device.content } in h ∷ []) (sym found.place)
+        ∙ ap (λ (b : Batch). let h : Held = record { place = s.place; batch = b } in h ∷ []) is)
+        (found_open device.content (part 20 128 superblock) (logical_blocks device.content) (replay_stands t))
+
+    pub replay_kept : IsKept device blocks superblock (Home 0 0) false room 0 true
     replay_kept = record {
-      size = device_size (Some count) found;
+      size = device_size true found;
       low = omega (arith, found.valid.low, found.blocks_are);
       high = omega (arith, found.valid.high, found.blocks_are);
-      superblock_size = superblock_size;
-      descriptor_size = descriptor_size;
-      numbers_size = numbers_size;
-      octets_size = octets_size;
-      few = few;
-      within = omega (arith, found.batch.0.some, found.batch.1);
-      staged = staged blocks refl;
+      superblock_size = found.superblock_size;
+      one = found.one;
+      few = omega (arith, found.one);
+      there = omega (arith, found.one);
+      place = there true found;
+      left = λ e. absurd (true≢false e);
+      within = replay_some;
+      staged = λ live t low. subst (λ (k : ℕ). IsStaged blocks (staged_at room k)) (let e : 0 ≡ t = omega (arith, low) in e) its_batch.staged;
+      order = λ e. absurd e;
       described = λ e. cc;
       told = λ t.
-          told_after descriptor ns octets (number_at 8 8 descriptor) device.content (part 20 128 superblock) (replay_stands t) (staged (home_size device.content) (content_size (Some count) found t)) device blocks (Home 0) false (content_size (Some count) found t) (opened t, written t)
-          (λ c left. same_but_equal (Touched ns (Home 0)) device.content c (found.synced t c left)) (now t) (λ runs. (opened t, written t, λ k low. absurd (omega arith)));
+          told_after f device.content (part 20 128 superblock) (replay_stands t) (subst (λ (n : ℕ). s.place < n) (sym (content_count true found t)) (there true found)) (content_count true found t) (subst (λ (b : ℕ). IsStaged b s) (sym (content_size true found t)) its_batch.staged)
+          device blocks (Home 0 0) false (content_size true found t) (all_held t)
+          (λ c left. same_but_equal (Touched f (Home 0 0)) device.content c (found.synced t c left)) (now t)
+          (λ runs. holds_first f device.content (part 20 128 superblock) (replay_stands t) (content_count true found t) (all_held t));
     }
 
 -- a journal that was found, and a run of calls from it, after calls that changed nothing
@@ -295,14 +313,14 @@ costs_none old new quiet still none t =
     plus-zero n = omega arith
 
 -- and one that was carried home after them
-pub costs_replayed : (old mid new : Device) (n : ℕ) → IsQuiet old mid → IsStill old mid → (IsTrue mid.tells → home_writes mid.content (open_segments mid.content) ≡ n) → (IsTrue mid.tells → home_syncs (open_segments mid.content) ≡ 2) → IsMore n mid.writes new.writes → IsMore 2 mid.syncs new.syncs → IsTrue old.tells → Costs 0 old.content old new
-costs_replayed old mid new n quiet still writes syncs more_writes more_syncs t =
+pub costs_replayed : (old mid new : Device) (n k : ℕ) → IsQuiet old mid → IsStill old mid → (IsTrue mid.tells → home_writes mid.content (open_segments mid.content) ≡ n) → (IsTrue mid.tells → home_syncs (open_segments mid.content) ≡ k) → IsMore n mid.writes new.writes → IsMore k mid.syncs new.syncs → IsTrue old.tells → Costs 0 old.content old new
+costs_replayed old mid new n k quiet still writes syncs more_writes more_syncs t =
     let here = subst (λ (b : Bool). IsTrue b) (sym quiet.tells) t in
     let all : home_writes old.content (open_segments old.content) ≡ n = subst (λ (x : List ℕ). home_writes x (open_segments x) ≡ n) (still.content t) (writes here) in
-    let two : home_syncs (open_segments old.content) ≡ 2 = subst (λ (x : List ℕ). home_syncs (open_segments x) ≡ 2) (still.content t) (syncs here) in
+    let both : home_syncs (open_segments old.content) ≡ k = subst (λ (x : List ℕ). home_syncs (open_segments x) ≡ k) (still.content t) (syncs here) in
     record {
-      writes = more_writes ∙ ap (λ (w : ℕ). (w + n) % 2 ^ 64) quiet.writes ∙ ap (λ (k : ℕ). (old.writes + k) % 2 ^ 64) (sym all);
-      syncs = more_syncs ∙ ap (λ (s : ℕ). (s + 2) % 2 ^ 64) still.syncs ∙ ap (λ (k : ℕ). (old.syncs + (0 + k)) % 2 ^ 64) (sym two);
+      writes = more_writes ∙ ap (λ (w : ℕ). (w + n) % 2 ^ 64) quiet.writes ∙ ap (λ (p : ℕ). (old.writes + p) % 2 ^ 64) (sym all);
+      syncs = more_syncs ∙ ap (λ (s : ℕ). (s + k) % 2 ^ 64) still.syncs ∙ ap (λ (p : ℕ). p % 2 ^ 64) (let e : old.syncs + k ≡ old.syncs + (0 + home_syncs (open_segments old.content)) = omega (arith, both) in e);
     }
 
 pub match_both : {T E : Type 0} (r : Result T E) (P P' : T → Type 0) (Q Q' : E → Type 0) → IfOk r P → IfErr r Q → ((x : T) → P x → P' x) → ((y : E) → Q y → Q' y) → MatchResult r P' Q'

@@ -1,7 +1,10 @@
 pub mod Admitted
+pub mod Batches
+pub mod Begins
 pub mod Calls
 pub mod Contents
 pub mod During
+pub mod Flights
 pub mod Found
 pub mod Idle
 pub mod Loading

@@ -1,10 +1,13 @@
 -- The device calls of a batch, and what each does.
 use Rattle.std.specs.Prelude.{◌≡◌, ◌≤◌, ℕ, ◌+◌, ◌*◌, false, true, IsTrue, List, [], ◌∷◌, length, slice_index, slice_index_or, Result, OnOk, IfOk, IfErr, MatchResult}
-use Rattle.disk.specs.Device.{Device, Elapses, IsRefused, IsSync, IsWrite, LeavesNoMore, LeavesOnly, LeftNoMore, LeftTornAt, TearsAt}
+use Rattle.disk.specs.declared.DiskError.{DiskError}
+use Rattle.disk.specs.Device.{Device, Elapses, HasCause, IsRefused, IsSync, IsWrite, LeavesNoMore, LeavesOnly, LeftNoMore, LeftTornAt, OnAsked, OnRefused, TearsAt}
 use Rattle.disk.specs.Image.{overwritten}
 use Rattle.model.specs.Volume.{descriptor_of, descriptor_place, gate_place, home_place, image_place}
-use Rattle.journal.specs.Journal.{CountsFailures, IsSameBatch, JournalView, LeavesAdmitted, LeftAdmitted, calls, with_batch}
-use Rattle.journal.specs.Order.{answer, at_fault, following}
+use Rattle.segments.specs.Held.{Held}
+use Rattle.journal.specs.Flight.{held_at}
+use Rattle.journal.specs.Journal.{CountsFailures, IsSameBatch, JournalView, LeavesAdmitted, LeftAdmitted, all_held, calls, sizes, with_batch}
+use Rattle.journal.specs.Order.{all_calls, answer, at_fault, following}
 use Rattle.journal.specs.declared.Progress.{Progress}
 use Rattle.journal.specs.declared.Progress.TheVariants.{Committed}
 use Rattle.journal.specs.declared.JournalError.{JournalError}
@@ -17,17 +20,18 @@ pub data Call : Type 0 where
   Write : ℕ → List ℕ → Call
   Sync : Call
 
--- the call that comes next, by the descriptor block, the numbers and the images of the batch (at `Idle` there is none)
-abbrev pub call_at : Next → List ℕ → List ℕ → List (List ℕ) → Call
-call_at Descriptor descriptor numbers images = Write (4096 * descriptor_place 0) descriptor
-call_at (Image i) descriptor numbers images = Write (4096 * image_place 0 i) (slice_index_or images i [])
-call_at OpenGate descriptor numbers images = Write (4096 * gate_place 0) (1 ∷ [])
-call_at (Home i) descriptor numbers images = Write (4096 * home_place 1 (slice_index numbers i)) (slice_index_or images i [])
-call_at CloseGate descriptor numbers images = Write (4096 * gate_place 0) (0 ∷ [])
-call_at next descriptor numbers images = Sync
+-- The call that comes next: among so many segments, by those that are open once the batch is committed, the place of its
+-- segment, its descriptor block and its images. At `Idle` there is none.
+abbrev pub call_at : Next → ℕ → List Held → ℕ → List ℕ → List (List ℕ) → Call
+call_at Descriptor segments held place descriptor images = Write (4096 * descriptor_place place) descriptor
+call_at (Image i) segments held place descriptor images = Write (4096 * image_place place i) (slice_index_or images i [])
+call_at OpenGate segments held place descriptor images = Write (4096 * gate_place place) (1 ∷ [])
+call_at (Home j i) segments held place descriptor images = Write (4096 * home_place segments (slice_index (held_at held j).batch.numbers i)) (slice_index_or (held_at held j).batch.images i [])
+call_at (CloseGate j) segments held place descriptor images = Write (4096 * gate_place (held_at held j).place) (0 ∷ [])
+call_at next segments held place descriptor images = Sync
 
 abbrev pub call_of : {D : Type 0} → JournalView D → Call
-call_of journal = call_at journal.next (descriptor_of journal.number journal.last journal.numbers) journal.numbers journal.images
+call_of journal = call_at journal.next journal.segments (all_held journal) journal.place (descriptor_of journal.number journal.last journal.numbers) journal.images
 
 -- exactly one write was asked, of these octets at this place
 pub record Writes {T E : Type 0} (at : ℕ) (octets : List ℕ) (result : Result T E) (old new : Device) : Type 0 where
@@ -49,6 +53,13 @@ abbrev pub Does : {T E : Type 0} → Call → Result T E → Device → Device �
 Does (Write at octets) result old new = Writes at octets result old new
 Does Sync result old new = Syncs result old new
 
+-- and by a device that may refuse it for want of memory
+pub record IsAsked {T : Type 0} (call : Call) (result : Result T DiskError) (old new : Device) : Type 0 where
+  pub does : OnAsked result (Does call result old new)
+  pub time : Elapses old new
+  pub cause : HasCause result old new
+  pub refused : OnRefused result old new
+
 -- what a good call leaves of the logical blocks: the sync that commits lays the batch over
 abbrev pub blocks_after : {D : Type 0} → JournalView D → Progress → List (List ℕ)
 blocks_after journal (Committed last) = with_batch journal
@@ -60,12 +71,12 @@ pub record MakesCall {D : Type 0} (device : D → Device) (old new : JournalView
   pub time : Elapses (device old.disk) (device new.disk)
   pub failures : CountsFailures result (device old.disk) (device new.disk)
   pub same : IsSameBatch old new
-  pub answers : IfOk result (λ progress. progress ≡ answer old.last old.next)
-  pub next : OnOk result ((new.next ≡ following (length old.numbers) old.next) × (new.halted ≡ false))
-  -- of the 2 n + 7 calls of a batch of n images, one more was made
-  pub counts : OnOk result ((calls new ≡ calls old + 1) × (calls new ≤ 2 * length old.numbers + 7))
+  pub answers : IfOk result (λ progress. progress ≡ answer old.last (sizes old) old.next)
+  pub next : OnOk result ((new.next ≡ following (length old.numbers) (sizes old) old.next) × (new.halted ≡ false))
+  -- of all calls of the batch one more was made
+  pub counts : OnOk result ((calls new ≡ calls old + 1) × (calls new ≤ all_calls (length old.numbers) (sizes old)))
   pub no_other : IfErr result (λ error. error ≡ Fault)
-  pub halts : IfErr result (λ error. error ≡ Fault → (new.halted ≡ true) × (new.next ≡ at_fault (length old.numbers) old.next))
+  pub halts : IfErr result (λ error. error ≡ Fault → (new.halted ≡ true) × (new.next ≡ at_fault (length old.numbers) (sizes old) old.next))
   pub blocks : IsTrue (device old.disk).tells → MatchResult result (λ progress. new.blocks ≡ blocks_after old progress) (λ _. new.blocks ≡ old.blocks)
   -- a crash now leaves an image that the journal admits, and so does one at any moment of the call
   pub now : LeavesAdmitted device new

@@ -1,106 +1,108 @@
 -- What the fields of a journal keep between two calls.
-use Rattle.std.specs.Prelude.{◌≡◌, ◌⊎◌, ◌<◌, ◌≤◌, ℕ, ◌*◌, Bool, true, false, IsTrue, List, length, slice_index, take, Option, is_some, IfSome}
-use Rattle.std.specs.List.{All}
+use Rattle.std.specs.Prelude.{◌≡◌, ◌⊎◌, ◌<◌, ◌≤◌, ℕ, ◌+◌, ◌*◌, Bool, true, false, IsTrue, List, [], length, drop, slice_index, slice_index_or, take, Option, is_some, IfSome}
 use Rattle.disk.specs.Device.{Device, LeavesOnly, one_more}
 use Rattle.disk.specs.Image.{part}
-use Rattle.model.specs.Volume.{gate_place, descriptor_place, image_place, home_place, descriptor_of, block, blocks_from, number_at, home_size, is_open, listed, AreDistinct, IsDescriptor, IsSuperblock, StandsFor, laid_over, logical_blocks, gate_closed}
-use Rattle.segments.specs.Images.{SameBut}
+use Rattle.model.specs.Volume.{gate_place, descriptor_place, image_place, home_place, descriptor_of, block, blocks_from, number_at, home_size, is_open, listed, segment_count, IsDescriptor, IsSuperblock, StandsFor, all_laid_over, home, laid_over, logical_blocks, gate_closed}
+use Rattle.segments.specs.Held.{AreOpen, HaveLess, Held, IsHomeOfHeld, IsHomeOnTheWay, IsWrittenIn, batches_of}
+use Rattle.segments.specs.Images.{IsCarried, IsInside, SameBut}
+use Rattle.journal.specs.Flight.{Flight, IsStaged, Staged, all_of, flight_in, held_as, held_at, left_of, sizes_of, staged_at}
 use Rattle.journal.specs.declared.Next.{Next}
 use Rattle.journal.specs.declared.Next.TheVariants.{Idle, Descriptor, Image, Seal, OpenGate, Commit, Home, Settle, CloseGate, Finish}
 
--- the logical blocks of an image, without the batch whose commit is being asked
-abbrev pub blocks_without : Next → List ℕ → List (List ℕ)
-blocks_without Commit image = logical_blocks (gate_closed 0 image)
-blocks_without next image = logical_blocks image
+-- the logical blocks of an image, without the batch in that segment whose commit is being asked
+abbrev pub blocks_without : ℕ → Next → List ℕ → List (List ℕ)
+blocks_without place Commit image = logical_blocks (gate_closed place image)
+blocks_without place next image = logical_blocks image
 
 -- an image stands for these blocks or, during the commit, for those with the batch
 abbrev pub IsAdmitted : Next → List ℕ → List (List ℕ) → List (List ℕ) → List ℕ → Type 0
 IsAdmitted next label blocks after image = StandsFor image label blocks ⊎ ((next ≡ Commit) × StandsFor image label after)
 
--- the descriptor block and the images of a batch, in memory
-pub record IsStaged (blocks : ℕ) (descriptor : List ℕ) (last : ℕ) (numbers octets : List ℕ) : Type 0 where
-  pub size : length descriptor ≡ 4096
-  pub last_is : number_at 8 8 descriptor ≡ last
-  pub count : number_at 16 4 descriptor ≡ length numbers
-  pub zero : number_at 20 4 descriptor ≡ 0
-  pub lists : listed descriptor ≡ numbers
-  pub some : 1 ≤ length numbers
-  pub few : length numbers ≤ 512
-  pub below : All (λ n. n < blocks) numbers
-  pub distinct : AreDistinct numbers
-  pub room : 4096 * length numbers ≤ length octets
-
--- they stand in the segment
-pub record IsWritten (descriptor numbers octets image : List ℕ) : Type 0 where
-  pub descriptor_is : block (descriptor_place 0) image ≡ descriptor
-  pub images_are : (k : ℕ) → k < length numbers → block (image_place 0 k) image ≡ block k octets
-
--- the first j images stand at home
-abbrev pub IsHome : ℕ → List ℕ → List ℕ → List ℕ → Type 0
-IsHome j numbers octets image = (k : ℕ) → k < j → block (home_place 1 (slice_index numbers k)) image ≡ block k octets
-
 -- what the content holds while this call comes next
-abbrev pub Holds : List ℕ → List ℕ → List ℕ → Next → List ℕ → Type 0
-Holds descriptor numbers octets Idle image = is_open 0 image ≡ false
-Holds descriptor numbers octets Descriptor image = is_open 0 image ≡ false
-Holds descriptor numbers octets (Image j) image =
-    (is_open 0 image ≡ false) × (block (descriptor_place 0) image ≡ descriptor) × ((k : ℕ) → k < j → block (image_place 0 k) image ≡ block k octets)
-Holds descriptor numbers octets Seal image = (is_open 0 image ≡ false) × IsWritten descriptor numbers octets image
-Holds descriptor numbers octets OpenGate image = (is_open 0 image ≡ false) × IsWritten descriptor numbers octets image
-Holds descriptor numbers octets Commit image = (is_open 0 image ≡ true) × IsWritten descriptor numbers octets image
-Holds descriptor numbers octets (Home j) image =
-    (is_open 0 image ≡ true) × IsWritten descriptor numbers octets image × IsHome j numbers octets image
-Holds descriptor numbers octets Settle image =
-    (is_open 0 image ≡ true) × IsWritten descriptor numbers octets image × IsHome (length numbers) numbers octets image
-Holds descriptor numbers octets CloseGate image =
-    (is_open 0 image ≡ true) × IsWritten descriptor numbers octets image × IsHome (length numbers) numbers octets image
-Holds descriptor numbers octets Finish image =
-    (is_open 0 image ≡ false) × IsWritten descriptor numbers octets image × IsHome (length numbers) numbers octets image
+abbrev pub Holds : Flight → Next → List ℕ → Type 0
+Holds flight Idle image = AreOpen (left_of flight) image
+Holds flight Descriptor image = AreOpen flight.held image × (is_open flight.batch.place image ≡ false)
+Holds flight (Image i) image =
+    AreOpen flight.held image × (is_open flight.batch.place image ≡ false)
+    × (block (descriptor_place flight.batch.place) image ≡ flight.batch.descriptor)
+    × ((k : ℕ) → k < i → block (image_place flight.batch.place k) image ≡ slice_index_or flight.batch.images k [])
+Holds flight Seal image =
+    AreOpen flight.held image × (is_open flight.batch.place image ≡ false) × IsWrittenIn flight.batch.place flight.batch.descriptor flight.batch.images image
+Holds flight OpenGate image =
+    AreOpen flight.held image × (is_open flight.batch.place image ≡ false) × IsWrittenIn flight.batch.place flight.batch.descriptor flight.batch.images image
+Holds flight Commit image =
+    AreOpen flight.held (gate_closed flight.batch.place image) × (is_open flight.batch.place image ≡ true)
+    × IsWrittenIn flight.batch.place flight.batch.descriptor flight.batch.images image
+Holds flight (Home j i) image =
+    AreOpen (all_of flight) image × ((first : List (List ℕ)) × IsHomeOnTheWay first (take j (all_of flight)) (held_at (all_of flight) j).batch i image)
+Holds flight Settle image = AreOpen (all_of flight) image × ((first : List (List ℕ)) × (home image ≡ all_laid_over first (batches_of (all_of flight))))
+Holds flight (CloseGate j) image = AreOpen (drop j (all_of flight)) image × IsCarried image
+Holds flight (Finish j) image = AreOpen (drop (j + 1) (all_of flight)) image × IsCarried image
 
 -- the blocks that were written since the last sync
-abbrev pub Touched : List ℕ → Next → ℕ → Type 0
-Touched numbers (Image j) k = (gate_place 0 < k) × (k < home_place 1 0)
-Touched numbers Seal k = (gate_place 0 < k) × (k < home_place 1 0)
-Touched numbers Commit k = k ≡ gate_place 0
-Touched numbers (Home j) k = (i : ℕ) × (i < length numbers) × (k ≡ home_place 1 (slice_index numbers i))
-Touched numbers Settle k = (i : ℕ) × (i < length numbers) × (k ≡ home_place 1 (slice_index numbers i))
-Touched numbers Finish k = k ≡ gate_place 0
-Touched numbers next k = ⊥
+abbrev pub Touched : Flight → Next → ℕ → Type 0
+Touched flight (Image i) k = IsInside flight.batch.place k
+Touched flight Seal k = IsInside flight.batch.place k
+Touched flight Commit k = k ≡ gate_place flight.batch.place
+Touched flight (Home j i) k = IsHomeOfHeld flight.segments (all_of flight) k
+Touched flight Settle k = IsHomeOfHeld flight.segments (all_of flight) k
+Touched flight (Finish j) k = k ≡ gate_place (held_at (all_of flight) j).place
+Touched flight next k = ⊥
 
--- a batch is in flight, unless no call comes next
-abbrev pub InFlight : Next → Type 0 → Type 0
-InFlight Idle P = Unit {0}
-InFlight next P = P
+-- what comes next is one of the n images, or of those that are carried home
+abbrev pub IsWithin : ℕ → List ℕ → Next → Type 0
+IsWithin n sizes (Image i) = i < n
+IsWithin n sizes (Home j i) = (j < length sizes) × (i < slice_index sizes j)
+IsWithin n sizes Settle = 0 < length sizes
+IsWithin n sizes (CloseGate j) = j < length sizes
+IsWithin n sizes (Finish j) = j < length sizes
+IsWithin n sizes next = Unit {0}
 
--- the image that comes next is one of the n
-abbrev pub IsWithin : ℕ → Next → Type 0
-IsWithin n (Image j) = j < n
-IsWithin n (Home j) = j < n
-IsWithin n next = Unit {0}
+-- the batch is still to be committed, or it lies in an open segment, to be carried home with a later one
+abbrev pub IsOrdered : Bool → Next → Type 0
+IsOrdered is_last Idle = is_last ≡ false
+IsOrdered is_last Descriptor = Unit {0}
+IsOrdered is_last (Image i) = Unit {0}
+IsOrdered is_last Seal = Unit {0}
+IsOrdered is_last OpenGate = Unit {0}
+IsOrdered is_last Commit = Unit {0}
+IsOrdered is_last next = ⊥
+
+-- the segments in memory matter, unless all were carried home
+abbrev pub IsLive : Bool → Next → Type 0
+IsLive is_last Idle = is_last ≡ false
+IsLive is_last next = Unit {0}
 
 -- what the journal knows of a device that tells its octets
-pub record IsTold (device : Device) (blocks : ℕ) (its_label : List ℕ) (next : Next) (halted : Bool) (descriptor numbers octets : List ℕ) : Type 0 where
+pub record IsTold (device : Device) (blocks : ℕ) (its_label : List ℕ) (next : Next) (halted : Bool) (flight : Flight) : Type 0 where
   pub stands : StandsFor device.content its_label (logical_blocks device.content)
   pub size : home_size device.content ≡ blocks
-  pub admits : (c : List ℕ) → device.may_leave c → IsAdmitted next its_label (blocks_without next device.content) (laid_over (blocks_without next device.content) numbers (blocks_from 0 (length numbers) octets)) c
-  pub holds : halted ≡ false → Holds descriptor numbers octets next device.content
-  pub same : halted ≡ false → (c : List ℕ) → device.may_leave c → SameBut (Touched numbers next) device.content c
+  pub count : segment_count device.content ≡ flight.segments
+  pub admits : (c : List ℕ) → device.may_leave c
+      → IsAdmitted next its_label (blocks_without flight.batch.place next device.content) (laid_over (blocks_without flight.batch.place next device.content) flight.batch.numbers flight.batch.images) c
+  pub holds : halted ≡ false → Holds flight next device.content
+  pub same : halted ≡ false → (c : List ℕ) → device.may_leave c → SameBut (Touched flight next) device.content c
 
--- what the journal keeps
-pub record IsKept (device : Device) (blocks : ℕ) (superblock : List ℕ) (next : Next) (halted : Bool) (last count : ℕ) (descriptor numbers octets : List ℕ) : Type 0 where
-  pub size : device.size ≡ 4096 * home_place 1 blocks
+-- What the journal keeps. Of its segments in memory the one with the index `filled` is that of the batch in flight, and
+-- those before it are the open ones.
+pub record IsKept (device : Device) (blocks : ℕ) (superblock : List ℕ) (next : Next) (halted : Bool) (room : List Staged) (filled : ℕ) (is_last : Bool) : Type 0 where
+  pub size : device.size ≡ 4096 * home_place (length room) blocks
   pub low : 1024 ≤ blocks
   pub high : blocks ≤ 65536
   pub superblock_size : length superblock ≡ 4096
-  pub descriptor_size : length descriptor ≡ 4096
-  pub numbers_size : length numbers ≡ 512
-  pub octets_size : length octets ≡ 2097152
-  pub few : count ≤ 512
-  pub within : IsWithin count next
-  pub staged : InFlight next (IsStaged blocks descriptor last (take count numbers) octets)
+  pub one : length room ≡ 1
+  pub few : length room ≤ 8
+  pub there : filled < length room
+  pub place : (staged_at room filled).place < length room
+  pub left : is_last ≡ false → filled + 1 < length room
+  pub within : IsWithin (length (staged_at room filled).numbers) (sizes_of (flight_in room filled is_last)) next
+  pub staged : IsLive is_last next → (t : ℕ) → t ≤ filled → IsStaged blocks (staged_at room t)
+  -- until all are carried home the open segments are the first ones, with the batch numbers from 1 on
+  pub order : IsOrdered is_last next → (t : ℕ) → t ≤ filled → ((staged_at room t).place ≡ t) × (number_at 0 8 (staged_at room t).descriptor ≡ t + 1)
   -- a descriptor that is still to be written has zeros behind its numbers
-  pub described : next ≡ Descriptor → descriptor ≡ descriptor_of (number_at 0 8 descriptor) last (take count numbers)
-  pub told : IsTrue device.tells → IsTold device blocks (part 20 128 superblock) next halted descriptor (take count numbers) octets
+  pub described : next ≡ Descriptor
+      → (staged_at room filled).descriptor ≡ descriptor_of (number_at 0 8 (staged_at room filled).descriptor) (number_at 8 8 (staged_at room filled).descriptor) (staged_at room filled).numbers
+  pub told : IsTrue device.tells → IsTold device blocks (part 20 128 superblock) next halted (flight_in room filled is_last)
 
 -- calls that change nothing but the time: a crash leaves nothing that it could not have left before
 pub record IsQuiet (old new : Device) : Type 0 where
@@ -123,20 +125,47 @@ pub record IsSynced (old new : Device) : Type 0 where
   pub failures : new.failures ≡ old.failures
   pub syncs : new.syncs ≡ one_more old.syncs
 
--- the first images of the segment are in memory
-abbrev pub AreLoaded : ℕ → List ℕ → List ℕ → Type 0
-AreLoaded n image octets = (k : ℕ) → k < n → block (image_place 0 k) image ≡ block k octets
+-- the room of a segment
+pub record HasRoom (count : ℕ) (descriptor numbers octets : List ℕ) : Type 0 where
+  pub descriptor_size : length descriptor ≡ 4096
+  pub numbers_size : length numbers ≡ 512
+  pub octets_size : length octets ≡ 2097152
+  pub few : count ≤ 512
+
+-- a segment that took a batch
+pub record IsTaken (place number last : ℕ) (numbers octets : List ℕ) (s : Staged) : Type 0 where
+  pub place_is : s.place ≡ place
+  pub size : length s.descriptor ≡ 4096
+  pub descriptor_is : s.descriptor ≡ descriptor_of number last numbers
+  pub number_is : number_at 0 8 s.descriptor ≡ number
+  pub last_is : number_at 8 8 s.descriptor ≡ last
+  pub count : number_at 16 4 s.descriptor ≡ length numbers
+  pub zero : number_at 20 4 s.descriptor ≡ 0
+  pub lists : listed s.descriptor ≡ numbers
+  pub numbers_are : s.numbers ≡ numbers
+  pub images_are : s.images ≡ blocks_from 0 (length numbers) octets
+
+-- the first images of a segment are in memory
+abbrev pub AreLoaded : ℕ → ℕ → List ℕ → List ℕ → Type 0
+AreLoaded place n image octets = (k : ℕ) → k < n → block (image_place place k) image ≡ block k octets
+
+-- a segment in memory is the one in that place
+pub record IsReadFrom (device : Device) (blocks : ℕ) (s : Staged) : Type 0 where
+  pub staged : IsStaged blocks s
+  pub descriptor : IsDescriptor blocks s.descriptor
+  pub written : IsTrue device.tells → IsWrittenIn s.place s.descriptor s.images device.content
 
 -- what an opening reads, before it writes anything: the superblock, and the batch of the segment where that is open
-pub record IsFound (device : Device) (superblock descriptor numbers octets : List ℕ) (blocks : ℕ) (count : Option ℕ) : Type 0 where
+pub record IsFound (device : Device) (superblock : List ℕ) (blocks : ℕ) (room : List Staged) (is_found : Bool) : Type 0 where
   pub valid : IsSuperblock superblock device.size
   pub blocks_are : number_at 12 4 superblock ≡ blocks
+  pub superblock_size : length superblock ≡ 4096
   pub superblock_is : IsTrue device.tells → superblock ≡ block 0 device.content
   pub synced : IsTrue device.tells → LeavesOnly device device.content
-  pub gate : IsTrue device.tells → is_some count ≡ is_open 0 device.content
-  pub batch : IfSome count (λ n. IsDescriptor blocks descriptor × (number_at 16 4 descriptor ≡ n) × (take n numbers ≡ listed descriptor))
-  pub descriptor_is : IsTrue device.tells → IfSome count (λ n. descriptor ≡ block (descriptor_place 0) device.content)
-  pub images_are : IsTrue device.tells → IfSome count (λ n. AreLoaded n device.content octets)
+  pub one : length room ≡ 1
+  pub place : (staged_at room 0).place ≡ 0
+  pub gate : IsTrue device.tells → is_found ≡ is_open 0 device.content
+  pub read : is_found ≡ true → IsReadFrom device blocks (staged_at room 0)
 
 -- a crash since an earlier time might have left what it might have left before, or the volume with a label and blocks
 abbrev pub LeftAs : Device → Device → List ℕ → List (List ℕ) → Type 0

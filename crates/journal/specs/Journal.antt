@@ -1,7 +1,9 @@
 -- The journal as those who use it see it, and what a crash leaves of it.
-use Rattle.std.specs.Prelude.{◌≡◌, ◌≢◌, ◌⊎◌, ℕ, ◌≤◌, Bool, false, IsTrue, List, length, Result, OnOk, IfErr}
+use Rattle.std.specs.Prelude.{◌≡◌, ◌≢◌, ◌⊎◌, ℕ, ◌+◌, ◌≤◌, ◌==◌, Bool, false, if◌then◌else◌, IsTrue, List, [], ◌∷◌, ◌++◌, length, Result, OnOk, IfErr}
 use Rattle.std.specs.List.{All}
 use Rattle.disk.specs.Device.{Device}
+use Rattle.segments.specs.Held.{Held}
+use Rattle.journal.specs.Flight.{counts_of}
 use Rattle.journal.specs.Inside.{IsAdmitted}
 use Rattle.journal.specs.Order.{calls_made}
 use Rattle.model.specs.Volume.{StandsFor, laid_over}
@@ -14,19 +16,25 @@ use Rattle.journal.specs.declared.Next.TheVariants.{Descriptor, Idle}
 pub record JournalView (D : Type 0) : Type 0 where
   pub disk : D
   pub label : List ℕ
-  -- how many logical blocks there are
+  -- how many logical blocks there are, and how many segments
   pub size : ℕ
+  pub segments : ℕ
   -- the logical blocks, without the batch in flight until it is committed
   pub blocks : List (List ℕ)
   -- the device call that comes next
   pub next : Next
   -- a device call has failed
   pub halted : Bool
-  -- the batch in flight: its number, its last serial, and its images by their numbers
+  -- the segments that were open when the batch in flight began, in rising number
+  pub held : List Held
+  -- that batch: the place of its segment, its number, its last serial, and its images by their numbers
+  pub place : ℕ
   pub number : ℕ
   pub last : ℕ
   pub numbers : List ℕ
   pub images : List (List ℕ)
+  -- whether no closed segment is left besides
+  pub is_last : Bool
 
 -- no batch is in flight, and a batch may begin
 abbrev pub IsIdle : {D : Type 0} → JournalView D → Type 0
@@ -35,13 +43,35 @@ IsIdle journal = journal.next ≡ Idle
 abbrev pub IsReady : {D : Type 0} → JournalView D → Type 0
 IsReady journal = (journal.halted ≡ false) × IsIdle journal
 
--- a journal that takes a batch
+-- the segments that are open once the batch in flight is committed
+abbrev pub all_held : {D : Type 0} → JournalView D → List Held
+all_held journal = journal.held ++ record { place = journal.place; batch = record { number = journal.number; last = journal.last; numbers = journal.numbers; images = journal.images } } ∷ []
+
+-- those that are open while no batch is in flight
+abbrev pub still_open : {D : Type 0} → JournalView D → List Held
+still_open journal = if journal.is_last then [] else all_held journal
+
+-- how many images of each open segment are to be carried home after the commit: none where a closed one is left
+abbrev pub sizes : {D : Type 0} → JournalView D → List ℕ
+sizes journal = if journal.is_last then counts_of (all_held journal) else []
+
+-- A journal that takes a batch, into the lowest closed segment. Those that are open are the first ones, and have the
+-- batch numbers from 1 on.
 abbrev pub begins : {D : Type 0} → JournalView D → ℕ → List ℕ → List (List ℕ) → JournalView D
-begins journal last numbers images = record journal { next = Descriptor; number = 1; last = last; numbers = numbers; images = images }
+begins journal last numbers images = record journal {
+  next = Descriptor;
+  held = still_open journal;
+  place = length (still_open journal);
+  number = length (still_open journal) + 1;
+  last = last;
+  numbers = numbers;
+  images = images;
+  is_last = length (still_open journal) + 1 == journal.segments;
+}
 
 -- how many device calls of the batch in flight were made
 abbrev pub calls : {D : Type 0} → JournalView D → ℕ
-calls journal = calls_made (length journal.numbers) journal.next
+calls journal = calls_made (length journal.numbers) (sizes journal) journal.next
 
 -- the logical blocks with the batch in flight laid over
 abbrev pub with_batch : {D : Type 0} → JournalView D → List (List ℕ)
@@ -74,10 +104,14 @@ HasWholeBlocks device journal = IsTrue (device journal.disk).tells → AreWhole 
 pub record IsSameBatch {D : Type 0} (old new : JournalView D) : Type 0 where
   pub label : new.label ≡ old.label
   pub size : new.size ≡ old.size
+  pub segments : new.segments ≡ old.segments
+  pub held : new.held ≡ old.held
+  pub place : new.place ≡ old.place
   pub number : new.number ≡ old.number
   pub last : new.last ≡ old.last
   pub numbers : new.numbers ≡ old.numbers
   pub images : new.images ≡ old.images
+  pub is_last : new.is_last ≡ old.is_last
 
 -- `Ok` leaves the device's count of failures, and a fault changes it
 pub record CountsFailures {T : Type 0} (result : Result T JournalError) (old new : Device) : Type 0 where

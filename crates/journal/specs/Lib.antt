@@ -1,4 +1,5 @@
 pub mod Calls
+pub mod Flight
 pub mod Inside
 pub mod Journal
 pub mod Opening

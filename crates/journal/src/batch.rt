@@ -1,20 +1,24 @@
 //! A batch goes into memory: its descriptor block, its numbers and its images.
 
-ghost use Rattle.std.specs.Prelude.{◌≡◌, ◌≤◌, ◌<◌, ◌+◌, ◌*◌, ◌++◌, ℕ, length, drop, replicate, false};
+ghost use Rattle.std.specs.Prelude.{◌≡◌, ◌≢◌, ◌≤◌, ◌<◌, ◌+◌, ◌*◌, ◌==◌, if◌then◌else◌, ℕ, length, false};
 ghost use Rattle.std.specs.List.{All};
-ghost use Rattle.model.specs.Volume.{AreDistinct, blocks_from, number_at, listed, descriptor_of};
+ghost use Rattle.model.specs.Volume.{AreDistinct, blocks_from};
+ghost use Rattle.journal.specs.Flight.{staged_at};
+ghost use Rattle.journal.specs.Inside.{IsTaken};
 
+use crate::segment::Segment;
 use crate::{Journal, Next};
 use disk::Disk;
-use volume_format::describe_batch;
-use volume_format::layout::FIRST_NUMBER;
 
 impl<D: Disk> Journal<D> {
-    ghost use Rattle.journal.specs.Journal.{IsIdle, LeavesAdmitted};
+    ghost use Rattle.journal.specs.Journal.{IsIdle, LeavesAdmitted, still_open};
 
     /// Takes a batch into the room that `open` made: images of the logical blocks with these numbers, in this order.
     /// Each later `step` makes one device call for it. `last` is what the step that commits will answer. There are 1 to 512
     /// distinct numbers, and 4,096 octets for each image. It takes no memory and makes no device call.
+    ///
+    /// The batch is for the lowest closed segment, and its number is one more than the greatest of an open one, or 1: those
+    /// that are open are always the first ones, with the numbers from 1 on.
     pub fn begin(&mut self, last: u64, numbers: &[u32], images: &[u8])
         requires running { self.old.halted ≡ false }
         requires idle { IsIdle self.old }
@@ -27,37 +31,51 @@ impl<D: Disk> Journal<D> {
         ensures disk { self.new.disk ≡ self.old.disk }
         ensures label { self.new.label ≡ self.old.label }
         ensures size { self.new.size ≡ self.old.size }
+        ensures segments { self.new.segments ≡ self.old.segments }
         ensures blocks { self.new.blocks ≡ self.old.blocks }
         ensures running { self.new.halted ≡ false }
         ensures next { self.new.next ≡ Next.Descriptor }
-        ensures number { self.new.number ≡ 1 }
+        ensures held { self.new.held ≡ still_open self.old }
+        ensures place { self.new.place ≡ length (still_open self.old) }
+        ensures number { self.new.number ≡ length (still_open self.old) + 1 }
         ensures last { self.new.last ≡ last }
         ensures numbers { self.new.numbers ≡ numbers.now }
         ensures images { self.new.images ≡ blocks_from 0 (length numbers.now) images.now }
+        ensures is_last { self.new.is_last ≡ (length (still_open self.old) + 1 == self.old.segments) }
         ensures now { LeavesAdmitted D.device self.new }
     {
-        let count = numbers.len();
-        describe_batch(&mut self.segment.descriptor, FIRST_NUMBER, last, numbers);
-        put_front(&mut self.segment.numbers, numbers);
-        put_front(&mut self.segment.images, images);
-        self.segment.last = last;
-        self.segment.count = count;
+        let filled = lowest_closed(self.is_last, self.filled);
+        fill(&mut self.room, filled, last, numbers, images);
+        self.is_last = is_last_of(&self.room, filled);
+        self.filled = filled;
         self.next = Next::Descriptor;
     }
 }
 
-// Copies items over the front of a room for them.
-fn put_front<T: Copy>(room: &mut Vec<T>, items: &[T])
-    requires { length items.now ≤ length room.old.items }
-    ensures { room.new.items ≡ items.now ++ drop (length items.now) room.old.items }
+// Where no batch is in flight: after a checkpoint all segments are closed, else those behind the one that was filled.
+fn lowest_closed(was_last: bool, filled: usize) -> usize
+    requires { filled < 8 }
+    ensures { result ≡ (if was_last then 0 else filled + 1) }
 {
-    put_first(room.as_mut_slice(), items);
+    if was_last { 0 } else { filled + 1 }
 }
 
-fn put_first<T: Copy>(room: &mut [T], items: &[T])
-    requires { length items.now ≤ length room.old }
-    ensures { room.new ≡ items.now ++ drop (length items.now) room.old }
+fn is_last_of(room: &Vec<Segment>, filled: usize) -> bool
+    requires { filled < 8 }
+    ensures { result ≡ (filled + 1 == length room.now.items) }
 {
-    let size = items.len();
-    room[..size].copy_from_slice(items);
+    filled + 1 == room.len()
+}
+
+// Puts a batch into the segment with this index: that is its place, and its number is one more.
+fn fill(room: &mut Vec<Segment>, at: usize, last: u64, numbers: &[u32], images: &[u8])
+    requires there { at < length room.old.items }
+    requires low { at < 8 }
+    requires few { length numbers.now ≤ 512 }
+    requires images { length images.now ≡ 4096 * length numbers.now }
+    ensures count { length room.new.items ≡ length room.old.items }
+    ensures others { (t : ℕ) → t ≢ at → staged_at room.new.items t ≡ staged_at room.old.items t }
+    ensures taken { IsTaken at (at + 1) last numbers.now images.now (staged_at room.new.items at) }
+{
+    room[at].take_batch(at as u32, at as u64 + 1, last, numbers, images);
 }

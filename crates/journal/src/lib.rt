@@ -4,15 +4,18 @@
 
 mod batch;
 mod opening;
+mod reading;
+mod segment;
 mod stepping;
 
 ghost use Rattle.std.specs.Prelude.{◌≡◌, ◌≢◌, ◌≤◌, ◌<◌, ◌↔◌, ℕ, List, length, true, false, OnOk, IfErr, IsTrue};
 
 use disk::{Disk, DiskCall, Faults};
+use segment::Segment;
 use std::marker::Model;
 pub use stepping::each_call_is_the_next;
 use thiserror::Error;
-use volume_format::layout::{LABEL_AT, SEGMENTS, SUPERBLOCK_USED, home_block, start_of};
+use volume_format::layout::{LABEL_AT, SUPERBLOCK_USED, home_block, start_of};
 pub use volume_format::{FormatError, format};
 
 /// The device call that comes next.
@@ -25,14 +28,16 @@ pub enum Next {
     /// The sync after descriptor and images.
     Seal,
     OpenGate,
-    /// The sync that commits.
+    /// The sync that commits. Where a closed segment is left, the batch ends with it.
     Commit,
-    Home(usize),
+    /// An image of one of the open segments, which are counted from 0 in rising batch number.
+    Home(usize, usize),
     /// The sync after the home writes.
     Settle,
-    CloseGate,
-    /// The sync that ends the batch.
-    Finish,
+    /// The gate of one of the open segments.
+    CloseGate(usize),
+    /// The sync after it. The last one ends the batch.
+    Finish(usize),
 }
 
 /// What a step did.
@@ -62,16 +67,6 @@ pub enum JournalError {
     Halted,
 }
 
-// What a segment holds, in memory: the descriptor block, and the numbers and images of its batch.
-#[derive(Drop)]
-struct Segment {
-    last: u64,
-    count: usize,
-    descriptor: Vec<u8>,
-    numbers: Vec<u32>,
-    images: Vec<u8>,
-}
-
 /// A journal over a device.
 #[derive(Drop)]
 pub struct Journal<D: Disk> {
@@ -80,13 +75,19 @@ pub struct Journal<D: Disk> {
     blocks: u64,
     next: Next,
     halted: bool,
-    segment: Segment,
+    // one for each of the volume's; those that are open come first, in rising batch number
+    room: Vec<Segment>,
+    // the index of the one that the batch in flight is written into
+    filled: usize,
+    // whether no closed one is left besides
+    is_last: bool,
 }
 
 impl<D: Disk> Model for Journal<D> {
-    ghost use Rattle.std.specs.Prelude.{take, length};
+    ghost use Rattle.std.specs.Prelude.{length, map, take};
     ghost use Rattle.disk.specs.Image.{part};
-    ghost use Rattle.model.specs.Volume.{blocks_from, number_at};
+    ghost use Rattle.model.specs.Volume.{number_at};
+    ghost use Rattle.journal.specs.Flight.{held_as, staged_at};
     ghost use Rattle.journal.specs.Inside.{IsKept, blocks_without};
     ghost use Rattle.journal.specs.Journal.{JournalView};
 
@@ -96,16 +97,20 @@ impl<D: Disk> Model for Journal<D> {
       disk = j.disk;
       label = part 20 128 j.superblock.items;
       size = j.blocks;
-      blocks = blocks_without j.next (D.device j.disk).content;
+      segments = length j.room.items;
+      blocks = blocks_without (staged_at j.room.items j.filled).place j.next (D.device j.disk).content;
       next = j.next;
       halted = j.halted;
-      number = number_at 0 8 j.segment.descriptor.items;
-      last = j.segment.last;
-      numbers = take j.segment.count j.segment.numbers.items;
-      images = blocks_from 0 (length (take j.segment.count j.segment.numbers.items)) j.segment.images.items;
+      held = map held_as (take j.filled j.room.items);
+      place = (staged_at j.room.items j.filled).place;
+      number = number_at 0 8 (staged_at j.room.items j.filled).descriptor;
+      last = number_at 8 8 (staged_at j.room.items j.filled).descriptor;
+      numbers = (staged_at j.room.items j.filled).numbers;
+      images = (staged_at j.room.items j.filled).images;
+      is_last = j.is_last;
     } };
 
-    ghost invariant = { λ j. IsKept (D.device j.disk) j.blocks j.superblock.items j.next j.halted j.segment.last j.segment.count j.segment.descriptor.items j.segment.numbers.items j.segment.images.items };
+    ghost invariant = { λ j. IsKept (D.device j.disk) j.blocks j.superblock.items j.next j.halted j.room.items j.filled j.is_last };
 }
 
 /// A refused opening, with the device as it was left.
@@ -134,7 +139,7 @@ impl<D: Disk> Journal<D> {
         ensures size { result ≡ self.now.size }
         ensures low { 1024 ≤ result }
         ensures high { result ≤ 65536 }
-        ensures device { (D.device self.now.disk).size ≡ 4096 * home_place 1 result }
+        ensures device { (D.device self.now.disk).size ≡ 4096 * home_place self.now.segments result }
     {
         self.blocks
     }
@@ -172,7 +177,10 @@ impl<D: Disk> Journal<D> {
         ensures now { LeavesAdmitted D.device self.new }
         ensures since { LeftAdmitted D.device self.old self.new }
     {
-        match self.disk.read(start_of(home_block(SEGMENTS, block)), into) {
+        match self
+            .disk
+            .read(start_of(home_block(self.room.len() as u32, block)), into)
+        {
             Ok(()) => Ok(()),
             Err(_) => {
                 self.halted = true;

@@ -1,22 +1,22 @@
 //! One device call after another.
 
-ghost use Rattle.std.specs.Prelude.{◌≡◌, ◌≢◌, ◌≤◌, ◌<◌, ◌+◌, ◌*◌, ◌⊎◌, ℕ, length, take, slice_index, true, false, OnOk, IfErr, IsTrue, if◌then◌else◌};
-ghost use Rattle.disk.specs.Device.{Elapses, HasCause, OnAsked, OnRefused};
-ghost use Rattle.model.specs.Volume.{blocks_from, home_place};
+ghost use Rattle.std.specs.Prelude.{◌≡◌, ◌≢◌, ◌≤◌, ◌<◌, ◌+◌, ◌*◌, ◌⊎◌, ◌==◌, ◌^◌, ℕ, List, length, [], ◌∷◌, slice_index, slice_index_or, sum, true, false, OnOk, IfErr, IsTrue, if◌then◌else◌};
+ghost use Rattle.model.specs.Volume.{descriptor_place, gate_place, home_place, image_place};
+ghost use Rattle.journal.specs.Flight.{all_of, flight_in, sizes_of, staged_at};
 ghost use Rattle.journal.specs.Inside.{IsWithin};
-ghost use Rattle.journal.specs.Order.{following, calls_made, writes_made, syncs_made, is_sync, at_fault, answer};
+ghost use Rattle.journal.specs.Order.{all_calls, following, calls_made, writes_made, syncs_made, is_sync, at_fault, answer};
 ghost use Rattle.journal.specs.Opening.{IsMore};
-ghost use Rattle.journal.specs.Calls.{Does, call_at};
+ghost use Rattle.journal.specs.Calls.{Call, IsAsked, call_at};
 
-use crate::{Journal, JournalError, Next, Progress, Segment};
+use crate::segment::Segment;
+use crate::{Journal, JournalError, Next, Progress};
 use disk::{Disk, DiskError};
 use volume_format::layout::{
-    CLOSED, OPEN, SEGMENTS, block_at, descriptor_block, gate_block, home_block, image_block,
-    start_of,
+    CLOSED, OPEN, descriptor_block, gate_block, home_block, image_block, start_of,
 };
 
 impl<D: Disk> Journal<D> {
-    ghost use Rattle.journal.specs.Journal.{IsCaused, IsDuring, IsIdle, LeavesAdmitted, LeftAdmitted};
+    ghost use Rattle.journal.specs.Journal.{IsCaused, IsDuring, IsIdle, LeavesAdmitted, LeftAdmitted, sizes};
     ghost use Rattle.journal.specs.Calls.{IsRetried, MakesCall, OnMade, OnRetried};
 
     /// Makes the next device call of the batch in flight, and no other. None is made when idle or halted.
@@ -42,13 +42,14 @@ impl<D: Disk> Journal<D> {
             return Ok(Progress::Idle);
         }
         let asked = self.next;
-        match ask(&mut self.disk, asked, &self.segment) {
+        match ask(&mut self.disk, asked, &self.room, self.filled) {
             Ok(()) => {
-                self.next = call_after(asked, self.segment.count);
-                Ok(answer_to(asked, self.segment.last))
+                self.next = call_after(asked, &self.room, self.filled, self.is_last);
+                let last = segment_at(&self.room, self.filled).last();
+                Ok(answer_to(asked, last, self.filled))
             }
             Err(DiskError::Fault) => {
-                self.next = call_at_fault(asked, self.segment.count);
+                self.next = call_at_fault(asked, &self.room, self.filled, self.is_last);
                 self.halted = true;
                 Err(JournalError::Fault)
             }
@@ -58,12 +59,12 @@ impl<D: Disk> Journal<D> {
 
     // Steps until the batch in flight has ended, from its first home write on.
     pub(crate) fn carry_home(&mut self) -> Result<(), JournalError>
-        requires next { self.old.next ≡ Next.Home 0 }
+        requires next { self.old.next ≡ Next.Home 0 0 }
         requires running { self.old.halted ≡ false }
-        requires some { 1 ≤ length self.old.numbers }
+        requires some { (0 < length (sizes self.old)) × (0 < slice_index (sizes self.old) 0) }
         requires now { LeavesAdmitted D.device self.old }
         ensures during { IsDuring D.device self.old self.new }
-        ensures cost { OnOk result (IsMore (length self.old.numbers + 1) (D.device self.old.disk).writes (D.device self.new.disk).writes × IsMore 2 (D.device self.old.disk).syncs (D.device self.new.disk).syncs) }
+        ensures cost { OnOk result (IsMore (sum (sizes self.old) + length (sizes self.old)) (D.device self.old.disk).writes (D.device self.new.disk).writes × IsMore (1 + length (sizes self.old)) (D.device self.old.disk).syncs (D.device self.new.disk).syncs) }
         ensures ok { OnOk result ((self.new.next ≡ Next.Idle) × (self.new.halted ≡ false) × ((D.device self.new.disk).failures ≡ (D.device self.old.disk).failures)) }
         ensures cause { IfErr result (λ error. IsCaused error (D.device self.old.disk) (D.device self.new.disk)) }
     {
@@ -74,15 +75,16 @@ impl<D: Disk> Journal<D> {
     }
 }
 
-/// Where the calls of a batch of n images stand: each is the next one, the sync that commits is call n + 4 and
-/// the one that ends the batch call 2 n + 7.
+/// Where the calls of a batch of n images stand: each is the next one, and the sync that commits is call n + 4. Where a closed
+/// segment is left that one ends the batch, after n + 2 writes and 2 syncs. Else, where the open segments have so many images
+/// to be carried home, it ends at call n + 5 with one more for each image and two more for each gate.
 pub fn each_call_is_the_next()
-    ensures next { (n : ℕ) (next : Next) → next ≢ Next.Idle → calls_made n (following n next) ≡ calls_made n next + 1 }
-    ensures writes { (n : ℕ) (next : Next) → next ≢ Next.Idle → writes_made n (following n next) ≡ (if is_sync next then writes_made n next else writes_made n next + 1) }
-    ensures syncs { (n : ℕ) (next : Next) → next ≢ Next.Idle → syncs_made (following n next) ≡ (if is_sync next then syncs_made next + 1 else syncs_made next) }
-    ensures cost { (n : ℕ) → (writes_made n (following n Next.Commit) ≡ n + 2) × (syncs_made (following n Next.Commit) ≡ 2) }
-    ensures committed { (n : ℕ) → calls_made n (following n Next.Commit) ≡ n + 4 }
-    ensures ended { (n : ℕ) → calls_made n (following n Next.Finish) ≡ 2 * n + 7 }
+    ensures next { (n : ℕ) (sizes : List ℕ) (next : Next) → next ≢ Next.Idle → calls_made n sizes (following n sizes next) ≡ calls_made n sizes next + 1 }
+    ensures writes { (n : ℕ) (sizes : List ℕ) (next : Next) → next ≢ Next.Idle → writes_made n sizes (following n sizes next) ≡ (if is_sync next then writes_made n sizes next else writes_made n sizes next + 1) }
+    ensures syncs { (n : ℕ) (sizes : List ℕ) (next : Next) → next ≢ Next.Idle → syncs_made sizes (following n sizes next) ≡ (if is_sync next then syncs_made sizes next + 1 else syncs_made sizes next) }
+    ensures cost { (n : ℕ) (sizes : List ℕ) → (writes_made n sizes (following n sizes Next.Commit) ≡ n + 2) × (syncs_made sizes (following n sizes Next.Commit) ≡ 2) }
+    ensures committed { (n : ℕ) (sizes : List ℕ) → calls_made n sizes (following n sizes Next.Commit) ≡ n + 4 }
+    ensures ended { (n : ℕ) (sizes : List ℕ) → 0 < length sizes → calls_made n sizes Next.Idle ≡ n + 5 + sum sizes + 2 * length sizes }
 {}
 
 pub(crate) fn is_idle(next: Next) -> bool
@@ -96,78 +98,190 @@ pub(crate) fn is_idle(next: Next) -> bool
 }
 
 // Makes the call that comes next. Every device call of a batch is made here.
-fn ask<D: Disk>(disk: &mut D, next: Next, segment: &Segment) -> Result<(), DiskError>
+fn ask<D: Disk>(
+    disk: &mut D,
+    next: Next,
+    room: &Vec<Segment>,
+    filled: usize,
+) -> Result<(), DiskError>
     requires flies { next ≢ Next.Idle }
-    requires within { IsWithin segment.now.count next }
-    requires size { 4096 * home_place 1 0 ≤ (D.device disk.old).size }
-    requires home { (i : ℕ) → next ≡ Next.Home i → 4096 * home_place 1 (slice_index segment.now.numbers.items i) + 4096 ≤ (D.device disk.old).size }
-    requires descriptor { length segment.now.descriptor.items ≡ 4096 }
-    requires numbers { length segment.now.numbers.items ≡ 512 }
-    requires images { length segment.now.images.items ≡ 2097152 }
-    requires few { segment.now.count ≤ 512 }
-    ensures does { OnAsked result (Does (call_at next segment.now.descriptor.items (take segment.now.count segment.now.numbers.items) (blocks_from 0 (length (take segment.now.count segment.now.numbers.items)) segment.now.images.items)) result (D.device disk.old) (D.device disk.new)) }
-    ensures time { Elapses (D.device disk.old) (D.device disk.new) }
-    ensures cause { HasCause result (D.device disk.old) (D.device disk.new) }
-    ensures refused { OnRefused result (D.device disk.old) (D.device disk.new) }
+    requires there { filled < length room.now.items }
+    requires few { length room.now.items ≤ 8 }
+    requires size { 4096 * home_place (length room.now.items) 0 ≤ (D.device disk.old).size }
+    requires place { (staged_at room.now.items filled).place < length room.now.items }
+    requires image { (i : ℕ) → next ≡ Next.Image i → i < length (staged_at room.now.items filled).numbers }
+    requires carried { (j i : ℕ) → next ≡ Next.Home j i → (j ≤ filled) × (i < length (staged_at room.now.items j).numbers) }
+    requires home { (j i : ℕ) → next ≡ Next.Home j i → 4096 * home_place (length room.now.items) (slice_index (staged_at room.now.items j).numbers i) + 4096 ≤ (D.device disk.old).size }
+    requires gate { (j : ℕ) → next ≡ Next.CloseGate j → (j ≤ filled) × ((staged_at room.now.items j).place < length room.now.items) }
+    ensures asked { IsAsked (call_at next (length room.now.items) (all_of (flight_in room.now.items filled true)) (staged_at room.now.items filled).place (staged_at room.now.items filled).descriptor (staged_at room.now.items filled).images) result (D.device disk.old) (D.device disk.new) }
     ensures memory { IfErr result (λ error. error ≡ DiskError.Memory → IsTrue D.grows) }
 {
     match next {
-        Next::Descriptor => disk.write(
-            start_of(descriptor_block(0)),
-            segment.descriptor.as_slice(),
-        ),
-        Next::Image(i) => disk.write(
-            start_of(image_block(0, i)),
-            block_at(segment.images.as_slice(), i),
-        ),
-        Next::OpenGate => disk.write(start_of(gate_block(0)), &[OPEN]),
-        Next::CloseGate => disk.write(start_of(gate_block(0)), &[CLOSED]),
-        Next::Home(i) => {
-            let home = home_block(SEGMENTS, u64::from(segment.numbers[i]));
-            disk.write(start_of(home), block_at(segment.images.as_slice(), i))
-        }
-        Next::Seal | Next::Commit | Next::Settle | Next::Finish => disk.sync(),
+        Next::Descriptor => write_descriptor(disk, segment_at(room, filled)),
+        Next::Image(i) => write_image(disk, segment_at(room, filled), i),
+        Next::OpenGate => write_gate(disk, segment_at(room, filled), OPEN),
+        Next::Home(j, i) => write_home(disk, room.len() as u32, segment_at(room, j), i),
+        Next::CloseGate(j) => write_gate(disk, segment_at(room, j), CLOSED),
+        Next::Seal | Next::Commit | Next::Settle | Next::Finish(_) => sync(disk),
         Next::Idle => unreachable!(),
     }
 }
 
+fn segment_at(room: &Vec<Segment>, i: usize) -> &Segment
+    requires { i < length room.now.items }
+    ensures { result.now ≡ staged_at room.now.items i }
+{
+    &room[i]
+}
+
+fn write_descriptor<D: Disk>(disk: &mut D, segment: &Segment) -> Result<(), DiskError>
+    requires low { segment.now.place < 8 }
+    requires size { 4096 * gate_place (segment.now.place + 1) ≤ (D.device disk.old).size }
+    ensures asked { IsAsked (Call.Write (4096 * descriptor_place segment.now.place) segment.now.descriptor) result (D.device disk.old) (D.device disk.new) }
+    ensures memory { IfErr result (λ error. error ≡ DiskError.Memory → IsTrue D.grows) }
+{
+    write(
+        disk,
+        descriptor_block(segment.place()),
+        segment.descriptor(),
+    )
+}
+
+fn write_image<D: Disk>(disk: &mut D, segment: &Segment, i: usize) -> Result<(), DiskError>
+    requires low { segment.now.place < 8 }
+    requires size { 4096 * gate_place (segment.now.place + 1) ≤ (D.device disk.old).size }
+    requires there { i < length segment.now.numbers }
+    ensures asked { IsAsked (Call.Write (4096 * image_place segment.now.place i) (slice_index_or segment.now.images i [])) result (D.device disk.old) (D.device disk.new) }
+    ensures memory { IfErr result (λ error. error ≡ DiskError.Memory → IsTrue D.grows) }
+{
+    prove!(i < segment.count());
+    let image = segment.image(i);
+    write(disk, image_block(segment.place(), i), image)
+}
+
+fn write_gate<D: Disk>(disk: &mut D, segment: &Segment, octet: u8) -> Result<(), DiskError>
+    requires low { segment.now.place < 8 }
+    requires size { 4096 * gate_place (segment.now.place + 1) ≤ (D.device disk.old).size }
+    ensures asked { IsAsked (Call.Write (4096 * gate_place segment.now.place) (octet ∷ [])) result (D.device disk.old) (D.device disk.new) }
+    ensures memory { IfErr result (λ error. error ≡ DiskError.Memory → IsTrue D.grows) }
+{
+    write(disk, gate_block(segment.place()), &[octet])
+}
+
+fn write_home<D: Disk>(
+    disk: &mut D,
+    segments: u32,
+    segment: &Segment,
+    i: usize,
+) -> Result<(), DiskError>
+    requires few { segments ≤ 8 }
+    requires there { i < length segment.now.numbers }
+    requires size { 4096 * home_place segments (slice_index segment.now.numbers i) + 4096 ≤ (D.device disk.old).size }
+    ensures asked { IsAsked (Call.Write (4096 * home_place segments (slice_index segment.now.numbers i)) (slice_index_or segment.now.images i [])) result (D.device disk.old) (D.device disk.new) }
+    ensures memory { IfErr result (λ error. error ≡ DiskError.Memory → IsTrue D.grows) }
+{
+    let home = home_block(segments, u64::from(segment.number(i)));
+    write(disk, home, segment.image(i))
+}
+
+fn write<D: Disk>(disk: &mut D, block: u64, octets: &[u8]) -> Result<(), DiskError>
+    requires low { block < 2 ^ 40 }
+    requires fits { 4096 * block + length octets.now ≤ (D.device disk.old).size }
+    ensures asked { IsAsked (Call.Write (4096 * block) octets.now) result (D.device disk.old) (D.device disk.new) }
+    ensures memory { IfErr result (λ error. error ≡ DiskError.Memory → IsTrue D.grows) }
+{
+    disk.write(start_of(block), octets)
+}
+
+fn sync<D: Disk>(disk: &mut D) -> Result<(), DiskError>
+    ensures asked { IsAsked Call.Sync result (D.device disk.old) (D.device disk.new) }
+    ensures memory { IfErr result (λ error. error ≡ DiskError.Memory → IsTrue D.grows) }
+{
+    disk.sync()
+}
+
 // The call after a good one.
-fn call_after(next: Next, count: usize) -> Next
-    requires { IsWithin count next }
-    ensures { result ≡ following count next }
+fn call_after(next: Next, room: &Vec<Segment>, filled: usize, is_last: bool) -> Next
+    requires there { filled < length room.now.items }
+    requires few { length room.now.items ≤ 8 }
+    requires within { IsWithin (length (staged_at room.now.items filled).numbers) (sizes_of (flight_in room.now.items filled is_last)) next }
+    ensures { result ≡ following (length (staged_at room.now.items filled).numbers) (sizes_of (flight_in room.now.items filled is_last)) next }
 {
     match next {
         Next::Descriptor => Next::Image(0),
-        Next::Image(i) if i + 1 == count => Next::Seal,
-        Next::Image(i) => Next::Image(i + 1),
+        Next::Image(i) => after_image(i, segment_at(room, filled).count()),
         Next::Seal => Next::OpenGate,
         Next::OpenGate => Next::Commit,
-        Next::Commit => Next::Home(0),
-        Next::Home(i) if i + 1 == count => Next::Settle,
-        Next::Home(i) => Next::Home(i + 1),
-        Next::Settle => Next::CloseGate,
-        Next::CloseGate => Next::Finish,
-        Next::Finish | Next::Idle => Next::Idle,
+        Next::Commit if is_last => Next::Home(0, 0),
+        Next::Home(j, i) => after_home(j, i, segment_at(room, j).count(), filled),
+        Next::Settle => Next::CloseGate(0),
+        Next::CloseGate(j) => Next::Finish(j),
+        Next::Finish(j) => after_gate(j, filled),
+        Next::Commit | Next::Idle => Next::Idle,
+    }
+}
+
+fn after_image(i: usize, count: usize) -> Next
+    requires { i < count }
+    ensures { result ≡ (if i + 1 == count then Next.Seal else Next.Image (i + 1)) }
+{
+    if i + 1 == count {
+        Next::Seal
+    } else {
+        Next::Image(i + 1)
+    }
+}
+
+// After an image of the j-th segment, of so many, where the one with the index `last` is the last.
+fn after_home(j: usize, i: usize, count: usize, last: usize) -> Next
+    requires within { i < count }
+    requires there { j ≤ last }
+    requires few { last < 2 ^ 32 }
+    ensures { result ≡ (if i + 1 == count then (if j + 1 == last + 1 then Next.Settle else Next.Home (j + 1) 0) else Next.Home j (i + 1)) }
+{
+    if i + 1 < count {
+        Next::Home(j, i + 1)
+    } else if j == last {
+        Next::Settle
+    } else {
+        Next::Home(j + 1, 0)
+    }
+}
+
+fn after_gate(j: usize, last: usize) -> Next
+    requires there { j ≤ last }
+    requires few { last < 2 ^ 32 }
+    ensures { result ≡ (if j + 1 == last + 1 then Next.Idle else Next.CloseGate (j + 1)) }
+{
+    if j == last {
+        Next::Idle
+    } else {
+        Next::CloseGate(j + 1)
     }
 }
 
 // Where a fault leaves the batch: what a failed write was to put there may be there, and a failed sync did nothing.
-fn call_at_fault(next: Next, count: usize) -> Next
-    requires { IsWithin count next }
-    ensures { result ≡ at_fault count next }
+fn call_at_fault(next: Next, room: &Vec<Segment>, filled: usize, is_last: bool) -> Next
+    requires there { filled < length room.now.items }
+    requires few { length room.now.items ≤ 8 }
+    requires within { IsWithin (length (staged_at room.now.items filled).numbers) (sizes_of (flight_in room.now.items filled is_last)) next }
+    ensures { result ≡ at_fault (length (staged_at room.now.items filled).numbers) (sizes_of (flight_in room.now.items filled is_last)) next }
 {
     match next {
-        Next::Seal | Next::Commit | Next::Settle | Next::Finish => next,
-        _ => call_after(next, count),
+        Next::Seal | Next::Commit | Next::Settle | Next::Finish(_) => next,
+        _ => call_after(next, room, filled, is_last),
     }
 }
 
-fn answer_to(next: Next, last: u64) -> Progress
-    ensures { result ≡ answer last next }
+// What a good call answers, in a batch with this last serial; where all are carried home, the segment with the index `filled`
+// is the last one.
+fn answer_to(next: Next, last: u64, filled: usize) -> Progress
+    requires few { filled < 8 }
+    ensures { (sizes : List ℕ) → ((j : ℕ) → next ≡ Next.Finish j → length sizes ≡ filled + 1) → result ≡ answer last sizes next }
 {
     match next {
         Next::Commit => Progress::Committed(last),
-        Next::Finish => Progress::Idle,
+        Next::Finish(j) if j == filled => Progress::Idle,
         _ => Progress::Working,
     }
 }

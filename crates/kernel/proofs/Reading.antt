@@ -4,6 +4,7 @@ use Rattle.std.proofs.lemmas.List.{ext_get_or}
 use Rattle.std.proofs.lemmas.Bool.{cases_eq}
 use Rattle.disk.specs.Device.{Device, Elapses, IsRead}
 use Rattle.disk.specs.Image.{overwritten}
+use Rattle.journal.proofs.During.{same_itself, same_then}
 use Rattle.journal.specs.Journal.{Admits, HasWholeBlocks, IsIdle, IsSameBatch, JournalView, LeavesAdmitted, LeftAdmitted, with_batch}
 use Rattle.journal.specs.declared.Next.TheVariants.{Commit}
 use Rattle.segments.proofs.Blocks.{block-overwritten, get_or-blocks_from, length-blocks_from, overwritten_same}
@@ -31,7 +32,7 @@ module _ {D : Type 0} (device : D → Device) where
   pub reads_none : (journal : JournalView D) → IsIdle journal → HasWholeBlocks device journal → LeavesAdmitted device journal → OnlyReads device journal journal
   reads_none journal idle whole now = record {
     idle = idle;
-    same = record { label = refl; size = refl; number = refl; last = refl; numbers = refl; images = refl };
+    same = same_itself journal;
     blocks = λ t. refl;
     whole = whole;
     time = record { size = refl; tells = refl; later = omega arith };
@@ -62,14 +63,7 @@ module _ {D : Type 0} (device : D → Device) where
     pub reads_then : OnlyReads device first new
     reads_then = record {
       idle = load.idle;
-      same = record {
-        label = load.same.label ∙ before.same.label;
-        size = load.same.size ∙ before.same.size;
-        number = load.same.number ∙ before.same.number;
-        last = load.same.last ∙ before.same.last;
-        numbers = load.same.numbers ∙ before.same.numbers;
-        images = load.same.images ∙ before.same.images;
-      };
+      same = same_then first old new before.same load.same;
       blocks = λ t. load.blocks (told t) ∙ before.blocks t;
       whole = load.whole;
       time = record {

@@ -9,13 +9,14 @@ use Rattle.disk.specs.Image.{overwritten}
 use Rattle.model.specs.Volume.{laid_over, block, blocks_from}
 use Rattle.volume.proofs.Octets.{block-put, block-put_other, length-blocks_from, get_or-blocks_from}
 use Rattle.journal.specs.Journal.{JournalView, IsIdle, LeavesAdmitted, Admits, HasWholeBlocks, with_batch}
+use Rattle.journal.proofs.During.{same_itself, same_then}
 use Rattle.volume.specs.Opening.{Loads}
 
 module _ {D : Type 0} (device : D → Device) where
   -- at the start
   pub loads_none : (journal : JournalView D) → IsIdle journal → LeavesAdmitted device journal → Loads device journal journal
   loads_none journal idle now = record {
-    same = record { label = refl; size = refl; number = refl; last = refl; numbers = refl; images = refl };
+    same = same_itself journal;
     blocks = λ tells. refl;
     idle = idle;
     time = record { size = refl; tells = refl; later = omega arith };
@@ -41,14 +42,7 @@ module _ {D : Type 0} (device : D → Device) where
 
   pub loads_then : (old mid new : JournalView D) → Loads device old mid → Loads device mid new → Loads device old new
   loads_then old mid new first second = record {
-    same = record {
-      label = second.same.label ∙ first.same.label;
-      size = second.same.size ∙ first.same.size;
-      number = second.same.number ∙ first.same.number;
-      last = second.same.last ∙ first.same.last;
-      numbers = second.same.numbers ∙ first.same.numbers;
-      images = second.same.images ∙ first.same.images;
-    };
+    same = same_then old mid new first.same second.same;
     blocks = λ tells. second.blocks (told tells) ∙ first.blocks tells;
     idle = second.idle;
     time = record {

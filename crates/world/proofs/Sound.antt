@@ -1,5 +1,5 @@
 -- What the fields keep, through each event.
-use Rattle.std.proofs.Common.{◌≡◌, ◌≢◌, ◌⊎◌, inl, inr, ⊎_elim, ℕ, Bool, true, false, List, [], ◌∷◌, ◌++◌, length, Option, Some, None, refl, ap, sym, ◌∙◌, subst}
+use Rattle.std.proofs.Common.{◌≡◌, ◌≢◌, ◌⊎◌, inl, inr, ⊎_elim, ℕ, ◌+◌, Bool, true, false, eqb, List, [], ◌∷◌, ◌++◌, length, Option, Some, None, refl, ap, sym, ◌∙◌, subst}
 use Rattle.std.proofs.lemmas.List.{append-nil}
 use Rattle.disk.specs.Device.{Device}
 use Rattle.journal.specs.Calls.{MakesCall, OnMade}
@@ -15,7 +15,7 @@ use Rattle.kernel.specs.Kernel as refusal
 use Rattle.kernel.specs.declared.errors.ExecError.TheVariants as exec
 use Rattle.world.specs.declared.events.Answer.TheVariants as answer
 use Rattle.std.specs.Prelude.{drop, ◌||◌, ◌&&◌, not, is_none, nat_le, nat_lt, IfOk, map, option_map, slice_index_or, OnErr, OnOk, Result, Ok, Err}
-use Rattle.journal.specs.Journal.{IsReady, JournalView}
+use Rattle.journal.specs.Journal.{IsReady, JournalView, sizes, still_open}
 use Rattle.journal.specs.declared.Next.TheVariants.{Descriptor}
 use Rattle.kernel.specs.Errors.{of_exec}
 use Rattle.kernel.specs.Kernel.{AgreesBehind, KernelView, halted_for_good, made_durable, Refusal, Seat, Takes, Tested, TestedOrMemory, buffered, exec_refusal, first_failing, has_batch, is_block, mode_at, taken}
@@ -79,20 +79,25 @@ sound_release tells old served ticket (Err e) kept ok err h = sound_same tells o
 -- ---- Take
 
 -- the journal that begins, by what its call says
-pub is_begun : {D : Type 0} (old new : JournalView D) (kernel : KernelView) (last : ℕ) (numbers : List ℕ) (images : List Octets) → new.disk ≡ old.disk → new.label ≡ old.label → new.size ≡ old.size → new.blocks ≡ old.blocks → new.next ≡ Descriptor → new.halted ≡ old.halted → new.number ≡ 1
+pub is_begun : {D : Type 0} (old new : JournalView D) (kernel : KernelView) (last : ℕ) (numbers : List ℕ) (images : List Octets) → new.disk ≡ old.disk → new.label ≡ old.label → new.size ≡ old.size → new.segments ≡ old.segments → new.blocks ≡ old.blocks → new.next ≡ Descriptor → new.halted ≡ old.halted
+    → new.held ≡ still_open old → new.place ≡ length (still_open old) → new.number ≡ length (still_open old) + 1 → new.is_last ≡ eqb (length (still_open old) + 1) old.segments
     → new.last ≡ last → new.numbers ≡ numbers → new.images ≡ images → last ≡ length kernel.spool → numbers ≡ kernel.dirty → images ≡ map (λ n. slice_index_or kernel.blocks n []) numbers → new ≡ begun old kernel
-is_begun old new kernel last numbers images disk label size blocks next halted number last_is numbers_are images_are serial dirty copies =
+is_begun old new kernel last numbers images disk label size segments blocks next halted held place number is_last last_is numbers_are images_are serial dirty copies =
     λ i. record {
       disk = disk i;
       label = label i;
       size = size i;
+      segments = segments i;
       blocks = blocks i;
       next = next i;
       halted = halted i;
+      held = held i;
+      place = place i;
       number = number i;
       last = (last_is ∙ serial) i;
       numbers = (numbers_are ∙ dirty) i;
       images = (images_are ∙ (copies ∙ ap (map (λ n. slice_index_or kernel.blocks n [])) dirty)) i;
+      is_last = is_last i;
     }
 
 no_ticket : (ticket : Option Ticket) → option_map (λ (t : Ticket). t.last) ticket ≡ None → ticket ≡ None
@@ -195,9 +200,9 @@ dev_news {D} device old new ticket committed failed answered is s h = go answere
         call = subst (λ r. OnMade r (MakesCall device old.journal new answered)) e (s.call runs (λ idle. absurd (let both : Ok (progress.Committed last) ≡ Ok progress.Idle = sym e ∙ (s.idle runs idle).0 in cc)))
 
         at : (old.journal.next ≡ next.Commit) × (last ≡ old.journal.last)
-        at = committed_at last old.journal.last old.journal.next (answers answered e call.answers)
+        at = committed_at last old.journal.last (sizes old.journal) old.journal.next (answers answered e call.answers)
           where
-            answers : (a : Result Progress JournalError) → a ≡ Ok (progress.Committed last) → IfOk a (λ p. p ≡ journal_answer old.journal.last old.journal.next) → progress.Committed last ≡ journal_answer old.journal.last old.journal.next
+            answers : (a : Result Progress JournalError) → a ≡ Ok (progress.Committed last) → IfOk a (λ p. p ≡ journal_answer old.journal.last (sizes old.journal) old.journal.next) → progress.Committed last ≡ journal_answer old.journal.last (sizes old.journal) old.journal.next
             answers (Ok p) f g = let same : p ≡ progress.Committed last = cc f in sym same ∙ g
             answers (Err x) f g = absurd (cc f)
 

@@ -6,7 +6,7 @@ use Rattle.std.proofs.lemmas.List.{append-nil, take-append-le, take_all}
 use Rattle.std.proofs.lemmas.Slice.Eq.{bytes_eq-Decides}
 use Rattle.disk.specs.Device.{Device}
 use Rattle.journal.specs.Calls.{IsRetried, MakesCall, OnMade, OnRetried, blocks_after}
-use Rattle.journal.specs.Journal.{JournalView, IsReady, IsSameBatch, with_batch}
+use Rattle.journal.specs.Journal.{JournalView, IsReady, IsSameBatch, sizes, with_batch}
 use Rattle.journal.specs.Order.{is_to_commit, answer, at_fault, following}
 use Rattle.journal.specs.declared.JournalError.{JournalError}
 use Rattle.journal.specs.declared.JournalError.TheVariants.{Fault, Memory}
@@ -209,8 +209,8 @@ IsTied-takes {D} tells world kept ready has lays h = record { label = h.label; s
 -- ---- Dev
 
 -- before the commit a batch waits on
-abbrev WaitsOn : ℕ → Next → Type 0
-WaitsOn n call = (is_to_commit (following n call) ≡ true) × ((last : ℕ) → answer last call ≡ Working)
+abbrev WaitsOn : ℕ → List ℕ → Next → Type 0
+WaitsOn n counts call = (is_to_commit (following n counts call) ≡ true) × ((last : ℕ) → answer last counts call ≡ Working)
 
 -- what a call leaves of what the tie speaks of
 module _ {D : Type 0} (tells : Bool) (old new : JournalView D) (kernel : KernelView) (runs : old.halted ≡ false) where
@@ -261,16 +261,16 @@ module _ {D : Type 0} (tells : Bool) (old new : JournalView D) (kernel : KernelV
       }
 
   -- a call that failed
-  phase_faulted : (untold : List News) (n : ℕ) → new.next ≡ at_fault n old.next → new.halted ≡ true → new.last ≡ old.last → new.numbers ≡ old.numbers → new.images ≡ old.images → (IsTrue tells → new.blocks ≡ old.blocks)
+  phase_faulted : (untold : List News) (n : ℕ) → new.next ≡ at_fault n (sizes old) old.next → new.halted ≡ true → new.last ≡ old.last → new.numbers ≡ old.numbers → new.images ≡ old.images → (IsTrue tells → new.blocks ≡ old.blocks)
       → Phase tells old kernel untold → Phase tells new kernel (untold ++ HasFailed ∷ [])
   phase_faulted untold n call halted last_is numbers images same (Quiet q) =
-      Quiet (record { none = q.none; past = ap is_to_commit call ∙ past_at_fault n old.next q.past; blocks = lies_on kernel.durable same q.blocks; faults = faulted kernel.halted untold q.faults halted })
+      Quiet (record { none = q.none; past = ap is_to_commit call ∙ past_at_fault n (sizes old) old.next q.past; blocks = lies_on kernel.durable same q.blocks; faults = faulted kernel.halted untold q.faults halted })
   phase_faulted untold n call halted last_is numbers images same (Flying last f) =
-      Flying last (flies_on last untold (untold ++ HasFailed ∷ []) f last_is numbers images same (ap is_to_commit call ∙ waits_at_fault n old.next f.waits) (faulted kernel.halted untold f.faults halted))
+      Flying last (flies_on last untold (untold ++ HasFailed ∷ []) f last_is numbers images same (ap is_to_commit call ∙ waits_at_fault n (sizes old) old.next f.waits) (faulted kernel.halted untold f.faults halted))
   phase_faulted untold n call halted last_is numbers images same (IsToBeTold last c) =
       IsToBeTold last (record {
         flies = c.flies;
-        past = ap is_to_commit call ∙ past_at_fault n old.next c.past;
+        past = ap is_to_commit call ∙ past_at_fault n (sizes old) old.next c.past;
         blocks = lies_on last same c.blocks;
         running = c.running;
         later = c.later ++ HasFailed ∷ [];
@@ -296,40 +296,40 @@ module _ {D : Type 0} (tells : Bool) (old new : JournalView D) (kernel : KernelV
       })
 
   -- a call that went well
-  phase_went : (untold : List News) (n : ℕ) → new.next ≡ following n old.next → new.halted ≡ false → new.last ≡ old.last → new.numbers ≡ old.numbers → new.images ≡ old.images → (IsTrue tells → new.blocks ≡ blocks_after old (answer old.last old.next))
-      → Phase tells old kernel untold → Phase tells new kernel (untold ++ news_of (Ok (answer old.last old.next)))
+  phase_went : (untold : List News) (n : ℕ) → new.next ≡ following n (sizes old) old.next → new.halted ≡ false → new.last ≡ old.last → new.numbers ≡ old.numbers → new.images ≡ old.images → (IsTrue tells → new.blocks ≡ blocks_after old (answer old.last (sizes old) old.next))
+      → Phase tells old kernel untold → Phase tells new kernel (untold ++ news_of (Ok (answer old.last (sizes old) old.next)))
   phase_went untold n call halted last_is numbers images blocks phase = go (is_to_commit old.next) refl
     where
-      goes_past : is_to_commit old.next ≡ false → Phase tells new kernel (untold ++ news_of (Ok (answer old.last old.next)))
+      goes_past : is_to_commit old.next ≡ false → Phase tells new kernel (untold ++ news_of (Ok (answer old.last (sizes old) old.next)))
       goes_past was =
-          subst (Phase tells new kernel) (sym (ap (λ xs. untold ++ xs) (past_answer (λ p. news_of (Ok p) ≡ []) old.last old.next refl refl was) ∙ append-nil untold))
-          (phase_past untold (ap is_to_commit call ∙ past_following n old.next was) halted (λ t. blocks t ∙ past_answer (λ p. blocks_after old p ≡ old.blocks) old.last old.next refl refl was) was phase)
+          subst (Phase tells new kernel) (sym (ap (λ xs. untold ++ xs) (past_answer (λ p. news_of (Ok p) ≡ []) old.last (sizes old) old.next refl refl was) ∙ append-nil untold))
+          (phase_past untold (ap is_to_commit call ∙ past_following n (sizes old) old.next was) halted (λ t. blocks t ∙ past_answer (λ p. blocks_after old p ≡ old.blocks) old.last (sizes old) old.next refl refl was) was phase)
 
-      commits : old.next ≡ next.Commit → Phase tells old kernel untold → Phase tells new kernel (untold ++ news_of (Ok (answer old.last old.next)))
+      commits : old.next ≡ next.Commit → Phase tells old kernel untold → Phase tells new kernel (untold ++ news_of (Ok (answer old.last (sizes old) old.next)))
       commits is (Quiet q) = absurd (let both : true ≡ false = sym (ap is_to_commit is) ∙ q.past in cc)
       commits is (IsToBeTold last c) = absurd (let both : true ≡ false = sym (ap is_to_commit is) ∙ c.past in cc)
       commits is (Flying last f) =
           let quiet = no_faults kernel.halted untold f.faults in
           IsToBeTold last (record {
             flies = f.flies;
-            past = ap is_to_commit (call ∙ ap (following n) is) ∙ past_commit n;
-            blocks = λ t. subst (λ blocks. LieBehind kernel blocks last) (sym (blocks t ∙ ap (λ (c : Next). blocks_after old (answer old.last c)) is)) (f.after t);
+            past = ap is_to_commit (call ∙ ap (following n (sizes old)) is) ∙ past_commit n (sizes old);
+            blocks = λ t. subst (λ blocks. LieBehind kernel blocks last) (sym (blocks t ∙ ap (λ (c : Next). blocks_after old (answer old.last (sizes old) c)) is)) (f.after t);
             running = quiet.0;
             later = [];
-            told = (λ i. quiet.1 i ++ news_of (Ok (answer (f.last_is i) (is i))));
+            told = (λ i. quiet.1 i ++ news_of (Ok (answer (f.last_is i) (sizes old) (is i))));
             faults = subst (λ b. AreFaults b false []) (sym halted) (refl, refl);
           })
 
-      waits_on : WaitsOn n old.next → Phase tells old kernel untold → is_to_commit old.next ≡ true → Phase tells new kernel (untold ++ news_of (Ok (answer old.last old.next)))
+      waits_on : WaitsOn n (sizes old) old.next → Phase tells old kernel untold → is_to_commit old.next ≡ true → Phase tells new kernel (untold ++ news_of (Ok (answer old.last (sizes old) old.next)))
       waits_on w (Quiet q) was = absurd (let both : true ≡ false = sym was ∙ q.past in cc)
       waits_on w (IsToBeTold last c) was = absurd (let both : true ≡ false = sym was ∙ c.past in cc)
       waits_on w (Flying last f) was =
           subst (Phase tells new kernel) (sym (ap (λ xs. untold ++ xs) (ap (λ p. news_of (Ok p)) (w.1 old.last)) ∙ append-nil untold))
           (Flying last (flies_on last untold untold f last_is numbers images (λ t. blocks t ∙ ap (blocks_after old) (w.1 old.last)) (ap is_to_commit call ∙ w.0) (subst (λ b. AreFaults b kernel.halted untold) (runs ∙ sym halted) f.faults)))
 
-      go : (b : Bool) → is_to_commit old.next ≡ b → Phase tells new kernel (untold ++ news_of (Ok (answer old.last old.next)))
+      go : (b : Bool) → is_to_commit old.next ≡ b → Phase tells new kernel (untold ++ news_of (Ok (answer old.last (sizes old) old.next)))
       go false was = goes_past was
-      go true was = ⊎_elim (λ (is : old.next ≡ next.Commit). commits is phase) (λ (w : WaitsOn n old.next). waits_on w phase was) (waits_or_commits n old.next was)
+      go true was = ⊎_elim (λ (is : old.next ≡ next.Commit). commits is phase) (λ (w : WaitsOn n (sizes old) old.next). waits_on w phase was) (waits_or_commits n (sizes old) old.next was)
 
 -- one call of a batch in flight
 phase_calls : {D : Type 0} (device : D → Device) (tells : Bool) (old new : JournalView D) (kernel : KernelView) (untold : List News) (answered : Result Progress JournalError) → tells ≡ (device old.disk).tells → old.halted ≡ false

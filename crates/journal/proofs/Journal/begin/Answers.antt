@@ -1,13 +1,73 @@
-use Rattle.std.proofs.Common.{◌≡◌, ℕ, List, length, take, ◌∙◌, ap, refl}
-use Rattle.std.proofs.lemmas.List.{take_at}
-use Rattle.model.specs.Volume.{blocks_from}
-use Rattle.segments.proofs.Blocks.{blocks_from_front}
+use Rattle.std.proofs.Common.{◌≡◌, ◌<◌, ℕ, ◌+◌, Bool, false, eqb, List, length, sym, ◌∙◌, ap, subst}
+use Rattle.std.specs.List.{All}
+use Rattle.journal.specs.Flight.{flight_in, left_of}
+use Rattle.journal.specs.Inside.{IsKept}
+use Rattle.journal.specs.Journal.{JournalView}
+use Rattle.journal.specs.declared.Next.{Next}
+use Rattle.journal.specs.declared.Next.TheVariants.{Idle, Descriptor}
+use Rattle.journal.proofs.Begins.{begun, held_now, length_now}
 use Rattle.journal.proofs.Journal.begin.Goals as goal
 
-pub returns-clause-images : goal.returns-clause-images
-returns-clause-images g c =
-    let numbers : take (length c.args.numbers.now) c.put_front.new.room.items ≡ c.args.numbers.now =
-    ap (λ (l : List ℕ). take (length c.args.numbers.now) l) c.put_front.ensures ∙ take_at c.args.numbers.now _ (length c.args.numbers.now) refl in
-    ap (λ (l : List ℕ). blocks_from 0 (length l) c.put_front-2.new.room.items) numbers
-    ∙ ap (λ (l : List ℕ). blocks_from 0 (length c.args.numbers.now) l) c.put_front-2.ensures
-    ∙ blocks_from_front (length c.args.numbers.now) c.args.images.now _ c.requires.images
+pub invariant_of-self : goal.invariant_of-self
+invariant_of-self g c =
+    let v = c.self.inside in
+    let is : v.next ≡ Idle = ap (λ (j : JournalView g.row.D.Denot). j.next) c.self.view_is ∙ c.requires.idle in
+    let running : v.halted ≡ false = ap (λ (j : JournalView g.row.D.Denot). j.halted) c.self.view_is ∙ c.requires.running in
+    let kept : IsKept (g.D.Disk.device v.disk) v.blocks v.superblock.items Idle false v.room.items v.filled v.is_last =
+    subst (λ (n : Next). IsKept (g.D.Disk.device v.disk) v.blocks v.superblock.items n false v.room.items v.filled v.is_last) is
+    (subst (λ (b : Bool). IsKept (g.D.Disk.device v.disk) v.blocks v.superblock.items v.next b v.room.items v.filled v.is_last) running c.self.invariant) in
+    let below = subst (λ (n : ℕ). All (λ k. k < n) c.args.numbers.now) (sym (ap (λ (j : JournalView g.row.D.Denot). j.size) c.self.view_is)) c.requires.below in
+    subst (λ (b : Bool). IsKept (g.D.Disk.device v.disk) v.blocks v.superblock.items Descriptor v.halted c.fill.new.room.items c.lowest_closed-filled.result b) (sym c.is_last_of-self-inside.ensures)
+    (subst (λ (b : Bool). IsKept (g.D.Disk.device v.disk) v.blocks v.superblock.items Descriptor b c.fill.new.room.items c.lowest_closed-filled.result (eqb (c.lowest_closed-filled.result + 1) (length c.fill.new.room.items))) (sym running)
+    (begun (g.D.Disk.device v.disk) v.blocks v.superblock.items v.room.items c.fill.new.room.items v.filled v.is_last kept c.lowest_closed-filled.result c.lowest_closed-filled.ensures c.fill.ensures.count c.fill.ensures.others c.args.last c.args.numbers.now c.args.images.now c.fill.ensures.taken c.requires.some c.requires.few below c.requires.distinct c.requires.images))
+
+pub returns-clause-held : goal.returns-clause-held
+returns-clause-held g c =
+    let v = c.self.inside in
+    let is : v.next ≡ Idle = ap (λ (j : JournalView g.row.D.Denot). j.next) c.self.view_is ∙ c.requires.idle in
+    let running : v.halted ≡ false = ap (λ (j : JournalView g.row.D.Denot). j.halted) c.self.view_is ∙ c.requires.running in
+    let kept : IsKept (g.D.Disk.device v.disk) v.blocks v.superblock.items Idle false v.room.items v.filled v.is_last =
+    subst (λ (n : Next). IsKept (g.D.Disk.device v.disk) v.blocks v.superblock.items n false v.room.items v.filled v.is_last) is
+    (subst (λ (b : Bool). IsKept (g.D.Disk.device v.disk) v.blocks v.superblock.items v.next b v.room.items v.filled v.is_last) running c.self.invariant) in
+    rw (← c.self.view_is) (held_now (g.D.Disk.device v.disk) v.blocks v.superblock.items v.room.items c.fill.new.room.items v.filled v.is_last kept c.lowest_closed-filled.result c.lowest_closed-filled.ensures c.fill.ensures.count c.fill.ensures.others)
+
+pub returns-clause-place : goal.returns-clause-place
+returns-clause-place g c =
+    let v = c.self.inside in
+    let is : v.next ≡ Idle = ap (λ (j : JournalView g.row.D.Denot). j.next) c.self.view_is ∙ c.requires.idle in
+    let running : v.halted ≡ false = ap (λ (j : JournalView g.row.D.Denot). j.halted) c.self.view_is ∙ c.requires.running in
+    let kept : IsKept (g.D.Disk.device v.disk) v.blocks v.superblock.items Idle false v.room.items v.filled v.is_last =
+    subst (λ (n : Next). IsKept (g.D.Disk.device v.disk) v.blocks v.superblock.items n false v.room.items v.filled v.is_last) is
+    (subst (λ (b : Bool). IsKept (g.D.Disk.device v.disk) v.blocks v.superblock.items v.next b v.room.items v.filled v.is_last) running c.self.invariant) in
+    rw (← c.self.view_is) (c.fill.ensures.taken.place_is ∙ sym (length_now (g.D.Disk.device v.disk) v.blocks v.superblock.items v.room.items c.fill.new.room.items v.filled v.is_last kept c.lowest_closed-filled.result c.lowest_closed-filled.ensures c.fill.ensures.count c.fill.ensures.others))
+
+pub returns-clause-number : goal.returns-clause-number
+returns-clause-number g c =
+    let v = c.self.inside in
+    let is : v.next ≡ Idle = ap (λ (j : JournalView g.row.D.Denot). j.next) c.self.view_is ∙ c.requires.idle in
+    let running : v.halted ≡ false = ap (λ (j : JournalView g.row.D.Denot). j.halted) c.self.view_is ∙ c.requires.running in
+    let kept : IsKept (g.D.Disk.device v.disk) v.blocks v.superblock.items Idle false v.room.items v.filled v.is_last =
+    subst (λ (n : Next). IsKept (g.D.Disk.device v.disk) v.blocks v.superblock.items n false v.room.items v.filled v.is_last) is
+    (subst (λ (b : Bool). IsKept (g.D.Disk.device v.disk) v.blocks v.superblock.items v.next b v.room.items v.filled v.is_last) running c.self.invariant) in
+    rw (← c.self.view_is) (c.fill.ensures.taken.number_is ∙ ap (λ (k : ℕ). k + 1) (sym (length_now (g.D.Disk.device v.disk) v.blocks v.superblock.items v.room.items c.fill.new.room.items v.filled v.is_last kept c.lowest_closed-filled.result c.lowest_closed-filled.ensures c.fill.ensures.count c.fill.ensures.others)))
+
+pub returns-clause-is_last : goal.returns-clause-is_last
+returns-clause-is_last g c =
+    let v = c.self.inside in
+    let is : v.next ≡ Idle = ap (λ (j : JournalView g.row.D.Denot). j.next) c.self.view_is ∙ c.requires.idle in
+    let running : v.halted ≡ false = ap (λ (j : JournalView g.row.D.Denot). j.halted) c.self.view_is ∙ c.requires.running in
+    let kept : IsKept (g.D.Disk.device v.disk) v.blocks v.superblock.items Idle false v.room.items v.filled v.is_last =
+    subst (λ (n : Next). IsKept (g.D.Disk.device v.disk) v.blocks v.superblock.items n false v.room.items v.filled v.is_last) is
+    (subst (λ (b : Bool). IsKept (g.D.Disk.device v.disk) v.blocks v.superblock.items v.next b v.room.items v.filled v.is_last) running c.self.invariant) in
+    rw (← c.self.view_is) (c.is_last_of-self-inside.ensures ∙ ap (λ (k : ℕ). eqb (k + 1) (length c.fill.new.room.items)) (sym (length_now (g.D.Disk.device v.disk) v.blocks v.superblock.items v.room.items c.fill.new.room.items v.filled v.is_last kept c.lowest_closed-filled.result c.lowest_closed-filled.ensures c.fill.ensures.count c.fill.ensures.others)) ∙ ap (λ (k : ℕ). eqb (length (left_of (flight_in v.room.items v.filled v.is_last)) + 1) k) c.fill.ensures.count)
+
+pub returns-clause-now : goal.returns-clause-now
+returns-clause-now g c t =
+    let v = c.self.inside in
+    let is : v.next ≡ Idle = ap (λ (j : JournalView g.row.D.Denot). j.next) c.self.view_is ∙ c.requires.idle in
+    let running : v.halted ≡ false = ap (λ (j : JournalView g.row.D.Denot). j.halted) c.self.view_is ∙ c.requires.running in
+    let kept : IsKept (g.D.Disk.device v.disk) v.blocks v.superblock.items Idle false v.room.items v.filled v.is_last =
+    subst (λ (n : Next). IsKept (g.D.Disk.device v.disk) v.blocks v.superblock.items n false v.room.items v.filled v.is_last) is
+    (subst (λ (b : Bool). IsKept (g.D.Disk.device v.disk) v.blocks v.superblock.items v.next b v.room.items v.filled v.is_last) running c.self.invariant) in
+    let below = subst (λ (n : ℕ). All (λ k. k < n) c.args.numbers.now) (sym (ap (λ (j : JournalView g.row.D.Denot). j.size) c.self.view_is)) c.requires.below in
+    ((begun (g.D.Disk.device v.disk) v.blocks v.superblock.items v.room.items c.fill.new.room.items v.filled v.is_last kept c.lowest_closed-filled.result c.lowest_closed-filled.ensures c.fill.ensures.count c.fill.ensures.others c.args.last c.args.numbers.now c.args.images.now c.fill.ensures.taken c.requires.some c.requires.few below c.requires.distinct c.requires.images).told t).admits

@@ -1,7 +1,7 @@
 use Rattle.std.proofs.Common.{◌≡◌, ◌≢◌, ◌∙◌, ap}
 use Rattle.journal.specs.Journal.{JournalView}
 use Rattle.journal.specs.declared.Next.TheVariants.{Idle}
-use Rattle.journal.proofs.During.{at_start, on_the_way, stepped_on, fewer}
+use Rattle.journal.proofs.During.{at_first_home, on_the_way, stepped_on, fewer}
 use Rattle.journal.proofs.Journal.carry_home.Goals as goal
 
 -- a journal whose next call is not none
@@ -9,7 +9,7 @@ flies : (D : Type 0) (v w : JournalView D) → v ≡ w → v.next ≢ Idle → w
 flies D v w is other e = other (ap (λ (x : JournalView D). x.next) is ∙ e)
 
 pub loop-self-init : goal.loop-self-init
-loop-self-init g c = at_start g.D.Disk.device _ c.requires.next c.requires.running c.requires.some c.requires.now
+loop-self-init g c = at_first_home g.D.Disk.device _ c.requires.next c.requires.running c.requires.now
 
 pub loop-self-preserved : goal.loop-self-preserved
 loop-self-preserved g c =

@@ -1,11 +1,19 @@
-use Rattle.std.proofs.Common.{◌≡◌, ◌+◌, ◌*◌, ◌<◌, ℕ, Bool, IsTrue, List, length, take, sym, ◌∙◌, ap, subst, arith}
+use Rattle.std.proofs.Common.{◌≡◌, ◌+◌, ◌*◌, ◌<◌, ℕ, Bool, IsTrue, List, length, true, false, refl, sym, ◌∙◌, ap, subst, arith}
 use Rattle.disk.specs.Image.{part}
-use Rattle.journal.specs.Inside.{IsAdmitted, blocks_without}
+use Rattle.journal.specs.Inside.{IsAdmitted, IsKept, blocks_without}
+use Rattle.journal.specs.declared.Next.TheVariants.{Idle, Descriptor}
+use Rattle.journal.proofs.Calls.{kept_failed}
 use Rattle.journal.specs.Journal.{AreWhole, JournalView}
-use Rattle.model.specs.Volume.{blocks_from, laid_over}
+use Rattle.model.specs.Volume.{home_place, laid_over}
+use Rattle.journal.specs.Flight.{staged_at}
 use Rattle.journal.proofs.Idle.{idle_same, idle_block}
 use Rattle.journal.proofs.Whole.{kept_whole}
 use Rattle.journal.proofs.Journal.load.Goals as goal
+
+-- a volume of one segment has none that is left closed
+last_alone : (is_last : Bool) (filled segments : ℕ) → segments ≡ 1 → (is_last ≡ false → filled + 1 < segments) → is_last ≡ true
+last_alone true filled segments one left = refl
+last_alone false filled segments one left = absurd (omega (arith, one, left refl))
 
 pub returns-in-Ok-clause-value : goal.returns-in-Ok-clause-value
 returns-in-Ok-clause-value g c =
@@ -14,17 +22,17 @@ returns-in-Ok-clause-value g c =
     let is = ap (λ (v : JournalView _). v.next) c.self.view_is ∙ c.requires.idle in
     let running = ap (λ (v : JournalView _). v.halted) c.self.view_is ∙ c.requires.running in
     let below = subst (λ (n : ℕ). c.args.block < n) (sym (ap (λ (v : JournalView _). v.size) c.self.view_is)) c.requires.below in
-    let place : c.start_of.result ≡ 4096 * (515 + c.args.block) = omega (arith, c.start_of.ensures, c.home_block.ensures) in
+    let place : c.start_of.result ≡ 4096 * home_place (length c.self.inside.room.items) c.args.block = omega (arith, c.start_of.ensures, c.home_block.ensures) in
     c.in-Ok.ensures.value t
     ∙ ap (λ (n : ℕ). part c.start_of.result n (g.D.Disk.device c.self.inside.disk).content) c.requires.room
     ∙ ap (λ (n : ℕ). part n 4096 (g.D.Disk.device c.self.inside.disk).content) place
-    ∙ idle_block _ _ _ _ _ _ _ _ c.args.block (c.self.invariant.told t) is running below)
+    ∙ idle_block _ _ _ _ _ _ c.args.block (c.self.invariant.told t) is running (last_alone c.self.inside.is_last c.self.inside.filled (length c.self.inside.room.items) c.self.invariant.one c.self.invariant.left) below)
 
 pub returns-in-Ok-clause-whole : goal.returns-in-Ok-clause-whole
 returns-in-Ok-clause-whole g c t =
     let old = subst (λ (b : Bool). IsTrue b) c.read.ensures.time.tells t in
-    subst (λ (x : List ℕ). AreWhole c.self.inside.blocks (blocks_without c.self.inside.next x)) (sym (c.in-Ok.ensures.content old))
-    (kept_whole _ _ _ _ _ _ _ _ _ _ c.self.invariant (g.met.D.Disk.counts_content c.self.inside.disk) old)
+    subst (λ (x : List ℕ). AreWhole c.self.inside.blocks (blocks_without (staged_at c.self.inside.room.items c.self.inside.filled).place c.self.inside.next x)) (sym (c.in-Ok.ensures.content old))
+    (kept_whole _ _ _ _ _ _ _ _ c.self.invariant (g.met.D.Disk.counts_content c.self.inside.disk) old)
 
 pub returns-in-Err-clause-blocks : goal.returns-in-Err-clause-blocks
 returns-in-Err-clause-blocks g c =
@@ -32,16 +40,16 @@ returns-in-Err-clause-blocks g c =
     (λ t.
     let is = ap (λ (v : JournalView _). v.next) c.self.view_is ∙ c.requires.idle in
     let now = g.met.D.Disk.counts_content c.read.new.self (subst (λ (b : Bool). IsTrue b) (sym c.read.ensures.time.tells) t) in
-    idle_same c.self.inside.next _ (g.D.Disk.device c.self.inside.disk).content _ _ is ((c.self.invariant.told t).admits _ (c.read.ensures.crash t _ now)))
+    idle_same (staged_at c.self.inside.room.items c.self.inside.filled).place c.self.inside.next _ (g.D.Disk.device c.self.inside.disk).content _ _ is ((c.self.invariant.told t).admits _ (c.read.ensures.crash t _ now)))
 
 pub returns-in-Err-clause-whole : goal.returns-in-Err-clause-whole
 returns-in-Err-clause-whole g c t =
     let is = ap (λ (v : JournalView _). v.next) c.self.view_is ∙ c.requires.idle in
     let old = subst (λ (b : Bool). IsTrue b) c.read.ensures.time.tells t in
     let now = g.met.D.Disk.counts_content c.read.new.self t in
-    let same = idle_same c.self.inside.next _ (g.D.Disk.device c.self.inside.disk).content (g.D.Disk.device c.read.new.self).content _ is ((c.self.invariant.told old).admits _ (c.read.ensures.crash old _ now)) in
+    let same = idle_same (staged_at c.self.inside.room.items c.self.inside.filled).place c.self.inside.next _ (g.D.Disk.device c.self.inside.disk).content (g.D.Disk.device c.read.new.self).content _ is ((c.self.invariant.told old).admits _ (c.read.ensures.crash old _ now)) in
     subst (λ (bs : List (List ℕ)). AreWhole c.self.inside.blocks bs) (sym same)
-    (kept_whole _ _ _ _ _ _ _ _ _ _ c.self.invariant (g.met.D.Disk.counts_content c.self.inside.disk) old)
+    (kept_whole _ _ _ _ _ _ _ _ c.self.invariant (g.met.D.Disk.counts_content c.self.inside.disk) old)
 
 pub returns-in-Err-clause-now : goal.returns-in-Err-clause-now
 returns-in-Err-clause-now g c t image left =
@@ -49,7 +57,14 @@ returns-in-Err-clause-now g c t image left =
     let old = subst (λ (b : Bool). IsTrue b) c.read.ensures.time.tells t in
     let now = g.met.D.Disk.counts_content c.read.new.self t in
     let told = c.self.invariant.told old in
-    let same = idle_same c.self.inside.next _ (g.D.Disk.device c.self.inside.disk).content (g.D.Disk.device c.read.new.self).content _ is (told.admits _ (c.read.ensures.crash old _ now)) in
-    let ns = take c.self.inside.segment.count c.self.inside.segment.numbers.items in
-    subst (λ (bs : List (List ℕ)). IsAdmitted c.self.inside.next (part 20 128 c.self.inside.superblock.items) bs (laid_over bs (take c.self.inside.segment.count c.self.inside.segment.numbers.items) (blocks_from 0 (length (take c.self.inside.segment.count c.self.inside.segment.numbers.items)) c.self.inside.segment.images.items)) image) (sym same)
+    let same = idle_same (staged_at c.self.inside.room.items c.self.inside.filled).place c.self.inside.next _ (g.D.Disk.device c.self.inside.disk).content (g.D.Disk.device c.read.new.self).content _ is (told.admits _ (c.read.ensures.crash old _ now)) in
+    let batch = staged_at c.self.inside.room.items c.self.inside.filled in
+    subst (λ (bs : List (List ℕ)). IsAdmitted c.self.inside.next (part 20 128 c.self.inside.superblock.items) bs (laid_over bs batch.numbers batch.images) image) (sym same)
     (told.admits image (c.read.ensures.crash old image left))
+
+pub invariant_of-self-in-Err : goal.invariant_of-self-in-Err
+invariant_of-self-in-Err g c =
+    let is = ap (λ (v : JournalView _). v.next) c.self.view_is ∙ c.requires.idle in
+    let running = ap (λ (v : JournalView _). v.halted) c.self.view_is ∙ c.requires.running in
+    let was = subst (λ (b : Bool). IsKept (g.D.Disk.device c.self.inside.disk) c.self.inside.blocks c.self.inside.superblock.items c.self.inside.next b c.self.inside.room.items c.self.inside.filled c.self.inside.is_last) running c.self.invariant in
+    kept_failed (g.D.Disk.device c.self.inside.disk) (g.D.Disk.device c.read.new.self) c.self.inside.blocks c.self.inside.superblock.items c.self.inside.room.items c.self.inside.filled c.self.inside.is_last c.read.ensures.time (g.met.D.Disk.counts_content c.read.new.self) c.self.inside.next (λ e. absurd (let both : Idle ≡ Descriptor = sym is ∙ e in cc)) was c.read.ensures.crash

@@ -5,11 +5,16 @@ use Rattle.journal.proofs.opening.at_rest.Goals as goal
 pub returns-clause-whole : goal.returns-clause-whole
 returns-clause-whole g c =
     let device = g.D.Disk.device c.args.disk in
-    kept_whole _ _ _ _ _ _ _ _ _ _
-    (rest_kept device c.args.superblock.items c.args.segment.descriptor.items c.args.segment.numbers.items c.args.segment.images.items c.args.blocks c.requires.sizes.0 c.requires.sizes.1 c.requires.sizes.2 c.requires.sizes.3 (λ t. g.met.D.Disk.image_size c.args.disk device.content t (g.met.D.Disk.counts_content c.args.disk t)) (g.met.D.Disk.counts_content c.args.disk) c.requires.found)
+    kept_whole _ _ _ _ _ _ _ _
+    (rest_kept device c.args.superblock.items c.args.blocks c.args.room.items (λ t. g.met.D.Disk.image_size c.args.disk device.content t (g.met.D.Disk.counts_content c.args.disk t)) (g.met.D.Disk.counts_content c.args.disk) c.requires.found)
     (g.met.D.Disk.counts_content c.args.disk)
 
 pub returns-clause-none : goal.returns-clause-none
 returns-clause-none g c t =
     let device = g.D.Disk.device c.args.disk in
-    rest_none device c.args.superblock.items c.args.segment.descriptor.items c.args.segment.numbers.items c.args.segment.images.items c.args.blocks c.requires.sizes.0 c.requires.sizes.1 c.requires.sizes.2 c.requires.sizes.3 (λ s. g.met.D.Disk.image_size c.args.disk device.content s (g.met.D.Disk.counts_content c.args.disk s)) (g.met.D.Disk.counts_content c.args.disk) c.requires.found t
+    rest_none device c.args.superblock.items c.args.blocks c.args.room.items (λ s. g.met.D.Disk.image_size c.args.disk device.content s (g.met.D.Disk.counts_content c.args.disk s)) (g.met.D.Disk.counts_content c.args.disk) c.requires.found t
+
+pub invariant_of-result : goal.invariant_of-result
+invariant_of-result g c =
+    let device = g.D.Disk.device c.args.disk in
+    rest_kept device c.args.superblock.items c.args.blocks c.args.room.items (λ s. g.met.D.Disk.image_size c.args.disk device.content s (g.met.D.Disk.counts_content c.args.disk s)) (g.met.D.Disk.counts_content c.args.disk) c.requires.found

@@ -1,6 +1,6 @@
 use Rattle.std.proofs.Common.{ℕ, List, sym, ◌∙◌, ap, subst, rules}
 use Rattle.model.specs.Volume.{block, IsDescriptor}
-use Rattle.journal.proofs.opening.load_batch.Goals as goal
+use Rattle.journal.proofs.reading.load_batch.Goals as goal
 
 pub returns-in_ok-load_images-in-Some-clause-value : goal.returns-in_ok-load_images-in-Some-clause-value
 returns-in_ok-load_images-in-Some-clause-value g c t = c.in_ok-read_block.ensures.value t ∙ ap (λ (k : ℕ). block k (g.D.Disk.device c.args.disk.now).content) c.descriptor_block.ensures

@@ -2,7 +2,7 @@ use Rattle.std.proofs.Common.{◌≡◌, ℕ, length, ◌∙◌, ap, arith}
 use Rattle.std.proofs.lemmas.List.{take_at}
 use Rattle.std.proofs.lemmas.Result.{on_ok_weaker}
 use Rattle.disk.specs.Image.{part}
-use Rattle.journal.proofs.opening.read_block.Goals as goal
+use Rattle.journal.proofs.reading.read_block.Goals as goal
 
 pub returns-clause-value : goal.returns-clause-value
 returns-clause-value g c t =
