@@ -22,6 +22,7 @@ mod articles;
 mod errors;
 mod growing;
 mod lines;
+mod open;
 mod room;
 mod staging;
 

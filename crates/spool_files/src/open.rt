@@ -1,0 +1,38 @@
+//! Opening a spool.
+
+ghost use Rattle.std.specs.Prelude.{◌≡◌, List, IfErr, IfOk};
+ghost use Rattle.model.specs.Files.{HasRoom};
+ghost use Rattle.model.specs.Layout.{Holds};
+ghost use Rattle.model.specs.declared.change.Change.{Change};
+
+use crate::Spool;
+use fs_layout::inodes::free_inode_count;
+use model::Text;
+use spool_opening::open;
+use spool_reading::OpenError;
+use std::alloc::Global;
+use volume::Volume;
+
+impl Spool {
+    /// Opens the spool of a host that stands in the blocks of a volume, for every content of these. `Damaged` exactly where they
+    /// hold no spool of the host (docs/FORMATS.md), `Memory` where a growth was refused. No block changes.
+    pub fn open(alloc: Global, host: Text, inodes: u32, volume: Volume) -> Result<Spool, OpenError>
+        requires room { HasRoom inodes volume.cache }
+        requires seen { volume.seen ≡ volume.cache }
+        ensures host { IfOk result (λ s. s.host ≡ host) }
+        ensures inodes { IfOk result (λ s. s.inodes ≡ inodes) }
+        ensures held { IfOk result (λ s. Holds host inodes volume.cache s.changes) }
+        ensures blocks { IfOk result (λ s. s.blocks ≡ volume.cache) }
+        ensures dirty { IfOk result (λ s. s.dirty ≡ volume.dirty) }
+        ensures damaged { IfErr result (λ e. e ≡ OpenError.Damaged → (S : List Change) → Holds host inodes volume.cache S → ⊥) }
+    {
+        let opened = match open(alloc, &volume, inodes, host.as_slice()) {
+            Ok(opened) => opened,
+            Err(error) => return Err(error),
+        };
+        let free = free_inode_count(&volume, inodes);
+        let index = opened.index;
+        let places = opened.places;
+        Ok(Spool::of(alloc, host, inodes, free, volume, index, places))
+    }
+}
