@@ -1,5 +1,5 @@
 -- Names that no file of a spool has.
-use Rattle.std.proofs.Common.{◌≡◌, ◌≢◌, ◌<◌, ◌≤◌, ◌^◌, ℕ, zero, suc, ◌+◌, ◌/◌, ◌%◌, Bool, true, false, cond, List, [], ◌∷◌, ◌++◌, length, get_or, drop, refl, sym, ◌∙◌, ap, subst, arith}
+use Rattle.std.proofs.Common.{◌≡◌, ◌≢◌, ◌<◌, ◌≤◌, ◌^◌, ℕ, zero, suc, ◌+◌, ◌/◌, ◌%◌, Bool, true, false, cond, [], ◌∷◌, length, get_or, drop, refl, sym, ◌∙◌, ap, subst, arith}
 use Rattle.std.specs.Prelude.{bytes_eq, filter_map, find, flat_map, Option, Some, None}
 use Rattle.std.specs.List.{Contains}
 use Rattle.std.proofs.lemmas.List.{same_from_push}
@@ -8,7 +8,6 @@ use Rattle.model.specs.Files.{File}
 use Rattle.model.specs.Records.{last_digits}
 use Rattle.model.specs.Spool.{Spool, NewsGroup, entries, entries_from, group_made, group_named, groups, is_name}
 use Rattle.model.specs.SpoolFiles.{article_name, entry_files, expiry_name, files_of, group_name, numbers_name, overview_name}
-use Rattle.model.specs.declared.change.Change.{Change}
 use Rattle.model.specs.declared.change.Change.TheVariants.{Group, Article, Expire}
 use Rattle.model.proofs.Joined.{bytes_same}
 

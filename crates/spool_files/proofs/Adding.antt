@@ -1,6 +1,6 @@
 -- What an article adds to the files of its groups.
-use Rattle.std.proofs.Common.{◌≡◌, ◌≢◌, inl, inr, ◌<◌, ◌≤◌, ◌^◌, ℕ, zero, suc, ◌+◌, ◌*◌, Bool, true, false, cond, List, [], ◌∷◌, ◌++◌, length, get_or, map, refl, sym, ◌∙◌, ap, subst, arith, length-append}
-use Rattle.std.specs.Prelude.{Option, Some, None, bytes_eq, filter, filter_map, flat_map, is_some, not, option_map, slice_get, unwrap_or, ◌&&◌, ◌||◌}
+use Rattle.std.proofs.Common.{◌≡◌, ◌≢◌, inl, inr, ◌<◌, ◌≤◌, ℕ, zero, suc, ◌+◌, ◌*◌, Bool, true, false, cond, List, [], ◌∷◌, ◌++◌, length, get_or, map, refl, sym, ◌∙◌, ap, subst, arith, length-append}
+use Rattle.std.specs.Prelude.{Option, Some, None, bytes_eq, filter, filter_map, flat_map, is_some, not, option_map, slice_get, unwrap_or}
 use Rattle.std.specs.List.{Contains, list_any}
 use Rattle.std.specs.Option.{option_and_then}
 use Rattle.std.proofs.lemmas.Bool.{and_parts, not-true, or_parts, true≢false}
@@ -10,11 +10,11 @@ use Rattle.model.specs.Stream.{Octets}
 use Rattle.model.specs.Article.{are_distinct, groups_of, overview_line}
 use Rattle.model.specs.Files.{File, table}
 use Rattle.model.specs.Indexed.{ArePlaces, FilePlaces, GroupIndex, group_index}
-use Rattle.model.specs.Lawful.{IsLawful, MayFile}
+use Rattle.model.specs.Lawful.{MayFile}
 use Rattle.model.specs.Room.{is_full}
 use Rattle.model.specs.Laws.Room.{HasRoomForChange}
 use Rattle.model.specs.Spool.{Spool, NewsArticle, NewsGroup, entries, entries_from, filed_in, group_made, group_named, groups, high, is_here}
-use Rattle.model.specs.SpoolFiles.{FileCall, Append, filing_calls, next_line, next_record, number_record, numbers_file, numbers_name, overview_file, overview_name}
+use Rattle.model.specs.SpoolFiles.{Append, filing_calls, next_line, next_record, number_record, numbers_file, numbers_name, overview_file, overview_name}
 use Rattle.model.specs.declared.change.Change.TheVariants.{Group, Article, Expire}
 use Rattle.model.proofs.Asking.{changes_ask_few, not_full_room, records_size}
 use Rattle.model.proofs.HoldsOne.{high_few}
@@ -27,8 +27,7 @@ use Rattle.index.specs.View.{IndexView, Indexes}
 use Rattle.index.proofs.Callers.{overview_small}
 use Rattle.index.proofs.Growing.{filed_distinct, overview_size}
 use Rattle.index.proofs.LookUps.{group_is}
-use Rattle.places.specs.Places.{name_of}
-use Rattle.spool_files.specs.Articles.{ArePieces, ArePiecesOf, CanFile, CanFileIn}
+use Rattle.spool_files.specs.Articles.{ArePieces, ArePiecesOf, CanFile}
 use Rattle.spool_files.specs.Kept.{IsHeld}
 use Rattle.spool_files.proofs.Absent.{LacksNames, group_files_lack, not_first}
 use Rattle.spool_files.proofs.Held.{changes_are_few}

@@ -1,12 +1,11 @@
 -- An article is filed.
-use Rattle.std.proofs.Common.{◌≡◌, ◌≢◌, ◌<◌, ◌≤◌, ℕ, zero, suc, ◌+◌, ◌*◌, ◌/◌, List, [], ◌∷◌, ◌++◌, length, get_or, map, refl, sym, ◌∙◌, ap, subst, arith}
+use Rattle.std.proofs.Common.{◌≡◌, ◌≢◌, ◌≤◌, ℕ, suc, ◌+◌, ◌*◌, List, [], ◌∷◌, ◌++◌, length, get_or, map, refl, sym, ◌∙◌, ap, subst, arith}
 use Rattle.std.specs.Prelude.{Option, Some, None, flat_map, option_map, slice_get, unwrap_or}
-use Rattle.std.specs.List.{sum_by}
 use Rattle.std.proofs.lemmas.List.Sums.{sum_by-cons}
 use Rattle.model.specs.Stream.{Octets}
 use Rattle.model.specs.Files.{File, free_blocks, table}
 use Rattle.model.specs.Indexed.{FilePlaces}
-use Rattle.model.specs.Lawful.{IsLawful, MayFile, MayFollow}
+use Rattle.model.specs.Lawful.{MayFile}
 use Rattle.model.specs.Records.{article_record}
 use Rattle.model.specs.Room.{blocks_taken}
 use Rattle.model.specs.Spool.{Spool}

@@ -1,16 +1,15 @@
 -- What is kept of a spool with one change more.
-use Rattle.std.proofs.Common.{◌≡◌, ◌≢◌, ◌⊎◌, inl, inr, ◌↔◌, cond, ◌<◌, ◌≤◌, ℕ, zero, suc, ◌+◌, Bool, true, false, List, [], ◌∷◌, ◌++◌, length, get_or, map, refl, sym, ◌∙◌, ap, subst, arith, length-append}
-use Rattle.std.specs.Prelude.{Option, Some, None, option_map, find, bytes_eq, IsPermutation}
+use Rattle.std.proofs.Common.{◌≡◌, ◌≢◌, ◌⊎◌, inl, inr, ◌↔◌, cond, ℕ, ◌+◌, Bool, true, false, List, [], ◌∷◌, ◌++◌, length, map, refl, sym, ◌∙◌, ap, subst, arith, length-append}
+use Rattle.std.specs.Prelude.{Some, None, option_map, find, bytes_eq}
 use Rattle.std.specs.List.{list_any}
 use Rattle.std.proofs.lemmas.Bool.{cases_eq, or_from}
 use Rattle.std.proofs.lemmas.List.{length-map}
 use Rattle.std.proofs.lemmas.List.Sorted.{IsPermutation-refl, length_permutation}
 use Rattle.model.specs.Stream.{Octets}
-use Rattle.model.specs.Files.{File, files_in, free_blocks, table}
+use Rattle.model.specs.Files.{File, files_in, table}
 use Rattle.model.specs.Indexed.{FilePlaces, GroupIndex, group_index}
-use Rattle.model.specs.Lawful.{MayFollow, MayMake, MayExpire}
+use Rattle.model.specs.Lawful.{MayMake, MayExpire}
 use Rattle.model.specs.Records.{expiry_record, group_record}
-use Rattle.model.specs.Room.{blocks_taken}
 use Rattle.model.specs.Spool.{Spool, NewsGroup, group_named, groups, is_name}
 use Rattle.model.specs.SpoolFiles.{Create, FileCall, after_calls, appended, change_calls, expiry_name, group_name, making_calls, numbers_name, overview_name}
 use Rattle.model.specs.declared.change.Change.{Change}
@@ -25,7 +24,7 @@ use Rattle.index.specs.View.{IndexView, Indexes}
 use Rattle.places.specs.Places.{AreNamed, name_of, with_change, with_group}
 use Rattle.places.proofs.Named.{are_by_name, grow_by_change, grow_by_group, have_names}
 use Rattle.volume.specs.Volume.{VolumeView}
-use Rattle.spool_files.specs.Growing.{HasFree, LacksGroup, MakesGroup, group_calls}
+use Rattle.spool_files.specs.Growing.{LacksGroup, MakesGroup, group_calls}
 use Rattle.spool_files.specs.Kept.{IsHeld, IsKept}
 use Rattle.std.specs.List.{Contains}
 use Rattle.model.specs.Volume.{AreDistinct}

@@ -1,13 +1,13 @@
 -- What blocks that hold a spool leave free, and the change that they get.
-use Rattle.std.proofs.Common.{◌≡◌, ◌≢◌, ◌<◌, ◌≤◌, ◌^◌, ℕ, zero, suc, ◌+◌, ◌-◌, ◌*◌, false, List, [], ◌∷◌, ◌++◌, length, get_or, refl, sym, ◌∙◌, ap, subst, arith, length-append}
+use Rattle.std.proofs.Common.{◌≡◌, ◌≢◌, ◌≤◌, ℕ, zero, suc, ◌+◌, ◌-◌, false, List, [], ◌∷◌, ◌++◌, length, get_or, refl, sym, ◌∙◌, ap, subst, arith, length-append}
 use Rattle.std.specs.Prelude.{replicate, OnErr, Result, Ok, Err, Option, Some, None, IsPermutation, nat_lt, ◌||◌, filter_map}
 use Rattle.std.specs.List.{Contains}
 use Rattle.std.proofs.lemmas.Bool.{ltb-false, or_parts}
 use Rattle.std.proofs.lemmas.List.Sorted.{Contains-permutation, length_permutation, sum_by-IsPermutation}
 use Rattle.model.specs.Stream.{Octets}
-use Rattle.model.specs.Files.{File, HasRoom, HoldsFiles, IsFileSystem, files_in, first_data, free_blocks, table}
+use Rattle.model.specs.Files.{File, HasRoom, IsFileSystem, files_in, first_data, free_blocks, table}
 use Rattle.model.specs.Lawful.{MayFollow}
-use Rattle.model.specs.Room.{blocks_asked, blocks_for, blocks_of_files, extends_large, files_made, free_blocks_beside, free_inodes_beside, has_all_groups, is_full, is_full_for}
+use Rattle.model.specs.Room.{blocks_asked, blocks_for, extends_large, files_made, free_blocks_beside, free_inodes_beside, has_all_groups, is_full, is_full_for}
 use Rattle.model.specs.Spool.{Spool, entries, group_made, groups}
 use Rattle.model.specs.SpoolFiles.{change_calls, files_of}
 use Rattle.model.specs.declared.change.Change.{Change}
@@ -20,7 +20,10 @@ use Rattle.fs.specs.Calls.{IsThere}
 use Rattle.filing.specs.Calls.{Calls}
 use Rattle.places.proofs.Named.{groups_more}
 use Rattle.spool_files.specs.Growing.{HasFree}
-use Rattle.std.proofs.Math.Logic.{∥∥₁_elim}
+use mathlib.Core.HLevel.{is_prop→PathP}
+use Rattle.std.proofs.Math.Logic.{∥∥₁_elim, ∥∥₁_prop}
+use Rattle.std.specs.Prelude.{IsTrue}
+use Rattle.model.specs.Names.{is_host}
 use Rattle.model.specs.Indexed.{ArePlaces, FilePlaces}
 use Rattle.index.specs.View.{IndexView, Indexes}
 use Rattle.volume.specs.Volume.{VolumeView}
@@ -75,6 +78,7 @@ module _ (host : Octets) (inodes : ℕ) (blocks : List Octets) (S : Spool) (is :
   -- the calls of a change lead to the blocks that hold it
   pub grown : (c : Change) (new : List Octets) → MayFollow host S c → Calls inodes (change_calls S c) blocks new → IsHeld host inodes new (S ++ c ∷ [])
   grown c new may calls = record {
+    named = is.named;
     room = calls.room;
     held = spools_grow host inodes new (files_in (table inodes new)) S c (omega (arith, changes_are_few)) is.held.lawful may (record { rule = calls.rule; contents = refl }) (calls.files (files_of S) files_are);
   }
@@ -108,9 +112,16 @@ pub kept_same : (host : Octets) (inodes : ℕ) (v w : VolumeView) (i j : IndexVi
 kept_same host inodes v w i j p q S same_v same_i same_p kept =
     subst (λ (x : VolumeView). IsKept host inodes x j q S) (sym same_v) (subst (λ (x : IndexView). IsKept host inodes v x q S) (sym same_i) (subst (λ (x : FilePlaces). IsKept host inodes v i x S) (sym same_p) kept))
 
-pub kept_view : (host : Octets) (inodes : ℕ) (v w : VolumeView) (S R : Spool) → w ≡ v → R ≡ S
-    → ◌≡◌ {A = SpoolView} (record { host = host; inodes = inodes; changes = R; blocks = w.cache; dirty = w.dirty }) (record { host = host; inodes = inodes; changes = S; blocks = v.cache; dirty = v.dirty })
-kept_view host inodes v w S R same changes = λ i. record { host = host; inodes = inodes; changes = changes i; blocks = (same i).cache; dirty = (same i).dirty }
+pub kept_view : (host : Octets) (inodes : ℕ) (v w : VolumeView) (S : StandsIn host inodes v.cache) (R : StandsIn host inodes w.cache) → w ≡ v → R.changes ≡ S.changes
+    → ◌≡◌ {A = SpoolView} (record { host = host; inodes = inodes; changes = R.changes; blocks = w.cache; dirty = w.dirty; sound = R.held }) (record { host = host; inodes = inodes; changes = S.changes; blocks = v.cache; dirty = v.dirty; sound = S.held })
+kept_view host inodes v w S R same changes = λ i. record {
+  host = host;
+  inodes = inodes;
+  changes = changes i;
+  blocks = (same i).cache;
+  dirty = (same i).dirty;
+  sound = is_prop→PathP (λ j. ∥ IsHeld host inodes (same j).cache (changes j) ∥₁) (λ j. ∥∥₁_prop) R.held S.held i;
+}
 
 pub cleaned : (host : Octets) (inodes : ℕ) (v w : VolumeView) (i : IndexView) (p : FilePlaces) (S : Spool) → w ≡ record v { dirty = [] } → IsKept host inodes v i p S → IsKept host inodes w i p S
 cleaned host inodes v w i p S same kept =
@@ -118,10 +129,11 @@ cleaned host inodes v w i p S same kept =
     subst (λ (x : VolumeView). IsKept host inodes x i p S) (sym same) clean
 
 -- the spool with the change
-pub added : (host : Octets) (inodes : ℕ) (v w : VolumeView) (S R : Spool) (c : Change) (old : SpoolView) → record { host = host; inodes = inodes; changes = S; blocks = v.cache; dirty = v.dirty } ≡ old → R ≡ S ++ c ∷ [] → Dirties v.cache w.cache v.dirty w.dirty
-    → Adds old (record { host = host; inodes = inodes; changes = R; blocks = w.cache; dirty = w.dirty }) c
+pub added : (host : Octets) (inodes : ℕ) (v w : VolumeView) (S : StandsIn host inodes v.cache) (R : StandsIn host inodes w.cache) (c : Change) (old : SpoolView)
+    → record { host = host; inodes = inodes; changes = S.changes; blocks = v.cache; dirty = v.dirty; sound = S.held } ≡ old → R.changes ≡ S.changes ++ c ∷ [] → Dirties v.cache w.cache v.dirty w.dirty
+    → Adds old (record { host = host; inodes = inodes; changes = R.changes; blocks = w.cache; dirty = w.dirty; sound = R.held }) c
 added host inodes v w S R c old view changes dirties =
-    subst (λ (x : SpoolView). Adds x (record { host = host; inodes = inodes; changes = R; blocks = w.cache; dirty = w.dirty }) c) view (record { host = refl; inodes = refl; changes = changes; dirties = dirties })
+    subst (λ (x : SpoolView). Adds x (record { host = host; inodes = inodes; changes = R.changes; blocks = w.cache; dirty = w.dirty; sound = R.held }) c) view (record { host = refl; inodes = refl; changes = changes; dirties = dirties })
 
 -- inodes enough are left
 pub enough_left : (host : Octets) (inodes : ℕ) (v : VolumeView) (i : IndexView) (p : FilePlaces) (free : ℕ) (S : Spool) (c : Change) → IsKept host inodes v i p S → AreFree free inodes S → is_full (length v.cache) inodes S (Some c) ≡ false → files_made c ≤ free
@@ -133,13 +145,13 @@ if_err (Ok x) is = tt
 if_err (Err e) is = is
 
 -- a spool without changes stands in an empty file system
-pub nothing_stands : (host : Octets) (inodes : ℕ) (v : VolumeView) (i : IndexView) (p : FilePlaces) → HasRoom inodes v.cache → IsFileSystem inodes v.cache → table inodes v.cache ≡ replicate inodes None → v.seen ≡ v.cache
+pub nothing_stands : (host : Octets) (inodes : ℕ) (v : VolumeView) (i : IndexView) (p : FilePlaces) → IsTrue (is_host host) → HasRoom inodes v.cache → IsFileSystem inodes v.cache → table inodes v.cache ≡ replicate inodes None → v.seen ≡ v.cache
     → Indexes [] i → p ≡ record { changes = []; numbers = []; overviews = [] } → CanStand host inodes inodes v i p
 unfolding files_of entries groups
-nothing_stands host inodes v i p room rule none seen indexed places = record {
+nothing_stands host inodes v i p named room rule none seen indexed places = record {
   changes = [];
   kept = record {
-    is = record { room = room; held = empty_none host inodes v.cache rule none };
+    is = record { named = named; room = room; held = empty_none host inodes v.cache rule none };
     seen = seen;
     indexed = indexed;
     placed = subst (ArePlaces inodes v.cache []) (sym places) (record { changes_are = refl; numbers_are = refl; overviews_are = refl });

@@ -7,3 +7,4 @@ pub mod Full
 pub mod Adding
 pub mod Filed
 pub mod Large
+pub mod Sound

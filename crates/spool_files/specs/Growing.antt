@@ -1,9 +1,8 @@
 -- One change more, in all that a spool keeps.
-use Rattle.std.specs.Prelude.{◌≡◌, ℕ, ◌+◌, ◌<◌, ◌≤◌, false, List, [], ◌∷◌, ◌++◌, length, map, Some, None}
+use Rattle.std.specs.Prelude.{◌≡◌, ℕ, ◌+◌, ◌≤◌, false, List, [], ◌∷◌, ◌++◌, length, map, Some}
 use Rattle.model.specs.Files.{files_in, free_blocks, table}
 use Rattle.model.specs.Indexed.{FilePlaces}
 use Rattle.model.specs.Lawful.{MayFollow}
-use Rattle.model.specs.Records.{group_record}
 use Rattle.model.specs.Room.{is_full}
 use Rattle.model.specs.Spool.{Spool}
 use Rattle.model.specs.SpoolFiles.{FileCall, Create, group_name, making_calls, numbers_name, overview_name}

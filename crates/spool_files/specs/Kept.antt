@@ -1,5 +1,5 @@
 -- What a spool keeps beside its blocks.
-use Rattle.std.specs.Prelude.{◌≡◌, ℕ, ◌+◌, ◌≤◌, List, length}
+use Rattle.std.specs.Prelude.{◌≡◌, ℕ, ◌+◌, IsTrue, List, length}
 use mathlib.Core.HLevel.{is_prop→PathP}
 use mathlib.Core.Path.{PathP}
 use Rattle.std.proofs.Math.Logic.{∥∥₁_elim, ∥∥₁_prop}
@@ -7,6 +7,7 @@ use Rattle.std.proofs.Props.{props}
 use Rattle.model.specs.Files.{HasRoom}
 use Rattle.model.specs.Indexed.{ArePlaces, FilePlaces}
 use Rattle.model.specs.Layout.{Holds}
+use Rattle.model.specs.Names.{is_host}
 use Rattle.model.specs.Spool.{Spool}
 use Rattle.model.specs.SpoolFiles.{files_of}
 use Rattle.model.specs.Stream.{Octets}
@@ -14,8 +15,9 @@ use Rattle.model.proofs.HoldsOne.{holds_one}
 use Rattle.index.specs.View.{IndexView, Indexes}
 use Rattle.volume.specs.Volume.{VolumeView}
 
--- blocks with room for so many inodes hold these changes
+-- blocks with room for so many inodes hold these changes of a host
 pub record IsHeld (host : Octets) (inodes : ℕ) (blocks : List Octets) (S : Spool) : Type 0 where
+  pub named : IsTrue (is_host host)
   pub room : HasRoom inodes blocks
   pub held : Holds host inodes blocks S
 

@@ -1,5 +1,5 @@
 -- Why a change is refused, memory apart: the first test that fails.
-use Rattle.std.specs.Prelude.{◌≡◌, ℕ, ◌⊎◌, Bool, ◌&&◌, nat_le, if◌then◌else◌, length, Option, Some, None, Result, MatchResult}
+use Rattle.std.specs.Prelude.{◌≡◌, ℕ, ◌⊎◌, Bool, true, false, ◌&&◌, nat_le, if◌then◌else◌, length, Option, Some, None, Result, MatchResult}
 use Rattle.model.specs.Stream.{Octets}
 use Rattle.model.specs.Spool.{Spool, high, is_here, low}
 use Rattle.model.specs.Room.{is_full}
@@ -7,7 +7,7 @@ use Rattle.model.specs.declared.change.Change.{Change}
 use Rattle.model.specs.declared.change.Change.TheVariants.{Expire}
 use Rattle.serving.specs.declared.FileError.{FileError}
 use Rattle.serving.specs.declared.FileError.TheVariants as file
-use Rattle.spool_files.specs.View.{SpoolView}
+use Rattle.spool_files.specs.View.{Adds, SpoolView}
 use Rattle.spool_files.specs.declared.errors.AddError.{AddError}
 use Rattle.spool_files.specs.declared.errors.AddError.TheVariants as add
 use Rattle.spool_files.specs.declared.errors.ExpireError.{ExpireError}
@@ -36,3 +36,8 @@ expiry_refusal s g n = if has_number s.changes g n then (if is_full_for s (Expir
 -- an article that may follow: there is no room
 abbrev pub article_refusal : SpoolView → Change → Option FileError
 article_refusal s c = if is_full_for s c then Some file.Full else None
+
+-- a change was filed, for which there was room, or there was none, or memory was refused; a refusal leaves the spool as it was
+abbrev pub IsFiled : SpoolView → SpoolView → Change → Result (Unit {0}) FileError → Type 0
+IsFiled old new c result =
+    MatchResult result (λ done. (is_full_for old c ≡ false) × Adds old new c) (λ error. ((error ≡ file.Memory) ⊎ ((error ≡ file.Full) × (is_full_for old c ≡ true))) × (new ≡ old))

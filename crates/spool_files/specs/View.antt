@@ -7,14 +7,15 @@ use Rattle.model.specs.declared.change.Change.{Change}
 use Rattle.volume.specs.Volume.{Differs}
 use Rattle.spool_files.specs.Kept.{IsHeld}
 
--- its host, the inodes of its volume, the accepted changes, the cached blocks, and the numbers of those that no batch has taken
--- since they changed
+-- its host, the inodes of its volume, the accepted changes, the cached blocks, which hold them, and the numbers of those that no
+-- batch has taken since they changed
 pub record SpoolView : Type 0 where
   pub host : Octets
   pub inodes : ℕ
   pub changes : Spool
   pub blocks : List Octets
   pub dirty : List ℕ
+  pub sound : ∥ IsHeld host inodes blocks changes ∥₁
 
 -- what holds of every spool
 abbrev pub IsSpool : SpoolView → Type 0

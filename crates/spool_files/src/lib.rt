@@ -1,20 +1,22 @@
 //! The list of accepted changes, in files over the cached logical blocks, with an index and the places of the files in memory.
 #![tactic(auto)]
 
-ghost use Rattle.std.specs.Prelude.{◌≡◌, ◌⊎◌, ◌+◌, ◌-◌, ◌<◌, ◌≤◌, ◌||◌, ◌^◌, ◌&&◌, nat_lt, nat_le, ℕ, List, [], false, None, length, option_map, replicate, slice_index_or, IsTrue, IfOk, OnErr, OnOk};
-ghost use Rattle.std.specs.List.{All, flat_map, list_all};
+ghost use Rattle.std.specs.Prelude.{◌≡◌, ◌⊎◌, ◌+◌, ◌-◌, ◌<◌, ◌≤◌, ◌||◌, ◌^◌, ◌&&◌, ◌∷◌, ◌++◌, nat_lt, nat_le, ℕ, List, [], Some, false, None, length, option_map, replicate, slice_index_or, IsTrue, IfOk, OnErr, OnOk};
+ghost use Rattle.std.specs.List.{All, flat_map, list_all, list_any};
+ghost use Rattle.lookups.specs.Held as held;
+ghost use Rattle.lookups.specs.Held.{article_with, gone_with, groups_now, known};
 ghost use Rattle.model.specs.Calendar.{moment_limit};
-ghost use Rattle.model.specs.Lawful.{MayExpire, MayFile, MayMake, is_description_octet};
+ghost use Rattle.model.specs.Lawful.{IsLawful, MayExpire, MayFile, MayMake, is_description_octet};
 ghost use Rattle.model.specs.Layout.{Holds};
-ghost use Rattle.model.specs.Names.{is_group_name, is_host};
+ghost use Rattle.model.specs.Names.{is_group_name, is_host, is_wildmat, wildmat_matches};
 ghost use Rattle.model.specs.Room.{free_blocks_beside, free_inodes_beside};
 ghost use Rattle.model.specs.Files.{HasRoom, IsFileSystem, table};
 ghost use Rattle.model.specs.Indexed.{group_index};
-ghost use Rattle.model.specs.Spool.{by_id, by_number, expired_at, group_named, is_here};
+ghost use Rattle.model.specs.Spool.{Spool as Changes, by_id, by_number, expired_at, group_named, groups, is_here};
 ghost use Rattle.index.specs.Shown.{shown};
 ghost use Rattle.model.specs.SpoolFiles.{files_of};
 ghost use Rattle.model.specs.Volume.{AreDistinct, blocks_from, laid_over};
-ghost use Rattle.model.specs.declared.change.Change.{Change};
+ghost use Rattle.model.specs.declared.change.Change.TheVariants as changed;
 ghost use Rattle.spool_opening.specs.Replayed.{AreHere};
 ghost use Rattle.volume.specs.Volume.{AgreeOutside};
 
@@ -31,7 +33,8 @@ pub use errors::{AddError, ExpireError};
 use fs::free_block_count;
 use growing::{grow_by_article, grow_by_expiry, grow_by_group};
 use index::{Group, Index};
-use model::Text;
+use lookups::GroupView;
+use model::{Change, Text};
 use places::Places;
 use room::extends_large;
 use serving::FileError;
@@ -69,14 +72,14 @@ impl Model for Spool {
 
     ghost Value = { SpoolView };
 
-    ghost view = { λ s. record { host = s.host; inodes = s.inodes; changes = s.stands.changes; blocks = s.volume.cache; dirty = s.volume.dirty } };
+    ghost view = { λ s. record { host = s.host; inodes = s.inodes; changes = s.stands.changes; blocks = s.volume.cache; dirty = s.volume.dirty; sound = s.stands.held } };
 
     ghost invariant = { λ s. IsKept s.host s.inodes s.volume s.index s.places s.stands.changes × AreFree s.free_inodes s.inodes s.stands.changes };
 }
 
 impl Spool {
     ghost use Rattle.spool_files.specs.Kept.{CanStand};
-    ghost use Rattle.spool_files.specs.Refusals.{Tested, article_refusal, expiry_refusal, group_refusal, has_number, is_full_for};
+    ghost use Rattle.spool_files.specs.Refusals.{IsFiled, Tested, article_refusal, expiry_refusal, group_refusal, has_number, is_full_for};
     ghost use Rattle.spool_files.specs.View.{Adds, IsSpool};
 
     /// The spool that stands in the blocks of a volume, with its index, the places of its files, and how many inodes are free.
@@ -92,7 +95,7 @@ impl Spool {
         requires { CanStand host inodes free_inodes volume index places }
         ensures host { result.host ≡ host }
         ensures inodes { result.inodes ≡ inodes }
-        ensures changes { (S : List Change) → Holds host inodes volume.cache S → result.changes ≡ S }
+        ensures changes { (S : Changes) → Holds host inodes volume.cache S → result.changes ≡ S }
         ensures blocks { result.blocks ≡ volume.cache }
         ensures dirty { result.dirty ≡ volume.dirty }
     {
@@ -109,6 +112,7 @@ impl Spool {
 
     /// The spool without changes, in an empty file system.
     pub fn empty(alloc: Global, host: Text, inodes: u32, volume: Volume) -> Spool
+        requires named { IsTrue (is_host host) }
         requires room { HasRoom inodes volume.cache }
         requires rule { IsFileSystem inodes volume.cache }
         requires none { table inodes volume.cache ≡ replicate inodes None }
@@ -187,6 +191,43 @@ impl Spool {
         self.index.expired_at(group, number)
     }
 
+    /// The group with this name, as the commands see it.
+    pub fn view(&self, name: &[u8]) -> Option<GroupView<'_>>
+        ensures { option_map held.shown result ≡ option_map (known self.now.changes) (group_named self.now.changes name.now) }
+    {
+        self.index.view(name)
+    }
+
+    /// How many groups there are.
+    pub fn group_count(&self) -> usize
+        ensures { result ≡ length (groups self.now.changes) }
+    {
+        self.index.group_count()
+    }
+
+    /// The serial of the expiry that took the article with this serial out of its last group. None where it is in a group, or
+    /// where no article has this serial.
+    pub fn gone_at(&self, serial: u64) -> Option<u64>
+        ensures { result ≡ gone_with self.now.changes serial }
+    {
+        self.index.gone_at(serial)
+    }
+
+    /// The moment of the article with this serial, if there is one, in seconds since 1970.
+    pub fn moment(&self, serial: u64) -> Option<u64>
+        ensures { result ≡ option_map (λ a. a.moment) (article_with self.now.changes serial) }
+    {
+        self.index.moment(serial)
+    }
+
+    /// Whether the article with this serial is in a group whose name the wildmat takes.
+    pub fn is_in_one(&self, serial: u64, wildmat: &[u8]) -> bool
+        requires { IsTrue (is_wildmat wildmat.now) }
+        ensures { result ≡ list_any (wildmat_matches wildmat.now) (groups_now self.now.changes serial) }
+    {
+        self.index.is_in_one(serial, wildmat)
+    }
+
     /// How many blocks are dirty.
     pub fn dirty_len(&self) -> usize
         ensures { result ≡ length self.now.dirty }
@@ -225,7 +266,7 @@ impl Spool {
 
     /// Whether there is no room for a group.
     fn is_full_for_group(&self) -> bool
-        ensures { result ≡ is_full_for self.now (Change.Group [] 0 [] 0) }
+        ensures { result ≡ is_full_for self.now (changed.Group [] 0 [] 0) }
     {
         self.lacks_room(GROUP_FILES) || GROUPS <= self.index.groups().len()
     }
@@ -244,8 +285,8 @@ impl Spool {
         requires short { length description.now ≤ 200 }
         requires printable { IsTrue (list_all is_description_octet description.now) }
         requires in_time { moment < moment_limit }
-        ensures { Tested AddError.Memory (group_refusal self.old name.now (Change.Group name.now status description.now moment)) self.old self.new result
-            (λ serial. (serial ≡ length self.old.changes + 1) × Adds self.old self.new (Change.Group name.now status description.now moment)) }
+        ensures { Tested AddError.Memory (group_refusal self.old name.now (changed.Group name.now status description.now moment)) self.old self.new result
+            (λ serial. (serial ≡ length self.old.changes + 1) × Adds self.old self.new (changed.Group name.now status description.now moment)) }
     {
         if self.is_here(name) {
             return Err(AddError::Exists);
@@ -268,8 +309,8 @@ impl Spool {
         moment: u64,
     ) -> Result<(), AllocError>
         requires may { MayMake self.old.changes name.now status description.now moment }
-        requires room { is_full_for self.old (Change.Group name.now status description.now moment) ≡ false }
-        ensures ok { OnOk result (Adds self.old self.new (Change.Group name.now status description.now moment)) }
+        requires room { is_full_for self.old (changed.Group name.now status description.now moment) ≡ false }
+        ensures ok { OnOk result (Adds self.old self.new (changed.Group name.now status description.now moment)) }
         ensures err { OnErr result (self.new ≡ self.old) }
     {
         grow_by_group(
@@ -290,7 +331,7 @@ impl Spool {
     /// Whether there is no room for an article in these groups, which are here.
     fn is_full_for_article(&self, groups: &[Text]) -> bool
         requires { AreHere self.now.changes groups.now }
-        ensures { result ≡ is_full_for self.now (Change.Article [] groups.now 0) }
+        ensures { result ≡ is_full_for self.now (changed.Article [] groups.now 0) }
     {
         self.lacks_room(1) || extends_large(&self.index, groups)
     }
@@ -304,8 +345,8 @@ impl Spool {
         moment: u64,
     ) -> Result<u64, FileError>
         requires { MayFile self.old.host self.old.changes text.now groups.now moment }
-        ensures { Tested FileError.Memory (article_refusal self.old (Change.Article text.now groups.now moment)) self.old self.new result
-            (λ serial. (serial ≡ length self.old.changes + 1) × Adds self.old self.new (Change.Article text.now groups.now moment)) }
+        ensures { Tested FileError.Memory (article_refusal self.old (changed.Article text.now groups.now moment)) self.old self.new result
+            (λ serial. (serial ≡ length self.old.changes + 1) × Adds self.old self.new (changed.Article text.now groups.now moment)) }
     {
         if self.is_full_for_article(groups) {
             return Err(FileError::Full);
@@ -329,8 +370,8 @@ impl Spool {
         moment: u64,
     ) -> Result<(), AllocError>
         requires may { MayFile self.old.host self.old.changes article.now groups.now moment }
-        requires room { is_full_for self.old (Change.Article article.now groups.now moment) ≡ false }
-        ensures ok { OnOk result (Adds self.old self.new (Change.Article article.now groups.now moment)) }
+        requires room { is_full_for self.old (changed.Article article.now groups.now moment) ≡ false }
+        ensures ok { OnOk result (Adds self.old self.new (changed.Article article.now groups.now moment)) }
         ensures err { OnErr result (self.new ≡ self.old) }
     {
         grow_by_article(
@@ -361,7 +402,7 @@ impl Spool {
     /// or `Memory`, in that order, but `Memory` may come before the others. A refusal changes nothing.
     pub fn expire(&mut self, name: &[u8], number: u32) -> Result<u64, ExpireError>
         ensures { Tested ExpireError.Memory (expiry_refusal self.old name.now number) self.old self.new result
-            (λ serial. (serial ≡ length self.old.changes + 1) × Adds self.old self.new (Change.Expire name.now number)) }
+            (λ serial. (serial ≡ length self.old.changes + 1) × Adds self.old self.new (changed.Expire name.now number)) }
     {
         if !self.has_number(name, number) {
             return Err(ExpireError::NotFound);
@@ -378,8 +419,8 @@ impl Spool {
     /// Adds an expiry that may follow and for which there is room. An `Err` is out of memory and changes nothing.
     fn push_expiry(&mut self, name: &[u8], number: u32) -> Result<(), AllocError>
         requires may { MayExpire self.old.changes name.now number }
-        requires room { is_full_for self.old (Change.Expire name.now number) ≡ false }
-        ensures ok { OnOk result (Adds self.old self.new (Change.Expire name.now number)) }
+        requires room { is_full_for self.old (changed.Expire name.now number) ≡ false }
+        ensures ok { OnOk result (Adds self.old self.new (changed.Expire name.now number)) }
         ensures err { OnErr result (self.new ≡ self.old) }
     {
         grow_by_expiry(
@@ -393,5 +434,70 @@ impl Spool {
         )?;
         self.free_inodes -= 1;
         Ok(())
+    }
+
+    /// Files a change that may follow. Refused as `Full` exactly where there is no room, or as `Memory`, which may come before that
+    /// test. A refusal changes nothing.
+    pub fn file(&mut self, change: &Change) -> Result<(), FileError>
+        requires { IsLawful self.old.host (self.old.changes ++ change.now ∷ []) }
+        ensures { IsFiled self.old self.new change.now result }
+    {
+        match change {
+            Change::Group {
+                name,
+                status,
+                description,
+                moment,
+            } => self.file_group(name.as_slice(), *status, description.as_slice(), *moment),
+            Change::Article {
+                text,
+                groups,
+                moment,
+            } => self.file_article(text.as_slice(), groups.as_slice(), *moment),
+            Change::Expire { group, number } => self.file_expiry(group.as_slice(), *number),
+        }
+    }
+
+    /// Files a group that may be made.
+    fn file_group(
+        &mut self,
+        name: &[u8],
+        status: u8,
+        description: &[u8],
+        moment: u64,
+    ) -> Result<(), FileError>
+        requires { MayMake self.old.changes name.now status description.now moment }
+        ensures { IsFiled self.old self.new (changed.Group name.now status description.now moment) result }
+    {
+        match self.add_group(name, status, description, moment) {
+            Ok(_) => Ok(()),
+            Err(AddError::Exists) => unreachable!(),
+            Err(AddError::Full) => Err(FileError::Full),
+            Err(AddError::Memory) => Err(FileError::Memory),
+        }
+    }
+
+    /// Files an article that may be filed.
+    fn file_article(&mut self, text: &[u8], groups: &[Text], moment: u64) -> Result<(), FileError>
+        requires { MayFile self.old.host self.old.changes text.now groups.now moment }
+        ensures { IsFiled self.old self.new (changed.Article text.now groups.now moment) result }
+    {
+        match self.add_article(text, groups, moment) {
+            Ok(_) => Ok(()),
+            Err(error) => Err(error),
+        }
+    }
+
+    /// Files an expiry that may follow.
+    fn file_expiry(&mut self, group: &[u8], number: u64) -> Result<(), FileError>
+        requires { MayExpire self.old.changes group.now number }
+        ensures { IsFiled self.old self.new (changed.Expire group.now number) result }
+    {
+        match self.expire(group, number as u32) {
+            Ok(_) => Ok(()),
+            Err(ExpireError::NotFound) => unreachable!(),
+            Err(ExpireError::Full) => Err(FileError::Full),
+            Err(ExpireError::Memory) => Err(FileError::Memory),
+        }
     }
 }

@@ -1,5 +1,4 @@
-use Rattle.std.proofs.Common.{◌≡◌, inr, ℕ, Bool, true, false, List, length, refl, ◌∙◌, sym, ap, subst}
-use Rattle.model.specs.Lawful.{MayFile}
+use Rattle.std.proofs.Common.{◌≡◌, inr, ℕ, true, false, List, length, refl, ◌∙◌, sym, subst}
 use Rattle.model.specs.Room.{is_full_for}
 use Rattle.model.specs.declared.change.Change.{Change}
 use Rattle.model.specs.declared.change.Change.TheVariants.{Article}

@@ -1,7 +1,5 @@
-use Rattle.std.proofs.Common.{◌≡◌, [], ℕ, List, ◌∙◌, sym, ap, subst}
-use Rattle.model.specs.Stream.{Octets}
+use Rattle.std.proofs.Common.{[], ◌∙◌, ap}
 use Rattle.volume.specs.Volume.{VolumeView}
-use Rattle.spool_files.specs.Kept.{IsKept}
 use Rattle.spool_files.specs.View.{SpoolView}
 use Rattle.spool_files.proofs.Held.{cleaned, kept_stands, kept_view, the_changes}
 use Rattle.spool_files.proofs.Spool.copy_dirty.Goals as goal
@@ -18,5 +16,5 @@ returns-clause-clean c =
     let clean : VolumeView = record s.volume { dirty = [] } in
     let kept = cleaned s.host s.inodes s.volume c.copy_dirty.new.self s.index s.places s.stands.changes c.copy_dirty.ensures.clean c.self.invariant.0 in
     let same = the_changes s.host s.inodes c.copy_dirty.new.self.cache s.stands.changes kept.is c.self-1.given.0 in
-    kept_view s.host s.inodes clean c.copy_dirty.new.self s.stands.changes c.self-1.given.0.changes c.copy_dirty.ensures.clean same
+    kept_view s.host s.inodes clean c.copy_dirty.new.self s.stands c.self-1.given.0 c.copy_dirty.ensures.clean same
     ∙ ap (λ (x : SpoolView). record x { dirty = [] }) c.self.view_is

@@ -1,4 +1,4 @@
-use Rattle.std.proofs.Common.{◌≡◌, inr, ℕ, Bool, true, false, length, refl, ◌∙◌, sym, ap}
+use Rattle.std.proofs.Common.{◌≡◌, inr, true, false, length, refl, ◌∙◌, sym}
 use Rattle.model.specs.Room.{is_full_for}
 use Rattle.model.specs.declared.change.Change.TheVariants.{Expire}
 use Rattle.spool_files.specs.Refusals.{has_number}

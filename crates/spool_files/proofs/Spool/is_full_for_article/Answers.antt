@@ -1,4 +1,4 @@
-use Rattle.std.proofs.Common.{◌≡◌, ℕ, Bool, List, [], length, ◌∙◌, sym, ap, subst}
+use Rattle.std.proofs.Common.{Bool, [], length, ◌∙◌, sym, ap, subst}
 use Rattle.std.specs.Prelude.{◌||◌}
 use Rattle.std.specs.List.{list_any}
 use Rattle.spool_opening.specs.Replayed.{AreHere}

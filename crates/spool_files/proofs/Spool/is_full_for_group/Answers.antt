@@ -1,11 +1,10 @@
-use Rattle.std.proofs.Common.{◌≡◌, ℕ, Bool, true, false, List, [], length, map, ◌∙◌, sym, ap, subst}
+use Rattle.std.proofs.Common.{◌≡◌, ℕ, Bool, [], length, map, ◌∙◌, sym, ap}
 use Rattle.std.specs.Prelude.{nat_le, ◌||◌}
 use Rattle.std.proofs.lemmas.List.{length-map}
-use Rattle.model.specs.Indexed.{group_index}
 use Rattle.model.specs.Spool.{groups}
 use Rattle.index.specs.Shown.{shown}
 use Rattle.spool_files.specs.View.{SpoolView}
-use Rattle.spool_files.proofs.Full.{full_group, group_count, lacks}
+use Rattle.spool_files.proofs.Full.{full_group, group_count}
 use Rattle.spool_files.proofs.Spool.is_full_for_group.Goals as goal
 
 pub returns-then-lacks_room : goal.returns-then-lacks_room

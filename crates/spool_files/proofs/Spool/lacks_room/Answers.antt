@@ -1,7 +1,6 @@
-use Rattle.std.proofs.Common.{◌≡◌, ◌<◌, ℕ, ◌+◌, ◌-◌, length, ◌∙◌, sym, ap, subst, arith}
-use Rattle.std.specs.Prelude.{nat_lt, ◌||◌}
+use Rattle.std.proofs.Common.{◌≡◌, ℕ, length, ◌∙◌, ap, subst, arith}
+use Rattle.std.specs.Prelude.{nat_lt}
 use Rattle.std.proofs.lemmas.Bool.{lt-ltb, le-ltb}
-use Rattle.model.specs.Stream.{Octets}
 use Rattle.model.specs.Files.{free_blocks}
 use Rattle.model.specs.Room.{free_blocks_beside, free_inodes_beside}
 use Rattle.model.specs.SpoolFiles.{files_of}

@@ -8,4 +8,4 @@ invariant_of-result-2 c =
 
 pub returns-clause-changes : goal.returns-clause-changes
 returns-clause-changes c =
-    λ S held. the_changes c.args.host c.args.inodes c.args.volume.cache S (record { room = c.requires.kept.is.room; held = held }) c.result-1.given.0
+    λ S held. the_changes c.args.host c.args.inodes c.args.volume.cache S (record { named = c.requires.kept.is.named; room = c.requires.kept.is.room; held = held }) c.result-1.given.0

@@ -1,7 +1,6 @@
-use Rattle.std.proofs.Common.{◌≡◌, ◌≤◌, ℕ, ◌+◌, ◌-◌, false, List, [], ◌∷◌, ◌++◌, length, ◌∙◌, sym, ap, subst, arith}
+use Rattle.std.proofs.Common.{◌≡◌, ◌≤◌, ◌-◌, false, [], ◌∷◌, ◌++◌, length, ◌∙◌, sym, subst}
 use Rattle.model.specs.Lawful.{MayMake}
 use Rattle.model.specs.Room.{is_full_for}
-use Rattle.model.specs.Spool.{Spool}
 use Rattle.model.specs.declared.change.Change.{Change}
 use Rattle.model.specs.declared.change.Change.TheVariants.{Group}
 use Rattle.spool_files.specs.View.{SpoolView}
@@ -23,7 +22,7 @@ returns-in_err-grow_by_group-clause-err c =
     let n = c.grow_by_group.new in
     let kept = kept_same s.host s.inodes s.volume n.volume s.index n.index s.places n.places s.stands.changes e.volume e.index e.places c.self.invariant.0 in
     let now = c.in_err-grow_by_group.self-1-own.given.0 in
-    if_err c.from_residual.result (kept_view s.host s.inodes s.volume n.volume s.stands.changes now.changes e.volume (the_changes s.host s.inodes n.volume.cache s.stands.changes kept.is now) ∙ c.self.view_is)
+    if_err c.from_residual.result (kept_view s.host s.inodes s.volume n.volume s.stands now e.volume (the_changes s.host s.inodes n.volume.cache s.stands.changes kept.is now) ∙ c.self.view_is)
 
 pub overflow_sub-self : goal.overflow_sub-self
 overflow_sub-self c =
@@ -58,5 +57,5 @@ returns-clause-ok c =
     let its : Change = Group c.args.name.now c.args.status c.args.description.now c.args.moment in
     let may : MayMake s.stands.changes c.args.name.now c.args.status c.args.description.now c.args.moment = subst (λ (x : SpoolView). MayMake x.changes c.args.name.now c.args.status c.args.description.now c.args.moment) (sym c.self.view_is) c.requires.may in
     let kept = c.in_ok-grow_by_group.ensures.grown.kept s.host s.stands.changes c.self.invariant.0 may in
-    added s.host s.inodes s.volume n.volume s.stands.changes c.self-2-1.given.0.changes its c.args.self.now c.self.view_is
+    added s.host s.inodes s.volume n.volume s.stands c.self-2-1.given.0 its c.args.self.now c.self.view_is
     (the_changes s.host s.inodes n.volume.cache (s.stands.changes ++ its ∷ []) kept.is c.self-2-1.given.0) c.in_ok-grow_by_group.ensures.grown.dirties

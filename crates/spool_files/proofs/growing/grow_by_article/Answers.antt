@@ -1,10 +1,9 @@
-use Rattle.std.proofs.Common.{◌≡◌, ℕ, ◌+◌, ◌*◌, List, [], ◌∷◌, ◌++◌, get_or, length, ◌∙◌, sym, subst, ap, arith}
+use Rattle.std.proofs.Common.{◌≡◌, ℕ, ◌+◌, List, [], ◌∷◌, ◌++◌, get_or, length, ◌∙◌, sym, subst, ap, arith}
 use Rattle.std.proofs.lemmas.List.{get_or_default}
 use Rattle.model.specs.Stream.{Octets}
 use Rattle.model.specs.Lawful.{MayFile}
 use Rattle.model.specs.Records.{article_record}
 use Rattle.model.specs.Files.{table}
-use Rattle.model.specs.Spool.{Spool}
 use Rattle.model.specs.SpoolFiles.{article_name}
 use Rattle.model.specs.declared.change.Change.TheVariants.{Article}
 use Rattle.model.proofs.Asking.{changes_ask_few}

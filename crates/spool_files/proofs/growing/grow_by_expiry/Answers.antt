@@ -2,12 +2,10 @@ use Rattle.std.proofs.Common.{◌≡◌, ℕ, ◌+◌, List, length, ◌∙◌, 
 use Rattle.model.specs.Stream.{Octets}
 use Rattle.model.specs.Records.{expiry_record}
 use Rattle.model.specs.Files.{table}
-use Rattle.model.specs.Spool.{Spool}
 use Rattle.model.specs.SpoolFiles.{expiry_name}
 use Rattle.model.specs.declared.change.Change.TheVariants.{Expire}
 use Rattle.model.proofs.Asking.{changes_ask_few}
 use Rattle.fs.specs.Calls.{IsThere}
-use Rattle.index.specs.View.{Indexes}
 use Rattle.spool_files.specs.Growing.{HasFree}
 use Rattle.spool_files.proofs.Grown.{applied_dirties, expiry_grown, lacks_expiry}
 use Rattle.spool_files.proofs.Held.{changes_are_few, enough}

@@ -1,11 +1,9 @@
 use Rattle.std.proofs.Common.{◌≡◌, ℕ, ◌+◌, List, length, ◌∙◌, sym, subst, ap, arith}
 use Rattle.model.specs.Stream.{Octets}
 use Rattle.model.specs.Records.{group_record}
-use Rattle.model.specs.Spool.{Spool}
 use Rattle.model.specs.declared.change.Change.TheVariants.{Group}
 use Rattle.model.proofs.Asking.{changes_ask_few}
-use Rattle.index.specs.View.{Indexes}
-use Rattle.spool_files.specs.Growing.{HasFree, LacksGroup, MakesGroup}
+use Rattle.spool_files.specs.Growing.{HasFree, LacksGroup}
 use Rattle.spool_files.proofs.Grown.{applied_dirties, group_grown, heads_lack, lacks_group}
 use Rattle.spool_files.proofs.Held.{changes_are_few, enough}
 use Rattle.spool_files.proofs.growing.grow_by_group.Goals as goal

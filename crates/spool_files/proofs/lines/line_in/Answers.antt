@@ -1,15 +1,13 @@
-use Rattle.std.proofs.Common.{◌≡◌, ◌<◌, ◌≤◌, ℕ, ◌+◌, List, length, get_or, map, refl, sym, ◌∙◌, ap, arith}
-use Rattle.std.specs.Prelude.{Some, slice_get}
+use Rattle.std.proofs.Common.{◌≡◌, ◌<◌, ℕ, ◌+◌, List, length, get_or, sym, ◌∙◌, ap, arith}
+use Rattle.std.specs.Prelude.{slice_get}
 use Rattle.std.proofs.lemmas.List.{length-map}
 use Rattle.std.proofs.lemmas.Option.{slice_get_read}
 use Rattle.model.specs.Article.{overview_line}
 use Rattle.model.specs.Indexed.{GroupIndex, group_index}
-use Rattle.model.specs.Spool.{Spool, group_named, groups, is_here}
+use Rattle.model.specs.Spool.{group_named, groups}
 use Rattle.model.specs.SpoolFiles.{number_record}
-use Rattle.index.specs.Filing.{end_of}
 use Rattle.index.specs.Shown.{shown}
-use Rattle.index.specs.View.{Indexes}
-use Rattle.spool_files.proofs.Adding.{IsAt, are_its_pieces, at_place, few_filed, filed_here, groups_few, is_at, kept_at, never_absent, numbers_at, overview_at, same_count, short_end, short_line}
+use Rattle.spool_files.proofs.Adding.{are_its_pieces, at_place, filed_here, groups_few, is_at, kept_at, never_absent, numbers_at, overview_at, same_count, short_end, short_line}
 use Rattle.spool_files.proofs.Held.{changes_are_few}
 use Rattle.spool_files.proofs.lines.line_in.Goals as goal
 

@@ -1,9 +1,6 @@
-use Rattle.std.proofs.Common.{◌≡◌, ◌∙◌, ◌+◌, ◌*◌, ◌∷◌, sym, subst, List, ℕ, length, ap}
+use Rattle.std.proofs.Common.{◌≡◌, ◌∙◌, ◌∷◌, subst, List, ℕ, ap}
 use Rattle.model.specs.SpoolFiles.{article_name}
-use Rattle.fs.specs.Touches.{Touches, touched_by_growth}
-use Rattle.fs_layout.proofs.Puts.{on_ok}
-use Rattle.filing.specs.Calls.{AppendsFirst, MakesAt}
-use Rattle.spool_files.specs.Growing.{FilesArticle}
+use Rattle.filing.specs.Calls.{MakesAt}
 use Rattle.spool_files.proofs.Filed.{article_touches, files_article, may_still, still_free}
 use Rattle.spool_files.proofs.staging.file_article.Goals as goal
 

@@ -1,4 +1,4 @@
-use Rattle.std.proofs.Common.{ℕ, ◌+◌, List, length, arith}
+use Rattle.std.proofs.Common.{◌+◌, length, arith}
 use Rattle.fs.specs.Touches.{Touches, touched_by_growth}
 use Rattle.fs_layout.proofs.Puts.{on_ok}
 use Rattle.fs_layout.proofs.Touching.{touches_more}

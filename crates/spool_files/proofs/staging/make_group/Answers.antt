@@ -1,7 +1,7 @@
-use Rattle.std.proofs.Common.{ℕ, ◌≡◌, [], ◌∷◌, ◌+◌, List, length, ◌∙◌, sym, subst, ap, arith}
+use Rattle.std.proofs.Common.{◌≡◌, ◌+◌, length, ◌∙◌, subst, arith}
 use Rattle.model.specs.Stream.{Octets}
 use Rattle.model.specs.SpoolFiles.{group_name, numbers_name, overview_name}
-use Rattle.fs.specs.Touches.{Touches, touched_by_growth}
+use Rattle.fs.specs.Touches.{touched_by_growth}
 use Rattle.fs_layout.proofs.Touching.{touches_more, touches_then}
 use Rattle.filing.specs.Calls.{CreatesAt, MakesAt}
 use Rattle.spool_files.proofs.Grown.{makes_group, one_empty_more, one_file_more}
