@@ -1,8 +1,9 @@
 //! Opening a spool.
 
-ghost use Rattle.std.specs.Prelude.{◌≡◌, List, IfErr, IfOk};
+ghost use Rattle.std.specs.Prelude.{◌≡◌, List, IfErr, IfOk, IsTrue};
 ghost use Rattle.model.specs.Files.{HasRoom};
 ghost use Rattle.model.specs.Layout.{Holds};
+ghost use Rattle.model.specs.Names.{is_host};
 ghost use Rattle.model.specs.declared.change.Change.{Change};
 
 use crate::Spool;
@@ -17,6 +18,7 @@ impl Spool {
     /// Opens the spool of a host that stands in the blocks of a volume, for every content of these. `Damaged` exactly where they
     /// hold no spool of the host (docs/FORMATS.md), `Memory` where a growth was refused. No block changes.
     pub fn open(alloc: Global, host: Text, inodes: u32, volume: Volume) -> Result<Spool, OpenError>
+        requires named { IsTrue (is_host host) }
         requires room { HasRoom inodes volume.cache }
         requires seen { volume.seen ≡ volume.cache }
         ensures host { IfOk result (λ s. s.host ≡ host) }
