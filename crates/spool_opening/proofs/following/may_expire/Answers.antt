@@ -10,11 +10,11 @@ returns-in_default c = λ S is. (λ yes. absurd (true≢false (sym yes)), λ may
 pub returns-then-number-low : goal.returns-then-number-low
 returns-then-number-low c = λ S is. (
   λ yes. absurd (true≢false (sym yes)),
-  λ may. absurd (omega (arith, (expiry_bounds S c.args.group.now (shown c.in-Some.found.now) c.args.number (c.in-Some.ensures S is) may).0, c.low-low.ensures, c.if-number-low.true)),
+  λ may. absurd (omega (arith, (expiry_bounds S c.args.group.now (shown c.in-Some.found.now) c.args.number (c.in-Some.ensures S is) may).0)),
 )
 
 pub returns : goal.returns
 returns c = λ S is. (
-  λ yes. expired_by_test S c.args.group.now (shown c.in-Some.found.now) c.args.number (c.in-Some.ensures S is) (omega (arith, c.low-low.ensures, c.if-number-low.false)) (omega (arith, c.high.ensures, leb-true c.args.number c.high.result yes)),
+  λ yes. expired_by_test S c.args.group.now (shown c.in-Some.found.now) c.args.number (c.in-Some.ensures S is) (omega arith) (omega (arith, c.high.ensures, leb-true c.args.number c.high.result yes)),
   λ may. le-leb c.args.number c.high.result (omega (arith, (expiry_bounds S c.args.group.now (shown c.in-Some.found.now) c.args.number (c.in-Some.ensures S is) may).1, c.high.ensures)),
 )
