@@ -35,9 +35,11 @@ reached old new touches (suc (suc k)) differs = elim (contained touches.others (
   | inr none ↦ absurd (differs (sym (touches.same (suc (suc k)) (omega arith) none)))
 ]
 
-pub dirties : (old new : List Octets) (before after : List ℕ) → Touches 254 old new → ((k : ℕ) → Contains after k ↔ (Contains before k ⊎ Differs old new k)) → AreDistinct after → Dirties old new before after
-dirties old new before after touches exactly once = record {
+pub dirties : (old new : List Octets) (before after : List ℕ) → length new ≡ length old → Touches 254 old new → ((k : ℕ) → Contains after k ↔ (Contains before k ⊎ Differs old new k)) → AreDistinct after → Dirties old new before after
+dirties old new before after count touches exactly once = record {
+  size = count;
   exactly = exactly;
+  distinct = once;
   few = omega (arith, fewer after (before ++ 0 ∷ 1 ∷ touches.others) once (λ k has. among k ((exactly k).0 has)), length-append before (0 ∷ 1 ∷ touches.others), touches.few);
 } where
   among : (k : ℕ) → Contains before k ⊎ Differs old new k → Contains (before ++ 0 ∷ 1 ∷ touches.others) k

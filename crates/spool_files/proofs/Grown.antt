@@ -141,13 +141,13 @@ kept_with_expiry host inodes v w i j p q S group number at octets kept may says 
 
 -- ---- after the stage was applied
 
-pub applied_dirties : (v m w : VolumeView) → v.seen ≡ v.cache → ◌≡◌ {A = List Octets × List ℕ} (m.cache, m.dirty) (v.cache, v.dirty) → Touches 254 v.seen m.seen → w.cache ≡ m.seen
+pub applied_dirties : (v m w : VolumeView) → v.seen ≡ v.cache → ◌≡◌ {A = List Octets × List ℕ} (m.cache, m.dirty) (v.cache, v.dirty) → length m.seen ≡ length v.seen → Touches 254 v.seen m.seen → w.cache ≡ m.seen
     → ((k : ℕ) → Contains w.dirty k ↔ (Contains m.dirty k ⊎ Differs m.cache m.seen k)) → AreDistinct w.dirty → Dirties v.cache w.cache v.dirty w.dirty
-applied_dirties v m w seen kept touches cache exactly once =
+applied_dirties v m w seen kept count touches cache exactly once =
     let touched : Touches 254 v.cache w.cache = subst (λ (bs : List Octets). Touches 254 v.cache bs) (sym cache) (subst (λ (bs : List Octets). Touches 254 bs m.seen) seen touches) in
     let same_cache : m.cache ≡ v.cache = ap (λ (x : List Octets × List ℕ). x.0) kept in
     let same_dirty : m.dirty ≡ v.dirty = ap (λ (x : List Octets × List ℕ). x.1) kept in
-    dirties v.cache w.cache v.dirty w.dirty touched
+    dirties v.cache w.cache v.dirty w.dirty (ap length cache ∙ (count ∙ ap length seen)) touched
     (λ k. subst (λ (bs : List Octets). Contains w.dirty k ↔ (Contains v.dirty k ⊎ Differs v.cache bs k)) (sym cache)
     (subst (λ (bs : List Octets). Contains w.dirty k ↔ (Contains v.dirty k ⊎ Differs bs m.seen k)) same_cache
     (subst (λ (ds : List ℕ). Contains w.dirty k ↔ (Contains ds k ⊎ Differs m.cache m.seen k)) same_dirty (exactly k))))

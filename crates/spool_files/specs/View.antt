@@ -3,6 +3,7 @@ use Rattle.std.specs.Prelude.{◌≡◌, ◌⊎◌, ◌↔◌, ℕ, ◌+◌, ◌
 use Rattle.std.specs.List.{Contains}
 use Rattle.model.specs.Stream.{Octets}
 use Rattle.model.specs.Spool.{Spool}
+use Rattle.model.specs.Volume.{AreDistinct}
 use Rattle.model.specs.declared.change.Change.{Change}
 use Rattle.volume.specs.Volume.{Differs}
 use Rattle.spool_files.specs.Kept.{IsHeld}
@@ -21,9 +22,12 @@ pub record SpoolView : Type 0 where
 abbrev pub IsSpool : SpoolView → Type 0
 IsSpool s = IsHeld s.host s.inodes s.blocks s.changes
 
--- the dirty blocks are those that were dirty and those whose octets differ now; a change dirties at most 256
+-- there are as many blocks, and the dirty ones are those that were dirty and those whose octets differ now, none of them twice; a
+-- change dirties at most 256
 pub record Dirties (old new : List Octets) (before after : List ℕ) : Type 0 where
+  pub size : length new ≡ length old
   pub exactly : (k : ℕ) → Contains after k ↔ (Contains before k ⊎ Differs old new k)
+  pub distinct : AreDistinct after
   pub few : length after ≤ length before + 256
 
 -- this change is accepted

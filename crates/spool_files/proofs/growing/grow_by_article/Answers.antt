@@ -108,7 +108,7 @@ returns-clause-grown c =
     let lines = c.in_ok-lines.lines in
     article_grown c.args.inodes v m w c.args.index.now c.push_article.new.self c.args.places.now c.push_change.new.self
     text groups c.args.moment c.in-Ok.at (c.len-serial.result + 1) c.deref.result.now c.deref-2.result.now
-    ready.kept.seen c.in-Ok.ensures.filed (applied_dirties v m w ready.kept.seen c.in-Ok.ensures.kept c.in-Ok.ensures.touches c.apply.ensures.cache c.apply.ensures.dirty c.apply.ensures.distinct)
+    ready.kept.seen c.in-Ok.ensures.filed (applied_dirties v m w ready.kept.seen c.in-Ok.ensures.kept c.in-Ok.ensures.filed.calls.count c.in-Ok.ensures.touches c.apply.ensures.cache c.apply.ensures.dirty c.apply.ensures.distinct)
     c.apply.ensures.cache c.apply.ensures.seen c.in-Ok-push_change.ensures.ok
     (λ host S may kept.
     let serial = ap (λ (n : ℕ). n + 1) (c.len-serial.ensures S kept.indexed) in

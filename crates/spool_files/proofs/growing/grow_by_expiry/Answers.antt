@@ -53,6 +53,6 @@ returns-clause-grown c =
     let w = c.apply.new.self in
     expiry_grown c.args.inodes v m w c.args.index.now c.push_expiry.new.self c.args.places.now c.push_change.new.self
     c.args.name.now c.args.number c.in-Ok.at (c.len-serial.result + 1) c.deref.result.now
-    ready.kept.seen c.in-Ok.ensures.made (applied_dirties v m w ready.kept.seen c.in-Ok.ensures.kept c.in-Ok.ensures.touches c.apply.ensures.cache c.apply.ensures.dirty c.apply.ensures.distinct)
+    ready.kept.seen c.in-Ok.ensures.made (applied_dirties v m w ready.kept.seen c.in-Ok.ensures.kept c.in-Ok.ensures.made.calls.count c.in-Ok.ensures.touches c.apply.ensures.cache c.apply.ensures.dirty c.apply.ensures.distinct)
     c.apply.ensures.cache c.apply.ensures.seen c.in-Ok-push_change.ensures.ok (λ S may indexed. c.in-Ok-push_expiry.ensures.ok ready.host S may indexed)
     (λ S indexed. ap (λ (n : ℕ). n + 1) (c.len-serial.ensures S indexed)) (c.deref.ensures.value ∙ c.in_ok-record.ensures)

@@ -48,7 +48,7 @@ returns-clause-grown c =
     let at = c.in-Ok.made in
     group_grown c.args.inodes v m w c.args.index.now c.push_group-2.new.self c.args.places.now c.push_group.new.self
     c.args.name.now c.args.status c.args.description.now c.args.moment at.at at.numbers at.overview c.deref.result.now
-    ready.kept.seen c.in-Ok.ensures.made (applied_dirties v m w ready.kept.seen c.in-Ok.ensures.kept c.in-Ok.ensures.touches c.apply.ensures.cache c.apply.ensures.dirty c.apply.ensures.distinct)
+    ready.kept.seen c.in-Ok.ensures.made (applied_dirties v m w ready.kept.seen c.in-Ok.ensures.kept c.in-Ok.ensures.made.calls.count c.in-Ok.ensures.touches c.apply.ensures.cache c.apply.ensures.dirty c.apply.ensures.distinct)
     c.apply.ensures.cache c.apply.ensures.seen c.in-Ok-push_group.ensures.ok c.in-Ok-push_group-2.ensures.ok
     (λ S indexed. c.deref.ensures.value ∙ c.in_ok-record.ensures c.args.name.now
     ∙ ap (λ (n : ℕ). group_record (record { serial = n + 1; name = c.args.name.now; status = c.args.status; description = c.args.description.now; moment = c.args.moment })) (c.len-serial.ensures S indexed))
