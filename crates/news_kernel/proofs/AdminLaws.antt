@@ -1,0 +1,149 @@
+-- What `admin` and `expire` answer, from what the spool answers.
+use Rattle.std.proofs.Common.{◌≡◌, ◌⊎◌, inl, inr, ℕ, ◌+◌, ◌<◌, ◌≤◌, Bool, true, false, List, [], ◌∷◌, length, refl, ap, sym, ◌∙◌, arith}
+use Rattle.std.specs.Prelude.{Ok, Option, Some, None, not, nat_le, nat_lt, if◌then◌else◌}
+use Rattle.std.proofs.lemmas.Bool.{leb-false, lt-ltb, ltb-false, ltb-true}
+use Rattle.model.specs.Room.{is_full}
+use Rattle.model.specs.Stream.{Octets}
+use Rattle.model.specs.Spool.{is_here}
+use Rattle.model.specs.declared.change.Change.{Change}
+use Rattle.model.specs.declared.change.Change.TheVariants.{Expire, Group}
+use Rattle.spool_files.specs.View.{SpoolView, Adds}
+use Rattle.spool_files.specs.Refusals.{expiry_refusal, group_refusal, has_number, is_full_for}
+use Rattle.spool_files.specs.declared.errors.AddError.TheVariants as add
+use Rattle.spool_files.specs.declared.errors.ExpireError.TheVariants as expire
+use Rattle.news_kernel.specs.Kernel.{Administers, Exists, Full, Halted, KernelView, LaterDirty, NotFound, Refusal, Seat, TooManySessions, admin_refusal_of, early_refusal, expire_refusal_of, first_failing, join_refusal, only_tested, takes_none}
+use Rattle.news_kernel.specs.Stored.{kernel_of}
+use Rattle.news_kernel.proofs.ExecLaws.{changed_dirties}
+
+-- a call that only tests answers `Ok` where no test fails
+pub passed : {E : Type 0} (as_error : Refusal → E) (refusal : Option Refusal) (done : Unit {0}) → Ok done ≡ only_tested as_error refusal → refusal ≡ None
+passed as_error None done is = refl
+passed as_error (Some refusal) done is = absurd (cc is)
+
+-- who may join finds a place
+pub few_seats : (k : KernelView) → join_refusal k ≡ None → length k.seats < 64
+few_seats k is = go k.halted refl (nat_le 64 (length k.seats)) refl
+  where
+    go : (h : Bool) → k.halted ≡ h → (b : Bool) → nat_le 64 (length k.seats) ≡ b → length k.seats < 64
+    go true halted b many = absurd (let some : Some Halted ≡ None = rw halted at is in cc some)
+    go false halted true many = absurd (let some : Some TooManySessions ≡ None = rw (halted, many) at is in cc some)
+    go false halted false many = leb-false 64 (length k.seats) many
+
+-- an early test that fails is the first of all
+pub early_first : (k : KernelView) (c : Change) (r : Refusal) → early_refusal k ≡ Some r → admin_refusal_of k c ≡ Some r
+early_first k c r is = go k.halted refl (nat_lt 256 (length k.dirty)) refl
+  where
+    go : (h : Bool) → k.halted ≡ h → (b : Bool) → nat_lt 256 (length k.dirty) ≡ b → admin_refusal_of k c ≡ Some r
+    go true halted b late = rw halted (rw halted at is)
+    go false halted true late = rw (halted, late) (rw (halted, late) at is)
+    go false halted false late = absurd (let none : None ≡ Some r = rw (halted, late) at is in cc none)
+
+-- where no early test fails, the kernel is not halted, and few blocks are dirty
+pub early_none : (k : KernelView) → early_refusal k ≡ None → (k.halted ≡ false) × (nat_lt 256 (length k.dirty) ≡ false)
+early_none k is = go k.halted refl (nat_lt 256 (length k.dirty)) refl
+  where
+    go : (h : Bool) → k.halted ≡ h → (b : Bool) → nat_lt 256 (length k.dirty) ≡ b → (k.halted ≡ false) × (nat_lt 256 (length k.dirty) ≡ false)
+    go true halted b late = absurd (let some : Some Halted ≡ None = rw halted at is in cc some)
+    go false halted true late = absurd (let some : Some LaterDirty ≡ None = rw (halted, late) at is in cc some)
+    go false halted false late = (halted, late)
+
+-- a kernel that is not halted, with few dirty blocks, fails no early test
+pub early_is : (s : SpoolView) (d : ℕ) (f : Option ℕ) (h : Bool) (j : ℕ) (seats : List Seat) → h ≡ false → (n : ℕ) → n ≡ length s.dirty → n ≤ 256 → early_refusal (kernel_of s d f h j seats) ≡ None
+early_is s d f h j seats running n is few = λ i. first_failing ((running i, Halted) ∷ (not_late (nat_lt 256 (length s.dirty)) refl i, LaterDirty) ∷ []) where
+  not_late : (b : Bool) → nat_lt 256 (length s.dirty) ≡ b → b ≡ false
+  not_late true late = absurd (omega (arith, few, is, ltb-true 256 (length s.dirty) late))
+  not_late false late = refl
+
+pub few_dirty : (k : KernelView) → early_refusal k ≡ None → length k.dirty ≤ 256
+few_dirty k is = ltb-false 256 (length k.dirty) (early_none k is).1
+
+module _ (s : SpoolView) (d : ℕ) (f : Option ℕ) (h : Bool) (j : ℕ) (seats : List Seat) (name : Octets) (status : ℕ) (description : Octets) (moment : ℕ) (early : early_refusal (kernel_of s d f h j seats) ≡ None) where
+  abbrev was : KernelView
+  was = kernel_of s d f h j seats
+
+  abbrev c : Change
+  c = Group name status description moment
+
+  by_tests : (here full : Bool) → is_here s.changes name ≡ here → is_full_for s c ≡ full → admin_refusal_of was c ≡ first_failing ((false, Halted) ∷ (false, LaterDirty) ∷ (here, Exists) ∷ (full, Full) ∷ [])
+  by_tests here full a b = λ i. first_failing (((early_none was early).0 i, Halted) ∷ ((early_none was early).1 i, LaterDirty) ∷ (a i, Exists) ∷ (b i, Full) ∷ [])
+
+  pub exists_when : group_refusal s name c ≡ Some add.Exists → admin_refusal_of was c ≡ Some Exists
+  exists_when = go (is_here s.changes name) (is_full_for s c) refl refl
+    where
+      go : (here full : Bool) → is_here s.changes name ≡ here → is_full_for s c ≡ full → (if here then Some add.Exists else if full then Some add.Full else None) ≡ Some add.Exists → admin_refusal_of was c ≡ Some Exists
+      go true full a b is = by_tests true full a b
+      go false true a b is = absurd (cc is)
+      go false false a b is = absurd (cc is)
+
+  pub full_when : group_refusal s name c ≡ Some add.Full → admin_refusal_of was c ≡ Some Full
+  full_when = go (is_here s.changes name) (is_full_for s c) refl refl
+    where
+      go : (here full : Bool) → is_here s.changes name ≡ here → is_full_for s c ≡ full → (if here then Some add.Exists else if full then Some add.Full else None) ≡ Some add.Full → admin_refusal_of was c ≡ Some Full
+      go true full a b is = absurd (cc is)
+      go false true a b is = by_tests false true a b
+      go false false a b is = absurd (cc is)
+
+  pub none_when : group_refusal s name c ≡ None → admin_refusal_of was c ≡ None
+  none_when = go (is_here s.changes name) (is_full_for s c) refl refl
+    where
+      go : (here full : Bool) → is_here s.changes name ≡ here → is_full_for s c ≡ full → (if here then Some add.Exists else if full then Some add.Full else None) ≡ None → admin_refusal_of was c ≡ None
+      go true full a b is = absurd (cc is)
+      go false true a b is = absurd (cc is)
+      go false false a b is = by_tests false false a b
+
+module _ (s : SpoolView) (d : ℕ) (f : Option ℕ) (h : Bool) (j : ℕ) (seats : List Seat) (c : Change) where
+  pub administers : (s' : SpoolView) (serial : ℕ) → serial ≡ length s.changes + 1 → Adds s s' c → Administers (kernel_of s d f h j seats) (kernel_of s' d f h j seats) c serial
+  administers s' serial is adds =
+      record {
+        serial_is = is;
+        spool = adds.changes;
+        blocks = changed_dirties s s' d f h j seats seats adds.dirties;
+        rest = (adds.host, adds.inodes, refl, refl, refl, refl, refl);
+      }
+
+pub expire_halted : (k : KernelView) (c : Change) → k.halted ≡ true → expire_refusal_of k c ≡ Some Halted
+expire_halted k c is =
+    ap (λ (b : Bool). if b then Some Halted else first_failing ((nat_lt 256 (length k.dirty), LaterDirty) ∷ (takes_none k.spool c, NotFound) ∷ (is_full (length k.blocks) k.inodes k.spool (Some c), Full) ∷ [])) is
+
+pub expire_late : (k : KernelView) (c : Change) → k.halted ≡ false → 256 < length k.dirty → expire_refusal_of k c ≡ Some LaterDirty
+expire_late k c running many =
+    λ i. first_failing ((running i, Halted) ∷ (lt-ltb 256 (length k.dirty) many i, LaterDirty) ∷ (takes_none k.spool c, NotFound) ∷ (is_full (length k.blocks) k.inodes k.spool (Some c), Full) ∷ [])
+
+module _ (s : SpoolView) (d : ℕ) (f : Option ℕ) (h : Bool) (j : ℕ) (seats : List Seat) (group : Octets) (number : ℕ) (early : early_refusal (kernel_of s d f h j seats) ≡ None) where
+  by_expiry : (has full : Bool) → has_number s.changes group number ≡ has → is_full_for s (Expire group number) ≡ full
+      → expire_refusal_of (kernel_of s d f h j seats) (Expire group number) ≡ first_failing ((false, Halted) ∷ (false, LaterDirty) ∷ (not has, NotFound) ∷ (full, Full) ∷ [])
+  by_expiry has full a b =
+      let now = early_none (kernel_of s d f h j seats) early in
+      λ i. first_failing ((now.0 i, Halted) ∷ (now.1 i, LaterDirty) ∷ (not (a i), NotFound) ∷ (b i, Full) ∷ [])
+
+  pub not_found_when : expiry_refusal s group number ≡ Some expire.NotFound → expire_refusal_of (kernel_of s d f h j seats) (Expire group number) ≡ Some NotFound
+  not_found_when = go (has_number s.changes group number) (is_full_for s (Expire group number)) refl refl
+    where
+      go : (has full : Bool) → has_number s.changes group number ≡ has → is_full_for s (Expire group number) ≡ full → (if has then (if full then Some expire.Full else None) else Some expire.NotFound) ≡ Some expire.NotFound
+          → expire_refusal_of (kernel_of s d f h j seats) (Expire group number) ≡ Some NotFound
+      go true true a b is = absurd (cc is)
+      go true false a b is = absurd (cc is)
+      go false full a b is = by_expiry false full a b
+
+  pub no_room_when : expiry_refusal s group number ≡ Some expire.Full → expire_refusal_of (kernel_of s d f h j seats) (Expire group number) ≡ Some Full
+  no_room_when = go (has_number s.changes group number) (is_full_for s (Expire group number)) refl refl
+    where
+      go : (has full : Bool) → has_number s.changes group number ≡ has → is_full_for s (Expire group number) ≡ full → (if has then (if full then Some expire.Full else None) else Some expire.NotFound) ≡ Some expire.Full
+          → expire_refusal_of (kernel_of s d f h j seats) (Expire group number) ≡ Some Full
+      go true true a b is = by_expiry true true a b
+      go true false a b is = absurd (cc is)
+      go false full a b is = absurd (cc is)
+
+  pub expires_when : expiry_refusal s group number ≡ None → expire_refusal_of (kernel_of s d f h j seats) (Expire group number) ≡ None
+  expires_when = go (has_number s.changes group number) (is_full_for s (Expire group number)) refl refl
+    where
+      go : (has full : Bool) → has_number s.changes group number ≡ has → is_full_for s (Expire group number) ≡ full → (if has then (if full then Some expire.Full else None) else Some expire.NotFound) ≡ None
+          → expire_refusal_of (kernel_of s d f h j seats) (Expire group number) ≡ None
+      go true true a b is = absurd (cc is)
+      go true false a b is = by_expiry true false a b
+      go false full a b is = absurd (cc is)
+
+-- the refusal of a change that was refused for no want of memory
+pub said : {E : Type 0} (memory e r : E) (refusal : Option E) → e ≡ r → (r ≡ memory → ⊥) → (e ≡ memory) ⊎ (refusal ≡ Some e) → refusal ≡ Some r
+said memory e r refusal is other (inl no_room) = absurd (other (sym is ∙ no_room))
+said memory e r refusal is other (inr told) = told ∙ ap Some is

@@ -1,0 +1,49 @@
+use Rattle.std.proofs.Common.{◌≡◌, inr, refl, ap, subst, ◌∙◌}
+use Rattle.model.specs.Stream.{Octets}
+use Rattle.model.specs.declared.change.Change.TheVariants.{Group}
+use Rattle.std.specs.Prelude.{Some, None}
+use Rattle.spool_files.specs.View.{SpoolView}
+use Rattle.spool_files.specs.Refusals.{group_refusal}
+use Rattle.spool_files.specs.declared.errors.AddError.TheVariants as add
+use Rattle.news_kernel.specs.Errors.{of_admin}
+use Rattle.news_kernel.specs.Kernel.{KernelView, Administers, Exists, Full, admin_refusal_of, early_refusal}
+use Rattle.news_kernel.specs.Stored.{kernel_of}
+use Rattle.news_kernel.proofs.AdminLaws.{administers, exists_when, few_dirty, full_when, none_when, passed, said}
+use Rattle.news_kernel.proofs.KernelLaws.{kept_grown}
+use Rattle.news_kernel.proofs.Kernel.admin.Goals as goal
+
+pub returns-in-Err-Exists : goal.returns-in-Err-Exists
+returns-in-Err-Exists c =
+    let s : SpoolView = c.self.inside.spool in
+    let early : early_refusal (kernel_of s c.self.inside.durable c.self.inside.in_flight c.self.inside.halted c.self.inside.joined c.self.inside.seats.items) ≡ None = ap early_refusal c.self.view_is ∙ passed of_admin (early_refusal c.args.self.now) c.in_ok-may_administer.field-0 c.in_ok-may_administer.ensures in
+    let told : group_refusal s c.as_slice.result.now (Group c.as_slice.result.now c.args.status c.args.description.now c.args.moment) ≡ Some add.Exists = said add.Memory c.in-Err-Exists.field-0 add.Exists _ c.in-Err-Exists.field-0-is (λ is. cc is) c.in-Err-Exists.ensures.0 in
+    let fails = exists_when s c.self.inside.durable c.self.inside.in_flight c.self.inside.halted c.self.inside.joined c.self.inside.seats.items c.as_slice.result.now c.args.status c.args.description.now c.args.moment early told in (
+      inr (Exists, subst (λ (t : KernelView × Octets). admin_refusal_of t.0 (Group t.1 c.args.status c.args.description.now c.args.moment) ≡ Some Exists) (λ i. (c.self.view_is i, c.as_slice.ensures.value i)) fails, refl),
+      ap (λ (r : SpoolView). kernel_of r c.self.inside.durable c.self.inside.in_flight c.self.inside.halted c.self.inside.joined c.self.inside.seats.items) c.in-Err-Exists.ensures.1 ∙ c.self.view_is,
+    )
+
+pub returns-in-Err-Full : goal.returns-in-Err-Full
+returns-in-Err-Full c =
+    let s : SpoolView = c.self.inside.spool in
+    let early : early_refusal (kernel_of s c.self.inside.durable c.self.inside.in_flight c.self.inside.halted c.self.inside.joined c.self.inside.seats.items) ≡ None = ap early_refusal c.self.view_is ∙ passed of_admin (early_refusal c.args.self.now) c.in_ok-may_administer.field-0 c.in_ok-may_administer.ensures in
+    let told : group_refusal s c.as_slice.result.now (Group c.as_slice.result.now c.args.status c.args.description.now c.args.moment) ≡ Some add.Full = said add.Memory c.in-Err-Full.field-0 add.Full _ c.in-Err-Full.field-0-is (λ is. cc is) c.in-Err-Full.ensures.0 in
+    let fails = full_when s c.self.inside.durable c.self.inside.in_flight c.self.inside.halted c.self.inside.joined c.self.inside.seats.items c.as_slice.result.now c.args.status c.args.description.now c.args.moment early told in (
+      inr (Full, subst (λ (t : KernelView × Octets). admin_refusal_of t.0 (Group t.1 c.args.status c.args.description.now c.args.moment) ≡ Some Full) (λ i. (c.self.view_is i, c.as_slice.ensures.value i)) fails, refl),
+      ap (λ (r : SpoolView). kernel_of r c.self.inside.durable c.self.inside.in_flight c.self.inside.halted c.self.inside.joined c.self.inside.seats.items) c.in-Err-Full.ensures.1 ∙ c.self.view_is,
+    )
+
+pub invariant_of-self-2 : goal.invariant_of-self-2
+invariant_of-self-2 c =
+    let early : early_refusal (kernel_of c.self.inside.spool c.self.inside.durable c.self.inside.in_flight c.self.inside.halted c.self.inside.joined c.self.inside.seats.items) ≡ None = ap early_refusal c.self.view_is ∙ passed of_admin (early_refusal c.args.self.now) c.in_ok-may_administer.field-0 c.in_ok-may_administer.ensures in
+    kept_grown c.self.inside.spool c.add_group.new.self c.self.inside.durable c.self.inside.in_flight c.self.inside.halted c.self.inside.joined c.self.inside.seats.items
+    (Some (Group c.as_slice.result.now c.args.status c.args.description.now c.args.moment)) (λ _. few_dirty (kernel_of c.self.inside.spool c.self.inside.durable c.self.inside.in_flight c.self.inside.halted c.self.inside.joined c.self.inside.seats.items) early) (λ _. c.len-changes.ensures.sound) c.in-Ok.ensures.1.1 c.self.invariant
+
+pub returns : goal.returns
+returns c =
+    let s : SpoolView = c.self.inside.spool in
+    let early : early_refusal (kernel_of s c.self.inside.durable c.self.inside.in_flight c.self.inside.halted c.self.inside.joined c.self.inside.seats.items) ≡ None = ap early_refusal c.self.view_is ∙ passed of_admin (early_refusal c.args.self.now) c.in_ok-may_administer.field-0 c.in_ok-may_administer.ensures in
+    let passes = none_when s c.self.inside.durable c.self.inside.in_flight c.self.inside.halted c.self.inside.joined c.self.inside.seats.items c.as_slice.result.now c.args.status c.args.description.now c.args.moment early c.in-Ok.ensures.0 in
+    let done = administers s c.self.inside.durable c.self.inside.in_flight c.self.inside.halted c.self.inside.joined c.self.inside.seats.items (Group c.as_slice.result.now c.args.status c.args.description.now c.args.moment) c.add_group.new.self c.in-Ok.serial c.in-Ok.ensures.1.0 c.in-Ok.ensures.1.1 in
+    let new : KernelView = kernel_of c.add_group.new.self c.self.inside.durable c.self.inside.in_flight c.self.inside.halted c.self.inside.joined c.self.inside.seats.items in
+    subst (λ (t : KernelView × Octets). (admin_refusal_of t.0 (Group t.1 c.args.status c.args.description.now c.args.moment) ≡ None) × Administers t.0 new (Group t.1 c.args.status c.args.description.now c.args.moment) c.in-Ok.serial)
+    (λ i. (c.self.view_is i, c.as_slice.ensures.value i)) (passes, done)

@@ -1,0 +1,5 @@
+pub mod Kernel
+pub mod Errors
+pub mod Kept
+pub mod Serving
+pub mod Stored

@@ -1,0 +1,328 @@
+//! The kernel: the value under the lock. It answers each command at once in memory, and holds each reply until
+//! what it depends on is durable. `specs/Kernel.antt` says what callers see of it and what each call does to that,
+//! `specs/Kept.antt` what it keeps.
+#![tactic(auto)]
+
+ghost use Rattle.std.specs.Prelude.{[], None, ◌&&◌, nat_lt, ◌≡◌, ◌≢◌, ◌⊎◌, ◌↔◌, ◌+◌, ◌*◌, ◌<◌, ◌≤◌, Some, IsSome, IsNone, IsTrue, IfOk, IfSome, OnErr, length, true, false, is_some, option_map, slice_get};
+ghost use Rattle.std.specs.List.{list_all};
+ghost use Rattle.news_kernel.specs.Errors.{of_join, of_exec, of_admin, of_expire};
+ghost use Rattle.news_kernel.specs.Kept.{IsKept};
+ghost use Rattle.news_kernel.specs.Kernel.{Administers, Execs, FitsMode, Takes, Tested, TestedOrMemory, admin_refusal_of, early_refusal, exec_refusal, expire_refusal_of, has_batch, halted_for_good, is_block, join_refusal, joined, left, made_durable, mode_at, only_tested, ready, released, seat_of, Seat as SeatView};
+ghost use Rattle.model.specs.Calendar.{moment_limit};
+ghost use Rattle.model.specs.Lawful.{is_description_octet};
+ghost use Rattle.model.specs.Volume.{blocks_from};
+ghost use Rattle.model.specs.declared.change.Change.TheVariants.{Group, Expire};
+ghost use Rattle.news_kernel.specs.Stored.{kernel_of};
+
+mod errors;
+mod seat;
+
+use crate::seat::{Seat, position, release};
+pub use errors::{AdminError, ExecError, ExpireError, JoinError, Stale};
+use model::{Mark, Message, Mode};
+use names::GroupName;
+use outbox::ReadyBuf;
+use spool_files::{AddError, Spool};
+use std::alloc::Global;
+use std::marker::Model;
+use volume::BatchBuf;
+
+/// Sessions at once.
+pub const SESSIONS: usize = 64;
+
+/// A session with so many buffered octets is served again once some were released.
+pub const MOST_BUFFERED: u64 = 1_048_576;
+
+/// With more dirty blocks no article and no group is accepted until a batch was taken.
+pub const MOST_DIRTY: usize = 256;
+
+/// Names a batch in flight.
+#[derive(Clone, Copy, Debug, PartialEq, Eq)]
+pub struct Ticket {
+    last: u64,
+}
+
+impl Ticket {
+    /// How many changes were accepted when the batch was taken.
+    pub fn last(self) -> u64
+        ensures { result ≡ self.last }
+    {
+        self.last
+    }
+}
+
+/// The value under the lock.
+pub struct Kernel {
+    spool: Spool,
+    durable: u64,
+    in_flight: Option<u64>,
+    halted: bool,
+    joined: u64,
+    seats: Vec<Seat>,
+}
+
+// By hand: who drops one would prove a derived one again, field by field.
+impl Drop for Kernel {
+    fn drop(self) {
+        let Kernel {
+            spool: _,
+            durable: _,
+            in_flight: _,
+            halted: _,
+            joined: _,
+            seats: _,
+        } = self;
+    }
+}
+
+impl Model for Kernel {
+    ghost use Rattle.news_kernel.specs.Kernel.{KernelView};
+
+    ghost Value = { KernelView };
+
+    ghost use Rattle.news_kernel.specs.Kept.{IsKept};
+    ghost use Rattle.news_kernel.specs.Stored.{kernel_of};
+
+    ghost view = { λ k. kernel_of k.spool k.durable k.in_flight k.halted k.joined k.seats.items };
+
+    ghost invariant = { λ k. IsKept (kernel_of k.spool k.durable k.in_flight k.halted k.joined k.seats.items) };
+}
+
+impl Kernel {
+    /// The kernel of a spool that is on disk: all its changes are durable, and no session is there.
+    pub fn new(alloc: Global, spool: Spool) -> Kernel
+        requires clean { spool.dirty ≡ [] }
+        ensures { result ≡ kernel_of spool (length spool.changes) None false 0 [] }
+    {
+        Kernel {
+            durable: spool.len(),
+            spool,
+            in_flight: None,
+            halted: false,
+            joined: 0,
+            seats: Vec::new(alloc),
+        }
+    }
+
+    /// What the kernel keeps, whoever took the lock: each held output is the plain server's reply on a prefix of the
+    /// spool, with its dependency, and the cached blocks hold the spool.
+    pub fn kept(&self)
+        ensures { IsKept self.now }
+    {
+        let _ = &self.durable;
+    }
+
+    /// What a session sends next; `None` where no session of this number is there, or it was closed.
+    pub fn mode(&self, sid: u64) -> Option<Mode>
+        ensures { result ≡ mode_at self.now sid }
+    {
+        let at = position(&self.seats, sid)?;
+        self.seats[at].mode()
+    }
+
+    /// Whether a session may join now: `Halted` (E4) or `TooManySessions` (E7) where it may not, tested in that order.
+    pub fn may_join(&self) -> Result<(), JoinError>
+        ensures { result ≡ only_tested of_join (join_refusal self.now) }
+    {
+        if self.halted {
+            return Err(JoinError::Halted);
+        }
+        if self.seats.len() >= SESSIONS || self.joined == u64::MAX {
+            return Err(JoinError::TooManySessions);
+        }
+        Ok(())
+    }
+
+    /// A session begins; its greeting depends on nothing. Sessions are numbered 1, 2, .. and a number isn't used again.
+    /// Refused as `Halted` (E4), `TooManySessions` (E7) or `Memory` (E2), tested in that order; a refusal changes nothing.
+    pub fn join(&mut self, alloc: Global) -> Result<u64, JoinError>
+        ensures { Tested of_join JoinError.Memory (join_refusal self.old) self.old self.new result (λ sid. (sid ≡ self.new.joined) × (self.new ≡ joined self.old)) }
+    {
+        self.may_join()?;
+        let number = self.joined + 1;
+        let seat = match Seat::new(alloc, number, self.spool.host().as_slice()) {
+            Ok(seat) => seat,
+            Err(_) => return Err(JoinError::Memory),
+        };
+        match self.seats.push(seat) {
+            Ok(()) => {
+                self.joined = number;
+                Ok(number)
+            }
+            Err(_) => Err(JoinError::Memory),
+        }
+    }
+
+    /// Whether the operator may make a change now: `Halted` (E4) or `LaterDirty` (E8) where not, tested in that order.
+    pub fn may_administer(&self) -> Result<(), AdminError>
+        ensures { result ≡ only_tested of_admin (early_refusal self.now) }
+    {
+        if self.halted {
+            return Err(AdminError::Halted);
+        }
+        if self.spool.dirty_len() > MOST_DIRTY {
+            return Err(AdminError::LaterDirty);
+        }
+        Ok(())
+    }
+
+    /// The operator makes a group, and is told its serial, which says nothing of durability. `status` is `y` or `n`, the
+    /// description has at most 200 octets of 32 to 126, and `moment` is in seconds since 1970.
+    /// Refused as `Halted` (E4), `LaterDirty` (E8), `Exists` (E11), `Full` (E6) or `Memory` (E2), tested in that order, but
+    /// `Memory` may come at any growth, which is never before the first two; a refusal changes nothing.
+    pub fn admin(
+        &mut self,
+        alloc: Global,
+        name: &GroupName,
+        status: u8,
+        description: &[u8],
+        moment: u64,
+    ) -> Result<u64, AdminError>
+        requires status { (status ≡ 121) ⊎ (status ≡ 110) }
+        requires short { length description.now ≤ 200 }
+        requires printable { IsTrue (list_all is_description_octet description.now) }
+        requires moment { moment < moment_limit }
+        ensures { let change = Group name.now status description.now moment in
+            TestedOrMemory of_admin AdminError.Memory (early_refusal self.old) (admin_refusal_of self.old change) self.old self.new result (Administers self.old self.new change) }
+    {
+        self.may_administer()?;
+        let serial = match self
+            .spool
+            .add_group(name.as_slice(), status, description, moment)
+        {
+            Ok(serial) => serial,
+            Err(AddError::Exists) => return Err(AdminError::Exists),
+            Err(AddError::Full) => return Err(AdminError::Full),
+            Err(AddError::Memory) => return Err(AdminError::Memory),
+        };
+        // it tells what the spool keeps
+        let _changes = self.spool.len();
+        Ok(serial)
+    }
+
+    /// The operator takes the articles of a group up to a number out of it, and is told the serial of that change, which says
+    /// nothing of durability. Numbers are not used again.
+    /// Refused as `Halted` (E4), `LaterDirty` (E8), `NotFound` (E12) where the group isn't here or the number is below its
+    /// lowest or above its highest, `Full` (E6) or `Memory` (E2), tested in that order, but `Memory` may come at any growth,
+    /// which is never before the first two; a refusal changes nothing.
+    pub fn expire(&mut self, name: &GroupName, number: u32) -> Result<u64, ExpireError>
+        ensures { let change = Expire name.now number in
+            TestedOrMemory of_expire ExpireError.Memory (early_refusal self.old) (expire_refusal_of self.old change) self.old self.new result (Administers self.old self.new change) }
+    {
+        if self.halted {
+            return Err(ExpireError::Halted);
+        }
+        if self.spool.dirty_len() > MOST_DIRTY {
+            return Err(ExpireError::LaterDirty);
+        }
+        let serial = match self.spool.expire(name.as_slice(), number) {
+            Ok(serial) => serial,
+            Err(spool_files::ExpireError::NotFound) => return Err(ExpireError::NotFound),
+            Err(spool_files::ExpireError::Full) => return Err(ExpireError::Full),
+            Err(spool_files::ExpireError::Memory) => return Err(ExpireError::Memory),
+        };
+        // it tells what the spool keeps
+        let _changes = self.spool.len();
+        Ok(serial)
+    }
+
+    /// Copies the dirty blocks as the batch in flight; `None` exactly where nothing is dirty, a batch is in flight, or the
+    /// kernel is halted, and then nothing changes. It takes no memory.
+    pub fn take_batch(&mut self, into: &mut BatchBuf) -> Option<Ticket>
+        ensures when { IsSome result ↔ IsTrue (has_batch self.old) }
+        ensures nothing { IsNone result → (self.new ≡ self.old) × (into.new ≡ into.old) }
+        ensures takes { IfSome result (λ ticket. Takes self.old self.new into.new.numbers (blocks_from 0 (length into.new.numbers) into.new.images) ticket.last) }
+        ensures size { IsSome result → length into.new.images ≡ 4096 * length into.new.numbers }
+    {
+        if self.halted || self.in_flight.is_some() || self.spool.dirty_len() == 0 {
+            return None;
+        }
+        let last = self.spool.len();
+        self.spool.copy_dirty(into);
+        self.in_flight = Some(last);
+        Some(Ticket { last })
+    }
+
+    /// The batch in flight is on disk: its changes are durable. `Stale` (E13) exactly where the ticket isn't the batch
+    /// in flight or the kernel is halted, and then nothing changes. It takes no memory.
+    pub fn committed(&mut self, ticket: Ticket) -> Result<(), Stale>
+        ensures ok { IfOk result (λ done. (self.old.in_flight ≡ Some ticket.last) × (self.old.halted ≡ false) × (self.new ≡ made_durable self.old ticket.last)) }
+        ensures stale { OnErr result (((self.old.in_flight ≢ Some ticket.last) ⊎ (self.old.halted ≡ true)) × (self.new ≡ self.old)) }
+    {
+        if self.halted || self.in_flight != Some(ticket.last) {
+            return Err(Stale);
+        }
+        self.durable = ticket.last;
+        self.in_flight = None;
+        Ok(())
+    }
+
+    /// Halts for good. A batch in flight stays in flight. It takes no memory.
+    pub fn halt(&mut self)
+        ensures { self.new ≡ halted_for_good self.old }
+    {
+        self.halted = true;
+    }
+
+    /// Moves the outputs whose dependency is durable into the buffer, in place of what was there: through the sessions in
+    /// rising number, each session's in order, until 65,536 octets are used; the last may be cut. A session whose end was
+    /// handed out is there no more. It takes no memory.
+    pub fn take_ready(&mut self, into: &mut ReadyBuf)
+        ensures given { into.new ≡ (ready self.old.durable 65536 self.old.seats).entries }
+        ensures kept { self.new ≡ released self.old }
+    {
+        into.clear();
+        release(&mut self.seats, self.durable, into);
+    }
+
+    /// Drops a session and its held outputs; nothing where it isn't there. It takes no memory.
+    pub fn leave(&mut self, sid: u64)
+        ensures { self.new ≡ left self.old sid }
+    {
+        if let Some(at) = position(&self.seats, sid) {
+            self.seats.remove(at);
+        }
+    }
+
+    /// Whether a session is there, closed or not.
+    pub fn has(&self, sid: u64) -> bool
+        ensures { result ≡ is_some (seat_of self.now sid) }
+    {
+        match position(&self.seats, sid) {
+            Some(_at) => true,
+            None => false,
+        }
+    }
+
+    /// The number of the session at this place among those that are there, in rising number; `None` past the last.
+    pub fn session(&self, place: usize) -> Option<u64>
+        ensures { result ≡ option_map (λ (seat : SeatView). seat.number) (slice_get self.now.seats place) }
+    {
+        if place < self.seats.len() {
+            Some(self.seats[place].number())
+        } else {
+            None
+        }
+    }
+
+    /// How many changes are durable.
+    pub fn durable(&self) -> u64
+        ensures { result ≡ self.now.durable }
+    {
+        self.durable
+    }
+
+    /// What is accepted.
+    pub fn spool(&self) -> &Spool
+        ensures { result.now.changes ≡ self.now.spool }
+    {
+        &self.spool
+    }
+
+    /// How many changes are accepted.
+    pub fn len(&self) -> u64
+        ensures { result ≡ length self.now.spool }
+    {
+        self.spool.len()
+    }
+}
