@@ -1,6 +1,7 @@
 pub mod Blocks
 pub mod Carrying
 pub mod Gates
+pub mod Judging
 pub mod Laying
 pub mod Ordering
 pub mod Places

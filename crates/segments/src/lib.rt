@@ -5,7 +5,7 @@
 ghost use Rattle.std.specs.Prelude.{◌≡◌, ◌≢◌, ◌⊎◌, ◌<◌, ◌≤◌, ◌+◌, ◌*◌, ◌++◌, ℕ, List, [], ◌∷◌, false, true, length, slice_index, slice_index_or};
 ghost use Rattle.std.specs.List.{All};
 ghost use Rattle.disk.specs.Image.{overwritten};
-ghost use Rattle.model.specs.Volume.{Batch, IsDescriptor, StandsFor, all_laid_over, batch_in, block, descriptor_place, gate_place, home, home_place, home_size, is_open, laid_over, number_at, segment_count};
+ghost use Rattle.model.specs.Volume.{Batch, IsDescriptor, IsSuperblock, StandsFor, all_laid_over, batch_in, block, descriptor_place, gate_place, home, home_place, home_size, is_open, label_of, laid_over, logical_blocks, number_at, segment_count};
 ghost use Rattle.segments.specs.Held.{AreOpen, HaveLess, Held, IsHomeOfHeld, IsHomeOnTheWay, IsWrittenIn, batch_of, batches_of, held_in};
 ghost use Rattle.segments.specs.Images.{IsCarried, IsHomeOfOpen, IsInside, IsOpenIn, SameBut, open_batches};
 
@@ -15,6 +15,15 @@ pub fn an_image_is_read()
     ensures count { (image label : List ℕ) (blocks : List (List ℕ)) → StandsFor image label blocks → length blocks ≡ home_size image }
     ensures whole { (image label : List ℕ) (blocks : List (List ℕ)) → StandsFor image label blocks → All (λ block. length block ≡ 4096) blocks }
     ensures open { (image label : List ℕ) (blocks : List (List ℕ)) → StandsFor image label blocks → AreOpen (held_in image) image }
+{}
+
+/// Two open segments of a volume have different batch numbers. That, a valid superblock, and valid descriptors of the open
+/// segments are all that is asked of a volume.
+pub fn a_volume_is_judged_by_its_segments()
+    ensures apart { (image label : List ℕ) (blocks : List (List ℕ)) (s t : ℕ) → StandsFor image label blocks → IsOpenIn s image → IsOpenIn t image → s ≢ t
+        → (batch_in s image).number ≢ (batch_in t image).number }
+    ensures stands { (image : List ℕ) → IsSuperblock (block 0 image) (length image) → ((s : ℕ) → IsOpenIn s image → IsDescriptor (home_size image) (block (descriptor_place s) image))
+        → ((s t : ℕ) → IsOpenIn s image → IsOpenIn t image → s ≢ t → (batch_in s image).number ≢ (batch_in t image).number) → StandsFor image (label_of image) (logical_blocks image) }
 {}
 
 /// A closed segment isn't read. So a crash while its descriptor and images are written leaves what stood there before.
