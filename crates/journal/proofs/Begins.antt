@@ -6,12 +6,13 @@ use Rattle.std.proofs.lemmas.List.{ext_get_or, get_or-take, length-take-le, map_
 use Rattle.disk.specs.Device.{Device}
 use Rattle.disk.specs.Image.{part}
 use Rattle.model.specs.Volume.{AreDistinct, StandsFor, blocks_from, descriptor_of, is_open, logical_blocks, number_at}
-use Rattle.segments.specs.Held.{AreOpen, Held, IsAmong}
+use Rattle.segments.specs.Held.{AreOpen, HaveLess, Held, IsAmong}
 use Rattle.journal.specs.Flight.{Flight, IsSound, IsStaged, Staged, all_of, flight_in, held_as, left_of, none_staged, staged_at}
 use Rattle.journal.specs.Inside.{IsAdmitted, IsKept, IsTaken}
 use Rattle.journal.specs.declared.Next.{Next}
 use Rattle.journal.specs.declared.Next.TheVariants.{Idle, Descriptor}
 use Rattle.journal.proofs.Batches.{sound_of}
+use Rattle.journal.proofs.Flights.{less_before}
 
 among_last : (s : ℕ) (hs : List Held) (h : Held) → IsAmong s (hs ++ h ∷ []) → IsAmong s hs ⊎ (s ≡ h.place)
 among_last s [] h (inl is) = inr is
@@ -31,6 +32,24 @@ among_low room n few places (suc k) low s among =
       | inl before ↦ among_low room n few places k (omega (arith, low)) s before
       | inr is ↦ omega (arith, is, low, places k (omega (arith, low)))
     ]
+
+among_front : (s : ℕ) (hs : List Held) (h : Held) → IsAmong s hs → IsAmong s (hs ++ h ∷ [])
+among_front s [] h among = absurd among
+among_front s (g ∷ hs) h (inl is) = inl is
+among_front s (g ∷ hs) h (inr rest) = inr (among_front s hs h rest)
+
+among_end : (s : ℕ) (hs : List Held) (h : Held) → s ≡ h.place → IsAmong s (hs ++ h ∷ [])
+among_end s [] h is = inl is
+among_end s (g ∷ hs) h is = inr (among_end s hs h is)
+
+among_all : (room : List Staged) (n : ℕ) → n ≤ length room → ((t : ℕ) → t < n → (staged_at room t).place ≡ t) → (k : ℕ) → k ≤ n → (s : ℕ) → s < k → IsAmong s (map held_as (take k room))
+among_all room n few places zero low s below = absurd (omega (arith, below))
+among_all room n few places (suc k) low s below =
+    subst (λ (hs : List Held). IsAmong s hs) (sym (map_more held_as room k none_staged (omega (arith, low, few))) ∙ ap (λ (m : ℕ). map held_as (take m room)) (let e : k + 1 ≡ suc k = omega arith in e))
+    (elim (cases_eq s k) [
+      | inl is ↦ among_end s (map held_as (take k room)) (held_as (staged_at room k)) (is ∙ sym (places k (omega (arith, low))))
+      | inr other ↦ among_front s (map held_as (take k room)) (held_as (staged_at room k)) (among_all room n few places k (omega (arith, low)) s (omega (arith, below, other)))
+    ])
 
 -- lists that are the same up to a place
 take_same : (room after : List Staged) (n : ℕ) → length after ≡ length room → n ≤ length room → ((t : ℕ) → t < n → staged_at after t ≡ staged_at room t) → take n after ≡ take n room
@@ -81,20 +100,29 @@ module _ (device : Device) (blocks : ℕ) (superblock : List ℕ) (room after : 
   pub length_now : length (left_of (flight_in room filled is_last)) ≡ m
   length_now = sym (ap length held_now) ∙ Rattle.std.proofs.lemmas.List.length-map (take m after) held_as ∙ length-take-le m after (omega (arith, size, there))
 
+  -- they are all those below it
+  pub lowest : (s : ℕ) → s < m → IsAmong s (left_of (flight_in room filled is_last))
+  lowest s below = elim (cases_Bool is_last) [
+    | inl is ↦ absurd (omega (arith, below, was_last is))
+    | inr is ↦
+        subst (λ (hs : List Held). IsAmong s hs) (map_more held_as room filled none_staged kept.there ∙ ap (λ (b : Bool). cond b [] (all_of (flight_in room filled is_last))) (sym is))
+        (among_all room (filled + 1) (omega (arith, kept.there)) (λ t low. (kept.order is t (omega (arith, low))).0) (filled + 1) (omega arith) s (omega (arith, below, was_more is)))
+  ]
+
+  pub not_among : IsAmong m (left_of (flight_in room filled is_last)) → ⊥
+  not_among among = elim (cases_Bool is_last) [
+    | inl is ↦ subst (λ (b : Bool). IsAmong m (cond b [] (all_of (flight_in room filled is_last)))) is among
+    | inr is ↦
+        let here = subst (λ (hs : List Held). IsAmong m hs) (ap (λ (b : Bool). cond b [] (all_of (flight_in room filled is_last))) is ∙ sym (map_more held_as room filled none_staged kept.there)) among in
+        let low = among_low room (filled + 1) (omega (arith, kept.there)) (λ t low. (kept.order is t (omega (arith, low))).0) (filled + 1) (omega arith) m here in
+        absurd (omega (arith, low, was_more is))
+  ]
+
   closed : (x : List ℕ) → AreOpen (left_of (flight_in room filled is_last)) x → m < Rattle.model.specs.Volume.segment_count x → is_open m x ≡ false
   closed x are within = elim (cases_Bool (is_open m x)) [
     | inr shut ↦ shut
     | inl opened ↦ absurd (not_among (are.all m (within, opened)))
   ]
-    where
-      not_among : IsAmong m (left_of (flight_in room filled is_last)) → ⊥
-      not_among among = elim (cases_Bool is_last) [
-        | inl is ↦ subst (λ (b : Bool). IsAmong m (cond b [] (all_of (flight_in room filled is_last)))) is among
-        | inr is ↦
-            let here = subst (λ (hs : List Held). IsAmong m hs) (ap (λ (b : Bool). cond b [] (all_of (flight_in room filled is_last))) is ∙ sym (map_more held_as room filled none_staged kept.there)) among in
-            let low = among_low room (filled + 1) (omega (arith, kept.there)) (λ t low. (kept.order is t (omega (arith, low))).0) (filled + 1) (omega arith) m here in
-            absurd (omega (arith, low, was_more is))
-      ]
 
   module _ (last : ℕ) (ns octets : List ℕ) (taken : IsTaken m (m + 1) last ns octets (staged_at after m)) (some : 1 ≤ length ns) (few : length ns ≤ 512) (below : All (λ n. n < blocks) ns) (distinct : AreDistinct ns) (whole : length octets ≡ 4096 * length ns) where
     abbrev next_last : Bool
@@ -121,6 +149,9 @@ module _ (device : Device) (blocks : ℕ) (superblock : List ℕ) (room after : 
             | inr is ↦ subst (λ (s : Staged). (s.place ≡ t) × (number_at 0 8 s.descriptor ≡ t + 1)) (sym (same t other)) (kept.order is t (omega (arith, was_more is, low, other)))
           ]
     ]
+
+    pub greatest : HaveLess (number_at 0 8 (staged_at after m).descriptor) (left_of (flight_in room filled is_last))
+    greatest = subst (λ (hs : List Held). HaveLess (number_at 0 8 (staged_at after m).descriptor) hs) held_now (less_before after m next_last (omega (arith, size, there)) order_now)
 
     pub begun : IsKept device blocks superblock Descriptor false after m next_last
     begun = record {

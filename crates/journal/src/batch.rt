@@ -11,6 +11,7 @@ use crate::{Journal, Next};
 use disk::Disk;
 
 impl<D: Disk> Journal<D> {
+    ghost use Rattle.segments.specs.Held.{HaveLess, IsAmong};
     ghost use Rattle.journal.specs.Journal.{IsIdle, LeavesAdmitted, still_open};
 
     /// Takes a batch into the room that `open` made: images of the logical blocks with these numbers, in this order.
@@ -36,6 +37,9 @@ impl<D: Disk> Journal<D> {
         ensures running { self.new.halted ≡ false }
         ensures next { self.new.next ≡ Next.Descriptor }
         ensures held { self.new.held ≡ still_open self.old }
+        ensures lowest { (s : ℕ) → s < self.new.place → IsAmong s self.new.held }
+        ensures closed { IsAmong self.new.place self.new.held → ⊥ }
+        ensures greatest { HaveLess self.new.number self.new.held }
         ensures place { self.new.place ≡ length (still_open self.old) }
         ensures number { self.new.number ≡ length (still_open self.old) + 1 }
         ensures last { self.new.last ≡ last }
