@@ -1,12 +1,12 @@
 -- What a crash leaves at each call of a batch: a law of the segments for each kind of call.
 use Rattle.std.proofs.Common.{◌≡◌, inl, inr, ◌<◌, ◌≤◌, ℕ, ◌+◌, ◌*◌, true, false, eqb, List, [], ◌∷◌, ◌++◌, length, drop, refl, sym, ◌∙◌, ap, subst, arith}
 use Rattle.std.proofs.lemmas.List.{drop_more}
-use Rattle.model.specs.Volume.{AreDistinct, Batch, IsDescriptor, StandsFor, batch_in, block, descriptor_place, gate_closed, gate_place, home_size, image_place, is_open, laid_over, listed, logical_blocks, number_at, segment_count}
+use Rattle.model.specs.Volume.{AreDistinct, Batch, IsDescriptor, StandsFor, batch_in, block, descriptor_place, gate_closed, gate_place, home_size, image_place, is_open, laid_over, logical_blocks, number_at, segment_count}
 use Rattle.segments.specs.Held.{AreOpen, HaveLess, Held, IsHomeOfHeld, IsWrittenIn}
-use Rattle.segments.specs.Images.{IsCarried, IsHomeOfOpen, IsInside, IsOpenIn, SameBut}
+use Rattle.segments.specs.Images.{IsCarried, IsHomeOfOpen, SameBut}
 use Rattle.segments.proofs.Blocks.{first-overwritten, overwritten_same, same_but_back, same_but_more, same_but_then}
 use Rattle.segments.proofs.Gates.{any_shut, closed_or_not, first_is_least, gate_kept, less_than, opened_open, opened_or_not}
-use Rattle.segments.proofs.Standing.{torn, unread, valid_open}
+use Rattle.segments.proofs.Standing.{torn, unread}
 use Rattle.segments.proofs.Writing.{batch_written, torn_held}
 use Rattle.journal.specs.Flight.{Flight, IsStaged, all_of, held_as, held_at, none_held}
 use Rattle.journal.specs.Inside.{IsAdmitted, Touched, blocks_without}

@@ -1,11 +1,11 @@
 -- What was read into memory, or taken into it, is a batch.
-use Rattle.std.proofs.Common.{◌≡◌, ◌<◌, ◌≤◌, ℕ, ◌+◌, ◌*◌, IsTrue, List, [], length, get_or, take, sym, ◌∙◌, ap, subst, arith, length-take, zero-add}
+use Rattle.std.proofs.Common.{◌≡◌, ◌<◌, ◌≤◌, ℕ, ◌*◌, IsTrue, List, [], length, get_or, take, sym, ◌∙◌, ap, subst, arith, length-take, zero-add}
 use Rattle.std.specs.List.{All}
 use Rattle.disk.specs.Device.{Device}
 use Rattle.disk.proofs.Images.{length-part}
-use Rattle.model.specs.Volume.{AreDistinct, IsDescriptor, block, blocks_from, descriptor_place, image_place, listed, number_at}
+use Rattle.model.specs.Volume.{AreDistinct, IsDescriptor, block, blocks_from, descriptor_place, listed, number_at}
 use Rattle.segments.proofs.Blocks.{get_or-blocks_from, length-blocks_from}
-use Rattle.journal.specs.Flight.{IsSound, IsStaged, held_as}
+use Rattle.journal.specs.Flight.{IsSound}
 use Rattle.journal.specs.Inside.{AreLoaded, IsReadFrom}
 
 -- images that stand one after the other

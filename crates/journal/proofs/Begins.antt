@@ -1,15 +1,13 @@
 -- A journal that takes a batch.
-use Rattle.std.proofs.Common.{◌≡◌, ◌≢◌, ◌⊎◌, inl, inr, ◌<◌, ◌≤◌, ℕ, zero, suc, ◌+◌, ◌*◌, Bool, true, false, cond, eqb, IsTrue, List, [], ◌∷◌, ◌++◌, length, get_or, map, take, refl, sym, ◌∙◌, ap, subst, arith}
+use Rattle.std.proofs.Common.{◌≡◌, ◌≢◌, ◌⊎◌, inl, inr, ◌<◌, ◌≤◌, ℕ, zero, suc, ◌+◌, ◌*◌, Bool, true, false, cond, eqb, List, [], ◌∷◌, ◌++◌, length, map, take, refl, sym, ◌∙◌, ap, subst, arith}
 use Rattle.std.specs.List.{All}
-use Rattle.std.proofs.lemmas.Bool.{cases_Bool, cases_eq, eqb-false, true≢false}
+use Rattle.std.proofs.lemmas.Bool.{cases_Bool, cases_eq, eqb-false}
 use Rattle.std.proofs.lemmas.List.{ext_get_or, get_or-take, length-take-le, map_more}
 use Rattle.disk.specs.Device.{Device}
-use Rattle.disk.specs.Image.{part}
 use Rattle.model.specs.Volume.{AreDistinct, StandsFor, blocks_from, descriptor_of, is_open, logical_blocks, number_at}
 use Rattle.segments.specs.Held.{AreOpen, HaveLess, Held, IsAmong}
-use Rattle.journal.specs.Flight.{Flight, IsSound, IsStaged, Staged, all_of, flight_in, held_as, left_of, none_staged, staged_at}
+use Rattle.journal.specs.Flight.{IsSound, IsStaged, Staged, all_of, flight_in, held_as, left_of, none_staged, staged_at}
 use Rattle.journal.specs.Inside.{IsAdmitted, IsKept, IsTaken}
-use Rattle.journal.specs.declared.Next.{Next}
 use Rattle.journal.specs.declared.Next.TheVariants.{Idle, Descriptor}
 use Rattle.journal.proofs.Batches.{sound_of}
 use Rattle.journal.proofs.Flights.{less_before}
@@ -52,7 +50,7 @@ among_all room n few places (suc k) low s below =
     ])
 
 -- lists that are the same up to a place
-take_same : (room after : List Staged) (n : ℕ) → length after ≡ length room → n ≤ length room → ((t : ℕ) → t < n → staged_at after t ≡ staged_at room t) → take n after ≡ take n room
+pub take_same : (room after : List Staged) (n : ℕ) → length after ≡ length room → n ≤ length room → ((t : ℕ) → t < n → staged_at after t ≡ staged_at room t) → take n after ≡ take n room
 take_same room after n size few same =
     ext_get_or none_staged (take n after) (take n room) (length-take-le n after (omega (arith, size, few)) ∙ sym (length-take-le n room few))
     (λ t within.

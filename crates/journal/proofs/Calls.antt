@@ -1,11 +1,11 @@
 -- Each call of a batch: what the journal keeps after it, and what a crash within it or after it leaves.
-use Rattle.std.proofs.Common.{◌≡◌, ◌≢◌, ◌⊎◌, inl, inr, ⊎_elim, ◌<◌, ◌≤◌, ℕ, ◌+◌, ◌*◌, Bool, true, false, IsTrue, cond, List, [], ◌∷◌, length, get_or, drop, refl, sym, ◌∙◌, ap, subst, arith, Result, Ok, Err}
+use Rattle.std.proofs.Common.{◌≡◌, ◌≢◌, ◌⊎◌, inl, inr, ⊎_elim, ◌<◌, ◌≤◌, ℕ, ◌*◌, Bool, true, false, IsTrue, cond, List, [], ◌∷◌, length, get_or, drop, refl, sym, ◌∙◌, ap, subst, arith, Result, Ok, Err}
 use Rattle.disk.specs.Device.{Device, Elapses, IsTornImage, LeavesNoMore, TearsAt, LeftTornAt}
 use Rattle.disk.specs.Image.{part, overwritten}
 use Rattle.segments.specs.Held.{AreOpen, Held}
 use Rattle.segments.specs.Images.{SameBut}
 use Rattle.segments.proofs.Writing.{home_of_held}
-use Rattle.journal.specs.Flight.{Flight, IsSound, IsStaged, Staged, all_of, flight_in, held_at, left_of, none_held, sizes_of, staged_at}
+use Rattle.journal.specs.Flight.{Flight, IsSound, IsStaged, Staged, all_of, flight_in, held_at, none_held, sizes_of, staged_at}
 use Rattle.journal.specs.Inside.{IsLive, IsOrdered, IsWithin, Holds, Touched, IsAdmitted, IsKept, IsTold, blocks_without}
 use Rattle.journal.specs.Calls.{Does, Writes, Syncs, call_at}
 use Rattle.journal.specs.Order.{at_fault, following}

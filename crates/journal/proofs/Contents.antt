@@ -1,22 +1,22 @@
 -- What each write leaves of the content.
-use Rattle.std.proofs.Common.{◌≡◌, ◌≢◌, ◌⊎◌, inl, inr, ◌<◌, ◌≤◌, ℕ, ◌+◌, ◌*◌, true, false, eqb, List, [], ◌∷◌, ◌++◌, length, get_or, take, drop, refl, sym, ◌∙◌, ap, subst, arith}
+use Rattle.std.proofs.Common.{◌≡◌, inl, inr, ◌<◌, ◌≤◌, ℕ, ◌+◌, ◌*◌, true, false, eqb, List, [], ◌∷◌, length, get_or, take, drop, refl, sym, ◌∙◌, ap, subst, arith}
 use Rattle.std.proofs.lemmas.Bool.{cases_eq}
 use Rattle.std.proofs.lemmas.List.{drop_more, take_more}
 use Rattle.std.proofs.Math.Seq.{take-length}
 use Rattle.disk.specs.Image.{overwritten}
 use Rattle.model.specs.Volume.{StandsFor, all_laid_over, block, descriptor_place, gate_closed, gate_place, home, home_place, home_size, image_place, is_open, logical_blocks, segment_count}
-use Rattle.segments.specs.Held.{AreOpen, Held, IsHomeOfHeld, IsHomeOnTheWay, IsWrittenIn, batches_of}
-use Rattle.segments.specs.Images.{IsCarried, IsInside, SameBut}
+use Rattle.segments.specs.Held.{AreOpen, Held, IsHomeOfHeld, IsHomeOnTheWay, batches_of}
+use Rattle.segments.specs.Images.{IsInside, SameBut}
 use Rattle.segments.proofs.Blocks.{block-overwritten, first-overwritten, overwritten_same, same_but_more, same_but_then}
 use Rattle.segments.proofs.Carrying.{all_home, none_home, one_home}
 use Rattle.segments.proofs.Gates.{carried_home, closed_open, held_kept}
 use Rattle.segments.proofs.Standing.{full_open, unread_open}
 use Rattle.segments.proofs.Writing.{home_of_held, torn_held_open}
-use Rattle.journal.specs.Flight.{Flight, IsSound, IsStaged, all_of, held_as, held_at, none_held, sizes_of}
+use Rattle.journal.specs.Flight.{Flight, IsSound, all_of, held_at, none_held, sizes_of}
 use Rattle.journal.specs.Inside.{Holds}
 use Rattle.journal.specs.Order.{following}
 use Rattle.journal.specs.declared.Next.{Next}
-use Rattle.journal.specs.declared.Next.TheVariants.{Idle, Image, Seal, Commit, Home, Settle, CloseGate, Finish}
+use Rattle.journal.specs.declared.Next.TheVariants.{Image, Commit, Home, Settle, CloseGate, Finish}
 use Rattle.journal.proofs.Admitted.{is_shut, shut_same}
 use Rattle.journal.proofs.Flights.{after_home, after_image, length-sizes, size_at}
 

@@ -1,24 +1,28 @@
 -- What an opening finds.
-use Rattle.std.proofs.Common.{◌≡◌, ◌≢◌, ◌⊎◌, inl, inr, ⊎_elim, ◌<◌, ◌≤◌, ℕ, ◌+◌, ◌*◌, ◌%◌, ◌^◌, [], ◌∷◌, Bool, true, false, IsTrue, List, length, get_or, refl, sym, ◌∙◌, ap, subst, arith, Result, Ok, Err, IfOk, IfErr, MatchResult}
-use Rattle.std.specs.List.{sum}
+use Rattle.std.proofs.Common.{◌≡◌, ◌≢◌, ◌⊎◌, inl, inr, ⊎_elim, ◌<◌, ◌≤◌, ℕ, ◌+◌, ◌*◌, ◌%◌, ◌^◌, [], ◌∷◌, suc, Bool, true, false, IsTrue, List, length, get_or, map, take, refl, sym, ◌∙◌, ap, subst, arith, Result, Ok, Err, IfOk, IfErr, MatchResult}
+use Rattle.std.specs.List.{filter, range_with_len, sum}
+use Rattle.std.proofs.lemmas.List.{get_or-take, length-map, length-take-le, map_more}
+use Rattle.std.proofs.lemmas.List.FromFn.{length-range_with_len}
+use Rattle.std.proofs.lemmas.List.Sums.{sum_by-cons}
 use Rattle.std.proofs.Math.Nat.{mod-add-mod}
 use Rattle.disk.specs.Device.{Device, Elapses, LeavesOnly}
 use Rattle.disk.specs.Image.{part}
-use Rattle.segments.specs.Held.{AreOpen, Held, IsWrittenIn, held_at as held_in_places, sorted_held}
-use Rattle.segments.proofs.Sorting.{found_open}
-use Rattle.journal.specs.Flight.{Flight, IsStaged, Staged, all_of, flight_in, held_as, sizes_of, staged_at}
-use Rattle.journal.specs.Inside.{IsFound, IsKept, IsQuiet, IsReadFrom, IsStill, IsSynced, LeftAs, Touched}
+use Rattle.segments.specs.Held.{AreOpen, AreRising, Held, IsAmong, held_at as held_in_places, held_in, sorted_held}
+use Rattle.segments.specs.Images.{IsOpenIn}
+use Rattle.segments.proofs.Judging.{length-sorted, stands_rising, writes_of, writes_sorted}
+use Rattle.segments.proofs.Sorting.{all_found, found_open}
+use Rattle.journal.specs.Flight.{Flight, IsStaged, Staged, all_of, counts_of, flight_in, held_as, none_staged, sizes_of, staged_at}
+use Rattle.journal.specs.Inside.{IsFound, IsKept, IsQuiet, IsStill, IsSynced, LeftAs, Touched}
 use Rattle.journal.specs.Opening.{AreSameVolume, Costs, IsMore, IsNoVolume, home_syncs, home_writes, LeftKept, Opens, Refuses, SyncsFirst}
 use Rattle.journal.specs.Journal.{AreWhole, HasWholeBlocks, IsCaused, IsDuring, IsReady, JournalView, LeavesAdmitted}
 use Rattle.journal.specs.declared.JournalError.{JournalError}
 use Rattle.journal.specs.declared.JournalError.TheVariants.{Fault, Memory, NotAVolume, Halted}
-use Rattle.model.specs.Volume.{Batch, batch_in, block, descriptor_place, home_place, home_size, label_of, number_at, is_open, open_segments, segment_count, IsSuperblock, IsDescriptor, StandsFor, logical_blocks}
+use Rattle.model.specs.Volume.{batch_in, block, descriptor_place, home_place, home_size, label_of, number_at, is_open, open_segments, segment_count, IsSuperblock, IsDescriptor, StandsFor, logical_blocks}
 use Rattle.journal.specs.declared.Next.TheVariants.{Idle, Home}
 use Rattle.segments.proofs.Blocks.{same_but_equal}
 use Rattle.journal.proofs.Transitions.{told_after}
-use Rattle.journal.proofs.Admitted.{batch_is}
+use Rattle.journal.proofs.Flights.{length-all, sizes_some}
 use Rattle.journal.proofs.Contents.{holds_first}
-use Rattle.journal.proofs.Volumes.{none_open, one_open, stands_closed, stands_open}
 use Rattle.std.proofs.lemmas.Bool.{true≢false}
 
 -- why a run of calls stopped
@@ -37,58 +41,118 @@ not_caused error old new (inr caused) = (λ e. (let two : Memory ≡ NotAVolume 
 pub caused_elsewhere : (error : JournalError) (old new : Device) → IsCaused error old new → error ≢ NotAVolume
 caused_elsewhere error old new caused = (not_caused error old new caused).0
 
+-- what each of some is, and a place among theirs
+among_staged : (P : ℕ → Type 0) (s : ℕ) (ss : List Staged) → ((k : ℕ) → k < length ss → P (staged_at ss k).place) → IsAmong s (map held_as ss) → P s
+among_staged P s [] each among = absurd among
+among_staged P s (o ∷ os) each (inl is) = subst P (sym is) (each 0 (omega arith))
+among_staged P s (o ∷ os) each (inr rest) = among_staged P s os (λ k within. each (suc k) (omega (arith, within))) rest
+
+-- the writes that carry some home
+writes_at : (x ss : List ℕ) → home_writes x ss ≡ writes_of (held_in_places x ss)
+writes_at x [] = refl
+writes_at x (s ∷ ss) =
+    let d = block (descriptor_place s) x in
+    omega (arith, writes_at x ss, length-map (range_with_len 0 (number_at 16 4 d)) (λ i. number_at (24 + 4 * i) 4 d), length-range_with_len 0 (number_at 16 4 d))
+
+writes_counted : (held : List Held) → writes_of held ≡ sum (counts_of held) + length (counts_of held)
+writes_counted [] = refl
+writes_counted (h ∷ held) = omega (arith, writes_counted held, sum_by-cons (λ n. n) (length h.batch.numbers) (counts_of held))
+
+some_syncs : (ss : List ℕ) → 0 < length ss → home_syncs ss ≡ 1 + length ss
+some_syncs [] some = absurd (omega (arith, some))
+some_syncs (s ∷ ss) some = omega arith
+
+no_places : (ss : List ℕ) → length ss ≡ 0 → ss ≡ []
+no_places [] none = refl
+no_places (s ∷ ss) none = absurd (omega (arith, none))
+
 module _ (device : Device) (superblock : List ℕ) (blocks : ℕ) (room : List Staged) (image_size : IsTrue device.tells → length device.content ≡ device.size) (now : IsTrue device.tells → device.may_leave device.content) where
-  abbrev f : Flight
-  f = flight_in room 0 true
+  abbrev x : List ℕ
+  x = device.content
 
-  module _ (is_found : Bool) (found : IsFound device superblock blocks room is_found) where
+  module _ (n : ℕ) (found : IsFound device superblock blocks room n) where
+    abbrev held : List Held
+    held = map held_as (take n room)
+
+    few : length room ≤ 8
+    few = omega (arith, found.count, found.valid.segments)
+
+    some : 0 < length room
+    some = omega (arith, found.count, found.valid.segments)
+
     device_size : device.size ≡ 4096 * home_place (length room) blocks
-    device_size = omega (arith, found.valid.exactly, found.valid.segments, found.blocks_are, found.one)
+    device_size = omega (arith, found.valid.exactly, found.blocks_are, found.count)
 
-    content_superblock : IsTrue device.tells → IsSuperblock (block 0 device.content) (length device.content)
+    content_superblock : IsTrue device.tells → IsSuperblock (block 0 x) (length x)
     content_superblock t =
-        subst (λ (n : ℕ). IsSuperblock (block 0 device.content) n) (sym (image_size t))
+        subst (λ (n : ℕ). IsSuperblock (block 0 x) n) (sym (image_size t))
         (subst (λ (b : List ℕ). IsSuperblock b device.size) (found.superblock_is t) found.valid)
 
-    content_size : IsTrue device.tells → home_size device.content ≡ blocks
+    content_size : IsTrue device.tells → home_size x ≡ blocks
     content_size t = ap (number_at 12 4) (sym (found.superblock_is t)) ∙ found.blocks_are
 
-    content_count : IsTrue device.tells → segment_count device.content ≡ length room
-    content_count t = (content_superblock t).segments ∙ sym found.one
+    content_count : IsTrue device.tells → segment_count x ≡ length room
+    content_count t = ap (number_at 16 4) (sym (found.superblock_is t)) ∙ sym found.count
 
-    content_label : IsTrue device.tells → label_of device.content ≡ part 20 128 superblock
+    content_label : IsTrue device.tells → label_of x ≡ part 20 128 superblock
     content_label t = ap (λ (b : List ℕ). part 20 128 b) (sym (found.superblock_is t))
 
-    there : (staged_at room 0).place < length room
-    there = omega (arith, found.place, found.one)
+    held_is : IsTrue device.tells → held ≡ held_in x
+    held_is t = found.found.are t (length room) (omega arith) ∙ ap (λ (k : ℕ). sorted_held (held_in_places x (filter (λ s. is_open s x) (range_with_len 0 k)))) (sym (content_count t))
 
-  -- with the segment closed
-  module _ (found : IsFound device superblock blocks room false) where
-    shut : IsTrue device.tells → is_open 0 device.content ≡ false
-    shut t = sym (found.gate t)
+    within : n ≤ length room
+    within = omega (arith, found.found.within)
 
-    pub rest_stands : IsTrue device.tells → StandsFor device.content (part 20 128 superblock) (logical_blocks device.content)
-    rest_stands t =
-        let stands = stands_closed device.content (content_superblock false found t) (shut t) in
-        subst (λ (l : List ℕ). StandsFor device.content l (logical_blocks device.content)) (content_label false found t)
-        (subst (λ (bs : List (List ℕ)). StandsFor device.content (label_of device.content) bs) (sym stands.has_blocks) stands)
+    valid_all : IsTrue device.tells → (s : ℕ) → IsOpenIn s x → IsDescriptor (home_size x) (block (descriptor_place s) x)
+    valid_all t s opened =
+        among_staged (λ p. IsDescriptor (home_size x) (block (descriptor_place p) x)) s (take n room) each
+        (subst (λ (hs : List Held). IsAmong s hs) (sym (held_is t)) (all_found x s opened))
+      where
+        each : (k : ℕ) → k < length (take n room) → IsDescriptor (home_size x) (block (descriptor_place (staged_at (take n room) k).place) x)
+        each k low =
+            let less : k < n = omega (arith, low, length-take-le n room within) in
+            let one = found.found.each k less in
+            subst (λ (o : Staged). IsDescriptor (home_size x) (block (descriptor_place o.place) x)) (sym (get_or-take n room k none_staged less))
+            (subst (λ (b : ℕ). IsDescriptor b (block (descriptor_place (staged_at room k).place) x)) (sym (content_size t))
+            (subst (λ (d : List ℕ). IsDescriptor blocks d) (sym (one.read.written t).descriptor_is) one.read.descriptor))
 
-    pub rest_none : IsTrue device.tells → open_segments device.content ≡ []
-    rest_none t = none_open device.content (content_superblock false found t) (shut t)
+    pub found_stands : IsTrue device.tells → StandsFor x (part 20 128 superblock) (logical_blocks x)
+    found_stands t =
+        subst (λ (l : List ℕ). StandsFor x l (logical_blocks x)) (content_label t)
+        (stands_rising x (content_superblock t) (valid_all t) (subst (λ (hs : List Held). AreRising hs) (held_is t) found.found.rise))
 
-    none_held : IsTrue device.tells → AreOpen [] device.content
-    none_held t = subst (λ (hs : List Held). AreOpen hs device.content) (ap (λ (ss : List ℕ). sorted_held (held_in_places device.content ss)) (rest_none t)) (found_open device.content (part 20 128 superblock) (logical_blocks device.content) (rest_stands t))
+    are_held : IsTrue device.tells → AreOpen held x
+    are_held t = subst (λ (hs : List Held). AreOpen hs x) (sym (held_is t)) (found_open x (part 20 128 superblock) (logical_blocks x) (found_stands t))
+
+    length_open : IsTrue device.tells → length (open_segments x) ≡ n
+    length_open t =
+        omega (arith, ap length (held_is t), length-sorted (held_in_places x (open_segments x)), length-map (open_segments x) (λ s. let h : Held = record { place = s; batch = batch_in s x } in h), length-map (take n room) held_as, length-take-le n room within)
+
+    writes_open : IsTrue device.tells → home_writes x (open_segments x) ≡ sum (counts_of held) + length (counts_of held)
+    writes_open t =
+        writes_at x (open_segments x) ∙ sym (writes_sorted (held_in_places x (open_segments x))) ∙ ap writes_of (sym (held_is t)) ∙ writes_counted held
+
+  -- with all segments closed
+  module _ (found : IsFound device superblock blocks room 0) where
+    abbrev f : Flight
+    f = flight_in room 0 true
+
+    pub rest_stands : IsTrue device.tells → StandsFor x (part 20 128 superblock) (logical_blocks x)
+    rest_stands = found_stands 0 found
+
+    pub rest_none : IsTrue device.tells → open_segments x ≡ []
+    rest_none t = no_places (open_segments x) (length_open 0 found t)
 
     pub rest_kept : IsKept device blocks superblock Idle false room 0 true
     rest_kept = record {
-      size = device_size false found;
+      size = device_size 0 found;
       low = omega (arith, found.valid.low, found.blocks_are);
       high = omega (arith, found.valid.high, found.blocks_are);
       superblock_size = found.superblock_size;
-      one = found.one;
-      few = omega (arith, found.one);
-      there = omega (arith, found.one);
-      place = there false found;
+      one = found.count ∙ found.valid.segments;
+      few = few 0 found;
+      there = some 0 found;
+      place = omega (arith, found.found.first refl, some 0 found);
       left = λ e. absurd (true≢false e);
       within = tt;
       staged = λ e. absurd (true≢false e);
@@ -96,74 +160,71 @@ module _ (device : Device) (superblock : List ℕ) (blocks : ℕ) (room : List S
       described = λ e. cc;
       told = λ t. record {
         stands = rest_stands t;
-        size = content_size false found t;
-        count = content_count false found t;
-        admits = λ c left. inl (subst (λ (x : List ℕ). StandsFor x (part 20 128 superblock) (logical_blocks device.content)) (sym (found.synced t c left)) (rest_stands t));
-        holds = λ runs. none_held t;
-        same = λ runs c left. same_but_equal (Touched f Idle) device.content c (found.synced t c left);
+        size = content_size 0 found t;
+        count = content_count 0 found t;
+        admits = λ c left. inl (subst (λ (y : List ℕ). StandsFor y (part 20 128 superblock) (logical_blocks x)) (sym (found.synced t c left)) (rest_stands t));
+        holds = λ runs. are_held 0 found t;
+        same = λ runs c left. same_but_equal (Touched f Idle) x c (found.synced t c left);
       };
     }
 
-  -- with the segment open
-  module _ (found : IsFound device superblock blocks room true) where
-    abbrev s : Staged
-    s = staged_at room 0
+  -- with some open
+  module _ (n filled : ℕ) (is : n ≡ filled + 1) (found : IsFound device superblock blocks room n) where
+    abbrev flight : Flight
+    flight = flight_in room filled true
 
-    its_batch : IsReadFrom device blocks s
-    its_batch = found.read refl
+    there : filled < length room
+    there = omega (arith, is, found.found.within)
 
-    opened : IsTrue device.tells → is_open 0 device.content ≡ true
-    opened t = sym (found.gate t)
+    all_are : map held_as (take n room) ≡ all_of flight
+    all_are = ap (λ (k : ℕ). map held_as (take k room)) is ∙ map_more held_as room filled none_staged there
 
-    written : IsTrue device.tells → IsWrittenIn 0 s.descriptor s.images device.content
-    written t = subst (λ (p : ℕ). IsWrittenIn p s.descriptor s.images device.content) found.place (its_batch.written t)
+    staged : (t : ℕ) → t ≤ filled → IsStaged blocks (staged_at room t)
+    staged t low = (found.found.each t (omega (arith, is, low))).read.staged
 
-    pub replay_some : (0 < length (sizes_of f)) × (0 < get_or (sizes_of f) 0 0)
-    replay_some = (omega arith, omega (arith, its_batch.staged.sound.some))
+    length_sizes : length (sizes_of flight) ≡ n
+    length_sizes = omega (arith, length-map (all_of flight) (λ h. length h.batch.numbers), length-all room filled true there, is)
 
-    pub replay_writes : IsTrue device.tells → home_writes device.content (open_segments device.content) ≡ sum (sizes_of f) + length (sizes_of f)
-    replay_writes t =
-        let count_is : number_at 16 4 (block (descriptor_place 0) device.content) ≡ length s.numbers = ap (number_at 16 4) (written t).descriptor_is ∙ its_batch.staged.count in
-        ap (home_writes device.content) (one_open device.content (content_superblock true found t) (opened t)) ∙ omega (arith, count_is)
+    pub replay_some : (0 < length (sizes_of flight)) × (0 < get_or (sizes_of flight) 0 0)
+    replay_some =
+        let first : 0 < length (sizes_of flight) = omega (arith, length_sizes, is) in
+        (first, sizes_some room filled true there blocks staged 0 first)
 
-    pub replay_syncs : IsTrue device.tells → home_syncs (open_segments device.content) ≡ 1 + length (sizes_of f)
-    replay_syncs t = ap home_syncs (one_open device.content (content_superblock true found t) (opened t))
+    pub replay_writes : IsTrue device.tells → home_writes x (open_segments x) ≡ sum (sizes_of flight) + length (sizes_of flight)
+    replay_writes t = writes_open n found t ∙ ap (λ (hs : List Held). sum (counts_of hs) + length (counts_of hs)) all_are
 
-    pub replay_stands : IsTrue device.tells → StandsFor device.content (part 20 128 superblock) (logical_blocks device.content)
-    replay_stands t =
-        let superblock = content_superblock true found t in
-        let valid = subst (λ (n : ℕ). IsDescriptor n (block (descriptor_place 0) device.content)) (sym (content_size true found t)) (subst (λ (d : List ℕ). IsDescriptor blocks d) (sym (written t).descriptor_is) its_batch.descriptor) in
-        subst (λ (l : List ℕ). StandsFor device.content l (logical_blocks device.content)) (content_label true found t) (stands_open device.content superblock (opened t) valid)
+    pub replay_syncs : IsTrue device.tells → home_syncs (open_segments x) ≡ 1 + length (sizes_of flight)
+    replay_syncs t = omega (arith, some_syncs (open_segments x) (omega (arith, length_open n found t, is)), length_open n found t, length_sizes)
 
-    all_held : IsTrue device.tells → AreOpen (all_of f) device.content
-    all_held t =
-        let is : batch_in s.place device.content ≡ (held_as s).batch = batch_is f blocks its_batch.staged device.content (its_batch.written t) in
-        subst (λ (hs : List Held). AreOpen hs device.content)
-        (ap (λ (ss : List ℕ). sorted_held (held_in_places device.content ss)) (one_open device.content (content_superblock true found t) (opened t))
-        ∙ ap (λ (p : ℕ). let h : Held = record { place = p; batch = batch_in p device.content } in h ∷ []) (sym found.place)
-        ∙ ap (λ (b : Batch). let h : Held = record { place = s.place; batch = b } in h ∷ []) is)
-        (found_open device.content (part 20 128 superblock) (logical_blocks device.content) (replay_stands t))
+    pub replay_stands : IsTrue device.tells → StandsFor x (part 20 128 superblock) (logical_blocks x)
+    replay_stands = found_stands n found
 
-    pub replay_kept : IsKept device blocks superblock (Home 0 0) false room 0 true
+    all_held : IsTrue device.tells → AreOpen (all_of flight) x
+    all_held t = subst (λ (hs : List Held). AreOpen hs x) all_are (are_held n found t)
+
+    place_there : (staged_at room filled).place < length room
+    place_there = (found.found.each filled (omega (arith, is))).below
+
+    pub replay_kept : IsKept device blocks superblock (Home 0 0) false room filled true
     replay_kept = record {
-      size = device_size true found;
+      size = device_size n found;
       low = omega (arith, found.valid.low, found.blocks_are);
       high = omega (arith, found.valid.high, found.blocks_are);
       superblock_size = found.superblock_size;
-      one = found.one;
-      few = omega (arith, found.one);
-      there = omega (arith, found.one);
-      place = there true found;
+      one = found.count ∙ found.valid.segments;
+      few = few n found;
+      there = there;
+      place = place_there;
       left = λ e. absurd (true≢false e);
       within = replay_some;
-      staged = λ live t low. subst (λ (k : ℕ). IsStaged blocks (staged_at room k)) (let e : 0 ≡ t = omega (arith, low) in e) its_batch.staged;
+      staged = λ live. staged;
       order = λ e. absurd e;
       described = λ e. cc;
       told = λ t.
-          told_after f device.content (part 20 128 superblock) (replay_stands t) (subst (λ (n : ℕ). s.place < n) (sym (content_count true found t)) (there true found)) (content_count true found t) (subst (λ (b : ℕ). IsStaged b s) (sym (content_size true found t)) its_batch.staged)
-          device blocks (Home 0 0) false (content_size true found t) (all_held t)
-          (λ c left. same_but_equal (Touched f (Home 0 0)) device.content c (found.synced t c left)) (now t)
-          (λ runs. holds_first f device.content (part 20 128 superblock) (replay_stands t) (content_count true found t) (all_held t));
+          told_after flight x (part 20 128 superblock) (replay_stands t) (subst (λ (k : ℕ). (staged_at room filled).place < k) (sym (content_count n found t)) place_there) (content_count n found t) (subst (λ (b : ℕ). IsStaged b (staged_at room filled)) (sym (content_size n found t)) (staged filled (omega arith)))
+          device blocks (Home 0 0) false (content_size n found t) (all_held t)
+          (λ c left. same_but_equal (Touched flight (Home 0 0)) x c (found.synced t c left)) (now t)
+          (λ runs. holds_first flight x (part 20 128 superblock) (replay_stands t) (content_count n found t) (all_held t));
     }
 
 -- a journal that was found, and a run of calls from it, after calls that changed nothing

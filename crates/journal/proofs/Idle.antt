@@ -1,7 +1,7 @@
 -- A journal with no batch in flight.
-use Rattle.std.proofs.Common.{◌≡◌, inl, inr, ◌<◌, ℕ, ◌+◌, Bool, true, false, cond, List, [], ◌∷◌, get_or, sym, ◌∙◌, ap, subst}
+use Rattle.std.proofs.Common.{◌≡◌, inl, inr, ◌<◌, ℕ, Bool, true, false, cond, List, [], get_or, sym, ◌∙◌, ap, subst}
 use Rattle.disk.specs.Device.{Device}
-use Rattle.segments.specs.Held.{AreOpen, Held}
+use Rattle.segments.specs.Held.{AreOpen}
 use Rattle.segments.proofs.Standing.{get_or-home}
 use Rattle.journal.specs.Flight.{Flight, all_of}
 use Rattle.journal.specs.Inside.{IsAdmitted, IsTold, Holds, blocks_without}

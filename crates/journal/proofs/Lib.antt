@@ -6,11 +6,11 @@ pub mod Contents
 pub mod During
 pub mod Flights
 pub mod Found
+pub mod Gates
 pub mod Idle
 pub mod Loading
 pub mod Made
 pub mod Order
 pub mod Transitions
-pub mod Volumes
 pub mod Waiting
 pub mod Whole

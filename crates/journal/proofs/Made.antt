@@ -1,11 +1,11 @@
 -- A call that was made, as those who use the journal see it.
-use Rattle.std.proofs.Common.{◌≡◌, ◌≢◌, inl, ℕ, ◌+◌, ◌*◌, Bool, true, false, eqb, IsTrue, List, length, map, take, refl, sym, ◌∙◌, ap, subst, arith, Result, Ok, Err, OnOk}
+use Rattle.std.proofs.Common.{◌≡◌, ◌≢◌, inl, ℕ, ◌+◌, ◌*◌, Bool, true, false, eqb, IsTrue, List, length, map, take, refl, sym, ◌∙◌, ap, subst, Result, Ok, Err, OnOk}
 use Rattle.disk.specs.Device.{Device, Elapses, HasCause, OnRefused, IsRefused, IsSync, IsWrite, LeavesNoMore, LeavesOnly, LeftNoMore, LeftTornAt, OnAsked, TearsAt}
 use Rattle.disk.specs.Image.{part, overwritten}
 use Rattle.disk.specs.declared.DiskError.{DiskError}
 use Rattle.segments.specs.Held.{Held}
-use Rattle.journal.specs.Flight.{Flight, Staged, all_of, flight_in, held_as, sizes_of, staged_at}
-use Rattle.journal.specs.Inside.{IsKept, IsWithin, blocks_without}
+use Rattle.journal.specs.Flight.{Flight, Staged, all_of, flight_in, held_as, sizes_of}
+use Rattle.journal.specs.Inside.{IsKept, blocks_without}
 use Rattle.journal.specs.Calls.{Call, Does, IsAsked, IsRetried, MakesCall, Syncs, Writes, blocks_after, call_at}
 use Rattle.journal.specs.Journal.{IsSameBatch, JournalView, with_batch}
 use Rattle.journal.specs.Order.{answer, at_fault, calls_made, following}

@@ -1,5 +1,5 @@
 -- How each device call takes a journal from one call to the next.
-use Rattle.std.proofs.Common.{◌≡◌, ◌≢◌, ◌⊎◌, inl, inr, ◌<◌, ◌≤◌, ℕ, ◌*◌, Bool, true, false, List, [], ◌∷◌, length, refl, sym, ◌∙◌, ap, subst, arith}
+use Rattle.std.proofs.Common.{◌≡◌, ◌≢◌, ◌⊎◌, inl, inr, ◌<◌, ◌≤◌, ℕ, ◌*◌, Bool, true, false, List, [], ◌∷◌, refl, sym, ◌∙◌, ap, subst, arith}
 use Rattle.disk.specs.Device.{Device, IsTornImage, LeavesOnly}
 use Rattle.segments.specs.Held.{Held, IsHomeOfHeld}
 use Rattle.segments.specs.Images.{SameBut}

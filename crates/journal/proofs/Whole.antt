@@ -1,8 +1,8 @@
 -- The logical blocks are as many as the superblock says, and each has 4,096 octets.
-use Rattle.std.proofs.Common.{◌<◌, inl, inr, ℕ, Bool, IsTrue, List, length, sym, ◌∙◌, ap, subst}
+use Rattle.std.proofs.Common.{◌<◌, inl, inr, ℕ, Bool, IsTrue, List, sym, ◌∙◌, ap, subst}
 use Rattle.disk.specs.Device.{Device, IsRefused, IsUnchanged}
 use Rattle.disk.specs.Image.{part}
-use Rattle.journal.specs.Flight.{Flight, Staged, flight_in, staged_at}
+use Rattle.journal.specs.Flight.{Flight, Staged, flight_in}
 use Rattle.journal.specs.Inside.{IsAdmitted, IsKept, Holds, Touched, blocks_without}
 use Rattle.segments.specs.Images.{SameBut}
 use Rattle.journal.specs.Journal.{AreWhole}

@@ -1,5 +1,5 @@
 -- What a journal has in memory of its segments, and what stays so during the calls of a batch.
-use Rattle.std.specs.Prelude.{◌≡◌, ◌<◌, ◌≤◌, ℕ, Bool, if◌then◌else◌, List, [], ◌∷◌, ◌++◌, length, map, slice_index, slice_index_or, take}
+use Rattle.std.specs.Prelude.{◌≡◌, ◌<◌, ◌≤◌, ℕ, Bool, if◌then◌else◌, List, [], ◌∷◌, ◌++◌, length, map, nat_lt, slice_index_or, drop, take}
 use Rattle.std.specs.List.{All}
 use Rattle.model.specs.Volume.{AreDistinct, Batch, listed, number_at}
 use Rattle.segments.specs.Held.{Held}
@@ -14,6 +14,15 @@ pub record Staged : Type 0 where
 -- the batch that it holds
 abbrev pub held_as : Staged → Held
 held_as s = record { place = s.place; batch = record { number = number_at 0 8 s.descriptor; last = number_at 8 8 s.descriptor; numbers = s.numbers; images = s.images } }
+
+-- the number of that batch
+abbrev pub number_of : Staged → ℕ
+number_of s = number_at 0 8 s.descriptor
+
+-- one more is put into some with rising numbers
+abbrev pub put_staged : Staged → List Staged → List Staged
+put_staged s [] = s ∷ []
+put_staged s (other ∷ others) = if nat_lt (number_of s) (number_of other) then s ∷ put_staged other others else other ∷ put_staged s others
 
 -- one in a list of them, by its index
 abbrev pub none_staged : Staged
@@ -44,6 +53,10 @@ pub record IsStaged (blocks : ℕ) (s : Staged) : Type 0 where
   pub lists : listed s.descriptor ≡ s.numbers
   pub distinct : AreDistinct s.numbers
   pub sound : IsSound blocks (held_as s).batch
+
+-- the first i of them, and then the one behind the n, put into the others
+abbrev pub put_from : List Staged → ℕ → ℕ → List Staged
+put_from room n i = take i room ++ put_staged (staged_at room n) (drop i (take n room))
 
 -- what stays as it is during the calls of a batch: how many segments the volume has, those that were open before in rising
 -- number, the one that the batch is written into, and whether no closed one is left besides

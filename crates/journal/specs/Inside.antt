@@ -1,9 +1,10 @@
 -- What the fields of a journal keep between two calls.
-use Rattle.std.specs.Prelude.{◌≡◌, ◌⊎◌, ◌<◌, ◌≤◌, ℕ, ◌+◌, ◌*◌, Bool, true, false, IsTrue, List, [], length, drop, slice_index, slice_index_or, take, Option, is_some, IfSome}
+use Rattle.std.specs.Prelude.{◌≡◌, ◌⊎◌, ◌<◌, ◌≤◌, ℕ, ◌+◌, ◌*◌, Bool, true, false, IsTrue, List, [], length, drop, map, slice_index, slice_index_or, take}
+use Rattle.std.specs.List.{filter, range_with_len}
 use Rattle.disk.specs.Device.{Device, LeavesOnly, one_more}
 use Rattle.disk.specs.Image.{part}
 use Rattle.model.specs.Volume.{gate_place, descriptor_place, image_place, home_place, descriptor_of, block, blocks_from, number_at, home_size, is_open, listed, segment_count, IsDescriptor, IsSuperblock, StandsFor, all_laid_over, home, laid_over, logical_blocks, gate_closed}
-use Rattle.segments.specs.Held.{AreOpen, HaveLess, Held, IsHomeOfHeld, IsHomeOnTheWay, IsWrittenIn, batches_of}
+use Rattle.segments.specs.Held.{AreOpen, AreRising, IsHomeOfHeld, IsHomeOnTheWay, IsWrittenIn, batches_of, held_at as held_in_places, sorted_held}
 use Rattle.segments.specs.Images.{IsCarried, IsInside, SameBut}
 use Rattle.journal.specs.Flight.{Flight, IsStaged, Staged, all_of, flight_in, held_as, held_at, left_of, sizes_of, staged_at}
 use Rattle.journal.specs.declared.Next.{Next}
@@ -155,17 +156,31 @@ pub record IsReadFrom (device : Device) (blocks : ℕ) (s : Staged) : Type 0 whe
   pub descriptor : IsDescriptor blocks s.descriptor
   pub written : IsTrue device.tells → IsWrittenIn s.place s.descriptor s.images device.content
 
--- what an opening reads, before it writes anything: the superblock, and the batch of the segment where that is open
-pub record IsFound (device : Device) (superblock : List ℕ) (blocks : ℕ) (room : List Staged) (is_found : Bool) : Type 0 where
+-- a segment in memory is an open one, from a place on
+pub record IsOpened (device : Device) (blocks segments from : ℕ) (s : Staged) : Type 0 where
+  pub read : IsReadFrom device blocks s
+  pub below : s.place < segments
+  pub above : from ≤ s.place
+  pub opened : IsTrue device.tells → is_open s.place device.content ≡ true
+
+-- the open segments from a place on are the first n in memory, in rising batch number
+pub record AreFound (device : Device) (blocks from : ℕ) (room : List Staged) (n : ℕ) : Type 0 where
+  pub within : n + from ≤ length room
+  pub first : n ≡ 0 → (staged_at room 0).place ≡ 0
+  pub each : (t : ℕ) → t < n → IsOpened device blocks (length room) from (staged_at room t)
+  pub rise : AreRising (map held_as (take n room))
+  pub are : IsTrue device.tells → (k : ℕ) → from + k ≡ length room
+      → map held_as (take n room) ≡ sorted_held (held_in_places device.content (filter (λ s. is_open s device.content) (range_with_len from k)))
+
+-- what an opening reads, before it writes anything: the superblock, and the n open segments
+pub record IsFound (device : Device) (superblock : List ℕ) (blocks : ℕ) (room : List Staged) (n : ℕ) : Type 0 where
   pub valid : IsSuperblock superblock device.size
   pub blocks_are : number_at 12 4 superblock ≡ blocks
   pub superblock_size : length superblock ≡ 4096
   pub superblock_is : IsTrue device.tells → superblock ≡ block 0 device.content
   pub synced : IsTrue device.tells → LeavesOnly device device.content
-  pub one : length room ≡ 1
-  pub place : (staged_at room 0).place ≡ 0
-  pub gate : IsTrue device.tells → is_found ≡ is_open 0 device.content
-  pub read : is_found ≡ true → IsReadFrom device blocks (staged_at room 0)
+  pub count : length room ≡ number_at 16 4 superblock
+  pub found : AreFound device blocks 0 room n
 
 -- a crash since an earlier time might have left what it might have left before, or the volume with a label and blocks
 abbrev pub LeftAs : Device → Device → List ℕ → List (List ℕ) → Type 0

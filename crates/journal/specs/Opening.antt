@@ -38,6 +38,12 @@ pub record Refuses {D : Type 0} (device : D → Device) (first last : D) (error 
   pub memory : error ≡ Memory → (device last).failures ≡ (device first).failures
   pub not_halted : error ≢ Halted
 
+-- why the reads of an opening refuse
+pub record Rejects (error : JournalError) (old new : Device) : Type 0 where
+  pub fault : error ≡ Fault → new.failures ≢ old.failures
+  pub no_volume : error ≡ NotAVolume → IsTrue old.tells → IsNoVolume old.content
+  pub no_other : (error ≡ Fault) ⊎ (error ≡ NotAVolume)
+
 -- The first good sync comes before every write. Until it a crash leaves what it might have left at the start,
 -- at that moment it leaves what a read gives, and from then on the same volume as that.
 pub record SyncsFirst {D : Type 0} (device : D → Device) (first last : D) : Type 0 where

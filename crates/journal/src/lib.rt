@@ -3,6 +3,7 @@
 #![tactic(auto)]
 
 mod batch;
+mod finding;
 mod opening;
 mod reading;
 mod segment;

@@ -6,9 +6,10 @@ ghost use Rattle.model.specs.Volume.{StandsFor, open_segments};
 ghost use Rattle.journal.specs.Flight.{staged_at};
 ghost use Rattle.journal.specs.Inside.{IsFound, IsQuiet, IsStill, IsSynced, LeftAs};
 ghost use Rattle.journal.specs.Journal.{IsCaused, IsDuring, IsReady, LeavesAdmitted, HasWholeBlocks, sizes};
-ghost use Rattle.journal.specs.Opening.{Costs, IsMore, IsNoVolume, NeverSyncs, Opens, Refuses, SyncsFirst, home_syncs, home_writes};
+ghost use Rattle.journal.specs.Opening.{Costs, IsMore, NeverSyncs, Opens, Refuses, Rejects, SyncsFirst, home_syncs, home_writes};
 
-use crate::reading::{is_gate_open, load_superblock};
+use crate::finding::find_open;
+use crate::reading::load_superblock;
 use crate::segment::Segment;
 use crate::{Journal, JournalError, Next, Refused};
 use disk::{Disk, DiskError};
@@ -87,9 +88,9 @@ fn open_synced<D: Disk>(room: Room, mut disk: D) -> Result<Journal<D>, Refused<D
         mut superblock,
         mut segments,
     } = room;
-    match load(&mut disk, &mut superblock, segments.as_mut_slice()) {
-        Ok((blocks, false)) => Ok(at_rest(disk, superblock, blocks, segments)),
-        Ok((blocks, true)) => replay(to_be_replayed(disk, superblock, blocks, segments)),
+    match load(&mut disk, &mut superblock, &mut segments) {
+        Ok((blocks, 0)) => Ok(at_rest(disk, superblock, blocks, segments)),
+        Ok((blocks, found)) => replay(to_be_replayed(disk, superblock, blocks, segments, found)),
         Err(error) => Err(Refused { disk, error }),
     }
 }
@@ -114,7 +115,7 @@ fn replay<D: Disk>(mut journal: Journal<D>) -> Result<Journal<D>, Refused<D>>
 
 // A journal whose segments are closed.
 fn at_rest<D: Disk>(disk: D, superblock: Vec<u8>, blocks: u64, room: Vec<Segment>) -> Journal<D>
-    requires found { IsFound (D.device disk) superblock.items blocks room.items false }
+    requires found { IsFound (D.device disk) superblock.items blocks room.items 0 }
     ensures disk { result.disk ≡ disk }
     ensures none { IsTrue (D.device disk).tells → open_segments (D.device disk).content ≡ [] }
     ensures next { result.next ≡ Next.Idle }
@@ -135,14 +136,16 @@ fn at_rest<D: Disk>(disk: D, superblock: Vec<u8>, blocks: u64, room: Vec<Segment
     }
 }
 
-// A journal whose segment is open: its images are to be carried home.
+// A journal over open segments: their images are to be carried home.
 fn to_be_replayed<D: Disk>(
     disk: D,
     superblock: Vec<u8>,
     blocks: u64,
     room: Vec<Segment>,
+    found: usize,
 ) -> Journal<D>
-    requires found { IsFound (D.device disk) superblock.items blocks room.items true }
+    requires some { 0 < found }
+    requires found { IsFound (D.device disk) superblock.items blocks room.items found }
     ensures disk { result.disk ≡ disk }
     ensures open { IsTrue (D.device disk).tells → home_writes (D.device disk).content (open_segments (D.device disk).content) ≡ sum (sizes result) + length (sizes result) }
     ensures syncs { IsTrue (D.device disk).tells → home_syncs (open_segments (D.device disk).content) ≡ 1 + length (sizes result) }
@@ -160,34 +163,33 @@ fn to_be_replayed<D: Disk>(
         next: Next::Home(0, 0),
         halted: false,
         room,
-        filled: 0,
+        filled: found - 1,
         is_last: true,
     }
 }
 
-// Reads what is to be known of the volume: how many logical blocks it has, and whether a segment is open.
+// Reads what is to be known of the volume: how many logical blocks it has, and how many segments are open.
 fn load<D: Disk>(
     disk: &mut D,
     superblock: &mut Vec<u8>,
-    room: &mut [Segment],
-) -> Result<(u64, bool), JournalError>
+    room: &mut Vec<Segment>,
+) -> Result<(u64, usize), JournalError>
     requires superblock { length superblock.old.items ≡ 4096 }
-    requires one { length room.old ≡ 1 }
-    requires place { (staged_at room.old 0).place ≡ 0 }
+    requires one { length room.old.items ≡ 1 }
+    requires place { (staged_at room.old.items 0).place ≡ 0 }
     requires synced { IsTrue (D.device disk.old).tells → LeavesOnly (D.device disk.old) (D.device disk.old).content }
     ensures quiet { IsQuiet (D.device disk.old) (D.device disk.new) }
     ensures still { OnOk result (IsStill (D.device disk.old) (D.device disk.new)) }
-    ensures found { IfOk result (λ found. IsFound (D.device disk.new) superblock.new.items found.0 room.new found.1) }
-    ensures fault { IsErrOf result JournalError.Fault → (D.device disk.new).failures ≢ (D.device disk.old).failures }
-    ensures no_volume { IsErrOf result JournalError.NotAVolume → IsTrue (D.device disk.old).tells → IsNoVolume (D.device disk.old).content }
-    ensures no_other { IfErr result (λ error. (error ≡ JournalError.Fault) ⊎ (error ≡ JournalError.NotAVolume)) }
+    ensures found { IfOk result (λ found. IsFound (D.device disk.new) superblock.new.items found.0 room.new.items found.1) }
+    ensures err { IfErr result (λ error. Rejects error (D.device disk.old) (D.device disk.new)) }
 {
-    let blocks = load_superblock(disk, superblock)?;
-    let is_open = is_gate_open(disk, 0)?;
-    if is_open {
-        room[0].read(disk, blocks)?;
+    match load_superblock(disk, superblock) {
+        Ok(blocks) => match find_open(disk, blocks, room) {
+            Ok(found) => Ok((blocks, found)),
+            Err(error) => Err(error),
+        },
+        Err(error) => Err(error),
     }
-    Ok((blocks, is_open))
 }
 
 fn sync_first<D: Disk>(disk: &mut D) -> Result<(), JournalError>

@@ -3,6 +3,7 @@
 ghost use Rattle.std.specs.Prelude.{◌≡◌, ◌≢◌, ◌⊎◌, ◌≤◌, ◌<◌, ◌+◌, ◌*◌, ◌++◌, IfErr, IfOk, IsErrOf, IsTrue, OnOk, ℕ, length, drop, slice_index, slice_index_or, []};
 ghost use Rattle.disk.specs.Device.{Device};
 ghost use Rattle.model.specs.Volume.{IsDescriptor, block, descriptor_place, gate_place, number_at};
+ghost use Rattle.journal.specs.Flight.{number_of};
 ghost use Rattle.journal.specs.Inside.{IsQuiet, IsReadFrom, IsStill, IsTaken};
 
 use crate::JournalError;
@@ -71,6 +72,13 @@ impl Segment {
         self.count
     }
 
+    /// The number of its batch.
+    pub(crate) fn batch_number(&self) -> u64
+        ensures { result ≡ number_of self.now }
+    {
+        number64(self.descriptor.as_slice(), 0)
+    }
+
     /// The last serial of its batch.
     pub(crate) fn last(&self) -> u64
         ensures { result ≡ number_at 8 8 self.now.descriptor }
@@ -122,21 +130,27 @@ impl Segment {
         self.count = count;
     }
 
-    /// Reads the batch of the open segment in its place. `NotAVolume` where its descriptor isn't valid.
-    pub(crate) fn read<D: Disk>(&mut self, disk: &mut D, blocks: u64) -> Result<(), JournalError>
-        requires low { self.old.place < 8 }
-        requires size { 4096 * gate_place (self.old.place + 1) ≤ (D.device disk.old).size }
-        ensures place { self.new.place ≡ self.old.place }
+    /// Reads the batch of the open segment in this place. `NotAVolume` where its descriptor isn't valid.
+    pub(crate) fn read<D: Disk>(
+        &mut self,
+        disk: &mut D,
+        place: u32,
+        blocks: u64,
+    ) -> Result<(), JournalError>
+        requires low { place < 8 }
+        requires size { 4096 * gate_place (place + 1) ≤ (D.device disk.old).size }
+        ensures place { self.new.place ≡ place }
         ensures quiet { IsQuiet (D.device disk.old) (D.device disk.new) }
         ensures still { OnOk result (IsStill (D.device disk.old) (D.device disk.new)) }
         ensures read { OnOk result (IsReadFrom (D.device disk.old) blocks self.new) }
         ensures fault { IsErrOf result JournalError.Fault → (D.device disk.new).failures ≢ (D.device disk.old).failures }
-        ensures no_volume { IsErrOf result JournalError.NotAVolume → IsTrue (D.device disk.old).tells → IsDescriptor blocks (block (descriptor_place self.old.place) (D.device disk.old).content) → ⊥ }
+        ensures no_volume { IsErrOf result JournalError.NotAVolume → IsTrue (D.device disk.old).tells → IsDescriptor blocks (block (descriptor_place place) (D.device disk.old).content) → ⊥ }
         ensures no_other { IfErr result (λ error. (error ≡ JournalError.Fault) ⊎ (error ≡ JournalError.NotAVolume)) }
     {
+        self.place = place;
         let count = load_batch(
             disk,
-            self.place,
+            place,
             blocks,
             &mut self.descriptor,
             &mut self.numbers,

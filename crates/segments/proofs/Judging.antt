@@ -1,11 +1,11 @@
 -- Whether a volume stands in an image, segment by segment.
-use Rattle.std.proofs.Common.{◌≡◌, ◌≢◌, ◌⊎◌, inl, inr, ◌<◌, ◌≤◌, ℕ, zero, suc, ◌+◌, cond, Bool, true, false, List, [], ◌∷◌, length, map, refl, sym, ◌∙◌, ap, subst, arith}
-use Rattle.std.specs.List.{All, filter, range_with_len}
-use Rattle.model.specs.Volume.{AreDistinct, Batch, IsDescriptor, IsSuperblock, StandsFor, batch_in, block, descriptor_place, home_size, is_open, label_of, logical_blocks, open_segments, segment_count}
-use Rattle.segments.specs.Held.{AreHeld, AreRising, HaveMore, Held, IsAmong, held_in}
+use Rattle.std.proofs.Common.{◌≡◌, ◌≢◌, inl, inr, ◌<◌, ◌≤◌, ltb, if◌then◌else◌, ℕ, zero, suc, ◌+◌, cond, Bool, true, false, List, [], ◌∷◌, length, map, refl, sym, ◌∙◌, ap, arith}
+use Rattle.std.specs.List.{filter, range_with_len}
+use Rattle.model.specs.Volume.{Batch, IsDescriptor, IsSuperblock, StandsFor, batch_in, block, descriptor_place, home_size, is_open, label_of, logical_blocks, open_segments, segment_count}
+use Rattle.segments.specs.Held.{AreHeld, AreRising, HaveMore, Held, IsAmong, held_in, insert_held, sorted_held}
 use Rattle.segments.specs.Images.{IsOpenIn}
 use Rattle.segments.proofs.Places.{NotIn, Once, distinct_of, each_of}
-use Rattle.segments.proofs.Sorting.{found_open}
+use Rattle.segments.proofs.Sorting.{all_found, each_found, found_open}
 
 -- ---- two open segments of a volume have different numbers
 
@@ -60,3 +60,38 @@ stands_where x superblock valid apart = record {
       (once_in_range (λ s. is_open s x) (λ s. (batch_in s x).number) 0 (segment_count x) (λ s t low high is more less also other. apart s t (omega (arith, high), is) (omega (arith, less), also) other));
   has_blocks = refl;
 }
+
+-- or that their numbers rise once they are sorted
+pub stands_rising : (x : List ℕ) → IsSuperblock (block 0 x) (length x) → ((s : ℕ) → IsOpenIn s x → IsDescriptor (home_size x) (block (descriptor_place s) x)) → AreRising (held_in x) → StandsFor x (label_of x) (logical_blocks x)
+stands_rising x superblock valid rise = stands_where x superblock valid (λ s t opened also other. apart_among x s t (held_in x) (each_found x) rise other (all_found x s opened) (all_found x t also))
+
+-- ---- how many images they have
+
+-- so many writes carry these home
+abbrev pub writes_of : List Held → ℕ
+writes_of [] = 0
+writes_of (h ∷ held) = length h.batch.numbers + 1 + writes_of held
+
+writes_insert : (h : Held) (held : List Held) → writes_of (insert_held h held) ≡ length h.batch.numbers + 1 + writes_of held
+writes_insert h [] = refl
+writes_insert h (g ∷ held) = go (writes_insert h held) (ltb g.batch.number h.batch.number)
+  where
+    go : writes_of (insert_held h held) ≡ length h.batch.numbers + 1 + writes_of held → (t : Bool) → writes_of (if t then g ∷ insert_held h held else h ∷ g ∷ held) ≡ length h.batch.numbers + 1 + (length g.batch.numbers + 1 + writes_of held)
+    go rest true = omega (arith, rest)
+    go rest false = refl
+
+pub writes_sorted : (held : List Held) → writes_of (sorted_held held) ≡ writes_of held
+writes_sorted [] = refl
+writes_sorted (h ∷ held) = omega (arith, writes_insert h (sorted_held held), writes_sorted held)
+
+length-insert : (h : Held) (held : List Held) → length (insert_held h held) ≡ suc (length held)
+length-insert h [] = refl
+length-insert h (g ∷ held) = go (length-insert h held) (ltb g.batch.number h.batch.number)
+  where
+    go : length (insert_held h held) ≡ suc (length held) → (t : Bool) → length (if t then g ∷ insert_held h held else h ∷ g ∷ held) ≡ suc (suc (length held))
+    go rest true = ap suc rest
+    go rest false = refl
+
+pub length-sorted : (held : List Held) → length (sorted_held held) ≡ length held
+length-sorted [] = refl
+length-sorted (h ∷ held) = length-insert h (sorted_held held) ∙ ap suc (length-sorted held)

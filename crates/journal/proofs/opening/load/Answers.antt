@@ -1,32 +1,26 @@
-use Rattle.std.proofs.Common.{◌≡◌, ◌<◌, ℕ, Bool, IsTrue, List, [], ◌∷◌, length, get_or, refl, arith, true, sym, ◌∙◌, ap, subst, Err, Result}
-use Rattle.std.proofs.lemmas.Result.{err_from_is_err_and}
-use Rattle.model.specs.Volume.{block, descriptor_place, home_size, number_at, is_open, IsDescriptor}
-use Rattle.journal.specs.declared.JournalError.{JournalError}
-use Rattle.journal.specs.declared.JournalError.TheVariants.{NotAVolume}
-use Rattle.journal.specs.Flight.{Staged, none_staged}
-use Rattle.journal.proofs.Volumes.{open_descriptor}
+use Rattle.std.proofs.Common.{ℕ, Bool, IsTrue, List, sym, ◌∙◌, ap, subst}
+use Rattle.model.specs.Volume.{IsSuperblock, block}
+use Rattle.journal.proofs.Gates.{rejects_then}
 use Rattle.journal.proofs.opening.load.Goals as goal
 
--- the first element of a list is there whatever the default
-same_first : {A : Type 0} (xs : List A) (d e : A) → 0 < length xs → get_or xs 0 d ≡ get_or xs 0 e
-same_first [] d e some = absurd (omega (arith, some))
-same_first (x ∷ xs) d e some = refl
+pub returns-in-Ok-find_open-clause-found : goal.returns-in-Ok-find_open-clause-found
+returns-in-Ok-find_open-clause-found g c =
+    let valid = c.in-Ok.ensures.blocks in
+    let first = c.load_superblock.ensures.quiet in
+    let second = c.find_open.ensures.quiet in
+    let old = λ (t : IsTrue (g.D.Disk.device c.find_open.new.disk).tells). subst (λ (b : Bool). IsTrue b) (second.tells ∙ first.tells) t in
+    let mid = λ (t : IsTrue (g.D.Disk.device c.find_open.new.disk).tells). subst (λ (b : Bool). IsTrue b) second.tells t in
+    let same = λ (t : IsTrue (g.D.Disk.device c.find_open.new.disk).tells). c.in-Ok-find_open.ensures.still.content (mid t) ∙ c.in-Ok.ensures.still.content (old t) in
+    record {
+      valid = subst (λ (n : ℕ). IsSuperblock c.load_superblock.new.superblock.items n) (sym (second.size ∙ first.size)) valid.0;
+      blocks_are = valid.1;
+      superblock_size = c.load_superblock.ensures.room;
+      superblock_is = λ t. c.in-Ok.ensures.value (old t) ∙ ap (λ (y : List ℕ). block 0 y) (sym (same t));
+      synced = λ t y left. c.requires.synced (old t) y (first.crash (old t) y (second.crash (mid t) y left)) ∙ sym (same t);
+      count = c.find_open.ensures.count ∙ c.requires.one ∙ sym valid.0.segments;
+      found = c.in-Ok-find_open.ensures.found;
+    }
 
-pub returns-in_err-read-clause-no_volume : goal.returns-in_err-read-clause-no_volume
-returns-in_err-read-clause-no_volume g c =
-    let p = err_from_is_err_and c.from_residual-in_err-read.result c.from_residual-in_err-read.ensures.1 in
-    rw (p.1, p.2)
-    (λ is t its_label its_blocks stands.
-    let t2 = subst (λ (b : Bool). IsTrue b) (sym c.load_superblock.ensures.quiet.tells) t in
-    let t3 = subst (λ (b : Bool). IsTrue b) (sym c.is_gate_open.ensures.quiet.tells) t2 in
-    let x = (g.D.Disk.device c.args.disk.now).content in
-    let same2 = c.in_ok-blocks.ensures.still.content t in
-    let same3 = c.in_ok-is_open.ensures.still.content t2 ∙ same2 in
-    let opened : is_open 0 x ≡ true = ap (is_open 0) (sym same2) ∙ sym (c.in_ok-is_open.ensures.value t2) ∙ c.if-is_open.true in
-    let blocks : home_size x ≡ c.in_ok-blocks.blocks = ap (number_at 12 4) (sym (c.in_ok-blocks.ensures.value t)) ∙ c.in_ok-blocks.ensures.blocks.1 in
-    let valid = open_descriptor x its_label its_blocks stands opened in
-    let error : c.in_err-read.field-0.0 ≡ NotAVolume = cc in
-    let first : (get_or c.args.room.now 0 c.index-room-0.result).place ≡ 0 = ap (λ (v : Staged). v.place) (same_first c.args.room.now c.index-room-0.result none_staged (omega (arith, c.requires.one))) ∙ c.requires.place in
-    c.in_err-read.ensures.no_volume (ap (λ (e : JournalError). let r : Result (Unit {0}) JournalError = Err e in r) error) t3
-    (subst (λ (p : ℕ). IsDescriptor c.in_ok-blocks.blocks (block (descriptor_place p) (g.D.Disk.device c.is_gate_open.new.disk).content)) (sym first)
-    (subst (λ (y : List ℕ). IsDescriptor c.in_ok-blocks.blocks (block (descriptor_place 0) y)) (sym same3) (subst (λ (n : ℕ). IsDescriptor n (block (descriptor_place 0) x)) blocks valid))))
+pub returns-in-Err-find_open-clause-err : goal.returns-in-Err-find_open-clause-err
+returns-in-Err-find_open-clause-err g c =
+    rejects_then c.in-Err-find_open.error (g.D.Disk.device c.args.disk.now) (g.D.Disk.device c.load_superblock.new.disk) (g.D.Disk.device c.find_open.new.disk) c.load_superblock.ensures.quiet c.in-Ok.ensures.still c.in-Err-find_open.ensures.err

@@ -1,4 +1,4 @@
-use Rattle.std.proofs.Common.{◌≡◌, ◌≢◌, ◌⊎◌, inl, inr, ℕ, ◌+◌, length, Bool, IsTrue, Result, Err, sym, ◌∙◌, ap, subst}
+use Rattle.std.proofs.Common.{◌≡◌, ◌≢◌, ◌⊎◌, inl, inr, ◌+◌, length, IsTrue, sym, ◌∙◌, subst}
 use Rattle.std.proofs.lemmas.Result.{IfOk-weaker}
 use Rattle.disk.specs.Device.{Elapses}
 use Rattle.journal.specs.Inside.{IsQuiet, IsStill, LeftAs}
@@ -13,21 +13,21 @@ use Rattle.journal.specs.Opening.{Costs, IsMore, home_syncs, home_writes}
 use Rattle.journal.proofs.Found.{costs_none, costs_replayed, opens_replayed, refuses_replayed, refuses_found, err_weaker}
 use Rattle.journal.proofs.opening.open_synced.Goals as goal
 
-pub returns-in-Ok-default-true-clause-ok : goal.returns-in-Ok-default-true-clause-ok
-returns-in-Ok-default-true-clause-ok g c =
+pub returns-in-Ok-clause-ok : goal.returns-in-Ok-clause-ok
+returns-in-Ok-clause-ok g c =
     let device = g.D.Disk.device in
     let journal = c.to_be_replayed.result in
     let quiet = subst (λ (d : g.row.D.Denot). IsQuiet (g.D.Disk.device c.args.disk) (g.D.Disk.device d)) (sym c.to_be_replayed.ensures.disk) c.load.ensures.quiet in
-    let still = subst (λ (d : g.row.D.Denot). IsStill (g.D.Disk.device c.args.disk) (g.D.Disk.device d)) (sym c.to_be_replayed.ensures.disk) c.in-Ok-default-true.ensures.still in
+    let still = subst (λ (d : g.row.D.Denot). IsStill (g.D.Disk.device c.args.disk) (g.D.Disk.device d)) (sym c.to_be_replayed.ensures.disk) c.in-Ok.ensures.still in
     let stands = subst (λ (d : g.row.D.Denot). IsTrue (g.D.Disk.device d).tells → StandsFor (g.D.Disk.device d).content c.to_be_replayed.result.label c.to_be_replayed.result.blocks) (sym c.to_be_replayed.ensures.disk) c.to_be_replayed.ensures.stands in
     IfOk-weaker c.replay.result (λ (after : JournalView g.row.D.Denot). IsReady after × IsDuring g.D.Disk.device c.to_be_replayed.result after × ((g.D.Disk.device after.disk).failures ≡ (g.D.Disk.device c.to_be_replayed.result.disk).failures)) (Opens g.D.Disk.device c.args.disk)
     (λ after h. opens_replayed g.D.Disk.device c.args.disk c.to_be_replayed.result quiet still stands c.to_be_replayed.ensures.whole after h.0 h.1 h.2)
     c.replay.ensures.ok
 
-pub returns-in-Ok-default-true-clause-err : goal.returns-in-Ok-default-true-clause-err
-returns-in-Ok-default-true-clause-err g c =
+pub returns-in-Ok-clause-err : goal.returns-in-Ok-clause-err
+returns-in-Ok-clause-err g c =
     let quiet = subst (λ (d : g.row.D.Denot). IsQuiet (g.D.Disk.device c.args.disk) (g.D.Disk.device d)) (sym c.to_be_replayed.ensures.disk) c.load.ensures.quiet in
-    let still = subst (λ (d : g.row.D.Denot). IsStill (g.D.Disk.device c.args.disk) (g.D.Disk.device d)) (sym c.to_be_replayed.ensures.disk) c.in-Ok-default-true.ensures.still in
+    let still = subst (λ (d : g.row.D.Denot). IsStill (g.D.Disk.device c.args.disk) (g.D.Disk.device d)) (sym c.to_be_replayed.ensures.disk) c.in-Ok.ensures.still in
     let stands = subst (λ (d : g.row.D.Denot). IsTrue (g.D.Disk.device d).tells → StandsFor (g.D.Disk.device d).content c.to_be_replayed.result.label c.to_be_replayed.result.blocks) (sym c.to_be_replayed.ensures.disk) c.to_be_replayed.ensures.stands in
     err_weaker c.replay.result
     (λ (refused : Refused g.row.D.Denot). IsCaused refused.error (g.D.Disk.device c.to_be_replayed.result.disk) (g.D.Disk.device refused.disk) × Elapses (g.D.Disk.device c.to_be_replayed.result.disk) (g.D.Disk.device refused.disk) × LeftAs (g.D.Disk.device c.to_be_replayed.result.disk) (g.D.Disk.device refused.disk) c.to_be_replayed.result.label c.to_be_replayed.result.blocks)
@@ -41,18 +41,16 @@ neither error (inr is) = (λ e. (let two : NotAVolume ≡ Memory = sym is ∙ e 
 
 pub returns-in-Err-clause-err : goal.returns-in-Err-clause-err
 returns-in-Err-clause-err g c =
-    let other = neither c.in-Err.error c.in-Err.ensures.no_other in
-    refuses_found g.D.Disk.device c.args.disk c.load.new.disk c.in-Err.error c.load.ensures.quiet
-    (λ is. c.in-Err.ensures.fault (ap (λ (e : JournalError). let r : Result (ℕ × Bool) JournalError = Err e in r) is))
-    (λ is t. c.in-Err.ensures.no_volume (ap (λ (e : JournalError). let r : Result (ℕ × Bool) JournalError = Err e in r) is) t)
-    other.0 other.1
+    let rejects = c.in-Err.ensures.err in
+    let other = neither c.in-Err.error rejects.no_other in
+    refuses_found g.D.Disk.device c.args.disk c.load.new.disk c.in-Err.error c.load.ensures.quiet rejects.fault rejects.no_volume other.0 other.1
 
-pub returns-in-Ok-default-true-clause-cost : goal.returns-in-Ok-default-true-clause-cost
-returns-in-Ok-default-true-clause-cost g c t =
+pub returns-in-Ok-clause-cost : goal.returns-in-Ok-clause-cost
+returns-in-Ok-clause-cost g c t =
     let found = c.to_be_replayed.result in
     let device = g.D.Disk.device in
     let quiet = subst (λ (d : g.row.D.Denot). IsQuiet (g.D.Disk.device c.args.disk) (g.D.Disk.device d)) (sym c.to_be_replayed.ensures.disk) c.load.ensures.quiet in
-    let still = subst (λ (d : g.row.D.Denot). IsStill (g.D.Disk.device c.args.disk) (g.D.Disk.device d)) (sym c.to_be_replayed.ensures.disk) c.in-Ok-default-true.ensures.still in
+    let still = subst (λ (d : g.row.D.Denot). IsStill (g.D.Disk.device c.args.disk) (g.D.Disk.device d)) (sym c.to_be_replayed.ensures.disk) c.in-Ok.ensures.still in
     let writes = subst (λ (d : g.row.D.Denot). IsTrue (g.D.Disk.device d).tells → home_writes (g.D.Disk.device d).content (open_segments (g.D.Disk.device d).content) ≡ sum (sizes c.to_be_replayed.result) + length (sizes c.to_be_replayed.result)) (sym c.to_be_replayed.ensures.disk) c.to_be_replayed.ensures.open in
     let syncs = subst (λ (d : g.row.D.Denot). IsTrue (g.D.Disk.device d).tells → home_syncs (open_segments (g.D.Disk.device d).content) ≡ 1 + length (sizes c.to_be_replayed.result)) (sym c.to_be_replayed.ensures.disk) c.to_be_replayed.ensures.syncs in
     IfOk-weaker c.replay.result (λ (after : JournalView g.row.D.Denot). IsMore (sum (sizes c.to_be_replayed.result) + length (sizes c.to_be_replayed.result)) (g.D.Disk.device c.to_be_replayed.result.disk).writes (g.D.Disk.device after.disk).writes × IsMore (1 + length (sizes c.to_be_replayed.result)) (g.D.Disk.device c.to_be_replayed.result.disk).syncs (g.D.Disk.device after.disk).syncs)
@@ -60,7 +58,7 @@ returns-in-Ok-default-true-clause-cost g c t =
     (λ after h. costs_replayed (g.D.Disk.device c.args.disk) (g.D.Disk.device c.to_be_replayed.result.disk) (g.D.Disk.device after.disk) (sum (sizes c.to_be_replayed.result) + length (sizes c.to_be_replayed.result)) (1 + length (sizes c.to_be_replayed.result)) quiet still writes syncs h.0 h.1 t)
     c.replay.ensures.cost
 
-pub returns-in-Ok-default-false-clause-cost : goal.returns-in-Ok-default-false-clause-cost
-returns-in-Ok-default-false-clause-cost g c =
+pub returns-in-Ok-default-eq0-clause-cost : goal.returns-in-Ok-default-eq0-clause-cost
+returns-in-Ok-default-eq0-clause-cost g c =
     subst (λ (d : g.row.D.Denot). IsTrue (g.D.Disk.device c.args.disk).tells → Costs 0 (g.D.Disk.device c.args.disk).content (g.D.Disk.device c.args.disk) (g.D.Disk.device d)) (sym c.at_rest.ensures.disk)
-    (costs_none (g.D.Disk.device c.args.disk) (g.D.Disk.device c.load.new.disk) c.load.ensures.quiet c.in-Ok-default-false.ensures.still c.at_rest.ensures.none)
+    (costs_none (g.D.Disk.device c.args.disk) (g.D.Disk.device c.load.new.disk) c.load.ensures.quiet c.in-Ok-default-eq0.ensures.still c.at_rest.ensures.none)

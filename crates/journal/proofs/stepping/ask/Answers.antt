@@ -1,4 +1,4 @@
-use Rattle.std.proofs.Common.{◌≡◌, ◌≤◌, ◌<◌, ℕ, ◌+◌, ◌*◌, true, [], ◌∷◌, length, get_or, sym, arith}
+use Rattle.std.proofs.Common.{ℕ, ◌*◌, true, [], ◌∷◌, length, get_or, sym, arith}
 use Rattle.segments.specs.Held.{Held}
 use Rattle.model.specs.Volume.{descriptor_place, gate_place, home_place, image_place}
 use Rattle.journal.specs.Calls.{Call}

@@ -1,4 +1,4 @@
-use Rattle.std.proofs.Common.{◌≡◌, ◌≤◌, ◌<◌, ℕ, ◌+◌, cond, eqb, length, get_or, sym, ◌∙◌, ap, subst, arith}
+use Rattle.std.proofs.Common.{◌≡◌, ◌≤◌, ℕ, ◌+◌, cond, eqb, length, get_or, sym, ◌∙◌, ap, subst, arith}
 use Rattle.segments.specs.Held.{Held}
 use Rattle.journal.specs.Flight.{Flight, Staged, flight_in, sizes_of, staged_at}
 use Rattle.journal.specs.Inside.{IsWithin}

@@ -1,4 +1,4 @@
-use Rattle.std.proofs.Common.{◌≡◌, ℕ, [], get_or, ◌∙◌, ap}
+use Rattle.std.proofs.Common.{◌≡◌, [], get_or, ◌∙◌, ap}
 use Rattle.model.specs.Volume.{home_place}
 use Rattle.journal.proofs.Made.{asked_at}
 use Rattle.journal.proofs.stepping.write_home.Goals as goal

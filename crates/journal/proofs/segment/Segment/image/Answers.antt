@@ -1,4 +1,4 @@
-use Rattle.std.proofs.Common.{◌≡◌, ◌<◌, ℕ, ◌+◌, ◌*◌, List, length, take, sym, ◌∙◌, ap, subst, arith, length-take, zero-add}
+use Rattle.std.proofs.Common.{◌<◌, ℕ, ◌*◌, length, take, sym, ◌∙◌, ap, subst, arith, length-take, zero-add}
 use Rattle.disk.proofs.Images.{length-part}
 use Rattle.model.specs.Volume.{block}
 use Rattle.segments.proofs.Blocks.{get_or-blocks_from}
