@@ -7,3 +7,4 @@ pub mod KernelLaws
 pub mod TakingLaws
 pub mod ExecLaws
 pub mod AdminLaws
+pub mod LabelLaws

@@ -15,12 +15,15 @@ ghost use Rattle.model.specs.declared.change.Change.TheVariants.{Group, Expire};
 ghost use Rattle.news_kernel.specs.Stored.{kernel_of};
 
 mod errors;
+mod label;
+mod opening;
 mod seat;
 
 use crate::seat::{Seat, position, release};
 pub use errors::{AdminError, ExecError, ExpireError, JoinError, Stale};
 use model::{Mark, Message, Mode};
 use names::GroupName;
+pub use opening::OpenError;
 use outbox::ReadyBuf;
 use spool_files::{AddError, Spool};
 use std::alloc::Global;
