@@ -1,8 +1,8 @@
 -- What `exec` does, from its parts.
-use Rattle.std.proofs.Common.{◌≡◌, ◌≢◌, ◌⊎◌, inl, inr, ℕ, zero, suc, ◌≤◌, ◌<◌, ◌==◌, Bool, true, false, List, [], ◌∷◌, length, refl, ap, sym, ◌∙◌, subst, arith, rules, eq-eqb, set}
+use Rattle.std.proofs.Common.{◌≡◌, ◌≢◌, ◌⊎◌, inl, inr, ℕ, zero, suc, ◌≤◌, ◌<◌, Bool, true, false, List, [], ◌∷◌, length, refl, ap, sym, ◌∙◌, subst, arith, rules, set}
 use Rattle.std.specs.Prelude.{Option, Some, None, Result, Ok, Err, MatchResult, IsSome, is_none, is_some, not, ◌||◌, ◌&&◌, bytes_eq, nat_le, nat_lt, slice_get, slice_index_or, if◌then◌else◌}
 use Rattle.std.proofs.Math.Bool.{or-false, or-true}
-use Rattle.std.proofs.lemmas.Bool.{eqb-false, eqb-true, le-leb, leb-true, ltb-false}
+use Rattle.std.proofs.lemmas.Bool.{le-leb, leb-true, ltb-false}
 use Rattle.model.specs.declared.session.Answer.{Answer}
 use Rattle.model.specs.declared.session.Session.{Session}
 use Rattle.model.proofs.ServiceLaws.{news_stopped as stopped_answer}

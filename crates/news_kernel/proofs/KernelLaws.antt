@@ -1,6 +1,6 @@
 -- Each call keeps what the lock keeps.
 use Rattle.std.proofs.Common.{◌≡◌, ◌≢◌, ◌⊎◌, inl, inr, ℕ, zero, suc, ◌+◌, ◌≤◌, ◌<◌, ◌==◌, Bool, true, false, List, [], ◌∷◌, ◌++◌, length, refl, ap, sym, ◌∙◌, subst, arith, get_or, set, length-append, append-nil, eq-eqb}
-use Rattle.std.specs.Prelude.{Result, Ok, Err, MatchResult, find, take, drop, Option, Some, None, is_some, IsSome, IfSome, filter, not, slice_get, All, if◌then◌else◌}
+use Rattle.std.specs.Prelude.{find, take, drop, Option, Some, None, is_some, IsSome, IfSome, filter, not, slice_get, All, if◌then◌else◌}
 use Rattle.std.specs.Option.{option_to_list}
 use Rattle.std.specs.List.{Contains}
 use Rattle.std.proofs.lemmas.Bool.{cases_lt}
@@ -19,7 +19,7 @@ use Rattle.model.specs.declared.message.Mark.{Mark}
 use Rattle.model.specs.declared.message.Mode.{Mode}
 use Rattle.model.specs.declared.session.Session.{Session}
 use Rattle.outbox.specs.Queue.{Held}
-use Rattle.spool_files.specs.View.{Adds, Dirties, IsSpool, SpoolView}
+use Rattle.spool_files.specs.View.{Dirties, IsSpool, SpoolView}
 use Rattle.volume.specs.Volume.{Differs}
 use Rattle.news_kernel.specs.Kernel.{KernelView, Seat, answered_by, is_block, mode_at, new_seat, ready}
 use Rattle.news_kernel.specs.Kept.{IsKept, IsSeat, RiseFrom, StillAwaits}

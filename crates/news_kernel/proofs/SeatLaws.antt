@@ -1,5 +1,5 @@
 -- A session after its reply.
-use Rattle.std.proofs.Common.{◌≡◌, ℕ, List, [], ◌∷◌, ◌++◌, refl, ap, ◌∙◌}
+use Rattle.std.proofs.Common.{◌≡◌, ℕ, List, [], ◌∷◌, ◌++◌, refl, ◌∙◌}
 use Rattle.std.specs.Prelude.{Bool, true, false, not, max, Option, Some, None, is_none, is_some}
 use Rattle.model.specs.Stream.{Octets}
 use Rattle.model.specs.Spool.{Spool}
@@ -10,7 +10,6 @@ use Rattle.model.specs.declared.message.Message.{Message}
 use Rattle.model.specs.declared.message.Mark.{Mark}
 use Rattle.model.specs.Replies.{service_ends}
 use Rattle.model.specs.declared.message.Mark.TheVariants.{Stopped}
-use Rattle.model.specs.declared.session.Answer.{Answer}
 use Rattle.model.specs.declared.session.Awaits.TheVariants.{Nothing}
 use Rattle.model.specs.declared.session.Session.{Session}
 use Rattle.model.proofs.ServiceLaws.{news_stopped as stopped_answer}
