@@ -34,7 +34,7 @@ def message_id(number):
 class Volume:
     """A volume in a file of a directory that goes with the test."""
 
-    def __init__(self, program, directory, blocks=4096, inodes=2048):
+    def __init__(self, program, directory, blocks=8192, inodes=4096):
         self.program = os.path.abspath(program)
         self.path = os.path.join(directory, "volume")
         self.run("format", self.path, "--host", HOST, "--blocks", str(blocks), "--inodes", str(inodes)).check_returncode()
@@ -45,6 +45,12 @@ class Volume:
 
     def make_group(self, name=GROUP):
         made = self.run("group", self.path, name, "y", "1000000000", "test")
+        made.check_returncode()
+        return int(made.stdout)
+
+    def expire(self, number, name=GROUP):
+        """Takes the articles of a group up to this number out of it."""
+        made = self.run("expire", self.path, name, str(number))
         made.check_returncode()
         return int(made.stdout)
 

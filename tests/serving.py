@@ -1,12 +1,15 @@
 #!/usr/bin/env python3
 """System tests of `newsd serve` and of the commands over a volume in a file. serving.py NEWSD [NAME..]"""
+import datetime
 import random
 import socket
+import struct
 import sys
 import tempfile
 import threading
 import time
 import traceback
+import warnings
 
 from newsd import GROUP, HOST, Caller, Volume, article, message_id
 from syncs import count_calls
@@ -144,6 +147,7 @@ def one_server_holds_a_volume(volume):
             ["serve", volume.path, "--port", "1"],
             ["dump", volume.path],
             ["group", volume.path, "x.b", "y", "1000000000", "test"],
+            ["expire", volume.path, GROUP, "1"],
             ["format", volume.path, "--host", HOST],
         ):
             done = volume.run(*words)
@@ -153,15 +157,84 @@ def one_server_holds_a_volume(volume):
     assert volume.dump() == ["spool 2", "1 group %s y" % GROUP, "2 article <1@a.example> %s" % GROUP]
 
 
-def the_operator_makes_groups(volume):
+def the_operator_makes_changes(volume):
     with volume.serve() as server, server.call() as caller:
         assert server.order("group x.a y 1000000000 test") == "1"
         assert server.order("group x.a y 1000000000 test") == "E11 Exists"
         assert server.order("group x..b y 1000000000 test") == "E14 Bad"
         assert server.order("spool") == "E14 Bad"
         assert server.order("group x.b n 1000000000 ") == "2"
+        assert server.order("expire x.a 1") == "E12 NotFound"
         assert caller.post(article(1)) == "240 Article received"
-    assert volume.dump()[:3] == ["spool 3", "1 group x.a y", "2 group x.b n"]
+        assert server.order("expire x.a 0") == "E14 Bad"
+        assert server.order("expire x.a 1") == "4"
+        assert server.order("expire x.a 1") == "E12 NotFound"
+        assert caller.ask("STAT <1@a.example>") == "430 No such article"
+    assert volume.dump() == [
+        "spool 4", "1 group x.a y", "2 group x.b n", "3 article <1@a.example> x.a", "4 expire x.a 1",
+    ]
+
+
+def articles_are_taken_out(volume):
+    volume.make_group()
+    with volume.serve() as server, server.call() as caller:
+        for number in (1, 2, 3):
+            assert caller.post(article(number)) == "240 Article received"
+    for name, number in ((GROUP, "4"), ("x.b", "1")):
+        refused = volume.run("expire", volume.path, name, number)
+        assert (refused.returncode, refused.stderr) == (1, b"newsd: E12 NotFound\n"), refused
+    assert volume.expire(2) == 5
+    assert volume.dump()[-1] == "5 expire x.a 2"
+    with volume.serve() as server, server.call() as caller:
+        for line, reply in (
+            ("GROUP x.a", "211 1 3 3 x.a"),
+            ("STAT <1@a.example>", "430 No such article"),
+            ("STAT <3@a.example>", "223 0 <3@a.example>"),
+            ("STAT 2", "423 No such article number"),
+            ("IHAVE <1@a.example>", "435 Article not wanted"),
+        ):
+            assert caller.ask(line) == reply, line
+        assert server.order("expire x.a 2") == "E12 NotFound"
+        assert server.order("expire x.a 3") == "6"
+        assert caller.ask("GROUP x.a") == "211 0 4 3 x.a"
+        assert caller.post(article(1)) == "441 Article not accepted"
+        assert caller.post(article(4)) == "240 Article received"
+        assert caller.ask("GROUP x.a") == "211 1 4 4 x.a"
+
+
+def a_client_library_reads(volume):
+    """The client of Python's library, which newer Pythons don't have."""
+    try:
+        with warnings.catch_warnings():
+            warnings.simplefilter("ignore")
+            import nntplib
+    except ImportError:
+        print("  this Python has no client")
+        return
+    volume.make_group()
+    posted = b"From: a@example.org\r\nNewsgroups: x.a\r\nSubject: a dot\r\n\r\n.x\r\n..\r\n"
+    with volume.serve() as server, nntplib.NNTP("127.0.0.1", server.port, timeout=30) as client:
+        assert client.getwelcome() == GREETING
+        assert client.nntp_version == 2 and "OVER" in client.getcapabilities()
+        assert client.post(posted) == "240 Article received"
+        assert client.ihave("<1@a.example>", article(1)[:-3]) == "235 Article transferred"
+        assert client.group("x.a") == ("211 2 1 2 x.a", 2, 1, 2, "x.a")
+        _, overviews = client.over((1, 2))
+        assert [(number, fields["subject"], fields["from"]) for number, fields in overviews] == [
+            (1, "a dot", "a@example.org"), (2, "one", "a@example.org"),
+        ]
+        _, found = client.article("<2@%s>" % HOST)
+        assert found.lines[0] == b"Path: %s!not-for-mail" % HOST.encode()
+        assert found.lines[-3:] == [b"", b".x", b".."], found.lines
+        _, found = client.head("2")
+        assert (found.number, found.message_id, len(found.lines)) == (2, "<1@a.example>", 6)
+        assert client.stat("1")[1:] == (1, "<2@%s>" % HOST)
+        assert client.next()[1:] == (2, "<1@a.example>")
+        assert client.list()[1] == [("x.a", "2", "1", "y")]
+        assert client.descriptions("x.*")[1] == {"x.a": "test"}
+        long_ago = datetime.date(2000, 1, 1)
+        assert [group.group for group in client.newgroups(long_ago)[1]] == ["x.a"]
+        assert client.newnews("x.*", long_ago)[1] == ["<2@%s>" % HOST, "<1@a.example>"]
 
 
 def callers_that_misbehave_hold_up_nobody(volume):
@@ -240,6 +313,11 @@ def what_can_not_be_served_is_refused(volume):
         (["group", volume.path, "x..a", "y", "1000000000", "test"], 1, "E14 Bad"),
         (["group", volume.path, "x.a", "m", "1000000000", "test"], 1, "E14 Bad"),
         (["group", volume.path, "x.a y", "y", "1000000000", "test"], 1, "E14 Bad"),
+        (["expire", volume.path, "x..a", "1"], 1, "E14 Bad"),
+        (["expire", volume.path, "x.a", "0"], 1, "E14 Bad"),
+        (["expire", volume.path, "x.a", "one"], 1, "E14 Bad"),
+        (["expire", volume.path, "x.a", "1"], 1, "E12 NotFound"),
+        (["expire", volume.path, "x.a"], 2, None),
         (["format", volume.path, "--host", "a..b"], 1, "E14 Bad"),
         (["format", volume.path, "--host", HOST, "--inodes", "96"], 1, "E14 Bad"),
         (["serve", volume.path, "--port", "0"], 2, None),
@@ -259,13 +337,52 @@ def what_can_not_be_served_is_refused(volume):
     assert volume.dump() == ["spool 1", "1 group %s y" % GROUP]
 
 
+def a_damaged_volume_is_not_opened(volume):
+    volume.make_group()
+    with volume.serve() as server, server.call() as caller:
+        assert caller.post(article(1)) == "240 Article received"
+    volume.dump()
+    good = octets(volume.path)
+    blocks, segments, files = struct.unpack_from("<III", good, 12)
+    home = (1 + 514 * segments) * 4096
+    inodes = home + 2 * 4096
+    names = inodes + 64 * files
+    assert len(good) == home + 4096 * blocks and good[inodes] == 1 and good[names] == 5
+    for place, changed, said in (
+        (0, b"Y", "E3 NotAVolume"),
+        (8, b"\0", "E3 NotAVolume"),
+        (16, b"\2", "E3 NotAVolume"),
+        (20, b"\1", "E3 NotAVolume"),
+        (home, b"\0", "E5 Damaged"),
+        (inodes + 3 * 64 + 12, good[inodes + 12:inodes + 16], "E5 Damaged"),
+        (inodes + 4, b"\1", "E5 Damaged"),
+        (names + 64, good[names:names + 64], "E5 Damaged"),
+    ):
+        write(volume.path, good[:place] + changed + good[place + len(changed):])
+        refused = volume.run("dump", volume.path)
+        assert (refused.returncode, refused.stdout) == (1, b""), place
+        assert refused.stderr.decode() == "newsd: %s\n" % said, (place, refused)
+    write(volume.path, good[:-4096])
+    assert volume.run("dump", volume.path).stderr == b"newsd: E3 NotAVolume\n"
+    write(volume.path, good)
+    assert volume.dump() == ["spool 2", "1 group x.a y", "2 article <1@a.example> x.a"]
+
+
 def a_commit_syncs_the_device(volume):
-    """Adding a group syncs once at the opening, at the seal and at the gate of its batch, behind the homes, and behind the gate."""
+    """Adding a group syncs once at the opening, and then at the seal and at the gate of its batch; the next opening carries the
+    batch home, and the one behind that writes nothing."""
     counted = count_calls([volume.program, "group", volume.path, GROUP, "y", "1000000000", "test"])
     assert counted is not None, "the program could not be traced"
-    assert counted["fdatasync"] >= 3, counted
+    assert counted["fdatasync"] == 3, counted
     opened = count_calls([volume.program, "dump", volume.path])
-    assert opened["fdatasync"] == 1 and opened["pwrite64"] == 0, opened
+    assert opened["fdatasync"] == 3 and opened["pwrite64"] > 0, opened
+    again = count_calls([volume.program, "dump", volume.path])
+    assert again["fdatasync"] == 1 and again["pwrite64"] == 0, again
+
+
+def write(path, content):
+    with open(path, "wb") as file:
+        file.write(content)
 
 
 def octets(path):
@@ -292,11 +409,14 @@ TESTS = [
     sixty_four_callers_and_one_more,
     a_kill_under_load_takes_nothing_back,
     one_server_holds_a_volume,
-    the_operator_makes_groups,
+    the_operator_makes_changes,
+    articles_are_taken_out,
+    a_client_library_reads,
     callers_that_misbehave_hold_up_nobody,
     a_failing_device_ends_the_server,
     a_server_at_rest_takes_no_processor,
     what_can_not_be_served_is_refused,
+    a_damaged_volume_is_not_opened,
     a_commit_syncs_the_device,
 ]
 

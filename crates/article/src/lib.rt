@@ -11,6 +11,7 @@ ghost use Rattle.article.specs.declared.origin.Cause.{Cause as Told};
 mod causes;
 mod contents;
 mod fields;
+mod header;
 mod lines;
 mod origin;
 mod stored;
@@ -19,7 +20,9 @@ use causes::{field_cause, front_length, groups_in, is_short, newsgroups_in, shap
 pub use causes::{HEADER_LIMIT, TEXT_LIMIT};
 use contents::{find_field, id_in_field, unfold, value_of};
 use fields::fields_of;
-use lines::{header_length, line_count};
+pub use header::{Header, body_line_count};
+pub use lines::header_length;
+use lines::line_count;
 use model::Text;
 pub use origin::{Cause, Origin, ReadError};
 use std::alloc::{AllocError, Global};

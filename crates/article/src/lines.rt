@@ -56,8 +56,8 @@ pub(crate) fn has_lines_alone(text: &[u8]) -> bool
     !text.is_empty()
 }
 
-/// The length of a text's header: of the lines before the first empty one, or of all where there is none.
-pub(crate) fn header_length(text: &[u8]) -> usize
+/// How many octets the header of a text has: the lines before the first empty one, or all where there is none.
+pub fn header_length(text: &[u8]) -> usize
     ensures { IsHeader text.now result }
 {
     let mut at = 0;

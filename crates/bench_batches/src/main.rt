@@ -6,7 +6,7 @@ ghost use Rattle.std.specs.Prelude.{◌≤◌};
 
 use anyhow::{Result, ensure};
 use disk::Disk;
-use journal::{Journal, Progress, format};
+use journal::{Journal, Progress, format_with};
 use memdisk::MemDisk;
 use std::rt::Clock;
 use std::time::Instant;
@@ -39,7 +39,7 @@ fn measure(rt: &(impl Print + Clock + AllocGlobal), blocks: u64, timed: bool) ->
 {
     let alloc = rt.alloc();
     let mut disk = MemDisk::new(alloc, 4096 * (515 + blocks))?;
-    format(alloc, &mut disk, blocks, &[0; 128])?;
+    format_with(alloc, &mut disk, 1, blocks, &[0; 128])?;
     let Ok(mut journal) = Journal::open(alloc, disk) else {
         anyhow::bail!("not opened");
     };

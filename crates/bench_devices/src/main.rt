@@ -5,7 +5,7 @@
 
 use anyhow::{Result, bail, ensure};
 use disk::Disk;
-use journal::{Journal, Progress, format};
+use journal::{Journal, Progress, format_with};
 use memdisk::MemDisk;
 use std::alloc::Global;
 use std::rt::Clock;
@@ -59,7 +59,7 @@ fn carry_all<D: Disk + Drop>(alloc: Global, disk: D) -> Result<D> {
 fn formatted(alloc: Global) -> Result<(MemDisk, (u64, u64))> {
     let mut disk = MemDisk::new(alloc, OCTETS)?;
     ensure!(disk.len() == OCTETS, "another length");
-    format(alloc, &mut disk, BLOCKS, &[0; 128])?;
+    format_with(alloc, &mut disk, 1, BLOCKS, &[0; 128])?;
     let counts = disk.counts();
     Ok((disk, counts))
 }

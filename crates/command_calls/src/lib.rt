@@ -1,10 +1,7 @@
-//! Tables of what the crates of the wire are asked, with what they are to answer: messages of streams, command lines and the
-//! texts of replies.
+//! Tables of what the crates of the wire are asked, with what they are to answer: messages of streams, and command lines.
 #![tactic(auto)]
 
 #[cfg(test)]
 mod commands;
-#[cfg(test)]
-mod replies;
 #[cfg(test)]
 mod streams;

@@ -13,13 +13,10 @@ use crate::{Gate, Kern};
 use disk::Disk;
 use journal::{Journal, JournalError, Progress};
 use mark::{FlushSeat, Mark};
-use spool::{BATCH_BLOCKS, BatchBuf};
 use std::sync::Wait;
 use std::thread;
 use thiserror::Error;
-
-/// The octets of a block.
-const BLOCK: usize = 4096;
+use volume::{BATCH_BLOCKS, BLOCK_SIZE, BatchBuf};
 
 /// Why a turn of the flusher was refused. The kernel is halted then, and the mark stopped.
 #[derive(Clone, Copy, Debug, Drop, PartialEq, Eq, Error)]
@@ -112,7 +109,7 @@ fn may_begin<D: Disk>(journal: &Journal<D>, batch: &BatchBuf) -> bool
     if !journal.is_idle() || count == 0 || count > BATCH_BLOCKS {
         return false;
     }
-    batch.images().len() == BLOCK * count
+    batch.images().len() == BLOCK_SIZE * count
         && are_below(numbers, journal.blocks())
         && are_distinct(numbers)
 }

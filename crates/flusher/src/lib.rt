@@ -12,4 +12,7 @@ pub use bells::{Bell, Bells, Ringing, Turns};
 pub use flushing::{FlushError, flush_all, flush_turn};
 pub use gate::{Gate, NoGate};
 pub use kern::Kern;
+pub use kernel::{
+    AdminError, BatchBuf, ExecError, ExpireError, JoinError, Kernel, SESSIONS, Stale, Ticket,
+};
 pub use locked::Locked;

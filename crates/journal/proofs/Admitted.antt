@@ -7,8 +7,10 @@ use Rattle.segments.specs.Images.{IsCarried, IsHomeOfOpen, SameBut}
 use Rattle.segments.proofs.Blocks.{first-overwritten, overwritten_same, same_but_back, same_but_more, same_but_then}
 use Rattle.segments.proofs.Gates.{any_shut, closed_or_not, first_is_least, gate_kept, less_than, opened_open, opened_or_not}
 use Rattle.segments.proofs.Standing.{torn, unread}
-use Rattle.segments.proofs.Writing.{batch_written, torn_held}
-use Rattle.journal.specs.Flight.{Flight, IsStaged, all_of, held_as, held_at, none_held}
+use Rattle.segments.proofs.Writing.{torn_held}
+use Rattle.journal_segments.proofs.Written.{batch_is}
+use Rattle.journal_segments.specs.Staged.{IsStaged, held_as}
+use Rattle.journal.specs.Flight.{Flight, all_of, held_at, none_held}
 use Rattle.journal.specs.Inside.{IsAdmitted, Touched, blocks_without}
 use Rattle.journal.specs.declared.Next.{Next}
 use Rattle.journal.specs.declared.Next.TheVariants.{Idle, Descriptor, Image, Seal, OpenGate, Commit, Home, Settle, CloseGate, Finish}
@@ -61,13 +63,8 @@ module _ (x label : List ℕ) (m : ℕ) (stands : StandsFor x label (logical_blo
   pub shut_already : is_open m x ≡ false → logical_blocks (gate_closed m x) ≡ logical_blocks x
   shut_already shut = (gate_kept x (gate_closed m x) label (logical_blocks x) m stands there shut_same (is_shut ∙ sym shut)).has_blocks
 
--- the batch that stands in the segment is the one in memory
+-- the descriptor of the batch that stands in the segment is valid
 module _ (f : Flight) (blocks : ℕ) (staged : IsStaged blocks f.batch) (x : List ℕ) (written : IsWrittenIn f.batch.place f.batch.descriptor f.batch.images x) where
-  pub batch_is : batch_in f.batch.place x ≡ (held_as f.batch).batch
-  batch_is =
-      batch_written f.batch.place f.batch.descriptor f.batch.images x written (staged.count ∙ sym staged.sound.images)
-      ∙ (λ j. record { number = number_at 0 8 f.batch.descriptor; last = number_at 8 8 f.batch.descriptor; numbers = staged.lists j; images = f.batch.images })
-
   pub batch_valid : home_size x ≡ blocks → IsDescriptor (home_size x) (block (descriptor_place f.batch.place) x)
   batch_valid is =
       let valid : IsDescriptor blocks f.batch.descriptor = record {
@@ -94,14 +91,14 @@ module _ (f : Flight) (x label : List ℕ) (stands : StandsFor x label (logical_
   }
 
   laid_same : (y : List ℕ) (bs : List (List ℕ)) → IsWrittenIn m f.batch.descriptor f.batch.images y → laid_over bs (batch_in m y).numbers (batch_in m y).images ≡ laid_over bs f.batch.numbers f.batch.images
-  laid_same y bs written = ap (λ (b : Batch). laid_over bs b.numbers b.images) (batch_is f (home_size x) staged y written)
+  laid_same y bs written = ap (λ (b : Batch). laid_over bs b.numbers b.images) (batch_is f.batch (home_size x) staged y written)
 
   -- the sync that commits lays the batch over
   pub committed : AreOpen f.held shut → is_open m x ≡ true → IsWrittenIn m f.batch.descriptor f.batch.images x → HaveLess (held_as f.batch).batch.number f.held
       → (logical_blocks x ≡ laid_over (logical_blocks shut) f.batch.numbers f.batch.images) × AreOpen (all_of f) x
   committed are opened written less =
       let here = written_shut written in
-      let is = batch_is f (home_size x) staged shut here in
+      let is = batch_is f.batch (home_size x) staged shut here in
       let now =
       opened_open shut x label (logical_blocks shut) m f.held (stands_shut x label m stands there) (is_shut x label m stands there) (there_shut x label m stands there)
       (batch_valid f (home_size x) staged shut here (size_shut x label m stands there)) are (subst (λ (b : Batch). HaveLess b.number f.held) (sym is) less)
@@ -117,7 +114,7 @@ module _ (f : Flight) (x label : List ℕ) (stands : StandsFor x label (logical_
   -- the gate of the batch, at the commit
   commit_case : (c : List ℕ) → Bears f Commit x → SameBut (λ k. k ≡ gate_place m) x c → IsAdmitted Commit label (logical_blocks shut) (laid_over (logical_blocks shut) f.batch.numbers f.batch.images) c
   commit_case c bears same =
-      let is = batch_is f (home_size x) staged x bears.2 in
+      let is = batch_is f.batch (home_size x) staged x bears.2 in
       let same_blocks = sym (shut_already x label m stands there bears.0) in
       elim (opened_or_not x c label (logical_blocks x) m stands bears.0 there (batch_valid f (home_size x) staged x bears.2 refl) (less_than x (batch_in m x).number f.held bears.1 (subst (λ (b : Batch). HaveLess b.number f.held) (sym is) bears.3)) same) [
         | inl without ↦ inl (subst (λ (bs : List (List ℕ)). StandsFor c label bs) same_blocks without)

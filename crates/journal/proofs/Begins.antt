@@ -6,10 +6,13 @@ use Rattle.std.proofs.lemmas.List.{ext_get_or, get_or-take, length-take-le, map_
 use Rattle.disk.specs.Device.{Device}
 use Rattle.model.specs.Volume.{AreDistinct, StandsFor, blocks_from, descriptor_of, is_open, logical_blocks, number_at}
 use Rattle.segments.specs.Held.{AreOpen, HaveLess, Held, IsAmong}
-use Rattle.journal.specs.Flight.{IsSound, IsStaged, Staged, all_of, flight_in, held_as, left_of, none_staged, staged_at}
-use Rattle.journal.specs.Inside.{IsAdmitted, IsKept, IsTaken}
+use Rattle.journal_segments.specs.Staged.{IsSound, IsStaged, Staged, held_as, none_staged, staged_at}
+use Rattle.journal.specs.Flight.{all_of, flight_in, left_of}
+use Rattle.journal_segments.specs.Found.{IsTaken}
+use Rattle.journal.specs.Inside.{IsAdmitted, IsKept}
 use Rattle.journal.specs.declared.Next.TheVariants.{Idle, Descriptor}
-use Rattle.journal.proofs.Batches.{sound_of}
+use Rattle.journal_segments.proofs.Batches.{sound_of}
+use Rattle.journal_segments.proofs.Written.{take_same}
 use Rattle.journal.proofs.Flights.{less_before}
 
 among_last : (s : ℕ) (hs : List Held) (h : Held) → IsAmong s (hs ++ h ∷ []) → IsAmong s hs ⊎ (s ≡ h.place)
@@ -48,14 +51,6 @@ among_all room n few places (suc k) low s below =
       | inl is ↦ among_end s (map held_as (take k room)) (held_as (staged_at room k)) (is ∙ sym (places k (omega (arith, low))))
       | inr other ↦ among_front s (map held_as (take k room)) (held_as (staged_at room k)) (among_all room n few places k (omega (arith, low)) s (omega (arith, below, other)))
     ])
-
--- lists that are the same up to a place
-pub take_same : (room after : List Staged) (n : ℕ) → length after ≡ length room → n ≤ length room → ((t : ℕ) → t < n → staged_at after t ≡ staged_at room t) → take n after ≡ take n room
-take_same room after n size few same =
-    ext_get_or none_staged (take n after) (take n room) (length-take-le n after (omega (arith, size, few)) ∙ sym (length-take-le n room few))
-    (λ t within.
-    let low : t < n = omega (arith, within, length-take-le n after (omega (arith, size, few))) in
-    get_or-take n after t none_staged low ∙ same t low ∙ sym (get_or-take n room t none_staged low))
 
 -- the batch that was taken
 taken_staged : (blocks place number last : ℕ) (ns octets : List ℕ) (s : Staged) → IsTaken place number last ns octets s → 1 ≤ length ns → length ns ≤ 512 → All (λ n. n < blocks) ns → AreDistinct ns → length octets ≡ 4096 * length ns → IsStaged blocks s
@@ -157,10 +152,10 @@ module _ (device : Device) (blocks : ℕ) (superblock : List ℕ) (room after : 
       low = kept.low;
       high = kept.high;
       superblock_size = kept.superblock_size;
-      one = size ∙ kept.one;
       few = omega (arith, size, kept.few);
       there = omega (arith, size, there);
       place = omega (arith, taken.place_is, size, there);
+      places = λ live t low. omega (arith, (order_now t low).0, low, size, there);
       left = λ e. omega (arith, eqb-false (m + 1) (length after) e, size, there);
       within = tt;
       staged = λ live. staged_now;

@@ -5,7 +5,8 @@ use Rattle.disk.specs.Image.{part, overwritten}
 use Rattle.segments.specs.Held.{AreOpen, Held}
 use Rattle.segments.specs.Images.{SameBut}
 use Rattle.segments.proofs.Writing.{home_of_held}
-use Rattle.journal.specs.Flight.{Flight, IsSound, IsStaged, Staged, all_of, flight_in, held_at, none_held, sizes_of, staged_at}
+use Rattle.journal_segments.specs.Staged.{IsSound, IsStaged, Staged, staged_at}
+use Rattle.journal.specs.Flight.{Flight, all_of, flight_in, held_at, none_held, sizes_of}
 use Rattle.journal.specs.Inside.{IsLive, IsOrdered, IsWithin, Holds, Touched, IsAdmitted, IsKept, IsTold, blocks_without}
 use Rattle.journal.specs.Calls.{Does, Writes, Syncs, call_at}
 use Rattle.journal.specs.Order.{at_fault, following}
@@ -77,10 +78,10 @@ module _ (old new : Device) (blocks : ℕ) (superblock : List ℕ) (room : List 
         low = was.low;
         high = was.high;
         superblock_size = was.superblock_size;
-        one = was.one;
         few = was.few;
         there = was.there;
         place = was.place;
+        places = λ lives. was.places live;
         left = was.left;
         within = within;
         staged = λ lives. staged;
@@ -201,10 +202,10 @@ module _ (old new : Device) (blocks : ℕ) (superblock : List ℕ) (room : List 
     low = was.low;
     high = was.high;
     superblock_size = was.superblock_size;
-    one = was.one;
     few = was.few;
     there = was.there;
     place = was.place;
+    places = was.places;
     left = was.left;
     within = was.within;
     staged = was.staged;

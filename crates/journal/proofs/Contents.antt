@@ -12,7 +12,8 @@ use Rattle.segments.proofs.Carrying.{all_home, none_home, one_home}
 use Rattle.segments.proofs.Gates.{carried_home, closed_open, held_kept}
 use Rattle.segments.proofs.Standing.{full_open, unread_open}
 use Rattle.segments.proofs.Writing.{home_of_held, torn_held_open}
-use Rattle.journal.specs.Flight.{Flight, IsSound, all_of, held_at, none_held, sizes_of}
+use Rattle.journal_segments.specs.Staged.{IsSound}
+use Rattle.journal.specs.Flight.{Flight, all_of, held_at, none_held, sizes_of}
 use Rattle.journal.specs.Inside.{Holds}
 use Rattle.journal.specs.Order.{following}
 use Rattle.journal.specs.declared.Next.{Next}

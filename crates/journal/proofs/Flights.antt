@@ -3,7 +3,8 @@ use Rattle.std.proofs.Common.{◌≡◌, ◌≢◌, inl, inr, ◌<◌, ◌≤◌
 use Rattle.std.proofs.lemmas.Bool.{cases_Bool, cond_both, eqb-true, eqb-false}
 use Rattle.std.proofs.lemmas.List.{get_or-map, get_or-take, length-append, length-map, length-take-le, map_more}
 use Rattle.segments.specs.Held.{HaveLess, Held}
-use Rattle.journal.specs.Flight.{Flight, IsSound, IsStaged, Staged, all_of, counts_of, flight_in, held_as, held_at, none_held, none_staged, sizes_of, staged_at}
+use Rattle.journal_segments.specs.Staged.{IsSound, IsStaged, Staged, held_as, none_staged, staged_at}
+use Rattle.journal.specs.Flight.{Flight, all_of, counts_of, flight_in, held_at, none_held, sizes_of}
 use Rattle.journal.specs.Inside.{IsWithin}
 use Rattle.model.specs.Volume.{number_at}
 use Rattle.journal.specs.Order.{answer, following}
@@ -105,6 +106,19 @@ module _ (room : List Staged) (filled : ℕ) (is_last : Bool) (there : filled < 
   sizes_some blocks staged j within =
       let last = last_where flight (omega (arith, within)) in
       omega (arith, size_at flight j last (there_of flight j within), (sound_all blocks staged j (there_of flight j within)).some)
+
+  -- what comes next is of one of them
+  pub home_within : (n : ℕ) (next : Next) → IsWithin n (sizes_of flight) next → (j i : ℕ) → next ≡ Home j i → (j ≤ filled) × (i < length (staged_at room j).numbers)
+  home_within n next within j i is =
+      let here : IsWithin n (sizes_of flight) (Home j i) = subst (IsWithin n (sizes_of flight)) is within in
+      let among = there_of flight j here.0 in
+      let low : j ≤ filled = omega (arith, among, length-all) in
+      (low, omega (arith, here.1, size_at flight j (last_where flight (omega (arith, here.0))) among, ap (λ (h : Held). length h.batch.numbers) (held_in_room j low)))
+
+  pub gate_within : (n : ℕ) (next : Next) → IsWithin n (sizes_of flight) next → (j : ℕ) → next ≡ CloseGate j → j ≤ filled
+  gate_within n next within j is =
+      let here : j < length (sizes_of flight) = subst (IsWithin n (sizes_of flight)) is within in
+      omega (arith, there_of flight j here, length-all)
 
   -- the batch in flight has the greatest number
   less_front : ((t : ℕ) → t ≤ filled → number_at 0 8 (staged_at room t).descriptor ≡ t + 1) → (k : ℕ) → k ≤ filled → HaveLess (filled + 1) (map held_as (take k room))

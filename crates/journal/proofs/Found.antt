@@ -11,9 +11,12 @@ use Rattle.segments.specs.Held.{AreOpen, AreRising, Held, IsAmong, held_at as he
 use Rattle.segments.specs.Images.{IsOpenIn}
 use Rattle.segments.proofs.Judging.{length-sorted, stands_rising, writes_of, writes_sorted}
 use Rattle.segments.proofs.Sorting.{all_found, found_open}
-use Rattle.journal.specs.Flight.{Flight, IsStaged, Staged, all_of, counts_of, flight_in, held_as, none_staged, sizes_of, staged_at}
-use Rattle.journal.specs.Inside.{IsFound, IsKept, IsQuiet, IsStill, IsSynced, LeftAs, Touched}
-use Rattle.journal.specs.Opening.{AreSameVolume, Costs, IsMore, IsNoVolume, home_syncs, home_writes, LeftKept, Opens, Refuses, SyncsFirst}
+use Rattle.journal_segments.specs.Staged.{IsStaged, Staged, held_as, none_staged, staged_at}
+use Rattle.journal.specs.Flight.{Flight, all_of, counts_of, flight_in, sizes_of}
+use Rattle.journal_segments.specs.Found.{IsQuiet, IsStill}
+use Rattle.journal.specs.Inside.{IsFound, IsKept, IsSynced, LeftAs, Touched}
+use Rattle.journal_segments.specs.Found.{IsNoVolume}
+use Rattle.journal.specs.Opening.{AreSameVolume, Costs, IsMore, home_syncs, home_writes, LeftKept, Opens, Refuses, SyncsFirst}
 use Rattle.journal.specs.Journal.{AreWhole, HasWholeBlocks, IsCaused, IsDuring, IsReady, JournalView, LeavesAdmitted}
 use Rattle.journal.specs.declared.JournalError.{JournalError}
 use Rattle.journal.specs.declared.JournalError.TheVariants.{Fault, Memory, NotAVolume, Halted}
@@ -75,10 +78,16 @@ module _ (device : Device) (superblock : List ℕ) (blocks : ℕ) (room : List S
     held = map held_as (take n room)
 
     few : length room ≤ 8
-    few = omega (arith, found.count, found.valid.segments)
+    few = elim found.valid.segments [
+      | inl one ↦ omega (arith, found.count, one)
+      | inr eight ↦ omega (arith, found.count, eight)
+    ]
 
     some : 0 < length room
-    some = omega (arith, found.count, found.valid.segments)
+    some = elim found.valid.segments [
+      | inl one ↦ omega (arith, found.count, one)
+      | inr eight ↦ omega (arith, found.count, eight)
+    ]
 
     device_size : device.size ≡ 4096 * home_place (length room) blocks
     device_size = omega (arith, found.valid.exactly, found.blocks_are, found.count)
@@ -149,10 +158,10 @@ module _ (device : Device) (superblock : List ℕ) (blocks : ℕ) (room : List S
       low = omega (arith, found.valid.low, found.blocks_are);
       high = omega (arith, found.valid.high, found.blocks_are);
       superblock_size = found.superblock_size;
-      one = found.count ∙ found.valid.segments;
       few = few 0 found;
       there = some 0 found;
       place = omega (arith, found.found.first refl, some 0 found);
+      places = λ e. absurd (true≢false e);
       left = λ e. absurd (true≢false e);
       within = tt;
       staged = λ e. absurd (true≢false e);
@@ -211,10 +220,10 @@ module _ (device : Device) (superblock : List ℕ) (blocks : ℕ) (room : List S
       low = omega (arith, found.valid.low, found.blocks_are);
       high = omega (arith, found.valid.high, found.blocks_are);
       superblock_size = found.superblock_size;
-      one = found.count ∙ found.valid.segments;
       few = few n found;
       there = there;
       place = place_there;
+      places = λ live t low. (found.found.each t (omega (arith, is, low))).below;
       left = λ e. absurd (true≢false e);
       within = replay_some;
       staged = λ live. staged;

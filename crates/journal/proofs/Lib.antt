@@ -1,14 +1,11 @@
 pub mod Admitted
-pub mod Batches
 pub mod Begins
 pub mod Calls
 pub mod Contents
 pub mod During
 pub mod Flights
 pub mod Found
-pub mod Gates
 pub mod Idle
-pub mod Loading
 pub mod Made
 pub mod Order
 pub mod Transitions

@@ -4,7 +4,8 @@ use Rattle.disk.specs.Device.{Device, Elapses, HasCause, OnRefused, IsRefused, I
 use Rattle.disk.specs.Image.{part, overwritten}
 use Rattle.disk.specs.declared.DiskError.{DiskError}
 use Rattle.segments.specs.Held.{Held}
-use Rattle.journal.specs.Flight.{Flight, Staged, all_of, flight_in, held_as, sizes_of}
+use Rattle.journal_segments.specs.Staged.{Staged, held_as}
+use Rattle.journal.specs.Flight.{Flight, all_of, flight_in, sizes_of}
 use Rattle.journal.specs.Inside.{IsKept, blocks_without}
 use Rattle.journal.specs.Calls.{Call, Does, IsAsked, IsRetried, MakesCall, Syncs, Writes, blocks_after, call_at}
 use Rattle.journal.specs.Journal.{IsSameBatch, JournalView, with_batch}

@@ -3,7 +3,8 @@ use Rattle.std.proofs.Common.{◌≡◌, ◌≢◌, ◌⊎◌, inl, inr, ◌<◌
 use Rattle.disk.specs.Device.{Device, IsTornImage, LeavesOnly}
 use Rattle.segments.specs.Held.{Held, IsHomeOfHeld}
 use Rattle.segments.specs.Images.{SameBut}
-use Rattle.journal.specs.Flight.{Flight, IsStaged, all_of}
+use Rattle.journal_segments.specs.Staged.{IsStaged}
+use Rattle.journal.specs.Flight.{Flight, all_of}
 use Rattle.journal.specs.Inside.{Holds, Touched, IsAdmitted, IsTold, blocks_without}
 use Rattle.model.specs.Volume.{home_size, number_at, laid_over, logical_blocks, segment_count, StandsFor}
 use Rattle.journal.specs.declared.Next.{Next}

@@ -2,7 +2,8 @@
 use Rattle.std.proofs.Common.{◌<◌, inl, inr, ℕ, Bool, IsTrue, List, sym, ◌∙◌, ap, subst}
 use Rattle.disk.specs.Device.{Device, IsRefused, IsUnchanged}
 use Rattle.disk.specs.Image.{part}
-use Rattle.journal.specs.Flight.{Flight, Staged, flight_in}
+use Rattle.journal_segments.specs.Staged.{Staged}
+use Rattle.journal.specs.Flight.{Flight, flight_in}
 use Rattle.journal.specs.Inside.{IsAdmitted, IsKept, Holds, Touched, blocks_without}
 use Rattle.segments.specs.Images.{SameBut}
 use Rattle.journal.specs.Journal.{AreWhole}
@@ -47,10 +48,10 @@ module _ (device : Device) (blocks : ℕ) (superblock : List ℕ) (next : Next) 
     low = kept.low;
     high = kept.high;
     superblock_size = kept.superblock_size;
-    one = kept.one;
     few = kept.few;
     there = kept.there;
     place = kept.place;
+    places = kept.places;
     left = kept.left;
     within = kept.within;
     staged = kept.staged;
@@ -77,10 +78,10 @@ module _ (device : Device) (blocks : ℕ) (superblock : List ℕ) (next : Next) 
     low = kept.low;
     high = kept.high;
     superblock_size = kept.superblock_size;
-    one = kept.one;
     few = kept.few;
     there = kept.there;
     place = kept.place;
+    places = kept.places;
     left = kept.left;
     within = kept.within;
     staged = kept.staged;

@@ -1,12 +1,13 @@
 -- What the fields of a journal keep between two calls.
-use Rattle.std.specs.Prelude.{◌≡◌, ◌⊎◌, ◌<◌, ◌≤◌, ℕ, ◌+◌, ◌*◌, Bool, true, false, IsTrue, List, [], length, drop, map, slice_index, slice_index_or, take}
-use Rattle.std.specs.List.{filter, range_with_len}
+use Rattle.std.specs.Prelude.{◌≡◌, ◌⊎◌, ◌<◌, ◌≤◌, ℕ, ◌+◌, ◌*◌, Bool, true, false, IsTrue, List, [], length, drop, slice_index, slice_index_or, take}
 use Rattle.disk.specs.Device.{Device, LeavesOnly, one_more}
 use Rattle.disk.specs.Image.{part}
-use Rattle.model.specs.Volume.{gate_place, descriptor_place, image_place, home_place, descriptor_of, block, blocks_from, number_at, home_size, is_open, listed, segment_count, IsDescriptor, IsSuperblock, StandsFor, all_laid_over, home, laid_over, logical_blocks, gate_closed}
-use Rattle.segments.specs.Held.{AreOpen, AreRising, IsHomeOfHeld, IsHomeOnTheWay, IsWrittenIn, batches_of, held_at as held_in_places, sorted_held}
+use Rattle.model.specs.Volume.{gate_place, descriptor_place, image_place, home_place, descriptor_of, block, number_at, home_size, is_open, segment_count, IsSuperblock, StandsFor, all_laid_over, home, laid_over, logical_blocks, gate_closed}
+use Rattle.segments.specs.Held.{AreOpen, IsHomeOfHeld, IsHomeOnTheWay, IsWrittenIn, batches_of}
 use Rattle.segments.specs.Images.{IsCarried, IsInside, SameBut}
-use Rattle.journal.specs.Flight.{Flight, IsStaged, Staged, all_of, flight_in, held_as, held_at, left_of, sizes_of, staged_at}
+use Rattle.journal_segments.specs.Staged.{IsStaged, Staged, staged_at}
+use Rattle.journal_segments.specs.Found.{AreFound}
+use Rattle.journal.specs.Flight.{Flight, all_of, flight_in, held_at, left_of, sizes_of}
 use Rattle.journal.specs.declared.Next.{Next}
 use Rattle.journal.specs.declared.Next.TheVariants.{Idle, Descriptor, Image, Seal, OpenGate, Commit, Home, Settle, CloseGate, Finish}
 
@@ -91,10 +92,10 @@ pub record IsKept (device : Device) (blocks : ℕ) (superblock : List ℕ) (next
   pub low : 1024 ≤ blocks
   pub high : blocks ≤ 65536
   pub superblock_size : length superblock ≡ 4096
-  pub one : length room ≡ 1
   pub few : length room ≤ 8
   pub there : filled < length room
   pub place : (staged_at room filled).place < length room
+  pub places : IsLive is_last next → (t : ℕ) → t ≤ filled → (staged_at room t).place < length room
   pub left : is_last ≡ false → filled + 1 < length room
   pub within : IsWithin (length (staged_at room filled).numbers) (sizes_of (flight_in room filled is_last)) next
   pub staged : IsLive is_last next → (t : ℕ) → t ≤ filled → IsStaged blocks (staged_at room t)
@@ -105,72 +106,11 @@ pub record IsKept (device : Device) (blocks : ℕ) (superblock : List ℕ) (next
       → (staged_at room filled).descriptor ≡ descriptor_of (number_at 0 8 (staged_at room filled).descriptor) (number_at 8 8 (staged_at room filled).descriptor) (staged_at room filled).numbers
   pub told : IsTrue device.tells → IsTold device blocks (part 20 128 superblock) next halted (flight_in room filled is_last)
 
--- calls that change nothing but the time: a crash leaves nothing that it could not have left before
-pub record IsQuiet (old new : Device) : Type 0 where
-  pub size : new.size ≡ old.size
-  pub tells : new.tells ≡ old.tells
-  pub later : old.clock ≤ new.clock
-  pub writes : new.writes ≡ old.writes
-  pub since : IsTrue old.tells → (t : ℕ) (c : List ℕ) → t ≤ old.clock → new.left_since t c → old.left_since t c
-  pub crash : IsTrue old.tells → (c : List ℕ) → new.may_leave c → old.may_leave c
-
--- reads, of which none failed
-pub record IsStill (old new : Device) : Type 0 where
-  pub content : IsTrue old.tells → new.content ≡ old.content
-  pub failures : new.failures ≡ old.failures
-  pub syncs : new.syncs ≡ old.syncs
-
 -- or a good sync alone was asked
 pub record IsSynced (old new : Device) : Type 0 where
   pub content : IsTrue old.tells → new.content ≡ old.content
   pub failures : new.failures ≡ old.failures
   pub syncs : new.syncs ≡ one_more old.syncs
-
--- the room of a segment
-pub record HasRoom (count : ℕ) (descriptor numbers octets : List ℕ) : Type 0 where
-  pub descriptor_size : length descriptor ≡ 4096
-  pub numbers_size : length numbers ≡ 512
-  pub octets_size : length octets ≡ 2097152
-  pub few : count ≤ 512
-
--- a segment that took a batch
-pub record IsTaken (place number last : ℕ) (numbers octets : List ℕ) (s : Staged) : Type 0 where
-  pub place_is : s.place ≡ place
-  pub size : length s.descriptor ≡ 4096
-  pub descriptor_is : s.descriptor ≡ descriptor_of number last numbers
-  pub number_is : number_at 0 8 s.descriptor ≡ number
-  pub last_is : number_at 8 8 s.descriptor ≡ last
-  pub count : number_at 16 4 s.descriptor ≡ length numbers
-  pub zero : number_at 20 4 s.descriptor ≡ 0
-  pub lists : listed s.descriptor ≡ numbers
-  pub numbers_are : s.numbers ≡ numbers
-  pub images_are : s.images ≡ blocks_from 0 (length numbers) octets
-
--- the first images of a segment are in memory
-abbrev pub AreLoaded : ℕ → ℕ → List ℕ → List ℕ → Type 0
-AreLoaded place n image octets = (k : ℕ) → k < n → block (image_place place k) image ≡ block k octets
-
--- a segment in memory is the one in that place
-pub record IsReadFrom (device : Device) (blocks : ℕ) (s : Staged) : Type 0 where
-  pub staged : IsStaged blocks s
-  pub descriptor : IsDescriptor blocks s.descriptor
-  pub written : IsTrue device.tells → IsWrittenIn s.place s.descriptor s.images device.content
-
--- a segment in memory is an open one, from a place on
-pub record IsOpened (device : Device) (blocks segments from : ℕ) (s : Staged) : Type 0 where
-  pub read : IsReadFrom device blocks s
-  pub below : s.place < segments
-  pub above : from ≤ s.place
-  pub opened : IsTrue device.tells → is_open s.place device.content ≡ true
-
--- the open segments from a place on are the first n in memory, in rising batch number
-pub record AreFound (device : Device) (blocks from : ℕ) (room : List Staged) (n : ℕ) : Type 0 where
-  pub within : n + from ≤ length room
-  pub first : n ≡ 0 → (staged_at room 0).place ≡ 0
-  pub each : (t : ℕ) → t < n → IsOpened device blocks (length room) from (staged_at room t)
-  pub rise : AreRising (map held_as (take n room))
-  pub are : IsTrue device.tells → (k : ℕ) → from + k ≡ length room
-      → map held_as (take n room) ≡ sorted_held (held_in_places device.content (filter (λ s. is_open s device.content) (range_with_len from k)))
 
 -- what an opening reads, before it writes anything: the superblock, and the n open segments
 pub record IsFound (device : Device) (superblock : List ℕ) (blocks : ℕ) (room : List Staged) (n : ℕ) : Type 0 where

@@ -2,6 +2,7 @@
 use Rattle.std.specs.Prelude.{◌≡◌, ◌≢◌, ◌⊎◌, ℕ, ◌+◌, ◌%◌, ◌^◌, ◌≤◌, IsTrue, List, [], ◌∷◌, length}
 use Rattle.disk.specs.Device.{Device, Elapses, LeavesOnly, LeftNoMore}
 use Rattle.journal.specs.Journal.{HasWholeBlocks, IsReady, JournalView, LeavesAdmitted}
+pub use Rattle.journal_segments.specs.Found.{IsNoVolume}
 use Rattle.model.specs.Volume.{StandsFor, block, descriptor_place, number_at, open_segments}
 use Rattle.journal.specs.declared.JournalError.{JournalError}
 use Rattle.journal.specs.declared.JournalError.TheVariants.{Fault, Memory, NotAVolume, Halted}
@@ -9,10 +10,6 @@ use Rattle.journal.specs.declared.JournalError.TheVariants.{Fault, Memory, NotAV
 -- two images of volumes with the same label and logical blocks
 abbrev pub AreSameVolume : List ℕ → List ℕ → Type 0
 AreSameVolume old new = (its_label : List ℕ) × ((blocks : List (List ℕ)) × (StandsFor old its_label blocks × StandsFor new its_label blocks))
-
--- no volume stands there
-abbrev pub IsNoVolume : List ℕ → Type 0
-IsNoVolume image = (its_label : List ℕ) (blocks : List (List ℕ)) → StandsFor image its_label blocks → ⊥
 
 -- a crash since an earlier time might have left what it might have left before, or the same volume as was read
 abbrev pub LeftKept : Device → Device → Type 0
@@ -37,12 +34,6 @@ pub record Refuses {D : Type 0} (device : D → Device) (first last : D) (error 
   pub no_volume : error ≡ NotAVolume → IsTrue (device first).tells → IsNoVolume (device first).content
   pub memory : error ≡ Memory → (device last).failures ≡ (device first).failures
   pub not_halted : error ≢ Halted
-
--- why the reads of an opening refuse
-pub record Rejects (error : JournalError) (old new : Device) : Type 0 where
-  pub fault : error ≡ Fault → new.failures ≢ old.failures
-  pub no_volume : error ≡ NotAVolume → IsTrue old.tells → IsNoVolume old.content
-  pub no_other : (error ≡ Fault) ⊎ (error ≡ NotAVolume)
 
 -- The first good sync comes before every write. Until it a crash leaves what it might have left at the start,
 -- at that moment it leaves what a read gives, and from then on the same volume as that.

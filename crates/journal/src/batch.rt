@@ -3,12 +3,12 @@
 ghost use Rattle.std.specs.Prelude.{◌≡◌, ◌≢◌, ◌≤◌, ◌<◌, ◌+◌, ◌*◌, ◌==◌, if◌then◌else◌, ℕ, length, false};
 ghost use Rattle.std.specs.List.{All};
 ghost use Rattle.model.specs.Volume.{AreDistinct, blocks_from};
-ghost use Rattle.journal.specs.Flight.{staged_at};
-ghost use Rattle.journal.specs.Inside.{IsTaken};
+ghost use Rattle.journal_segments.specs.Staged.{staged_at};
+ghost use Rattle.journal_segments.specs.Found.{IsTaken};
 
-use crate::segment::Segment;
 use crate::{Journal, Next};
 use disk::Disk;
+use journal_segments::Segment;
 
 impl<D: Disk> Journal<D> {
     ghost use Rattle.segments.specs.Held.{HaveLess, IsAmong};
@@ -56,8 +56,9 @@ impl<D: Disk> Journal<D> {
     }
 }
 
-// Where no batch is in flight: after a checkpoint all segments are closed, else those behind the one that was filled.
-fn lowest_closed(was_last: bool, filled: usize) -> usize
+// How many segments are open where no batch is in flight, which is the index of the lowest closed one: none after a checkpoint, else
+// those up to the one that was filled.
+pub(crate) fn lowest_closed(was_last: bool, filled: usize) -> usize
     requires { filled < 8 }
     ensures { result ≡ (if was_last then 0 else filled + 1) }
 {

@@ -3,21 +3,19 @@
 #![tactic(auto)]
 
 mod batch;
-mod finding;
 mod opening;
-mod reading;
-mod segment;
 mod stepping;
 
 ghost use Rattle.std.specs.Prelude.{◌≡◌, ◌≢◌, ◌≤◌, ◌<◌, ◌↔◌, ℕ, List, length, true, false, OnOk, IfErr, IsTrue};
 
+use batch::lowest_closed;
 use disk::{Disk, DiskCall, Faults};
-use segment::Segment;
+use journal_segments::{Segment, SegmentError, lay_over};
 use std::marker::Model;
 pub use stepping::each_call_is_the_next;
 use thiserror::Error;
 use volume_format::layout::{LABEL_AT, SUPERBLOCK_USED, home_block, start_of};
-pub use volume_format::{FormatError, format};
+pub use volume_format::{FormatError, format, format_with};
 
 /// The device call that comes next.
 #[derive(Clone, Copy, Debug, PartialEq, Eq)]
@@ -68,6 +66,18 @@ pub enum JournalError {
     Halted,
 }
 
+impl From<SegmentError> for JournalError {
+    fn from(error: SegmentError) -> JournalError
+        ensures fault { error ≡ SegmentError.Fault → result ≡ JournalError.Fault }
+        ensures no_volume { error ≡ SegmentError.NotAVolume → result ≡ JournalError.NotAVolume }
+    {
+        match error {
+            SegmentError::Fault => JournalError::Fault,
+            SegmentError::NotAVolume => JournalError::NotAVolume,
+        }
+    }
+}
+
 /// A journal over a device.
 #[derive(Drop)]
 pub struct Journal<D: Disk> {
@@ -88,7 +98,7 @@ impl<D: Disk> Model for Journal<D> {
     ghost use Rattle.std.specs.Prelude.{length, map, take};
     ghost use Rattle.disk.specs.Image.{part};
     ghost use Rattle.model.specs.Volume.{number_at};
-    ghost use Rattle.journal.specs.Flight.{held_as, staged_at};
+    ghost use Rattle.journal_segments.specs.Staged.{held_as, staged_at};
     ghost use Rattle.journal.specs.Inside.{IsKept, blocks_without};
     ghost use Rattle.journal.specs.Journal.{JournalView};
 
@@ -156,7 +166,7 @@ impl<D: Disk> Journal<D> {
         !self.halted && stepping::is_idle(self.next)
     }
 
-    /// Reads a logical block of 4,096 octets, behind `open` and before the first batch, by one read of the device.
+    /// Reads a logical block of 4,096 octets while no batch is in flight, by one read of the device.
     ///
     /// A fault leaves the room with any octets and halts the journal for good.
     pub fn load(&mut self, block: u64, into: &mut [u8]) -> Result<(), JournalError>
@@ -182,7 +192,11 @@ impl<D: Disk> Journal<D> {
             .disk
             .read(start_of(home_block(self.room.len() as u32, block)), into)
         {
-            Ok(()) => Ok(()),
+            Ok(()) => {
+                let open = lowest_closed(self.is_last, self.filled);
+                lay_over(&self.room, open, block, into);
+                Ok(())
+            }
             Err(_) => {
                 self.halted = true;
                 Err(JournalError::Fault)

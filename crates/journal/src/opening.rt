@@ -1,28 +1,30 @@
 //! Opening what stands on a device.
 
-ghost use Rattle.std.specs.Prelude.{MatchResult, ◌⊎◌, OnOk, IfOk, IfErr, IsErrOf, IsTrue, ◌≡◌, ◌≢◌, ◌+◌, ◌<◌, [], true, false, length, slice_index, sum};
+ghost use Rattle.std.specs.Prelude.{MatchResult, ◌≤◌, ◌⊎◌, OnOk, IfOk, IfErr, IsErrOf, IsTrue, ◌≡◌, ◌≢◌, ◌+◌, ◌<◌, [], true, false, length, slice_index, sum};
 ghost use Rattle.disk.specs.Device.{Elapses, LeavesOnly};
 ghost use Rattle.model.specs.Volume.{StandsFor, open_segments};
-ghost use Rattle.journal.specs.Flight.{staged_at};
-ghost use Rattle.journal.specs.Inside.{IsFound, IsQuiet, IsStill, IsSynced, LeftAs};
+ghost use Rattle.journal_segments.specs.Staged.{staged_at};
+ghost use Rattle.journal_segments.specs.Found.{IsQuiet, IsStill};
+ghost use Rattle.journal.specs.Inside.{IsFound, IsSynced, LeftAs};
 ghost use Rattle.journal.specs.Journal.{IsCaused, IsDuring, IsReady, LeavesAdmitted, HasWholeBlocks, sizes};
-ghost use Rattle.journal.specs.Opening.{Costs, IsMore, NeverSyncs, Opens, Refuses, Rejects, SyncsFirst, home_syncs, home_writes};
+ghost use Rattle.journal_segments.specs.Found.{Rejects};
+ghost use Rattle.journal.specs.Opening.{Costs, IsMore, NeverSyncs, Opens, Refuses, SyncsFirst, home_syncs, home_writes};
 
-use crate::finding::find_open;
-use crate::reading::load_superblock;
-use crate::segment::Segment;
 use crate::{Journal, JournalError, Next, Refused};
 use disk::{Disk, DiskError};
+use journal_segments::{Segment, SegmentError, find_open, load_superblock};
 use std::alloc::{AllocError, Global};
-use volume_format::layout::BLOCK;
+use volume_format::layout::{BLOCK, SEGMENTS};
 use volume_format::zeros;
 
 impl<D: Disk> Journal<D> {
-    /// Opens what stands on the device: one sync, then the reads; an open segment's images are carried home and its gate is
-    /// closed, as in the second half of a batch. All the room that the journal needs is taken here, before the first call.
+    /// Opens what stands on the device: one sync, then the reads; the images of the open segments are carried home in rising batch
+    /// number and their gates are closed, as in the second half of a batch. All the room that the journal needs is taken here, before
+    /// the first call.
     ///
     /// Answers `Fault` where the device failed in this call, `Memory` where the room or a growth of the device was refused,
-    /// and `NotAVolume` where the length, the superblock or an open segment's descriptor isn't valid. The device
+    /// and `NotAVolume` where the length, the superblock or an open segment's descriptor isn't valid, or two open segments have one
+    /// batch number. The device
     /// comes back with each refusal and may be opened again as it is. A crash at any moment leaves the logical blocks of an
     /// image that a crash at the start might have left; from the first sync on they are those that a read gives.
     pub fn open(alloc: Global, disk: D) -> Result<Journal<D>, Refused<D>>
@@ -48,20 +50,40 @@ struct Room {
     superblock: Vec<u8>,
     segments: Vec<Segment>,
     ghost superblock_size: { length superblock.items ≡ 4096 },
-    ghost one: { length segments.items ≡ 1 },
+    ghost many: { length segments.items ≡ 8 },
     ghost place: { (staged_at segments.items 0).place ≡ 0 },
 }
 
 impl Room {
     fn new(alloc: Global) -> Result<Room, AllocError> {
         let superblock = zeros(alloc, BLOCK)?;
-        let mut segments = Vec::new(alloc);
-        segments.push(Segment::new(alloc, 0)?)?;
+        let segments = room_for_all(alloc)?;
         Ok(Room {
             superblock,
             segments,
         })
     }
+}
+
+fn room_for_all(alloc: Global) -> Result<Vec<Segment>, AllocError>
+    ensures many { IfOk result (λ room. length room.items ≡ 8) }
+    ensures place { IfOk result (λ room. (staged_at room.items 0).place ≡ 0) }
+{
+    let mut room = Vec::new(alloc);
+    for place in 0..SEGMENTS {
+        room.push(Segment::new(alloc, place)?)?;
+    }
+    Ok(room)
+}
+
+// Leaves the room of the first n.
+fn leave_first(room: &mut Vec<Segment>, n: usize)
+    requires some { 0 < n }
+    requires few { n ≤ length room.old.items }
+    ensures count { length room.new.items ≡ n }
+    ensures first { staged_at room.new.items 0 ≡ staged_at room.old.items 0 }
+{
+    room.truncate(n);
 }
 
 fn open_in<D: Disk>(room: Room, mut disk: D) -> Result<Journal<D>, Refused<D>>
@@ -91,7 +113,10 @@ fn open_synced<D: Disk>(room: Room, mut disk: D) -> Result<Journal<D>, Refused<D
     match load(&mut disk, &mut superblock, &mut segments) {
         Ok((blocks, 0)) => Ok(at_rest(disk, superblock, blocks, segments)),
         Ok((blocks, found)) => replay(to_be_replayed(disk, superblock, blocks, segments, found)),
-        Err(error) => Err(Refused { disk, error }),
+        Err(error) => Err(Refused {
+            disk,
+            error: JournalError::from(error),
+        }),
     }
 }
 
@@ -173,9 +198,9 @@ fn load<D: Disk>(
     disk: &mut D,
     superblock: &mut Vec<u8>,
     room: &mut Vec<Segment>,
-) -> Result<(u64, usize), JournalError>
+) -> Result<(u64, usize), SegmentError>
     requires superblock { length superblock.old.items ≡ 4096 }
-    requires one { length room.old.items ≡ 1 }
+    requires many { length room.old.items ≡ 8 }
     requires place { (staged_at room.old.items 0).place ≡ 0 }
     requires synced { IsTrue (D.device disk.old).tells → LeavesOnly (D.device disk.old) (D.device disk.old).content }
     ensures quiet { IsQuiet (D.device disk.old) (D.device disk.new) }
@@ -184,10 +209,13 @@ fn load<D: Disk>(
     ensures err { IfErr result (λ error. Rejects error (D.device disk.old) (D.device disk.new)) }
 {
     match load_superblock(disk, superblock) {
-        Ok(blocks) => match find_open(disk, blocks, room) {
-            Ok(found) => Ok((blocks, found)),
-            Err(error) => Err(error),
-        },
+        Ok(sizes) => {
+            leave_first(room, sizes.segments as usize);
+            match find_open(disk, sizes.blocks, room) {
+                Ok(found) => Ok((sizes.blocks, found)),
+                Err(error) => Err(error),
+            }
+        }
         Err(error) => Err(error),
     }
 }

@@ -2,15 +2,16 @@
 
 ghost use Rattle.std.specs.Prelude.{◌≡◌, ◌≢◌, ◌≤◌, ◌<◌, ◌+◌, ◌*◌, ◌⊎◌, ◌==◌, ◌^◌, ℕ, List, length, [], ◌∷◌, slice_index, slice_index_or, sum, true, false, OnOk, IfErr, IsTrue, if◌then◌else◌};
 ghost use Rattle.model.specs.Volume.{descriptor_place, gate_place, home_place, image_place};
-ghost use Rattle.journal.specs.Flight.{all_of, flight_in, sizes_of, staged_at};
+ghost use Rattle.journal_segments.specs.Staged.{staged_at};
+ghost use Rattle.journal.specs.Flight.{all_of, flight_in, sizes_of};
 ghost use Rattle.journal.specs.Inside.{IsWithin};
 ghost use Rattle.journal.specs.Order.{all_calls, following, calls_made, writes_made, syncs_made, is_sync, at_fault, answer};
 ghost use Rattle.journal.specs.Opening.{IsMore};
 ghost use Rattle.journal.specs.Calls.{Call, IsAsked, call_at};
 
-use crate::segment::Segment;
 use crate::{Journal, JournalError, Next, Progress};
 use disk::{Disk, DiskError};
+use journal_segments::Segment;
 use volume_format::layout::{
     CLOSED, OPEN, descriptor_block, gate_block, home_block, image_block, start_of,
 };

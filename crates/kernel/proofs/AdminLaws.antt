@@ -1,15 +1,17 @@
--- What `admin` answers, from what the spool answers.
-use Rattle.std.proofs.Common.{◌≡◌, ◌⊎◌, inl, inr, ℕ, ◌+◌, ◌<◌, ◌≤◌, Bool, true, false, List, [], ◌∷◌, length, refl, ap, sym, ◌∙◌}
-use Rattle.std.specs.Prelude.{Ok, Option, Some, None, nat_le, nat_lt, if◌then◌else◌}
-use Rattle.std.proofs.lemmas.Bool.{leb-false, ltb-false}
+-- What `admin` and `expire` answer, from what the spool answers.
+use Rattle.std.proofs.Common.{◌≡◌, ◌⊎◌, inl, inr, ℕ, ◌+◌, ◌<◌, ◌≤◌, Bool, true, false, List, [], ◌∷◌, length, refl, ap, sym, ◌∙◌, arith}
+use Rattle.std.specs.Prelude.{Ok, Option, Some, None, not, nat_le, nat_lt, if◌then◌else◌}
+use Rattle.std.proofs.lemmas.Bool.{leb-false, ltb-false, ltb-true}
+use Rattle.model.specs.Room.{is_full}
 use Rattle.model.specs.Stream.{Octets}
 use Rattle.model.specs.Spool.{is_here}
 use Rattle.model.specs.declared.change.Change.{Change}
-use Rattle.model.specs.declared.change.Change.TheVariants.{Group}
-use Rattle.spool.specs.View.{SpoolView, Adds}
-use Rattle.spool.specs.Refusals.{group_refusal, is_full_for}
-use Rattle.spool.specs.declared.errors.AddError.TheVariants as add
-use Rattle.kernel.specs.Kernel.{Administers, Exists, Full, Halted, KernelView, LaterDirty, Refusal, Seat, TooManySessions, admin_refusal_of, early_refusal, first_failing, join_refusal, only_tested}
+use Rattle.model.specs.declared.change.Change.TheVariants.{Expire, Group}
+use Rattle.spool_files.specs.View.{SpoolView, Adds}
+use Rattle.spool_files.specs.Refusals.{expiry_refusal, group_refusal, has_number, is_full_for}
+use Rattle.spool_files.specs.declared.errors.AddError.TheVariants as add
+use Rattle.spool_files.specs.declared.errors.ExpireError.TheVariants as expire
+use Rattle.kernel.specs.Kernel.{Administers, Exists, Full, Halted, KernelView, LaterDirty, NotFound, Refusal, Seat, TooManySessions, admin_refusal_of, early_refusal, expire_refusal_of, first_failing, join_refusal, only_tested, takes_none}
 use Rattle.kernel.specs.Stored.{kernel_of}
 use Rattle.kernel.proofs.ExecLaws.{changed_dirties}
 
@@ -82,7 +84,8 @@ module _ (s : SpoolView) (d : ℕ) (f : Option ℕ) (h : Bool) (j : ℕ) (seats 
       go false true a b is = absurd (cc is)
       go false false a b is = by_tests false false a b
 
-  pub administers : (s' : SpoolView) (serial : ℕ) → serial ≡ length s.changes + 1 → Adds s s' c → Administers was (kernel_of s' d f h j seats) c serial
+module _ (s : SpoolView) (d : ℕ) (f : Option ℕ) (h : Bool) (j : ℕ) (seats : List Seat) (c : Change) where
+  pub administers : (s' : SpoolView) (serial : ℕ) → serial ≡ length s.changes + 1 → Adds s s' c → Administers (kernel_of s d f h j seats) (kernel_of s' d f h j seats) c serial
   administers s' serial is adds =
       record {
         serial_is = is;
@@ -91,7 +94,41 @@ module _ (s : SpoolView) (d : ℕ) (f : Option ℕ) (h : Bool) (j : ℕ) (seats 
         rest = (adds.host, adds.inodes, refl, refl, refl, refl, refl);
       }
 
--- the refusal of a group that was refused for no want of memory
+module _ (s : SpoolView) (d : ℕ) (f : Option ℕ) (h : Bool) (j : ℕ) (seats : List Seat) (group : Octets) (number : ℕ) (early : early_refusal (kernel_of s d f h j seats) ≡ None) where
+  by_expiry : (has full : Bool) → has_number s.changes group number ≡ has → is_full_for s (Expire group number) ≡ full
+      → expire_refusal_of (kernel_of s d f h j seats) (Expire group number) ≡ first_failing ((false, Halted) ∷ (false, LaterDirty) ∷ (not has, NotFound) ∷ (full, Full) ∷ [])
+  by_expiry has full a b =
+      let now = early_none (kernel_of s d f h j seats) early in
+      λ i. first_failing ((now.0 i, Halted) ∷ (now.1 i, LaterDirty) ∷ (not (a i), NotFound) ∷ (b i, Full) ∷ [])
+
+  pub not_found_when : expiry_refusal s group number ≡ Some expire.NotFound → expire_refusal_of (kernel_of s d f h j seats) (Expire group number) ≡ Some NotFound
+  not_found_when = go (has_number s.changes group number) (is_full_for s (Expire group number)) refl refl
+    where
+      go : (has full : Bool) → has_number s.changes group number ≡ has → is_full_for s (Expire group number) ≡ full → (if has then (if full then Some expire.Full else None) else Some expire.NotFound) ≡ Some expire.NotFound
+          → expire_refusal_of (kernel_of s d f h j seats) (Expire group number) ≡ Some NotFound
+      go true true a b is = absurd (cc is)
+      go true false a b is = absurd (cc is)
+      go false full a b is = by_expiry false full a b
+
+  pub no_room_when : expiry_refusal s group number ≡ Some expire.Full → expire_refusal_of (kernel_of s d f h j seats) (Expire group number) ≡ Some Full
+  no_room_when = go (has_number s.changes group number) (is_full_for s (Expire group number)) refl refl
+    where
+      go : (has full : Bool) → has_number s.changes group number ≡ has → is_full_for s (Expire group number) ≡ full → (if has then (if full then Some expire.Full else None) else Some expire.NotFound) ≡ Some expire.Full
+          → expire_refusal_of (kernel_of s d f h j seats) (Expire group number) ≡ Some Full
+      go true true a b is = by_expiry true true a b
+      go true false a b is = absurd (cc is)
+      go false full a b is = absurd (cc is)
+
+  pub expires_when : expiry_refusal s group number ≡ None → expire_refusal_of (kernel_of s d f h j seats) (Expire group number) ≡ None
+  expires_when = go (has_number s.changes group number) (is_full_for s (Expire group number)) refl refl
+    where
+      go : (has full : Bool) → has_number s.changes group number ≡ has → is_full_for s (Expire group number) ≡ full → (if has then (if full then Some expire.Full else None) else Some expire.NotFound) ≡ None
+          → expire_refusal_of (kernel_of s d f h j seats) (Expire group number) ≡ None
+      go true true a b is = absurd (cc is)
+      go true false a b is = by_expiry true false a b
+      go false full a b is = absurd (cc is)
+
+-- the refusal of a change that was refused for no want of memory
 pub said : {E : Type 0} (memory e r : E) (refusal : Option E) → e ≡ r → (r ≡ memory → ⊥) → (e ≡ memory) ⊎ (refusal ≡ Some e) → refusal ≡ Some r
 said memory e r refusal is other (inl no_room) = absurd (other (sym is ∙ no_room))
 said memory e r refusal is other (inr told) = told ∙ ap Some is

@@ -1,11 +1,13 @@
 -- What `exec` does, from its parts.
-use Rattle.std.proofs.Common.{◌≡◌, ℕ, zero, suc, ◌≤◌, ◌<◌, ◌==◌, Bool, true, false, List, [], ◌∷◌, length, refl, ap, sym, ◌∙◌, subst, arith, rules, eq-eqb, set}
+use Rattle.std.proofs.Common.{◌≡◌, ◌≢◌, ◌⊎◌, inl, inr, ℕ, zero, suc, ◌≤◌, ◌<◌, Bool, true, false, List, [], ◌∷◌, length, refl, ap, sym, ◌∙◌, subst, arith, rules, set}
 use Rattle.std.specs.Prelude.{Option, Some, None, Result, Ok, Err, MatchResult, IsSome, is_none, is_some, not, ◌||◌, ◌&&◌, bytes_eq, nat_le, nat_lt, slice_get, slice_index_or, if◌then◌else◌}
-use Rattle.std.proofs.Math.Bool.{or-false}
-use Rattle.std.proofs.lemmas.Bool.{eqb-false, eqb-true, le-leb, leb-true, ltb-false}
+use Rattle.std.proofs.Math.Bool.{or-false, or-true}
+use Rattle.std.proofs.lemmas.Bool.{le-leb, leb-true, ltb-false}
 use Rattle.model.specs.declared.session.Answer.{Answer}
 use Rattle.model.specs.declared.session.Session.{Session}
-use Rattle.model.proofs.NewsLaws.{stopped_answer}
+use Rattle.model.proofs.ServiceLaws.{news_stopped as stopped_answer}
+use Rattle.model.specs.Answer.{is_long}
+use Rattle.model.specs.Room.{is_full}
 use Rattle.outbox.specs.Queue.{buffered as octets_held}
 use Rattle.kernel.specs.Errors.{of_exec}
 use Rattle.kernel.specs.declared.errors.ExecError.{ExecError}
@@ -13,21 +15,25 @@ use Rattle.kernel.specs.declared.errors.ExecError.TheVariants.{Memory}
 use Rattle.std.proofs.lemmas.Slice.Eq.{bytes_eq-Decides}
 use Rattle.model.specs.Stream.{Octets}
 use Rattle.model.specs.Service.{mode_of}
+use Rattle.model.specs.Spool.{Spool}
 use Rattle.model.specs.declared.change.Change.{Change}
 use Rattle.model.specs.declared.message.Message.{Message}
 use Rattle.model.specs.declared.message.Mark.{Mark}
 use Rattle.model.specs.declared.message.Mark.TheVariants as mark
 use Rattle.model.specs.declared.message.Mode.{Mode}
-use Rattle.spool.specs.View.{SpoolView}
-use Rattle.spool.specs.View as changed
-use Rattle.spool.specs.Dirty.{is_among}
-use Rattle.std.specs.List.{list_any}
+use Rattle.serving.specs.Served.{lacks_room_for}
+use Rattle.spool_files.specs.View.{SpoolView}
+use Rattle.spool_files.specs.View as changed
+use Rattle.std.specs.Cmp.{both_ways}
+use Rattle.std.specs.List.{Contains}
+use Rattle.volume.specs.Volume.{Differs}
 use Rattle.kernel.specs.Kernel.{KernelView, Seat, Refusal, NoSession, LaterOut, LaterDirty, Dirties, Executed, Execs, Tested, answered_by, exec_refusal, first_failing, is_block, is_dirty, mark_for, mode_at, seat_of, buffered, with_seat}
 use Rattle.kernel.specs.Kept.{RiseFrom}
 use Rattle.kernel.specs.Serving.{Grows, answer_in, mark_in}
 use Rattle.kernel.specs.Stored.{kernel_of}
 use Rattle.kernel.proofs.KernelLaws.{grown, mode_found, only_blocks_change}
 use Rattle.kernel.proofs.SeatsLaws.{RiseFrom-set, find_at, with_seat_set}
+use Rattle.kernel.proofs.TakingLaws.{among, contained}
 
 -- ---- tests in their order
 
@@ -71,27 +77,48 @@ same_dirties s d f h j seats seats' =
       few = omega arith;
     }
 
--- equality of numbers as a test goes both ways
-eqb-turned : (k n : ℕ) → (k == n) ≡ (n == k)
-eqb-turned k n = go (k == n) (n == k) refl refl
-  where
-    go : (a b : Bool) → (k == n) ≡ a → (n == k) ≡ b → (k == n) ≡ (n == k)
-    go true b is other = is ∙ sym (eq-eqb n k (sym (eqb-true k n is)))
-    go false true is other = absurd (eqb-false k n is (sym (eqb-true n k other)))
-    go false false is other = is ∙ sym other
+-- the test for another block
+is_other : (xs ys : Octets) → xs ≢ ys → not (bytes_eq xs ys) ≡ true
+is_other xs ys other = go (bytes_eq xs ys) refl where
+  go : (b : Bool) → bytes_eq xs ys ≡ b → not b ≡ true
+  go true is = absurd (other ((bytes_eq-Decides xs ys).0 is))
+  go false is = refl
 
-any_turned : (k : ℕ) (numbers : List ℕ) → is_among k numbers ≡ list_any (λ (n : ℕ). n == k) numbers
-any_turned k [] = refl
-any_turned k (n ∷ numbers) = (λ i. eqb-turned k n i || any_turned k numbers i)
+differ : (xs ys : Octets) → not (bytes_eq xs ys) ≡ true → xs ≢ ys
+differ xs ys is same = absurd (cc (is, (bytes_eq-Decides xs ys).1 same))
+
+-- one of two tests passes
+one_of : (a b : Bool) → (a || b) ≡ true → (a ≡ true) ⊎ (b ≡ true)
+one_of true b is = inl refl
+one_of false b is = inr is
 
 -- the dirty blocks as the spool says them
-pub changed_dirties : (s s' : SpoolView) (d : ℕ) (f : Option ℕ) (h : Bool) (j : ℕ) (seats seats' : List Seat) → changed.Dirties s s' → Dirties (kernel_of s d f h j seats) (kernel_of s' d f h j seats')
+pub changed_dirties : (s s' : SpoolView) (d : ℕ) (f : Option ℕ) (h : Bool) (j : ℕ) (seats seats' : List Seat) → changed.Dirties s.blocks s'.blocks s.dirty s'.dirty
+    → Dirties (kernel_of s d f h j seats) (kernel_of s' d f h j seats')
 changed_dirties s s' d f h j seats seats' is =
     record {
       size = is.size;
-      exactly = λ k inside. sym (any_turned k s'.dirty) ∙ (is.exactly k inside ∙ ap (λ (b : Bool). b || not (bytes_eq (slice_index_or s.blocks k []) (slice_index_or s'.blocks k []))) (any_turned k s.dirty));
+      exactly = λ k inside. both_ways (is_dirty new k) (is_dirty old k || other k) (λ now. from k ((is.exactly k).0 (contained k s'.dirty now))) (λ said. among k s'.dirty ((is.exactly k).1 (to k said)));
       few = is.few;
-    }
+    } where
+      old : KernelView
+      old = kernel_of s d f h j seats
+
+      new : KernelView
+      new = kernel_of s' d f h j seats'
+
+      other : ℕ → Bool
+      other k = not (bytes_eq (slice_index_or s.blocks k []) (slice_index_or s'.blocks k []))
+
+      from : (k : ℕ) → Contains s.dirty k ⊎ Differs s.blocks s'.blocks k → (is_dirty old k || other k) ≡ true
+      from k (inl was) = ap (λ (b : Bool). b || other k) (among k s.dirty was)
+      from k (inr differs) = ap (λ (b : Bool). is_dirty old k || b) (is_other (slice_index_or s.blocks k []) (slice_index_or s'.blocks k []) differs) ∙ or-true (is_dirty old k)
+
+      to : (k : ℕ) → (is_dirty old k || other k) ≡ true → Contains s.dirty k ⊎ Differs s.blocks s'.blocks k
+      to k said = elim (one_of (is_dirty old k) (other k) said) [
+        | inl was ↦ inl (contained k s.dirty was)
+        | inr now ↦ inr (differ (slice_index_or s.blocks k []) (slice_index_or s'.blocks k []) now)
+      ]
 
 grown_dirties : (s s' : SpoolView) (d : ℕ) (f : Option ℕ) (h : Bool) (j : ℕ) (seats seats' : List Seat) (c : Option Change) → Grows s s' c → Dirties (kernel_of s d f h j seats) (kernel_of s' d f h j seats')
 grown_dirties s s' d f h j seats seats' None is = subst (λ (r : SpoolView). Dirties (kernel_of s d f h j seats) (kernel_of r d f h j seats')) (sym is) (same_dirties s d f h j seats seats')
@@ -183,10 +210,17 @@ module _ (s : SpoolView) (d : ℕ) (f : Option ℕ) (h : Bool) (j : ℕ) (seats 
 
 -- the mark, where the kernel is halted and where it is not
 pub stopped_mark : (s : SpoolView) (d : ℕ) (f : Option ℕ) (h : Bool) (j : ℕ) (seats : List Seat) (x : Session) (m : Message) (t : ℕ) → h ≡ true → mark.Stopped ≡ mark_for (kernel_of s d f h j seats) x m t
-stopped_mark s d f h j seats x m t is = sym (ap (λ (b : Bool). if b then mark.Stopped else mark_in s x m t) is)
+stopped_mark s d f h j seats x m t is =
+    sym (ap (λ (b : Bool). if b then mark.Stopped else if is_long s.host s.changes x m then mark.Long else if is_full (length s.blocks) s.inodes s.changes (answer_in s x m t mark.Served).change then mark.Full else mark.Served) is)
+
+room_is : (blocks inodes : ℕ) (S : Spool) (change : Option Change) → lacks_room_for (λ c. is_full blocks inodes S (Some c)) change ≡ is_full blocks inodes S change
+room_is blocks inodes S None = refl
+room_is blocks inodes S (Some c) = refl
 
 pub served_mark : (s : SpoolView) (d : ℕ) (f : Option ℕ) (h : Bool) (j : ℕ) (seats : List Seat) (x : Session) (m : Message) (t : ℕ) → h ≡ false → mark_in s x m t ≡ mark_for (kernel_of s d f h j seats) x m t
-served_mark s d f h j seats x m t is = sym (ap (λ (b : Bool). if b then mark.Stopped else mark_in s x m t) is)
+served_mark s d f h j seats x m t is =
+    ap (λ (b : Bool). if is_long s.host s.changes x m then mark.Long else if b then mark.Full else mark.Served) (room_is (length s.blocks) s.inodes s.changes (answer_in s x m t mark.Served).change)
+    ∙ sym (ap (λ (b : Bool). if b then mark.Stopped else if is_long s.host s.changes x m then mark.Long else if is_full (length s.blocks) s.inodes s.changes (answer_in s x m t mark.Served).change then mark.Full else mark.Served) is)
 
 -- a session that is told that the service ends changes nothing
 pub stopped_stays : (s : SpoolView) (x : Session) (m : Message) (t : ℕ) → Grows s s (answer_in s x m t mark.Stopped).change

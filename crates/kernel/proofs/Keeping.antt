@@ -6,7 +6,9 @@ use Rattle.std.specs.Option.{option_to_list}
 use Rattle.std.proofs.lemmas.List.{take-append-le, take_all, take_at}
 use Rattle.model.specs.Stream.{Octets}
 use Rattle.model.specs.Spool.{Spool, first}
-use Rattle.model.specs.News.{new_session, answer, reads, mode_of}
+use Rattle.model.specs.Answer.{answer, new_session}
+use Rattle.model.specs.Reads.{reads}
+use Rattle.model.specs.Service.{mode_of}
 use Rattle.model.specs.declared.change.Change.{Change}
 use Rattle.model.specs.declared.message.Message.{Message}
 use Rattle.model.specs.declared.message.Mark.{Mark}

@@ -1,14 +1,17 @@
 -- Each call keeps what the lock keeps.
-use Rattle.std.proofs.Common.{◌≡◌, ◌≢◌, inl, ℕ, zero, suc, ◌+◌, ◌≤◌, ◌<◌, ◌==◌, Bool, true, false, List, [], ◌∷◌, ◌++◌, length, refl, ap, sym, ◌∙◌, subst, arith, get_or, set, length-append, append-nil, eq-eqb}
-use Rattle.std.specs.Prelude.{Result, Ok, Err, MatchResult, find, take, drop, Option, Some, None, is_some, IsSome, IfSome, filter, not, slice_get, All, if◌then◌else◌}
+use Rattle.std.proofs.Common.{◌≡◌, ◌≢◌, ◌⊎◌, inl, inr, ℕ, zero, suc, ◌+◌, ◌≤◌, ◌<◌, ◌==◌, Bool, true, false, List, [], ◌∷◌, ◌++◌, length, refl, ap, sym, ◌∙◌, subst, arith, get_or, set, length-append, append-nil, eq-eqb}
+use Rattle.std.specs.Prelude.{find, take, drop, Option, Some, None, is_some, IsSome, IfSome, filter, not, slice_get, All, if◌then◌else◌}
 use Rattle.std.specs.Option.{option_to_list}
-use Rattle.std.proofs.lemmas.List.{length-set}
-use Rattle.std.proofs.lemmas.List.Elements.{All-head, All-tail, All-weaker, All-push, All-set, All-filter}
+use Rattle.std.specs.List.{Contains}
+use Rattle.std.proofs.lemmas.Bool.{cases_lt}
+use Rattle.std.proofs.lemmas.List.{get_or_default, get_or_past, length-set}
+use Rattle.std.proofs.lemmas.List.Elements.{All-from_get_or, All-get_or, All-head, All-tail, All-weaker, All-push, All-set, All-filter}
 use Rattle.model.specs.Stream.{Octets}
 use Rattle.model.specs.Spool.{Spool}
 use Rattle.model.specs.Replies.{greeting}
 use Rattle.model.specs.Service.{mode_of}
-use Rattle.model.proofs.NewsLaws.{lawful, only_blocks_change as its_changes}
+use Rattle.model.proofs.LawfulLaws.{session_stays}
+use Rattle.model.proofs.ServiceLaws.{news_lawful as lawful, news_blocks_change as its_changes}
 use Rattle.model.specs.declared.change.Change.{Change}
 use Rattle.model.specs.declared.message.Message.{Message}
 use Rattle.model.specs.declared.message.Message.TheVariants.{Line, Block, TooLong}
@@ -16,7 +19,8 @@ use Rattle.model.specs.declared.message.Mark.{Mark}
 use Rattle.model.specs.declared.message.Mode.{Mode}
 use Rattle.model.specs.declared.session.Session.{Session}
 use Rattle.outbox.specs.Queue.{Held}
-use Rattle.spool.specs.View.{SpoolView, Adds}
+use Rattle.spool_files.specs.View.{Dirties, IsSpool, SpoolView}
+use Rattle.volume.specs.Volume.{Differs}
 use Rattle.kernel.specs.Kernel.{KernelView, Seat, answered_by, is_block, mode_at, new_seat, ready}
 use Rattle.kernel.specs.Kept.{IsKept, IsSeat, RiseFrom, StillAwaits}
 use Rattle.kernel.specs.Serving.{answer_in, Grows}
@@ -50,20 +54,30 @@ flying_more : (f : Option ℕ) (d n m : ℕ) → n ≤ m → IfSome f (λ last. 
 flying_more None d n m le h = tt
 flying_more (Some last) d n m le h = (h.0, omega (arith, h.1))
 
+-- no block behind the last is dirty
+all_below : (s s' : SpoolView) → Dirties s.blocks s'.blocks s.dirty s'.dirty → All (λ n. n < length s.blocks) s.dirty → All (λ n. n < length s'.blocks) s'.dirty
+all_below s s' dirties below = All-from_get_or (λ n. n < length s'.blocks) s'.dirty 0 (λ i low. at (get_or s'.dirty i 0) ((dirties.exactly (get_or s'.dirty i 0)).0 (i, low, get_or_default s'.dirty i (get_or s'.dirty i 0) 0 low))) where
+  at : (k : ℕ) → Contains s.dirty k ⊎ Differs s.blocks s'.blocks k → k < length s'.blocks
+  at k (inl was) = omega (arith, dirties.size, subst (λ n. n < length s.blocks) (get_or_default s.dirty was.0 0 k was.1 ∙ was.2) (All-get_or (λ n. n < length s.blocks) s.dirty was.0 0 was.1 below))
+  at k (inr differs) = elim (cases_lt k (length s'.blocks)) [
+    | inl low ↦ low
+    | inr high ↦ absurd (differs (get_or_past s.blocks k [] (omega (arith, high, dirties.size)) ∙ sym (get_or_past s'.blocks k [] (omega (arith, high)))))
+  ]
+
 -- all but the sessions, after a change or none
-pub kept_grown : (s s' : SpoolView) (d : ℕ) (f : Option ℕ) (halted : Bool) (j : ℕ) (seats : List Seat) (c : Option Change) → (IsSome c → length s.dirty ≤ 256) → Grows s s' c
+pub kept_grown : (s s' : SpoolView) (d : ℕ) (f : Option ℕ) (halted : Bool) (j : ℕ) (seats : List Seat) (c : Option Change) → (IsSome c → length s.dirty ≤ 256) → (IsSome c → IsSpool s') → Grows s s' c
     → IsKept (kernel_of s d f halted j seats) → IsKept (kernel_of s' d f halted j seats)
-kept_grown s s' d f halted j seats None room is h = subst (λ (r : SpoolView). IsKept (kernel_of r d f halted j seats)) (sym is) h
-kept_grown s s' d f halted j seats (Some c) room adds h =
+kept_grown s s' d f halted j seats None room sound is h = subst (λ (r : SpoolView). IsKept (kernel_of r d f halted j seats)) (sym is) h
+kept_grown s s' d f halted j seats (Some c) room sound adds h =
     let size : length s'.changes ≡ length s.changes + 1 = omega (arith, ap length adds.changes, length-append s.changes (c ∷ [])) in
     let clean = room refl in
     record {
-      cache = adds.sound.held;
+      cache = (sound refl).held;
       durable = omega (arith, h.durable);
       flying = flying_more f d (length s.changes) (length s'.changes) (omega arith) h.flying;
       few_dirty = omega (arith, adds.dirties.few);
-      below = adds.sound.below;
-      distinct = adds.sound.distinct;
+      below = all_below s s' adds.dirties h.below;
+      distinct = adds.dirties.distinct;
       few_seats = h.few_seats;
       seats = subst (λ (p : Octets × Spool). All (IsSeat p.0 p.1 j) seats) (λ i. (sym adds.host i, sym adds.changes i)) (seats_more s.host s.changes (c ∷ []) j seats h.seats);
       rising = h.rising;
@@ -80,16 +94,16 @@ filled [] h = absurd (h refl)
 filled (x ∷ xs) h = omega arith
 
 pub kept_served : (s s' : SpoolView) (d : ℕ) (f : Option ℕ) (halted : Bool) (j : ℕ) (seats : List Seat) (at : ℕ) (seat seat' : Seat) (m : Message) (t : ℕ) (mark : Mark)
-    → slice_get seats at ≡ Some seat → IsSome (mode_of seat.session.awaits) → (IsSome (answer_in s seat.session m t mark).change → length s.dirty ≤ 256) → Grows s s' (answer_in s seat.session m t mark).change
+    → slice_get seats at ≡ Some seat → IsSome (mode_of seat.session.awaits) → (IsSome (answer_in s seat.session m t mark).change → length s.dirty ≤ 256) → (IsSome (answer_in s seat.session m t mark).change → IsSpool s') → Grows s s' (answer_in s seat.session m t mark).change
     → seat' ≡ answered_by s.host s.changes m t mark seat → IsKept (kernel_of s d f halted j seats) → IsKept (kernel_of s' d f halted j (set seats at seat'))
-kept_served s s' d f halted j seats at seat seat' m t mark place awaited room grows is h =
-    let k = kept_grown s s' d f halted j seats (answer_in s seat.session m t mark).change room grows h in
+kept_served s s' d f halted j seats at seat seat' m t mark place awaited room sound grows is h =
+    let k = kept_grown s s' d f halted j seats (answer_in s seat.session m t mark).change room sound grows h in
     let g = grown s s' (answer_in s seat.session m t mark).change grows in
     let was = all_at (IsSeat s.host s.changes j) at seats seat h.seats place in
     let full = filled (answer_in s seat.session m t mark).reply ((lawful s.host).replies s.changes seat.session m t mark) in
     let outputs = SeatIsKept-answered s.host s.changes seat.session m t mark seat.given seat.held awaited full was.outputs in
     let now : IsSeat s.host (s.changes ++ option_to_list (answer_in s seat.session m t mark).change) j (answered_by s.host s.changes m t mark seat) =
-    record { outputs = outputs; awaits = some_awaits seat.held _ _; some = was.some; spent = was.spent } in
+    record { outputs = outputs; awaits = some_awaits seat.held _ _; lawful = session_stays s.host s.changes seat.session m t mark was.lawful; some = was.some; spent = was.spent } in
     let here : IsSeat s'.host s'.changes j seat' = subst (λ (p : Octets × Spool × Seat). IsSeat p.0 p.1 j p.2) (λ i. (sym g.host i, sym g.changes i, sym is i)) now in
     record {
       cache = k.cache;
@@ -120,6 +134,7 @@ new_is_kept host S j =
     record {
       outputs = inl (0, record { cut_within = filled (greeting host) (lawful host).greets; octets = refl; dependency = refl; ends = refl; first_output = refl }, refl);
       awaits = tt;
+      lawful = tt;
       some = omega arith;
       spent = omega arith;
     }
@@ -137,7 +152,7 @@ pub kept_joined : (s : SpoolView) (d : ℕ) (f : Option ℕ) (halted : Bool) (j 
 kept_joined s d f halted j seats new is few h =
     let this : IsSeat s.host s.changes (j + 1) new = subst (IsSeat s.host s.changes (j + 1)) (sym is) (new_is_kept s.host s.changes j) in
     let others : All (IsSeat s.host s.changes (j + 1)) seats =
-    All-weaker (IsSeat s.host s.changes j) (IsSeat s.host s.changes (j + 1)) (λ seat k. record { outputs = k.outputs; awaits = k.awaits; some = k.some; spent = omega (arith, k.spent) }) seats h.seats in
+    All-weaker (IsSeat s.host s.changes j) (IsSeat s.host s.changes (j + 1)) (λ seat k. record { outputs = k.outputs; awaits = k.awaits; lawful = k.lawful; some = k.some; spent = omega (arith, k.spent) }) seats h.seats in
     record {
       cache = h.cache;
       durable = h.durable;
@@ -177,12 +192,6 @@ kept_released s d f halted j seats h =
       seats = ready_seats s.host s.changes j d 65536 seats h.seats;
       rising = ready_rises 0 d 65536 seats h.rising;
     }
-
--- after a change that was accepted, or refused with nothing changed
-pub kept_added : (E : Type 0) (R : Type 0) (Q : E → Type 0) (T : ℕ → Type 0) (s s' : SpoolView) (d : ℕ) (f : Option ℕ) (halted : Bool) (j : ℕ) (seats : List Seat) (c : Change) (result : Result ℕ E)
-    → MatchResult result (λ n. R × (T n × Adds s s' c)) (λ e. Q e × (s' ≡ s)) → length s.dirty ≤ 256 → IsKept (kernel_of s d f halted j seats) → IsKept (kernel_of s' d f halted j seats)
-kept_added E R Q T s s' d f halted j seats c (Ok n) h few k = kept_grown s s' d f halted j seats (Some c) (λ _. few) h.1.1 k
-kept_added E R Q T s s' d f halted j seats c (Err e) h few k = subst (λ (r : SpoolView). IsKept (kernel_of r d f halted j seats)) (sym h.1) k
 
 -- a read gives the session at a place
 pub same_place : (at : ℕ) (seats : List Seat) (a b : Seat) → slice_get seats at ≡ Some b → a ≡ get_or seats at a → a ≡ b

@@ -1,14 +1,10 @@
 pub mod Keeping
 pub mod Releasing
-pub mod ServeLaws
 pub mod SeatLaws
 pub mod SeatsLaws
 pub mod Rest
 pub mod KernelLaws
 pub mod TakingLaws
 pub mod ExecLaws
-pub mod OneSpool
-pub mod AnImage
-pub mod LabelLaws
-pub mod Reading
 pub mod AdminLaws
+pub mod LabelLaws

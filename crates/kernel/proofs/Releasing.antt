@@ -6,7 +6,9 @@ use Rattle.std.proofs.lemmas.List.Elements.{All-cons, All-head, All-tail}
 use borrow.Author.Tests.{ltb-true}
 use Rattle.model.specs.Stream.{Octets}
 use Rattle.model.specs.Spool.{Spool}
-use Rattle.model.specs.News.{greeting, new_session, mode_of}
+use Rattle.model.specs.Answer.{new_session}
+use Rattle.model.specs.Replies.{greeting}
+use Rattle.model.specs.Service.{mode_of}
 use Rattle.model.specs.declared.session.Session.{Session}
 use Rattle.outbox.specs.Queue.{Held, Giving, give, nothing_more, cut_at, behind}
 use Rattle.kernel.specs.Kernel.{Seat, ready}
@@ -136,7 +138,7 @@ module _ (host : Octets) (S : Spool) where
       go : (ended : Bool) → (give p room seat.given seat.held).ended ≡ ended → GivesKept (give p room seat.given seat.held) seat.session → All (IsSeat host S joined) (ready p (give p room seat.given seat.held).room seats).seats
           → All (IsSeat host S joined) (if ended then (ready p (give p room seat.given seat.held).room seats).seats else record { number = seat.number; session = seat.session; given = (give p room seat.given seat.held).given; held = (give p room seat.given seat.held).held } ∷ (ready p (give p room seat.given seat.held).room seats).seats)
       go true is k later = later
-      go false is k later = All-cons (IsSeat host S joined) _ _ (record { outputs = k.outputs; awaits = k.awaits is; some = this.some; spent = this.spent }) later
+      go false is k later = All-cons (IsSeat host S joined) _ _ (record { outputs = k.outputs; awaits = k.awaits is; lawful = this.lawful; some = this.some; spent = this.spent }) later
 
 -- fewer sessions rise too
 pub RiseFrom-lower : (m n : ℕ) (seats : List Seat) → m ≤ n → RiseFrom n seats → RiseFrom m seats

@@ -1,26 +1,28 @@
 -- A session after its reply.
-use Rattle.std.proofs.Common.{◌≡◌, ℕ, List, [], ◌∷◌, ◌++◌, refl, ap, ◌∙◌}
+use Rattle.std.proofs.Common.{◌≡◌, ℕ, List, [], ◌∷◌, ◌++◌, refl, ◌∙◌}
 use Rattle.std.specs.Prelude.{Bool, true, false, not, max, Option, Some, None, is_none, is_some}
 use Rattle.model.specs.Stream.{Octets}
 use Rattle.model.specs.Spool.{Spool}
-use Rattle.model.specs.News.{answer, reads}
+use Rattle.model.specs.Answer.{answer, awaiting, says}
+use Rattle.model.specs.Reads.{reads}
 use Rattle.model.specs.Service.{mode_of}
 use Rattle.model.specs.declared.message.Message.{Message}
 use Rattle.model.specs.declared.message.Mark.{Mark}
 use Rattle.model.specs.Replies.{service_ends}
 use Rattle.model.specs.declared.message.Mark.TheVariants.{Stopped}
-use Rattle.model.specs.declared.session.Answer.{Answer}
 use Rattle.model.specs.declared.session.Awaits.TheVariants.{Nothing}
 use Rattle.model.specs.declared.session.Session.{Session}
-use Rattle.model.proofs.NewsLaws.{stopped_answer}
+use Rattle.model.proofs.ServiceLaws.{news_stopped as stopped_answer}
 use Rattle.outbox.specs.Queue.{Held, last_dependency}
-use Rattle.spool.specs.View.{SpoolView}
 use Rattle.kernel.specs.Kernel.{Seat, answered_by}
-use Rattle.kernel.specs.Serving.{answer_in, turned}
 
--- the answer where the kernel is halted
-pub stopped_says : (s : SpoolView) (x : Session) (m : Message) (t : ℕ) → ((answer_in s x m t Stopped).next ≡ turned x (Some Nothing)) × ((answer_in s x m t Stopped).reply ≡ service_ends)
-stopped_says s x m t = let said = stopped_answer s.host s.changes x m t in (ap (λ (a : Answer). a.next) said, ap (λ (a : Answer). a.reply) said)
+-- the answer where the kernel is halted, and what it reads
+pub stopped_is : (host : Octets) (S : Spool) (x : Session) (m : Message) (t : ℕ) → answer host S x m t Stopped ≡ says (awaiting x Nothing) service_ends
+stopped_is host S x m t = stopped_answer host S x m t
+
+pub stopped_reads : (host : Octets) (S : Spool) (x : Session) (m : Message) (t : ℕ) → reads host S x m t Stopped ≡ 0
+unfolding reads
+stopped_reads host S x m t = refl
 
 -- a session with one output more, as the answer leaves it
 pub answered_is : (host : Octets) (S : Spool) (m : Message) (t : ℕ) (mark : Mark) (before after : Seat) (octets : List ℕ) (dependency : ℕ) → after.number ≡ before.number → after.given ≡ before.given

@@ -95,4 +95,4 @@ RiseFrom-filter p n (first ∷ seats) rise = go (p first) (RiseFrom-filter p fir
 pub seats_more : (host : Octets) (S more : Spool) (joined : ℕ) (seats : List Seat) → All (IsSeat host S joined) seats → All (IsSeat host (S ++ more) joined) seats
 seats_more host S more joined seats h =
     All-weaker (IsSeat host S joined) (IsSeat host (S ++ more) joined)
-    (λ seat k. record { outputs = SeatIsKept-more host S more seat.given seat.held seat.session k.outputs; awaits = k.awaits; some = k.some; spent = k.spent }) seats h
+    (λ seat k. record { outputs = SeatIsKept-more host S more seat.given seat.held seat.session k.outputs; awaits = k.awaits; lawful = k.lawful; some = k.some; spent = k.spent }) seats h

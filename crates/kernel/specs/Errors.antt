@@ -7,6 +7,8 @@ use Rattle.kernel.specs.declared.errors.ExecError.{ExecError}
 use Rattle.kernel.specs.declared.errors.ExecError.TheVariants as exec
 use Rattle.kernel.specs.declared.errors.AdminError.{AdminError}
 use Rattle.kernel.specs.declared.errors.AdminError.TheVariants as admin
+use Rattle.kernel.specs.declared.errors.ExpireError.{ExpireError}
+use Rattle.kernel.specs.declared.errors.ExpireError.TheVariants as expire
 
 -- join: Halted or TooManySessions; its tests give no other
 abbrev pub of_join : Refusal → JoinError
@@ -15,6 +17,7 @@ of_join kernel.TooManySessions = join.TooManySessions
 of_join kernel.LaterDirty = join.Memory
 of_join kernel.LaterOut = join.Memory
 of_join kernel.NoSession = join.Memory
+of_join kernel.NotFound = join.Memory
 of_join kernel.Exists = join.Memory
 of_join kernel.Full = join.Memory
 
@@ -25,6 +28,7 @@ of_exec kernel.LaterOut = exec.LaterOut
 of_exec kernel.LaterDirty = exec.LaterDirty
 of_exec kernel.Halted = exec.Memory
 of_exec kernel.TooManySessions = exec.Memory
+of_exec kernel.NotFound = exec.Memory
 of_exec kernel.Exists = exec.Memory
 of_exec kernel.Full = exec.Memory
 
@@ -32,8 +36,20 @@ of_exec kernel.Full = exec.Memory
 abbrev pub of_admin : Refusal → AdminError
 of_admin kernel.Halted = admin.Halted
 of_admin kernel.LaterDirty = admin.LaterDirty
+of_admin kernel.NotFound = admin.Memory
 of_admin kernel.Exists = admin.Exists
 of_admin kernel.Full = admin.Full
 of_admin kernel.TooManySessions = admin.Memory
 of_admin kernel.LaterOut = admin.Memory
 of_admin kernel.NoSession = admin.Memory
+
+-- expire: Halted, LaterDirty, NotFound or Full; its tests give no other
+abbrev pub of_expire : Refusal → ExpireError
+of_expire kernel.Halted = expire.Halted
+of_expire kernel.LaterDirty = expire.LaterDirty
+of_expire kernel.NotFound = expire.NotFound
+of_expire kernel.Full = expire.Full
+of_expire kernel.TooManySessions = expire.Memory
+of_expire kernel.LaterOut = expire.Memory
+of_expire kernel.NoSession = expire.Memory
+of_expire kernel.Exists = expire.Memory

@@ -3,7 +3,12 @@ use Rattle.std.specs.Prelude.{◌≡◌, ◌⊎◌, ℕ, ◌+◌, ◌≤◌, ◌
 use Rattle.std.specs.Option.{option_to_list}
 use Rattle.model.specs.Stream.{Octets}
 use Rattle.model.specs.Spool.{Spool, first}
-use Rattle.model.specs.News.{greeting, new_session, answer, reads, mode_of, Holds}
+use Rattle.model.specs.Answer.{answer, new_session}
+use Rattle.model.specs.Lawful.{IsLawfulSession}
+use Rattle.model.specs.Layout.{Holds}
+use Rattle.model.specs.Reads.{reads}
+use Rattle.model.specs.Replies.{greeting}
+use Rattle.model.specs.Service.{mode_of}
 use Rattle.model.specs.Volume.{AreDistinct}
 use Rattle.model.specs.declared.change.Change.{Change}
 use Rattle.model.specs.declared.message.Message.{Message}
@@ -74,6 +79,8 @@ StillAwaits (held ∷ rest) session = Unit {0}
 pub record IsSeat (host : Octets) (S : Spool) (joined : ℕ) (seat : Seat) : Type 0 where
   pub outputs : SeatIsKept host S seat.given seat.held seat.session
   pub awaits : StillAwaits seat.held seat.session
+  -- an article that it awaits has no id of the host's own
+  pub lawful : IsLawfulSession host seat.session
   pub some : 1 ≤ seat.number
   pub spent : seat.number ≤ joined
 

@@ -4,7 +4,11 @@ use Rattle.std.specs.List.{list_any}
 use Rattle.std.specs.Option.{option_to_list}
 use Rattle.model.specs.Stream.{Octets}
 use Rattle.model.specs.Spool.{Spool, is_here}
-use Rattle.model.specs.News.{greeting, new_session, answer, reads, is_long, is_full, mode_of}
+use Rattle.model.specs.Answer.{answer, is_long, new_session}
+use Rattle.model.specs.Reads.{reads}
+use Rattle.model.specs.Replies.{greeting}
+use Rattle.model.specs.Room.{is_full}
+use Rattle.model.specs.Service.{mode_of}
 use Rattle.model.specs.Volume.{laid_over, AreDistinct}
 use Rattle.model.specs.declared.change.Change.{Change}
 use Rattle.model.specs.declared.change.Change.TheVariants as change
@@ -15,6 +19,7 @@ use Rattle.model.specs.declared.message.Mark.TheVariants as mark
 use Rattle.model.specs.declared.message.Mode.{Mode}
 use Rattle.model.specs.declared.message.Mode.TheVariants as mode
 use Rattle.model.specs.declared.session.Session.{Session}
+use Rattle.spool_files.specs.Refusals.{has_number}
 use Rattle.outbox.specs.Queue.{Held, Giving, Entry, buffered as octets_held, last_dependency, give, entry_of, octets_in}
 
 -- a session that is there
@@ -51,6 +56,7 @@ pub data Refusal : Type 0 where
   LaterOut : Refusal
   NoSession : Refusal
   Exists : Refusal
+  NotFound : Refusal
   Full : Refusal
 
 abbrev pub first_failing : List (Bool × Refusal) → Option Refusal
@@ -246,7 +252,7 @@ pub record Execs (old new : KernelView) (number : ℕ) (m : Message) (t : ℕ) (
   pub executed : Executed old new seat m t answered.1
   pub reads_next : answered.0 ≡ mode_at new number
 
--- the tests of admin that come before any growth
+-- the tests of admin and expire that come before any growth
 abbrev pub early_refusal : KernelView → Option Refusal
 early_refusal kernel = first_failing ((kernel.halted, Halted) ∷ (nat_lt 256 (length kernel.dirty), LaterDirty) ∷ [])
 
@@ -263,6 +269,20 @@ admin_refusal_of kernel c =
     (kernel.halted, Halted) ∷ (nat_lt 256 (length kernel.dirty), LaterDirty) ∷ (makes_again kernel.spool c, Exists)
     ∷ (is_full (length kernel.blocks) kernel.inodes kernel.spool (Some c), Full) ∷ [])
 
+-- whether the change takes out a number that the group doesn't have
+abbrev pub takes_none : Spool → Change → Bool
+takes_none S (change.Group name status description moment) = false
+takes_none S (change.Article text groups moment) = false
+takes_none S (change.Expire group number) = not (has_number S group number)
+
+-- all tests of expire: the group isn't here or doesn't have the number, or there is no room for the change
+abbrev pub expire_refusal_of : KernelView → Change → Option Refusal
+expire_refusal_of kernel c =
+    first_failing (
+    (kernel.halted, Halted) ∷ (nat_lt 256 (length kernel.dirty), LaterDirty) ∷ (takes_none kernel.spool c, NotFound)
+    ∷ (is_full (length kernel.blocks) kernel.inodes kernel.spool (Some c), Full) ∷ [])
+
+-- the operator's change is accepted: a group made, or articles taken out of one
 pub record Administers (old new : KernelView) (change : Change) (serial : ℕ) : Type 0 where
   pub serial_is : serial ≡ length old.spool + 1
   pub spool : new.spool ≡ old.spool ++ change ∷ []

@@ -3,6 +3,5 @@ pub mod Errors
 pub mod Kept
 pub mod Serving
 pub mod Stored
-pub mod Laws
 pub mod Label
 pub mod Opening

@@ -4,7 +4,7 @@ use Rattle.disk.specs.Device.{Device, Elapses}
 use Rattle.journal.specs.Journal.{HasWholeBlocks, IsIdle, IsSameBatch, JournalView, LeavesAdmitted, LeftAdmitted}
 use Rattle.model.specs.Stream.{Octets}
 use Rattle.model.specs.Layout.{IsLabel}
-use Rattle.model.specs.News.{Holds}
+use Rattle.model.specs.Layout.{Holds}
 use Rattle.model.specs.Spool.{Spool}
 use Rattle.kernel.specs.Kernel.{KernelView}
 

@@ -1,6 +1,6 @@
 -- The kernel's view, from the parts that it has.
 use Rattle.std.specs.Prelude.{ℕ, Bool, List, Option}
-use Rattle.spool.specs.View.{SpoolView}
+use Rattle.spool_files.specs.View.{SpoolView}
 use Rattle.kernel.specs.Kernel.{KernelView, Seat}
 
 abbrev pub kernel_of : SpoolView → ℕ → Option ℕ → Bool → ℕ → List Seat → KernelView

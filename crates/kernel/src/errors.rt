@@ -48,6 +48,25 @@ pub enum AdminError {
     Memory,
 }
 
+/// Why articles are not taken out of a group.
+#[derive(Clone, Copy, Debug, Drop, PartialEq, Eq, Error)]
+pub enum ExpireError {
+    /// An earlier device fault has halted the kernel.
+    #[error("E4 Halted")]
+    Halted,
+    /// More than 256 blocks are dirty: ask again after a take.
+    #[error("E8 LaterDirty")]
+    LaterDirty,
+    /// The group isn't here, or the number is below its lowest or above its highest.
+    #[error("E12 NotFound")]
+    NotFound,
+    /// There is no room for the change.
+    #[error("E6 Full")]
+    Full,
+    #[error("E2 Memory")]
+    Memory,
+}
+
 /// The ticket isn't the batch in flight, or the kernel is halted.
 #[derive(Clone, Copy, Debug, Drop, PartialEq, Eq, Error)]
 #[error("E13 Stale")]

@@ -3,33 +3,34 @@
 //! `specs/Kept.antt` what it keeps.
 #![tactic(auto)]
 
-ghost use Rattle.std.specs.Prelude.{◌&&◌, nat_lt, ◌≡◌, ◌≢◌, ◌⊎◌, ◌↔◌, ◌+◌, ◌*◌, ◌<◌, ◌≤◌, Some, IsSome, IsNone, IsTrue, IfOk, IfSome, OnErr, length, true, false, is_some, option_map, slice_get};
+ghost use Rattle.std.specs.Prelude.{[], None, ◌&&◌, nat_lt, ◌≡◌, ◌≢◌, ◌⊎◌, ◌↔◌, ◌+◌, ◌*◌, ◌<◌, ◌≤◌, Some, IsSome, IsNone, IsTrue, IfOk, IfSome, OnErr, length, true, false, is_some, option_map, slice_get};
 ghost use Rattle.std.specs.List.{list_all};
-ghost use Rattle.kernel.specs.Errors.{of_join, of_exec, of_admin};
+ghost use Rattle.kernel.specs.Errors.{of_join, of_exec, of_admin, of_expire};
 ghost use Rattle.kernel.specs.Kept.{IsKept};
-ghost use Rattle.kernel.specs.Kernel.{Administers, Execs, FitsMode, Takes, Tested, TestedOrMemory, admin_refusal_of, early_refusal, exec_refusal, has_batch, halted_for_good, is_block, join_refusal, joined, left, made_durable, mode_at, only_tested, ready, released, seat_of, Seat as SeatView};
+ghost use Rattle.kernel.specs.Kernel.{Administers, Execs, FitsMode, Takes, Tested, TestedOrMemory, admin_refusal_of, early_refusal, exec_refusal, expire_refusal_of, has_batch, halted_for_good, is_block, join_refusal, joined, left, made_durable, mode_at, only_tested, ready, released, seat_of, Seat as SeatView};
 ghost use Rattle.model.specs.Calendar.{moment_limit};
 ghost use Rattle.model.specs.Lawful.{is_description_octet};
 ghost use Rattle.model.specs.Volume.{blocks_from};
-ghost use Rattle.model.specs.declared.change.Change.TheVariants.{Group};
+ghost use Rattle.model.specs.declared.change.Change.TheVariants.{Group, Expire};
+ghost use Rattle.kernel.specs.Stored.{kernel_of};
 
 mod errors;
 mod label;
-mod laws;
 mod opening;
 mod seat;
-mod serve;
 
 use crate::seat::{Seat, position, release};
-pub use errors::{AdminError, ExecError, JoinError, Stale};
-pub use laws::{a_new_volume_is_empty, an_image_stands, images_stand_for_one};
+pub use errors::{AdminError, ExecError, ExpireError, JoinError, Stale};
+use lookups::LookUps;
 use model::{Mark, Message, Mode};
 use names::GroupName;
 pub use opening::OpenError;
 use outbox::ReadyBuf;
-use spool::{AddError, BatchBuf, Spool};
+use spool_files::AddError;
+pub use spool_files::Spool;
 use std::alloc::Global;
 use std::marker::Model;
+pub use volume::BatchBuf;
 
 /// Sessions at once.
 pub const SESSIONS: usize = 64;
@@ -93,6 +94,21 @@ impl Model for Kernel {
 }
 
 impl Kernel {
+    /// The kernel of a spool that is on disk: all its changes are durable, and no session is there.
+    pub fn new(alloc: Global, spool: Spool) -> Kernel
+        requires clean { spool.dirty ≡ [] }
+        ensures { result ≡ kernel_of spool (length spool.changes) None false 0 [] }
+    {
+        Kernel {
+            durable: spool.len(),
+            spool,
+            in_flight: None,
+            halted: false,
+            joined: 0,
+            seats: Vec::new(alloc),
+        }
+    }
+
     /// What the kernel keeps, whoever took the lock: each held output is the plain server's reply on a prefix of the
     /// spool, with its dependency, and the cached blocks hold the spool.
     pub fn kept(&self)
@@ -129,7 +145,7 @@ impl Kernel {
     {
         self.may_join()?;
         let number = self.joined + 1;
-        let seat = match Seat::new(alloc, number, self.spool.host().as_slice()) {
+        let seat = match Seat::new(alloc, number, self.spool.host()) {
             Ok(seat) => seat,
             Err(_) => return Err(JoinError::Memory),
         };
@@ -168,7 +184,7 @@ impl Kernel {
             return Err(ExecError::LaterOut);
         }
         if self.halted {
-            let Ok(()) = seat.stop(alloc, &self.spool, message, moment) else {
+            let Ok(()) = seat.stop(alloc) else {
                 return Err(ExecError::Memory);
             };
             return Ok((None, Mark::Stopped));
@@ -179,10 +195,11 @@ impl Kernel {
         let Ok(done) = seat.serve(alloc, &mut self.spool, message, moment) else {
             return Err(ExecError::Memory);
         };
+        self.spool.kept();
         Ok(done)
     }
 
-    /// Whether the operator may make a change now: `Halted` (E4) or `LaterDirty` (E8) where not, tested in that order.
+    /// Whether the operator may make a group now: `Halted` (E4) or `LaterDirty` (E8) where not, tested in that order.
     pub fn may_administer(&self) -> Result<(), AdminError>
         ensures { result ≡ only_tested of_admin (early_refusal self.now) }
     {
@@ -224,6 +241,41 @@ impl Kernel {
             Err(AddError::Full) => return Err(AdminError::Full),
             Err(AddError::Memory) => return Err(AdminError::Memory),
         };
+        self.spool.kept();
+        Ok(serial)
+    }
+
+    /// Whether the operator may take articles out of a group now: `Halted` (E4) or `LaterDirty` (E8) where not, tested in that
+    /// order.
+    pub fn may_expire(&self) -> Result<(), ExpireError>
+        ensures { result ≡ only_tested of_expire (early_refusal self.now) }
+    {
+        if self.halted {
+            return Err(ExpireError::Halted);
+        }
+        if self.spool.dirty_len() > MOST_DIRTY {
+            return Err(ExpireError::LaterDirty);
+        }
+        Ok(())
+    }
+
+    /// The operator takes the articles of a group up to a number out of it, and is told the serial of that change, which says
+    /// nothing of durability. Numbers are not used again.
+    /// Refused as `Halted` (E4), `LaterDirty` (E8), `NotFound` (E12) where the group isn't here or the number is below its
+    /// lowest or above its highest, `Full` (E6) or `Memory` (E2), tested in that order, but `Memory` may come at any growth,
+    /// which is never before the first two; a refusal changes nothing.
+    pub fn expire(&mut self, name: &GroupName, number: u32) -> Result<u64, ExpireError>
+        ensures { let change = Expire name.now number in
+            TestedOrMemory of_expire ExpireError.Memory (early_refusal self.old) (expire_refusal_of self.old change) self.old self.new result (Administers self.old self.new change) }
+    {
+        self.may_expire()?;
+        let serial = match self.spool.expire(name.as_slice(), number) {
+            Ok(serial) => serial,
+            Err(spool_files::ExpireError::NotFound) => return Err(ExpireError::NotFound),
+            Err(spool_files::ExpireError::Full) => return Err(ExpireError::Full),
+            Err(spool_files::ExpireError::Memory) => return Err(ExpireError::Memory),
+        };
+        self.spool.kept();
         Ok(serial)
     }
 
@@ -232,13 +284,14 @@ impl Kernel {
     pub fn take_batch(&mut self, into: &mut BatchBuf) -> Option<Ticket>
         ensures when { IsSome result ↔ IsTrue (has_batch self.old) }
         ensures nothing { IsNone result → (self.new ≡ self.old) × (into.new ≡ into.old) }
-        ensures takes { IfSome result (λ ticket. Takes self.old self.new into.new.numbers (blocks_from 0 (length into.new.numbers) into.new.octets) ticket.last) }
-        ensures size { IsSome result → length into.new.octets ≡ 4096 * length into.new.numbers }
+        ensures takes { IfSome result (λ ticket. Takes self.old self.new into.new.numbers (blocks_from 0 (length into.new.numbers) into.new.images) ticket.last) }
+        ensures size { IsSome result → length into.new.images ≡ 4096 * length into.new.numbers }
     {
         if self.halted || self.in_flight.is_some() || self.spool.dirty_len() == 0 {
             return None;
         }
         let last = self.spool.len();
+        self.spool.kept();
         self.spool.copy_dirty(into);
         self.in_flight = Some(last);
         Some(Ticket { last })

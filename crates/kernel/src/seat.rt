@@ -1,16 +1,21 @@
 //! One session and its outputs.
 
-ghost use Rattle.std.specs.Prelude.{Some, None, IfSome, IsNone, find, slice_get, ◌==◌, ◌≡◌, ◌<◌, ◌≤◌, ◌+◌, ◌^◌, ◌++◌, ◌∷◌, [], max, IfOk, OnErr, OnOk, IsSome, length};
-ghost use Rattle.kernel.specs.Kernel.{FitsMode, Seat as SeatView, answered_by, given_of, new_seat, ready, seat_given};
-ghost use Rattle.kernel.specs.Serving.{SeatServed, turned};
+ghost use Rattle.std.specs.Prelude.{Some, IfSome, IsNone, None, ℕ, find, slice_get, ◌==◌, ◌≡◌, ◌<◌, ◌≤◌, ◌+◌, ◌^◌, ◌++◌, ◌∷◌, [], max, IfOk, OnErr, OnOk, length};
+ghost use Rattle.kernel.specs.Kernel.{Seat as SeatView, answered_by, given_of, new_seat, ready, seat_given};
+ghost use Rattle.kernel.specs.Serving.{SeatServed};
 ghost use Rattle.model.specs.Calendar.{moment_limit};
-ghost use Rattle.model.specs.News.{mode_of};
+ghost use Rattle.model.specs.Lawful.{IsLawfulSession};
+ghost use Rattle.model.specs.Service.{mode_of};
+ghost use Rattle.model.specs.Spool.{Spool as Changes};
+ghost use Rattle.model.specs.Stream.{Octets};
+ghost use Rattle.model.specs.declared.message.Message.{Message as MessageView};
 ghost use Rattle.outbox.specs.Queue.{buffered, entry_of, last_dependency};
 
-use crate::serve::{Answered, Reply, serve, stopped_reads};
-use model::{Awaits, Mark, Message, Mode, Session};
+use model::{Answer, Awaits, Mark, Message, Mode, Session};
 use outbox::{Queue, ReadyBuf};
-use spool::Spool;
+use plain_commands::stopped;
+use replies::{Answered, push_greeting};
+use serving::{Files, Served, serve};
 use std::alloc::{AllocError, Global};
 use std::marker::Model;
 
@@ -35,7 +40,8 @@ impl Seat {
     pub(crate) fn new(alloc: Global, number: u64, host: &[u8]) -> Result<Seat, AllocError>
         ensures { IfOk result (λ seat. seat ≡ new_seat host.now number) }
     {
-        let greeting = session::greeting(alloc, host)?;
+        let mut greeting = Vec::new(alloc);
+        push_greeting(&mut greeting, host)?;
         let mut queue = Queue::new(alloc);
         queue.reserve(1)?;
         queue.push(greeting, 0, false);
@@ -70,29 +76,31 @@ impl Seat {
         self.queue.buffered()
     }
 
-    /// Serves a message. A refusal changes nothing.
-    pub(crate) fn serve(
+    /// Serves a message over a spool that takes changes. A refusal changes nothing.
+    pub(crate) fn serve<S: Files>(
         &mut self,
         alloc: Global,
-        spool: &mut Spool,
+        spool: &mut S,
         message: &Message,
         moment: u64,
     ) -> Result<(Option<Mode>, Mark), AllocError>
-        requires kind { FitsMode (mode_of self.old.session.awaits) message.now }
-        requires awaits { IsSome (mode_of self.old.session.awaits) }
+        requires session { IsLawfulSession (S.host_of spool.old) self.old.session }
         requires moment { moment < moment_limit }
         requires room { buffered self.old.held < 1_048_576 }
-        ensures ok { IfOk result (SeatServed spool.old spool.new self.old self.new message.now moment) }
+        ensures ok { IfOk result (SeatServed (S.host_of spool.old) (S.changes spool.old) (S.lacks_room spool.old) (S.adds spool.old spool.new) (spool.new ≡ spool.old) self.old self.new message.now moment) }
         ensures seat { OnErr result (self.new ≡ self.old) }
         ensures spool { OnErr result (spool.new ≡ spool.old) }
     {
         self.queue.reserve(1)?;
-        let answered = serve(alloc, spool, &self.session, message, moment)?;
-        let Answered { reply, reads } = answered;
-        let Reply { octets, next, mark } = reply;
-        turn(&mut self.session, next);
+        let Served {
+            reply,
+            next,
+            mark,
+            reads,
+        } = serve(alloc, spool, &self.session, message, moment)?;
+        self.session = next;
         let mode = mode_of(&self.session.awaits);
-        hold(&mut self.queue, octets, reads, mode.is_none());
+        hold(&mut self.queue, reply.into_octets(), reads, mode.is_none());
         Ok((mode, mark))
     }
 
@@ -108,31 +116,17 @@ impl Seat {
     }
 
     /// Tells the session that the service ends, whatever its message says. A refusal changes nothing.
-    pub(crate) fn stop(
-        &mut self,
-        alloc: Global,
-        spool: &Spool,
-        message: &Message,
-        moment: u64,
-    ) -> Result<(), AllocError>
+    pub(crate) fn stop(&mut self, alloc: Global) -> Result<(), AllocError>
         requires room { buffered self.old.held < 1_048_576 }
-        ensures ok { OnOk result (self.new ≡ answered_by spool.now.host spool.now.changes message.now moment Mark.Stopped self.old) }
+        ensures ok { OnOk result ((host : Octets) (S : Changes) (m : MessageView) (t : ℕ) → self.new ≡ answered_by host S m t Mark.Stopped self.old) }
         ensures seat { OnErr result (self.new ≡ self.old) }
     {
         self.queue.reserve(1)?;
-        let octets = session::reply_service_ends(alloc)?;
-        turn(&mut self.session, Some(Awaits::Nothing));
-        hold(&mut self.queue, octets, stopped_reads(spool), true);
+        let Answered { answer, reads } = stopped(alloc, &self.session)?;
+        let Answer { reply, next, .. } = answer;
+        self.session = next;
+        hold(&mut self.queue, reply.into_octets(), reads, true);
         Ok(())
-    }
-}
-
-/// The session awaits this from now on, or what it did.
-fn turn(session: &mut Session, next: Option<Awaits>)
-    ensures { session.new ≡ turned session.old next }
-{
-    if let Some(awaits) = next {
-        session.awaits = awaits;
     }
 }
 

@@ -24,7 +24,6 @@ pub mod LawfulLaws
 pub mod AllRead
 pub mod Strings
 pub mod ServiceLaws
-pub mod FirstPathLaws
 pub mod NewsLaws
 pub mod Joined
 pub mod Owning

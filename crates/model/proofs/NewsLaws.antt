@@ -1,5 +1,5 @@
--- The laws of the service that the program serves: today the first path's. Who builds on the service takes its laws from
--- here, so that those of later definitions take their place by this file alone, as the definitions by specs/News.antt.
+-- The laws of the service that the program serves. Who builds on the service takes them from here, as it takes the
+-- definitions from specs/News.antt.
 use Rattle.std.proofs.Common.{◌≡◌, ◌≢◌, ℕ}
 use Rattle.std.specs.Prelude.{None}
 use Rattle.model.specs.Answer.{awaiting, says}
@@ -13,7 +13,7 @@ use Rattle.model.specs.declared.message.Message.{Message}
 use Rattle.model.specs.declared.message.Message.TheVariants as message
 use Rattle.model.specs.declared.session.Awaits.TheVariants as awaits
 use Rattle.model.specs.declared.session.Session.{Session}
-use Rattle.model.proofs.FirstPathLaws.{first_path_lawful as its_lawfulness, first_path_blocks_change as its_changes, first_path_stopped as its_end}
+use Rattle.model.proofs.ServiceLaws.{news_lawful as its_lawfulness, news_blocks_change as its_changes, news_stopped as its_end}
 use Rattle.synchrony.specs.Service.{IsLawful}
 
 -- it keeps what the theory asks of a service

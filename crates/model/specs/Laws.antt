@@ -5,9 +5,7 @@ pub mod Answers
 pub mod Numbers
 pub mod Expiry
 pub mod Spools
-pub mod Strings
 pub mod Service
-pub mod FirstPath
 pub mod SpoolFiles
 pub mod Room
 pub mod Layout

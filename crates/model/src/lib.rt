@@ -6,15 +6,13 @@
 //! - answers: `answers_come_from_front`, `accepted_change_is_read`, `nothing_later_is_read`, `replies_are_filled`,
 //!   `every_change_may_be_read`, `numbers_stay`, `expiry_is_for_good`
 //! - the service: `news_is_lawful`, `news_is_synchronous`
-//! - spools: `lawful_stays`, `string_stands_for_one`
+//! - spools: `lawful_stays`
 #![tactic(auto)]
 
 mod change;
 mod command;
 mod filed;
-mod first_path;
 mod laws;
-mod layout;
 mod message;
 mod session;
 mod text;
@@ -28,13 +26,11 @@ pub use filed::{
     free_is_beside_the_files, images_stand_for_one_spool, index_grows, index_rises,
     spools_grow_by_their_files,
 };
-pub use first_path::{Request, first_path_is_lawful};
 pub use laws::{
     accepted_change_is_read, answers_come_from_front, every_change_may_be_read, expiry_is_for_good,
     lawful_stays, news_is_lawful, news_is_synchronous, nothing_later_is_read, numbers_stay,
     replies_are_filled,
 };
-pub use layout::string_stands_for_one;
 pub use message::{Mark, Message, Mode};
 pub use session::{Answer, Awaits, Session};
 pub use text::{Names, Text};

@@ -1,18 +1,18 @@
-//! What a new volume is: its sizes, the octets of its device, and its label. docs/FORMATS.md has both layouts.
+//! A new volume: its sizes, the octets of its device, its label, and how it is made. docs/FORMATS.md has the layouts.
 #![tactic(auto)]
 
-ghost use Rattle.std.specs.Prelude.{◌≡◌, ◌≤◌, ◌+◌, ◌*◌, length, vec_len, IfOk, IsTrue};
+mod carrying;
+mod emptying;
+mod formatting;
+
+ghost use Rattle.std.specs.Prelude.{◌≡◌, ◌≤◌, length, vec_len, IfOk, IsTrue};
 ghost use Rattle.model.specs.Layout.{label_octets};
 ghost use Rattle.model.specs.Names.{is_host};
-ghost use Rattle.new_volume.specs.Sizes.{are_sizes};
+ghost use Rattle.new_volume.specs.Sizes.{are_sizes, device_size};
 
+pub use formatting::{format, format_or_give_back};
 use std::alloc::{AllocError, Global};
-
-/// Octets of a block.
-const BLOCK: u64 = 4096;
-
-/// Device blocks before the logical ones: the superblock, and a segment's gate, descriptor and 512 images.
-const BLOCKS_BEFORE: u64 = 1 + 514;
+use volume_format::layout::{SEGMENTS, home_block, start_of};
 
 /// Octets of a label.
 const LABEL: usize = 128;
@@ -41,9 +41,9 @@ pub fn are_sizes(blocks: u64, inodes: u64) -> bool
 /// The octets of the device of a volume with so many blocks.
 pub fn device_octets(blocks: u64) -> u64
     requires { blocks ≤ 65536 }
-    ensures { result ≡ (515 + blocks) * 4096 }
+    ensures { result ≡ device_size blocks }
 {
-    (BLOCKS_BEFORE + blocks) * BLOCK
+    start_of(home_block(SEGMENTS, blocks))
 }
 
 /// The label of a volume: inodes, the host's length, the host, zeros.

@@ -3,8 +3,9 @@
 
 ghost use Rattle.std.specs.Prelude.{◌≡◌, ◌==◌, ◌++◌, codes, decimal, if◌then◌else◌, map, IfOk, OnOk};
 ghost use Rattle.model.specs.Article.{overview_field, overview_line};
+ghost use Rattle.article.specs.Causes.{content_in};
 
-use article::Article;
+use article::{Article, Header, body_line_count};
 use std::alloc::{AllocError, Global};
 
 const TAB: u8 = b'\t';
@@ -26,6 +27,42 @@ pub fn line(alloc: Global, number: u64, article: &Article<'_>) -> Result<Vec<u8>
     line.push(TAB)?;
     push_number(alloc, &mut line, article.line_count() as u64)?;
     Ok(line)
+}
+
+/// Appends the line of a text, whether or not it is an article, with this number. It has no CRLF. An `Err` is out of memory; the
+/// octets behind those that were there may be any then.
+pub fn push_line(
+    alloc: Global,
+    line: &mut Vec<u8>,
+    number: u64,
+    text: &[u8],
+) -> Result<(), AllocError>
+    ensures { OnOk result (line.new.items ≡ line.old.items ++ overview_line number text.now) }
+{
+    let header = Header::read(alloc, text)?;
+    push_number(alloc, line, number)?;
+    push_content(alloc, line, &header, b"Subject")?;
+    push_content(alloc, line, &header, b"From")?;
+    push_content(alloc, line, &header, b"Date")?;
+    push_content(alloc, line, &header, b"Message-ID")?;
+    push_content(alloc, line, &header, b"References")?;
+    line.push(TAB)?;
+    push_number(alloc, line, text.len() as u64)?;
+    line.push(TAB)?;
+    push_number(alloc, line, body_line_count(text) as u64)
+}
+
+/// Adds a TAB and what the field of this name says, or the TAB alone where the header has none.
+fn push_content(
+    alloc: Global,
+    line: &mut Vec<u8>,
+    header: &Header<'_>,
+    name: &[u8],
+) -> Result<(), AllocError>
+    ensures { OnOk result (line.new.items ≡ line.old.items ++ codes "\t" ++ map (λ octet. if octet == 9 then 32 else octet) (content_in name.now header.now)) }
+{
+    line.push(TAB)?;
+    push_shown(line, &header.content(alloc, name)?)
 }
 
 /// Adds a number.

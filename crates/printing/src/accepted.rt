@@ -1,40 +1,69 @@
 //! The spool as it is printed.
 
-use model::Change;
-use spool::{Spool, article};
+use crate::CommandError;
+use article::{Article, Origin};
+use kernel::Spool;
+use lookups::LookUps;
+use model::{Change, Text};
+use std::alloc::Global;
 use std::io::{self, Write};
 
 /// Prints how many changes are accepted, and each of them on a line of its own.
-pub fn print_spool<W: Write>(spool: &Spool, output: &mut W) -> io::Result<()> {
+pub fn print_spool<W: Write>(
+    alloc: Global,
+    spool: &Spool,
+    output: &mut W,
+) -> Result<(), CommandError> {
     let count = spool.len();
     writeln!(output, "spool {count}")?;
     for serial in 1..=count {
-        print_change(serial, spool.change(serial), output)?;
+        let change = spool.change(serial)?;
+        print_change(alloc, serial, &change, output)?;
     }
     Ok(())
 }
 
 /// `SERIAL group NAME STATUS`, `SERIAL article ID GROUP,GROUP` or `SERIAL expire NAME N`.
-fn print_change<W: Write>(serial: u64, change: &Change, output: &mut W) -> io::Result<()> {
+fn print_change<W: Write>(
+    alloc: Global,
+    serial: u64,
+    change: &Change,
+    output: &mut W,
+) -> Result<(), CommandError> {
     match change {
         Change::Group { name, status, .. } => {
             write!(output, "{serial} group ")?;
             output.write_all(name.as_slice())?;
-            output.write_all(&[b' ', *status, b'\n'])
+            output.write_all(&[b' ', *status, b'\n'])?;
         }
         Change::Article { text, groups, .. } => {
             write!(output, "{serial} article ")?;
-            output.write_all(article::id(text.as_slice()))?;
-            for (index, name) in groups.as_slice().iter().enumerate() {
-                output.write_all(if index == 0 { b" " } else { b"," })?;
-                output.write_all(name.as_slice())?;
-            }
-            output.write_all(b"\n")
+            print_id(alloc, text.as_slice(), output)?;
+            print_groups(groups.as_slice(), output)?;
         }
         Change::Expire { group, number } => {
             write!(output, "{serial} expire ")?;
             output.write_all(group.as_slice())?;
-            writeln!(output, " {number}")
+            writeln!(output, " {number}")?;
         }
     }
+    Ok(())
+}
+
+/// Prints the message-id of a stored text.
+fn print_id<W: Write>(alloc: Global, text: &[u8], output: &mut W) -> Result<(), CommandError> {
+    // a stored text is an article and has an id, so that memory alone may be refused
+    let Ok(article) = Article::read(alloc, text, Origin::Carried) else {
+        return Err(CommandError::Memory);
+    };
+    Ok(output.write_all(article.id().unwrap_or(b""))?)
+}
+
+/// Prints the groups, parted by commas, and ends the line.
+fn print_groups<W: Write>(groups: &[Text], output: &mut W) -> io::Result<()> {
+    for (index, name) in groups.iter().enumerate() {
+        output.write_all(if index == 0 { b" " } else { b"," })?;
+        output.write_all(name.as_slice())?;
+    }
+    output.write_all(b"\n")
 }

@@ -1,5 +1,5 @@
-use journal::{FormatError, JournalError};
-use kernel::{AdminError, OpenError};
+use journal::JournalError;
+use kernel::{AdminError, ExpireError, OpenError};
 use std::alloc::AllocError;
 use std::io;
 use thiserror::Error;
@@ -25,6 +25,9 @@ pub enum CommandError {
     /// The group is not made.
     #[error("{0}")]
     NotMade(AdminError),
+    /// The articles are not taken out of the group.
+    #[error("{0}")]
+    NotExpired(ExpireError),
     /// A socket or a stream failed.
     #[error("{0}")]
     Stream(io::Error),
@@ -49,15 +52,6 @@ impl From<JournalError> for CommandError {
             JournalError::Memory => CommandError::Memory,
             JournalError::NotAVolume => CommandError::NotAVolume,
             JournalError::Halted => CommandError::Halted,
-        }
-    }
-}
-
-impl From<FormatError> for CommandError {
-    fn from(error: FormatError) -> CommandError {
-        match error {
-            FormatError::Fault => CommandError::Fault,
-            FormatError::Memory => CommandError::Memory,
         }
     }
 }

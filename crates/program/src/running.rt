@@ -83,10 +83,10 @@ fn carry_out<R: Files<File = File> + Wait, I: BufRead, W: Write>(
         Asked::Nothing(_) | Asked::Serve(_) => Ok(()),
         Asked::Simulation(plan, is_cached) => simulate(alloc, &plan, is_cached, input, output),
         Asked::Format(path, plan) => {
-            commands::format(rt, alloc, path, plan.host, plan.blocks, plan.inodes)?;
+            commands::format(rt, alloc, path, &plan)?;
             Ok(())
         }
-        Asked::Group(path, line) => make_group(rt, alloc, path, line.as_slice(), output),
+        Asked::Change(path, line) => change(rt, alloc, path, line.as_slice(), output),
         Asked::Dump(path) => {
             commands::dump(rt, alloc, path, output)?;
             Ok(())
@@ -94,15 +94,15 @@ fn carry_out<R: Files<File = File> + Wait, I: BufRead, W: Write>(
     }
 }
 
-/// Makes the group of a line and prints its serial.
-fn make_group<R: Files<File = File> + Wait, W: Write>(
+/// Makes the change of a line and prints its serial.
+fn change<R: Files<File = File> + Wait, W: Write>(
     rt: &R,
     alloc: Global,
     path: &str,
     line: &[u8],
     output: &mut W,
 ) -> Result<(), Failure> {
-    let (name, status, moment, description) = match parse(alloc, line) {
+    let serial = match parse(alloc, line) {
         Ok(
             Line::Group {
                 name,
@@ -110,17 +110,24 @@ fn make_group<R: Files<File = File> + Wait, W: Write>(
                 moment,
                 description,
             },
-        ) => (name, status, moment, description),
+        ) => {
+            let name = group_name(&name)?;
+            let description = description.as_slice();
+            commands::group(rt, alloc, path, &name, status, description, moment)?
+        }
+        Ok(Line::Expire { name, number }) => {
+            let name = group_name(&name)?;
+            commands::expire(rt, alloc, path, &name, number)?
+        }
         Ok(_) | Err(ParseError::Bad) => return Err(Failure::Bad),
         Err(ParseError::Memory) => return Err(Failure::Memory),
     };
-    // a lawful line has a group's name
-    let Ok(name) = GroupName::read(name.as_slice()) else {
-        return Err(Failure::Bad);
-    };
-    let description = description.as_slice();
-    let serial = commands::group(rt, alloc, path, &name, status, description, moment)?;
     Ok(writeln!(output, "{serial}")?)
+}
+
+/// The group that a line names. A line that was read names one.
+fn group_name(name: &[u8]) -> Result<GroupName, Failure> {
+    GroupName::read(name).map_err(|_| Failure::Bad)
 }
 
 /// Prints why the program ends, and answers its status.

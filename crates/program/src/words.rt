@@ -1,7 +1,7 @@
 //! The program's words.
 
-use crate::grammar::{
-    BLOCKS, CACHE, DESCRIPTION, HOST, INODES, MOMENT, NAME, PATH, PORT, STATUS, grammar,
+use crate::syntax::{
+    BLOCKS, CACHE, DESCRIPTION, HOST, INODES, MOMENT, NAME, NUMBER, PATH, PORT, STATUS, syntax,
 };
 use clap::ArgMatches;
 use clap::error::{Error, ErrorKind};
@@ -21,8 +21,8 @@ pub(crate) enum Asked<'a> {
     /// Over a device in memory, with or without a cache that collects writes until a sync.
     Simulation(Plan<'a>, bool),
     Format(&'a str, Plan<'a>),
-    /// The line of a group, as an operator would write it.
-    Group(&'a str, Vec<u8>),
+    /// The line of a change, as an operator would write it.
+    Change(&'a str, Vec<u8>),
     Serve(Service<'a>),
     Dump(&'a str),
 }
@@ -41,7 +41,7 @@ pub(crate) fn read_words<'a, S: AsStr, W: Write, F: Write>(
     output: &mut W,
     faults: &mut F,
 ) -> Result<Asked<'a>, Failure> {
-    match grammar(alloc)?.try_get_matches_from(words) {
+    match syntax(alloc)?.try_get_matches_from(words) {
         Ok(matches) => read_request(alloc, &matches),
         Err(error) => Ok(Asked::Nothing(tell(&error, output, faults)?)),
     }
@@ -68,7 +68,8 @@ fn read_request<'a>(alloc: Global, matches: &ArgMatches<'a>) -> Result<Asked<'a>
     match name {
         "sim" => Ok(Asked::Simulation(read_plan(words)?, words.get_flag(CACHE))),
         "format" => Ok(Asked::Format(word(words, PATH)?, read_plan(words)?)),
-        "group" => Ok(Asked::Group(word(words, PATH)?, read_group(alloc, words)?)),
+        "group" => Ok(Asked::Change(word(words, PATH)?, read_group(alloc, words)?)),
+        "expire" => Ok(Asked::Change(word(words, PATH)?, read_expiry(alloc, words)?)),
         "serve" => Ok(Asked::Serve(read_service(words)?)),
         "dump" => Ok(Asked::Dump(word(words, PATH)?)),
         _ => Err(Failure::Bad),
@@ -106,9 +107,26 @@ fn plan_of<'a>(host: &'a [u8], blocks: &[u8], inodes: &[u8]) -> Result<Plan<'a>,
 
 /// The line of the group that the words describe. Only the last of them, the description, may have spaces.
 fn read_group(alloc: Global, words: &ArgMatches<'_>) -> Result<Vec<u8>, Failure> {
-    let mut line = Vec::new(alloc);
-    line.extend_from_slice(b"group")?;
-    for name in [NAME, STATUS, MOMENT] {
+    let mut line = read_line(alloc, b"group", &[NAME, STATUS, MOMENT], words)?;
+    line.push(b' ')?;
+    line.extend_from_slice(word(words, DESCRIPTION)?.as_bytes())?;
+    Ok(line)
+}
+
+/// The line of the expiry that the words describe.
+fn read_expiry(alloc: Global, words: &ArgMatches<'_>) -> Result<Vec<u8>, Failure> {
+    read_line(alloc, b"expire", &[NAME, NUMBER], words)
+}
+
+/// A line that begins with this keyword and goes on with the words of these names, none of which may have spaces.
+fn read_line(
+    alloc: Global,
+    keyword: &[u8],
+    names: &[&str],
+    words: &ArgMatches<'_>,
+) -> Result<Vec<u8>, Failure> {
+    let mut line = Vec::from_slice(alloc, keyword)?;
+    for name in names {
         let text = word(words, name)?.as_bytes();
         if text.contains(&b' ') {
             return Err(Failure::Bad);
@@ -116,8 +134,6 @@ fn read_group(alloc: Global, words: &ArgMatches<'_>) -> Result<Vec<u8>, Failure>
         line.push(b' ')?;
         line.extend_from_slice(text)?;
     }
-    line.push(b' ')?;
-    line.extend_from_slice(word(words, DESCRIPTION)?.as_bytes())?;
     Ok(line)
 }
 

@@ -1,5 +1,5 @@
 -- What each line of a script means (this project's rule).
-use Rattle.std.specs.Prelude.{◌≡◌, ℕ, ◌<◌, Bool, ◌||◌, ◌&&◌, ◌==◌, ◌⊎◌, nat_le, if◌then◌else◌, [], ◌∷◌, ◌++◌, length, IsTrue, Option, Some, None, option_map, option_and_then, bytes_eq, codes}
+use Rattle.std.specs.Prelude.{◌≡◌, ℕ, ◌<◌, ◌≤◌, Bool, ◌||◌, ◌&&◌, ◌==◌, ◌⊎◌, nat_le, if◌then◌else◌, [], ◌∷◌, ◌++◌, length, IsTrue, Option, Some, None, option_map, option_and_then, bytes_eq, codes}
 use Rattle.std.specs.List.{list_all}
 use Rattle.model.specs.Stream.{Octets}
 use Rattle.model.specs.Names.{is_group_name}
@@ -9,18 +9,21 @@ use Rattle.disk.specs.declared.DiskCall.{DiskCall}
 use Rattle.disk.specs.declared.DiskCall.TheVariants.{Read, Write, Sync}
 use Rattle.memdisk.specs.declared.Pick.{Pick}
 use Rattle.memdisk.specs.declared.Pick.TheVariants.{Old, New, Fill}
-use Rattle.script.specs.Words.{hex_octet, hex_octets, moment_of, number_of, split_word}
+use Rattle.script.specs.Words.{article_number_of, hex_octet, hex_octets, moment_of, number_of, split_word}
 use Rattle.script.specs.declared.lines.Line.{Line}
-use Rattle.script.specs.declared.lines.Line.TheVariants.{Group, Join, Leave, Arrive, Exec, Take, Dev, Told, Release, Commit, Settle, FailAt, FailKind, Crash, Spool}
+use Rattle.script.specs.declared.lines.Line.TheVariants.{Group, Expire, Join, Leave, Arrive, Exec, Take, Dev, Told, Release, Commit, Settle, FailAt, FailKind, Crash, Spool}
 
--- what a line asks for, its texts as lists: a group is made, octets come for a session, anything else
+-- what a line asks for, its texts as lists: a group is made, articles are taken out of one, octets come for a session,
+-- anything else
 pub data Said : Type 0 where
   Made : (name : Octets) (status moment : ℕ) (description : Octets) → Said
+  Expired : (name : Octets) (number : ℕ) → Said
   Came : (session : ℕ) (octets : Octets) → Said
   Asked : Line → Said
 
 abbrev pub said : Line → Said
 said (Group name status moment description) = Made name.items status moment description.items
+said (Expire name number) = Expired name.items number
 said (Arrive session octets) = Came session octets.items
 said Join = Asked Join
 said (Leave session) = Asked (Leave session)
@@ -44,6 +47,7 @@ is_description text = nat_le (length text) 200 && list_all is_description_octet 
 abbrev pub IsLawful : Line → Type 0
 IsLawful (Group name status moment description) =
     IsTrue (is_group_name name.items) × ((status ≡ 121) ⊎ (status ≡ 110)) × IsTrue (is_description description.items) × (moment < moment_limit)
+IsLawful (Expire name number) = IsTrue (is_group_name name.items) × (1 ≤ number)
 IsLawful (Exec session moment) = moment < moment_limit
 IsLawful (Arrive session octets) = Unit {0}
 IsLawful Join = Unit {0}
@@ -124,6 +128,13 @@ group_of words = do
   moment ← moment_of time.0
   if is_group_name name.0 && is_description time.1 then Some (Made name.0 yes_or_no moment time.1) else None
 
+-- NAME N
+unfoldable pub expiry_of : Octets → Option Said
+expiry_of words = do
+  parts ← split_word words
+  number ← article_number_of parts.1
+  if is_group_name parts.0 then Some (Expired parts.0 number) else None
+
 -- S TEXT, or S alone: the text and CRLF
 unfoldable pub arrival_of : Octets → Option Said
 arrival_of words = came (split_word words)
@@ -148,5 +159,6 @@ meaning line = by_words (split_word line)
     by_words None = alone_of line
     by_words (Some parts) =
         if bytes_eq parts.0 (codes "group") then group_of parts.1
+        else (if bytes_eq parts.0 (codes "expire") then expiry_of parts.1
         else (if bytes_eq parts.0 (codes "line") then arrival_of parts.1
-        else (if bytes_eq parts.0 (codes "hex") then hex_of parts.1 else numbered_of parts.0 parts.1))
+        else (if bytes_eq parts.0 (codes "hex") then hex_of parts.1 else numbered_of parts.0 parts.1)))

@@ -1,5 +1,5 @@
 -- Words of a script's line (this project's rule).
-use Rattle.std.specs.Prelude.{ℕ, ◌+◌, ◌^◌, ◌==◌, nat_lt, if◌then◌else◌, take, drop, get_or, Option, Some, None, option_map, option_and_then}
+use Rattle.std.specs.Prelude.{ℕ, ◌+◌, ◌^◌, ◌==◌, ◌&&◌, nat_le, nat_lt, if◌then◌else◌, take, drop, get_or, Option, Some, None, option_map, option_and_then}
 use Rattle.std.specs.List.{position}
 use Rattle.std.specs.Result.{result_ok}
 use Rattle.std.specs.Char.{is_ascii_digit}
@@ -24,6 +24,10 @@ number_of word = if is_run_of is_ascii_digit word then within_u64 word else None
 -- the moment that digits write, before the year 10000
 abbrev pub moment_of : Octets → Option ℕ
 moment_of word = option_and_then (λ n. if nat_lt n moment_limit then Some n else None) (number_of word)
+
+-- the number of an article that digits write: from 1, below 2^32
+abbrev pub article_number_of : Octets → Option ℕ
+article_number_of word = option_and_then (λ n. if nat_le 1 n && nat_lt n (2 ^ 32) then Some n else None) (number_of word)
 
 -- the octet that two hexadecimal digits write, in either case
 abbrev pub hex_octet : Octets → Option ℕ

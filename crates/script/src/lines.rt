@@ -1,13 +1,13 @@
 //! The lines of a script.
 
-ghost use Rattle.std.specs.Prelude.{◌≡◌, ◌⊎◌, ◌<◌, IsTrue, IfOk, IfErr, IfSome, Some, None, option_map};
+ghost use Rattle.std.specs.Prelude.{◌≡◌, ◌⊎◌, ◌<◌, ◌≤◌, IsTrue, IfOk, IfErr, IfSome, Some, None, option_map};
 ghost use Rattle.model.specs.Names.{is_group_name};
 ghost use Rattle.model.specs.Calendar.{moment_limit};
 ghost use Rattle.script.specs.Words.{hex_octets, hex_octet};
-ghost use Rattle.script.specs.Script.{IsLawful, Made, Came, alone_of, arrival_of, fail_of, group_of, hex_of, is_description, kind_of, meaning, numbered_of, pick_of, said, status_of};
+ghost use Rattle.script.specs.Script.{IsLawful, Made, Expired, Came, alone_of, arrival_of, expiry_of, fail_of, group_of, hex_of, is_description, kind_of, meaning, numbered_of, pick_of, said, status_of};
 ghost use Rattle.script.specs.declared.lines.ParseError.TheVariants.{Memory};
 
-use crate::words::{moment, number, split_word};
+use crate::words::{article_number, moment, number, split_word};
 use disk::DiskCall;
 use hex::FromHexError;
 use memdisk::Pick;
@@ -28,6 +28,11 @@ pub enum Line {
         status: u8,
         moment: u64,
         description: Vec<u8>,
+    },
+    /// The operator takes the articles of a group up to this number, which is at least 1, out of it.
+    Expire {
+        name: Vec<u8>,
+        number: u32,
     },
     /// A session begins.
     Join,
@@ -105,6 +110,9 @@ pub fn parse(alloc: Global, line: &[u8]) -> Result<Line, ParseError>
     };
     if keyword == b"group".as_slice() {
         return group(alloc, words);
+    }
+    if keyword == b"expire".as_slice() {
+        return expiry(alloc, words);
     }
     if keyword == b"line".as_slice() {
         return arrival(alloc, words);
@@ -306,6 +314,35 @@ fn group(alloc: Global, words: &[u8]) -> Result<Line, ParseError>
         moment: words.moment,
         description,
     })
+}
+
+/// The group and the number of an expiry's line, if each is in its grammar.
+#[tactic(auto, unfolding(crate::specs::Script::expiry_of))]
+fn expiry_words(words: &[u8]) -> Option<(&[u8], u32)>
+    ensures value { option_map (λ read. Expired read.0.now read.1) result ≡ expiry_of words.now }
+    ensures name { IfSome result (λ read. IsTrue (is_group_name read.0.now)) }
+    ensures from_one { IfSome result (λ read. 1 ≤ read.1) }
+{
+    let (name, number) = split_word(words)?;
+    let number = article_number(number)?;
+    if is_group_name(name) {
+        Some((name, number))
+    } else {
+        None
+    }
+}
+
+/// `expire NAME N`, after its first word.
+fn expiry(alloc: Global, words: &[u8]) -> Result<Line, ParseError>
+    ensures ok { IfOk result (λ read. expiry_of words.now ≡ Some (said read)) }
+    ensures lawful { IfOk result IsLawful }
+    ensures bad { IfErr result (λ error. error ≡ ParseError.Bad → expiry_of words.now ≡ None) }
+{
+    let Some((name, number)) = expiry_words(words) else {
+        return Err(ParseError::Bad);
+    };
+    let name = Vec::from_slice(alloc, name)?;
+    Ok(Line::Expire { name, number })
 }
 
 /// `line S TEXT`, after its first word: the text and CRLF arrive, without a text CRLF alone.

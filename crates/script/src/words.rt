@@ -1,11 +1,11 @@
 //! The words of a line: where they are parted, and the numbers that they write.
 
-ghost use Rattle.std.specs.Prelude.{◌≡◌, ◌<◌, IfSome, option_map, true};
+ghost use Rattle.std.specs.Prelude.{◌≡◌, ◌<◌, ◌≤◌, IfSome, option_map, true};
 ghost use Rattle.std.specs.Char.{is_ascii_digit};
 ghost use Rattle.std.specs.List.{list_all};
 ghost use Rattle.model.specs.Calendar.{moment_limit};
 ghost use Rattle.model.specs.Names.{is_run_of};
-ghost use Rattle.script.specs.Words.{moment_of, number_of, split_word, within_u64};
+ghost use Rattle.script.specs.Words.{article_number_of, moment_of, number_of, split_word, within_u64};
 
 /// The first moment of the year 10000, before which each moment lies, in seconds since 1970.
 pub const MOMENT_LIMIT: u64 = 253_402_300_800;
@@ -57,6 +57,19 @@ pub(crate) fn moment(word: &[u8]) -> Option<u64>
     let value = number(word)?;
     if value < MOMENT_LIMIT {
         Some(value)
+    } else {
+        None
+    }
+}
+
+/// The number of an article that digits write: from 1, below 2^32.
+pub(crate) fn article_number(word: &[u8]) -> Option<u32>
+    ensures value { result ≡ article_number_of word.now }
+    ensures from_one { IfSome result (λ number. 1 ≤ number) }
+{
+    let value = number(word)?;
+    if 1 <= value && value <= u64::from(u32::MAX) {
+        Some(value as u32)
     } else {
         None
     }

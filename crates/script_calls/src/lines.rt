@@ -22,6 +22,9 @@ fn without_text() -> &'static [(&'static str, &'static str)] {
         ),
         ("fail 18446744073709551615", "FailAt(18446744073709551615)"),
         ("fail 007", "FailAt(7)"),
+        ("fail read 2", "FailKind(Read, 2)"),
+        ("fail write 1", "FailKind(Write, 1)"),
+        ("fail sync 3", "FailKind(Sync, 3)"),
         ("crash old", "Crash(Old)"),
         ("crash new", "Crash(New)"),
         ("crash 4d", "Crash(Fill(77))"),
@@ -109,6 +112,27 @@ fn lines_with_a_group(rt: HostRuntime) {
     }
 }
 
+/// Whether the articles of the group x.a up to this number are taken out of it.
+fn is_expiry(alloc: Global, line: &str, wanted: u32) -> bool {
+    match parse(alloc, line.as_bytes()) {
+        Ok(Line::Expire { name, number }) => {
+            name.as_slice() == b"x.a".as_slice() && number == wanted
+        }
+        _ => false,
+    }
+}
+
+#[test]
+fn lines_with_an_expiry(rt: HostRuntime) {
+    for (line, number) in [
+        ("expire x.a 1", 1),
+        ("expire x.a 0042", 42),
+        ("expire x.a 4294967295", u32::MAX),
+    ] {
+        assert!(rt; is_expiry(rt.alloc(), line, number), "{line}");
+    }
+}
+
 /// Lines outside the grammar.
 fn bad() -> &'static [&'static [u8]] {
     &[
@@ -142,6 +166,10 @@ fn bad() -> &'static [&'static [u8]] {
         b"exec 1 0 ",
         b"fail",
         b"fail one",
+        b"fail read",
+        b"fail reads 1",
+        b"fail read one",
+        b"fail read 1 2",
         b"crash",
         b"crash Old",
         b"crash 1",
@@ -157,6 +185,15 @@ fn bad() -> &'static [&'static [u8]] {
         b"group x.a y 0 \x1f",
         b"group x.a y 0 \x7f",
         b"group x.a y 0 \xc3\xa9",
+        b"expire",
+        b"expire x.a",
+        b"expire x.a ",
+        b"expire x.a one",
+        b"expire x.a 0",
+        b"expire x.a 4294967296",
+        b"expire x.a 1 2",
+        b"expire x..a 1",
+        b"expire  1",
         b"dump",
     ]
 }

@@ -17,6 +17,7 @@ fn refusals_of_a_world(rt: HostRuntime) -> Result<(), Fail> {
         (StepError::LaterOut, "E9 LaterOut"),
         (StepError::NoSession, "E10 NoSession"),
         (StepError::Exists, "E11 Exists"),
+        (StepError::NotFound, "E12 NotFound"),
     ] {
         assert_eq!(rt; error.to_string(rt.alloc())?.as_str(), text);
     }

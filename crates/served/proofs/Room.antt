@@ -60,6 +60,11 @@ pub record MakesRoom (seats : List Seat) (old new : List Peer) (place : ℕ) : T
   pub input : inputs new ≡ inputs old
   pub room : (k : ℕ) (seat : Seat) → k < place → slice_get seats k ≡ Some seat → HasRoom new seat.number 65536
 
+-- what maps to nothing is nothing
+pub none_there : {A B : Type 0} (f : A → B) (o : Option A) → option_map f o ≡ None → o ≡ None
+none_there f None is = refl
+none_there f (Some x) is = absurd (cc is)
+
 pub get_past : {A : Type 0} (xs : List A) (place k : ℕ) (x : A) → slice_get xs place ≡ None → slice_get xs k ≡ Some x → k < place
 get_past [] place k x none is = absurd (cc is)
 get_past (y ∷ xs) zero k x none is = absurd (cc none)

@@ -11,4 +11,5 @@ of_arrive kernel.TooManySessions = Memory
 of_arrive kernel.LaterDirty = Memory
 of_arrive kernel.LaterOut = Memory
 of_arrive kernel.Exists = Memory
+of_arrive kernel.NotFound = Memory
 of_arrive kernel.Full = Memory

@@ -4,14 +4,14 @@
 
 ghost use Rattle.std.specs.Prelude.{◌≡◌, ◌≢◌, ◌⊎◌, ◌↔◌, ◌+◌, ◌*◌, ◌≤◌, ◌<◌, [], Option, Some, None, Ok, IsTrue, IsSome, IsNone, IfOk, IfSome, OnOk, OnErr, length, true, false, is_none};
 ghost use Rattle.std.specs.List.{list_all};
-ghost use Rattle.kernel.specs.Errors.{of_join, of_admin};
+ghost use Rattle.kernel.specs.Errors.{of_join, of_admin, of_expire};
 ghost use Rattle.served.specs.Errors.{of_arrive};
 ghost use Rattle.kernel.specs.Kept.{IsKept};
-ghost use Rattle.kernel.specs.Kernel.{Takes, Tested, TestedOrMemory, admin_refusal_of, early_refusal, halted_for_good, has_batch, join_refusal, made_durable, mode_at};
+ghost use Rattle.kernel.specs.Kernel.{Takes, Tested, TestedOrMemory, admin_refusal_of, early_refusal, expire_refusal_of, halted_for_good, has_batch, join_refusal, made_durable, mode_at};
 ghost use Rattle.model.specs.Calendar.{moment_limit};
 ghost use Rattle.model.specs.Lawful.{is_description_octet};
 ghost use Rattle.model.specs.Volume.{blocks_from};
-ghost use Rattle.model.specs.declared.change.Change.TheVariants.{Group};
+ghost use Rattle.model.specs.declared.change.Change.TheVariants.{Expire, Group};
 ghost use Rattle.served.specs.Events.{DidExec, Makes, arrive_refusal, arrives, joins, leaves, opens, releases, with_kernel};
 ghost use Rattle.synchrony.specs.Server.{Admin};
 ghost use Rattle.served.specs.Served.{FollowsPlain, IsServed, ServedView, arrived_at, next_of, released_at};
@@ -24,12 +24,13 @@ mod peer;
 pub use entry::{Entry, Happened};
 pub use errors::ArriveError;
 pub use input::Input;
-use kernel::{AdminError, ExecError, JoinError, Kernel, Stale, Ticket};
+use kernel::{
+    AdminError, BatchBuf, ExecError, ExpireError, JoinError, Kernel, Spool, Stale, Ticket,
+};
 use model::{Change, Mark, Mode, Text};
 use names::GroupName;
 use outbox::ReadyBuf;
 pub use peer::Peer;
-use spool::{BatchBuf, Spool};
 use std::alloc::{AllocError, Global};
 use std::marker::Model;
 
@@ -197,6 +198,30 @@ impl Served {
         Ok(serial)
     }
 
+    /// The operator takes the articles of a group up to a number out of it, and is told the serial of that change. Refused as by
+    /// the kernel, in the same order, but `Memory` may come at any growth, which is never before `Halted` and `LaterDirty`; a
+    /// refusal changes nothing.
+    pub fn expire(
+        &mut self,
+        alloc: Global,
+        name: &GroupName,
+        number: u32,
+    ) -> Result<u64, ExpireError>
+        ensures { let change = Expire name.now number in
+            TestedOrMemory of_expire ExpireError.Memory (early_refusal self.old.kernel) (expire_refusal_of self.old.kernel change) self.old self.new result (Makes self.old self.new change) }
+    {
+        self.kernel.may_expire()?;
+        let Ok(expiry) = expiry_entry(alloc, name, number) else {
+            return Err(ExpireError::Memory);
+        };
+        if self.trace.reserve(1).is_err() {
+            return Err(ExpireError::Memory);
+        }
+        let serial = self.kernel.expire(name, number)?;
+        self.trace.push_reserved(expiry);
+        Ok(serial)
+    }
+
     /// What is ready is handed out, and counts as released: `ready` tells it. Refused for memory alone, with nothing changed.
     pub fn release(&mut self) -> Result<(), AllocError>
         ensures ok { OnOk result (self.new ≡ releases self.old) }
@@ -262,8 +287,8 @@ impl Served {
     pub fn take_batch(&mut self, into: &mut BatchBuf) -> Option<Ticket>
         ensures when { IsSome result ↔ IsTrue (has_batch self.old.kernel) }
         ensures nothing { IsNone result → (self.new ≡ self.old) × (into.new ≡ into.old) }
-        ensures takes { IfSome result (λ ticket. Takes self.old.kernel self.new.kernel into.new.numbers (blocks_from 0 (length into.new.numbers) into.new.octets) ticket.last) }
-        ensures size { IsSome result → length into.new.octets ≡ 4096 * length into.new.numbers }
+        ensures takes { IfSome result (λ ticket. Takes self.old.kernel self.new.kernel into.new.numbers (blocks_from 0 (length into.new.numbers) into.new.images) ticket.last) }
+        ensures size { IsSome result → length into.new.images ≡ 4096 * length into.new.numbers }
         ensures same { IsSome result → self.new ≡ with_kernel self.old self.new.kernel }
     {
         self.kernel.take_batch(into)
@@ -302,5 +327,15 @@ fn group_entry(
         status,
         description: Text::new(description.to_vec(alloc)?),
         moment,
+    })))
+}
+
+/// The entry of the articles that the operator takes out of a group.
+fn expiry_entry(alloc: Global, name: &GroupName, number: u32) -> Result<Entry, AllocError>
+    ensures { IfOk result (λ entry. entry ≡ Admin (Expire name.now number)) }
+{
+    Ok(Entry::new(Happened::Admin(Change::Expire {
+        group: Text::new(name.as_slice().to_vec(alloc)?),
+        number: u64::from(number),
     })))
 }

@@ -3,13 +3,13 @@
 ghost use Rattle.std.specs.Prelude.{◌≡◌};
 
 use crate::gates::Flags;
-use flusher::{Kern, Locked};
-use kernel::{AdminError, ExecError, JoinError, Kernel, Stale, Ticket};
+use flusher::{
+    AdminError, BatchBuf, ExecError, ExpireError, JoinError, Kern, Kernel, Locked, Stale, Ticket,
+};
 use mark::{Mark, Seat};
 use model::{Mark as Served, Message, Mode};
 use names::GroupName;
 use outbox::ReadyBuf;
-use spool::BatchBuf;
 use std::alloc::Global;
 use std::sync::atomic::Ordering;
 use std::sync::{Mutex, Wait};
@@ -83,6 +83,10 @@ impl<'a> Kern for Watched<'a> {
     ) -> Result<u64, AdminError> {
         self.inner
             .admin(rt, alloc, name, status, description, moment)
+    }
+
+    fn expire<R: Wait>(&self, rt: &R, name: &GroupName, number: u32) -> Result<u64, ExpireError> {
+        self.inner.expire(rt, name, number)
     }
 
     fn leave<R: Wait>(&self, rt: &R, sid: u64) {

@@ -1,21 +1,19 @@
 //! A server over a device in memory and its callers, in one process.
 
-ghost use Rattle.std.specs.Prelude.{◌≡◌, ◌≤◌, IfSome};
+ghost use Rattle.std.specs.Prelude.{◌≡◌, IfSome};
 ghost use Rattle.journal.specs.Journal.{IsIdle, IsReady};
 
 use crate::callers::call;
 use crate::gates::{Flags, Holds, TestGate};
 use crate::kernels::{Watch, Watched};
 use disk::Faults;
-use flusher::{FlushError, Kern, flush_turn};
-use journal::{Journal, format};
-use kernel::Kernel;
+use flusher::{BatchBuf, FlushError, Kern, Kernel, flush_turn};
+use journal::Journal;
 use mark::{FlushSeat, Mark, Seat};
 use memdisk::MemDisk;
-use names::GroupName;
-use new_volume::{device_octets, label};
+use names::{GroupName, is_host};
+use new_volume::{Plan, are_sizes, device_octets, format};
 use server::{ServeError, serve};
-use spool::BatchBuf;
 use std::alloc::Global;
 use std::io::{self, Write};
 use std::net::{Ipv4Addr, Net, SocketAddr, TcpListener, TcpStream};
@@ -24,10 +22,12 @@ use std::sync::atomic::Ordering;
 use std::thread::{Threads, join};
 use std::time::Clock;
 
-/// Logical blocks and inodes of the volumes.
+/// The host of the volumes, their logical blocks and their inodes.
+const HOST: &[u8] = b"news.example";
+
 const BLOCKS: u64 = 1024;
 
-const INODES: u32 = 64;
+const INODES: u64 = 64;
 
 /// How a play went.
 #[derive(Clone, Copy, Debug, PartialEq, Eq)]
@@ -64,18 +64,13 @@ impl<'a> Write for Answers<'a> {
 }
 
 /// A new volume in memory, opened.
-fn open_volume(alloc: Global, blocks: u64) -> Option<(Journal<MemDisk>, Kernel)>
-    requires low { 1024 ≤ blocks }
-    requires high { blocks ≤ 65536 }
+fn open_volume(alloc: Global, plan: &Plan<'_>) -> Option<(Journal<MemDisk>, Kernel)>
     ensures { IfSome result (λ opened. IsReady opened.0) }
 {
-    let Ok(mut disk) = MemDisk::new(alloc, device_octets(blocks)) else {
+    let Ok(disk) = MemDisk::new(alloc, device_octets(plan.blocks)) else {
         return None;
     };
-    let Ok(label) = label(alloc, b"news.example", INODES) else {
-        return None;
-    };
-    let Ok(()) = format(alloc, &mut disk, blocks, label.as_slice()) else {
+    let Ok(disk) = format(alloc, disk, plan) else {
         return None;
     };
     let Ok(mut journal) = Journal::open(alloc, disk) else {
@@ -85,6 +80,18 @@ fn open_volume(alloc: Global, blocks: u64) -> Option<(Journal<MemDisk>, Kernel)>
         Ok(kernel) => Some((journal, kernel)),
         Err(_) => None,
     }
+}
+
+/// What the volumes are.
+fn plan() -> Option<Plan<'static>> {
+    if !is_host(HOST) || !are_sizes(BLOCKS, INODES) {
+        return None;
+    }
+    Some(Plan {
+        host: HOST,
+        blocks: BLOCKS,
+        inodes: INODES,
+    })
 }
 
 /// A server that is about to serve a volume with the group `x.a`, which is durable.
@@ -115,7 +122,7 @@ impl<'a> Stage<'a> {
     {
         let mut flush_seat = flush_seat;
         let mut seat = seat;
-        let (mut journal, kernel) = open_volume(alloc, BLOCKS)?;
+        let (mut journal, kernel) = open_volume(alloc, &plan()?)?;
         let watch = Watch::new(mark, mark.another(&mut seat));
         let kern = Watched::new(kernel, watch, flags);
         let Ok(mut batch) = BatchBuf::new(alloc) else {

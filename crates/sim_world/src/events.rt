@@ -35,15 +35,16 @@ fn event_of(line: Line) -> Result<Event, SimError>
             status,
             moment,
             description,
-        } => match GroupName::read(name.as_slice()) {
-            Ok(name) => Ok(Event::Admin {
-                name,
-                status,
-                description,
-                moment,
-            }),
-            Err(_) => Err(SimError::NoEvent),
-        },
+        } => Ok(Event::Admin {
+            name: group_name(&name)?,
+            status,
+            description,
+            moment,
+        }),
+        Line::Expire { name, number } => Ok(Event::Expire {
+            name: group_name(&name)?,
+            number,
+        }),
         Line::Join => Ok(Event::Join),
         Line::Leave(session) => Ok(Event::Leave(session)),
         Line::Arrive { session, octets } => Ok(Event::Arrive(session, octets)),
@@ -53,6 +54,13 @@ fn event_of(line: Line) -> Result<Event, SimError>
         Line::Told => Ok(Event::Told),
         Line::Release => Ok(Event::Release),
         _ => Err(SimError::NoEvent),
+    }
+}
+
+fn group_name(octets: &[u8]) -> Result<GroupName, SimError> {
+    match GroupName::read(octets) {
+        Ok(name) => Ok(name),
+        Err(_) => Err(SimError::NoEvent),
     }
 }
 

@@ -7,9 +7,11 @@ ghost use Rattle.world.specs.Events.{MayHappen};
 use crate::errors::SimError;
 use crate::events::{Row, event, read, said};
 use disk::{Disk, Faults};
-use journal::format;
+use lookups::LookUps;
 use memdisk::{MemDisk, Pick};
-use model::Change;
+use model::Part;
+use names::is_host;
+use new_volume::{Plan, are_sizes, device_octets, format};
 use served::Entry;
 use std::alloc::Global;
 use std::marker::Model;
@@ -18,14 +20,9 @@ use world::{Answer, Event, OpenError, Refused, StepError, World};
 /// The logical blocks of the device.
 pub const BLOCKS: u64 = 1024;
 
-/// Octets of a block.
-const BLOCK: u64 = 4096;
+const INODES: u64 = 64;
 
-/// Device blocks before the logical ones: the superblock, and a segment's gate, descriptor and 512 images.
-const BLOCKS_BEFORE: u64 = 1 + 514;
-
-/// Octets of a label.
-const LABEL: usize = 128;
+const HOST: &[u8] = b"news.example";
 
 /// A device in memory.
 pub struct Device {
@@ -48,7 +45,10 @@ impl Model for Device {
 impl Device {
     /// One with a new volume of `BLOCKS` blocks, whose label says 64 inodes and the host `news.example`.
     pub fn new(alloc: Global) -> Result<Device, SimError> {
-        formatted(alloc, BLOCKS)
+        match plan(BLOCKS) {
+            Some(plan) => formatted(alloc, &plan),
+            None => Err(SimError::NotMade),
+        }
     }
 
     fn into_disk(self) -> MemDisk {
@@ -71,31 +71,36 @@ impl Device {
         self.disk.crash(&[pick]);
     }
 
-    /// Writes an octet.
-    pub fn put(&mut self, at: u64, octet: u8) -> Result<(), SimError> {
+    /// Writes an octet, and answers the one that was there.
+    pub fn put(&mut self, at: u64, octet: u8) -> Result<u8, SimError> {
         if at >= self.disk.len() {
             return Err(SimError::NoPlace);
         }
-        match self.disk.write(at, &[octet]) {
-            Ok(()) => Ok(()),
-            Err(_) => Err(SimError::NoPlace),
+        let mut was = [0];
+        if self.disk.read(at, &mut was).is_err() || self.disk.write(at, &[octet]).is_err() {
+            return Err(SimError::NoPlace);
         }
+        Ok(was[0])
     }
 }
 
-/// A device with a new volume of so many blocks. The number is no constant here, as a proof would count with it.
-fn formatted(alloc: Global, blocks: u64) -> Result<Device, SimError>
-    requires low { 1024 ≤ blocks }
-    requires high { blocks ≤ 65536 }
-{
-    let mut label = Vec::from_slice(alloc, b"\x40\0\0\0\x0cnews.example")?;
-    label.resize(LABEL, 0)?;
-    if label.len() != LABEL {
-        return Err(SimError::NotMade);
+/// What a volume of so many blocks is. The number is no constant here, as a proof would count with it.
+fn plan(blocks: u64) -> Option<Plan<'static>> {
+    if !is_host(HOST) || !are_sizes(blocks, INODES) {
+        return None;
     }
-    let mut disk = MemDisk::new(alloc, (BLOCKS_BEFORE + blocks) * BLOCK)?;
-    match format(alloc, &mut disk, blocks, label.as_slice()) {
-        Ok(()) => Ok(Device { disk }),
+    Some(Plan {
+        host: HOST,
+        blocks,
+        inodes: INODES,
+    })
+}
+
+/// A device with a new volume.
+fn formatted(alloc: Global, plan: &Plan<'_>) -> Result<Device, SimError> {
+    let disk = MemDisk::new(alloc, device_octets(plan.blocks))?;
+    match format(alloc, disk, plan) {
+        Ok(disk) => Ok(Device { disk }),
         Err(_) => Err(SimError::NotMade),
     }
 }
@@ -207,19 +212,27 @@ impl Sim {
 
     /// Whether the change with this serial is a group of this name.
     pub fn is_group(&self, serial: u64, name: &[u8]) -> bool {
-        self.world.spool().group(name) == Some(serial)
+        match self.world.spool().group(name) {
+            Some(group) => group.serial == serial,
+            None => false,
+        }
     }
 
-    /// Whether the change with this serial is an article of this text.
-    pub fn is_article(&self, serial: u64, wanted: &[u8]) -> bool {
+    /// Whether the change with this serial is an article that is sent so.
+    pub fn is_article(&self, alloc: Global, serial: u64, sent: &[u8]) -> Result<bool, SimError> {
         let spool = self.world.spool();
-        if serial < 1 || serial > spool.len() {
-            return false;
+        if spool.moment(serial).is_none() {
+            return Ok(false);
         }
-        match spool.change(serial) {
-            Change::Article { text, .. } => text.as_slice() == wanted,
-            Change::Group { .. } | Change::Expire { .. } => false,
-        }
+        let mut octets = Vec::new(alloc);
+        spool.push_part(&Part::Whole, serial, &mut octets)?;
+        Ok(octets.as_slice() == sent)
+    }
+
+    /// The lowest and the highest number of a group that is here.
+    pub fn numbers(&self, name: &[u8]) -> Option<(u64, u64)> {
+        let group = self.world.spool().group(name)?;
+        Some((group.low, group.high))
     }
 }
 

@@ -2,9 +2,9 @@
 #![tactic(auto)]
 
 mod devices;
+mod new_device;
 mod playing;
 mod sim;
 mod stage;
-mod volume;
 
 pub use playing::simulate;

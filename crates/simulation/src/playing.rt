@@ -1,12 +1,13 @@
 //! A script of events, played over a device in memory.
 
+ghost use Rattle.std.specs.Prelude.{IfSome};
 ghost use Rattle.script.specs.Script.{IsLawful};
 ghost use Rattle.world.specs.Events.{MayHappen};
 
 use crate::devices::Device;
+use crate::new_device::formatted;
 use crate::sim::{Closed, Sim};
 use crate::stage::Stage;
-use crate::volume::formatted;
 use journal::Progress;
 use memdisk::{MemDisk, Pick};
 use names::GroupName;
@@ -146,39 +147,47 @@ fn act<D: Device, W: Write>(
     requires { IsLawful line }
 {
     match line {
+        Line::Join => join(alloc, sim, output),
+        Line::Release => release(alloc, sim, output),
+        Line::Commit => commit(alloc, sim, output),
+        Line::Settle => settle(alloc, sim, output),
+        Line::Spool => Ok(print_spool(alloc, sim.spool(), output)?),
+        line => match event_of(line) {
+            Some(event) => step(alloc, sim, event, output),
+            // the others act on the device too, see `play`
+            None => Ok(()),
+        },
+    }
+}
+
+/// The event of a line that asks for one and prints nothing but its refusal.
+fn event_of(line: Line) -> Option<Event>
+    requires { IsLawful line }
+    ensures { IfSome result MayHappen }
+{
+    match line {
         Line::Group {
             name,
             status,
             moment,
             description,
-        } => {
-            // a lawful line has a group name
-            let Ok(name) = GroupName::read(name.as_slice()) else {
-                return Err(Failure::Bad);
-            };
-            let group = Event::Admin {
-                name,
-                status,
-                description,
-                moment,
-            };
-            step(alloc, sim, group, output)
-        }
-        Line::Join => join(alloc, sim, output),
-        Line::Leave(session) => step(alloc, sim, Event::Leave(session), output),
-        Line::Arrive { session, octets } => {
-            step(alloc, sim, Event::Arrive(session, octets), output)
-        }
-        Line::Exec { session, moment } => step(alloc, sim, Event::Exec(session, moment), output),
-        Line::Take => step(alloc, sim, Event::Take, output),
-        Line::Dev => step(alloc, sim, Event::Dev, output),
-        Line::Told => step(alloc, sim, Event::Told, output),
-        Line::Release => release(alloc, sim, output),
-        Line::Commit => commit(alloc, sim, output),
-        Line::Settle => settle(alloc, sim, output),
-        Line::Spool => Ok(print_spool(sim.spool(), output)?),
-        // these act on the device too, see `play`
-        Line::Crash(_) | Line::FailAt(_) | Line::FailKind(_, _) => Ok(()),
+        } => Some(Event::Admin {
+            name: GroupName::read(name.as_slice()).ok()?,
+            status,
+            description,
+            moment,
+        }),
+        Line::Expire { name, number } => Some(Event::Expire {
+            name: GroupName::read(name.as_slice()).ok()?,
+            number,
+        }),
+        Line::Leave(session) => Some(Event::Leave(session)),
+        Line::Arrive { session, octets } => Some(Event::Arrive(session, octets)),
+        Line::Exec { session, moment } => Some(Event::Exec(session, moment)),
+        Line::Take => Some(Event::Take),
+        Line::Dev => Some(Event::Dev),
+        Line::Told => Some(Event::Told),
+        _ => None,
     }
 }
 

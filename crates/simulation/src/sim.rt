@@ -6,10 +6,9 @@ use crate::devices::Device;
 use disk::DiskCall;
 use memdisk::Pick;
 use outbox::ReadyBuf;
-use spool::Spool;
 use std::alloc::Global;
 use std::marker::Model;
-use world::{Answer, Event, OpenError, Refused, StepError, World};
+use world::{Answer, Event, OpenError, Refused, Spool, StepError, World};
 
 /// A world over a device of the simulation.
 #[derive(Drop)]

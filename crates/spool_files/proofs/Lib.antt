@@ -8,3 +8,4 @@ pub mod Adding
 pub mod Filed
 pub mod Large
 pub mod Sound
+pub mod Texts

@@ -3,3 +3,4 @@ pub mod View
 pub mod Growing
 pub mod Refusals
 pub mod Articles
+pub mod Laws

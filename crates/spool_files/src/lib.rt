@@ -22,18 +22,21 @@ ghost use Rattle.volume.specs.Volume.{AgreeOutside};
 
 mod articles;
 mod errors;
+mod files;
 mod growing;
 mod lines;
+mod look_ups;
 mod open;
 mod room;
 mod staging;
+mod stored;
 
 use article::{Article, Origin, ReadError};
 pub use errors::{AddError, ExpireError};
 use fs::free_block_count;
 use growing::{grow_by_article, grow_by_expiry, grow_by_group};
 use index::{Group, Index};
-use lookups::GroupView;
+use lookups::LookUps;
 use model::{Change, Text};
 use places::Places;
 use room::extends_large;
@@ -52,7 +55,6 @@ const GROUPS: usize = 4096;
 const GROUP_FILES: u32 = 3;
 
 /// The accepted changes of a host, in files, and the cache of the logical blocks that hold them.
-#[derive(Drop)]
 pub struct Spool {
     alloc: Global,
     host: Text,
@@ -65,6 +67,21 @@ pub struct Spool {
 }
 
 ghost use Rattle.spool_files.specs.Kept.{StandsIn, one_stands};
+
+// By hand: who drops one would prove a derived one again, field by field.
+impl Drop for Spool {
+    fn drop(self) {
+        let Spool {
+            alloc: _,
+            host: _,
+            inodes: _,
+            free_inodes: _,
+            volume: _,
+            index: _,
+            places: _,
+        } = self;
+    }
+}
 
 impl Model for Spool {
     ghost use Rattle.spool_files.specs.Kept.{AreFree, IsKept};
@@ -134,11 +151,11 @@ impl Spool {
         )
     }
 
-    /// The host that the spool belongs to.
-    pub fn host(&self) -> &Text
-        ensures { result.now ≡ self.now.host }
+    /// What holds of every spool: its blocks hold its changes.
+    pub fn kept(&self)
+        ensures { IsSpool self.now }
     {
-        &self.host
+        let _ = &self.inodes;
     }
 
     /// How many inodes the volume's label has.
@@ -148,84 +165,11 @@ impl Spool {
         self.inodes
     }
 
-    /// How many changes are accepted.
-    pub fn len(&self) -> u64
-        ensures count { result ≡ length self.now.changes }
-        ensures sound { IsSpool self.now }
-    {
-        self.index.len()
-    }
-
     /// How many logical blocks there are.
     pub fn blocks(&self) -> u32
         ensures { result ≡ length self.now.blocks }
     {
         self.volume.len()
-    }
-
-    /// What is kept of the group with this name.
-    pub fn group(&self, name: &[u8]) -> Option<&Group>
-        ensures { option_map (λ g. shown g.now) result ≡ option_map (group_index self.now.changes) (group_named self.now.changes name.now) }
-    {
-        self.index.group(name)
-    }
-
-    /// The serial of the article with this message-id, also of one that was taken out of its groups.
-    pub fn by_id(&self, id: &[u8]) -> Option<u64>
-        ensures { result ≡ option_map (λ a. a.serial) (by_id self.now.changes id.now) }
-    {
-        self.index.by_id(id)
-    }
-
-    /// The serial of the article that is in the group under this number; none in a group that isn't here.
-    pub fn by_number(&self, group: &[u8], number: u64) -> Option<u64>
-        ensures { result ≡ option_map (λ a. a.serial) (by_number self.now.changes group.now number) }
-    {
-        self.index.by_number(group, number)
-    }
-
-    /// The serial of the expiry that took this number out of the group, 0 where none did.
-    pub fn expired_at(&self, group: &[u8], number: u64) -> u64
-        ensures { result ≡ expired_at self.now.changes group.now number }
-    {
-        self.index.expired_at(group, number)
-    }
-
-    /// The group with this name, as the commands see it.
-    pub fn view(&self, name: &[u8]) -> Option<GroupView<'_>>
-        ensures { option_map held.shown result ≡ option_map (known self.now.changes) (group_named self.now.changes name.now) }
-    {
-        self.index.view(name)
-    }
-
-    /// How many groups there are.
-    pub fn group_count(&self) -> usize
-        ensures { result ≡ length (groups self.now.changes) }
-    {
-        self.index.group_count()
-    }
-
-    /// The serial of the expiry that took the article with this serial out of its last group. None where it is in a group, or
-    /// where no article has this serial.
-    pub fn gone_at(&self, serial: u64) -> Option<u64>
-        ensures { result ≡ gone_with self.now.changes serial }
-    {
-        self.index.gone_at(serial)
-    }
-
-    /// The moment of the article with this serial, if there is one, in seconds since 1970.
-    pub fn moment(&self, serial: u64) -> Option<u64>
-        ensures { result ≡ option_map (λ a. a.moment) (article_with self.now.changes serial) }
-    {
-        self.index.moment(serial)
-    }
-
-    /// Whether the article with this serial is in a group whose name the wildmat takes.
-    pub fn is_in_one(&self, serial: u64, wildmat: &[u8]) -> bool
-        requires { IsTrue (is_wildmat wildmat.now) }
-        ensures { result ≡ list_any (wildmat_matches wildmat.now) (groups_now self.now.changes serial) }
-    {
-        self.index.is_in_one(serial, wildmat)
     }
 
     /// How many blocks are dirty.
@@ -434,70 +378,5 @@ impl Spool {
         )?;
         self.free_inodes -= 1;
         Ok(())
-    }
-
-    /// Files a change that may follow. Refused as `Full` exactly where there is no room, or as `Memory`, which may come before that
-    /// test. A refusal changes nothing.
-    pub fn file(&mut self, change: &Change) -> Result<(), FileError>
-        requires { IsLawful self.old.host (self.old.changes ++ change.now ∷ []) }
-        ensures { IsFiled self.old self.new change.now result }
-    {
-        match change {
-            Change::Group {
-                name,
-                status,
-                description,
-                moment,
-            } => self.file_group(name.as_slice(), *status, description.as_slice(), *moment),
-            Change::Article {
-                text,
-                groups,
-                moment,
-            } => self.file_article(text.as_slice(), groups.as_slice(), *moment),
-            Change::Expire { group, number } => self.file_expiry(group.as_slice(), *number),
-        }
-    }
-
-    /// Files a group that may be made.
-    fn file_group(
-        &mut self,
-        name: &[u8],
-        status: u8,
-        description: &[u8],
-        moment: u64,
-    ) -> Result<(), FileError>
-        requires { MayMake self.old.changes name.now status description.now moment }
-        ensures { IsFiled self.old self.new (changed.Group name.now status description.now moment) result }
-    {
-        match self.add_group(name, status, description, moment) {
-            Ok(_) => Ok(()),
-            Err(AddError::Exists) => unreachable!(),
-            Err(AddError::Full) => Err(FileError::Full),
-            Err(AddError::Memory) => Err(FileError::Memory),
-        }
-    }
-
-    /// Files an article that may be filed.
-    fn file_article(&mut self, text: &[u8], groups: &[Text], moment: u64) -> Result<(), FileError>
-        requires { MayFile self.old.host self.old.changes text.now groups.now moment }
-        ensures { IsFiled self.old self.new (changed.Article text.now groups.now moment) result }
-    {
-        match self.add_article(text, groups, moment) {
-            Ok(_) => Ok(()),
-            Err(error) => Err(error),
-        }
-    }
-
-    /// Files an expiry that may follow.
-    fn file_expiry(&mut self, group: &[u8], number: u64) -> Result<(), FileError>
-        requires { MayExpire self.old.changes group.now number }
-        ensures { IsFiled self.old self.new (changed.Expire group.now number) result }
-    {
-        match self.expire(group, number as u32) {
-            Ok(_) => Ok(()),
-            Err(ExpireError::NotFound) => unreachable!(),
-            Err(ExpireError::Full) => Err(FileError::Full),
-            Err(ExpireError::Memory) => Err(FileError::Memory),
-        }
     }
 }

@@ -1,1 +1,5 @@
 pub mod Standing
+pub mod Headers
+pub mod Lines
+pub mod Groups
+pub mod Appended

@@ -58,7 +58,7 @@ its S k a is = by_entry (slice_get (entries S) k) refl is where
   by_entry None at same = absurd (cc)
   by_entry (Some e) at same = record { change = e; at = at; file_is = filed_file e.serial e.change a same }
 
-both_at : {X Y Z : Type 0} (f : X → Z) (h : Y → Z) (xs : List X) (ys : List Y) (k : ℕ) (x : X) (y : Y) → map f xs ≡ map h ys → slice_get xs k ≡ Some x → slice_get ys k ≡ Some y → f x ≡ h y
+pub both_at : {X Y Z : Type 0} (f : X → Z) (h : Y → Z) (xs : List X) (ys : List Y) (k : ℕ) (x : X) (y : Y) → map f xs ≡ map h ys → slice_get xs k ≡ Some x → slice_get ys k ≡ Some y → f x ≡ h y
 both_at {X} {Y} {Z} f h xs ys k x y same first second =
     same_Some (f x) (h y) (sym (ap (option_map f) first) ∙ sym (slice_get-map f xs k) ∙ ap (λ (l : List Z). slice_get l k) same ∙ slice_get-map h ys k ∙ ap (option_map h) second)
 
@@ -109,6 +109,7 @@ pub record TextStands (inodes : ℕ) (blocks : List Octets) (S : Spool) (places 
   pub below : get_or places (serial - 1) 0 < inodes
   pub file : IsFile (entry inodes blocks (get_or places (serial - 1) 0))
   pub fits : n ≤ size (entry inodes blocks (get_or places (serial - 1) 0))
+  pub long : length (take n (drop (size (entry inodes blocks (get_or places (serial - 1) 0)) - n) (content_of blocks (entry inodes blocks (get_or places (serial - 1) 0))))) ≡ n
   pub text_is : take n (drop (size (entry inodes blocks (get_or places (serial - 1) 0)) - n) (content_of blocks (entry inodes blocks (get_or places (serial - 1) 0)))) ≡ text_of S serial
 
 pub text_stands : (inodes : ℕ) (blocks : List Octets) → HasRoom inodes blocks → IsFileSystem inodes blocks → (S : Spool) (p : FilePlaces) (places : List ℕ) (serial n : ℕ) → places ≡ p.changes → ArePlaces inodes blocks S p
@@ -120,16 +121,17 @@ text_stands inodes blocks room fs S p places serial n same are is =
     let e = entry inodes blocks at in
     let long : length (content_of blocks e) ≡ size e = length-content blocks e room.blocks_whole (λ b owns. (fs.within at b there.below owns).1) in
     let record_size : size e ≡ length (article_record one.article) = sym long ∙ ap (λ (o : Octets). length o) there.content_is in
+    let is : take n (drop (size e - n) (content_of blocks e)) ≡ one.article.text =
+    ap (λ (o : Octets). take n (drop (size e - n) o)) there.content_is
+    ∙ ap (λ (m : ℕ). take n (drop (m - n) (article_record one.article))) record_size
+    ∙ ap (λ (m : ℕ). take m (drop (length (article_record one.article) - m) (article_record one.article))) one.size_is
+    ∙ text_is_last one.article in
     subst (λ (l : List ℕ). TextStands inodes blocks S l serial n) (sym same) (record {
       some = there.some;
       low = there.low;
       below = there.below;
       file = there.file;
       fits = omega (arith, record_size, one.size_is, text_fits one.article);
-      text_is =
-          ap (λ (o : Octets). take n (drop (size e - n) o)) there.content_is
-          ∙ ap (λ (m : ℕ). take n (drop (m - n) (article_record one.article))) record_size
-          ∙ ap (λ (m : ℕ). take m (drop (length (article_record one.article) - m) (article_record one.article))) one.size_is
-          ∙ text_is_last one.article
-          ∙ sym (ap (λ (o : Option NewsArticle). unwrap_or (option_map (λ (a : NewsArticle). a.text) o) []) one.its_own);
+      long = ap (λ (o : Octets). length o) is ∙ sym one.size_is;
+      text_is = is ∙ sym (ap (λ (o : Option NewsArticle). unwrap_or (option_map (λ (a : NewsArticle). a.text) o) []) one.its_own);
     })

@@ -1,20 +1,26 @@
 //! The texts of articles.
 
 ghost use Rattle.std.specs.Prelude.{◌≡◌, ◌++◌, OnOk};
+ghost use Rattle.model.specs.Article.{body, header, id};
 ghost use Rattle.model.specs.Files.{HasRoom, IsFileSystem};
 ghost use Rattle.model.specs.Indexed.{ArePlaces};
 ghost use Rattle.model.specs.Spool.{Spool};
 ghost use Rattle.model.specs.Stream.{stuffed};
-ghost use Rattle.lookups.specs.Held.{text_of};
+ghost use Rattle.lookups.specs.Held.{sent_part, text_of};
 ghost use Rattle.index.specs.View.{Indexes};
 ghost use Rattle.spool_texts.specs.Texts.{HasArticle};
 
+use crate::finding::{front_of, place_of};
 use crate::sending::push_stuffed;
-use fs_layout::inodes::size_of;
+use article::{Header, header_length};
 use index::Index;
+use model::Part;
 use places::Places;
-use std::alloc::AllocError;
+use std::alloc::{AllocError, Global};
 use volume::Blocks;
+
+/// The octets of the line that ends a header.
+const EMPTY_LINE_SIZE: u64 = 2;
 
 /// Appends the text of an article, dot-stuffed and with the line that ends it (RFC 3977, section 3.1.1): the last octets of the file
 /// of its change. Refused for memory alone; the reply may hold any octets then, and is thrown away.
@@ -31,10 +37,98 @@ pub fn push_article<B: Blocks>(
     requires there { HasArticle inodes (B.blocks blocks.now) index.now places.now serial }
     ensures { OnOk result ((S : Spool) → Indexes S index.now → ArePlaces inodes (B.blocks blocks.now) S places.now → reply.new.items ≡ reply.old.items ++ stuffed (text_of S serial)) }
 {
-    let Some(size) = index.size(serial) else {
-        unreachable!()
-    };
-    let at = places.changes()[(serial - 1) as usize];
-    let end = size_of(blocks, inodes, at);
-    push_stuffed(blocks, inodes, at, end - size, size, reply)
+    let text = place_of(blocks, inodes, index, places, serial);
+    push_stuffed(blocks, inodes, text.inode, text.from, text.size, reply)
+}
+
+/// Appends this part of an article, dot-stuffed and with the line that ends it (RFC 3977, section 3.1.1); no octet for `Nothing`.
+/// Refused for memory alone; the reply may hold any octets then, and is thrown away.
+pub fn push_part<B: Blocks>(
+    alloc: Global,
+    blocks: &B,
+    inodes: u32,
+    index: &Index,
+    places: &Places,
+    part: &Part,
+    serial: u64,
+    reply: &mut Vec<u8>,
+) -> Result<(), AllocError>
+    requires room { HasRoom inodes (B.blocks blocks.now) }
+    requires rule { IsFileSystem inodes (B.blocks blocks.now) }
+    requires there { HasArticle inodes (B.blocks blocks.now) index.now places.now serial }
+    ensures { OnOk result ((S : Spool) → Indexes S index.now → ArePlaces inodes (B.blocks blocks.now) S places.now → reply.new.items ≡ reply.old.items ++ sent_part part.now (text_of S serial)) }
+{
+    match part {
+        Part::Whole => push_article(blocks, inodes, index, places, serial, reply),
+        Part::Head => push_head(alloc, blocks, inodes, index, places, serial, reply),
+        Part::Body => push_body(alloc, blocks, inodes, index, places, serial, reply),
+        Part::Nothing => Ok(()),
+    }
+}
+
+/// Appends the header of an article, without the empty line, as `push_part` does.
+fn push_head<B: Blocks>(
+    alloc: Global,
+    blocks: &B,
+    inodes: u32,
+    index: &Index,
+    places: &Places,
+    serial: u64,
+    reply: &mut Vec<u8>,
+) -> Result<(), AllocError>
+    requires room { HasRoom inodes (B.blocks blocks.now) }
+    requires rule { IsFileSystem inodes (B.blocks blocks.now) }
+    requires there { HasArticle inodes (B.blocks blocks.now) index.now places.now serial }
+    ensures { OnOk result ((S : Spool) → Indexes S index.now → ArePlaces inodes (B.blocks blocks.now) S places.now → reply.new.items ≡ reply.old.items ++ stuffed (header (text_of S serial))) }
+{
+    let text = place_of(blocks, inodes, index, places, serial);
+    let front = front_of(alloc, blocks, inodes, text)?;
+    let size = header_length(&front) as u64;
+    push_stuffed(blocks, inodes, text.inode, text.from, size, reply)
+}
+
+/// Appends what follows the empty line of an article, as `push_part` does.
+fn push_body<B: Blocks>(
+    alloc: Global,
+    blocks: &B,
+    inodes: u32,
+    index: &Index,
+    places: &Places,
+    serial: u64,
+    reply: &mut Vec<u8>,
+) -> Result<(), AllocError>
+    requires room { HasRoom inodes (B.blocks blocks.now) }
+    requires rule { IsFileSystem inodes (B.blocks blocks.now) }
+    requires there { HasArticle inodes (B.blocks blocks.now) index.now places.now serial }
+    ensures { OnOk result ((S : Spool) → Indexes S index.now → ArePlaces inodes (B.blocks blocks.now) S places.now → reply.new.items ≡ reply.old.items ++ stuffed (body (text_of S serial))) }
+{
+    let text = place_of(blocks, inodes, index, places, serial);
+    let front = front_of(alloc, blocks, inodes, text)?;
+    let skipped = text
+        .size
+        .min(header_length(&front) as u64 + EMPTY_LINE_SIZE);
+    let from = text.from + skipped;
+    push_stuffed(blocks, inodes, text.inode, from, text.size - skipped, reply)
+}
+
+/// Appends the message-id of an article; no octet where it has none. Refused for memory alone; the reply may hold any octets then,
+/// and is thrown away.
+pub fn push_id<B: Blocks>(
+    alloc: Global,
+    blocks: &B,
+    inodes: u32,
+    index: &Index,
+    places: &Places,
+    serial: u64,
+    reply: &mut Vec<u8>,
+) -> Result<(), AllocError>
+    requires room { HasRoom inodes (B.blocks blocks.now) }
+    requires rule { IsFileSystem inodes (B.blocks blocks.now) }
+    requires there { HasArticle inodes (B.blocks blocks.now) index.now places.now serial }
+    ensures { OnOk result ((S : Spool) → Indexes S index.now → ArePlaces inodes (B.blocks blocks.now) S places.now → reply.new.items ≡ reply.old.items ++ id (text_of S serial)) }
+{
+    let text = place_of(blocks, inodes, index, places, serial);
+    let front = front_of(alloc, blocks, inodes, text)?;
+    let header = Header::read(alloc, &front)?;
+    reply.extend_from_slice(header.id())
 }

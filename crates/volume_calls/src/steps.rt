@@ -32,14 +32,14 @@ pub fn zeros(alloc: Global) -> Result<Volume, AllocError> {
     Volume::of(alloc, octets, 8)
 }
 
-/// A device with a volume of so many zeroed blocks.
+/// A device with a volume of so many zeroed blocks, and one segment.
 fn formatted(alloc: Global, blocks: u64) -> Result<MemDisk, FormatError>
     requires low { 1024 ≤ blocks }
     requires high { blocks ≤ 65536 }
 {
     let made = MemDisk::new(alloc, BLOCK_SIZE as u64 * (515 + blocks));
     let mut disk = made.map_err(|_| FormatError::Memory)?;
-    journal::format(alloc, &mut disk, blocks, &[0; 128])?;
+    journal::format_with(alloc, &mut disk, 1, blocks, &[0; 128])?;
     Ok(disk)
 }
 

@@ -24,7 +24,7 @@ is_zero_block xs size zero =
     ∙ ap (λ (n : ℕ). replicate n 0) size
 
 -- the superblock, written part by part
-module _ (old label : List ℕ) (blocks : ℕ) (whole : length old ≡ 4096) (zero : All IsZero old) (label_size : length label ≡ 128) (low : 1024 ≤ blocks) (high : blocks ≤ 65536) where
+module _ (old label : List ℕ) (segments blocks : ℕ) (counts : (segments ≡ 1) ⊎ (segments ≡ 8)) (whole : length old ≡ 4096) (zero : All IsZero old) (label_size : length label ≡ 128) (low : 1024 ≤ blocks) (high : blocks ≤ 65536) where
   abbrev first : List ℕ
   first = overwritten 0 magic old
 
@@ -35,7 +35,7 @@ module _ (old label : List ℕ) (blocks : ℕ) (whole : length old ≡ 4096) (ze
   third = overwritten 12 (little_bytes 4 blocks) second
 
   abbrev fourth : List ℕ
-  fourth = overwritten 16 (little_bytes 4 1) third
+  fourth = overwritten 16 (little_bytes 4 segments) third
 
   abbrev pub superblock : List ℕ
   superblock = overwritten 20 label fourth
@@ -50,7 +50,7 @@ module _ (old label : List ℕ) (blocks : ℕ) (whole : length old ≡ 4096) (ze
   size3 = length-overwritten 12 (little_bytes 4 blocks) second (omega (arith, size2)) ∙ size2
 
   size4 : length fourth ≡ 4096
-  size4 = length-overwritten 16 (little_bytes 4 1) third (omega (arith, size3)) ∙ size3
+  size4 = length-overwritten 16 (little_bytes 4 segments) third (omega (arith, size3)) ∙ size3
 
   fits : 20 + length label ≤ length fourth
   fits = omega (arith, size4, label_size)
@@ -61,7 +61,7 @@ module _ (old label : List ℕ) (blocks : ℕ) (whole : length old ≡ 4096) (ze
   begins : take 8 superblock ≡ magic
   begins =
       part-overwritten_apart 20 label fourth fits 0 8 (inl (omega arith))
-      ∙ part-overwritten_apart 16 (little_bytes 4 1) third (omega (arith, size3)) 0 8 (inl (omega arith))
+      ∙ part-overwritten_apart 16 (little_bytes 4 segments) third (omega (arith, size3)) 0 8 (inl (omega arith))
       ∙ part-overwritten_apart 12 (little_bytes 4 blocks) second (omega (arith, size2)) 0 8 (inl (omega arith))
       ∙ part-overwritten_apart 8 (little_bytes 4 1) first (omega (arith, size1)) 0 8 (inl (omega arith))
       ∙ part-overwritten 0 magic old (omega (arith, whole))
@@ -69,20 +69,26 @@ module _ (old label : List ℕ) (blocks : ℕ) (whole : length old ≡ 4096) (ze
   version_is : number_at 8 4 superblock ≡ 1
   version_is =
       number_at_apart 20 label fourth fits 8 4 (inl (omega arith))
-      ∙ number_at_apart 16 (little_bytes 4 1) third (omega (arith, size3)) 8 4 (inl (omega arith))
+      ∙ number_at_apart 16 (little_bytes 4 segments) third (omega (arith, size3)) 8 4 (inl (omega arith))
       ∙ number_at_apart 12 (little_bytes 4 blocks) second (omega (arith, size2)) 8 4 (inl (omega arith))
       ∙ number_at_written 8 4 1 first (omega (arith, size1)) (omega arith)
 
   pub blocks_are : number_at 12 4 superblock ≡ blocks
   blocks_are =
       number_at_apart 20 label fourth fits 12 4 (inl (omega arith))
-      ∙ number_at_apart 16 (little_bytes 4 1) third (omega (arith, size3)) 12 4 (inl (omega arith))
+      ∙ number_at_apart 16 (little_bytes 4 segments) third (omega (arith, size3)) 12 4 (inl (omega arith))
       ∙ number_at_written 12 4 blocks second (omega (arith, size2)) (omega (arith, high))
 
-  segments_are : number_at 16 4 superblock ≡ 1
+  few : segments ≤ 8
+  few = elim counts [
+    | inl one ↦ omega (arith, one)
+    | inr eight ↦ omega (arith, eight)
+  ]
+
+  pub segments_are : number_at 16 4 superblock ≡ segments
   segments_are =
       number_at_apart 20 label fourth fits 16 4 (inl (omega arith))
-      ∙ number_at_written 16 4 1 third (omega (arith, size3)) (omega arith)
+      ∙ number_at_written 16 4 segments third (omega (arith, size3)) (omega (arith, few))
 
   pub label_is : part 20 128 superblock ≡ label
   label_is = ap (λ (n : ℕ). part 20 n superblock) (sym label_size) ∙ part-overwritten 20 label fourth fits
@@ -96,19 +102,19 @@ module _ (old label : List ℕ) (blocks : ℕ) (whole : length old ≡ 4096) (ze
           let inside : 148 + i < length old = omega (arith, Rattle.std.proofs.Common.length-drop 148 superblock, length-superblock, whole) in
           get_or-drop 148 superblock i 0
           ∙ overwritten_above 20 label fourth fits (148 + i) 0 (omega (arith, label_size))
-          ∙ overwritten_above 16 (little_bytes 4 1) third (omega (arith, size3)) (148 + i) 0 (omega arith)
+          ∙ overwritten_above 16 (little_bytes 4 segments) third (omega (arith, size3)) (148 + i) 0 (omega arith)
           ∙ overwritten_above 12 (little_bytes 4 blocks) second (omega (arith, size2)) (148 + i) 0 (omega arith)
           ∙ overwritten_above 8 (little_bytes 4 1) first (omega (arith, size1)) (148 + i) 0 (omega arith)
           ∙ overwritten_above 0 magic old (omega (arith, whole)) (148 + i) 0 (omega arith)
           ∙ All-get_or IsZero old (148 + i) 0 inside zero
 
-  pub superblock_valid : IsSuperblock superblock (4096 * home_place 1 blocks)
+  pub superblock_valid : IsSuperblock superblock (4096 * home_place segments blocks)
   superblock_valid = record {
     begins = begins;
     version_is = version_is;
     low = omega (arith, blocks_are, low);
     high = omega (arith, blocks_are, high);
-    segments = segments_are;
+    segments = subst (λ (n : ℕ). (n ≡ 1) ⊎ (n ≡ 8)) (sym segments_are) counts;
     zeros = zeros_stay;
     exactly = omega (arith, blocks_are, segments_are);
   }
@@ -129,9 +135,9 @@ shut_gate x octets s whole zero is =
     ap (λ (n : ℕ). eqb n 1) (ap (λ (b : List ℕ). get_or b 0 0) is ∙ All-get_or IsZero octets 0 0 (omega (arith, whole)) zero)
 
 -- the volume, once each block is written
-pub stands_formatted : (blocks : ℕ) (octets super old new label : List ℕ) → length old ≡ 4096 * home_place 1 blocks → length octets ≡ 4096 → All IsZero octets → length super ≡ 4096 → IsSuperblock super (4096 * home_place 1 blocks) → number_at 12 4 super ≡ blocks → part 20 128 super ≡ label
-    → ((k : ℕ) → 0 < k → k < home_place 1 blocks → block k old ≡ octets) → new ≡ overwritten 0 super old → StandsFor new label (zeroed blocks)
-stands_formatted blocks octets super old new label size whole zero super_size valid blocks_is label_is written is =
+pub stands_formatted : (segments blocks : ℕ) (octets super old new label : List ℕ) → length old ≡ 4096 * home_place segments blocks → length octets ≡ 4096 → All IsZero octets → length super ≡ 4096 → IsSuperblock super (4096 * home_place segments blocks) → number_at 12 4 super ≡ blocks → number_at 16 4 super ≡ segments → part 20 128 super ≡ label
+    → ((k : ℕ) → 0 < k → k < home_place segments blocks → block k old ≡ octets) → new ≡ overwritten 0 super old → StandsFor new label (zeroed blocks)
+stands_formatted segments blocks octets super old new label size whole zero super_size valid blocks_is segments_is label_is written is =
     subst (λ (x : List ℕ). StandsFor x label (zeroed blocks)) (sym is)
     (subst (λ (l : List ℕ). StandsFor image l (zeroed blocks)) (ap (λ (b : List ℕ). part 20 128 b) first ∙ label_is)
     (subst (λ (bs : List (List ℕ)). StandsFor image (label_of image) bs) home_zeroed (stands_bare image has_superblock none)))
@@ -145,20 +151,20 @@ stands_formatted blocks octets super old new label size whole zero super_size va
     first : block 0 image ≡ super
     first = block-overwritten 0 super old super_size fits
 
-    rest : (k : ℕ) → 0 < k → k < home_place 1 blocks → block k image ≡ octets
+    rest : (k : ℕ) → 0 < k → k < home_place segments blocks → block k image ≡ octets
     rest k some low = (overwritten_same 0 super old (omega (arith, super_size)) fits).same k (λ e. absurd (omega arith)) ∙ written k some low
 
-    image_size : length image ≡ 4096 * home_place 1 blocks
+    image_size : length image ≡ 4096 * home_place segments blocks
     image_size = length-overwritten (4096 * 0) super old fits ∙ size
 
     has_superblock : IsSuperblock (block 0 image) (length image)
-    has_superblock = subst (λ (n : ℕ). IsSuperblock (block 0 image) n) (sym image_size) (subst (λ (b : List ℕ). IsSuperblock b (4096 * home_place 1 blocks)) (sym first) valid)
+    has_superblock = subst (λ (n : ℕ). IsSuperblock (block 0 image) n) (sym image_size) (subst (λ (b : List ℕ). IsSuperblock b (4096 * home_place segments blocks)) (sym first) valid)
 
     home_is : home_size image ≡ blocks
     home_is = ap (number_at 12 4) first ∙ blocks_is
 
-    count_is : segment_count image ≡ 1
-    count_is = ap (number_at 16 4) first ∙ valid.segments
+    count_is : segment_count image ≡ segments
+    count_is = ap (number_at 16 4) first ∙ segments_is
 
     none : open_segments image ≡ []
     none = none_are_open image (λ s low. shut_gate image octets s whole zero (rest (gate_place s) (omega arith) (omega (arith, low, count_is))))
@@ -173,13 +179,18 @@ stands_formatted blocks octets super old new label size whole zero super_size va
             get_or-home image k inside ∙ rest (home_place (segment_count image) k) (omega arith) (omega (arith, low, count_is)) ∙ is_zero_block octets whole zero ∙ sym (get_or-replicate blocks k zero_block [] low)
 
 -- its segments are closed
-pub none_formatted : (blocks : ℕ) (octets super old new : List ℕ) → length old ≡ 4096 * home_place 1 blocks → length octets ≡ 4096 → All IsZero octets → length super ≡ 4096 → number_at 16 4 super ≡ 1
-    → ((k : ℕ) → 0 < k → k < home_place 1 blocks → block k old ≡ octets) → new ≡ overwritten 0 super old → open_segments new ≡ []
-none_formatted blocks octets super old new size whole zero super_size segments_are written is =
+pub none_formatted : (segments blocks : ℕ) (octets super old new : List ℕ) → length old ≡ 4096 * home_place segments blocks → length octets ≡ 4096 → All IsZero octets → length super ≡ 4096 → number_at 16 4 super ≡ segments
+    → ((k : ℕ) → 0 < k → k < home_place segments blocks → block k old ≡ octets) → new ≡ overwritten 0 super old → open_segments new ≡ []
+none_formatted segments blocks octets super old new size whole zero super_size segments_are written is =
     let fits : 4096 * 0 + length super ≤ length old = omega (arith, super_size, size) in
     let image = overwritten (4096 * 0) super old in
-    let count : segment_count image ≡ 1 = ap (number_at 16 4) (block-overwritten 0 super old super_size fits) ∙ segments_are in
+    let count : segment_count image ≡ segments = ap (number_at 16 4) (block-overwritten 0 super old super_size fits) ∙ segments_are in
     ap open_segments is
     ∙ none_are_open image (λ s low.
     shut_gate image octets s whole zero
     ((overwritten_same 0 super old (omega (arith, super_size)) fits).same (gate_place s) (λ e. absurd (omega (arith, e))) ∙ written (gate_place s) (omega arith) (omega (arith, low, count))))
+
+-- how many they are
+pub counted_formatted : (segments : ℕ) (super old new : List ℕ) → 4096 ≤ length old → length super ≡ 4096 → number_at 16 4 super ≡ segments → new ≡ overwritten 0 super old → segment_count new ≡ segments
+counted_formatted segments super old new size super_size segments_are is =
+    ap segment_count is ∙ ap (number_at 16 4) (block-overwritten 0 super old super_size (omega (arith, super_size, size))) ∙ segments_are

@@ -84,13 +84,15 @@ fn read_numbers(descriptor: &[u8], count: usize, numbers: &mut Vec<u32>)
     }
 }
 
-fn are_below(numbers: &[u32], blocks: u64) -> bool
+/// Whether each of the numbers is one of so many blocks.
+pub fn are_below(numbers: &[u32], blocks: u64) -> bool
     ensures { IsTrue result ↔ All (λ n. n < blocks) numbers.now }
 {
     numbers.iter().all(|n| u64::from(*n) < blocks)
 }
 
-fn are_distinct(numbers: &[u32]) -> bool
+/// Whether no number stands twice.
+pub fn are_distinct(numbers: &[u32]) -> bool
     ensures { IsTrue result ↔ AreDistinct numbers.now }
 {
     for i in 0..numbers.len() {

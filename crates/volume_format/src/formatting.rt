@@ -4,7 +4,7 @@ ghost use Rattle.std.specs.Prelude.{◌≡◌, ◌^◌, ◌⊎◌, ◌+◌, ◌*
 ghost use Rattle.std.specs.List.{All};
 ghost use Rattle.disk.specs.Device.{Elapses, LeavesOnly};
 ghost use Rattle.disk.specs.Image.{overwritten, part};
-ghost use Rattle.model.specs.Volume.{IsSuperblock, StandsFor, block, home_place, number_at, open_segments};
+ghost use Rattle.model.specs.Volume.{IsSuperblock, StandsFor, block, home_place, number_at, open_segments, segment_count};
 ghost use Rattle.volume_format.specs.Formatting.{CountsFaults, zeroed};
 
 use crate::FormatError;
@@ -13,7 +13,7 @@ use crate::superblock::describe_in;
 use disk::{Disk, DiskError};
 use std::alloc::{AllocError, Global};
 
-/// Writes a volume of zeroed logical blocks with this label and a closed segment, and syncs.
+/// Writes a volume of zeroed logical blocks with this label and eight closed segments, and syncs.
 /// `label` has 128 octets, which the journal doesn't read, and there are 1,024 to 65,536 blocks.
 ///
 /// A refusal, for memory too, may leave anything there.
@@ -26,15 +26,39 @@ pub fn format<D: Disk>(
     requires low { 1024 ≤ blocks }
     requires high { blocks ≤ 65536 }
     requires label { length label.now ≡ 128 }
-    requires size { (D.device disk.old).size ≡ 4096 * home_place 1 blocks }
+    requires size { (D.device disk.old).size ≡ 4096 * home_place 8 blocks }
     ensures volume { IsTrue (D.device disk.old).tells → OnOk result (StandsFor (D.device disk.new).content label.now (zeroed blocks)) }
+    ensures count { IsTrue (D.device disk.old).tells → OnOk result (segment_count (D.device disk.new).content ≡ 8) }
+    ensures synced { IsTrue (D.device disk.old).tells → OnOk result (LeavesOnly (D.device disk.new) (D.device disk.new).content) }
+    ensures closed { IsTrue (D.device disk.old).tells → OnOk result (open_segments (D.device disk.new).content ≡ []) }
+    ensures time { Elapses (D.device disk.old) (D.device disk.new) }
+    ensures failures { CountsFaults result (D.device disk.old) (D.device disk.new) }
+{
+    format_with(alloc, disk, SEGMENTS, blocks, label)
+}
+
+/// The same with 1 segment or 8.
+pub fn format_with<D: Disk>(
+    alloc: Global,
+    disk: &mut D,
+    segments: u32,
+    blocks: u64,
+    label: &[u8],
+) -> Result<(), FormatError>
+    requires segments { (segments ≡ 1) ⊎ (segments ≡ 8) }
+    requires low { 1024 ≤ blocks }
+    requires high { blocks ≤ 65536 }
+    requires label { length label.now ≡ 128 }
+    requires size { (D.device disk.old).size ≡ 4096 * home_place segments blocks }
+    ensures volume { IsTrue (D.device disk.old).tells → OnOk result (StandsFor (D.device disk.new).content label.now (zeroed blocks)) }
+    ensures count { IsTrue (D.device disk.old).tells → OnOk result (segment_count (D.device disk.new).content ≡ segments) }
     ensures synced { IsTrue (D.device disk.old).tells → OnOk result (LeavesOnly (D.device disk.new) (D.device disk.new).content) }
     ensures closed { IsTrue (D.device disk.old).tells → OnOk result (open_segments (D.device disk.new).content ≡ []) }
     ensures time { Elapses (D.device disk.old) (D.device disk.new) }
     ensures failures { CountsFaults result (D.device disk.old) (D.device disk.new) }
 {
     match zeros(alloc, BLOCK) {
-        Ok(octets) => write_volume(disk, blocks, label, octets),
+        Ok(octets) => write_volume(disk, segments, blocks, label, octets),
         Err(_) => Err(FormatError::Memory),
     }
 }
@@ -42,24 +66,27 @@ pub fn format<D: Disk>(
 // Writes the volume, in which each block but the first is the given one of zeros.
 fn write_volume<D: Disk>(
     disk: &mut D,
+    segments: u32,
     blocks: u64,
     label: &[u8],
     mut octets: Vec<u8>,
 ) -> Result<(), FormatError>
+    requires segments { (segments ≡ 1) ⊎ (segments ≡ 8) }
     requires low { 1024 ≤ blocks }
     requires high { blocks ≤ 65536 }
     requires label { length label.now ≡ 128 }
-    requires size { (D.device disk.old).size ≡ 4096 * home_place 1 blocks }
+    requires size { (D.device disk.old).size ≡ 4096 * home_place segments blocks }
     requires whole { length octets.items ≡ 4096 }
     requires zero { All (λ octet. octet ≡ 0) octets.items }
     ensures volume { IsTrue (D.device disk.old).tells → OnOk result (StandsFor (D.device disk.new).content label.now (zeroed blocks)) }
+    ensures count { IsTrue (D.device disk.old).tells → OnOk result (segment_count (D.device disk.new).content ≡ segments) }
     ensures synced { IsTrue (D.device disk.old).tells → OnOk result (LeavesOnly (D.device disk.new) (D.device disk.new).content) }
     ensures closed { IsTrue (D.device disk.old).tells → OnOk result (open_segments (D.device disk.new).content ≡ []) }
     ensures time { Elapses (D.device disk.old) (D.device disk.new) }
     ensures failures { CountsFaults result (D.device disk.old) (D.device disk.new) }
 {
-    write_blocks(disk, home_block(SEGMENTS, blocks), octets.as_slice())?;
-    describe_in(&mut octets, blocks as u32, label);
+    write_blocks(disk, home_block(segments, blocks), octets.as_slice())?;
+    describe_in(&mut octets, segments, blocks as u32, label);
     write_part(disk, 0, octets.as_slice())?;
     sync_last(disk)
 }

@@ -10,8 +10,10 @@ use byteorder::{ByteOrder, LittleEndian};
 
 /// How many octets a block has.
 pub const BLOCK: usize = 4096;
-/// How many segments a volume has.
-pub const SEGMENTS: u32 = 1;
+/// How many segments a new volume has.
+pub const SEGMENTS: u32 = 8;
+/// How many a volume may have in place of them.
+pub const ONE_SEGMENT: u32 = 1;
 /// How many images a segment has room for.
 pub const SEGMENT_IMAGES: usize = 512;
 /// How many blocks a segment has: its gate, its descriptor and its images.

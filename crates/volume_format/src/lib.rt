@@ -7,9 +7,9 @@ mod formatting;
 pub mod layout;
 mod superblock;
 
-pub use descriptor::{describe_batch, read_descriptor};
-pub use formatting::{format, zeros};
-pub use superblock::read_superblock;
+pub use descriptor::{are_below, are_distinct, describe_batch, read_descriptor};
+pub use formatting::{format, format_with, zeros};
+pub use superblock::{Sizes, read_superblock};
 use thiserror::Error;
 
 /// Why a volume was not written.

@@ -1,67 +1,89 @@
 //! The superblock, from its octets and into them.
 
-ghost use Rattle.std.specs.Prelude.{◌≡◌, ◌↔◌, ◌*◌, ◌≤◌, [], ℕ, IfSome, IsNone, IsTrue, drop, length, take};
+ghost use Rattle.std.specs.Prelude.{◌≡◌, ◌↔◌, ◌⊎◌, ◌*◌, ◌≤◌, [], ℕ, IfSome, IsNone, IsTrue, drop, length, take};
 ghost use Rattle.std.specs.List.{All};
 ghost use Rattle.disk.specs.Image.{part};
 ghost use Rattle.model.specs.Volume.{IsSuperblock, home_place, magic, number_at};
 
 use crate::layout::{
-    FEWEST_BLOCKS, LABEL_AT, MAGIC, MOST_BLOCKS, SEGMENTS, SUPERBLOCK_USED, VERSION, home_block,
-    number32, put_octets, put32, start_of,
+    FEWEST_BLOCKS, LABEL_AT, MAGIC, MOST_BLOCKS, ONE_SEGMENT, SEGMENTS, SUPERBLOCK_USED, VERSION,
+    home_block, number32, put_octets, put32, start_of,
 };
 
 /// Makes a superblock of a block of zeros.
-pub(crate) fn describe_in(octets: &mut Vec<u8>, blocks: u32, label: &[u8])
+pub(crate) fn describe_in(octets: &mut Vec<u8>, segments: u32, blocks: u32, label: &[u8])
+    requires segments { (segments ≡ 1) ⊎ (segments ≡ 8) }
     requires low { 1024 ≤ blocks }
     requires high { blocks ≤ 65536 }
     requires whole { length octets.old.items ≡ 4096 }
     requires zero { All (λ octet. octet ≡ 0) octets.old.items }
     requires label { length label.now ≡ 128 }
-    ensures valid { IsSuperblock octets.new.items (4096 * home_place 1 blocks) }
+    ensures valid { IsSuperblock octets.new.items (4096 * home_place segments blocks) }
     ensures blocks { number_at 12 4 octets.new.items ≡ blocks }
+    ensures segments { number_at 16 4 octets.new.items ≡ segments }
     ensures label { part 20 128 octets.new.items ≡ label.now }
     ensures size { length octets.new.items ≡ 4096 }
 {
-    describe_volume(octets.as_mut_slice(), blocks, label);
+    describe_volume(octets.as_mut_slice(), segments, blocks, label);
 }
 
-fn describe_volume(octets: &mut [u8], blocks: u32, label: &[u8])
+fn describe_volume(octets: &mut [u8], segments: u32, blocks: u32, label: &[u8])
+    requires segments { (segments ≡ 1) ⊎ (segments ≡ 8) }
     requires low { 1024 ≤ blocks }
     requires high { blocks ≤ 65536 }
     requires whole { length octets.old ≡ 4096 }
     requires zero { All (λ octet. octet ≡ 0) octets.old }
     requires label { length label.now ≡ 128 }
-    ensures valid { IsSuperblock octets.new (4096 * home_place 1 blocks) }
+    ensures valid { IsSuperblock octets.new (4096 * home_place segments blocks) }
     ensures blocks { number_at 12 4 octets.new ≡ blocks }
+    ensures segments { number_at 16 4 octets.new ≡ segments }
     ensures label { part 20 128 octets.new ≡ label.now }
     ensures size { length octets.new ≡ 4096 }
 {
     put_octets(octets, 0, &MAGIC);
     put32(octets, 8, VERSION);
     put32(octets, 12, blocks);
-    put32(octets, 16, SEGMENTS);
+    put32(octets, 16, segments);
     put_octets(octets, LABEL_AT, label);
 }
 
-/// How many logical blocks a superblock tells, where it is valid for a device of that size.
-pub fn read_superblock(octets: &[u8], size: u64) -> Option<u64>
+/// How many logical blocks and how many segments a volume has.
+#[derive(Clone, Copy, Debug, PartialEq, Eq)]
+pub struct Sizes {
+    /// 1,024 to 65,536.
+    pub blocks: u64,
+    /// 1 or 8.
+    pub segments: u32,
+}
+
+/// The sizes that a superblock tells, where it is valid for a device of so many octets.
+pub fn read_superblock(octets: &[u8], size: u64) -> Option<Sizes>
     requires { length octets.now ≡ 4096 }
-    ensures some { IfSome result (λ blocks. IsSuperblock octets.now size × (number_at 12 4 octets.now ≡ blocks)) }
+    ensures some { IfSome result (λ sizes. IsSuperblock octets.now size × (number_at 12 4 octets.now ≡ sizes.blocks) × (number_at 16 4 octets.now ≡ sizes.segments)) }
     ensures none { IsNone result → IsSuperblock octets.now size → ⊥ }
 {
     let blocks = u64::from(number32(octets, 12));
+    let segments = number32(octets, 16);
     if has_magic(octets)
         && number32(octets, 8) == VERSION
-        && number32(octets, 16) == SEGMENTS
+        && may_be_many(segments)
         && FEWEST_BLOCKS <= blocks
         && blocks <= MOST_BLOCKS
-        && size == start_of(home_block(SEGMENTS, blocks))
+        && size == start_of(home_block(segments, blocks))
         && has_zeros(octets)
     {
-        Some(blocks)
+        Some(Sizes { blocks, segments })
     } else {
         None
     }
+}
+
+// Whether a volume may have so many segments.
+fn may_be_many(segments: u32) -> bool
+    ensures count { IsTrue result ↔ (segments ≡ 1) ⊎ (segments ≡ 8) }
+    ensures few { IsTrue result → segments ≤ 8 }
+{
+    segments == ONE_SEGMENT || segments == SEGMENTS
 }
 
 fn has_magic(octets: &[u8]) -> bool

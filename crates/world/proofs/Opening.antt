@@ -11,7 +11,7 @@ use Rattle.journal.specs.declared.Next.TheVariants.{Commit, Idle}
 use Rattle.kernel.specs.Kernel.{KernelView}
 use Rattle.kernel.specs.Label.{IsNoLabel}
 use Rattle.kernel.specs.Opening.{IsDamaged, IsFresh, IsOpened, OnlyReads}
-use Rattle.kernel.proofs.OneSpool.{label_same}
+use Rattle.model.proofs.Images.{label_says as label_same}
 use Rattle.kernel.specs.declared.opening.OpenError.{OpenError}
 use Rattle.kernel.specs.declared.opening.OpenError.TheVariants as open_errors
 use Rattle.model.specs.Layout.{IsLabel}

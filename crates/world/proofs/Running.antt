@@ -116,6 +116,7 @@ memory_is (Err error.LaterDirty) is = absurd (cc is)
 memory_is (Err error.LaterOut) is = absurd (cc is)
 memory_is (Err error.NoSession) is = absurd (cc is)
 memory_is (Err error.Exists) is = absurd (cc is)
+memory_is (Err error.NotFound) is = absurd (cc is)
 
 pub memory_not : (r : Result Answer StepError) → for_memory r ≡ false → r ≢ Err error.Memory
 memory_not r is e = absurd (let both : true ≡ false = sym (ap for_memory e) ∙ is in cc)

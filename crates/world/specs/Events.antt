@@ -10,18 +10,20 @@ use Rattle.journal.specs.declared.JournalError.{JournalError}
 use Rattle.journal.specs.declared.JournalError.TheVariants as journal
 use Rattle.journal.specs.declared.Progress.{Progress}
 use Rattle.journal.specs.declared.Progress.TheVariants as progress
-use Rattle.kernel.specs.Kernel.{KernelView, Refusal, Tested, TestedOrMemory, admin_refusal_of, early_refusal, exec_refusal, halted_for_good, has_batch, join_refusal, made_durable, mode_at, taken}
+use Rattle.kernel.specs.Kernel.{KernelView, Refusal, Tested, TestedOrMemory, admin_refusal_of, early_refusal, exec_refusal, expire_refusal_of, halted_for_good, has_batch, join_refusal, made_durable, mode_at, taken}
 use Rattle.kernel.specs.Kernel as refusal
 use Rattle.kernel.specs.declared.errors.AdminError.{AdminError}
 use Rattle.kernel.specs.declared.errors.AdminError.TheVariants as admin
 use Rattle.kernel.specs.declared.errors.ExecError.{ExecError}
 use Rattle.kernel.specs.declared.errors.ExecError.TheVariants as exec
+use Rattle.kernel.specs.declared.errors.ExpireError.{ExpireError}
+use Rattle.kernel.specs.declared.errors.ExpireError.TheVariants as expire
 use Rattle.kernel.specs.declared.errors.JoinError.{JoinError}
 use Rattle.kernel.specs.declared.errors.JoinError.TheVariants as join
 use Rattle.served.specs.declared.errors.ArriveError.{ArriveError}
 use Rattle.served.specs.declared.errors.ArriveError.TheVariants as arrive
 use Rattle.model.specs.Stream.{Octets}
-use Rattle.model.specs.declared.change.Change.TheVariants.{Group}
+use Rattle.model.specs.declared.change.Change.TheVariants.{Expire, Group}
 use Rattle.model.specs.declared.message.Mark.{Mark}
 use Rattle.model.specs.declared.message.Message.{Message}
 use Rattle.model.specs.declared.message.Mode.{Mode}
@@ -42,6 +44,7 @@ of_kernel refusal.LaterDirty = error.LaterDirty
 of_kernel refusal.LaterOut = error.LaterOut
 of_kernel refusal.NoSession = error.NoSession
 of_kernel refusal.Exists = error.Exists
+of_kernel refusal.NotFound = error.NotFound
 of_kernel refusal.Full = error.Full
 
 -- ---- Arrive and Exec
@@ -124,6 +127,9 @@ Did device old (event.Exec number moment) result new = DidExec old number moment
 Did device old (event.Admin name status description moment) result new =
     TestedOrMemory of_kernel error.Memory (early_refusal (kernel_of old)) (admin_refusal_of (kernel_of old) (Group name status description.items moment)) old new result
     (λ a. (serial : ℕ) × (a ≡ answer.Made serial) × Makes old.served new.served (Group name status description.items moment) serial × (new ≡ with_served old new.served))
+Did device old (event.Expire name number) result new =
+    TestedOrMemory of_kernel error.Memory (early_refusal (kernel_of old)) (expire_refusal_of (kernel_of old) (Expire name number)) old new result
+    (λ a. (serial : ℕ) × (a ≡ answer.Made serial) × Makes old.served new.served (Expire name number) serial × (new ≡ with_served old new.served))
 Did device old event.Take result new = DidTake old result new
 Did device old event.Dev result new = DidDev device old result new
 Did device old event.Told result new =
@@ -171,6 +177,13 @@ of_admin_error admin.LaterDirty = error.LaterDirty
 of_admin_error admin.Exists = error.Exists
 of_admin_error admin.Full = error.Full
 of_admin_error admin.Memory = error.Memory
+
+abbrev pub of_expire_error : ExpireError → StepError
+of_expire_error expire.Halted = error.Halted
+of_expire_error expire.LaterDirty = error.LaterDirty
+of_expire_error expire.NotFound = error.NotFound
+of_expire_error expire.Full = error.Full
+of_expire_error expire.Memory = error.Memory
 
 abbrev pub of_arrive_error : ArriveError → StepError
 of_arrive_error arrive.NoSession = error.NoSession

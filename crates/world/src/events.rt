@@ -23,6 +23,11 @@ pub enum Event {
         description: Vec<u8>,
         moment: u64,
     },
+    /// The operator takes the articles of a group up to a number out of it.
+    Expire {
+        name: GroupName,
+        number: u32,
+    },
     /// The journal begins a batch of the changed blocks, if it is idle and there is one.
     Take,
     /// The journal makes its next device call.
@@ -41,7 +46,7 @@ pub enum Answer {
     Joined(u64),
     /// what the session sends next, and how the message was served; none where no message has come whole
     Served(Option<(Option<Mode>, Mark)>),
-    /// the group's serial
+    /// the serial of the operator's change
     Made(u64),
     /// the last serial of the batch that begins, if one does
     Took(Option<u64>),
@@ -60,7 +65,7 @@ pub enum StepError {
     /// An earlier device fault has halted the journal or the kernel.
     #[error("E4 Halted")]
     Halted,
-    /// There is no room for the group.
+    /// There is no room for the change.
     #[error("E6 Full")]
     Full,
     /// 64 sessions are there, or the greatest u64 was given as a session's number.
@@ -78,4 +83,7 @@ pub enum StepError {
     /// A group of this name is there.
     #[error("E11 Exists")]
     Exists,
+    /// The group isn't here, or the number is below its lowest or above its highest.
+    #[error("E12 NotFound")]
+    NotFound,
 }

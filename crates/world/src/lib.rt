@@ -5,13 +5,13 @@
 
 ghost use Rattle.std.specs.Prelude.{◌≢◌, IfOk, IfErr, ◌≡◌, ◌⊎◌, ◌≤◌, ◌<◌, ℕ, Some, Ok, Err, true, [], take, slice_get, MatchOption, ◌||◌, IsTrue, length, MatchResult};
 ghost use Rattle.std.specs.List.{list_all};
-ghost use Rattle.kernel.specs.Kernel.{Tested, TestedOrMemory, admin_refusal_of, early_refusal, mode_at};
+ghost use Rattle.kernel.specs.Kernel.{Tested, TestedOrMemory, admin_refusal_of, early_refusal, expire_refusal_of, mode_at};
 ghost use Rattle.model.specs.Calendar.{moment_limit};
 ghost use Rattle.model.specs.Lawful.{is_description_octet};
-ghost use Rattle.model.specs.declared.change.Change.TheVariants.{Group};
+ghost use Rattle.model.specs.declared.change.Change.TheVariants.{Expire, Group};
 ghost use Rattle.served.specs.Events.{Makes, arrive_refusal, arrives, leaves};
 ghost use Rattle.served.specs.Served.{arrived_at, next_of, released_at};
-ghost use Rattle.world.specs.Events.{Did, DidDev, DidExec, DidTake, MayHappen, Ran, Went, commits, dev_answer, exec_answer, fails, for_memory, of_admin_error, of_arrive_error, of_join_error, of_kernel, told};
+ghost use Rattle.world.specs.Events.{Did, DidDev, DidExec, DidTake, MayHappen, Ran, Went, commits, dev_answer, exec_answer, fails, for_memory, of_admin_error, of_arrive_error, of_expire_error, of_join_error, of_kernel, told};
 ghost use Rattle.world.specs.Fields.{durable_news};
 ghost use Rattle.disk.specs.Device.{Elapses};
 ghost use Rattle.journal.specs.Journal.{IsReady};
@@ -28,13 +28,12 @@ mod events;
 use disk::{Disk, DiskCall, Faults};
 pub use events::{Answer, Event, StepError};
 use journal::{Journal, JournalError, Progress};
-pub use kernel::OpenError;
-use kernel::{AdminError, ExecError, JoinError, Kernel, Ticket};
+use kernel::{AdminError, BatchBuf, ExecError, ExpireError, JoinError, Kernel, Ticket};
+pub use kernel::{OpenError, Spool};
 use model::{Mark, Mode};
 use names::GroupName;
 use outbox::ReadyBuf;
 use served::{ArriveError, Entry, Served};
-use spool::{BatchBuf, Spool};
 use std::alloc::Global;
 use std::marker::Model;
 
@@ -280,6 +279,7 @@ impl<D: Disk> World<D> {
                 description,
                 moment,
             } => self.admin(alloc, name, *status, description.as_slice(), *moment),
+            Event::Expire { name, number } => self.expire(alloc, name, *number),
             Event::Take => self.take(),
             Event::Dev => self.dev(),
             Event::Told => self.told(),
@@ -342,6 +342,17 @@ impl<D: Disk> World<D> {
         match self.served.admin(alloc, name, status, description, moment) {
             Ok(serial) => Ok(Answer::Made(serial)),
             Err(error) => Err(admin_error(error)),
+        }
+    }
+
+    fn expire(&mut self, alloc: Global, name: &GroupName, number: u32) -> Result<Answer, StepError>
+        ensures { TestedOrMemory of_kernel StepError.Memory (early_refusal (kernel_of self.old)) (expire_refusal_of (kernel_of self.old) (Expire name.now number)) self.old self.new result
+            (λ a. (serial : ℕ) × (a ≡ Answer.Made serial) × Makes self.old.served self.new.served (Expire name.now number) serial × (self.new ≡ with_served self.old self.new.served)) }
+    {
+        self.served.kept();
+        match self.served.expire(alloc, name, number) {
+            Ok(serial) => Ok(Answer::Made(serial)),
+            Err(error) => Err(expire_error(error)),
         }
     }
 
@@ -495,6 +506,18 @@ fn admin_error(error: AdminError) -> StepError
         AdminError::Exists => StepError::Exists,
         AdminError::Full => StepError::Full,
         AdminError::Memory => StepError::Memory,
+    }
+}
+
+fn expire_error(error: ExpireError) -> StepError
+    ensures { result ≡ of_expire_error error }
+{
+    match error {
+        ExpireError::Halted => StepError::Halted,
+        ExpireError::LaterDirty => StepError::LaterDirty,
+        ExpireError::NotFound => StepError::NotFound,
+        ExpireError::Full => StepError::Full,
+        ExpireError::Memory => StepError::Memory,
     }
 }
 

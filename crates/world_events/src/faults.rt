@@ -1,10 +1,8 @@
 //! Device calls counted, and a fault at each of them.
 
-use crate::first_script::{
-    committed, first_wrong, held, is_opened, made, posted, released, settled,
-};
+use crate::first_script::{committed, first_wrong, held, is_opened, made, posted, released};
 use memdisk::Pick;
-use sim_world::{BLOCKS, Device, Row, Sim};
+use sim_world::{BLOCKS, Device, NotOpened, Row, Sim};
 use std::alloc::Global;
 use std::test::Fail;
 use world::OpenError;
@@ -38,7 +36,7 @@ fn with_fault(alloc: Global, call: u64) -> Result<Sim, Fail> {
     let mut sim = Sim::new(alloc)?;
     sim.fail_at(call);
     let mut left = call;
-    for rows in [made(), settled(), posted(), committed()] {
+    for rows in [made(), posted(), committed()] {
         left = play_faulted(alloc, &mut sim, rows, left)?;
     }
     if left != 0 {
@@ -67,54 +65,73 @@ fn is_survived(
         return Ok(false);
     }
     let mut sim = sim.crash(alloc, pick)?;
-    Ok(is_opened(&sim, opened) && sim.tell(alloc, "join")?.as_str() == "joined 1")
+    Ok(is_opened(alloc, &sim, opened)? && sim.tell(alloc, "join")?.as_str() == "joined 1")
 }
 
-/// The first and the last device call of the script where a fault leaves the same: how many changes are durable, and how many
-/// are opened where the last gate is as it was and where it is as it was written. It is written and not synced at the calls 4, 5,
-/// 13 and 14.
-fn faults() -> &'static [(u64, u64, u64, u64, u64)] {
-    &[
-        (1, 3, 0, 0, 0),
-        (4, 5, 0, 0, 1),
-        (6, 12, 1, 1, 1),
-        (13, 14, 1, 1, 2),
-        (15, 18, 2, 2, 2),
-    ]
+/// The first and the last device call of the script where a fault leaves so many changes durable, whatever becomes of the
+/// octets that were touched.
+fn faults() -> &'static [(u64, u64, u64)] {
+    &[(1, 6, 0), (9, 16, 1)]
 }
 
 #[test]
-fn fault_at_each_device_call(rt: HostRuntime) -> Result<(), Fail> {
+fn fault_before_a_gate(rt: HostRuntime) -> Result<(), Fail> {
     let alloc = rt.alloc();
-    for (first, last, durable, closed, open) in faults() {
+    for (first, last, durable) in faults() {
         for call in *first..=*last {
-            for (pick, opened) in [
-                (Pick::Old, *closed),
-                (Pick::New, *open),
-                (Pick::Fill(1), *open),
-                (Pick::Fill(77), *closed),
-            ] {
-                assert!(rt; is_survived(alloc, call, *durable, pick, opened)?, "{call}");
-            }
+            assert!(rt;
+                is_survived(alloc, call, *durable, Pick::Fill(77), *durable)?,
+                "{call}"
+            );
         }
     }
     Ok(())
 }
 
-// An opening of an open segment syncs, reads the superblock, gate, descriptor and image, and makes the four calls that close
-// it; then, and where the segment is closed after its third call, it reads each logical block. `Old` opens the segment again
-// up to its last call.
+/// The device calls at which a gate is written and not synced, and how many changes are durable then.
+fn gates() -> &'static [(u64, u64)] {
+    &[(7, 0), (8, 0), (17, 1), (18, 1)]
+}
+
+#[test]
+fn fault_at_a_gate(rt: HostRuntime) -> Result<(), Fail> {
+    let alloc = rt.alloc();
+    for (call, durable) in gates() {
+        for (pick, more) in [
+            (Pick::Old, 0),
+            (Pick::New, 1),
+            (Pick::Fill(1), 1),
+            (Pick::Fill(77), 0),
+        ] {
+            let opened = durable.wrapping_add(more);
+            assert!(rt;
+                is_survived(alloc, *call, *durable, pick, opened)?,
+                "{call}"
+            );
+        }
+    }
+    Ok(())
+}
+
+/// The calls of an opening up to the logical blocks, where no segment is open: a sync, the superblock and eight gates.
+const LOOKING: u64 = 10;
+
+/// Those where a segment with four images is open: also its descriptor and images, its home blocks, a sync, its gate and a sync.
+const CLOSING: u64 = LOOKING + 12;
+
+// `Old` opens the segment again up to the last call that closes it.
 #[test]
 fn fault_within_an_opening(rt: HostRuntime) -> Result<(), Fail> {
     let alloc = rt.alloc();
     let mut sim = Sim::new(alloc)?;
     assert_eq!(rt; first_wrong(alloc, &mut sim, made())?, None);
     let mut device = sim.into_device();
-    for call in [1, 2, 3, 4, 5, 6, 7, 8, 9, 10, 11, 3 + BLOCKS] {
+    for call in 1..=CLOSING + 1 {
         device = faulted_opening(alloc, device, call)?;
     }
-    device.fail_at(4 + BLOCKS);
-    assert!(rt; is_opened(&Sim::over(alloc, device)?, 1));
+    device = faulted_opening(alloc, device, LOOKING + BLOCKS)?;
+    device.fail_at(LOOKING + BLOCKS + 1);
+    assert!(rt; is_opened(alloc, &Sim::over(alloc, device)?, 1)?);
     Ok(())
 }
 
@@ -131,7 +148,7 @@ fn faulted_opening(alloc: Global, mut device: Device, call: u64) -> Result<Devic
     }
 }
 
-/// A batch of one image begins.
+/// A batch of four images begins.
 fn taken() -> &'static [Row] {
     &[
         ("group x.a y 1000000000 test", "made 1"),
@@ -144,20 +161,19 @@ fn calls() -> &'static [(&'static str, u64, u64)] {
     &[
         ("Working", 1, 0),
         ("Working", 2, 0),
-        ("Working", 2, 1),
-        ("Working", 3, 1),
-        ("Committed(1)", 3, 2),
-        ("Working", 4, 2),
-        ("Working", 4, 3),
-        ("Working", 5, 3),
-        ("Idle", 5, 4),
-        ("Idle", 5, 4),
+        ("Working", 3, 0),
+        ("Working", 4, 0),
+        ("Working", 5, 0),
+        ("Working", 5, 1),
+        ("Working", 6, 1),
+        ("Committed(1)", 6, 2),
+        ("Idle", 6, 2),
     ]
 }
 
 /// How many writes and syncs the device was asked for by a batch's first calls. Each is to be answered so.
 fn counts_after(alloc: Global, calls: &[(&str, u64, u64)]) -> Result<(u64, u64), Fail> {
-    let device = Device::new(alloc)?;
+    let device = Sim::new(alloc)?.into_device();
     let (writes, syncs) = device.counts();
     let mut sim = Sim::over(alloc, device)?;
     if first_wrong(alloc, &mut sim, taken())?.is_some() {
@@ -178,36 +194,104 @@ fn counts_after(alloc: Global, calls: &[(&str, u64, u64)]) -> Result<(u64, u64),
 
 #[test]
 fn device_calls_of_a_batch(rt: HostRuntime) -> Result<(), Fail> {
-    for (place, (_, writes, syncs)) in calls().iter().enumerate() {
-        let counts = counts_after(rt.alloc(), calls().get(..=place).unwrap_or(calls()))?;
-        assert_eq!(rt; counts, (*writes, *syncs), "{place}");
+    for place in [0, 4, 5, 6, 7, 8] {
+        let (_, writes, syncs) = calls()[place];
+        let counts = counts_after(rt.alloc(), &calls()[..=place])?;
+        assert_eq!(rt; counts, (writes, syncs), "{place}");
     }
     Ok(())
 }
 
-/// Why a new volume in which this octet is changed isn't opened.
-fn refused(alloc: Global, at: u64, octet: u8) -> Result<OpenError, Fail> {
-    let mut device = Device::new(alloc)?;
-    device.put(at, octet)?;
+/// Why the device isn't opened where this octet is changed, and the device as it was before.
+fn refused(
+    alloc: Global,
+    mut device: Device,
+    at: u64,
+    octet: u8,
+) -> Result<(Device, OpenError), Fail> {
+    let was = device.put(at, octet)?;
     match Sim::open(alloc, device) {
         Ok(_) => Err("opened")?,
-        Err(refused) => Ok(refused.error),
+        Err(refused) => {
+            let NotOpened { mut device, error } = refused;
+            device.put(at, was)?;
+            Ok((device, error))
+        }
     }
 }
 
 #[test]
 fn a_device_without_a_spool(rt: HostRuntime) -> Result<(), Fail> {
-    // the superblock's first octet, version, blocks and segments, the host's length in the label, and the first logical block's
-    // count of changes
+    let alloc = rt.alloc();
+    let mut device = Sim::new(alloc)?.into_device();
+    // the superblock's first octet, version, blocks and segments, the host's length in the label, and the first octet of the
+    // file system's bitmap
     for (at, octet, error) in [
         (0, b'x', OpenError::NotAVolume),
         (8, 9, OpenError::NotAVolume),
         (13, 5, OpenError::NotAVolume),
         (16, 2, OpenError::NotAVolume),
         (24, 65, OpenError::NotAVolume),
-        (515 * 4096, 1, OpenError::Damaged),
+        (4113 * 4096, 0, OpenError::Damaged),
     ] {
-        assert_eq!(rt; refused(rt.alloc(), at, octet)?, error, "{at}");
+        let (left, why) = refused(alloc, device, at, octet)?;
+        assert_eq!(rt; why, error, "{at}");
+        device = left;
+    }
+    assert!(rt; is_opened(alloc, &Sim::over(alloc, device)?, 0)?);
+    Ok(())
+}
+
+/// Eight groups. The batch of the last one leaves no closed segment.
+fn groups() -> &'static [&'static str] {
+    &[
+        "group x.a y 0 test",
+        "group x.b y 0 test",
+        "group x.c y 0 test",
+        "group x.d y 0 test",
+        "group x.e y 0 test",
+        "group x.f y 0 test",
+        "group x.g y 0 test",
+        "group x.h y 0 test",
+    ]
+}
+
+/// Does what a line asks, and carries it to its commit.
+fn commit(alloc: Global, sim: &mut Sim, line: &str) -> Result<(), Fail> {
+    sim.tell(alloc, line)?;
+    sim.tell(alloc, "take")?;
+    for _ in 0..600 {
+        if sim.tell(alloc, "dev")?.as_str() != "Working" {
+            sim.tell(alloc, "told")?;
+            return Ok(());
+        }
+    }
+    Err("no commit")?
+}
+
+/// Whether a fault at this device call, counted from the commit of the eighth group on, leaves all groups, and each call
+/// before it is answered as one that goes on.
+fn is_carried(alloc: Global, call: u64) -> Result<bool, Fail> {
+    let mut sim = Sim::new(alloc)?;
+    for line in groups() {
+        commit(alloc, &mut sim, line)?;
+    }
+    sim.fail_at(call);
+    for _ in 1..call {
+        if sim.tell(alloc, "dev")?.as_str() != "Working" {
+            return Ok(false);
+        }
+    }
+    let is_fault = sim.tell(alloc, "dev")?.as_str() == "E1 Fault";
+    let sim = sim.crash(alloc, Pick::Fill(77))?;
+    Ok(is_fault && sim.counts() == (8, 8, 8))
+}
+
+// The images of the eight batches are carried home, and after a sync each gate is closed with a sync of its own.
+#[test]
+fn fault_on_the_way_home(rt: HostRuntime) -> Result<(), Fail> {
+    for call in [1, 32, 33, 34, 49] {
+        assert!(rt; is_carried(rt.alloc(), call)?, "{call}");
     }
     Ok(())
 }

@@ -17,19 +17,17 @@ pub(crate) fn made() -> &'static [Row] {
         ("dev", "Working"),
         ("dev", "Working"),
         ("dev", "Working"),
+        ("dev", "Working"),
+        ("dev", "Working"),
+        ("dev", "Working"),
         ("dev", "Committed(1)"),
         ("told", "done"),
     ]
 }
 
-/// Its batch ends.
-pub(crate) fn settled() -> &'static [Row] {
-    &[
-        ("dev", "Working"),
-        ("dev", "Working"),
-        ("dev", "Working"),
-        ("dev", "Idle"),
-    ]
+/// A batch ends with its commit where a closed segment is left.
+fn settled() -> &'static [Row] {
+    &[("dev", "Idle")]
 }
 
 /// A post is served, and what is ready is released.
@@ -53,7 +51,7 @@ pub(crate) fn posted() -> &'static [Row] {
     ]
 }
 
-/// The article is carried to its commit, its reply is released, and its batch ends.
+/// The article is carried to its commit, and its reply is released.
 pub(crate) fn committed() -> &'static [Row] {
     &[
         ("take", "took Some(2)"),
@@ -61,13 +59,14 @@ pub(crate) fn committed() -> &'static [Row] {
         ("dev", "Working"),
         ("dev", "Working"),
         ("dev", "Working"),
+        ("dev", "Working"),
+        ("dev", "Working"),
+        ("dev", "Working"),
+        ("dev", "Working"),
+        ("dev", "Working"),
         ("dev", "Committed(2)"),
         ("told", "done"),
         ("release", "done"),
-        ("dev", "Working"),
-        ("dev", "Working"),
-        ("dev", "Working"),
-        ("dev", "Idle"),
     ]
 }
 
@@ -81,8 +80,9 @@ pub(crate) fn released() -> &'static [u8] {
     b"200 news.example ready, posting permitted\r\n340 Send article\r\n240 Article received\r\n"
 }
 
+/// The article, as it is sent.
 fn article() -> &'static [u8] {
-    b"Path: p!not-for-mail\r\nDate: Sun, 09 Sep 2001 01:46:40 +0000\r\nMessage-ID: <1@a.example>\r\nFrom: a@example.org\r\nNewsgroups: x.a\r\nSubject: one\r\n\r\nhi\r\n"
+    b"Path: p!not-for-mail\r\nDate: Sun, 09 Sep 2001 01:46:40 +0000\r\nMessage-ID: <1@a.example>\r\nFrom: a@example.org\r\nNewsgroups: x.a\r\nSubject: one\r\n\r\nhi\r\n.\r\n"
 }
 
 /// What the session sends.
@@ -105,17 +105,21 @@ pub(crate) fn first_wrong(
 }
 
 /// Whether the accepted changes are the first so many of the group and the article.
-fn holds(sim: &Sim, count: u64) -> bool {
+fn holds(alloc: Global, sim: &Sim, count: u64) -> Result<bool, Fail> {
     let (_, _, len) = sim.counts();
-    len == count
-        && (count < 1 || sim.is_group(1, b"x.a"))
-        && (count < 2 || sim.is_article(2, article()))
-        && count <= 2
+    let is_here = sim.is_article(alloc, 2, article())?;
+    Ok(
+        len == count
+            && count <= 2
+            && sim.is_group(1, b"x.a") == (count > 0)
+            && is_here == (count > 1),
+    )
 }
 
 /// Whether what was opened, and is durable, is the first so many of the group and the article.
-pub(crate) fn is_opened(sim: &Sim, count: u64) -> bool {
-    sim.counts() == (count, count, count) && holds(sim, count) && sim.trace().is_empty()
+pub(crate) fn is_opened(alloc: Global, sim: &Sim, count: u64) -> Result<bool, Fail> {
+    let is_held = holds(alloc, sim, count)?;
+    Ok(is_held && sim.counts() == (count, count, count) && sim.trace().is_empty())
 }
 
 fn is_served(entry: &Entry) -> bool {
@@ -141,12 +145,15 @@ fn is_made(entry: &Entry) -> bool {
 }
 
 /// Whether the served post leaves the world so, with so many changes durable and these octets released.
-fn is_left(sim: &Sim, durable: u64, octets: &[u8]) -> bool {
-    sim.counts() == (0, durable, 2)
-        && sim.has_arrived(1, arrived())
-        && sim.has_released(1, octets)
-        && holds(sim, 2)
-        && is_traced(sim.trace())
+fn is_left(alloc: Global, sim: &Sim, durable: u64, octets: &[u8]) -> Result<bool, Fail> {
+    let is_held = holds(alloc, sim, 2)?;
+    Ok(
+        is_held
+            && sim.counts() == (0, durable, 2)
+            && sim.has_arrived(1, arrived())
+            && sim.has_released(1, octets)
+            && is_traced(sim.trace()),
+    )
 }
 
 /// Plays parts of the script. Is each line answered as it is to be?
@@ -163,13 +170,14 @@ fn is_played(alloc: Global, sim: &mut Sim, parts: &[&[Row]]) -> Result<bool, Fai
 fn first_script_by_step(rt: HostRuntime) -> Result<(), Fail> {
     let alloc = rt.alloc();
     let mut sim = Sim::new(alloc)?;
-    let is_new = is_opened(&sim, 0);
+    let is_new = is_opened(alloc, &sim, 0)?;
     let is_held = is_played(alloc, &mut sim, &[made(), settled(), posted()])?
-        && is_left(&sim, 1, held());
-    let is_released = is_played(alloc, &mut sim, &[committed()])? && is_left(&sim, 2, released());
+        && is_left(alloc, &sim, 1, held())?;
+    let is_released = is_played(alloc, &mut sim, &[committed(), settled()])?
+        && is_left(alloc, &sim, 2, released())?;
     let again = sim.crash(alloc, Pick::Old)?;
     assert!(rt;
-        is_new && is_held && is_released && is_opened(&again, 2),
+        is_new && is_held && is_released && is_opened(alloc, &again, 2)?,
         "{is_new} {is_held} {is_released}"
     );
     Ok(())
@@ -190,11 +198,49 @@ fn first_script_by_run(rt: HostRuntime) -> Result<(), Fail> {
     let alloc = rt.alloc();
     let mut sim = Sim::new(alloc)?;
     let is_run = is_run(alloc, &mut sim, &[made(), settled(), posted(), committed()])?;
-    let is_released = is_left(&sim, 2, released());
+    let is_released = is_left(alloc, &sim, 2, released())?;
     let again = sim.crash(alloc, Pick::Old)?;
     assert!(rt;
-        is_run && is_released && is_opened(&again, 2),
+        is_run && is_released && is_opened(alloc, &again, 2)?,
         "{is_run} {is_released}"
+    );
+    Ok(())
+}
+
+/// The article is taken out of its group, once.
+fn expired() -> &'static [Row] {
+    &[
+        ("expire x.b 1", "E12 NotFound"),
+        ("expire x.a 2", "E12 NotFound"),
+        ("expire x.a 1", "made 3"),
+        ("expire x.a 1", "E12 NotFound"),
+    ]
+}
+
+/// Whether the last entry of the trace is that the article was taken out of its group.
+fn is_expired(trace: &[Entry]) -> bool {
+    match trace {
+        [.., last] => match last.happened() {
+            Happened::Admin(Change::Expire { group, number }) => {
+                group.as_slice() == b"x.a".as_slice() && *number == 1
+            }
+            _ => false,
+        },
+        [] => false,
+    }
+}
+
+#[test]
+fn an_article_is_taken_out(rt: HostRuntime) -> Result<(), Fail> {
+    let alloc = rt.alloc();
+    let mut sim = Sim::new(alloc)?;
+    let is_posted = is_played(alloc, &mut sim, &[made(), settled(), posted()])?;
+    let is_there = sim.numbers(b"x.a") == Some((1, 1));
+    let is_taken_out = is_played(alloc, &mut sim, &[expired()])?;
+    let is_gone = sim.numbers(b"x.a") == Some((2, 1)) && is_expired(sim.trace());
+    assert!(rt;
+        is_posted && is_there && is_taken_out && is_gone,
+        "{is_posted} {is_there} {is_taken_out}"
     );
     Ok(())
 }

@@ -2,7 +2,7 @@
 #![tactic(auto)]
 
 #[cfg(test)]
-mod answers;
+mod event_answers;
 #[cfg(test)]
 mod faults;
 #[cfg(test)]

@@ -1,4 +1,4 @@
-use Rattle.std.proofs.Common.{◌≡◌, ◌∙◌, ℕ, ◌+◌, ◌-◌, ◌++◌, ◌∷◌, [], List, length, take, replicate, vec_len, ap, refl, arith}
+use Rattle.std.proofs.Common.{◌≡◌, ◌∙◌, ℕ, ◌+◌, ◌-◌, ◌++◌, ◌∷◌, [], List, length, take, replicate, vec_len, ap, arith}
 use Rattle.new_volume.proofs.Labels.{filled}
 use Rattle.new_volume.proofs.label.Goals as goal
 

@@ -2,7 +2,8 @@ use Rattle.std.proofs.Common.{◌≡◌, ◌<◌, ℕ, ◌+◌, Bool, false, eqb
 use Rattle.std.specs.List.{All}
 use Rattle.model.specs.Volume.{number_at}
 use Rattle.segments.specs.Held.{HaveLess, Held, IsAmong}
-use Rattle.journal.specs.Flight.{flight_in, left_of, staged_at}
+use Rattle.journal_segments.specs.Staged.{staged_at}
+use Rattle.journal.specs.Flight.{flight_in, left_of}
 use Rattle.journal.specs.Inside.{IsKept}
 use Rattle.journal.specs.Journal.{JournalView}
 use Rattle.journal.specs.declared.Next.{Next}

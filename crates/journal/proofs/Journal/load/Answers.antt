@@ -1,19 +1,25 @@
-use Rattle.std.proofs.Common.{◌≡◌, ◌+◌, ◌*◌, ◌<◌, ℕ, Bool, IsTrue, List, length, true, false, refl, sym, ◌∙◌, ap, subst, arith}
+use Rattle.std.proofs.Common.{◌≡◌, ◌*◌, ◌<◌, ℕ, Bool, IsTrue, List, [], length, get_or, sym, ◌∙◌, ap, subst, arith}
 use Rattle.disk.specs.Image.{part}
-use Rattle.journal.specs.Inside.{IsAdmitted, IsKept, blocks_without}
+use Rattle.journal.specs.Inside.{IsAdmitted, IsKept, IsLive, blocks_without}
 use Rattle.journal.specs.declared.Next.TheVariants.{Idle, Descriptor}
 use Rattle.journal.proofs.Calls.{kept_failed}
 use Rattle.journal.specs.Journal.{AreWhole, JournalView}
-use Rattle.model.specs.Volume.{home_place, laid_over}
-use Rattle.journal.specs.Flight.{staged_at}
-use Rattle.journal.proofs.Idle.{idle_same, idle_block}
+use Rattle.model.specs.Volume.{all_laid_over, home, home_place, laid_over}
+use Rattle.segments.specs.Held.{Held, batches_of}
+use Rattle.journal.specs.declared.Next.{Next}
+use Rattle.journal_segments.specs.Staged.{staged_at}
+use Rattle.journal.proofs.Idle.{idle_home, idle_laid, idle_same, idle_size, left_in_room, left_live, left_there}
 use Rattle.journal.proofs.Whole.{kept_whole}
 use Rattle.journal.proofs.Journal.load.Goals as goal
 
--- a volume of one segment has none that is left closed
-last_alone : (is_last : Bool) (filled segments : ℕ) → segments ≡ 1 → (is_last ≡ false → filled + 1 < segments) → is_last ≡ true
-last_alone true filled segments one left = refl
-last_alone false filled segments one left = absurd (omega (arith, one, left refl))
+pub lay_over-requires-clause-there : goal.lay_over-requires-clause-there
+lay_over-requires-clause-there g c = left_there c.self.inside.is_last c.lowest_closed-open.result c.self.inside.filled (length c.self.inside.room.items) c.lowest_closed-open.ensures c.self.invariant.left
+
+pub lay_over-requires-clause-full : goal.lay_over-requires-clause-full
+lay_over-requires-clause-full g c t low =
+    let is = ap (λ (v : JournalView _). v.next) c.self.view_is ∙ c.requires.idle in
+    let live = left_live c.self.inside.is_last c.lowest_closed-open.result c.self.inside.filled t c.lowest_closed-open.ensures low in
+    (c.self.invariant.staged (subst (λ (n : Next). IsLive c.self.inside.is_last n) (sym is) live.0) t live.1).sound.images
 
 pub returns-in-Ok-clause-value : goal.returns-in-Ok-clause-value
 returns-in-Ok-clause-value g c =
@@ -22,11 +28,15 @@ returns-in-Ok-clause-value g c =
     let is = ap (λ (v : JournalView _). v.next) c.self.view_is ∙ c.requires.idle in
     let running = ap (λ (v : JournalView _). v.halted) c.self.view_is ∙ c.requires.running in
     let below = subst (λ (n : ℕ). c.args.block < n) (sym (ap (λ (v : JournalView _). v.size) c.self.view_is)) c.requires.below in
+    let told = c.self.invariant.told t in
+    let x = (g.D.Disk.device c.self.inside.disk).content in
     let place : c.start_of.result ≡ 4096 * home_place (length c.self.inside.room.items) c.args.block = omega (arith, c.start_of.ensures, c.home_block.ensures) in
-    c.in-Ok.ensures.value t
+    let read = c.in-Ok.ensures.value t
     ∙ ap (λ (n : ℕ). part c.start_of.result n (g.D.Disk.device c.self.inside.disk).content) c.requires.room
-    ∙ ap (λ (n : ℕ). part n 4096 (g.D.Disk.device c.self.inside.disk).content) place
-    ∙ idle_block _ _ _ _ _ _ c.args.block (c.self.invariant.told t) is running (last_alone c.self.inside.is_last c.self.inside.filled (length c.self.inside.room.items) c.self.invariant.one c.self.invariant.left) below)
+    ∙ ap (λ (n : ℕ). part n 4096 (g.D.Disk.device c.self.inside.disk).content) place in
+    sym (c.lay_over.ensures.laid (home x) (subst (λ (n : ℕ). c.args.block < n) (sym (idle_size _ _ _ _ _ _ told is running)) below) (idle_home _ _ _ _ _ _ told is running c.args.block below ∙ sym read))
+    ∙ ap (λ (hs : List Held). get_or (all_laid_over (home x) (batches_of hs)) c.args.block []) (left_in_room c.self.inside.room.items c.self.inside.filled c.self.inside.is_last c.lowest_closed-open.result c.self.invariant.there c.lowest_closed-open.ensures)
+    ∙ ap (λ (bs : List (List ℕ)). get_or bs c.args.block []) (sym (idle_laid _ _ _ _ _ _ told is running)))
 
 pub returns-in-Ok-clause-whole : goal.returns-in-Ok-clause-whole
 returns-in-Ok-clause-whole g c t =

@@ -1,9 +1,20 @@
-use Rattle.std.proofs.Common.{◌∙◌, ap}
+use Rattle.std.proofs.Common.{sym, ◌∙◌, ap, subst}
 use Rattle.model.specs.Volume.{number_at}
-use Rattle.journal.specs.Flight.{Staged}
-use Rattle.journal.proofs.Flights.{answered}
+use Rattle.journal_segments.specs.Staged.{Staged}
+use Rattle.journal.proofs.Flights.{answered, gate_within, home_within}
+use Rattle.journal.specs.Inside.{IsLive}
+use Rattle.journal.specs.declared.Next.{Next}
 use Rattle.journal.proofs.Made.{kept_ok, kept_err, made_ok, made_err, retried, retried_kept}
 use Rattle.journal.proofs.Journal.step.Goals as goal
+
+pub ask-requires-clause-carried : goal.ask-requires-clause-carried
+ask-requires-clause-carried g c = home_within c.self.inside.room.items c.self.inside.filled c.self.inside.is_last c.self.invariant.there _ c.self.inside.next c.self.invariant.within
+
+pub ask-requires-clause-gate : goal.ask-requires-clause-gate
+ask-requires-clause-gate g c j is =
+    let low = gate_within c.self.inside.room.items c.self.inside.filled c.self.inside.is_last c.self.invariant.there _ c.self.inside.next c.self.invariant.within j is in
+    let live = subst (λ (n : Next). IsLive c.self.inside.is_last n) (sym is) tt in
+    (low, c.self.invariant.places live j low)
 
 pub invariant_of-self : goal.invariant_of-self
 invariant_of-self g c = rw c.if-self.false

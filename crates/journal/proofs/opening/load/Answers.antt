@@ -1,11 +1,11 @@
 use Rattle.std.proofs.Common.{ℕ, Bool, IsTrue, List, sym, ◌∙◌, ap, subst}
 use Rattle.model.specs.Volume.{IsSuperblock, block}
-use Rattle.journal.proofs.Gates.{rejects_then}
+use Rattle.journal_segments.proofs.Gates.{rejects_then}
 use Rattle.journal.proofs.opening.load.Goals as goal
 
 pub returns-in-Ok-find_open-clause-found : goal.returns-in-Ok-find_open-clause-found
 returns-in-Ok-find_open-clause-found g c =
-    let valid = c.in-Ok.ensures.blocks in
+    let valid = c.in-Ok.ensures.sizes in
     let first = c.load_superblock.ensures.quiet in
     let second = c.find_open.ensures.quiet in
     let old = λ (t : IsTrue (g.D.Disk.device c.find_open.new.disk).tells). subst (λ (b : Bool). IsTrue b) (second.tells ∙ first.tells) t in
@@ -17,7 +17,7 @@ returns-in-Ok-find_open-clause-found g c =
       superblock_size = c.load_superblock.ensures.room;
       superblock_is = λ t. c.in-Ok.ensures.value (old t) ∙ ap (λ (y : List ℕ). block 0 y) (sym (same t));
       synced = λ t y left. c.requires.synced (old t) y (first.crash (old t) y (second.crash (mid t) y left)) ∙ sym (same t);
-      count = c.find_open.ensures.count ∙ c.requires.one ∙ sym valid.0.segments;
+      count = c.find_open.ensures.count ∙ c.leave_first.ensures.count ∙ sym valid.2;
       found = c.in-Ok-find_open.ensures.found;
     }
 

@@ -1,13 +1,16 @@
-use Rattle.std.proofs.Common.{◌≡◌, ◌≢◌, ◌⊎◌, inl, inr, ◌+◌, length, IsTrue, sym, ◌∙◌, subst}
+use Rattle.std.proofs.Common.{◌≡◌, ◌≢◌, ◌+◌, length, IsTrue, refl, sym, ◌∙◌, subst}
 use Rattle.std.proofs.lemmas.Result.{IfOk-weaker}
 use Rattle.disk.specs.Device.{Elapses}
-use Rattle.journal.specs.Inside.{IsQuiet, IsStill, LeftAs}
+use Rattle.journal_segments.specs.Found.{IsQuiet, IsStill}
+use Rattle.journal.specs.Inside.{LeftAs}
 use Rattle.std.specs.List.{sum}
 use Rattle.journal.specs.Journal.{IsCaused, IsDuring, IsReady, JournalView, sizes}
 use Rattle.journal.specs.Opening.{Opens, Refuses}
 use Rattle.model.specs.Volume.{StandsFor, open_segments}
 use Rattle.journal.specs.declared.JournalError.{JournalError}
 use Rattle.journal.specs.declared.JournalError.TheVariants.{Fault, Memory, NotAVolume, Halted}
+use Rattle.journal_segments.specs.declared.SegmentError.{SegmentError}
+use Rattle.journal_segments.specs.declared.SegmentError.TheVariants.{Fault as ReadFault, NotAVolume as ReadNotAVolume}
 use Rattle.journal.specs.declared.Refused.{Refused}
 use Rattle.journal.specs.Opening.{Costs, IsMore, home_syncs, home_writes}
 use Rattle.journal.proofs.Found.{costs_none, costs_replayed, opens_replayed, refuses_replayed, refuses_found, err_weaker}
@@ -35,15 +38,20 @@ returns-in-Ok-clause-err g c =
     (λ refused h. refuses_replayed g.D.Disk.device c.args.disk c.to_be_replayed.result quiet still stands c.to_be_replayed.ensures.whole refused.disk refused.error h.0 h.1 h.2)
     c.replay.ensures.err
 
-neither : (error : JournalError) → (error ≡ Fault) ⊎ (error ≡ NotAVolume) → (error ≢ Memory) × (error ≢ Halted)
-neither error (inl is) = (λ e. (let two : Fault ≡ Memory = sym is ∙ e in cc), λ e. (let two : Fault ≡ Halted = sym is ∙ e in cc))
-neither error (inr is) = (λ e. (let two : NotAVolume ≡ Memory = sym is ∙ e in cc), λ e. (let two : NotAVolume ≡ Halted = sym is ∙ e in cc))
+-- a read's refusal, as the journal's
+refused_as : (e : SegmentError) (error : JournalError) → (e ≡ ReadFault → error ≡ Fault) → (e ≡ ReadNotAVolume → error ≡ NotAVolume) → (error ≡ Fault → e ≡ ReadFault) × (error ≡ NotAVolume → e ≡ ReadNotAVolume) × (error ≢ Memory) × (error ≢ Halted)
+refused_as ReadFault error fault no_volume =
+    let is : error ≡ Fault = fault refl in
+    (λ e. refl, λ e. absurd (let two : Fault ≡ NotAVolume = sym is ∙ e in cc), λ e. (let two : Fault ≡ Memory = sym is ∙ e in cc), λ e. (let two : Fault ≡ Halted = sym is ∙ e in cc))
+refused_as ReadNotAVolume error fault no_volume =
+    let is : error ≡ NotAVolume = no_volume refl in
+    (λ e. absurd (let two : NotAVolume ≡ Fault = sym is ∙ e in cc), λ e. refl, λ e. (let two : NotAVolume ≡ Memory = sym is ∙ e in cc), λ e. (let two : NotAVolume ≡ Halted = sym is ∙ e in cc))
 
 pub returns-in-Err-clause-err : goal.returns-in-Err-clause-err
 returns-in-Err-clause-err g c =
     let rejects = c.in-Err.ensures.err in
-    let other = neither c.in-Err.error rejects.no_other in
-    refuses_found g.D.Disk.device c.args.disk c.load.new.disk c.in-Err.error c.load.ensures.quiet rejects.fault rejects.no_volume other.0 other.1
+    let other = refused_as c.in-Err.error c.from.result c.from.ensures.fault c.from.ensures.no_volume in
+    refuses_found g.D.Disk.device c.args.disk c.load.new.disk c.from.result c.load.ensures.quiet (λ e. rejects.fault (other.0 e)) (λ e. rejects.no_volume (other.1 e)) other.2 other.3
 
 pub returns-in-Ok-clause-cost : goal.returns-in-Ok-clause-cost
 returns-in-Ok-clause-cost g c t =

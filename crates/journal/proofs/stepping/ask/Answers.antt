@@ -2,7 +2,7 @@ use Rattle.std.proofs.Common.{ℕ, ◌*◌, true, [], ◌∷◌, length, get_or,
 use Rattle.segments.specs.Held.{Held}
 use Rattle.model.specs.Volume.{descriptor_place, gate_place, home_place, image_place}
 use Rattle.journal.specs.Calls.{Call}
-use Rattle.journal.specs.Flight.{Staged, held_as, staged_at}
+use Rattle.journal_segments.specs.Staged.{Staged, held_as, staged_at}
 use Rattle.journal.proofs.Flights.{held_in_room}
 use Rattle.journal.proofs.Made.{asked_as}
 use Rattle.journal.proofs.stepping.ask.Goals as goal

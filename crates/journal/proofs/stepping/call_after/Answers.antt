@@ -1,6 +1,7 @@
 use Rattle.std.proofs.Common.{◌≡◌, ◌≤◌, ℕ, ◌+◌, cond, eqb, length, get_or, sym, ◌∙◌, ap, subst, arith}
 use Rattle.segments.specs.Held.{Held}
-use Rattle.journal.specs.Flight.{Flight, Staged, flight_in, sizes_of, staged_at}
+use Rattle.journal_segments.specs.Staged.{Staged, staged_at}
+use Rattle.journal.specs.Flight.{Flight, flight_in, sizes_of}
 use Rattle.journal.specs.Inside.{IsWithin}
 use Rattle.journal.specs.declared.Next.{Next}
 use Rattle.journal.specs.declared.Next.TheVariants.{Home, Settle}

@@ -2,9 +2,9 @@ use Rattle.std.proofs.Common.{◌≡◌, inr, refl, ap, subst, ◌∙◌}
 use Rattle.model.specs.Stream.{Octets}
 use Rattle.model.specs.declared.change.Change.TheVariants.{Group}
 use Rattle.std.specs.Prelude.{Some, None}
-use Rattle.spool.specs.View.{SpoolView}
-use Rattle.spool.specs.Refusals.{group_refusal}
-use Rattle.spool.specs.declared.errors.AddError.TheVariants as add
+use Rattle.spool_files.specs.View.{SpoolView}
+use Rattle.spool_files.specs.Refusals.{group_refusal}
+use Rattle.spool_files.specs.declared.errors.AddError.TheVariants as add
 use Rattle.kernel.specs.Errors.{of_admin}
 use Rattle.kernel.specs.Kernel.{KernelView, Administers, Exists, Full, admin_refusal_of, early_refusal}
 use Rattle.kernel.specs.Stored.{kernel_of}
@@ -36,14 +36,14 @@ pub invariant_of-self-2 : goal.invariant_of-self-2
 invariant_of-self-2 c =
     let early : early_refusal (kernel_of c.self.inside.spool c.self.inside.durable c.self.inside.in_flight c.self.inside.halted c.self.inside.joined c.self.inside.seats.items) ≡ None = ap early_refusal c.self.view_is ∙ passed of_admin (early_refusal c.args.self.now) c.in_ok-may_administer.field-0 c.in_ok-may_administer.ensures in
     kept_grown c.self.inside.spool c.add_group.new.self c.self.inside.durable c.self.inside.in_flight c.self.inside.halted c.self.inside.joined c.self.inside.seats.items
-    (Some (Group c.as_slice.result.now c.args.status c.args.description.now c.args.moment)) (λ _. few_dirty (kernel_of c.self.inside.spool c.self.inside.durable c.self.inside.in_flight c.self.inside.halted c.self.inside.joined c.self.inside.seats.items) early) c.in-Ok.ensures.1.1 c.self.invariant
+    (Some (Group c.as_slice.result.now c.args.status c.args.description.now c.args.moment)) (λ _. few_dirty (kernel_of c.self.inside.spool c.self.inside.durable c.self.inside.in_flight c.self.inside.halted c.self.inside.joined c.self.inside.seats.items) early) (λ _. c.kept.ensures) c.in-Ok.ensures.1.1 c.self.invariant
 
 pub returns : goal.returns
 returns c =
     let s : SpoolView = c.self.inside.spool in
     let early : early_refusal (kernel_of s c.self.inside.durable c.self.inside.in_flight c.self.inside.halted c.self.inside.joined c.self.inside.seats.items) ≡ None = ap early_refusal c.self.view_is ∙ passed of_admin (early_refusal c.args.self.now) c.in_ok-may_administer.field-0 c.in_ok-may_administer.ensures in
     let passes = none_when s c.self.inside.durable c.self.inside.in_flight c.self.inside.halted c.self.inside.joined c.self.inside.seats.items c.as_slice.result.now c.args.status c.args.description.now c.args.moment early c.in-Ok.ensures.0 in
-    let done = administers s c.self.inside.durable c.self.inside.in_flight c.self.inside.halted c.self.inside.joined c.self.inside.seats.items c.as_slice.result.now c.args.status c.args.description.now c.args.moment early c.add_group.new.self c.in-Ok.serial c.in-Ok.ensures.1.0 c.in-Ok.ensures.1.1 in
+    let done = administers s c.self.inside.durable c.self.inside.in_flight c.self.inside.halted c.self.inside.joined c.self.inside.seats.items (Group c.as_slice.result.now c.args.status c.args.description.now c.args.moment) c.add_group.new.self c.in-Ok.serial c.in-Ok.ensures.1.0 c.in-Ok.ensures.1.1 in
     let new : KernelView = kernel_of c.add_group.new.self c.self.inside.durable c.self.inside.in_flight c.self.inside.halted c.self.inside.joined c.self.inside.seats.items in
     subst (λ (t : KernelView × Octets). (admin_refusal_of t.0 (Group t.1 c.args.status c.args.description.now c.args.moment) ≡ None) × Administers t.0 new (Group t.1 c.args.status c.args.description.now c.args.moment) c.in-Ok.serial)
     (λ i. (c.self.view_is i, c.as_slice.ensures.value i)) (passes, done)

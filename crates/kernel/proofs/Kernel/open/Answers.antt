@@ -1,42 +1,32 @@
-use Rattle.std.proofs.Common.{◌≡◌, ◌/◌, ℕ, IsTrue, List, length, sym, ◌∙◌, ap, subst, arith, rules}
-use Rattle.std.proofs.lemmas.Result.{IfErr-weaker, IfOk-weaker}
-use Rattle.segments.proofs.Blocks.{length-blocks_from}
-use Rattle.model.specs.Layout.{IsLabel}
-use Rattle.model.specs.News.{Holds}
-use Rattle.model.specs.Volume.{blocks_from}
-use Rattle.spool.specs.Cached.{blocks_of}
+use Rattle.std.proofs.Common.{◌≡◌, ℕ, List, length, sym, subst, arith, rules}
+use Rattle.std.specs.List.{All}
+use Rattle.std.proofs.lemmas.Result.{IfErr-weaker}
+use Rattle.model.specs.Layout.{Holds, IsLabel}
 use Rattle.kernel.proofs.Kernel.open.Goals as goal
 
-pub returns-clause-ok : goal.returns-clause-ok
-returns-clause-ok g c =
+pub open_over-requires-clause-room : goal.open_over-requires-clause-room
+open_over-requires-clause-room g c =
     let labelled : IsLabel c.args.journal.now.label c.args.journal.now.size c.in-Some.label.inodes c.in-Some.label.host.now = search rules in
-    let named : c.new.result ≡ c.in-Some.label.host.now = search rules in
-    let count : length c.in_ok-octets.octets.items / 4096 ≡ c.args.journal.now.size = omega (arith, c.in_ok-octets.ensures.size) in
-    IfOk-weaker c.open_over.result _ _
-    (λ kernel opened. record {
-      fresh = opened.fresh;
-      labelled =
-          subst (λ (n : ℕ). IsLabel c.args.journal.now.label c.args.journal.now.size n kernel.host) (sym opened.inodes_are)
-          (subst (λ (h : List ℕ). IsLabel c.args.journal.now.label c.args.journal.now.size c.in-Some.label.inodes h) (sym (opened.host_is ∙ named)) labelled);
-      size = ap length opened.blocks_are ∙ length-blocks_from 0 (length c.in_ok-octets.octets.items / 4096) c.in_ok-octets.octets.items ∙ count;
-      blocks = λ t. opened.blocks_are ∙ ap (λ (n : ℕ). blocks_from 0 n c.in_ok-octets.octets.items) count ∙ c.in_ok-octets.ensures.value t;
-      holds = opened.holds;
-    })
-    c.open_over.ensures.ok
+    let count : length c.in-Ok-loaded.volume.cache ≡ c.args.journal.now.size = c.in-Ok-loaded.ensures.count in
+    record {
+      some = labelled.some;
+      few = labelled.few;
+      whole = labelled.whole;
+      room = omega (arith, labelled.room, labelled.whole, count);
+      count_few = omega (arith, count, c.is_idle.ensures.few);
+      blocks_whole = subst (λ (blocks : List (List ℕ)). All (λ octets. length octets ≡ 4096) blocks) c.in-Ok-loaded.ensures.seen c.len-count.ensures.whole;
+    }
 
-pub returns-clause-damaged : goal.returns-clause-damaged
-returns-clause-damaged g c =
+pub returns-in-Ok-loaded-clause-damaged : goal.returns-in-Ok-loaded-clause-damaged
+returns-in-Ok-loaded-clause-damaged g c =
     let labelled : IsLabel c.args.journal.now.label c.args.journal.now.size c.in-Some.label.inodes c.in-Some.label.host.now = search rules in
     let named : c.new.result ≡ c.in-Some.label.host.now = search rules in
-    let count : length c.in_ok-octets.octets.items / 4096 ≡ c.args.journal.now.size = omega (arith, c.in_ok-octets.ensures.size) in
-    let same : IsTrue (g.D.Disk.device c.args.journal.now.disk).tells → blocks_of c.in_ok-octets.octets.items ≡ c.args.journal.now.blocks =
-    λ t. ap (λ (n : ℕ). blocks_from 0 n c.in_ok-octets.octets.items) count ∙ c.in_ok-octets.ensures.value t in
     IfErr-weaker c.open_over.result _ _
     (λ error none is. record {
       inodes = c.in-Some.label.inodes;
       host = c.in-Some.label.host.now;
       labelled = labelled;
       holds_none = λ t S holds.
-          none is S (subst (λ (bs : List (List ℕ)). Holds c.new.result c.in-Some.label.inodes bs S) (sym (same t)) (subst (λ (h : List ℕ). Holds h c.in-Some.label.inodes c.args.journal.now.blocks S) (sym named) holds));
+          none is S (subst (λ (bs : List (List ℕ)). Holds c.new.result c.in-Some.label.inodes bs S) (sym (c.in-Ok-loaded.ensures.blocks t)) (subst (λ (h : List ℕ). Holds h c.in-Some.label.inodes c.args.journal.now.blocks S) (sym named) holds));
     })
     c.open_over.ensures.damaged

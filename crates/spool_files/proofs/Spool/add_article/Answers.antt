@@ -42,4 +42,4 @@ returns-in-Ok-push_article c =
     let room : is_full_for (length s.blocks) s.inodes s.changes its ≡ false =
     full_any_article (length s.blocks) s.inodes s.changes c.args.text.now c.args.groups.now c.args.moment ∙ sym c.is_full_for_article.ensures ∙ c.if-is_full_for_article.false in
     let adds : Adds s n its = subst (λ (t : List ℕ). Adds s n (Article t c.args.groups.now c.args.moment)) c.in-Ok.ensures.ok c.in-Ok-push_article.ensures.ok in
-    (article_refused s its false room, (last_serial s n its c.len.result adds c.len.ensures.count, adds))
+    (article_refused s its false room, (last_serial s n its c.len.result adds c.len.ensures, adds))

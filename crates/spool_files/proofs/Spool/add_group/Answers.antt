@@ -28,4 +28,4 @@ returns-in-Ok c =
     let here : is_here s.changes c.args.name.now ≡ false = sym c.is_here.ensures ∙ c.if-is_here.false in
     let room : is_full_for (length s.blocks) s.inodes s.changes its ≡ false =
     full_any (length s.blocks) s.inodes s.changes c.args.name.now c.args.status c.args.description.now c.args.moment ∙ sym c.is_full_for_group.ensures ∙ c.if-is_full_for_group.false in
-    (group_refused s c.args.name.now its false false here room, (last_serial s c.push_group.new.self its c.len.result adds c.len.ensures.count, adds))
+    (group_refused s c.args.name.now its false false here room, (last_serial s c.push_group.new.self its c.len.result adds c.len.ensures, adds))

@@ -23,4 +23,4 @@ returns-in-Ok c =
     let adds = c.in-Ok.ensures.ok in
     let there : has_number s.changes c.args.name.now c.args.number ≡ true = sym c.has_number.ensures ∙ c.if-not-has_number.false in
     let room : is_full_for (length s.blocks) s.inodes s.changes (Expire c.args.name.now c.args.number) ≡ false = full_expiry (length s.blocks) s.inodes s.changes c.args.name.now c.args.number ∙ sym c.lacks_room.ensures ∙ c.if-lacks_room.false in
-    (expiry_refused s c.args.name.now c.args.number true false there room, (last_serial s c.push_expiry.new.self (Expire c.args.name.now c.args.number) c.len.result adds c.len.ensures.count, adds))
+    (expiry_refused s c.args.name.now c.args.number true false there room, (last_serial s c.push_expiry.new.self (Expire c.args.name.now c.args.number) c.len.result adds c.len.ensures, adds))

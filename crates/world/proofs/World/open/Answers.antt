@@ -1,5 +1,5 @@
 use Rattle.std.proofs.Common.{◌≡◌, inl, ⊎_elim, sym, subst}
-use Rattle.kernel.specs.declared.opening.OpenError.TheVariants.{NotAVolume, Damaged}
+use Rattle.kernel.specs.declared.opening.OpenError.TheVariants.{Memory, NotAVolume, Damaged}
 use Rattle.model.specs.News.{Stands}
 use Rattle.served.specs.Served.{ServedView}
 use Rattle.world.specs.Images.{KeepsSpools}
@@ -109,6 +109,12 @@ returns-in-Err-clause-judged g c judged =
 
 pub returns-in-Err-open-clause-judged : goal.returns-in-Err-open-clause-judged
 returns-in-Err-open-clause-judged g c judged = subst (SyncsFirst g.D.Disk.device c.args.disk) (sym c.into_disk-disk.ensures) (syncs_both g.D.Disk.device g.met.D.Disk.only_now g.met.D.Disk.counts_content c.args.disk c.in-Ok.journal c.open-2.new.journal c.in-Ok.ensures.ok c.in-Ok.ensures.moment c.open-2.ensures.reads)
+
+pub returns-in_default-clause-judged : goal.returns-in_default-clause-judged
+returns-in_default-clause-judged g c judged = ⊎_elim (λ (a : Memory ≡ NotAVolume). absurd (cc a)) (λ (b : Memory ≡ Damaged). absurd (cc b)) judged
+
+pub returns-in_default-new-clause-judged : goal.returns-in_default-new-clause-judged
+returns-in_default-new-clause-judged g c judged = ⊎_elim (λ (a : Memory ≡ NotAVolume). absurd (cc a)) (λ (b : Memory ≡ Damaged). absurd (cc b)) judged
 
 pub returns-clause-cost : goal.returns-clause-cost
 returns-clause-cost g c tells = costs_both (g.D.Disk.device c.args.disk).content (g.D.Disk.device c.args.disk) (g.D.Disk.device c.in-Ok.journal.disk) (g.D.Disk.device c.open-2.new.journal.disk) (c.in-Ok.ensures.cost tells) c.open-2.ensures.reads.writes c.open-2.ensures.reads.syncs

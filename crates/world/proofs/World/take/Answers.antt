@@ -20,7 +20,7 @@ invariant_of-self g c =
 pub invariant_of-self-2 : goal.invariant_of-self-2
 invariant_of-self-2 g c =
     let old : WorldView g.row.D.Denot = record { journal = c.self.inside.journal; served = c.self.inside.served; untold = news_in c.self.inside.ticket c.self.inside.is_committed c.self.inside.has_failed } in
-    let takes : Takes c.self.inside.served.kernel c.take_batch.new.self.kernel c.take_batch.new.into.numbers (blocks_from 0 (length c.take_batch.new.into.numbers) c.take_batch.new.into.octets) c.in-Some.ticket.last = c.in-Some.ensures.takes in
+    let takes : Takes c.self.inside.served.kernel c.take_batch.new.self.kernel c.take_batch.new.into.numbers (blocks_from 0 (length c.take_batch.new.into.numbers) c.take_batch.new.into.images) c.in-Some.ticket.last = c.in-Some.ensures.takes in
     let ready : IsReady c.self.inside.journal = c.is_idle.ensures.idle.0 (search rules) in
     let has : has_batch c.self.inside.served.kernel ≡ true = c.in-Some.ensures.when.0 refl in
     let journal : c.begin.new.self ≡ begun c.self.inside.journal c.self.inside.served.kernel =
@@ -38,7 +38,7 @@ invariant_of-self-2 g c =
 pub returns : goal.returns
 returns g c =
     let old : WorldView g.row.D.Denot = record { journal = c.self.inside.journal; served = c.self.inside.served; untold = news_in c.self.inside.ticket c.self.inside.is_committed c.self.inside.has_failed } in
-    let takes : Takes c.self.inside.served.kernel c.take_batch.new.self.kernel c.take_batch.new.into.numbers (blocks_from 0 (length c.take_batch.new.into.numbers) c.take_batch.new.into.octets) c.in-Some.ticket.last = c.in-Some.ensures.takes in
+    let takes : Takes c.self.inside.served.kernel c.take_batch.new.self.kernel c.take_batch.new.into.numbers (blocks_from 0 (length c.take_batch.new.into.numbers) c.take_batch.new.into.images) c.in-Some.ticket.last = c.in-Some.ensures.takes in
     let ready : IsReady c.self.inside.journal = c.is_idle.ensures.idle.0 (search rules) in
     let has : has_batch c.self.inside.served.kernel ≡ true = c.in-Some.ensures.when.0 refl in
     let journal : c.begin.new.self ≡ begun c.self.inside.journal c.self.inside.served.kernel =

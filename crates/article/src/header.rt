@@ -1,0 +1,69 @@
+//! What a text says, whether or not it is an article.
+
+ghost use Rattle.std.specs.Prelude.{◌≡◌, [], codes, find, length, option_map, unwrap_or, IfOk};
+ghost use Rattle.model.specs.Article as article;
+ghost use Rattle.article.specs.Causes.{content_in};
+
+use crate::contents::{find_field, id_in_field, unfold, value_of};
+use crate::fields::fields_of;
+use crate::lines::{header_length, line_count};
+use std::alloc::{AllocError, Global};
+use std::marker::Model;
+
+/// The fields of a text's header, seen by contracts as their octets.
+#[derive(Drop)]
+pub struct Header<'t> {
+    fields: Vec<&'t [u8]>,
+}
+
+impl<'t> Model for Header<'t> {
+    ghost use Rattle.std.specs.Prelude.{List, ℕ, map};
+
+    ghost Value = { List (List ℕ) };
+
+    ghost view = { λ h. map (λ field. field.now) h.fields.items };
+}
+
+impl<'t> Header<'t> {
+    /// The fields of the header of a text, of which no more than the header and the empty line behind it is read. An `Err` is
+    /// out of memory.
+    pub fn read(alloc: Global, text: &'t [u8]) -> Result<Header<'t>, AllocError>
+        ensures { IfOk result (λ header. header ≡ article.fields text.now) }
+    {
+        Ok(Header {
+            fields: fields_of(alloc, text)?,
+        })
+    }
+
+    /// The content of the first field of this name, in capitals or small letters; no octet where there is none. An `Err` is out
+    /// of memory.
+    pub fn content(&self, alloc: Global, name: &[u8]) -> Result<Vec<u8>, AllocError>
+        ensures { IfOk result (λ content. content.items ≡ content_in name.now self.now) }
+    {
+        match find_field(&self.fields, name) {
+            Some(field) => unfold(alloc, value_of(field)),
+            None => Ok(Vec::new(alloc)),
+        }
+    }
+
+    /// The message-id; no octet where there is none.
+    pub fn id(&self) -> &[u8]
+        ensures { result.now ≡ unwrap_or (option_map article.id_in_field (find (article.is_named (codes "Message-ID")) self.now)) [] }
+    {
+        match find_field(&self.fields, b"Message-ID") {
+            Some(field) => id_in_field(field),
+            None => &[],
+        }
+    }
+}
+
+/// How many lines the body of a text has; none where no empty line ends its header.
+pub fn body_line_count(text: &[u8]) -> usize
+    ensures { result ≡ length (article.body_lines text.now) }
+{
+    let header = header_length(text);
+    if header == text.len() {
+        return 0;
+    }
+    line_count(&text[header + 2..])
+}

@@ -1,0 +1,82 @@
+//! A group is added, or articles are taken out of one, while no server runs.
+
+ghost use Rattle.std.specs.Prelude.{◌≡◌, ◌⊎◌, ◌<◌, ◌≤◌, IsTrue, length};
+ghost use Rattle.std.specs.List.{list_all};
+ghost use Rattle.journal.specs.Journal.{IsReady};
+ghost use Rattle.model.specs.Calendar.{moment_limit};
+ghost use Rattle.model.specs.Lawful.{is_description_octet};
+
+use crate::files::open;
+use filedisk::FileDisk;
+use flusher::{BatchBuf, FlushError, Kern, Locked, NoGate, flush_turn};
+use journal::Journal;
+use mark::Mark;
+use names::GroupName;
+use printing::CommandError;
+use std::alloc::Global;
+use std::fs::File;
+use std::rt::Files;
+use std::sync::Wait;
+
+/// Adds a group and makes it durable. Answers its serial.
+pub fn group<R: Files<File = File> + Wait>(
+    rt: &R,
+    alloc: Global,
+    path: &str,
+    name: &GroupName,
+    status: u8,
+    description: &[u8],
+    moment: u64,
+) -> Result<u64, CommandError>
+    requires status { (status ≡ 121) ⊎ (status ≡ 110) }
+    requires short { length description.now ≤ 200 }
+    requires printable { IsTrue (list_all is_description_octet description.now) }
+    requires moment { moment < moment_limit }
+{
+    let mut batch = BatchBuf::new(alloc)?;
+    let (mut journal, kernel) = open(rt, alloc, path)?;
+    let kern = Locked::new(kernel);
+    let serial = match kern.admin(rt, alloc, name, status, description, moment) {
+        Ok(serial) => serial,
+        Err(error) => return Err(CommandError::NotMade(error)),
+    };
+    flush(rt, alloc, &mut journal, &kern, &mut batch)?;
+    Ok(serial)
+}
+
+/// Takes the articles of a group up to a number out of it, and makes that durable. Answers the serial of the change.
+pub fn expire<R: Files<File = File> + Wait>(
+    rt: &R,
+    alloc: Global,
+    path: &str,
+    name: &GroupName,
+    number: u32,
+) -> Result<u64, CommandError> {
+    let mut batch = BatchBuf::new(alloc)?;
+    let (mut journal, kernel) = open(rt, alloc, path)?;
+    let kern = Locked::new(kernel);
+    let serial = match kern.expire(rt, name, number) {
+        Ok(serial) => serial,
+        Err(error) => return Err(CommandError::NotExpired(error)),
+    };
+    flush(rt, alloc, &mut journal, &kern, &mut batch)?;
+    Ok(serial)
+}
+
+/// Makes durable what was accepted.
+fn flush<R: Wait>(
+    rt: &R,
+    alloc: Global,
+    journal: &mut Journal<FileDisk>,
+    kern: &Locked,
+    batch: &mut BatchBuf,
+) -> Result<(), CommandError>
+    requires { IsReady journal.old }
+{
+    let (mark, mut seat, _) = Mark::new(alloc)?;
+    match flush_turn(rt, journal, kern, &mark, &mut seat, batch, &NoGate) {
+        Ok(_) => Ok(()),
+        Err(FlushError::Fault) => Err(CommandError::Fault),
+        Err(FlushError::Halted) => Err(CommandError::Halted),
+    }
+}

@@ -1,0 +1,48 @@
+//! A volume in a file.
+
+ghost use Rattle.std.specs.Prelude.{IfOk};
+ghost use Rattle.journal.specs.Journal.{IsReady};
+
+use filedisk::FileDisk;
+use flusher::Kernel;
+use journal::Journal;
+use new_volume::{Plan, device_octets, format as format_device};
+use printing::CommandError;
+use std::alloc::Global;
+use std::fs::File;
+use std::rt::Files;
+
+/// Makes an empty volume in place of any file there.
+pub fn format<R: Files<File = File>>(
+    rt: &R,
+    alloc: Global,
+    path: &str,
+    plan: &Plan<'_>,
+) -> Result<(), CommandError> {
+    let Ok(disk) = FileDisk::open(rt, path, device_octets(plan.blocks)) else {
+        return Err(CommandError::Fault);
+    };
+    let _disk = format_device(alloc, disk, plan)?;
+    Ok(())
+}
+
+/// Opens the volume in a file, whose length is the device's.
+pub(crate) fn open<R: Files<File = File>>(
+    rt: &R,
+    alloc: Global,
+    path: &str,
+) -> Result<(Journal<FileDisk>, Kernel), CommandError>
+    ensures { IfOk result (λ opened. IsReady opened.0) }
+{
+    let Ok(disk) = FileDisk::open_existing(rt, path) else {
+        return Err(CommandError::Fault);
+    };
+    let mut journal = match Journal::open(alloc, disk) {
+        Ok(journal) => journal,
+        Err(refused) => return Err(CommandError::from(refused.error)),
+    };
+    match Kernel::open(alloc, &mut journal) {
+        Ok(kernel) => Ok((journal, kernel)),
+        Err(error) => Err(CommandError::NotOpened(error)),
+    }
+}

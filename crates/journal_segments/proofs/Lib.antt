@@ -1,0 +1,5 @@
+pub mod Batches
+pub mod Gates
+pub mod Laid
+pub mod Loading
+pub mod Written

@@ -1,0 +1,25 @@
+//! The segments of a volume: read from its device into memory, the open ones found by their gates and put into rising batch
+//! number. `specs/Staged.antt` says what a segment in memory is, `specs/Found.antt` what is read.
+#![tactic(auto)]
+
+mod finding;
+mod laying;
+mod reading;
+mod segment;
+
+pub use finding::find_open;
+pub use laying::lay_over;
+pub use reading::load_superblock;
+pub use segment::Segment;
+use thiserror::Error;
+
+/// Why a read of a volume was refused. Nothing was written.
+#[derive(Clone, Copy, Debug, PartialEq, Eq, Error)]
+pub enum SegmentError {
+    /// The device failed in this call.
+    #[error("E1 Fault")]
+    Fault,
+    /// The length, the superblock or an open segment's descriptor isn't valid, or two open segments have one batch number.
+    #[error("E3 NotAVolume")]
+    NotAVolume,
+}

@@ -1,0 +1,152 @@
+//! Reads of what stands on a device.
+
+ghost use Rattle.std.specs.Prelude.{◌^◌, ◌⊎◌, OnOk, IfOk, IfErr, IsErrOf, take, IsTrue, ◌≡◌, ◌≢◌, ◌+◌, ◌*◌, ◌<◌, ◌≤◌, ℕ, List, length};
+ghost use Rattle.disk.specs.Image.{overwritten, part};
+ghost use Rattle.model.specs.Volume.{IsDescriptor, IsSuperblock, is_open, number_at, block, listed, image_place, descriptor_place, gate_place, home_place};
+ghost use Rattle.journal_segments.specs.Found.{AreLoaded, IsQuiet, IsStill};
+
+use crate::SegmentError;
+use disk::Disk;
+use volume_format::layout::{BLOCK, OPEN, descriptor_block, gate_block, image_block, start_of};
+use volume_format::{Sizes, read_descriptor, read_superblock};
+
+fn read_part<D: Disk>(disk: &mut D, at: u64, into: &mut [u8]) -> Result<(), SegmentError>
+    requires { at + length into.old ≤ (D.device disk.old).size }
+    ensures quiet { IsQuiet (D.device disk.old) (D.device disk.new) }
+    ensures still { OnOk result (IsStill (D.device disk.old) (D.device disk.new)) }
+    ensures value { IsTrue (D.device disk.old).tells → OnOk result (into.new ≡ part at (length into.old) (D.device disk.old).content) }
+    ensures cause { IfErr result (λ error. (error ≡ SegmentError.Fault) × ((D.device disk.new).failures ≢ (D.device disk.old).failures)) }
+{
+    match disk.read(at, into) {
+        Ok(()) => Ok(()),
+        Err(_) => Err(SegmentError::Fault),
+    }
+}
+
+fn read_block<D: Disk>(disk: &mut D, k: u64, into: &mut Vec<u8>) -> Result<(), SegmentError>
+    requires place { 4096 * k + 4096 ≤ (D.device disk.old).size }
+    requires room { length into.old.items ≡ 4096 }
+    requires low { k < 2 ^ 40 }
+    ensures room { length into.new.items ≡ 4096 }
+    ensures quiet { IsQuiet (D.device disk.old) (D.device disk.new) }
+    ensures still { OnOk result (IsStill (D.device disk.old) (D.device disk.new)) }
+    ensures value { IsTrue (D.device disk.old).tells → OnOk result (into.new.items ≡ block k (D.device disk.old).content) }
+    ensures cause { IfErr result (λ error. (error ≡ SegmentError.Fault) × ((D.device disk.new).failures ≢ (D.device disk.old).failures)) }
+{
+    read_part(disk, start_of(k), into.as_mut_slice())
+}
+
+/// Reads the superblock, and what it tells of the volume's sizes.
+///
+/// `NotAVolume` where the device's length or the superblock isn't valid, `Fault` where the device failed. The room has any octets
+/// then.
+pub fn load_superblock<D: Disk>(
+    disk: &mut D,
+    superblock: &mut Vec<u8>,
+) -> Result<Sizes, SegmentError>
+    requires { length superblock.old.items ≡ 4096 }
+    ensures room { length superblock.new.items ≡ 4096 }
+    ensures quiet { IsQuiet (D.device disk.old) (D.device disk.new) }
+    ensures still { OnOk result (IsStill (D.device disk.old) (D.device disk.new)) }
+    ensures sizes { IfOk result (λ sizes. IsSuperblock superblock.new.items (D.device disk.old).size × (number_at 12 4 superblock.new.items ≡ sizes.blocks) × (number_at 16 4 superblock.new.items ≡ sizes.segments)) }
+    ensures value { IsTrue (D.device disk.old).tells → OnOk result (superblock.new.items ≡ block 0 (D.device disk.old).content) }
+    ensures fault { IsErrOf result SegmentError.Fault → (D.device disk.new).failures ≢ (D.device disk.old).failures }
+    ensures no_volume { IsErrOf result SegmentError.NotAVolume → IsTrue (D.device disk.old).tells → IsSuperblock (block 0 (D.device disk.old).content) (D.device disk.old).size → ⊥ }
+{
+    let size = disk.len();
+    if size < 4096 {
+        return Err(SegmentError::NotAVolume);
+    }
+    read_block(disk, 0, superblock)?;
+    match read_superblock(superblock.as_slice(), size) {
+        Some(sizes) => Ok(sizes),
+        None => Err(SegmentError::NotAVolume),
+    }
+}
+
+pub(crate) fn is_gate_open<D: Disk>(disk: &mut D, place: u32) -> Result<bool, SegmentError>
+    requires low { place < 8 }
+    requires size { 4096 * descriptor_place place ≤ (D.device disk.old).size }
+    ensures quiet { IsQuiet (D.device disk.old) (D.device disk.new) }
+    ensures still { OnOk result (IsStill (D.device disk.old) (D.device disk.new)) }
+    ensures value { IsTrue (D.device disk.old).tells → IfOk result (λ opened. opened ≡ is_open place (D.device disk.old).content) }
+    ensures cause { IfErr result (λ error. (error ≡ SegmentError.Fault) × ((D.device disk.new).failures ≢ (D.device disk.old).failures)) }
+{
+    let mut gate = [0];
+    read_part(disk, start_of(gate_block(place)), &mut gate)?;
+    Ok(gate[0] == OPEN)
+}
+
+fn load_image<D: Disk>(
+    disk: &mut D,
+    place: u32,
+    i: usize,
+    images: &mut [u8],
+) -> Result<(), SegmentError>
+    requires low { place < 8 }
+    requires few { i < 512 }
+    requires place { 4096 * image_place place i + 4096 ≤ (D.device disk.old).size }
+    requires room { 4096 * i + 4096 ≤ length images.old }
+    ensures quiet { IsQuiet (D.device disk.old) (D.device disk.new) }
+    ensures still { OnOk result (IsStill (D.device disk.old) (D.device disk.new)) }
+    ensures value { IsTrue (D.device disk.old).tells → OnOk result (images.new ≡ overwritten (4096 * i) (block (image_place place i) (D.device disk.old).content) images.old) }
+    ensures cause { IfErr result (λ error. (error ≡ SegmentError.Fault) × ((D.device disk.new).failures ≢ (D.device disk.old).failures)) }
+{
+    let at = BLOCK * i;
+    let end = at + BLOCK;
+    read_part(disk, start_of(image_block(place, i)), &mut images[at..end])
+}
+
+// The batch of an open segment, into the room for it. How many images it has.
+pub(crate) fn load_batch<D: Disk>(
+    disk: &mut D,
+    place: u32,
+    blocks: u64,
+    descriptor: &mut Vec<u8>,
+    numbers: &mut Vec<u32>,
+    images: &mut Vec<u8>,
+) -> Result<usize, SegmentError>
+    requires low { place < 8 }
+    requires size { 4096 * gate_place (place + 1) ≤ (D.device disk.old).size }
+    requires descriptor { length descriptor.old.items ≡ 4096 }
+    requires numbers { length numbers.old.items ≡ 512 }
+    requires images { length images.old.items ≡ 2097152 }
+    ensures room { (length descriptor.new.items ≡ 4096) × (length numbers.new.items ≡ 512) × (length images.new.items ≡ 2097152) }
+    ensures quiet { IsQuiet (D.device disk.old) (D.device disk.new) }
+    ensures still { OnOk result (IsStill (D.device disk.old) (D.device disk.new)) }
+    ensures valid { IfOk result (λ count. IsDescriptor blocks descriptor.new.items × (number_at 16 4 descriptor.new.items ≡ count) × (take count numbers.new.items ≡ listed descriptor.new.items)) }
+    ensures value { IsTrue (D.device disk.old).tells → OnOk result (descriptor.new.items ≡ block (descriptor_place place) (D.device disk.old).content) }
+    ensures images { IsTrue (D.device disk.old).tells → IfOk result (λ count. AreLoaded place count (D.device disk.old).content images.new.items) }
+    ensures fault { IsErrOf result SegmentError.Fault → (D.device disk.new).failures ≢ (D.device disk.old).failures }
+    ensures no_volume { IsErrOf result SegmentError.NotAVolume → IsTrue (D.device disk.old).tells → IsDescriptor blocks (block (descriptor_place place) (D.device disk.old).content) → ⊥ }
+{
+    read_block(disk, descriptor_block(place), descriptor)?;
+    match read_descriptor(descriptor.as_slice(), blocks, numbers) {
+        Some(count) => {
+            load_images(disk, place, count, images.as_mut_slice())?;
+            Ok(count)
+        }
+        None => Err(SegmentError::NotAVolume),
+    }
+}
+
+fn load_images<D: Disk>(
+    disk: &mut D,
+    place: u32,
+    count: usize,
+    images: &mut [u8],
+) -> Result<(), SegmentError>
+    requires low { place < 8 }
+    requires size { 4096 * gate_place (place + 1) ≤ (D.device disk.old).size }
+    requires few { count ≤ 512 }
+    requires room { length images.old ≡ 2097152 }
+    ensures quiet { IsQuiet (D.device disk.old) (D.device disk.new) }
+    ensures still { OnOk result (IsStill (D.device disk.old) (D.device disk.new)) }
+    ensures images { IsTrue (D.device disk.old).tells → OnOk result (AreLoaded place count (D.device disk.old).content images.new) }
+    ensures cause { IfErr result (λ error. (error ≡ SegmentError.Fault) × ((D.device disk.new).failures ≢ (D.device disk.old).failures)) }
+{
+    for i in 0..count {
+        load_image(disk, place, i, images)?;
+    }
+    Ok(())
+}

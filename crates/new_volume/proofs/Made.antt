@@ -1,0 +1,43 @@
+-- A volume of zeroed blocks, and the batch that is laid over them.
+use Rattle.std.proofs.Common.{◌≡◌, ℕ, Bool, IsTrue, sym, ◌∙◌, subst, Result, Ok, Err, IfOk, IfErr}
+use Rattle.disk.specs.Device.{Device, Elapses}
+use Rattle.journal.specs.Journal.{JournalView}
+use Rattle.journal.specs.Opening.{Opens, Refuses}
+use Rattle.journal.specs.declared.JournalError.{JournalError}
+use Rattle.model.specs.Stream.{Octets}
+use Rattle.model.specs.Volume.{StandsFor}
+use Rattle.volume_format.specs.Formatting.{zeroed}
+use Rattle.new_volume.specs.Formatting.{IsZeroed, Spoils}
+use Rattle.new_volume.proofs.Carried.{elapsed}
+
+-- what an answer gives gives more
+pub ok_map : {T E : Type 0} {P Q : T → Type 0} (r : Result T E) → ((x : T) → P x → Q x) → IfOk r P → IfOk r Q
+ok_map (Ok x) f is = f x is
+ok_map (Err e) f is = is
+
+pub err_map : {T E : Type 0} {P Q : E → Type 0} (r : Result T E) → ((e : E) → P e → Q e) → IfErr r P → IfErr r Q
+err_map (Ok x) f is = is
+err_map (Err e) f is = f e is
+
+pub zeroed_opened : {D : Type 0} (device : D → Device) (first mid : D) (blocks : ℕ) (label : Octets) (journal : JournalView D) → (IsTrue (device first).tells → StandsFor (device mid).content label (zeroed blocks)) → Elapses (device first) (device mid)
+    → (device mid).failures ≡ (device first).failures → Opens device mid journal → IsZeroed device blocks label first journal
+zeroed_opened device first mid blocks label journal stands time failures opens = record {
+  ready = opens.ready;
+  label_is = λ t. sym (opens.stands (told t)).has_label ∙ (stands t).has_label;
+  blocks_are = λ t. sym (opens.stands (told t)).has_blocks ∙ (stands t).has_blocks;
+  time = elapsed (device first) (device mid) (device journal.disk) time opens.time;
+  failures = opens.failures ∙ failures;
+}
+  where
+    told : IsTrue (device first).tells → IsTrue (device mid).tells
+    told t = subst (λ (b : Bool). IsTrue b) (sym time.tells) t
+
+pub zeroed_refused : {D : Type 0} (device : D → Device) (first mid last : D) (blocks : ℕ) (label : Octets) (error : JournalError) → (IsTrue (device first).tells → StandsFor (device mid).content label (zeroed blocks)) → Elapses (device first) (device mid)
+    → (device mid).failures ≡ (device first).failures → Refuses device mid last error → Spoils error (device first) (device last)
+zeroed_refused device first mid last blocks label error stands time failures refuses = record {
+  time = elapsed (device first) (device mid) (device last) time refuses.time;
+  fault = λ is same. refuses.fault is (same ∙ sym failures);
+  memory = λ is. refuses.memory is ∙ failures;
+  no_volume = λ is t. refuses.no_volume is (subst (λ (b : Bool). IsTrue b) (sym time.tells) t) label (zeroed blocks) (stands t);
+  not_halted = refuses.not_halted;
+}

@@ -1,0 +1,58 @@
+-- What a new volume holds, and what a refusal leaves.
+use Rattle.std.specs.Prelude.{◌≡◌, ◌≢◌, ℕ, IsTrue, List, []}
+use Rattle.disk.specs.Device.{Device, Elapses, LeavesOnly}
+use Rattle.journal.specs.Journal.{IsReady, JournalView, with_batch}
+use Rattle.journal.specs.declared.JournalError.{JournalError}
+use Rattle.journal.specs.declared.JournalError.TheVariants.{Fault, Halted, Memory, NotAVolume}
+use Rattle.model.specs.Layout.{Stands, label_octets}
+use Rattle.model.specs.Stream.{Octets}
+use Rattle.model.specs.Volume.{StandsFor, label_of}
+use Rattle.volume.specs.Volume.{BatchView}
+use Rattle.volume_format.specs.Formatting.{zeroed}
+use Rattle.new_volume.specs.Emptying.{laid}
+
+-- the image of the device stands for the spool without changes, and a crash leaves it
+pub record IsNew (host : Octets) (inodes : ℕ) (device : Device) : Type 0 where
+  pub stands : Stands host device.content []
+  pub label : label_of device.content ≡ label_octets inodes host
+  pub synced : LeavesOnly device device.content
+
+-- a new volume was made over whatever was there
+pub record Formats (host : Octets) (inodes : ℕ) (old new : Device) : Type 0 where
+  pub made : IsTrue old.tells → IsNew host inodes new
+  pub time : Elapses old new
+  pub failures : new.failures ≡ old.failures
+
+-- why none was made
+pub record Spoils (error : JournalError) (old new : Device) : Type 0 where
+  pub time : Elapses old new
+  pub fault : error ≡ Fault → new.failures ≢ old.failures
+  pub memory : error ≡ Memory → new.failures ≡ old.failures
+  pub no_volume : error ≡ NotAVolume → ¬ (IsTrue old.tells)
+  pub not_halted : error ≢ Halted
+
+-- ---- the steps to it
+
+-- a journal over zeroed blocks, where nothing else stands on the device
+pub record IsZeroed {D : Type 0} (device : D → Device) (blocks : ℕ) (label : Octets) (first : D) (journal : JournalView D) : Type 0 where
+  pub ready : IsReady journal
+  pub label_is : IsTrue (device first).tells → journal.label ≡ label
+  pub blocks_are : IsTrue (device first).tells → journal.blocks ≡ zeroed blocks
+  pub time : Elapses (device first) (device journal.disk)
+  pub failures : (device journal.disk).failures ≡ (device first).failures
+
+-- the image of the device stands for these blocks, and a crash leaves it
+pub record IsLeft (label : Octets) (blocks : List Octets) (device : Device) : Type 0 where
+  pub stands : StandsFor device.content label blocks
+  pub synced : LeavesOnly device device.content
+
+-- the batch that had begun was carried to its end
+pub record HasCarried {D : Type 0} (device : D → Device) (old new : JournalView D) : Type 0 where
+  pub left : IsTrue (device old.disk).tells → IsLeft old.label (with_batch old) (device new.disk)
+  pub failures : (device new.disk).failures ≡ (device old.disk).failures
+
+-- a batch was laid over the blocks of a journal, which gave its device back
+pub record HasLaid {D : Type 0} (device : D → Device) (batch : BatchView) (journal : JournalView D) (last : D) : Type 0 where
+  pub left : IsTrue (device journal.disk).tells → IsLeft journal.label (laid journal.blocks batch) (device last)
+  pub time : Elapses (device journal.disk) (device last)
+  pub failures : (device last).failures ≡ (device journal.disk).failures

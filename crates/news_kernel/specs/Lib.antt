@@ -1,7 +1,0 @@
-pub mod Kernel
-pub mod Errors
-pub mod Kept
-pub mod Serving
-pub mod Stored
-pub mod Label
-pub mod Opening

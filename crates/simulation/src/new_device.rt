@@ -1,0 +1,15 @@
+//! The new device of a simulation.
+
+use memdisk::MemDisk;
+use new_volume::{Plan, device_octets, format};
+use printing::{CommandError, Failure};
+use std::alloc::Global;
+
+/// A new device in memory with an empty volume.
+pub(crate) fn formatted(alloc: Global, plan: &Plan<'_>) -> Result<MemDisk, Failure> {
+    let disk = MemDisk::new(alloc, device_octets(plan.blocks))?;
+    match format(alloc, disk, plan) {
+        Ok(disk) => Ok(disk),
+        Err(error) => Err(Failure::Command(CommandError::from(error))),
+    }
+}

@@ -1,0 +1,58 @@
+//! What the file of a change says, as a change of its own.
+
+ghost use Rattle.std.specs.Prelude.{◌≡◌, map, IfOk};
+ghost use Rattle.spool_reading.specs.Said.{change_of};
+
+use model::{Change, Names, Text};
+use spool_reading::Said;
+use std::alloc::{AllocError, Global};
+
+/// The change that a file says, with its own copies of the octets. Refused for memory alone.
+pub fn change_said(alloc: Global, said: &Said<'_>) -> Result<Change, AllocError>
+    ensures { IfOk result (λ change. change ≡ change_of said.now) }
+{
+    match said {
+        Said::Group {
+            name,
+            status,
+            description,
+            moment,
+        } => Ok(Change::Group {
+            name: copy(alloc, name)?,
+            status: *status,
+            description: copy(alloc, description)?,
+            moment: *moment,
+        }),
+        Said::Article {
+            text,
+            groups,
+            moment,
+        } => Ok(Change::Article {
+            text: copy(alloc, text)?,
+            groups: copy_names(alloc, groups)?,
+            moment: *moment,
+        }),
+        Said::Expiry { group, number } => Ok(Change::Expire {
+            group: copy(alloc, group)?,
+            number: u64::from(*number),
+        }),
+    }
+}
+
+/// A text of these octets. Refused for memory alone.
+fn copy(alloc: Global, octets: &[u8]) -> Result<Text, AllocError>
+    ensures { IfOk result (λ text. text ≡ octets.now) }
+{
+    Ok(Text::new(octets.to_vec(alloc)?))
+}
+
+/// The same names. Refused for memory alone.
+fn copy_names(alloc: Global, names: &[&[u8]]) -> Result<Names, AllocError>
+    ensures { IfOk result (λ copies. copies ≡ map (λ name. name.now) names.now) }
+{
+    let mut copies = Vec::new(alloc);
+    for name in names {
+        copies.push(copy(alloc, name)?)?;
+    }
+    Ok(Names::new(copies))
+}

@@ -1,0 +1,26 @@
+-- The groups of a spool that have numbers.
+use Rattle.std.proofs.Common.{◌≡◌, ◌≤◌, ℕ, List, length, refl, sym, ap, subst, arith}
+use Rattle.std.specs.Prelude.{IsSome, Option, Some, None}
+use Rattle.model.specs.Indexed.{ArePlaces, FilePlaces}
+use Rattle.model.specs.Spool.{Spool, NewsGroup, group_named, high, low}
+use Rattle.model.specs.Stream.{Octets}
+use Rattle.model.proofs.Filing.{new_has_nothing}
+use Rattle.index.specs.View.{IndexView}
+use Rattle.spool_texts.specs.Texts.{HasNumbers}
+use Rattle.volume.specs.Volume.{VolumeView}
+use Rattle.spool_files.specs.Kept.{IsKept}
+
+module _ (host : Octets) (inodes : ℕ) (volume : VolumeView) (index : IndexView) (places : FilePlaces) (S : Spool) (kept : IsKept host inodes volume index places S) where
+  -- what is seen are the blocks of the cache
+  placed_there : ArePlaces inodes volume.seen S places
+  placed_there = subst (λ (blocks : List Octets). ArePlaces inodes blocks S places) (sym kept.seen) kept.placed
+
+  -- a group with a number is here
+  here : (group : Octets) (from to : ℕ) → low S group ≤ from → from ≤ to → to ≤ high S group → IsSome (group_named S group)
+  here group from to above order below = by_name (group_named S group) refl where
+    by_name : (o : Option NewsGroup) → group_named S group ≡ o → IsSome o
+    by_name (Some g) is = refl
+    by_name None is = absurd (omega (arith, above, order, below, ap length (new_has_nothing host S group kept.is.held.lawful is)))
+
+  pub has_numbers : (group : Octets) (from to : ℕ) → low S group ≤ from → from ≤ to → to ≤ high S group → HasNumbers inodes volume.seen index places group from to
+  has_numbers group from to above order below = record { changes = S; indexed = kept.indexed; placed = placed_there; here = here group from to above order below; low = above; order = order; high = below }

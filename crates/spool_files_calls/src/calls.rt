@@ -1,0 +1,133 @@
+//! The calls of a spool, and what each answers.
+
+use crate::changes::{Wanted, is_change};
+use crate::changing::{Filed, add, expire, file_expiry, file_group, post, take};
+use crate::finding::{Asked, Sought, find, text_of};
+use crate::sent::Sent;
+use crate::stored::Stored;
+use spool_reading::OpenError;
+use std::alloc::Global;
+
+/// A call.
+#[derive(Clone, Copy)]
+pub(crate) enum Call {
+    /// Adds a group with this status and this description.
+    Add(&'static str, u8, &'static str),
+    /// Adds so many groups, with the names g.1, g.2 and so on.
+    AddMany(u64),
+    /// Takes the articles up to a number out of a group.
+    Expire(&'static str, u32),
+    Post(Sent),
+    /// Posts an article so many times.
+    PostMany(u64, Sent),
+    /// Takes an article over from another server.
+    Take(Sent),
+    /// Files a group with this status as a change, and so an expiry.
+    FileGroup(&'static str, u8),
+    FileExpiry(&'static str, u64),
+    /// Whether the change with a serial is this one.
+    Change(u64, Wanted),
+    Find(Asked),
+    /// Whether a text that is asked for is this one.
+    Is(Sought, &'static [u8]),
+    /// Whether nothing is found in the place of a text.
+    IsNone(Sought),
+    DirtyLen,
+    /// Carries a batch of the dirty blocks, and counts them.
+    Carry,
+    /// Opens what the batches have carried, in place of the spool.
+    Reopen,
+}
+
+/// What a call answers.
+#[derive(Clone, Copy, Debug, PartialEq)]
+pub(crate) enum Answer {
+    Changed(Filed),
+    Found(u64),
+    Nothing,
+    Is(bool),
+    /// So many blocks.
+    Blocks(usize),
+    /// More blocks are dirty than a batch may have.
+    TooMany,
+    Opened,
+    NotOpened(OpenError),
+    Memory,
+}
+
+/// Makes a call.
+pub(crate) fn make(alloc: Global, stored: &mut Stored, call: Call) -> Answer {
+    match call {
+        Call::Change(serial, wanted) => {
+            match is_change(alloc, &stored.spool, serial, &wanted) {
+                Ok(Some(is_it)) => Answer::Is(is_it),
+                Ok(None) => Answer::Nothing,
+                Err(_) => Answer::Memory,
+            }
+        }
+        Call::Find(asked) => match find(&stored.spool, asked) {
+            Some(number) => Answer::Found(number),
+            None => Answer::Nothing,
+        },
+        Call::Is(sought, wanted) => is_text(alloc, stored, sought, Some(wanted)),
+        Call::IsNone(sought) => is_text(alloc, stored, sought, None),
+        Call::DirtyLen => Answer::Blocks(stored.spool.dirty_len()),
+        Call::Carry => match stored.carry() {
+            Some(count) => Answer::Blocks(count),
+            None => Answer::TooMany,
+        },
+        Call::Reopen => match stored.reopen(alloc) {
+            Ok(()) => Answer::Opened,
+            Err(error) => Answer::NotOpened(error),
+        },
+        change => Answer::Changed(change_by(alloc, stored, change)),
+    }
+}
+
+fn is_text(alloc: Global, stored: &Stored, sought: Sought, wanted: Option<&[u8]>) -> Answer {
+    match (text_of(alloc, &stored.spool, sought), wanted) {
+        (Ok(Some(text)), Some(wanted)) => Answer::Is(text.as_slice() == wanted),
+        (Ok(None), None) => Answer::Is(true),
+        (Ok(_), _) => Answer::Is(false),
+        (Err(_), _) => Answer::Memory,
+    }
+}
+
+// Makes a change.
+fn change_by(alloc: Global, stored: &mut Stored, call: Call) -> Filed {
+    let spool = &mut stored.spool;
+    match call {
+        Call::Add(name, status, description) => {
+            add(spool, name.as_bytes(), status, description.as_bytes())
+        }
+        Call::AddMany(count) => add_many(alloc, stored, count),
+        Call::Expire(name, number) => expire(spool, name.as_bytes(), number),
+        Call::Post(sent) => post(alloc, spool, &sent),
+        Call::PostMany(count, sent) => post_many(alloc, stored, count, &sent),
+        Call::Take(sent) => take(alloc, spool, &sent),
+        Call::FileGroup(name, status) => file_group(alloc, spool, name.as_bytes(), status),
+        Call::FileExpiry(name, number) => file_expiry(alloc, spool, name.as_bytes(), number),
+        _ => Filed::NotCalled,
+    }
+}
+
+// Posts an article so many times, and answers what the last one is.
+fn post_many(alloc: Global, stored: &mut Stored, count: u64, sent: &Sent) -> Filed {
+    let mut last = Filed::NotCalled;
+    for _ in 0..count {
+        last = post(alloc, &mut stored.spool, sent);
+    }
+    last
+}
+
+// Adds groups with the names g.1, g.2 and so on, and answers what the last one is.
+fn add_many(alloc: Global, stored: &mut Stored, count: u64) -> Filed {
+    let mut last = Filed::NotCalled;
+    for number in 1..=count {
+        let Ok(name) = format!(in alloc; "g.{number}") else {
+            return Filed::Memory;
+        };
+        last = add(&mut stored.spool, name.as_bytes(), b'y', b"");
+    }
+    last
+}

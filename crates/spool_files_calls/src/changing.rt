@@ -1,0 +1,167 @@
+//! Changes of a spool. Each call tests anew what it requires, and promises nothing.
+
+ghost use Rattle.std.specs.Prelude.{◌≡◌, ◌⊎◌, ◌≤◌, IsTrue, length};
+ghost use Rattle.std.specs.List.{list_all};
+ghost use Rattle.model.specs.Lawful.{MayAwait, is_description_octet};
+
+use crate::sent::Sent;
+use lookups::{LookUps, find_group};
+use model::{Awaits, Change, Mark, Message, Session, Text};
+use names::{is_group_name, is_of_host, number_of};
+use serving::{FileError, Files, Served, serve};
+use spool_files::{AddError, ExpireError, Spool};
+use std::alloc::Global;
+
+/// When everything is made, in seconds since 1970.
+pub(crate) const MOMENT: u64 = 1_000_000_000;
+
+/// What a change is answered.
+#[derive(Clone, Copy, Debug, PartialEq)]
+pub(crate) enum Filed {
+    /// It has this serial.
+    Serial(u64),
+    /// The code of the reply, and the serial that it reads.
+    Reply(u64, u64),
+    /// The code of the reply, where there is no room.
+    Full(u64),
+    /// The code of the reply, where it would be too long as it is stored.
+    Long(u64),
+    Done,
+    NotAdded(AddError),
+    NotExpired(ExpireError),
+    NotFiled(FileError),
+    /// The arguments aren't what the call requires.
+    NotCalled,
+    Memory,
+}
+
+/// Adds a group.
+pub(crate) fn add(spool: &mut Spool, name: &[u8], status: u8, description: &[u8]) -> Filed {
+    if !is_group_name(name) || !is_described(status, description) {
+        return Filed::NotCalled;
+    }
+    match spool.add_group(name, status, description, MOMENT) {
+        Ok(serial) => Filed::Serial(serial),
+        Err(error) => Filed::NotAdded(error),
+    }
+}
+
+// Whether a group may have this status and this description.
+fn is_described(status: u8, description: &[u8]) -> bool
+    ensures status { IsTrue result → (status ≡ 121) ⊎ (status ≡ 110) }
+    ensures short { IsTrue result → length description.now ≤ 200 }
+    ensures printable { IsTrue result → IsTrue (list_all is_description_octet description.now) }
+{
+    (status == b'y' || status == b'n') && is_short_and_printable(description)
+}
+
+fn is_short_and_printable(description: &[u8]) -> bool
+    ensures short { IsTrue result → length description.now ≤ 200 }
+    ensures printable { IsTrue result → IsTrue (list_all is_description_octet description.now) }
+{
+    description.len() <= 200 && description.iter().all(|octet| 32 <= *octet && *octet <= 126)
+}
+
+/// Takes articles out of a group.
+pub(crate) fn expire(spool: &mut Spool, name: &[u8], number: u32) -> Filed {
+    match spool.expire(name, number) {
+        Ok(serial) => Filed::Serial(serial),
+        Err(error) => Filed::NotExpired(error),
+    }
+}
+
+/// Files a group as a change.
+pub(crate) fn file_group(alloc: Global, spool: &mut Spool, name: &[u8], status: u8) -> Filed {
+    if !is_group_name(name) || !is_described(status, b"") || spool.group(name).is_some() {
+        return Filed::NotCalled;
+    }
+    let Ok(octets) = name.to_vec(alloc) else {
+        return Filed::Memory;
+    };
+    let change = Change::Group {
+        name: Text::new(octets),
+        status,
+        description: Text::new(Vec::new(alloc)),
+        moment: MOMENT,
+    };
+    done(spool.file(&change))
+}
+
+/// Files an expiry as a change.
+pub(crate) fn file_expiry(alloc: Global, spool: &mut Spool, name: &[u8], number: u64) -> Filed {
+    let Some(found) = find_group(spool, name) else {
+        return Filed::NotCalled;
+    };
+    if number < found.counts.low || found.counts.high < number {
+        return Filed::NotCalled;
+    }
+    let Ok(octets) = name.to_vec(alloc) else {
+        return Filed::Memory;
+    };
+    let change = Change::Expire {
+        group: Text::new(octets),
+        number,
+    };
+    done(spool.file(&change))
+}
+
+fn done(given: Result<(), FileError>) -> Filed {
+    match given {
+        Ok(()) => Filed::Done,
+        Err(error) => Filed::NotFiled(error),
+    }
+}
+
+/// Posts an article.
+pub(crate) fn post(alloc: Global, spool: &mut Spool, sent: &Sent) -> Filed {
+    deliver(alloc, spool, sent, Awaits::PostBlock)
+}
+
+/// Takes an article over from another server, which offered it under its id.
+pub(crate) fn take(alloc: Global, spool: &mut Spool, sent: &Sent) -> Filed {
+    let Ok(id) = Vec::from_slice(alloc, sent.id.as_bytes()) else {
+        return Filed::Memory;
+    };
+    if is_of_host(spool.host(), &id) {
+        return Filed::NotCalled;
+    }
+    deliver(alloc, spool, sent, Awaits::IhaveBlock(Text::new(id)))
+}
+
+// Sends an article to a session that awaits it.
+fn deliver(alloc: Global, spool: &mut Spool, sent: &Sent, awaits: Awaits) -> Filed
+    requires { MayAwait spool.old.host awaits }
+{
+    let Ok(text) = sent.text(alloc) else {
+        return Filed::Memory;
+    };
+    let session = Session {
+        awaits,
+        group: None,
+        current: None,
+    };
+    let message = Message::Block(Text::new(text));
+    match serve(alloc, spool, &session, &message, MOMENT) {
+        Ok(served) => said(&served),
+        Err(_) => Filed::Memory,
+    }
+}
+
+// What an article is answered.
+fn said(served: &Served) -> Filed {
+    let Some(code) = code_of(served.reply.as_slice()) else {
+        return Filed::NotCalled;
+    };
+    match served.mark {
+        Mark::Served => Filed::Reply(code, served.reads),
+        Mark::Full => Filed::Full(code),
+        Mark::Long => Filed::Long(code),
+        Mark::Stopped => Filed::NotCalled,
+    }
+}
+
+// The three digits that a reply begins with.
+fn code_of(reply: &[u8]) -> Option<u64> {
+    let digits = reply.get(..3)?;
+    number_of(digits)
+}

@@ -1,0 +1,188 @@
+//! Look-ups into a spool. Each call tests anew what it requires, and promises nothing.
+
+use lookups::{LookUps, counts_of, find_id};
+use model::Part;
+use names::is_wildmat;
+use spool_files::Spool;
+use std::alloc::{AllocError, Global};
+
+/// What is asked.
+#[derive(Clone, Copy)]
+pub(crate) enum Asked {
+    Len,
+    Blocks,
+    Inodes,
+    GroupCount,
+    /// The serial of the group with a place.
+    At(usize),
+    Serial(&'static str),
+    Status(&'static str),
+    Made(&'static str),
+    Low(&'static str),
+    High(&'static str),
+    Last(&'static str),
+    ByNumber(&'static str, u64),
+    ById(&'static str),
+    ExpiredAt(&'static str, u64),
+    GoneAt(u64),
+    Moment(u64),
+    /// Whether an article is in a group whose name the wildmat takes.
+    IsInOne(u64, &'static str),
+}
+
+/// What a look-up finds; none where there is nothing, or where what it requires doesn't hold.
+pub(crate) fn find(spool: &Spool, asked: Asked) -> Option<u64> {
+    match asked {
+        Asked::Len => Some(spool.len()),
+        Asked::Blocks => Some(u64::from(spool.blocks())),
+        Asked::Inodes => Some(u64::from(spool.inodes())),
+        Asked::GroupCount => Some(spool.group_count() as u64),
+        Asked::At(place) => at(spool, place),
+        Asked::ByNumber(name, number) => spool.by_number(name.as_bytes(), number),
+        Asked::ById(id) => spool.by_id(id.as_bytes()),
+        Asked::ExpiredAt(name, number) => Some(spool.expired_at(name.as_bytes(), number)),
+        Asked::GoneAt(serial) => spool.gone_at(serial),
+        Asked::Moment(serial) => spool.moment(serial),
+        Asked::IsInOne(serial, wildmat) => is_in_one(spool, serial, wildmat.as_bytes()),
+        of_group => find_in_group(spool, of_group),
+    }
+}
+
+fn at(spool: &Spool, place: usize) -> Option<u64> {
+    if place >= spool.group_count() {
+        return None;
+    }
+    Some(spool.group_at(place).serial)
+}
+
+fn is_in_one(spool: &Spool, serial: u64, wildmat: &[u8]) -> Option<u64> {
+    if !is_wildmat(wildmat) {
+        return None;
+    }
+    Some(u64::from(spool.is_in_one(serial, wildmat)))
+}
+
+fn find_in_group(spool: &Spool, asked: Asked) -> Option<u64> {
+    match asked {
+        Asked::Serial(name) => Some(spool.group(name.as_bytes())?.serial),
+        Asked::Status(name) => Some(u64::from(spool.group(name.as_bytes())?.status)),
+        Asked::Made(name) => Some(spool.group(name.as_bytes())?.moment),
+        Asked::Low(name) => Some(spool.group(name.as_bytes())?.low),
+        Asked::High(name) => Some(spool.group(name.as_bytes())?.high),
+        Asked::Last(name) => Some(spool.group(name.as_bytes())?.last),
+        _ => None,
+    }
+}
+
+/// A text that is asked for.
+#[derive(Clone, Copy)]
+pub(crate) enum Sought {
+    Host,
+    Name(&'static str),
+    Description(&'static str),
+    /// The id, the parts and the overview line, with the number 7, of the article with an id.
+    Id(&'static str),
+    Whole(&'static str),
+    Head(&'static str),
+    Body(&'static str),
+    Nothing(&'static str),
+    Line(&'static str),
+    /// The overview lines of a group from one number to another.
+    Lines(&'static str, u64, u64),
+}
+
+/// A text; none where there is nothing, or where what the look-up requires doesn't hold.
+pub(crate) fn text_of(
+    alloc: Global,
+    spool: &Spool,
+    sought: Sought,
+) -> Result<Option<Vec<u8>>, AllocError> {
+    let mut text = Vec::new(alloc);
+    let found = match sought {
+        Sought::Host => {
+            text.extend_from_slice(spool.host())?;
+            true
+        }
+        Sought::Name(name) => push_name(spool, name.as_bytes(), &mut text)?,
+        Sought::Description(name) => push_description(spool, name.as_bytes(), &mut text)?,
+        Sought::Lines(name, from, to) => push_lines(spool, name.as_bytes(), from, to, &mut text)?,
+        of_article => push_of_article(spool, of_article, &mut text)?,
+    };
+    if found {
+        Ok(Some(text))
+    } else {
+        Ok(None)
+    }
+}
+
+fn push_name(spool: &Spool, name: &[u8], text: &mut Vec<u8>) -> Result<bool, AllocError> {
+    let Some(view) = spool.group(name) else {
+        return Ok(false);
+    };
+    text.extend_from_slice(view.name)?;
+    Ok(true)
+}
+
+fn push_description(spool: &Spool, name: &[u8], text: &mut Vec<u8>) -> Result<bool, AllocError> {
+    let Some(view) = spool.group(name) else {
+        return Ok(false);
+    };
+    text.extend_from_slice(view.description)?;
+    Ok(true)
+}
+
+fn push_lines(
+    spool: &Spool,
+    name: &[u8],
+    from: u64,
+    to: u64,
+    text: &mut Vec<u8>,
+) -> Result<bool, AllocError> {
+    let counts = counts_of(spool, name);
+    if from < counts.low || to < from || counts.high < to {
+        return Ok(false);
+    }
+    spool.push_overviews(name, from, to, text)?;
+    Ok(true)
+}
+
+fn push_of_article(spool: &Spool, sought: Sought, text: &mut Vec<u8>) -> Result<bool, AllocError> {
+    match sought {
+        Sought::Id(id) => push_id(spool, id.as_bytes(), text),
+        Sought::Whole(id) => push_part(spool, id.as_bytes(), &Part::Whole, text),
+        Sought::Head(id) => push_part(spool, id.as_bytes(), &Part::Head, text),
+        Sought::Body(id) => push_part(spool, id.as_bytes(), &Part::Body, text),
+        Sought::Nothing(id) => push_part(spool, id.as_bytes(), &Part::Nothing, text),
+        Sought::Line(id) => push_line(spool, id.as_bytes(), text),
+        _ => Ok(false),
+    }
+}
+
+fn push_id(spool: &Spool, id: &[u8], text: &mut Vec<u8>) -> Result<bool, AllocError> {
+    let Some(serial) = find_id(spool, id) else {
+        return Ok(false);
+    };
+    spool.push_id(serial, text)?;
+    Ok(true)
+}
+
+fn push_part(
+    spool: &Spool,
+    id: &[u8],
+    part: &Part,
+    text: &mut Vec<u8>,
+) -> Result<bool, AllocError> {
+    let Some(serial) = find_id(spool, id) else {
+        return Ok(false);
+    };
+    spool.push_part(part, serial, text)?;
+    Ok(true)
+}
+
+fn push_line(spool: &Spool, id: &[u8], text: &mut Vec<u8>) -> Result<bool, AllocError> {
+    let Some(serial) = find_id(spool, id) else {
+        return Ok(false);
+    };
+    spool.push_overview(serial, 7, text)?;
+    Ok(true)
+}

@@ -1,0 +1,647 @@
+//! What calls of one spool answer, one after the other. Of 64 inodes and 1,024 blocks, 1,020 blocks are free at first.
+
+use crate::calls::{Answer, Call, make};
+use crate::changes::Wanted;
+use crate::changing::Filed;
+use crate::finding::{Asked, Sought};
+use crate::sent::Sent;
+use crate::stored::Stored;
+use serving::FileError;
+use spool_files::{AddError, ExpireError};
+use std::alloc::Global;
+use std::test::Fail;
+
+/// An article of 146 octets.
+const FIRST: Sent = Sent {
+    id: "<1@a.example>",
+    groups: "x.a",
+    size: 0,
+};
+
+/// One of 156 octets for two groups, and for one that isn't here.
+const CROSSPOSTED: Sent = Sent {
+    id: "<2@a.example>",
+    groups: "x.b ,x.z,\tx.a",
+    size: 0,
+};
+
+const THIRD: Sent = Sent {
+    id: "<3@a.example>",
+    groups: "x.a",
+    size: 0,
+};
+
+/// One for a group that takes no posts, too.
+const FOR_CLOSED: Sent = Sent {
+    id: "<3@a.example>",
+    groups: "x.a,x.c",
+    size: 0,
+};
+
+const FOURTH: Sent = Sent {
+    id: "<4@a.example>",
+    groups: "x.a",
+    size: 0,
+};
+
+/// An article of 58 octets, which lacks what the server adds.
+const SMALL: Sent = Sent {
+    id: "",
+    groups: "x.a",
+    size: 0,
+};
+
+/// One that is stored in 64 blocks and an indirect block.
+const LARGE: Sent = Sent {
+    id: "",
+    groups: "x.a",
+    size: 262_000,
+};
+
+/// One that is stored, under a serial of two digits, in 45 blocks and an indirect block.
+const MEDIUM: Sent = Sent {
+    id: "",
+    groups: "x.a",
+    size: 184_192,
+};
+
+/// Calls, and what each is to answer.
+type Rows = &'static [(Call, Answer)];
+
+/// What the batches have carried is opened.
+const REOPENED: Rows = &[
+    (Call::Carry, Answer::Blocks(0)),
+    (Call::Reopen, Answer::Opened),
+    (Call::DirtyLen, Answer::Blocks(0)),
+];
+
+const NOTHING: Rows = &[
+    (Call::Change(1, Wanted::Expiry("x.a", 1)), Answer::Nothing),
+    (Call::Find(Asked::Len), Answer::Found(0)),
+    (Call::Find(Asked::Blocks), Answer::Found(1024)),
+    (Call::Find(Asked::Inodes), Answer::Found(64)),
+    (Call::Find(Asked::GroupCount), Answer::Found(0)),
+    (Call::Find(Asked::At(0)), Answer::Nothing),
+    (Call::Find(Asked::Serial("x.a")), Answer::Nothing),
+    (Call::Find(Asked::ByNumber("x.a", 1)), Answer::Nothing),
+    (Call::Find(Asked::ById("<1@a.example>")), Answer::Nothing),
+    (Call::Find(Asked::ExpiredAt("x.a", 1)), Answer::Found(0)),
+    (Call::Find(Asked::GoneAt(0)), Answer::Nothing),
+    (Call::Find(Asked::GoneAt(1)), Answer::Nothing),
+    (Call::Find(Asked::Moment(1)), Answer::Nothing),
+    (Call::Find(Asked::IsInOne(1, "*")), Answer::Found(0)),
+    (Call::Is(Sought::Host, b"news.example"), Answer::Is(true)),
+    (Call::IsNone(Sought::Name("x.a")), Answer::Is(true)),
+    (Call::IsNone(Sought::Id("<1@a.example>")), Answer::Is(true)),
+    (Call::IsNone(Sought::Lines("x.a", 1, 1)), Answer::Is(true)),
+    (Call::Post(FIRST), Answer::Changed(Filed::Reply(441, 0))),
+    (Call::Take(FIRST), Answer::Changed(Filed::Reply(437, 0))),
+    (
+        Call::Expire("x.a", 1),
+        Answer::Changed(Filed::NotExpired(ExpireError::NotFound)),
+    ),
+];
+
+const THREE_GROUPS: Rows = &[
+    (
+        Call::Change(1, Wanted::Group("x.b", b'y', "test")),
+        Answer::Is(true),
+    ),
+    (
+        Call::Change(2, Wanted::Group("x.a", b'n', "")),
+        Answer::Is(true),
+    ),
+    (
+        Call::Change(3, Wanted::Group("x.c", b'y', "")),
+        Answer::Is(true),
+    ),
+    (
+        Call::Change(4, Wanted::Group("x.c", b'y', "")),
+        Answer::Nothing,
+    ),
+    (
+        Call::Change(0, Wanted::Group("x.c", b'y', "")),
+        Answer::Nothing,
+    ),
+    (Call::Find(Asked::Len), Answer::Found(3)),
+    (Call::Find(Asked::GroupCount), Answer::Found(3)),
+    (Call::Find(Asked::At(0)), Answer::Found(1)),
+    (Call::Find(Asked::At(1)), Answer::Found(2)),
+    (Call::Find(Asked::At(2)), Answer::Found(3)),
+    (Call::Find(Asked::At(3)), Answer::Nothing),
+    (Call::Find(Asked::Serial("x.b")), Answer::Found(1)),
+    (Call::Find(Asked::Serial("x.c")), Answer::Found(3)),
+    (Call::Find(Asked::Serial("x.d")), Answer::Nothing),
+    (Call::Find(Asked::Status("x.b")), Answer::Found(121)),
+    (Call::Find(Asked::Status("x.a")), Answer::Found(110)),
+    (Call::Find(Asked::Made("x.a")), Answer::Found(1_000_000_000)),
+    (Call::Find(Asked::Low("x.a")), Answer::Found(1)),
+    (Call::Find(Asked::High("x.a")), Answer::Found(0)),
+    (Call::Find(Asked::Last("x.a")), Answer::Found(2)),
+    (Call::Is(Sought::Name("x.b"), b"x.b"), Answer::Is(true)),
+    (Call::Is(Sought::Description("x.b"), b"test"), Answer::Is(true)),
+    (Call::Is(Sought::Description("x.a"), b""), Answer::Is(true)),
+    (Call::Find(Asked::ByNumber("x.b", 1)), Answer::Nothing),
+    (Call::Find(Asked::ExpiredAt("x.b", 1)), Answer::Found(0)),
+    (Call::Find(Asked::Moment(1)), Answer::Nothing),
+    (Call::Find(Asked::IsInOne(1, "*")), Answer::Found(0)),
+    (Call::IsNone(Sought::Lines("x.b", 1, 1)), Answer::Is(true)),
+    (
+        Call::Add("x.a", b'y', ""),
+        Answer::Changed(Filed::NotAdded(AddError::Exists)),
+    ),
+];
+
+/// Three groups, and what is filed in them and refused.
+const FILINGS: Rows = &[
+    (Call::Add("x.a", b'y', ""), Answer::Changed(Filed::Serial(1))),
+    (Call::Add("x.b", b'y', ""), Answer::Changed(Filed::Serial(2))),
+    (Call::Add("x.c", b'n', ""), Answer::Changed(Filed::Serial(3))),
+    (Call::Carry, Answer::Blocks(6)),
+    (Call::Post(FIRST), Answer::Changed(Filed::Reply(240, 4))),
+    (Call::DirtyLen, Answer::Blocks(6)),
+    (Call::Post(CROSSPOSTED), Answer::Changed(Filed::Reply(240, 5))),
+    (Call::DirtyLen, Answer::Blocks(9)),
+    (Call::Post(FIRST), Answer::Changed(Filed::Reply(441, 4))),
+    (Call::Take(FIRST), Answer::Changed(Filed::Reply(437, 4))),
+    (Call::Post(FOR_CLOSED), Answer::Changed(Filed::Reply(441, 3))),
+    (Call::Take(FOR_CLOSED), Answer::Changed(Filed::Reply(235, 6))),
+    (
+        Call::Post(Sent {
+            id: "<4@a.example>",
+            groups: "x.c",
+            size: 0,
+        }),
+        Answer::Changed(Filed::Reply(441, 6)),
+    ),
+    (Call::Post(SMALL), Answer::Changed(Filed::Reply(240, 7))),
+    (
+        Call::Post(Sent {
+            id: "<8@news.example>",
+            groups: "x.a",
+            size: 0,
+        }),
+        Answer::Changed(Filed::Reply(441, 0)),
+    ),
+    (
+        Call::Take(Sent {
+            id: "<8@news.example>",
+            groups: "x.a",
+            size: 0,
+        }),
+        Answer::Changed(Filed::NotCalled),
+    ),
+    (
+        Call::Post(Sent {
+            id: "<8@a.example>",
+            groups: "x.a,x..b",
+            size: 0,
+        }),
+        Answer::Changed(Filed::Reply(441, 0)),
+    ),
+    (
+        Call::Post(Sent {
+            id: "",
+            groups: "x.a",
+            size: 262_043,
+        }),
+        Answer::Changed(Filed::Long(441)),
+    ),
+    (
+        Call::Take(Sent {
+            id: "<8@a.example>",
+            groups: "x.a",
+            size: 262_145,
+        }),
+        Answer::Changed(Filed::Reply(437, 0)),
+    ),
+    (Call::Carry, Answer::Blocks(13)),
+];
+
+const FOUR_ARTICLES: Rows = &[
+    (
+        Call::Change(3, Wanted::Group("x.c", b'n', "")),
+        Answer::Is(true),
+    ),
+    (
+        Call::Change(4, Wanted::Article(FIRST, &["x.a"])),
+        Answer::Is(true),
+    ),
+    (
+        Call::Change(5, Wanted::Article(CROSSPOSTED, &["x.b", "x.a"])),
+        Answer::Is(true),
+    ),
+    (
+        Call::Change(6, Wanted::Article(FOR_CLOSED, &["x.a", "x.c"])),
+        Answer::Is(true),
+    ),
+    (Call::Change(7, Wanted::Expiry("x.a", 1)), Answer::Is(false)),
+    (Call::Find(Asked::Len), Answer::Found(7)),
+    (Call::Find(Asked::ById("<1@a.example>")), Answer::Found(4)),
+    (Call::Find(Asked::ById("<2@a.example>")), Answer::Found(5)),
+    (Call::Find(Asked::ById("<3@a.example>")), Answer::Found(6)),
+    (Call::Find(Asked::ById("<7@news.example>")), Answer::Found(7)),
+    (Call::Find(Asked::ById("<8@a.example>")), Answer::Nothing),
+    (Call::Find(Asked::ByNumber("x.a", 0)), Answer::Nothing),
+    (Call::Find(Asked::ByNumber("x.a", 1)), Answer::Found(4)),
+    (Call::Find(Asked::ByNumber("x.a", 2)), Answer::Found(5)),
+    (Call::Find(Asked::ByNumber("x.a", 3)), Answer::Found(6)),
+    (Call::Find(Asked::ByNumber("x.a", 4)), Answer::Found(7)),
+    (Call::Find(Asked::ByNumber("x.a", 5)), Answer::Nothing),
+    (Call::Find(Asked::ByNumber("x.b", 1)), Answer::Found(5)),
+    (Call::Find(Asked::ByNumber("x.b", 2)), Answer::Nothing),
+    (Call::Find(Asked::ByNumber("x.c", 1)), Answer::Found(6)),
+    (Call::Find(Asked::ByNumber("x.z", 1)), Answer::Nothing),
+    (Call::Find(Asked::Low("x.a")), Answer::Found(1)),
+    (Call::Find(Asked::High("x.a")), Answer::Found(4)),
+    (Call::Find(Asked::High("x.b")), Answer::Found(1)),
+    (Call::Find(Asked::Last("x.a")), Answer::Found(7)),
+    (Call::Find(Asked::Last("x.b")), Answer::Found(5)),
+    (Call::Find(Asked::Last("x.c")), Answer::Found(6)),
+    (Call::Find(Asked::Moment(4)), Answer::Found(1_000_000_000)),
+    (Call::Find(Asked::Moment(3)), Answer::Nothing),
+    (Call::Find(Asked::Moment(8)), Answer::Nothing),
+    (Call::Find(Asked::GoneAt(4)), Answer::Nothing),
+    (Call::Find(Asked::IsInOne(5, "x.b")), Answer::Found(1)),
+    (Call::Find(Asked::IsInOne(5, "*,!x.a")), Answer::Found(1)),
+    (Call::Find(Asked::IsInOne(4, "*,!x.a")), Answer::Found(0)),
+    (Call::Find(Asked::IsInOne(4, "x.[a]")), Answer::Nothing),
+    (
+        Call::Is(Sought::Id("<2@a.example>"), b"<2@a.example>"),
+        Answer::Is(true),
+    ),
+    (
+        Call::Is(
+            Sought::Whole("<1@a.example>"),
+            b"Path: p!not-for-mail\r\nDate: Sun, 09 Sep 2001 01:46:40 +0000\r\nMessage-ID: <1@a.example>\r\nFrom: a@example.org\r\nNewsgroups: x.a\r\nSubject: one\r\n\r\nhi\r\n.\r\n",
+        ),
+        Answer::Is(true),
+    ),
+    (
+        Call::Is(
+            Sought::Head("<7@news.example>"),
+            b"Path: news.example!not-for-mail\r\nDate: Sun, 09 Sep 2001 01:46:40 +0000\r\nMessage-ID: <7@news.example>\r\nFrom: a@example.org\r\nNewsgroups: x.a\r\nSubject: one\r\n.\r\n",
+        ),
+        Answer::Is(true),
+    ),
+    (
+        Call::Is(Sought::Body("<2@a.example>"), b"hi\r\n.\r\n"),
+        Answer::Is(true),
+    ),
+    (
+        Call::Is(Sought::Nothing("<2@a.example>"), b""),
+        Answer::Is(true),
+    ),
+    (
+        Call::IsNone(Sought::Whole("<8@a.example>")),
+        Answer::Is(true),
+    ),
+    (
+        Call::Is(
+            Sought::Line("<1@a.example>"),
+            b"7\tone\ta@example.org\tSun, 09 Sep 2001 01:46:40 +0000\t<1@a.example>\t\t146\t1\r\n",
+        ),
+        Answer::Is(true),
+    ),
+    (
+        Call::Is(
+            Sought::Lines("x.a", 1, 2),
+            b"1\tone\ta@example.org\tSun, 09 Sep 2001 01:46:40 +0000\t<1@a.example>\t\t146\t1\r\n2\tone\ta@example.org\tSun, 09 Sep 2001 01:46:40 +0000\t<2@a.example>\t\t156\t1\r\n",
+        ),
+        Answer::Is(true),
+    ),
+    (
+        Call::Is(
+            Sought::Lines("x.b", 1, 1),
+            b"1\tone\ta@example.org\tSun, 09 Sep 2001 01:46:40 +0000\t<2@a.example>\t\t156\t1\r\n",
+        ),
+        Answer::Is(true),
+    ),
+    (
+        Call::Is(
+            Sought::Lines("x.a", 4, 4),
+            b"4\tone\ta@example.org\tSun, 09 Sep 2001 01:46:40 +0000\t<7@news.example>\t\t160\t1\r\n",
+        ),
+        Answer::Is(true),
+    ),
+    (Call::IsNone(Sought::Lines("x.a", 0, 1)), Answer::Is(true)),
+    (Call::IsNone(Sought::Lines("x.a", 2, 1)), Answer::Is(true)),
+    (Call::IsNone(Sought::Lines("x.a", 4, 5)), Answer::Is(true)),
+];
+
+/// Two groups with three articles, and an expiry in the first.
+const EXPIRIES: Rows = &[
+    (Call::Add("x.a", b'y', ""), Answer::Changed(Filed::Serial(1))),
+    (Call::Add("x.b", b'y', ""), Answer::Changed(Filed::Serial(2))),
+    (Call::Post(FIRST), Answer::Changed(Filed::Reply(240, 3))),
+    (Call::Post(CROSSPOSTED), Answer::Changed(Filed::Reply(240, 4))),
+    (Call::Post(THIRD), Answer::Changed(Filed::Reply(240, 5))),
+    (Call::Carry, Answer::Blocks(12)),
+    (
+        Call::Expire("x.z", 1),
+        Answer::Changed(Filed::NotExpired(ExpireError::NotFound)),
+    ),
+    (
+        Call::Expire("x.a", 0),
+        Answer::Changed(Filed::NotExpired(ExpireError::NotFound)),
+    ),
+    (
+        Call::Expire("x.a", 4),
+        Answer::Changed(Filed::NotExpired(ExpireError::NotFound)),
+    ),
+    (Call::Expire("x.a", 2), Answer::Changed(Filed::Serial(6))),
+    (Call::DirtyLen, Answer::Blocks(4)),
+    (
+        Call::Expire("x.a", 2),
+        Answer::Changed(Filed::NotExpired(ExpireError::NotFound)),
+    ),
+    (
+        Call::Expire("x.a", 1),
+        Answer::Changed(Filed::NotExpired(ExpireError::NotFound)),
+    ),
+    (
+        Call::Expire("x.b", 2),
+        Answer::Changed(Filed::NotExpired(ExpireError::NotFound)),
+    ),
+    (Call::Carry, Answer::Blocks(4)),
+];
+
+const TWO_LEFT: Rows = &[
+    (
+        Call::Change(3, Wanted::Article(FIRST, &["x.a"])),
+        Answer::Is(true),
+    ),
+    (Call::Change(6, Wanted::Expiry("x.a", 2)), Answer::Is(true)),
+    (Call::Find(Asked::Len), Answer::Found(6)),
+    (Call::Find(Asked::Low("x.a")), Answer::Found(3)),
+    (Call::Find(Asked::High("x.a")), Answer::Found(3)),
+    (Call::Find(Asked::Last("x.a")), Answer::Found(6)),
+    (Call::Find(Asked::Low("x.b")), Answer::Found(1)),
+    (Call::Find(Asked::Last("x.b")), Answer::Found(4)),
+    (Call::Find(Asked::ByNumber("x.a", 1)), Answer::Nothing),
+    (Call::Find(Asked::ByNumber("x.a", 2)), Answer::Nothing),
+    (Call::Find(Asked::ByNumber("x.a", 3)), Answer::Found(5)),
+    (Call::Find(Asked::ByNumber("x.b", 1)), Answer::Found(4)),
+    (Call::Find(Asked::ById("<1@a.example>")), Answer::Found(3)),
+    (Call::Find(Asked::ExpiredAt("x.a", 1)), Answer::Found(6)),
+    (Call::Find(Asked::ExpiredAt("x.a", 2)), Answer::Found(6)),
+    (Call::Find(Asked::ExpiredAt("x.a", 3)), Answer::Found(0)),
+    (Call::Find(Asked::ExpiredAt("x.b", 1)), Answer::Found(0)),
+    (Call::Find(Asked::GoneAt(3)), Answer::Found(6)),
+    (Call::Find(Asked::GoneAt(4)), Answer::Nothing),
+    (Call::Find(Asked::GoneAt(5)), Answer::Nothing),
+    (Call::Find(Asked::Moment(3)), Answer::Found(1_000_000_000)),
+    (Call::Find(Asked::Moment(6)), Answer::Nothing),
+    (Call::Find(Asked::IsInOne(3, "*")), Answer::Found(0)),
+    (Call::Find(Asked::IsInOne(4, "x.a")), Answer::Found(0)),
+    (Call::Find(Asked::IsInOne(4, "x.b")), Answer::Found(1)),
+    (
+        Call::Is(
+            Sought::Lines("x.a", 3, 3),
+            b"3\tone\ta@example.org\tSun, 09 Sep 2001 01:46:40 +0000\t<3@a.example>\t\t146\t1\r\n",
+        ),
+        Answer::Is(true),
+    ),
+    (Call::IsNone(Sought::Lines("x.a", 2, 3)), Answer::Is(true)),
+    (
+        Call::Is(Sought::Body("<1@a.example>"), b"hi\r\n.\r\n"),
+        Answer::Is(true),
+    ),
+    (Call::Post(FIRST), Answer::Changed(Filed::Reply(441, 3))),
+    (Call::FileExpiry("x.b", 2), Answer::Changed(Filed::NotCalled)),
+    (Call::FileExpiry("x.a", 2), Answer::Changed(Filed::NotCalled)),
+    (Call::FileExpiry("x.z", 1), Answer::Changed(Filed::NotCalled)),
+];
+
+/// The other articles are taken out too, and one more is posted.
+const MORE_EXPIRIES: Rows = &[
+    (Call::FileExpiry("x.b", 1), Answer::Changed(Filed::Done)),
+    (Call::FileExpiry("x.a", 3), Answer::Changed(Filed::Done)),
+    (Call::FileExpiry("x.a", 3), Answer::Changed(Filed::NotCalled)),
+    (
+        Call::Expire("x.a", 3),
+        Answer::Changed(Filed::NotExpired(ExpireError::NotFound)),
+    ),
+    (Call::Find(Asked::Low("x.a")), Answer::Found(4)),
+    (Call::Find(Asked::High("x.a")), Answer::Found(3)),
+    (Call::Post(FOURTH), Answer::Changed(Filed::Reply(240, 9))),
+    (Call::Carry, Answer::Blocks(8)),
+];
+
+const ONE_LEFT: Rows = &[
+    (Call::Change(6, Wanted::Expiry("x.a", 2)), Answer::Is(true)),
+    (Call::Change(7, Wanted::Expiry("x.b", 1)), Answer::Is(true)),
+    (Call::Change(8, Wanted::Expiry("x.a", 3)), Answer::Is(true)),
+    (
+        Call::Change(9, Wanted::Article(FOURTH, &["x.a"])),
+        Answer::Is(true),
+    ),
+    (Call::Find(Asked::Len), Answer::Found(9)),
+    (Call::Find(Asked::Low("x.b")), Answer::Found(2)),
+    (Call::Find(Asked::High("x.b")), Answer::Found(1)),
+    (Call::Find(Asked::Low("x.a")), Answer::Found(4)),
+    (Call::Find(Asked::High("x.a")), Answer::Found(4)),
+    (Call::Find(Asked::Last("x.a")), Answer::Found(9)),
+    (Call::Find(Asked::ByNumber("x.a", 3)), Answer::Nothing),
+    (Call::Find(Asked::ByNumber("x.a", 4)), Answer::Found(9)),
+    (Call::Find(Asked::ByNumber("x.b", 1)), Answer::Nothing),
+    (Call::Find(Asked::ExpiredAt("x.a", 1)), Answer::Found(6)),
+    (Call::Find(Asked::ExpiredAt("x.a", 3)), Answer::Found(8)),
+    (Call::Find(Asked::ExpiredAt("x.a", 4)), Answer::Found(0)),
+    (Call::Find(Asked::ExpiredAt("x.b", 1)), Answer::Found(7)),
+    (Call::Find(Asked::GoneAt(3)), Answer::Found(6)),
+    (Call::Find(Asked::GoneAt(4)), Answer::Found(7)),
+    (Call::Find(Asked::GoneAt(5)), Answer::Found(8)),
+    (Call::Find(Asked::GoneAt(9)), Answer::Nothing),
+    (Call::Find(Asked::IsInOne(4, "*")), Answer::Found(0)),
+    (Call::IsNone(Sought::Lines("x.b", 1, 1)), Answer::Is(true)),
+    (
+        Call::Is(
+            Sought::Lines("x.a", 4, 4),
+            b"4\tone\ta@example.org\tSun, 09 Sep 2001 01:46:40 +0000\t<4@a.example>\t\t146\t1\r\n",
+        ),
+        Answer::Is(true),
+    ),
+];
+
+/// No change has room.
+const FULL: Rows = &[
+    (Call::Post(FIRST), Answer::Changed(Filed::Full(441))),
+    (Call::Take(FIRST), Answer::Changed(Filed::Full(436))),
+    (
+        Call::Add("x.b", b'y', ""),
+        Answer::Changed(Filed::NotAdded(AddError::Full)),
+    ),
+    (
+        Call::Add("x.a", b'y', ""),
+        Answer::Changed(Filed::NotAdded(AddError::Exists)),
+    ),
+    (
+        Call::FileGroup("x.b", b'y'),
+        Answer::Changed(Filed::NotFiled(FileError::Full)),
+    ),
+    (
+        Call::Expire("x.a", 1),
+        Answer::Changed(Filed::NotExpired(ExpireError::Full)),
+    ),
+    (
+        Call::Expire("x.a", 99),
+        Answer::Changed(Filed::NotExpired(ExpireError::NotFound)),
+    ),
+    (
+        Call::FileExpiry("x.a", 1),
+        Answer::Changed(Filed::NotFiled(FileError::Full)),
+    ),
+    (
+        Call::Post(Sent {
+            id: "<1@a.example>",
+            groups: "x.z",
+            size: 0,
+        }),
+        Answer::Changed(Filed::Reply(441, 0)),
+    ),
+    (Call::DirtyLen, Answer::Blocks(0)),
+];
+
+/// What each case shows, and its calls.
+const CASES: &[(&str, &[Rows])] = &[
+    (
+        "a spool without changes finds nothing",
+        &[
+            NOTHING,
+            REOPENED,
+            NOTHING,
+        ],
+    ),
+    (
+        "a group has a record, and is there once",
+        &[
+            &[
+                (Call::Add("x.b", b'y', "test"), Answer::Changed(Filed::Serial(1))),
+                (Call::DirtyLen, Answer::Blocks(4)),
+                (
+                    Call::Add("x.b", b'n', ""),
+                    Answer::Changed(Filed::NotAdded(AddError::Exists)),
+                ),
+                (Call::Carry, Answer::Blocks(4)),
+                (Call::Add("x.a", b'n', ""), Answer::Changed(Filed::Serial(2))),
+                (Call::Add("x..a", b'n', ""), Answer::Changed(Filed::NotCalled)),
+                (Call::Add("x.d", b'm', ""), Answer::Changed(Filed::NotCalled)),
+                (Call::Add("x.d", b'y', "\t"), Answer::Changed(Filed::NotCalled)),
+                (Call::FileGroup("x.c", b'y'), Answer::Changed(Filed::Done)),
+                (Call::FileGroup("x.c", b'y'), Answer::Changed(Filed::NotCalled)),
+                (Call::Carry, Answer::Blocks(5)),
+            ],
+            THREE_GROUPS,
+            REOPENED,
+            THREE_GROUPS,
+        ],
+    ),
+    (
+        "an article has a number and a line in each of its groups that is here",
+        &[FILINGS, FOUR_ARTICLES, REOPENED, FOUR_ARTICLES],
+    ),
+    (
+        "an expiry takes numbers out of one group, and none is given anew",
+        &[
+            EXPIRIES,
+            TWO_LEFT,
+            REOPENED,
+            TWO_LEFT,
+            MORE_EXPIRIES,
+            ONE_LEFT,
+            REOPENED,
+            ONE_LEFT,
+        ],
+    ),
+    // the record of the group is one block, the numbers another, the overview two
+    (
+        "each inode has a file",
+        &[
+            &[
+                (Call::Add("x.a", b'y', ""), Answer::Changed(Filed::Serial(1))),
+                (Call::PostMany(61, SMALL), Answer::Changed(Filed::Reply(240, 62))),
+                (Call::Carry, Answer::Blocks(68)),
+            ],
+            FULL,
+            REOPENED,
+            FULL,
+        ],
+    ),
+    (
+        "a group has three files",
+        &[
+            &[
+                (Call::AddMany(21), Answer::Changed(Filed::Serial(21))),
+                (
+                    Call::Add("x.a", b'y', ""),
+                    Answer::Changed(Filed::NotAdded(AddError::Full)),
+                ),
+                (
+                    Call::Post(Sent {
+                        id: "",
+                        groups: "g.21",
+                        size: 0,
+                    }),
+                    Answer::Changed(Filed::Reply(240, 22)),
+                ),
+                (
+                    Call::Expire("g.21", 1),
+                    Answer::Changed(Filed::NotExpired(ExpireError::Full)),
+                ),
+            ],
+        ],
+    ),
+    // after the group and its first article 1,017 blocks are free, but for the articles' own
+    (
+        "with fewer than 256 free blocks no change has room",
+        &[
+            &[
+                (Call::Add("x.a", b'y', ""), Answer::Changed(Filed::Serial(1))),
+                (Call::PostMany(5, LARGE), Answer::Changed(Filed::Reply(240, 6))),
+                (Call::Carry, Answer::Blocks(331)),
+                (Call::PostMany(6, LARGE), Answer::Changed(Filed::Reply(240, 12))),
+                (Call::Carry, Answer::Blocks(395)),
+                (Call::Post(MEDIUM), Answer::Changed(Filed::Reply(240, 13))),
+                (Call::Post(SMALL), Answer::Changed(Filed::Reply(240, 14))),
+                (Call::Carry, Answer::Blocks(52)),
+            ],
+            FULL,
+            REOPENED,
+            FULL,
+        ],
+    ),
+    (
+        "more blocks may be dirty than a batch has",
+        &[
+            &[
+                (Call::Add("x.a", b'y', ""), Answer::Changed(Filed::Serial(1))),
+                (Call::PostMany(8, LARGE), Answer::Changed(Filed::Reply(240, 9))),
+                (Call::DirtyLen, Answer::Blocks(526)),
+                (Call::Carry, Answer::TooMany),
+            ],
+        ],
+    ),
+];
+
+/// Makes the calls of a case, and answers the place of the first that is answered otherwise, with that answer.
+fn first_wrong(alloc: Global, parts: &[Rows]) -> Result<Option<(usize, usize, Answer)>, Fail> {
+    let mut stored = Stored::new(alloc)?;
+    for (part, rows) in parts.iter().enumerate() {
+        for (row, (call, want)) in rows.iter().enumerate() {
+            let answer = make(alloc, &mut stored, *call);
+            if answer != *want {
+                return Ok(Some((part, row, answer)));
+            }
+        }
+    }
+    Ok(None)
+}
+
+#[test]
+fn calls_answer(rt: HostRuntime) -> Result<(), Fail> {
+    for (shows, parts) in CASES {
+        assert_eq!(rt; first_wrong(rt.alloc(), parts)?, None, "{shows}");
+    }
+    Ok(())
+}

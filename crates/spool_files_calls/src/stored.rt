@@ -1,0 +1,124 @@
+//! A spool over a volume in memory, and beside it what a device would hold.
+
+ghost use Rattle.std.specs.Prelude.{IsTrue};
+ghost use Rattle.model.specs.Files.{HasRoom};
+
+use model::Text;
+use names::is_host;
+use spool_files::Spool;
+use spool_reading::OpenError;
+use std::alloc::{AllocError, Global};
+use volume::{BATCH_BLOCKS, BLOCK_SIZE, BatchBuf, Blocks, Volume};
+
+/// The inodes of the volumes that are tested.
+pub(crate) const INODES: u32 = 64;
+
+/// The blocks of the volumes that are tested.
+pub(crate) const COUNT: u32 = 1024;
+
+/// The host of the spools that are tested.
+pub(crate) const HOST: &[u8] = b"news.example";
+
+/// A spool, and the octets of the blocks that batches have carried.
+#[derive(Drop)]
+pub(crate) struct Stored {
+    pub(crate) spool: Spool,
+    octets: Vec<u8>,
+    batch: BatchBuf,
+}
+
+impl Stored {
+    /// The spool without changes, in the empty file system.
+    pub(crate) fn new(alloc: Global) -> Result<Stored, OpenError> {
+        let octets = empty(alloc, COUNT)?;
+        let Ok(batch) = BatchBuf::new(alloc) else {
+            return Err(OpenError::Memory);
+        };
+        Ok(Stored {
+            spool: opened(alloc, &octets, &[])?,
+            octets,
+            batch,
+        })
+    }
+
+    /// Carries a batch of what is dirty, and answers how many blocks it has; none where that is more than a batch may have.
+    pub(crate) fn carry(&mut self) -> Option<usize> {
+        if self.spool.dirty_len() > BATCH_BLOCKS {
+            return None;
+        }
+        self.spool.copy_dirty(&mut self.batch);
+        lay(&mut self.octets, &self.batch);
+        Some(self.batch.numbers().len())
+    }
+
+    /// Opens what the batches have carried, in place of the spool. A refusal changes nothing.
+    pub(crate) fn reopen(&mut self, alloc: Global) -> Result<(), OpenError> {
+        self.spool = opened(alloc, &self.octets, &[])?;
+        Ok(())
+    }
+
+    /// Why what the batches have carried is not opened once octets are replaced in it; none where it is opened.
+    pub(crate) fn refusal(&self, alloc: Global, changed: &[Octet]) -> Option<OpenError> {
+        opened(alloc, &self.octets, changed).err()
+    }
+}
+
+/// An octet to replace: its block, its place there, and the octet in its stead.
+pub(crate) type Octet = (u32, usize, u8);
+
+// The octets of the empty file system: the bitmap marks its own two blocks, that of the inodes and that of the slots.
+fn empty(alloc: Global, count: u32) -> Result<Vec<u8>, OpenError> {
+    let mut octets = vec![in alloc; 0; count as usize * BLOCK_SIZE]?;
+    if let Some(marks) = octets.first_mut() {
+        *marks = 0x0f;
+    }
+    Ok(octets)
+}
+
+fn host(alloc: Global) -> Result<Text, AllocError> {
+    Ok(Text::new(Vec::from_slice(alloc, HOST)?))
+}
+
+// Whether a volume has room for a spool. It has the blocks of the stage.
+fn has_room(volume: &Volume) -> bool
+    ensures { IsTrue result → HasRoom 64 volume.now.seen }
+{
+    let count = volume.len();
+    1024 <= count && count <= 65_536
+}
+
+// Replaces the octets of the blocks in a batch.
+fn lay(octets: &mut [u8], batch: &BatchBuf) {
+    for (number, image) in batch.numbers().iter().zip(batch.images().chunks(BLOCK_SIZE)) {
+        let start = *number as usize * BLOCK_SIZE;
+        for (place, octet) in image.iter().enumerate() {
+            if let Some(replaced) = octets.get_mut(start.saturating_add(place)) {
+                *replaced = *octet;
+            }
+        }
+    }
+}
+
+// The spool in these octets, once some are replaced.
+fn opened(alloc: Global, octets: &[u8], changed: &[Octet]) -> Result<Spool, OpenError> {
+    let mut octets = octets.to_vec(alloc)?;
+    for (number, place, octet) in changed {
+        match octets.get_mut(*number as usize * BLOCK_SIZE + *place % BLOCK_SIZE) {
+            Some(replaced) => *replaced = *octet,
+            None => return Err(OpenError::Memory),
+        }
+    }
+    open(alloc, octets, COUNT)
+}
+
+fn open(alloc: Global, octets: Vec<u8>, count: u32) -> Result<Spool, OpenError> {
+    let host = host(alloc)?;
+    if !is_host(host.as_slice()) || octets.len() != count as usize * BLOCK_SIZE {
+        return Err(OpenError::Memory);
+    }
+    let volume = Volume::of(alloc, octets, count)?;
+    if !has_room(&volume) {
+        return Err(OpenError::Memory);
+    }
+    Spool::open(alloc, host, INODES, volume)
+}

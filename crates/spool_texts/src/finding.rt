@@ -1,0 +1,74 @@
+//! Where the texts of articles stand.
+
+ghost use Rattle.std.specs.Prelude.{◌≡◌, ◌<◌, length, IfOk};
+ghost use Rattle.model.specs.Files.{HasRoom, IsFile, IsFileSystem, entry};
+ghost use Rattle.spool_texts.specs.Texts.{HasArticle, HasHeader, IsPlaceOf, octets_in};
+
+use article::{HEADER_LIMIT, header_length};
+use fs_inodes::read_entry;
+use fs_layout::inodes::size_of;
+use index::Index;
+use places::Places;
+use std::alloc::{AllocError, Global};
+use volume::Blocks;
+
+/// The octets of the longest header that is stored, and of the empty line behind it.
+const FRONT_SIZE: u64 = HEADER_LIMIT as u64 + 2;
+
+/// Some octets of a file.
+#[derive(Clone, Copy)]
+pub(crate) struct TextPlace {
+    pub(crate) inode: u32,
+    /// the first of them, from 0
+    pub(crate) from: u64,
+    /// how many they are
+    pub(crate) size: u64,
+}
+
+/// Where the text of an article stands: it is the last octets of the file of its change.
+pub(crate) fn place_of<B: Blocks>(
+    blocks: &B,
+    inodes: u32,
+    index: &Index,
+    places: &Places,
+    serial: u64,
+) -> TextPlace
+    requires room { HasRoom inodes (B.blocks blocks.now) }
+    requires rule { IsFileSystem inodes (B.blocks blocks.now) }
+    requires there { HasArticle inodes (B.blocks blocks.now) index.now places.now serial }
+    ensures { IsPlaceOf inodes (B.blocks blocks.now) index.now places.now serial result }
+{
+    let Some(size) = index.size(serial) else {
+        unreachable!()
+    };
+    let inode = places.changes()[(serial - 1) as usize];
+    let end = size_of(blocks, inodes, inode);
+    TextPlace {
+        inode,
+        from: end - size,
+        size,
+    }
+}
+
+/// The front of a text, with its header and the empty line behind it; all of a text that has no empty line, or a longer header than
+/// is stored. Refused for memory alone.
+pub(crate) fn front_of<B: Blocks>(
+    alloc: Global,
+    blocks: &B,
+    inodes: u32,
+    text: TextPlace,
+) -> Result<Vec<u8>, AllocError>
+    requires room { HasRoom inodes (B.blocks blocks.now) }
+    requires rule { IsFileSystem inodes (B.blocks blocks.now) }
+    requires below { text.inode < inodes }
+    requires file { IsFile (entry inodes (B.blocks blocks.now) text.inode) }
+    requires size { length (octets_in inodes (B.blocks blocks.now) text) ≡ text.size }
+    ensures { IfOk result (λ front. HasHeader front.items (octets_in inodes (B.blocks blocks.now) text)) }
+{
+    let few = text.size.min(FRONT_SIZE);
+    let front = read_entry(alloc, blocks, inodes, text.inode, text.from, few)?;
+    if header_length(&front) < front.len() {
+        return Ok(front);
+    }
+    read_entry(alloc, blocks, inodes, text.inode, text.from, text.size)
+}

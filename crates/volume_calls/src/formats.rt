@@ -1,0 +1,135 @@
+//! What stands on a device after a new volume was asked for, also where one of its calls failed.
+
+use disk::{DiskCall, Faults};
+use journal::{Journal, JournalError, Refused};
+use memdisk::MemDisk;
+use names::is_host;
+use new_volume::{Plan, are_sizes, device_octets, format, format_or_give_back};
+use std::alloc::Global;
+use std::test::Fail;
+use volume::BLOCK_SIZE;
+
+/// What an opening finds.
+#[derive(Clone, Copy, Debug, PartialEq, Eq)]
+enum Found {
+    NoVolume,
+    /// A volume of zeroed blocks.
+    Zeros,
+    /// The empty file system, whose first four blocks are used.
+    Empty,
+    /// Anything else.
+    Other,
+}
+
+/// A call that fails, counted among those of its kind, and what an opening finds after it.
+type Row = (&'static str, DiskCall, u64, Found);
+
+/// Those in front of the batch.
+const BEFORE: &[Row] = &[
+    ("the first block", DiskCall::Write, 1, Found::NoVolume),
+    ("the sync of the zeros", DiskCall::Sync, 1, Found::Zeros),
+    (
+        "the read of the superblock",
+        DiskCall::Read,
+        1,
+        Found::Zeros,
+    ),
+];
+
+/// Those of the batch.
+const BATCH: &[Row] = &[
+    ("the sync of its images", DiskCall::Sync, 3, Found::Zeros),
+    ("the sync that commits", DiskCall::Sync, 4, Found::Empty),
+];
+
+/// A volume of 1,024 blocks and 64 inodes.
+fn plan() -> Option<Plan<'static>> {
+    let host: &'static [u8] = b"news.example";
+    if !is_host(host) || host.len() > 64 || !are_sizes(1024, 64) {
+        return None;
+    }
+    Some(Plan {
+        host,
+        blocks: 1024,
+        inodes: 64,
+    })
+}
+
+/// The first octet of the first logical block.
+fn first_octet(mut journal: Journal<MemDisk>) -> Option<u8> {
+    if !journal.is_idle() {
+        return None;
+    }
+    let mut block = [0; BLOCK_SIZE];
+    match journal.load(0, &mut block) {
+        Ok(()) => Some(block[0]),
+        Err(_) => None,
+    }
+}
+
+/// What is found on a device.
+fn found_on(alloc: Global, disk: MemDisk) -> Found {
+    match Journal::open(alloc, disk) {
+        Ok(journal) => match first_octet(journal) {
+            Some(0) => Found::Zeros,
+            Some(0b1111) => Found::Empty,
+            _ => Found::Other,
+        },
+        Err(refused) if refused.error == JournalError::NotAVolume => Found::NoVolume,
+        Err(_) => Found::Other,
+    }
+}
+
+/// A volume that was asked for where the n-th call of that kind fails.
+fn asked(alloc: Global, kind: DiskCall, n: u64) -> Result<Result<MemDisk, Refused<MemDisk>>, Fail> {
+    let Some(plan) = plan() else {
+        return Err("no plan")?;
+    };
+    let mut disk = MemDisk::new(alloc, device_octets(plan.blocks))?;
+    disk.fail_kind(kind, n);
+    Ok(format_or_give_back(alloc, disk, &plan))
+}
+
+/// The first row whose call is not refused as a fault, or after which something else is found.
+fn first_wrong(alloc: Global, rows: &[Row]) -> Result<Option<&'static str>, Fail> {
+    for (name, kind, n, left) in rows {
+        let is_right = match asked(alloc, *kind, *n)? {
+            Ok(_) => false,
+            Err(refused) => {
+                refused.error == JournalError::Fault && found_on(alloc, refused.disk) == *left
+            }
+        };
+        if !is_right {
+            return Ok(Some(*name));
+        }
+    }
+    Ok(None)
+}
+
+#[test]
+fn faults_before_the_batch_of_a_format(rt: HostRuntime) -> Result<(), Fail> {
+    let wrong = first_wrong(rt.alloc(), BEFORE)?;
+    assert_eq!(rt; wrong, None);
+    Ok(())
+}
+
+#[test]
+fn faults_in_the_batch_of_a_format(rt: HostRuntime) -> Result<(), Fail> {
+    let wrong = first_wrong(rt.alloc(), BATCH)?;
+    assert_eq!(rt; wrong, None);
+    Ok(())
+}
+
+#[test]
+fn a_new_volume_has_the_empty_file_system(rt: HostRuntime) -> Result<(), Fail> {
+    let Some(plan) = plan() else {
+        return Err("no plan")?;
+    };
+    let disk = MemDisk::new(rt.alloc(), device_octets(plan.blocks))?;
+    let Ok(disk) = format(rt.alloc(), disk, &plan) else {
+        return Err("not formatted")?;
+    };
+    let found = found_on(rt.alloc(), disk);
+    assert_eq!(rt; found, Found::Empty);
+    Ok(())
+}
