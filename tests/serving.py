@@ -369,11 +369,12 @@ def a_damaged_volume_is_not_opened(volume):
 
 
 def a_commit_syncs_the_device(volume):
-    """Adding a group syncs once at the opening, and then at the seal and at the gate of its batch; the next opening carries the
-    batch home, and the one behind that writes nothing."""
+    """An opening syncs once, and where a segment is open twice more, as it carries that home: so the first one does, since the
+    batch that makes a volume stands in one. Adding a group then syncs at the seal and at the gate of its batch. The next opening
+    carries it home, and the one after that writes nothing."""
     counted = count_calls([volume.program, "group", volume.path, GROUP, "y", "1000000000", "test"])
     assert counted is not None, "the program could not be traced"
-    assert counted["fdatasync"] == 3, counted
+    assert counted["fdatasync"] == 5, counted
     opened = count_calls([volume.program, "dump", volume.path])
     assert opened["fdatasync"] == 3 and opened["pwrite64"] > 0, opened
     again = count_calls([volume.program, "dump", volume.path])

@@ -161,6 +161,13 @@ impl<'a> Stage<'a> {
         })
     }
 
+    /// The device fails at its next call, where the play is of a fault.
+    fn plan_fault(&mut self, holds: Holds) {
+        if holds == Holds::Fault {
+            self.journal.fail_at(1);
+        }
+    }
+
     /// Serves callers until a commit or the device fails.
     fn serve<R: Threads + Wait + Clock + Copy + Send + Sync + 'static>(
         self,
@@ -223,9 +230,7 @@ pub(crate) fn play<
         return None;
     };
     let mut stage = Stage::new(rt, alloc, &mark, flush_seat, seat, &flags)?;
-    if holds == Holds::Fault {
-        stage.journal.fail_at(1);
-    }
+    stage.plan_fault(holds);
     let Ok(listener) = TcpListener::bind(rt, SocketAddr::from((Ipv4Addr::LOCALHOST, 0))) else {
         return None;
     };

@@ -195,9 +195,11 @@ fn counts_after(alloc: Global, calls: &[(&str, u64, u64)]) -> Result<(u64, u64),
 #[test]
 fn device_calls_of_a_batch(rt: HostRuntime) -> Result<(), Fail> {
     for place in [0, 4, 5, 6, 7, 8] {
-        let (_, writes, syncs) = calls()[place];
-        let counts = counts_after(rt.alloc(), &calls()[..=place])?;
-        assert_eq!(rt; counts, (writes, syncs), "{place}");
+        let Some((_, writes, syncs)) = calls().get(place) else {
+            return Err("no such call")?;
+        };
+        let counts = counts_after(rt.alloc(), calls().get(..=place).unwrap_or(calls()))?;
+        assert_eq!(rt; counts, (*writes, *syncs), "{place}");
     }
     Ok(())
 }
