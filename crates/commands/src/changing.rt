@@ -6,8 +6,7 @@ ghost use Rattle.journal.specs.Journal.{IsReady};
 ghost use Rattle.model.specs.Calendar.{moment_limit};
 ghost use Rattle.model.specs.Lawful.{is_description_octet};
 
-use crate::files::open;
-use filedisk::FileDisk;
+use crate::files::{VolumeDisk, open};
 use flusher::{BatchBuf, FlushError, Kern, Locked, NoGate, flush_turn};
 use journal::Journal;
 use mark::Mark;
@@ -67,7 +66,7 @@ pub fn expire<R: Files<File = File> + Wait>(
 fn flush<R: Wait>(
     rt: &R,
     alloc: Global,
-    journal: &mut Journal<FileDisk>,
+    journal: &mut Journal<VolumeDisk>,
     kern: &Locked,
     batch: &mut BatchBuf,
 ) -> Result<(), CommandError>

@@ -11,6 +11,10 @@ use printing::CommandError;
 use std::alloc::Global;
 use std::fs::File;
 use std::rt::Files;
+use wcache::WCache;
+
+/// What a volume in a file is used through: what is written to it is collected until a sync.
+pub(crate) type VolumeDisk = WCache<FileDisk>;
 
 /// Makes an empty volume in place of any file there.
 pub fn format<R: Files<File = File>>(
@@ -31,13 +35,13 @@ pub(crate) fn open<R: Files<File = File>>(
     rt: &R,
     alloc: Global,
     path: &str,
-) -> Result<(Journal<FileDisk>, Kernel), CommandError>
+) -> Result<(Journal<VolumeDisk>, Kernel), CommandError>
     ensures { IfOk result (λ opened. IsReady opened.0) }
 {
     let Ok(disk) = FileDisk::open_existing(rt, path) else {
         return Err(CommandError::Fault);
     };
-    let mut journal = match Journal::open(alloc, disk) {
+    let mut journal = match Journal::open(alloc, WCache::new(alloc, disk)) {
         Ok(journal) => journal,
         Err(refused) => return Err(CommandError::from(refused.error)),
     };

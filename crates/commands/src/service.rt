@@ -2,8 +2,7 @@
 
 ghost use Rattle.journal.specs.Journal.{IsReady};
 
-use crate::files::open;
-use filedisk::FileDisk;
+use crate::files::{VolumeDisk, open};
 use flusher::{Kernel, Locked, NoGate};
 use journal::Journal;
 use mark::Mark;
@@ -62,7 +61,7 @@ fn run<
     rt: &R,
     alloc: Global,
     listener: &TcpListener,
-    journal: Journal<FileDisk>,
+    journal: Journal<VolumeDisk>,
     kernel: Kernel,
     lines: L,
     answers: A,
