@@ -41,10 +41,12 @@ fn is_wanted(alloc: Global, change: &Change, wanted: &Wanted) -> Result<bool, Al
                 moment,
             },
             Wanted::Group(its_name, its_status, its_description),
-        ) => Ok(is_text(name, its_name)
-            && is_text(description, its_description)
-            && *status == *its_status
-            && *moment == MOMENT),
+        ) => Ok(
+            is_text(name, its_name)
+                && is_text(description, its_description)
+                && *status == *its_status
+                && *moment == MOMENT,
+        ),
         (
             Change::Article {
                 text,
@@ -54,9 +56,11 @@ fn is_wanted(alloc: Global, change: &Change, wanted: &Wanted) -> Result<bool, Al
             Wanted::Article(sent, its_groups),
         ) => {
             let octets = sent.text(alloc)?;
-            Ok(text.as_slice() == octets.as_slice()
-                && are_names(groups, its_groups)
-                && *moment == MOMENT)
+            Ok(
+                text.as_slice() == octets.as_slice()
+                    && are_names(groups, its_groups)
+                    && *moment == MOMENT,
+            )
         }
         (Change::Expire { group, number }, Wanted::Expiry(its_group, its_number)) => {
             Ok(is_text(group, its_group) && *number == *its_number)

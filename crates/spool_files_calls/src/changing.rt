@@ -1,8 +1,9 @@
 //! Changes of a spool. Each call tests anew what it requires, and promises nothing.
 
-ghost use Rattle.std.specs.Prelude.{◌≡◌, ◌⊎◌, ◌≤◌, IsTrue, length};
+ghost use Rattle.std.specs.Prelude.{◌≡◌, ◌⊎◌, ◌≤◌, ◌∷◌, ◌++◌, [], IsTrue, None, length};
 ghost use Rattle.std.specs.List.{list_all};
-ghost use Rattle.model.specs.Lawful.{MayAwait, is_description_octet};
+ghost use Rattle.model.specs.Lawful.{IsLawful, MayAwait, MayExpire, MayMake, is_description_octet};
+ghost use Rattle.model.specs.Spool.{group_named};
 
 use crate::sent::Sent;
 use lookups::{LookUps, find_group};
@@ -52,14 +53,15 @@ fn is_described(status: u8, description: &[u8]) -> bool
     ensures short { IsTrue result → length description.now ≤ 200 }
     ensures printable { IsTrue result → IsTrue (list_all is_description_octet description.now) }
 {
-    (status == b'y' || status == b'n') && is_short_and_printable(description)
+    (status == b'y' || status == b'n') && description.len() <= 200 && is_printable(description)
 }
 
-fn is_short_and_printable(description: &[u8]) -> bool
-    ensures short { IsTrue result → length description.now ≤ 200 }
-    ensures printable { IsTrue result → IsTrue (list_all is_description_octet description.now) }
+fn is_printable(description: &[u8]) -> bool
+    ensures { result ≡ list_all is_description_octet description.now }
 {
-    description.len() <= 200 && description.iter().all(|octet| 32 <= *octet && *octet <= 126)
+    description
+        .iter()
+        .all(|octet| 32 <= *octet && *octet <= 126)
 }
 
 /// Takes articles out of a group.
@@ -72,9 +74,6 @@ pub(crate) fn expire(spool: &mut Spool, name: &[u8], number: u32) -> Filed {
 
 /// Files a group as a change.
 pub(crate) fn file_group(alloc: Global, spool: &mut Spool, name: &[u8], status: u8) -> Filed {
-    if !is_group_name(name) || !is_described(status, b"") || spool.group(name).is_some() {
-        return Filed::NotCalled;
-    }
     let Ok(octets) = name.to_vec(alloc) else {
         return Filed::Memory;
     };
@@ -84,17 +83,11 @@ pub(crate) fn file_group(alloc: Global, spool: &mut Spool, name: &[u8], status: 
         description: Text::new(Vec::new(alloc)),
         moment: MOMENT,
     };
-    done(spool.file(&change))
+    file(spool, &change)
 }
 
 /// Files an expiry as a change.
 pub(crate) fn file_expiry(alloc: Global, spool: &mut Spool, name: &[u8], number: u64) -> Filed {
-    let Some(found) = find_group(spool, name) else {
-        return Filed::NotCalled;
-    };
-    if number < found.counts.low || found.counts.high < number {
-        return Filed::NotCalled;
-    }
     let Ok(octets) = name.to_vec(alloc) else {
         return Filed::Memory;
     };
@@ -102,13 +95,58 @@ pub(crate) fn file_expiry(alloc: Global, spool: &mut Spool, name: &[u8], number:
         group: Text::new(octets),
         number,
     };
-    done(spool.file(&change))
+    file(spool, &change)
 }
 
-fn done(given: Result<(), FileError>) -> Filed {
-    match given {
+fn file(spool: &mut Spool, change: &Change) -> Filed {
+    if !may_follow(spool, change) {
+        return Filed::NotCalled;
+    }
+    match spool.file(change) {
         Ok(()) => Filed::Done,
         Err(error) => Filed::NotFiled(error),
+    }
+}
+
+// Whether a group or an expiry may follow the changes of a spool. Articles are not filed so: they come as messages.
+fn may_follow(spool: &Spool, change: &Change) -> bool
+    ensures { IsTrue result → IsLawful spool.now.host (spool.now.changes ++ change.now ∷ []) }
+{
+    match change {
+        Change::Group {
+            name,
+            status,
+            description,
+            moment,
+        } => {
+            *moment == MOMENT && may_make(spool, name.as_slice(), *status, description.as_slice())
+        }
+        Change::Expire { group, number } => may_expire(spool, group.as_slice(), *number),
+        Change::Article { .. } => false,
+    }
+}
+
+// Whether a group may be made.
+fn may_make(spool: &Spool, name: &[u8], status: u8, description: &[u8]) -> bool
+    ensures { IsTrue result → MayMake spool.now.changes name.now status description.now 1000000000 }
+{
+    is_group_name(name) && is_described(status, description) && is_new(spool, name)
+}
+
+// Whether no group has this name.
+fn is_new(spool: &Spool, name: &[u8]) -> bool
+    ensures { IsTrue result → group_named spool.now.changes name.now ≡ None }
+{
+    spool.group(name).is_none()
+}
+
+// Whether articles up to a number may be taken out of a group.
+fn may_expire(spool: &Spool, group: &[u8], number: u64) -> bool
+    ensures { IsTrue result → MayExpire spool.now.changes group.now number }
+{
+    match find_group(spool, group) {
+        Some(found) => found.counts.low <= number && number <= found.counts.high,
+        None => false,
     }
 }
 

@@ -33,8 +33,14 @@ const SLOTS: u32 = 3;
 
 /// What is filed, and carried as a batch.
 const CHANGES: &[(Call, Answer)] = &[
-    (Call::Add("x.a", b'y', "test"), Answer::Changed(Filed::Serial(1))),
-    (Call::Add("x.b", b'y', ""), Answer::Changed(Filed::Serial(2))),
+    (
+        Call::Add("x.a", b'y', "test"),
+        Answer::Changed(Filed::Serial(1)),
+    ),
+    (
+        Call::Add("x.b", b'y', ""),
+        Answer::Changed(Filed::Serial(2)),
+    ),
     (
         Call::Post(Sent {
             id: "<1@a.example>",
@@ -71,12 +77,20 @@ const ROWS: &[Row] = &[
     ("nothing", &[], true),
     // the rule of blocks
     ("no mark of a block", &[(BITMAP, 0, 0xef)], false),
-    ("no mark of the last file's block", &[(BITMAP, 1, 0x1f)], false),
+    (
+        "no mark of the last file's block",
+        &[(BITMAP, 1, 0x1f)],
+        false,
+    ),
     ("a mark of a free block", &[(BITMAP, 1, 0x7f)], false),
     ("a mark of the last block", &[(BITMAP, 127, 0x80)], false),
     ("a mark past the last block", &[(BITMAP, 128, 1)], false),
     ("a pointer past the last block", &[(INODES, 13, 4)], false),
-    ("a pointer to another file's block", &[(INODES, 204, 4)], false),
+    (
+        "a pointer to another file's block",
+        &[(INODES, 204, 4)],
+        false,
+    ),
     ("a pointer before the data", &[(INODES, 12, 3)], false),
     ("a size over the largest", &[(INODES, 390, 0x41)], false),
     ("a size of a block more", &[(INODES, 389, 0x10)], false),
@@ -91,18 +105,46 @@ const ROWS: &[Row] = &[
     ("a name twice", &[(SLOTS, 197, b'a')], false),
     // what lies past a file's size means nothing
     ("an octet behind a record", &[(4, 21, 9)], true),
-    ("the last octet of an article's block", &[(6, 4095, 9)], true),
+    (
+        "the last octet of an article's block",
+        &[(6, 4095, 9)],
+        true,
+    ),
     ("an octet of a free block", &[(14, 0, 9)], true),
     // names of files
     ("a file of no kind", &[(SLOTS, 577, b'z')], false),
-    ("an expiry named as an article", &[(SLOTS, 577, b'a')], false),
-    ("an article named as an expiry", &[(SLOTS, 385, b'x')], false),
-    ("an article under another serial", &[(SLOTS, 396, b'9')], false),
+    (
+        "an expiry named as an article",
+        &[(SLOTS, 577, b'a')],
+        false,
+    ),
+    (
+        "an article named as an expiry",
+        &[(SLOTS, 385, b'x')],
+        false,
+    ),
+    (
+        "an article under another serial",
+        &[(SLOTS, 396, b'9')],
+        false,
+    ),
     ("an article under a letter", &[(SLOTS, 396, b'c')], false),
-    ("an expiry under another serial", &[(SLOTS, 588, b'7')], false),
-    ("a group's record under another name", &[(SLOTS, 5, b'z')], false),
+    (
+        "an expiry under another serial",
+        &[(SLOTS, 588, b'7')],
+        false,
+    ),
+    (
+        "a group's record under another name",
+        &[(SLOTS, 5, b'z')],
+        false,
+    ),
     ("numbers under another name", &[(SLOTS, 69, b'z')], false),
-    ("an overview under another name", &[(SLOTS, 133, b'z')], false),
+    (
+        "an overview under another name",
+        &[(SLOTS, 133, b'z')],
+        false,
+    ),
     // records of groups
     ("a serial left out", &[(5, 0, 7)], false),
     ("a serial twice", &[(5, 0, 1)], false),
@@ -121,21 +163,37 @@ const ROWS: &[Row] = &[
     ("another serial in an article's record", &[(6, 0, 4)], false),
     ("another moment of an article", &[(6, 8, 1)], true),
     ("an article past the year 9999", &[(6, 13, 1)], false),
-    ("a text that is longer than its file", &[(6, 16, 147)], false),
-    ("a text that is shorter than its file", &[(6, 16, 145)], false),
+    (
+        "a text that is longer than its file",
+        &[(6, 16, 147)],
+        false,
+    ),
+    (
+        "a text that is shorter than its file",
+        &[(6, 16, 145)],
+        false,
+    ),
     ("a longer file", &[(INODES, 388, 172)], false),
     ("no groups", &[(6, 20, 0)], false),
     ("more groups than stand there", &[(6, 20, 2)], false),
     ("another group than the text's", &[(6, 24, b'b')], false),
     ("one of two groups", &[(9, 20, 1)], false),
-    ("two groups in another order", &[(9, 24, b'b'), (9, 28, b'a')], false),
+    (
+        "two groups in another order",
+        &[(9, 24, b'b'), (9, 28, b'a')],
+        false,
+    ),
     // texts
     ("another octet of a body", &[(6, 167, b'H')], true),
     ("a NUL in a body", &[(6, 167, 0)], false),
     ("a CR in a body", &[(6, 168, b'\r')], false),
     ("a header line without colon", &[(6, 158, b'x')], false),
     ("another group in a text", &[(6, 148, b'z')], false),
-    ("a Subject that the overview doesn't have", &[(6, 160, b'O')], false),
+    (
+        "a Subject that the overview doesn't have",
+        &[(6, 160, b'O')],
+        false,
+    ),
     ("another Subject", &[(6, 160, b'O'), (8, 2, b'O')], true),
     ("another id", &[(12, 99, b'7'), (8, 200, b'7')], true),
     (
@@ -160,7 +218,11 @@ const ROWS: &[Row] = &[
     ("another expiry", &[(13, 8, 2)], true),
     ("an expiry of all", &[(13, 8, 3)], true),
     ("an expiry of another group", &[(13, 15, b'b')], true),
-    ("an expiry of a group that isn't here", &[(13, 15, b'z')], false),
+    (
+        "an expiry of a group that isn't here",
+        &[(13, 15, b'z')],
+        false,
+    ),
     ("an expiry up to no number", &[(13, 8, 0)], false),
     ("an expiry above the highest number", &[(13, 8, 4)], false),
     ("an expiry above all numbers", &[(13, 11, 1)], false),

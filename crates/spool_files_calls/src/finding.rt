@@ -108,11 +108,7 @@ pub(crate) fn text_of(
         Sought::Lines(name, from, to) => push_lines(spool, name.as_bytes(), from, to, &mut text)?,
         of_article => push_of_article(spool, of_article, &mut text)?,
     };
-    if found {
-        Ok(Some(text))
-    } else {
-        Ok(None)
-    }
+    if found { Ok(Some(text)) } else { Ok(None) }
 }
 
 fn push_name(spool: &Spool, name: &[u8], text: &mut Vec<u8>) -> Result<bool, AllocError> {

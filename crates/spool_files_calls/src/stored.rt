@@ -89,7 +89,11 @@ fn has_room(volume: &Volume) -> bool
 
 // Replaces the octets of the blocks in a batch.
 fn lay(octets: &mut [u8], batch: &BatchBuf) {
-    for (number, image) in batch.numbers().iter().zip(batch.images().chunks(BLOCK_SIZE)) {
+    for (number, image) in batch
+        .numbers()
+        .iter()
+        .zip(batch.images().chunks(BLOCK_SIZE))
+    {
         let start = *number as usize * BLOCK_SIZE;
         for (place, octet) in image.iter().enumerate() {
             if let Some(replaced) = octets.get_mut(start.saturating_add(place)) {
