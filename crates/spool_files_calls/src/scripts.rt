@@ -4,66 +4,12 @@ use crate::calls::{Answer, Call, make};
 use crate::changes::Wanted;
 use crate::changing::Filed;
 use crate::finding::{Asked, Sought};
-use crate::sent::Sent;
+use crate::sent::{CROSSPOSTED, FIRST, FOR_CLOSED, FOURTH, LARGE, MEDIUM, SMALL, Sent, THIRD};
 use crate::stored::Stored;
 use serving::FileError;
 use spool_files::{AddError, ExpireError};
 use std::alloc::Global;
 use std::test::Fail;
-
-/// An article of 146 octets.
-const FIRST: Sent = Sent {
-    id: "<1@a.example>",
-    groups: "x.a",
-    size: 0,
-};
-
-/// One of 156 octets for two groups, and for one that isn't here.
-const CROSSPOSTED: Sent = Sent {
-    id: "<2@a.example>",
-    groups: "x.b ,x.z,\tx.a",
-    size: 0,
-};
-
-const THIRD: Sent = Sent {
-    id: "<3@a.example>",
-    groups: "x.a",
-    size: 0,
-};
-
-/// One for a group that takes no posts, too.
-const FOR_CLOSED: Sent = Sent {
-    id: "<3@a.example>",
-    groups: "x.a,x.c",
-    size: 0,
-};
-
-const FOURTH: Sent = Sent {
-    id: "<4@a.example>",
-    groups: "x.a",
-    size: 0,
-};
-
-/// An article of 58 octets, which lacks what the server adds.
-const SMALL: Sent = Sent {
-    id: "",
-    groups: "x.a",
-    size: 0,
-};
-
-/// One that is stored in 64 blocks and an indirect block.
-const LARGE: Sent = Sent {
-    id: "",
-    groups: "x.a",
-    size: 262_000,
-};
-
-/// One that is stored, under a serial of two digits, in 45 blocks and an indirect block.
-const MEDIUM: Sent = Sent {
-    id: "",
-    groups: "x.a",
-    size: 184_192,
-};
 
 /// Calls, and what each is to answer.
 type Rows = &'static [(Call, Answer)];

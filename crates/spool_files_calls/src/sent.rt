@@ -33,3 +33,57 @@ impl Sent {
         Ok(text)
     }
 }
+
+/// An article of 146 octets.
+pub(crate) const FIRST: Sent = Sent {
+    id: "<1@a.example>",
+    groups: "x.a",
+    size: 0,
+};
+
+/// One of 156 octets for two groups, and for one that isn't here.
+pub(crate) const CROSSPOSTED: Sent = Sent {
+    id: "<2@a.example>",
+    groups: "x.b ,x.z,\tx.a",
+    size: 0,
+};
+
+pub(crate) const THIRD: Sent = Sent {
+    id: "<3@a.example>",
+    groups: "x.a",
+    size: 0,
+};
+
+/// One for a group that takes no posts, too.
+pub(crate) const FOR_CLOSED: Sent = Sent {
+    id: "<3@a.example>",
+    groups: "x.a,x.c",
+    size: 0,
+};
+
+pub(crate) const FOURTH: Sent = Sent {
+    id: "<4@a.example>",
+    groups: "x.a",
+    size: 0,
+};
+
+/// An article of 58 octets, which lacks what the server adds.
+pub(crate) const SMALL: Sent = Sent {
+    id: "",
+    groups: "x.a",
+    size: 0,
+};
+
+/// One that is stored in 64 blocks and an indirect block.
+pub(crate) const LARGE: Sent = Sent {
+    id: "",
+    groups: "x.a",
+    size: 262_000,
+};
+
+/// One that is stored, under a serial of two digits, in 45 blocks and an indirect block.
+pub(crate) const MEDIUM: Sent = Sent {
+    id: "",
+    groups: "x.a",
+    size: 184_192,
+};
