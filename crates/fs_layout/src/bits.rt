@@ -72,6 +72,26 @@ fn clear_between(octets: &[u8], from: usize, to: usize) -> u32
     clear
 }
 
+/// Octets that a search passes over in one step where each of their bits is set.
+const FULL: [u8; 64] = [u8::MAX; 64];
+
+/// How many octets a search passes over in such steps.
+fn full_front(octets: &[u8]) -> usize
+    requires few { length octets.now ≤ 4096 }
+    ensures room { result ≤ length octets.now }
+    ensures set { (b : ℕ) → b < 8 * result → bit_of octets.now b ≡ true }
+{
+    let steps = octets.len() / FULL.len();
+    for step in 0..steps {
+        let start = step * FULL.len();
+        let is_full = octets[start..start + FULL.len()] == FULL[..];
+        if !is_full {
+            return start;
+        }
+    }
+    steps * FULL.len()
+}
+
 /// The lowest of the first bits that is clear.
 pub fn lowest_clear(octets: &[u8], count: usize) -> Option<usize>
     requires room { count ≤ 8 * length octets.now }
@@ -80,8 +100,9 @@ pub fn lowest_clear(octets: &[u8], count: usize) -> Option<usize>
         ((b : ℕ) → b < count → bit_of octets.now b ≡ true)
         (IsLowestClear octets.now count) }
 {
-    for (place, octet) in octets.iter().enumerate() {
-        if *octet < u8::MAX {
+    for place in full_front(octets)..octets.len() {
+        let octet = octets[place];
+        if octet < u8::MAX {
             let bit = 8 * place + octet.trailing_ones() as usize;
             return if bit < count { Some(bit) } else { None };
         }
