@@ -21,7 +21,6 @@ pub mod Ids
 pub mod Stored
 pub mod StoredArticles
 pub mod LawfulLaws
-pub mod AllRead
 pub mod Strings
 pub mod ServiceLaws
 pub mod NewsLaws

@@ -4,7 +4,7 @@
 //!
 //! - texts: `next_message`, `later_octets`, `read_back`, `date_of_a_moment`, `made_ids`, `stored_texts`
 //! - answers: `answers_come_from_front`, `accepted_change_is_read`, `nothing_later_is_read`, `replies_are_filled`,
-//!   `every_change_may_be_read`, `numbers_stay`, `expiry_is_for_good`
+//!   `numbers_stay`, `expiry_is_for_good`
 //! - the service: `news_is_lawful`, `news_is_synchronous`
 //! - spools: `lawful_stays`
 #![tactic(auto)]
@@ -27,9 +27,8 @@ pub use filed::{
     spools_grow_by_their_files,
 };
 pub use laws::{
-    accepted_change_is_read, answers_come_from_front, every_change_may_be_read, expiry_is_for_good,
-    lawful_stays, news_is_lawful, news_is_synchronous, nothing_later_is_read, numbers_stay,
-    replies_are_filled,
+    accepted_change_is_read, answers_come_from_front, expiry_is_for_good, lawful_stays,
+    news_is_lawful, news_is_synchronous, nothing_later_is_read, numbers_stay, replies_are_filled,
 };
 pub use message::{Mark, Message, Mode};
 pub use session::{Answer, Awaits, Session};
