@@ -17,7 +17,7 @@ use Rattle.fs_inodes.proofs.Grown.{file_after, one_content, one_name}
 use Rattle.fs_layout.proofs.Entries.{length-content}
 use Rattle.fs_layout.proofs.Marking.{same_free}
 use Rattle.fs_layout.proofs.Tables.{length-table, named_from_there}
-use Rattle.filing.specs.Calls.{AppendsAt, Calls, CreatesAt, MakesAt, SameFilesBut, blocks_for_more}
+use Rattle.filing.specs.Calls.{AppendsAt, AreUsed, Calls, CreatesAt, MakesAt, SameFilesBut, blocks_for_more}
 use Rattle.places.specs.Places.{KeepsNames, name_of}
 
 -- ---- calls after calls
@@ -53,6 +53,16 @@ named_others inodes at old new others its k name named = elim (cases_eq k at) [
   | inr other ↦ ap (option_map (λ (f : File). f.name)) (others k other) ∙ named
 ]
 
+-- an inode that has a file keeps it
+pub still_used : (n : ℕ) (old new : List (Option File)) → KeepsNames old new → AreUsed n old → AreUsed n new
+still_used n old new keeps used k less none = by_file (get_or old k None) refl where
+  by_file : (o : Option File) → get_or old k None ≡ o → ⊥
+  by_file None is = used k less is
+  by_file (Some f) is =
+      let named = keeps k f.name (ap (option_map (λ (h : File). h.name)) is) in
+      let it : None ≡ Some f.name = sym (ap (option_map (λ (h : File). h.name)) none) ∙ named in
+      cc
+
 -- ---- a new file
 
 pub created : (inodes : ℕ) (name : Octets) (at : ℕ) (old new : List Octets) → Creates inodes name at old new → SameMarks old new → CreatesAt inodes at name old new
@@ -70,6 +80,7 @@ created inodes name at old new made marks =
       };
       there = here inodes at (record { name = name; content = [] }) old new made.makes.files_are low;
       others = others;
+      used = λ k less none. made.lowest k less (sym (others k (λ same. omega (arith, less, same))) ∙ none);
     }
 
 all_there : (inodes : List (Option File)) → ((k : ℕ) → k < length inodes → get_or inodes k None ≢ None) → length inodes ≤ length (files_in inodes)
@@ -128,4 +139,5 @@ made inodes at name octets old mid new creates appends =
       calls = calls_then inodes (Create name ∷ []) (Append name octets ∷ []) old mid new creates.calls (subst (λ (q : Octets). Calls inodes (Append q octets ∷ []) mid new) named appends.calls);
       there = subst (λ (q : Octets). IsFileAt (table inodes new) at q octets) named (subst (λ (o : Octets). IsFileAt (table inodes new) at appends.name (o ++ octets)) empty appends.there);
       others = λ k other. appends.others k other ∙ creates.others k other;
+      used = still_used at (table inodes mid) (table inodes new) appends.calls.names creates.used;
     }

@@ -34,11 +34,16 @@ pub record MayGrow (inodes at more : ℕ) (blocks : List Octets) : Type 0 where
   pub there : IsFileAt (table inodes blocks) at name content
   pub small : length content + more ≤ 4235264
 
--- this inode got an empty file of this name
+-- none of the first so many inodes is free
+abbrev pub AreUsed : ℕ → List (Option File) → Type 0
+AreUsed n inodes = (k : ℕ) → k < n → slice_index_or inodes k None ≢ None
+
+-- this inode, which was the lowest free one, got an empty file of this name
 pub record CreatesAt (inodes at : ℕ) (name : Octets) (old new : List Octets) : Type 0 where
   pub calls : Calls inodes (Create name ∷ []) old new
   pub there : IsFileAt (table inodes new) at name []
   pub others : SameFilesBut inodes at old new
+  pub used : AreUsed at (table inodes new)
 
 -- the file of this inode got these octets at its end
 pub record AppendsAt (inodes at : ℕ) (octets : Octets) (old new : List Octets) : Type 0 where
@@ -49,11 +54,12 @@ pub record AppendsAt (inodes at : ℕ) (octets : Octets) (old new : List Octets)
   pub there : IsFileAt (table inodes new) at name (content ++ octets)
   pub others : SameFilesBut inodes at old new
 
--- this inode got a file of this name with these octets
+-- this inode, which was the lowest free one, got a file of this name with these octets
 pub record MakesAt (inodes at : ℕ) (name octets : Octets) (old new : List Octets) : Type 0 where
   pub calls : Calls inodes (making_calls name octets) old new
   pub there : IsFileAt (table inodes new) at name octets
   pub others : SameFilesBut inodes at old new
+  pub used : AreUsed at (table inodes new)
 
 -- ---- pieces
 

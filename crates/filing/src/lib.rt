@@ -5,28 +5,33 @@ ghost use Rattle.std.specs.Prelude.{◌≡◌, ◌+◌, ◌*◌, ◌/◌, ◌<�
 ghost use Rattle.model.specs.Files.{HasRoom, IsFileSystem, files_in, free_blocks, table};
 ghost use Rattle.fs.specs.Calls.{IsFileAt, IsName, IsThere};
 ghost use Rattle.fs.specs.Touches.{Touches, touched_by_growth};
-ghost use Rattle.filing.specs.Calls.{AppendsAt, AppendsFirst, CreatesAt, MakesAt, MayAllGrow, MayGrow, blocks_for_more};
+ghost use Rattle.filing.specs.Calls.{AppendsAt, AppendsFirst, AreUsed, CreatesAt, MakesAt, MayAllGrow, MayGrow, blocks_for_more};
 
 use fs::by_inode::extend;
-use fs::{FsError, create};
+use fs::{FsError, create_absent};
 use std::alloc::AllocError;
 use volume::Blocks;
 
-/// Makes an empty file of a new name, for which an inode is free, and answers its inode. An `Err` is out of memory; the caller then
-/// drops what it staged.
-pub fn create_file<B: Blocks>(blocks: &mut B, inodes: u32, name: &[u8]) -> Result<u32, AllocError>
+/// Makes an empty file of a new name, for which an inode is free, and answers its inode, the lowest free one. It looks for that from
+/// `from` on, below which none is free. An `Err` is out of memory; the caller then drops what it staged.
+pub fn create_file<B: Blocks>(
+    blocks: &mut B,
+    inodes: u32,
+    from: u32,
+    name: &[u8],
+) -> Result<u32, AllocError>
     requires room { HasRoom inodes (B.blocks blocks.old) }
     requires rule { IsFileSystem inodes (B.blocks blocks.old) }
     requires name { IsName name.now }
     requires new { ¬ (IsThere (table inodes (B.blocks blocks.old)) name.now) }
     requires few { length (files_in (table inodes (B.blocks blocks.old))) < inodes }
+    requires used { AreUsed from (table inodes (B.blocks blocks.old)) }
     ensures created { IfOk result (λ at. CreatesAt inodes at name.now (B.blocks blocks.old) (B.blocks blocks.new)) }
     ensures touches { OnOk result (Touches 2 (B.blocks blocks.old) (B.blocks blocks.new)) }
     ensures kept { B.applied blocks.new ≡ B.applied blocks.old }
 {
-    match create(blocks, inodes, name) {
+    match create_absent(blocks, inodes, name, from) {
         Ok(at) => Ok(at),
-        Err(FsError::Exists) => unreachable!(),
         Err(FsError::Full) => unreachable!(),
         Err(_) => Err(AllocError),
     }
@@ -52,11 +57,13 @@ pub fn append_to<B: Blocks>(
     extend(blocks, inodes, at, octets)
 }
 
-/// Makes a file of a new name with these octets, for which there is room, and answers its inode. An `Err` is out of memory; the caller
-/// then drops what it staged. The file has the form that docs/FORMATS.md gives under "Files".
+/// Makes a file of a new name with these octets, for which there is room, and answers its inode, the lowest free one. No inode below
+/// `from` is free. An `Err` is out of memory; the caller then drops what it staged. The file has the form that docs/FORMATS.md gives
+/// under "Files".
 pub fn make_file<B: Blocks>(
     blocks: &mut B,
     inodes: u32,
+    from: u32,
     name: &[u8],
     octets: &[u8],
 ) -> Result<u32, AllocError>
@@ -67,11 +74,12 @@ pub fn make_file<B: Blocks>(
     requires few { length (files_in (table inodes (B.blocks blocks.old))) < inodes }
     requires small { length octets.now ≤ 4235264 }
     requires free { blocks_for_more (length octets.now) ≤ free_blocks (B.blocks blocks.old) }
+    requires used { AreUsed from (table inodes (B.blocks blocks.old)) }
     ensures made { IfOk result (λ at. MakesAt inodes at name.now octets.now (B.blocks blocks.old) (B.blocks blocks.new)) }
     ensures touches { OnOk result (Touches (2 + touched_by_growth 0 (length octets.now)) (B.blocks blocks.old) (B.blocks blocks.new)) }
     ensures kept { B.applied blocks.new ≡ B.applied blocks.old }
 {
-    let at = create_file(blocks, inodes, name)?;
+    let at = create_file(blocks, inodes, from, name)?;
     append_to(blocks, inodes, at, octets)?;
     Ok(at)
 }

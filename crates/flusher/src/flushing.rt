@@ -1,11 +1,9 @@
 //! The flusher: it takes what changed, carries it to the device without the lock, and tells what is durable.
 
-ghost use Rattle.std.specs.Prelude.{◌≡◌, ◌≢◌, ◌++◌, ◌∷◌, ◌+◌, ◌*◌, ◌<◌, ◌≤◌, [], length, true, false, OnOk, OnErr, IfOk, IfErr, IfSome, IfNone, IsTrue};
-ghost use Rattle.std.specs.List.{All};
+ghost use Rattle.std.specs.Prelude.{◌≡◌, ◌++◌, ◌∷◌, ◌+◌, ◌*◌, ◌<◌, [], length, true, false, OnOk, OnErr, IfOk, IfErr, IfSome, IfNone, IsTrue};
 ghost use Rattle.journal.specs.Journal.{IsDuring, IsIdle, IsReady, LeavesAdmitted, sizes};
 ghost use Rattle.journal.specs.Order.{following};
 ghost use Rattle.journal.specs.declared.Next.{Next};
-ghost use Rattle.model.specs.Volume.{AreDistinct};
 ghost use Rattle.flusher.specs.Flush.{Commits, Failed, HasBegun, MayBegin, Turns, has_failed};
 
 use crate::bells::Bells;
@@ -17,6 +15,7 @@ use std::sync::Wait;
 use std::thread;
 use thiserror::Error;
 use volume::{BATCH_BLOCKS, BLOCK_SIZE, BatchBuf};
+use volume_format::{are_below, are_distinct};
 
 /// Why a turn of the flusher was refused. The kernel is halted then, and the mark stopped.
 #[derive(Clone, Copy, Debug, Drop, PartialEq, Eq, Error)]
@@ -112,25 +111,6 @@ fn may_begin<D: Disk>(journal: &Journal<D>, batch: &BatchBuf) -> bool
     batch.images().len() == BLOCK_SIZE * count
         && are_below(numbers, journal.blocks())
         && are_distinct(numbers)
-}
-
-fn are_below(numbers: &[u32], blocks: u64) -> bool
-    ensures { IsTrue result → All (λ n. n < blocks) numbers.now }
-{
-    numbers.iter().all(|n| u64::from(*n) < blocks)
-}
-
-fn are_distinct(numbers: &[u32]) -> bool
-    ensures { IsTrue result → AreDistinct numbers.now }
-{
-    for i in 0..numbers.len() {
-        for j in 0..i {
-            if numbers[j] == numbers[i] {
-                return false;
-            }
-        }
-    }
-    true
 }
 
 /// The device calls of a batch up to the one that commits it. One that is refused for memory is asked again.

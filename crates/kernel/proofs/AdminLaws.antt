@@ -129,6 +129,27 @@ module _ (s : SpoolView) (d : ℕ) (f : Option ℕ) (h : Bool) (j : ℕ) (seats 
       go false full a b is = absurd (cc is)
 
 -- the refusal of a change that was refused for no want of memory
-pub said : {E : Type 0} (memory e r : E) (refusal : Option E) → e ≡ r → (r ≡ memory → ⊥) → (e ≡ memory) ⊎ (refusal ≡ Some e) → refusal ≡ Some r
-said memory e r refusal is other (inl no_room) = absurd (other (sym is ∙ no_room))
+pub said : {E : Type 0} (memory e r : E) (refusal : Option E) → e ≡ r → (r ≡ memory → ⊥) → ((e ≡ memory) × (refusal ≡ None)) ⊎ (refusal ≡ Some e) → refusal ≡ Some r
+said memory e r refusal is other (inl none) = absurd (other (sym is ∙ none.0))
 said memory e r refusal is other (inr told) = told ∙ ap Some is
+
+-- no test of a change that was refused for want of memory fails
+pub unsaid : {E : Type 0} (memory e : E) (refusal : Option E) → e ≡ memory → (refusal ≡ Some memory → ⊥) → ((e ≡ memory) × (refusal ≡ None)) ⊎ (refusal ≡ Some e) → refusal ≡ None
+unsaid memory e refusal is never (inl none) = none.1
+unsaid memory e refusal is never (inr told) = absurd (never (told ∙ ap Some is))
+
+pub no_group_memory : (s : SpoolView) (name : Octets) (c : Change) → group_refusal s name c ≡ Some add.Memory → ⊥
+no_group_memory s name c = go (is_here s.changes name) (is_full_for s c)
+  where
+    go : (here full : Bool) → (if here then Some add.Exists else if full then Some add.Full else None) ≡ Some add.Memory → ⊥
+    go true full is = cc is
+    go false true is = cc is
+    go false false is = cc is
+
+pub no_expiry_memory : (s : SpoolView) (group : Octets) (number : ℕ) → expiry_refusal s group number ≡ Some expire.Memory → ⊥
+no_expiry_memory s group number = go (has_number s.changes group number) (is_full_for s (Expire group number))
+  where
+    go : (has full : Bool) → (if has then (if full then Some expire.Full else None) else Some expire.NotFound) ≡ Some expire.Memory → ⊥
+    go true true is = cc is
+    go true false is = cc is
+    go false full is = cc is

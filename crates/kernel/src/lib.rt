@@ -214,8 +214,8 @@ impl Kernel {
 
     /// The operator makes a group, and is told its serial, which says nothing of durability. `status` is `y` or `n`, the
     /// description has at most 200 octets of 32 to 126, and `moment` is in seconds since 1970.
-    /// Refused as `Halted` (E4), `LaterDirty` (E8), `Exists` (E11), `Full` (E6) or `Memory` (E2), tested in that order, but
-    /// `Memory` may come at any growth, which is never before the first two; a refusal changes nothing.
+    /// Refused as `Halted` (E4), `LaterDirty` (E8), `Exists` (E11), `Full` (E6) or `Memory` (E2), tested in that order; a
+    /// refusal changes nothing.
     pub fn admin(
         &mut self,
         alloc: Global,
@@ -229,7 +229,7 @@ impl Kernel {
         requires printable { IsTrue (list_all is_description_octet description.now) }
         requires moment { moment < moment_limit }
         ensures { let change = Group name.now status description.now moment in
-            TestedOrMemory of_admin AdminError.Memory (early_refusal self.old) (admin_refusal_of self.old change) self.old self.new result (Administers self.old self.new change) }
+            TestedOrMemory of_admin AdminError.Memory (admin_refusal_of self.old change) (admin_refusal_of self.old change) self.old self.new result (Administers self.old self.new change) }
     {
         self.may_administer()?;
         let serial = match self
@@ -262,11 +262,10 @@ impl Kernel {
     /// The operator takes the articles of a group up to a number out of it, and is told the serial of that change, which says
     /// nothing of durability. Numbers are not used again.
     /// Refused as `Halted` (E4), `LaterDirty` (E8), `NotFound` (E12) where the group isn't here or the number is below its
-    /// lowest or above its highest, `Full` (E6) or `Memory` (E2), tested in that order, but `Memory` may come at any growth,
-    /// which is never before the first two; a refusal changes nothing.
+    /// lowest or above its highest, `Full` (E6) or `Memory` (E2), tested in that order; a refusal changes nothing.
     pub fn expire(&mut self, name: &GroupName, number: u32) -> Result<u64, ExpireError>
         ensures { let change = Expire name.now number in
-            TestedOrMemory of_expire ExpireError.Memory (early_refusal self.old) (expire_refusal_of self.old change) self.old self.new result (Administers self.old self.new change) }
+            TestedOrMemory of_expire ExpireError.Memory (expire_refusal_of self.old change) (expire_refusal_of self.old change) self.old self.new result (Administers self.old self.new change) }
     {
         self.may_expire()?;
         let serial = match self.spool.expire(name.as_slice(), number) {

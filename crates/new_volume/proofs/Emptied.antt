@@ -18,17 +18,17 @@ use Rattle.new_volume.specs.Emptying.{IsEmptying, laid}
 use Rattle.new_volume.specs.Sizes.{are_sizes}
 use Rattle.new_volume.proofs.Formed.{sized}
 
-abbrev IsZero : ℕ → Type 0
+abbrev pub IsZero : ℕ → Type 0
 IsZero octet = octet ≡ 0
 
 -- ---- zeroed blocks
 
-is_zero_block : (xs : List ℕ) → length xs ≡ 4096 → All IsZero xs → xs ≡ zero_block
+pub is_zero_block : (xs : List ℕ) → length xs ≡ 4096 → All IsZero xs → xs ≡ zero_block
 unfolding zero_block
 is_zero_block xs size all =
     ext_get_or 0 xs (replicate 4096 0) (size ∙ sym (length-replicate {A = ℕ} 4096 0)) (λ i within. all i 0 within ∙ sym (get_or-replicate 4096 i 0 0 (omega (arith, within, size))))
 
-part_zero : (k : ℕ) (octets : List ℕ) → All IsZero octets → All IsZero (block k octets)
+pub part_zero : (k : ℕ) (octets : List ℕ) → All IsZero octets → All IsZero (block k octets)
 part_zero k octets all = All-take IsZero 4096 (drop (4096 * k) octets) (All-drop IsZero (4096 * k) octets all)
 
 -- octets of zeros are zeroed blocks
@@ -39,11 +39,11 @@ zeros_are count octets size all =
     let low : k < count = omega (arith, within, length-blocks_from count octets) in
     get_or-blocks_from count k octets low ∙ is_zero_block (block k octets) (length-block k octets (omega (arith, size, low))) (part_zero k octets all) ∙ sym (get_or-replicate count k zero_block [] low))
 
-zero_block_zero : All IsZero zero_block
+pub zero_block_zero : All IsZero zero_block
 unfolding zero_block
 zero_block_zero = All-replicate IsZero 4096 0 refl
 
-zero_block_size : length zero_block ≡ 4096
+pub zero_block_size : length zero_block ≡ 4096
 unfolding zero_block
 zero_block_size = length-replicate {A = ℕ} 4096 0
 

@@ -4,6 +4,7 @@
 mod carrying;
 mod emptying;
 mod formatting;
+mod laws;
 
 ghost use Rattle.std.specs.Prelude.{◌≡◌, ◌≤◌, length, vec_len, IfOk, IsTrue};
 ghost use Rattle.model.specs.Layout.{label_octets};
@@ -11,6 +12,7 @@ ghost use Rattle.model.specs.Names.{is_host};
 ghost use Rattle.new_volume.specs.Sizes.{are_sizes, device_size};
 
 pub use formatting::{format, format_or_give_back};
+pub use laws::an_image_stands;
 use std::alloc::{AllocError, Global};
 use volume_format::layout::{SEGMENTS, home_block, start_of};
 

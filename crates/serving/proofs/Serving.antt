@@ -74,9 +74,9 @@ module _ (host : Octets) (S : Spool) (x : Session) (m : Message) (t : ℕ) where
 -- ---- an answer that there is no room
 
 -- a refusal for want of room says that there is none
-pub no_room : (P : Type 0) (e : FileError) → e ≡ error.Full → (e ≡ error.Memory) ⊎ ((e ≡ error.Full) × P) → P
-no_room P e is (inl memory) = absurd (cc (is, memory))
-no_room P e is (inr full) = full.1
+pub no_room : (P Q : Type 0) (e : FileError) → e ≡ error.Full → ((e ≡ error.Memory) × Q) ⊎ ((e ≡ error.Full) × P) → P
+no_room P Q e is (inl memory) = absurd (cc (is, memory.0))
+no_room P Q e is (inr full) = full.1
 
 -- the answer where there is no room
 abbrev pub full_served : Answered → Served

@@ -33,13 +33,12 @@ pub trait Files: LookUps {
     /// Between two values: the second is the first with this change behind the others.
     ghost adds: { Self → Self → ChangeView → Type 0 };
 
-    /// Files a change that may follow. Refused as `Full` exactly where there is no room, or as `Memory`, which may come before
-    /// that test; a refusal changes nothing.
+    /// Files a change that may follow. Refused as `Full` exactly where there is no room, else as `Memory`; a refusal changes nothing.
     fn file(&mut self, change: &Change) -> Result<(), FileError>
         requires { IsLawful (Self.host_of self.old) (Self.changes self.old ++ change.now ∷ []) }
         ensures { MatchResult result
             (λ done. (lacks_room self.old change.now ≡ false) × adds self.old self.new change.now)
-            (λ error. ((error ≡ FileError.Memory) ⊎ ((error ≡ FileError.Full) × (lacks_room self.old change.now ≡ true))) × (self.new ≡ self.old)) };
+            (λ error. (((error ≡ FileError.Memory) × (lacks_room self.old change.now ≡ false)) ⊎ ((error ≡ FileError.Full) × (lacks_room self.old change.now ≡ true))) × (self.new ≡ self.old)) };
 }
 
 /// What was served.

@@ -2,6 +2,7 @@
 //! a caller carries no fact of the system.
 #![tactic(auto)]
 
+mod copying;
 mod errors;
 mod events;
 mod sealed;

@@ -4,9 +4,10 @@ ghost use Rattle.std.specs.Prelude.{◌≡◌, ◌≤◌, slice_get, Some, ℕ};
 ghost use Rattle.std.specs.List.{All};
 ghost use Rattle.world.specs.Events.{MayHappen};
 
+use crate::copying::Room;
 use crate::errors::SimError;
 use crate::events::{Row, event, read, said};
-use disk::{Disk, Faults};
+use disk::{Disk, DiskCall, Faults};
 use lookups::LookUps;
 use memdisk::{MemDisk, Pick};
 use model::Part;
@@ -15,6 +16,7 @@ use new_volume::{Plan, are_sizes, device_octets, format};
 use served::Entry;
 use std::alloc::Global;
 use std::marker::Model;
+use volume_format::layout::BLOCK;
 use world::{Answer, Event, OpenError, Refused, StepError, World};
 
 /// The logical blocks of the device.
@@ -66,6 +68,11 @@ impl Device {
         self.disk.fail_at(call);
     }
 
+    /// The call of this kind fails that is so many from now on, and none of them at 0.
+    pub fn fail_kind(&mut self, kind: DiskCall, call: u64) {
+        self.disk.fail_kind(kind, call);
+    }
+
     /// Each touched octet becomes what the pick makes of it.
     pub fn crash(&mut self, pick: Pick) {
         self.disk.crash(&[pick]);
@@ -81,6 +88,15 @@ impl Device {
             return Err(SimError::NoPlace);
         }
         Ok(was[0])
+    }
+
+    /// Makes each block what it is on another device.
+    pub fn copy_volume(&mut self, alloc: Global, from: &mut Device) -> Result<(), SimError> {
+        let mut room = Room::new(alloc)?;
+        for block in 0..self.disk.len() / BLOCK as u64 {
+            room.copy(&mut from.disk, &mut self.disk, block)?;
+        }
+        Ok(())
     }
 }
 
@@ -189,6 +205,11 @@ impl Sim {
         self.world.fail_at(call);
     }
 
+    /// The call of the device of this kind fails that is so many from now on, and none of them at 0.
+    pub fn fail_kind(&mut self, kind: DiskCall, call: u64) {
+        self.world.fail_kind(kind, call);
+    }
+
     /// How many changes were there at the opening, are durable, and are accepted.
     pub fn counts(&self) -> (u64, u64, u64) {
         (
@@ -206,8 +227,12 @@ impl Sim {
         self.world.arrived(session) == octets
     }
 
+    pub fn released(&self, session: u64) -> &[u8] {
+        self.world.released(session)
+    }
+
     pub fn has_released(&self, session: u64, octets: &[u8]) -> bool {
-        self.world.released(session) == octets
+        self.released(session) == octets
     }
 
     /// Whether the change with this serial is a group of this name.

@@ -1,25 +1,16 @@
 -- What blocks that hold a spool leave free, and the change that they get.
-use Rattle.std.proofs.Common.{◌≡◌, ◌≢◌, ◌≤◌, ℕ, zero, suc, ◌+◌, ◌-◌, false, List, [], ◌∷◌, ◌++◌, length, get_or, refl, sym, ◌∙◌, ap, subst, arith, length-append}
-use Rattle.std.specs.Prelude.{replicate, OnErr, Result, Ok, Err, Option, Some, None, IsPermutation, nat_lt, ◌||◌, filter_map}
-use Rattle.std.specs.List.{Contains}
-use Rattle.std.proofs.lemmas.Bool.{ltb-false, or_parts}
-use Rattle.std.proofs.lemmas.List.Sorted.{Contains-permutation, length_permutation, sum_by-IsPermutation}
+use Rattle.std.proofs.Common.{◌≡◌, ◌≤◌, ℕ, ◌+◌, ◌-◌, false, List, [], ◌∷◌, ◌++◌, length, refl, sym, ◌∙◌, ap, subst, arith, length-append}
+use Rattle.std.specs.Prelude.{replicate, OnErr, Result, Ok, Err, Some, None, filter_map}
 use Rattle.model.specs.Stream.{Octets}
-use Rattle.model.specs.Files.{File, HasRoom, IsFileSystem, files_in, first_data, free_blocks, table}
-use Rattle.model.specs.Lawful.{MayFollow}
-use Rattle.model.specs.Room.{blocks_asked, blocks_for, extends_large, files_made, free_blocks_beside, free_inodes_beside, has_all_groups, is_full, is_full_for}
+use Rattle.model.specs.Files.{HasRoom, IsFileSystem, table}
+use Rattle.model.specs.Room.{files_made, is_full}
 use Rattle.model.specs.Spool.{Spool, entries, group_made, groups}
-use Rattle.model.specs.SpoolFiles.{change_calls, files_of}
+use Rattle.model.specs.SpoolFiles.{files_of}
 use Rattle.model.specs.declared.change.Change.{Change}
 use Rattle.model.specs.declared.change.Change.TheVariants.{Group, Article, Expire}
-use Rattle.model.proofs.Counting.{free_is_beside}
-use Rattle.model.proofs.Filing.{spools_grow}
-use Rattle.model.proofs.HoldsOne.{changes_few, empty_none, holds_one}
+use Rattle.model.proofs.HoldsOne.{empty_none, holds_one}
 use Rattle.model.proofs.Opening.{files_counted}
-use Rattle.fs.specs.Calls.{IsThere}
-use Rattle.filing.specs.Calls.{Calls}
 use Rattle.places.proofs.Named.{groups_more}
-use Rattle.spool_files.specs.Growing.{HasFree}
 use mathlib.Core.HLevel.{is_prop→PathP}
 use Rattle.std.proofs.Math.Logic.{∥∥₁_elim, ∥∥₁_prop}
 use Rattle.std.specs.Prelude.{IsTrue}
@@ -27,61 +18,11 @@ use Rattle.model.specs.Names.{is_host}
 use Rattle.model.specs.Indexed.{ArePlaces, FilePlaces}
 use Rattle.index.specs.View.{IndexView, Indexes}
 use Rattle.volume.specs.Volume.{VolumeView}
-use Rattle.spool_files.specs.Kept.{AreFree, CanStand, IsHeld, IsKept, StandsIn, spool_set}
-use Rattle.spool_files.specs.View.{Adds, Dirties, SpoolView}
-
-there_among : (inodes : List (Option File)) (k : ℕ) (f : File) → get_or inodes k None ≡ Some f → Contains (files_in inodes) f
-there_among [] k f is = absurd (cc)
-there_among (None ∷ inodes) zero f is = absurd (cc)
-there_among (None ∷ inodes) (suc k) f is = there_among inodes k f is
-there_among (Some g ∷ inodes) zero f is = let same : g ≡ f = cc in (0, omega arith, same)
-there_among (Some g ∷ inodes) (suc k) f is = let rest = there_among inodes k f is in (suc rest.0, omega (arith, rest.1), rest.2)
-
-module _ (host : Octets) (inodes : ℕ) (blocks : List Octets) (S : Spool) (is : IsHeld host inodes blocks S) where
-  pub changes_are_few : length S ≤ 32768
-  changes_are_few = omega (arith, changes_few host inodes blocks S is.held, is.room.few)
-
-  pub files_are : IsPermutation (files_in (table inodes blocks)) (files_of S)
-  files_are = subst (λ (fs : List File). IsPermutation fs (files_of S)) is.held.held.contents is.held.same
-
-  pub files_count : length (files_in (table inodes blocks)) ≡ length (files_of S)
-  files_count = sym (length_permutation (files_in (table inodes blocks)) (files_of S) files_are)
-
-  pub blocks_beside : free_blocks blocks ≡ free_blocks_beside (length blocks) inodes (files_of S)
-  blocks_beside =
-      (free_is_beside inodes blocks is.held.files is.room is.held.held).blocks_are
-      ∙ ap (λ (n : ℕ). length blocks - (first_data inodes + n)) (sym (sum_by-IsPermutation (λ (f : File). blocks_for (length f.content)) is.held.files (files_of S) is.held.same))
-
-  pub not_there : (q : Octets) → ((f : File) → Contains (files_of S) f → f.name ≢ q) → ¬ (IsThere (table inodes blocks) q)
-  not_there q lacks (k, content, there) =
-      let f : File = record { name = q; content = content } in
-      lacks f (Contains-permutation (files_in (table inodes blocks)) (files_of S) f files_are (there_among (table inodes blocks) k f there)) refl
-
-  pub enough : (c : Change) → is_full (length blocks) inodes S (Some c) ≡ false → HasFree inodes (files_made c) blocks
-  unfolding is_full_for
-  enough c room =
-      let free = free_blocks_beside (length blocks) inodes (files_of S) in
-      let left = free_inodes_beside inodes (files_of S) in
-      let first = or_parts (nat_lt free blocks_asked) (nat_lt left (files_made c) || (extends_large S c || has_all_groups S c)) room in
-      let second = or_parts (nat_lt left (files_made c)) (extends_large S c || has_all_groups S c) first.1 in
-      let some : 1 ≤ files_made c = one_at_least c in
-      record {
-        inodes_free = omega (arith, ltb-false left (files_made c) second.0, files_count, some);
-        blocks_free = omega (arith, ltb-false free blocks_asked first.0, blocks_beside);
-      }
-    where
-      one_at_least : (d : Change) → 1 ≤ files_made d
-      one_at_least (Group name status description moment) = omega arith
-      one_at_least (Article text filed moment) = omega arith
-      one_at_least (Expire group number) = omega arith
-
-  -- the calls of a change lead to the blocks that hold it
-  pub grown : (c : Change) (new : List Octets) → MayFollow host S c → Calls inodes (change_calls S c) blocks new → IsHeld host inodes new (S ++ c ∷ [])
-  grown c new may calls = record {
-    named = is.named;
-    room = calls.room;
-    held = spools_grow host inodes new (files_in (table inodes new)) S c (omega (arith, changes_are_few)) is.held.lawful may (record { rule = calls.rule; contents = refl }) (calls.files (files_of S) files_are);
-  }
+use Rattle.spool_files.specs.Kept.{AreFree, CanStand, StandsIn, spool_set}
+use Rattle.spool_growing.specs.Kept.{IsHeld, IsKept}
+use Rattle.spool_files.specs.View.{Adds, SpoolView}
+use Rattle.spool_growing.specs.Growing.{Dirties}
+use Rattle.spool_growing.proofs.Held.{enough, files_count}
 
 groups_made : (S : Spool) (c : Change) → length (groups (S ++ c ∷ [])) ≡ length (groups S) + length (filter_map group_made (record { serial = length S + 1; change = c } ∷ []))
 groups_made S c = ap (λ (gs : List _). length gs) (groups_more S c) ∙ length-append (groups S) (filter_map group_made (record { serial = length S + 1; change = c } ∷ []))

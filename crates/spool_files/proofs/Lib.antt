@@ -1,11 +1,6 @@
-pub mod Absent
-pub mod Dirty
 pub mod Held
-pub mod Grown
 pub mod Here
 pub mod Full
-pub mod Adding
-pub mod Filed
 pub mod Large
 pub mod Sound
 pub mod Texts

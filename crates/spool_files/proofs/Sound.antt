@@ -9,7 +9,7 @@ use Rattle.model.specs.Spool.{Spool}
 use Rattle.model.specs.declared.change.Change.{Change}
 use Rattle.model.proofs.HoldsOne.{high_few}
 use Rattle.spool_files.specs.View.{SpoolView}
-use Rattle.spool_files.proofs.Held.{changes_are_few}
+use Rattle.spool_growing.proofs.Held.{changes_are_few}
 
 few_prop : (m n : ℕ) → IsProp (m ≤ n)
 few_prop = hlevel props

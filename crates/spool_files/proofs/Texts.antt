@@ -8,7 +8,7 @@ use Rattle.model.proofs.Filing.{new_has_nothing}
 use Rattle.index.specs.View.{IndexView}
 use Rattle.spool_texts.specs.Texts.{HasNumbers}
 use Rattle.volume.specs.Volume.{VolumeView}
-use Rattle.spool_files.specs.Kept.{IsKept}
+use Rattle.spool_growing.specs.Kept.{IsKept}
 
 module _ (host : Octets) (inodes : ℕ) (volume : VolumeView) (index : IndexView) (places : FilePlaces) (S : Spool) (kept : IsKept host inodes volume index places S) where
   -- what is seen are the blocks of the cache

@@ -1,25 +1,18 @@
 -- What a spool keeps beside its blocks.
-use Rattle.std.specs.Prelude.{◌≡◌, ℕ, ◌+◌, IsTrue, List, length}
+use Rattle.std.specs.Prelude.{◌≡◌, ℕ, ◌+◌, ◌≤◌, List, length}
 use mathlib.Core.HLevel.{is_prop→PathP}
 use mathlib.Core.Path.{PathP}
 use Rattle.std.proofs.Math.Logic.{∥∥₁_elim, ∥∥₁_prop}
 use Rattle.std.proofs.Props.{props}
-use Rattle.model.specs.Files.{HasRoom}
-use Rattle.model.specs.Indexed.{ArePlaces, FilePlaces}
-use Rattle.model.specs.Layout.{Holds}
-use Rattle.model.specs.Names.{is_host}
+use Rattle.model.specs.Files.{free_blocks}
+use Rattle.model.specs.Indexed.{FilePlaces}
 use Rattle.model.specs.Spool.{Spool}
 use Rattle.model.specs.SpoolFiles.{files_of}
 use Rattle.model.specs.Stream.{Octets}
 use Rattle.model.proofs.HoldsOne.{holds_one}
-use Rattle.index.specs.View.{IndexView, Indexes}
+use Rattle.index.specs.View.{IndexView}
 use Rattle.volume.specs.Volume.{VolumeView}
-
--- blocks with room for so many inodes hold these changes of a host
-pub record IsHeld (host : Octets) (inodes : ℕ) (blocks : List Octets) (S : Spool) : Type 0 where
-  pub named : IsTrue (is_host host)
-  pub room : HasRoom inodes blocks
-  pub held : Holds host inodes blocks S
+use Rattle.spool_growing.specs.Kept.{IsHeld, IsKept}
 
 -- the changes that stand in the blocks
 pub record StandsIn (host : Octets) (inodes : ℕ) (blocks : List Octets) : Type 0 where
@@ -38,16 +31,13 @@ one_stands host inodes blocks p q = λ i. record { changes = same i; held = alon
   along : PathP (λ i. ∥ IsHeld host inodes blocks (same i) ∥₁) p.held q.held
   along = is_prop→PathP (λ i. ∥ IsHeld host inodes blocks (same i) ∥₁) (λ i. ∥∥₁_prop) p.held q.held
 
--- the blocks hold these changes; index and places are theirs; nothing is staged
-pub record IsKept (host : Octets) (inodes : ℕ) (volume : VolumeView) (index : IndexView) (places : FilePlaces) (S : Spool) : Type 0 where
-  pub is : IsHeld host inodes volume.cache S
-  pub seen : volume.seen ≡ volume.cache
-  pub indexed : Indexes S index
-  pub placed : ArePlaces inodes volume.cache S places
-
 -- so many inodes have no file
 abbrev pub AreFree : ℕ → ℕ → Spool → Type 0
 AreFree free inodes S = free + length (files_of S) ≡ inodes
+
+-- at least so many blocks are free
+abbrev pub AreLeft : ℕ → List Octets → Type 0
+AreLeft free blocks = free ≤ free_blocks blocks
 
 -- some changes stand so
 pub record CanStand (host : Octets) (inodes free : ℕ) (volume : VolumeView) (index : IndexView) (places : FilePlaces) : Type 0 where

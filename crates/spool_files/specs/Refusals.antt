@@ -13,10 +13,10 @@ use Rattle.spool_files.specs.declared.errors.AddError.TheVariants as add
 use Rattle.spool_files.specs.declared.errors.ExpireError.{ExpireError}
 use Rattle.spool_files.specs.declared.errors.ExpireError.TheVariants as expire
 
--- an answer where no test fails, and else that test's refusal or memory; a refusal leaves the spool as it was
+-- an answer or memory where no test fails, and else that test's refusal; a refusal leaves the spool as it was
 abbrev pub Tested : {T E : Type 0} → E → Option E → SpoolView → SpoolView → Result T E → (T → Type 0) → Type 0
 Tested memory refusal old new result done =
-    MatchResult result (λ answer. (refusal ≡ None) × done answer) (λ error. ((error ≡ memory) ⊎ (refusal ≡ Some error)) × (new ≡ old))
+    MatchResult result (λ answer. (refusal ≡ None) × done answer) (λ error. (((error ≡ memory) × (refusal ≡ None)) ⊎ (refusal ≡ Some error)) × (new ≡ old))
 
 abbrev pub is_full_for : SpoolView → Change → Bool
 is_full_for s c = is_full (length s.blocks) s.inodes s.changes (Some c)
@@ -37,7 +37,7 @@ expiry_refusal s g n = if has_number s.changes g n then (if is_full_for s (Expir
 abbrev pub article_refusal : SpoolView → Change → Option FileError
 article_refusal s c = if is_full_for s c then Some file.Full else None
 
--- a change was filed, for which there was room, or there was none, or memory was refused; a refusal leaves the spool as it was
+-- a change was filed or memory refused, where there was room, or there was none; a refusal leaves the spool as it was
 abbrev pub IsFiled : SpoolView → SpoolView → Change → Result (Unit {0}) FileError → Type 0
 IsFiled old new c result =
-    MatchResult result (λ done. (is_full_for old c ≡ false) × Adds old new c) (λ error. ((error ≡ file.Memory) ⊎ ((error ≡ file.Full) × (is_full_for old c ≡ true))) × (new ≡ old))
+    MatchResult result (λ done. (is_full_for old c ≡ false) × Adds old new c) (λ error. (((error ≡ file.Memory) × (is_full_for old c ≡ false)) ⊎ ((error ≡ file.Full) × (is_full_for old c ≡ true))) × (new ≡ old))

@@ -1,12 +1,10 @@
 -- The spool as its callers see it, and what a change leaves of it.
-use Rattle.std.specs.Prelude.{◌≡◌, ◌⊎◌, ◌↔◌, ℕ, ◌+◌, ◌≤◌, List, [], ◌∷◌, ◌++◌, length}
-use Rattle.std.specs.List.{Contains}
+use Rattle.std.specs.Prelude.{◌≡◌, ℕ, ◌+◌, List, [], ◌∷◌, ◌++◌}
 use Rattle.model.specs.Stream.{Octets}
 use Rattle.model.specs.Spool.{Spool}
-use Rattle.model.specs.Volume.{AreDistinct}
 use Rattle.model.specs.declared.change.Change.{Change}
-use Rattle.volume.specs.Volume.{Differs}
-use Rattle.spool_files.specs.Kept.{IsHeld}
+pub use Rattle.spool_growing.specs.Growing.{Dirties}
+use Rattle.spool_growing.specs.Kept.{IsHeld}
 
 -- its host, the inodes of its volume, the accepted changes, the cached blocks, which hold them, and the numbers of those that no
 -- batch has taken since they changed
@@ -21,14 +19,6 @@ pub record SpoolView : Type 0 where
 -- what holds of every spool
 abbrev pub IsSpool : SpoolView → Type 0
 IsSpool s = IsHeld s.host s.inodes s.blocks s.changes
-
--- there are as many blocks, and the dirty ones are those that were dirty and those whose octets differ now, none of them twice; a
--- change dirties at most 256
-pub record Dirties (old new : List Octets) (before after : List ℕ) : Type 0 where
-  pub size : length new ≡ length old
-  pub exactly : (k : ℕ) → Contains after k ↔ (Contains before k ⊎ Differs old new k)
-  pub distinct : AreDistinct after
-  pub few : length after ≤ length before + 256
 
 -- this change is accepted
 pub record Adds (before after : SpoolView) (c : Change) : Type 0 where

@@ -1,46 +1,38 @@
 //! The list of accepted changes, in files over the cached logical blocks, with an index and the places of the files in memory.
 #![tactic(auto)]
 
-ghost use Rattle.std.specs.Prelude.{◌≡◌, ◌⊎◌, ◌+◌, ◌-◌, ◌<◌, ◌≤◌, ◌||◌, ◌^◌, ◌&&◌, ◌∷◌, ◌++◌, nat_lt, nat_le, ℕ, List, [], Some, false, None, length, option_map, replicate, slice_index_or, IsTrue, IfOk, OnErr, OnOk};
-ghost use Rattle.std.specs.List.{All, flat_map, list_all, list_any};
-ghost use Rattle.lookups.specs.Held as held;
-ghost use Rattle.lookups.specs.Held.{article_with, gone_with, groups_now, known};
+ghost use Rattle.std.specs.Prelude.{◌≡◌, ◌⊎◌, ◌+◌, ◌-◌, ◌<◌, ◌≤◌, ◌||◌, ◌&&◌, nat_lt, ℕ, List, [], Some, false, None, length, replicate, slice_index_or, IsTrue, OnErr, OnOk};
+ghost use Rattle.std.specs.List.{All, flat_map, list_all};
 ghost use Rattle.model.specs.Calendar.{moment_limit};
-ghost use Rattle.model.specs.Lawful.{IsLawful, MayExpire, MayFile, MayMake, is_description_octet};
+ghost use Rattle.model.specs.Lawful.{MayExpire, MayFile, MayMake, is_description_octet};
 ghost use Rattle.model.specs.Layout.{Holds};
-ghost use Rattle.model.specs.Names.{is_group_name, is_host, is_wildmat, wildmat_matches};
+ghost use Rattle.model.specs.Names.{is_group_name, is_host};
 ghost use Rattle.model.specs.Room.{free_blocks_beside, free_inodes_beside};
-ghost use Rattle.model.specs.Files.{HasRoom, IsFileSystem, table};
-ghost use Rattle.model.specs.Indexed.{group_index};
-ghost use Rattle.model.specs.Spool.{Spool as Changes, by_id, by_number, expired_at, group_named, groups, is_here};
-ghost use Rattle.index.specs.Shown.{shown};
+ghost use Rattle.model.specs.Files.{HasRoom, IsFileSystem, free_blocks, table};
+ghost use Rattle.model.specs.Spool.{Spool as Changes, groups, is_here};
 ghost use Rattle.model.specs.SpoolFiles.{files_of};
 ghost use Rattle.model.specs.Volume.{AreDistinct, blocks_from, laid_over};
 ghost use Rattle.model.specs.declared.change.Change.TheVariants as changed;
 ghost use Rattle.spool_opening.specs.Replayed.{AreHere};
 ghost use Rattle.volume.specs.Volume.{AgreeOutside};
 
-mod articles;
 mod errors;
 mod files;
-mod growing;
-mod lines;
 mod look_ups;
 mod open;
 mod room;
-mod staging;
 mod stored;
 
 use article::{Article, Origin, ReadError};
 pub use errors::{AddError, ExpireError};
 use fs::free_block_count;
-use growing::{grow_by_article, grow_by_expiry, grow_by_group};
 use index::{Group, Index};
 use lookups::LookUps;
 use model::{Change, Text};
 use places::Places;
 use room::extends_large;
 use serving::FileError;
+use spool_growing::{grow_by_article, grow_by_expiry, grow_by_group};
 use std::alloc::{AllocError, Global};
 use std::marker::Model;
 use volume::{BatchBuf, Blocks, Volume};
@@ -51,8 +43,25 @@ const BLOCKS_ASKED: u32 = 256;
 /// The most groups on a server.
 const GROUPS: usize = 4096;
 
+/// The most blocks that a change takes.
+const BLOCKS_TAKEN: u32 = 146;
+
 /// The files of a group: its record, its numbers, its overview.
 const GROUP_FILES: u32 = 3;
+
+/// At least how many blocks are free after a change, where at least so many were before it. They are counted where fewer than a
+/// change asks for may be left.
+fn left_after(volume: &Volume, inodes: u32, free: u32) -> u32
+    requires room { HasRoom inodes volume.now.seen }
+    requires taken { free ≤ free_blocks volume.now.seen + 146 }
+    ensures { result ≤ free_blocks volume.now.seen }
+{
+    if BLOCKS_ASKED + BLOCKS_TAKEN <= free {
+        free - BLOCKS_TAKEN
+    } else {
+        free_block_count(volume, inodes)
+    }
+}
 
 /// The accepted changes of a host, in files, and the cache of the logical blocks that hold them.
 pub struct Spool {
@@ -60,6 +69,10 @@ pub struct Spool {
     host: Text,
     inodes: u32,
     free_inodes: u32,
+    // at least so many blocks are free
+    free_blocks: u32,
+    // no inode below is free
+    free_from: u32,
     volume: Volume,
     index: Index,
     places: Places,
@@ -76,6 +89,8 @@ impl Drop for Spool {
             host: _,
             inodes: _,
             free_inodes: _,
+            free_blocks: _,
+            free_from: _,
             volume: _,
             index: _,
             places: _,
@@ -84,19 +99,22 @@ impl Drop for Spool {
 }
 
 impl Model for Spool {
-    ghost use Rattle.spool_files.specs.Kept.{AreFree, IsKept};
+    ghost use Rattle.filing.specs.Calls.{AreUsed};
+    ghost use Rattle.model.specs.Files.{table};
+    ghost use Rattle.spool_files.specs.Kept.{AreFree, AreLeft};
+    ghost use Rattle.spool_growing.specs.Kept.{IsKept};
     ghost use Rattle.spool_files.specs.View.{SpoolView};
 
     ghost Value = { SpoolView };
 
     ghost view = { λ s. record { host = s.host; inodes = s.inodes; changes = s.stands.changes; blocks = s.volume.cache; dirty = s.volume.dirty; sound = s.stands.held } };
 
-    ghost invariant = { λ s. IsKept s.host s.inodes s.volume s.index s.places s.stands.changes × AreFree s.free_inodes s.inodes s.stands.changes };
+    ghost invariant = { λ s. IsKept s.host s.inodes s.volume s.index s.places s.stands.changes × AreFree s.free_inodes s.inodes s.stands.changes × AreLeft s.free_blocks s.volume.cache × AreUsed s.free_from (table s.inodes s.volume.cache) };
 }
 
 impl Spool {
     ghost use Rattle.spool_files.specs.Kept.{CanStand};
-    ghost use Rattle.spool_files.specs.Refusals.{IsFiled, Tested, article_refusal, expiry_refusal, group_refusal, has_number, is_full_for};
+    ghost use Rattle.spool_files.specs.Refusals.{Tested, article_refusal, expiry_refusal, group_refusal, has_number, is_full_for};
     ghost use Rattle.spool_files.specs.View.{Adds, IsSpool};
 
     /// The spool that stands in the blocks of a volume, with its index, the places of its files, and how many inodes are free.
@@ -116,11 +134,14 @@ impl Spool {
         ensures blocks { result.blocks ≡ volume.cache }
         ensures dirty { result.dirty ≡ volume.dirty }
     {
+        let free_blocks = free_block_count(&volume, inodes);
         Spool {
             alloc,
             host,
             inodes,
             free_inodes,
+            free_blocks,
+            free_from: 0,
             volume,
             index,
             places,
@@ -200,12 +221,22 @@ impl Spool {
         self.index.group(name).is_some()
     }
 
+    /// Whether too few blocks are free for a change. They are counted only where few may be left.
+    fn lacks_blocks(&self) -> bool
+        ensures { result ≡ nat_lt (free_blocks_beside (length self.now.blocks) self.now.inodes (files_of self.now.changes)) 256 }
+    {
+        if self.free_blocks >= BLOCKS_ASKED {
+            return false;
+        }
+        free_block_count(&self.volume, self.inodes) < BLOCKS_ASKED
+    }
+
     /// Whether too few blocks are free for a change, or too few inodes for its files.
     fn lacks_room(&self, files: u32) -> bool
         ensures { result ≡ (nat_lt (free_blocks_beside (length self.now.blocks) self.now.inodes (files_of self.now.changes)) 256
             || nat_lt (free_inodes_beside self.now.inodes (files_of self.now.changes)) files) }
     {
-        free_block_count(&self.volume, self.inodes) < BLOCKS_ASKED || self.free_inodes < files
+        self.lacks_blocks() || self.free_inodes < files
     }
 
     /// Whether there is no room for a group.
@@ -215,8 +246,8 @@ impl Spool {
         self.lacks_room(GROUP_FILES) || GROUPS <= self.index.groups().len()
     }
 
-    /// Adds a group and answers its serial. Refused as `Exists`, `Full` or `Memory`, in that order, but `Memory` may come before
-    /// the others. A refusal changes nothing.
+    /// Adds a group and answers its serial. Refused as `Exists`, `Full` or `Memory`, in that order. A refusal changes
+    /// nothing.
     pub fn add_group(
         &mut self,
         name: &[u8],
@@ -257,9 +288,10 @@ impl Spool {
         ensures ok { OnOk result (Adds self.old self.new (changed.Group name.now status description.now moment)) }
         ensures err { OnErr result (self.new ≡ self.old) }
     {
-        grow_by_group(
+        let from = grow_by_group(
             self.alloc,
             self.inodes,
+            self.free_from,
             &mut self.volume,
             &mut self.index,
             &mut self.places,
@@ -268,7 +300,10 @@ impl Spool {
             description,
             moment,
         )?;
+        self.free_from = from;
         self.free_inodes -= GROUP_FILES;
+        let left = left_after(&self.volume, self.inodes, self.free_blocks);
+        self.free_blocks = left;
         Ok(())
     }
 
@@ -280,8 +315,8 @@ impl Spool {
         self.lacks_room(1) || extends_large(&self.index, groups)
     }
 
-    /// Files an article, whose change may follow, in these groups, and answers its serial. Refused as `Full` or `Memory`, which may
-    /// come before that test. A refusal changes nothing.
+    /// Files an article, whose change may follow, in these groups, and answers its serial. Refused as `Full` or `Memory`, in
+    /// that order. A refusal changes nothing.
     pub fn add_article(
         &mut self,
         text: &[u8],
@@ -318,9 +353,10 @@ impl Spool {
         ensures ok { OnOk result (Adds self.old self.new (changed.Article article.now groups.now moment)) }
         ensures err { OnErr result (self.new ≡ self.old) }
     {
-        grow_by_article(
+        let from = grow_by_article(
             self.alloc,
             self.inodes,
+            self.free_from,
             &mut self.volume,
             &mut self.index,
             &mut self.places,
@@ -328,7 +364,10 @@ impl Spool {
             groups,
             moment,
         )?;
+        self.free_from = from;
         self.free_inodes -= 1;
+        let left = left_after(&self.volume, self.inodes, self.free_blocks);
+        self.free_blocks = left;
         Ok(())
     }
 
@@ -343,7 +382,7 @@ impl Spool {
     }
 
     /// Takes the articles of a group up to a number out of it, and answers the serial of that change. Refused as `NotFound`, `Full`
-    /// or `Memory`, in that order, but `Memory` may come before the others. A refusal changes nothing.
+    /// or `Memory`, in that order. A refusal changes nothing.
     pub fn expire(&mut self, name: &[u8], number: u32) -> Result<u64, ExpireError>
         ensures { Tested ExpireError.Memory (expiry_refusal self.old name.now number) self.old self.new result
             (λ serial. (serial ≡ length self.old.changes + 1) × Adds self.old self.new (changed.Expire name.now number)) }
@@ -367,16 +406,20 @@ impl Spool {
         ensures ok { OnOk result (Adds self.old self.new (changed.Expire name.now number)) }
         ensures err { OnErr result (self.new ≡ self.old) }
     {
-        grow_by_expiry(
+        let from = grow_by_expiry(
             self.alloc,
             self.inodes,
+            self.free_from,
             &mut self.volume,
             &mut self.index,
             &mut self.places,
             name,
             number,
         )?;
+        self.free_from = from;
         self.free_inodes -= 1;
+        let left = left_after(&self.volume, self.inodes, self.free_blocks);
+        self.free_blocks = left;
         Ok(())
     }
 }

@@ -1,5 +1,5 @@
 use Rattle.std.proofs.Common.{◌≡◌, ◌+◌, ◌<◌, ◌^◌, ap, sym, ◌∙◌, subst, arith, length}
-use Rattle.std.specs.Prelude.{Some, true}
+use Rattle.std.specs.Prelude.{Some, false, true}
 use Rattle.model.specs.Answer.{answer}
 use Rattle.model.specs.declared.session.Answer.{Answer}
 use Rattle.serving.specs.Served.{IsServed}
@@ -32,7 +32,7 @@ returns-in-Err-Full-clause-ok g c =
     let lacks = g.S.Files.lacks_room s in
     let adds = g.S.Files.adds s c.file.new.self in
     let makes : (answer host S x m t k).change ≡ Some c.in-Some.change = ap (λ (a : Answer). a.change) (sym c.in_ok-answer.ensures.answer) ∙ c.in-Some.is in
-    let room : lacks c.in-Some.change ≡ true = no_room (lacks c.in-Some.change ≡ true) c.in-Err-Full.field-0 c.in-Err-Full.field-0-is c.in-Err-Full.ensures.0 in
+    let room : lacks c.in-Some.change ≡ true = no_room (lacks c.in-Some.change ≡ true) (lacks c.in-Some.change ≡ false) c.in-Err-Full.field-0 c.in-Err-Full.field-0-is c.in-Err-Full.ensures.0 in
     let said = c.turned_away.ensures ∙ ap full_served c.in_ok-full-in-Err-Full.ensures in
     subst (λ (v : Served). IsServed host S lacks adds (c.file.new.self ≡ s) x m t v) (sym said)
     (is_full_served host S lacks adds (c.file.new.self ≡ s) x m t k c.in-Some.change c.in_ok-answer.ensures.mark makes room c.in-Err-Full.ensures.1)

@@ -1,4 +1,4 @@
-use Rattle.std.proofs.Common.{◌≡◌, inr, refl, ap, subst, ◌∙◌}
+use Rattle.std.proofs.Common.{◌≡◌, inl, inr, refl, ap, subst, ◌∙◌}
 use Rattle.model.specs.Stream.{Octets}
 use Rattle.model.specs.declared.change.Change.TheVariants.{Group}
 use Rattle.std.specs.Prelude.{Some, None}
@@ -8,7 +8,7 @@ use Rattle.spool_files.specs.declared.errors.AddError.TheVariants as add
 use Rattle.kernel.specs.Errors.{of_admin}
 use Rattle.kernel.specs.Kernel.{KernelView, Administers, Exists, Full, admin_refusal_of, early_refusal}
 use Rattle.kernel.specs.Stored.{kernel_of}
-use Rattle.kernel.proofs.AdminLaws.{administers, exists_when, few_dirty, full_when, none_when, passed, said}
+use Rattle.kernel.proofs.AdminLaws.{administers, no_group_memory, exists_when, few_dirty, full_when, none_when, passed, said, unsaid}
 use Rattle.kernel.proofs.KernelLaws.{kept_grown}
 use Rattle.kernel.proofs.Kernel.admin.Goals as goal
 
@@ -30,6 +30,16 @@ returns-in-Err-Full c =
     let fails = full_when s c.self.inside.durable c.self.inside.in_flight c.self.inside.halted c.self.inside.joined c.self.inside.seats.items c.as_slice.result.now c.args.status c.args.description.now c.args.moment early told in (
       inr (Full, subst (λ (t : KernelView × Octets). admin_refusal_of t.0 (Group t.1 c.args.status c.args.description.now c.args.moment) ≡ Some Full) (λ i. (c.self.view_is i, c.as_slice.ensures.value i)) fails, refl),
       ap (λ (r : SpoolView). kernel_of r c.self.inside.durable c.self.inside.in_flight c.self.inside.halted c.self.inside.joined c.self.inside.seats.items) c.in-Err-Full.ensures.1 ∙ c.self.view_is,
+    )
+
+pub returns-in-Err-Memory : goal.returns-in-Err-Memory
+returns-in-Err-Memory c =
+    let s : SpoolView = c.self.inside.spool in
+    let early : early_refusal (kernel_of s c.self.inside.durable c.self.inside.in_flight c.self.inside.halted c.self.inside.joined c.self.inside.seats.items) ≡ None = ap early_refusal c.self.view_is ∙ passed of_admin (early_refusal c.args.self.now) c.in_ok-may_administer.field-0 c.in_ok-may_administer.ensures in
+    let told : group_refusal s c.as_slice.result.now (Group c.as_slice.result.now c.args.status c.args.description.now c.args.moment) ≡ None = unsaid add.Memory c.in-Err-Memory.field-0 _ c.in-Err-Memory.field-0-is (no_group_memory s c.as_slice.result.now (Group c.as_slice.result.now c.args.status c.args.description.now c.args.moment)) c.in-Err-Memory.ensures.0 in
+    let passes = none_when s c.self.inside.durable c.self.inside.in_flight c.self.inside.halted c.self.inside.joined c.self.inside.seats.items c.as_slice.result.now c.args.status c.args.description.now c.args.moment early told in (
+      inl (refl, subst (λ (t : KernelView × Octets). admin_refusal_of t.0 (Group t.1 c.args.status c.args.description.now c.args.moment) ≡ None) (λ i. (c.self.view_is i, c.as_slice.ensures.value i)) passes),
+      ap (λ (r : SpoolView). kernel_of r c.self.inside.durable c.self.inside.in_flight c.self.inside.halted c.self.inside.joined c.self.inside.seats.items) c.in-Err-Memory.ensures.1 ∙ c.self.view_is,
     )
 
 pub invariant_of-self-2 : goal.invariant_of-self-2

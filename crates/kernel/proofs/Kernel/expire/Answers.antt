@@ -1,4 +1,4 @@
-use Rattle.std.proofs.Common.{◌≡◌, inr, ap, refl, subst, ◌∙◌}
+use Rattle.std.proofs.Common.{◌≡◌, inl, inr, ap, refl, subst, ◌∙◌}
 use Rattle.std.specs.Prelude.{Some, None}
 use Rattle.model.specs.Stream.{Octets}
 use Rattle.model.specs.declared.change.Change.TheVariants.{Expire}
@@ -8,7 +8,7 @@ use Rattle.spool_files.specs.declared.errors.ExpireError.TheVariants as expire
 use Rattle.kernel.specs.Errors.{of_expire}
 use Rattle.kernel.specs.Kernel.{KernelView, Administers, Full, NotFound, early_refusal, expire_refusal_of}
 use Rattle.kernel.specs.Stored.{kernel_of}
-use Rattle.kernel.proofs.AdminLaws.{administers, expires_when, few_dirty, no_room_when, not_found_when, passed, said}
+use Rattle.kernel.proofs.AdminLaws.{administers, no_expiry_memory, expires_when, few_dirty, no_room_when, not_found_when, passed, said, unsaid}
 use Rattle.kernel.proofs.KernelLaws.{kept_grown}
 use Rattle.kernel.proofs.Kernel.expire.Goals as goal
 
@@ -30,6 +30,16 @@ returns-in-Err-Full c =
     let fails = no_room_when s c.self.inside.durable c.self.inside.in_flight c.self.inside.halted c.self.inside.joined c.self.inside.seats.items c.as_slice.result.now c.args.number early told in (
       inr (Full, subst (λ (t : KernelView × Octets). expire_refusal_of t.0 (Expire t.1 c.args.number) ≡ Some Full) (λ i. (c.self.view_is i, c.as_slice.ensures.value i)) fails, refl),
       ap (λ (r : SpoolView). kernel_of r c.self.inside.durable c.self.inside.in_flight c.self.inside.halted c.self.inside.joined c.self.inside.seats.items) c.in-Err-Full.ensures.1 ∙ c.self.view_is,
+    )
+
+pub returns-in-Err-Memory : goal.returns-in-Err-Memory
+returns-in-Err-Memory c =
+    let s : SpoolView = c.self.inside.spool in
+    let early : early_refusal (kernel_of s c.self.inside.durable c.self.inside.in_flight c.self.inside.halted c.self.inside.joined c.self.inside.seats.items) ≡ None = ap early_refusal c.self.view_is ∙ passed of_expire (early_refusal c.args.self.now) c.in_ok-may_expire.field-0 c.in_ok-may_expire.ensures in
+    let told : expiry_refusal s c.as_slice.result.now c.args.number ≡ None = unsaid expire.Memory c.in-Err-Memory.field-0 _ c.in-Err-Memory.field-0-is (no_expiry_memory s c.as_slice.result.now c.args.number) c.in-Err-Memory.ensures.0 in
+    let passes = expires_when s c.self.inside.durable c.self.inside.in_flight c.self.inside.halted c.self.inside.joined c.self.inside.seats.items c.as_slice.result.now c.args.number early told in (
+      inl (refl, subst (λ (t : KernelView × Octets). expire_refusal_of t.0 (Expire t.1 c.args.number) ≡ None) (λ i. (c.self.view_is i, c.as_slice.ensures.value i)) passes),
+      ap (λ (r : SpoolView). kernel_of r c.self.inside.durable c.self.inside.in_flight c.self.inside.halted c.self.inside.joined c.self.inside.seats.items) c.in-Err-Memory.ensures.1 ∙ c.self.view_is,
     )
 
 pub invariant_of-self-2 : goal.invariant_of-self-2

@@ -1,4 +1,4 @@
-use Rattle.std.proofs.Common.{◌≡◌, inr, ℕ, true, false, List, length, refl, ◌∙◌, sym, subst}
+use Rattle.std.proofs.Common.{◌≡◌, inl, inr, ℕ, true, false, List, length, refl, ◌∙◌, sym, subst}
 use Rattle.model.specs.Room.{is_full_for}
 use Rattle.model.specs.declared.change.Change.{Change}
 use Rattle.model.specs.declared.change.Change.TheVariants.{Article}
@@ -33,6 +33,22 @@ push_article-requires-clause-room c =
 
 pub unreachable-requires : goal.unreachable-requires
 unreachable-requires c = no_cause_there _ _ c.requires.carried (c.in-Err-Bad.ensures.bad c.in-Err-Bad.field-0-0 c.in-Err-Bad.field-0-is)
+
+pub returns-in-Err-Memory : goal.returns-in-Err-Memory
+returns-in-Err-Memory c =
+    let s = c.args.self.now in
+    let its : Change = Article c.args.text.now c.args.groups.now c.args.moment in
+    let room : is_full_for (length s.blocks) s.inodes s.changes its ≡ false =
+    full_any_article (length s.blocks) s.inodes s.changes c.args.text.now c.args.groups.now c.args.moment ∙ sym c.is_full_for_article.ensures ∙ c.if-is_full_for_article.false in
+    (inl (refl, article_refused s its false room), refl)
+
+pub returns : goal.returns
+returns c =
+    let s = c.args.self.now in
+    let its : Change = Article c.args.text.now c.args.groups.now c.args.moment in
+    let room : is_full_for (length s.blocks) s.inodes s.changes its ≡ false =
+    full_any_article (length s.blocks) s.inodes s.changes c.args.text.now c.args.groups.now c.args.moment ∙ sym c.is_full_for_article.ensures ∙ c.if-is_full_for_article.false in
+    (inl (refl, article_refused s its false room), c.in-Err.ensures.err)
 
 pub returns-in-Ok-push_article : goal.returns-in-Ok-push_article
 returns-in-Ok-push_article c =

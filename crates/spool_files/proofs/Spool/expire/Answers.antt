@@ -1,4 +1,4 @@
-use Rattle.std.proofs.Common.{◌≡◌, inr, true, false, length, refl, ◌∙◌, sym}
+use Rattle.std.proofs.Common.{◌≡◌, inl, inr, true, false, length, refl, ◌∙◌, sym}
 use Rattle.model.specs.Room.{is_full_for}
 use Rattle.model.specs.declared.change.Change.TheVariants.{Expire}
 use Rattle.spool_files.specs.Refusals.{has_number}
@@ -16,6 +16,13 @@ pub push_expiry-requires-clause-room : goal.push_expiry-requires-clause-room
 push_expiry-requires-clause-room c =
     let s = c.args.self.now in
     full_expiry (length s.blocks) s.inodes s.changes c.args.name.now c.args.number ∙ sym c.lacks_room.ensures ∙ c.if-lacks_room.false
+
+pub returns-in-Err : goal.returns-in-Err
+returns-in-Err c =
+    let s = c.args.self.now in
+    let there : has_number s.changes c.args.name.now c.args.number ≡ true = sym c.has_number.ensures ∙ c.if-not-has_number.false in
+    let room : is_full_for (length s.blocks) s.inodes s.changes (Expire c.args.name.now c.args.number) ≡ false = full_expiry (length s.blocks) s.inodes s.changes c.args.name.now c.args.number ∙ sym c.lacks_room.ensures ∙ c.if-lacks_room.false in
+    (inl (refl, expiry_refused s c.args.name.now c.args.number true false there room), c.in-Err.ensures.err)
 
 pub returns-in-Ok : goal.returns-in-Ok
 returns-in-Ok c =

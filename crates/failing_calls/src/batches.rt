@@ -1,0 +1,224 @@
+//! Eight batches: a group, and then seven articles that are posted and committed one by one, so that the serial of each change
+//! is the number of its batch. The last batch leaves no closed segment.
+
+use sim_world::{Device, Sim, SimError};
+use std::alloc::{AllocError, Global};
+
+/// A part of the script.
+#[derive(Clone, Copy)]
+pub(crate) enum Part {
+    Line(&'static str),
+    /// The article with this serial is posted, and what is ready is released.
+    Post(u64),
+    /// A batch is carried to its commit, the kernel is told, and what is ready is released.
+    Commit,
+    /// The device is called until the journal is idle.
+    Settle,
+}
+
+const BATCHES: &[Part] = &[
+    Part::Line("group x.a y 1000000000 test"),
+    Part::Commit,
+    Part::Settle,
+    Part::Line("join"),
+    Part::Post(2),
+    Part::Commit,
+    Part::Post(3),
+    Part::Commit,
+    Part::Post(4),
+    Part::Commit,
+    Part::Post(5),
+    Part::Commit,
+    Part::Post(6),
+    Part::Commit,
+    Part::Post(7),
+    Part::Commit,
+    Part::Post(8),
+    Part::Commit,
+];
+
+/// The eight batches, each to its commit. A function, so that no proof of a test reads them; and so below.
+pub(crate) fn batches() -> &'static [Part] {
+    BATCHES
+}
+
+const SETTLING: &[Part] = &[Part::Settle];
+
+/// The images of all batches are carried home after them, and the gates are closed.
+pub(crate) fn settling() -> &'static [Part] {
+    SETTLING
+}
+
+const HEAD: &[&str] = &[
+    "line 1 POST",
+    "exec 1 1000000000",
+    "line 1 Path: p!not-for-mail",
+    "line 1 Date: Sun, 09 Sep 2001 01:46:40 +0000",
+];
+
+const REST: &[&str] = &[
+    "line 1 From: a@example.org",
+    "line 1 Newsgroups: x.a",
+    "line 1 Subject: one",
+    "line 1",
+    "line 1 hi",
+    "line 1 .",
+    "exec 1 1000000000",
+    "release",
+];
+
+/// The lines of a post on both sides of that with its id.
+fn lines() -> (&'static [&'static str], &'static [&'static str]) {
+    (HEAD, REST)
+}
+
+/// The article with this serial, as it is sent to a client.
+fn article(alloc: Global, serial: u64) -> Result<String, AllocError> {
+    format!(in alloc;
+        "Path: p!not-for-mail\r\nDate: Sun, 09 Sep 2001 01:46:40 +0000\r\nMessage-ID: <{serial}@a.example>\r\nFrom: a@example.org\r\nNewsgroups: x.a\r\nSubject: one\r\n\r\nhi\r\n.\r\n"
+    )
+}
+
+/// What the calls of the device came to.
+#[derive(Clone, Copy, Debug, Drop, PartialEq)]
+pub(crate) struct Calls {
+    /// How many batches were committed.
+    pub(crate) commits: u64,
+    /// How many calls failed.
+    pub(crate) faults: u64,
+}
+
+impl Calls {
+    pub(crate) fn none() -> Calls {
+        Calls {
+            commits: 0,
+            faults: 0,
+        }
+    }
+
+    fn note(&mut self, answer: &str) {
+        if answer == "E1 Fault" {
+            self.faults = self.faults.wrapping_add(1);
+        }
+        if answer.starts_with("Committed(") {
+            self.commits = self.commits.wrapping_add(1);
+        }
+    }
+}
+
+/// More calls than a batch has with all that are carried home.
+const MANY_CALLS: u64 = 100;
+
+/// Plays parts of the script, whatever is answered.
+pub(crate) fn play(
+    alloc: Global,
+    sim: &mut Sim,
+    parts: &[Part],
+    calls: &mut Calls,
+) -> Result<(), SimError> {
+    for part in parts {
+        play_part(alloc, sim, *part, calls)?;
+    }
+    Ok(())
+}
+
+fn play_part(alloc: Global, sim: &mut Sim, part: Part, calls: &mut Calls) -> Result<(), SimError> {
+    match part {
+        Part::Line(line) => tell(alloc, sim, line),
+        Part::Post(serial) => post(alloc, sim, serial),
+        Part::Commit => commit(alloc, sim, calls),
+        Part::Settle => carry(alloc, sim, calls),
+    }
+}
+
+fn tell(alloc: Global, sim: &mut Sim, line: &str) -> Result<(), SimError> {
+    let _answer = sim.tell(alloc, line)?;
+    Ok(())
+}
+
+fn tell_all(alloc: Global, sim: &mut Sim, lines: &[&str]) -> Result<(), SimError> {
+    for line in lines {
+        tell(alloc, sim, line)?;
+    }
+    Ok(())
+}
+
+fn post(alloc: Global, sim: &mut Sim, serial: u64) -> Result<(), SimError> {
+    let (head, rest) = lines();
+    let id = format!(in alloc; "line 1 Message-ID: <{serial}@a.example>")?;
+    tell_all(alloc, sim, head)?;
+    tell(alloc, sim, id.as_str())?;
+    tell_all(alloc, sim, rest)
+}
+
+fn commit(alloc: Global, sim: &mut Sim, calls: &mut Calls) -> Result<(), SimError> {
+    tell(alloc, sim, "take")?;
+    carry(alloc, sim, calls)?;
+    tell(alloc, sim, "told")?;
+    tell(alloc, sim, "release")
+}
+
+/// Calls the device until a call isn't answered as one that goes on.
+fn carry(alloc: Global, sim: &mut Sim, calls: &mut Calls) -> Result<(), SimError> {
+    for _ in 0..MANY_CALLS {
+        let answer = sim.tell(alloc, "dev")?;
+        if answer.as_str() != "Working" {
+            calls.note(answer.as_str());
+            return Ok(());
+        }
+    }
+    Err(SimError::NoEvent)
+}
+
+/// A device with a new volume over which these parts were played: each batch stands in an open segment.
+pub(crate) fn with_open_segments(alloc: Global, parts: &[Part]) -> Result<Device, SimError> {
+    let mut sim = Sim::new(alloc)?;
+    play(alloc, &mut sim, parts, &mut Calls::none())?;
+    Ok(sim.into_device())
+}
+
+/// The last change that a released reply depends on: each article's reply is `240`. With none that did, 0.
+fn claimed(sim: &Sim) -> u64 {
+    let released = sim.released(1);
+    let mut last = 0u64;
+    for at in 0..released.len() {
+        if released[at..].starts_with(b"\n240 ") {
+            last = last.max(1).wrapping_add(1);
+        }
+    }
+    last
+}
+
+/// Whether exactly the changes that were committed are durable, and no released reply depends on another.
+pub(crate) fn claims_no_more(sim: &Sim, calls: Calls) -> bool {
+    let (opened, durable, _) = sim.counts();
+    opened == 0 && durable == calls.commits && claimed(sim) <= calls.commits
+}
+
+/// Whether all seven articles were told as durable.
+pub(crate) fn claims_all(sim: &Sim) -> bool {
+    claimed(sim) == 8
+}
+
+/// Whether what was opened, and is durable, is the first changes of the script: those that were committed and at most one more.
+pub(crate) fn shows(alloc: Global, sim: &Sim, commits: u64) -> Result<bool, SimError> {
+    let (opened, durable, accepted) = sim.counts();
+    if opened < commits || opened.saturating_sub(commits) > 1 {
+        return Ok(false);
+    }
+    for serial in 1..=opened {
+        if !is_change(alloc, sim, serial)? {
+            return Ok(false);
+        }
+    }
+    Ok(durable == opened && accepted == opened)
+}
+
+/// Whether the change with this serial is that of the script.
+fn is_change(alloc: Global, sim: &Sim, serial: u64) -> Result<bool, SimError> {
+    if serial == 1 {
+        return Ok(sim.is_group(1, b"x.a"));
+    }
+    let sent = article(alloc, serial)?;
+    sim.is_article(alloc, serial, sent.as_bytes())
+}

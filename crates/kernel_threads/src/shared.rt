@@ -1,0 +1,93 @@
+//! A kernel under a lock, and two threads that post.
+
+use crate::posters::{ARTICLES, Poster};
+use crate::tally::{has_each_id, has_each_number};
+use journal::Journal;
+use kernel::{BatchBuf, Kernel};
+use lookups::LookUps;
+use memdisk::MemDisk;
+use names::{GroupName, is_host};
+use new_volume::{Plan, are_sizes, device_octets, format};
+use std::alloc::Global;
+use std::sync::{Mutex, Wait};
+use std::thread::{Threads, join};
+
+const HOST: &[u8] = b"news.example";
+
+const BLOCKS: u64 = 4096;
+
+const INODES: u64 = 256;
+
+/// How two posters went.
+#[derive(Clone, Copy, Debug, PartialEq, Eq)]
+pub(crate) struct Outcome {
+    /// How many changes there are: the group, and the articles.
+    pub(crate) changes: u64,
+    /// Each message-id names one of the changes, and no two the same one.
+    pub(crate) has_each_id: bool,
+    /// So do the numbers of the group.
+    pub(crate) has_each_number: bool,
+    /// A post was put off, and passed once a batch was taken.
+    pub(crate) was_put_off: bool,
+}
+
+/// What the volume is. The sizes are no constants here, as a proof would count with them.
+fn plan(blocks: u64, inodes: u64) -> Option<Plan<'static>> {
+    if !is_host(HOST) || !are_sizes(blocks, inodes) {
+        return None;
+    }
+    Some(Plan {
+        host: HOST,
+        blocks,
+        inodes,
+    })
+}
+
+/// The kernel of a new volume.
+fn new_kernel(alloc: Global) -> Option<Kernel> {
+    let plan = plan(BLOCKS, INODES)?;
+    let Ok(disk) = MemDisk::new(alloc, device_octets(plan.blocks)) else {
+        return None;
+    };
+    let Ok(disk) = format(alloc, disk, &plan) else {
+        return None;
+    };
+    let Ok(mut journal) = Journal::open(alloc, disk) else {
+        return None;
+    };
+    Kernel::open(alloc, &mut journal).ok()
+}
+
+/// Whether the group `x.a` was made, and its change is durable.
+fn makes_group<R: Wait>(rt: &R, alloc: Global, kernel: &Mutex<Kernel>) -> Option<()> {
+    let name = GroupName::read(b"x.a").ok()?;
+    let mut batch = BatchBuf::new(alloc).ok()?;
+    let mut kernel = kernel.lock(rt);
+    kernel
+        .admin(alloc, &name, b'y', b"test", 1_000_000_000)
+        .ok()?;
+    let ticket = kernel.take_batch(&mut batch)?;
+    kernel.committed(ticket).ok()
+}
+
+/// Two posters share a new kernel, each in a thread of its own.
+pub(crate) fn share<R: Threads + Wait + Sync>(rt: &R, alloc: Global) -> Option<Outcome> {
+    let kernel = Mutex::new(new_kernel(alloc)?);
+    makes_group(rt, alloc, &kernel)?;
+    let one = Poster::join(rt, alloc, &kernel)?;
+    let two = Poster::join(rt, alloc, &kernel)?;
+    let (one, two) = join(
+        rt,
+        || one.post_all(rt, alloc, 1),
+        || two.post_all(rt, alloc, 1 + ARTICLES),
+    );
+    let taken = one?.saturating_add(two?);
+    let kernel = kernel.lock(rt);
+    let spool = kernel.spool();
+    Some(Outcome {
+        changes: spool.len(),
+        has_each_id: has_each_id(alloc, spool),
+        has_each_number: has_each_number(alloc, spool),
+        was_put_off: taken != 0,
+    })
+}

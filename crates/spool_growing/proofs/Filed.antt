@@ -1,0 +1,140 @@
+-- An article is filed.
+use Rattle.std.proofs.Common.{◌≡◌, ◌≢◌, ◌≤◌, ℕ, suc, ◌+◌, ◌*◌, List, [], ◌∷◌, ◌++◌, length, get_or, map, refl, sym, ◌∙◌, ap, subst, arith}
+use Rattle.std.specs.Prelude.{Option, Some, None, flat_map, option_map, slice_get, unwrap_or}
+use Rattle.std.proofs.lemmas.List.Sums.{sum_by-cons}
+use Rattle.model.specs.Stream.{Octets}
+use Rattle.model.specs.Files.{File, free_blocks, table}
+use Rattle.model.specs.Indexed.{FilePlaces}
+use Rattle.model.specs.Lawful.{MayFile}
+use Rattle.model.specs.Records.{article_record}
+use Rattle.model.specs.Room.{blocks_taken}
+use Rattle.model.specs.Spool.{Spool}
+use Rattle.model.specs.SpoolFiles.{FileCall, Create, Append, article_name, change_calls, filing_calls, making_calls}
+use Rattle.model.specs.declared.change.Change.{Change}
+use Rattle.model.specs.declared.change.Change.TheVariants.{Article}
+use Rattle.fs.specs.Calls.{IsFileAt, IsThere}
+use Rattle.fs.specs.Touches.{Touches, touched_by_growth}
+use Rattle.fs_layout.proofs.Touching.{touches_more, touches_then}
+use Rattle.filing.specs.declared.Piece.{Piece}
+use Rattle.filing.specs.Calls.{AppendsFirst, Calls, MakesAt, MayAllGrow, append_call}
+use Rattle.filing.proofs.Calling.{calls_then, still_used}
+use Rattle.places.specs.Places.{AreNamed, name_of, with_change}
+use Rattle.places.proofs.Named.{are_by_name, grow_by_change, have_names}
+use Rattle.index.specs.View.{IndexView, Indexes}
+use Rattle.volume.specs.Volume.{VolumeView}
+use Rattle.spool_growing.specs.Articles.{ArePieces}
+use Rattle.spool_growing.specs.Growing.{FilesArticle, IsGrown}
+use Rattle.spool_growing.specs.Kept.{IsHeld, IsKept}
+use Rattle.spool_growing.specs.Growing.{Dirties}
+use Rattle.spool_growing.proofs.Absent.{lacks_serial}
+use Rattle.spool_growing.proofs.Adding.{pieces_call}
+use Rattle.spool_growing.proofs.Held.{changes_are_few, few_taken, grown, not_there}
+use Rattle.std.proofs.lemmas.List.{take_all}
+
+pub lacks_article : (host : Octets) (inodes : ℕ) (blocks : List Octets) (S : Spool) → IsHeld host inodes blocks S → ¬ (IsThere (table inodes blocks) (article_name (length S + 1)))
+lacks_article host inodes blocks S is = not_there host inodes blocks S is (article_name (length S + 1)) (λ f has. (lacks_serial S (omega (arith, changes_are_few host inodes blocks S is)) f has).article)
+
+-- ---- after its file is made
+
+same_calls : (f h : Piece → FileCall) (ps : List Piece) → ((k : ℕ) (p : Piece) → slice_get ps k ≡ Some p → f p ≡ h p) → map f ps ≡ map h ps
+same_calls f h [] same = refl
+same_calls f h (p ∷ ps) same = λ i. same 0 p refl i ∷ same_calls f h ps (λ k q at. same (suc k) q at) i
+
+module _ (inodes at : ℕ) (name octets : Octets) (pieces : List Piece) (old mid : List Octets) (made : MakesAt inodes at name octets old mid) (lacks : ¬ (IsThere (table inodes old) name)) (may : MayAllGrow inodes pieces old) where
+  -- the new file is no piece's
+  other_file : (k : ℕ) (p : Piece) → slice_get pieces k ≡ Some p → p.at ≢ at
+  other_file k p is same =
+      let its = may.each k p is in
+      let still : name_of (table inodes mid) p.at ≡ Some its.name = made.calls.names p.at its.name (ap (option_map (λ (f : File). f.name)) its.there) in
+      let here : name_of (table inodes mid) p.at ≡ Some name = ap (name_of (table inodes mid)) same ∙ ap (option_map (λ (f : File). f.name)) made.there in
+      let one : its.name ≡ name = ap (λ (o : Option Octets). unwrap_or o []) (sym still ∙ here) in
+      lacks (p.at, its.content, subst (λ (q : Octets). IsFileAt (table inodes old) p.at q its.content) one its.there)
+
+  same_file : (k : ℕ) (p : Piece) → slice_get pieces k ≡ Some p → get_or (table inodes mid) p.at None ≡ get_or (table inodes old) p.at None
+  same_file k p is = made.others p.at (other_file k p is)
+
+  pub may_still : MayAllGrow inodes pieces mid
+  may_still = record {
+    each = λ k p is. let its = may.each k p is in record { name = its.name; content = its.content; there = same_file k p is ∙ its.there; small = its.small };
+    small = may.small;
+    apart = may.apart;
+  }
+
+  pub still_free : length octets ≤ 262821 → length pieces ≤ 32 → 256 ≤ free_blocks old → 3 * length pieces ≤ free_blocks mid
+  still_free short few free =
+      omega (arith, short, few, free, made.calls.free, sum_by-cons blocks_taken (Create name) (Append name octets ∷ []), sum_by-cons blocks_taken (Append name octets) [])
+
+  -- the calls of the pieces
+  calls_of : map (append_call (table inodes mid)) pieces ≡ map (append_call (table inodes old)) pieces
+  calls_of = same_calls (append_call (table inodes mid)) (append_call (table inodes old)) pieces (λ k p is. ap (λ (o : Option File). Append (unwrap_or (option_map (λ (f : File). f.name) o) []) p.octets.items) (same_file k p is))
+
+  pub files_article : (new : List Octets) → AppendsFirst inodes pieces (length pieces) mid new → FilesArticle inodes at name octets pieces old new
+  files_article new appends =
+      let all : Calls inodes (map (append_call (table inodes mid)) pieces) mid new = subst (λ (ps : List Piece). Calls inodes (map (append_call (table inodes mid)) ps) mid new) (take_all (length pieces) pieces (omega arith)) appends.calls in
+      record {
+        calls = subst (λ (cs : List FileCall). Calls inodes (making_calls name octets ++ cs) old new) calls_of (calls_then inodes (making_calls name octets) (map (append_call (table inodes mid)) pieces) old mid new made.calls all);
+        article = appends.calls.names at name (ap (option_map (λ (f : File). f.name)) made.there);
+        used = still_used at (table inodes mid) (table inodes new) appends.calls.names made.used;
+      }
+
+  pub article_touches : (new : List Octets) → length octets ≤ 262821 → length pieces ≤ 32 → Touches (2 + touched_by_growth 0 (length octets)) old mid → Touches (5 * length pieces) mid new → Touches 254 old new
+  article_touches new short few first second =
+      let reached = 2 + touched_by_growth 0 (length octets) in
+      touches_more (reached + 5 * length pieces) 254 old new (omega (arith, short, few)) (touches_then reached (5 * length pieces) old mid new first second)
+
+-- ---- the whole
+
+-- the calls of an article that is filed
+article_is_filed : (inodes : ℕ) (S : Spool) (text : Octets) (filed : List Octets) (moment at : ℕ) (octets : Octets) (pieces : List Piece) (old new : List Octets)
+    → octets ≡ article_record (record { serial = length S + 1; text = text; groups = filed; moment = moment })
+    → ArePieces (table inodes old) S text filed pieces
+    → FilesArticle inodes at (article_name (length S + 1)) octets pieces old new → Calls inodes (change_calls S (Article text filed moment)) old new
+article_is_filed inodes S text filed moment at octets pieces old new says are made =
+    let name = article_name (length S + 1) in
+    let lines : Calls inodes (making_calls name octets ++ flat_map (filing_calls S text) filed) old new = subst (λ (cs : List FileCall). Calls inodes (making_calls name octets ++ cs) old new) (pieces_call (table inodes old) S text filed pieces are) made.calls in
+    subst (λ (o : Octets). Calls inodes (making_calls name o ++ flat_map (filing_calls S text) filed) old new) says lines
+
+pub kept_with_article : (host : Octets) (inodes : ℕ) (v w : VolumeView) (i j : IndexView) (p q : FilePlaces) (S : Spool) (text : Octets) (filed : List Octets) (moment at : ℕ) (octets : Octets) (pieces : List Piece)
+    → IsKept host inodes v i p S → MayFile host S text filed moment
+    → octets ≡ article_record (record { serial = length S + 1; text = text; groups = filed; moment = moment })
+    → ArePieces (table inodes v.cache) S text filed pieces
+    → FilesArticle inodes at (article_name (length S + 1)) octets pieces v.cache w.cache → q ≡ with_change at p
+    → Indexes (S ++ Article text filed moment ∷ []) j → w.seen ≡ w.cache
+    → IsKept host inodes w j q (S ++ Article text filed moment ∷ [])
+kept_with_article host inodes v w i j p q S text filed moment at octets pieces kept may says are made places indexed seen =
+    let c : Change = Article text filed moment in
+    let calls = article_is_filed inodes S text filed moment at octets pieces v.cache w.cache says are made in
+    let is = grown host inodes v.cache S kept.is c w.cache may calls in
+    let placed = grow_by_change (table inodes v.cache) (table inodes w.cache) S c p at refl (have_names inodes v.cache S p kept.placed) made.calls.names made.article in
+    record {
+      is = is;
+      seen = seen;
+      indexed = indexed;
+      placed = are_by_name host inodes w.cache (S ++ c ∷ []) q is.held (subst (AreNamed (table inodes w.cache) (S ++ c ∷ [])) (sym places) placed);
+    }
+
+pub article_grown : (inodes : ℕ) (v m w : VolumeView) (i j : IndexView) (p q : FilePlaces) (text : Octets) (filed : List Octets) (moment at serial : ℕ) (octets : Octets) (pieces : List Piece)
+    → v.seen ≡ v.cache → FilesArticle inodes at (article_name serial) octets pieces v.seen m.seen → Dirties v.cache w.cache v.dirty w.dirty → w.cache ≡ m.seen → w.seen ≡ m.seen
+    → q ≡ with_change at p
+    → ((host : Octets) (S : Spool) → MayFile host S text filed moment → IsKept host inodes v i p S → Indexes (S ++ Article text filed moment ∷ []) j)
+    → ((S : Spool) → Indexes S i → serial ≡ length S + 1)
+    → octets ≡ article_record (record { serial = serial; text = text; groups = filed; moment = moment })
+    → ((host : Octets) (S : Spool) → IsKept host inodes v i p S → ArePieces (table inodes v.cache) S text filed pieces)
+    → IsGrown inodes v w i j p q (Article text filed moment)
+article_grown inodes v m w i j p q text filed moment at serial octets pieces seen made dirties cache now places indexed serials says are =
+    let made' : FilesArticle inodes at (article_name serial) octets pieces v.cache w.cache =
+    subst (λ (bs : List Octets). FilesArticle inodes at (article_name serial) octets pieces v.cache bs) (sym cache) (subst (λ (bs : List Octets). FilesArticle inodes at (article_name serial) octets pieces bs m.seen) seen made) in
+    let said : (S : Spool) → serial ≡ length S + 1 → octets ≡ article_record (record { serial = length S + 1; text = text; groups = filed; moment = moment }) =
+    λ S its. says ∙ ap (λ (n : ℕ). article_record (record { serial = n; text = text; groups = filed; moment = moment })) its in
+    let named : (S : Spool) → serial ≡ length S + 1 → FilesArticle inodes at (article_name (length S + 1)) octets pieces v.cache w.cache =
+    λ S its. subst (λ (n : ℕ). FilesArticle inodes at (article_name n) octets pieces v.cache w.cache) its made' in
+    record {
+      kept = λ host S kept may.
+          let its = serials S kept.indexed in
+          kept_with_article host inodes v w i j p q S text filed moment at octets pieces kept may (said S its) (are host S kept) (named S its) places (indexed host S may kept) (now ∙ sym cache);
+      dirties = dirties;
+      taken = λ host S kept may.
+          let its = serials S kept.indexed in
+          few_taken host inodes v.cache S kept.is (Article text filed moment) w.cache may
+          (article_is_filed inodes S text filed moment at octets pieces v.cache w.cache (said S its) (are host S kept) (named S its));
+    }

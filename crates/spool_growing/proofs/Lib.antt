@@ -1,0 +1,7 @@
+pub mod Absent
+pub mod Dirty
+pub mod Held
+pub mod Grown
+pub mod Adding
+pub mod Filed
+pub mod Short

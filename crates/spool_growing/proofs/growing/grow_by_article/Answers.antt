@@ -1,0 +1,130 @@
+use Rattle.std.proofs.Common.{◌≡◌, ℕ, ◌+◌, List, [], ◌∷◌, ◌++◌, get_or, length, ◌∙◌, sym, subst, ap, arith}
+use Rattle.std.proofs.lemmas.List.{get_or_default}
+use Rattle.model.specs.Stream.{Octets}
+use Rattle.model.specs.Lawful.{MayFile}
+use Rattle.model.specs.Records.{article_record}
+use Rattle.model.specs.Files.{table}
+use Rattle.model.specs.SpoolFiles.{article_name}
+use Rattle.model.specs.declared.change.Change.TheVariants.{Article}
+use Rattle.model.proofs.Asking.{changes_ask_few}
+use Rattle.model.proofs.HoldsOne.{carried_size}
+use Rattle.fs.specs.Calls.{IsThere}
+use Rattle.filing.specs.declared.Piece.{Piece}
+use Rattle.filing.specs.Calls.{AreUsed, MayAllGrow}
+use Rattle.index.specs.Filing.{AreLineSizes}
+use Rattle.index.specs.View.{Indexes}
+use Rattle.index.proofs.Callers.{few_groups, overviews_end}
+use Rattle.spool_growing.specs.Articles.{ArePieces}
+use Rattle.spool_growing.specs.Growing.{HasFree}
+use Rattle.spool_growing.proofs.Adding.{filed_here, pieces_count, pieces_may_grow}
+use Rattle.spool_growing.proofs.Filed.{article_grown, lacks_article}
+use Rattle.spool_growing.proofs.Grown.{applied_dirties}
+use Rattle.spool_growing.proofs.Held.{changes_are_few, enough}
+use Rattle.spool_growing.proofs.Short.{here_is_short}
+use Rattle.spool_growing.proofs.growing.grow_by_article.Goals as goal
+
+pub overflow_add-serial : goal.overflow_add-serial
+overflow_add-serial c =
+    let ready = c.requires.ready in
+    omega (arith, c.len-serial.ensures ready.changes ready.kept.indexed, changes_are_few ready.host c.args.inodes c.args.volume.now.cache ready.changes ready.kept.is)
+
+pub record_of-requires-clause-text : goal.record_of-requires-clause-text
+record_of-requires-clause-text c = omega (arith, carried_size c.args.article.now c.requires.ready.may.carried)
+
+pub record_of-requires-clause-count : goal.record_of-requires-clause-count
+record_of-requires-clause-count c =
+    let ready = c.requires.ready in
+    omega (arith, few_groups ready.host ready.changes c.args.article.now c.args.groups.now c.args.moment ready.may)
+
+pub record_of-requires-clause-names : goal.record_of-requires-clause-names
+record_of-requires-clause-names c = λ k d low.
+    let ready = c.requires.ready in
+    let g = get_or c.args.groups.now k d in
+    let here = filed_here ready.host ready.changes c.args.article.now c.args.groups.now c.args.moment g ready.may (k, low, get_or_default c.args.groups.now k g d low) in
+    omega (arith, here_is_short ready.host ready.changes g ready.kept.is.held.lawful here)
+
+pub file_article-requires-clause-short : goal.file_article-requires-clause-short
+file_article-requires-clause-short c =
+    let ready = c.requires.ready in
+    let serial : c.len-serial.result ≡ length ready.changes = c.len-serial.ensures ready.changes ready.kept.indexed in
+    let says : c.deref.result.now ≡ article_record (record { serial = length ready.changes + 1; text = c.args.article.now; groups = c.args.groups.now; moment = c.args.moment }) =
+    c.deref.ensures.value ∙ c.in_ok-octets.ensures
+    ∙ ap (λ (n : ℕ). article_record (record { serial = n + 1; text = c.args.article.now; groups = c.args.groups.now; moment = c.args.moment })) serial in
+    let few = changes_ask_few ready.host ready.changes (Article c.args.article.now c.args.groups.now c.args.moment)
+    (changes_are_few ready.host c.args.inodes c.args.volume.now.cache ready.changes ready.kept.is) ready.kept.is.held.lawful ready.may in
+    omega (arith, ap (λ (o : Octets). length o) says, few.made)
+
+pub file_article-requires-clause-lacks : goal.file_article-requires-clause-lacks
+file_article-requires-clause-lacks c =
+    let ready = c.requires.ready in
+    let serial : c.len-serial.result ≡ length ready.changes = c.len-serial.ensures ready.changes ready.kept.indexed in
+    subst (λ (n : ℕ). ¬ (IsThere (table c.args.inodes c.args.volume.now.seen) (article_name (n + 1)))) (sym serial)
+    (subst (λ (bs : List Octets). ¬ (IsThere (table c.args.inodes bs) (article_name (length ready.changes + 1)))) (sym ready.kept.seen) (lacks_article ready.host c.args.inodes c.args.volume.now.cache ready.changes ready.kept.is))
+
+pub file_article-requires-clause-free : goal.file_article-requires-clause-free
+file_article-requires-clause-free c =
+    let ready = c.requires.ready in
+    subst (λ (bs : List Octets). HasFree c.args.inodes 1 bs) (sym ready.kept.seen) (enough ready.host c.args.inodes c.args.volume.now.cache ready.changes ready.kept.is (Article c.args.article.now c.args.groups.now c.args.moment) ready.room)
+
+pub file_article-requires-clause-grow : goal.file_article-requires-clause-grow
+file_article-requires-clause-grow c =
+    let ready = c.requires.ready in
+    let serial = ap (λ (n : ℕ). n + 1) (c.len-serial.ensures ready.changes ready.kept.indexed) in
+    let are = c.in_ok-lines.ensures.pieces ready.changes ready.kept.indexed serial c.args.inodes c.args.volume.now.cache ready.kept.placed in
+    let may = pieces_may_grow ready.host c.args.inodes c.args.volume.now.cache ready.changes c.args.article.now c.args.groups.now c.args.moment c.in_ok-lines.lines.pieces.items ready.kept.is ready.may ready.room are in
+    subst (λ (ps : List Piece). MayAllGrow c.args.inodes ps c.args.volume.now.seen) (sym c.deref-2.ensures.value)
+    (subst (λ (bs : List Octets). MayAllGrow c.args.inodes c.in_ok-lines.lines.pieces.items bs) (sym ready.kept.seen) may)
+
+pub file_article-requires-clause-few : goal.file_article-requires-clause-few
+file_article-requires-clause-few c =
+    let ready = c.requires.ready in
+    let serial = ap (λ (n : ℕ). n + 1) (c.len-serial.ensures ready.changes ready.kept.indexed) in
+    let are = c.in_ok-lines.ensures.pieces ready.changes ready.kept.indexed serial c.args.inodes c.args.volume.now.cache ready.kept.placed in
+    omega (
+      arith,
+      ap (λ (ps : List Piece). length ps) c.deref-2.ensures.value,
+      pieces_count (table c.args.inodes c.args.volume.now.cache) ready.changes c.args.article.now c.args.groups.now c.in_ok-lines.lines.pieces.items are,
+      few_groups ready.host ready.changes c.args.article.now c.args.groups.now c.args.moment ready.may,
+    )
+
+pub push_article-requires-clause-few : goal.push_article-requires-clause-few
+push_article-requires-clause-few c =
+    let ready = c.requires.ready in
+    omega (arith, few_groups ready.host ready.changes c.args.article.now c.args.groups.now c.args.moment ready.may, ap (λ (gs : List Octets). length gs) c.in_ok-filed.ensures)
+
+pub push_article-requires-clause-fits : goal.push_article-requires-clause-fits
+push_article-requires-clause-fits c =
+    let ready = c.requires.ready in
+    overviews_end ready.host c.args.inodes c.args.volume.now.cache ready.changes c.args.index.now ready.kept.is.held ready.kept.indexed
+
+pub returns-clause-grown : goal.returns-clause-grown
+returns-clause-grown c =
+    let ready = c.requires.ready in
+    let v = c.args.volume.now in
+    let m = c.file_article.new.blocks in
+    let w = c.apply.new.self in
+    let text = c.args.article.now in
+    let groups = c.args.groups.now in
+    let lines = c.in_ok-lines.lines in
+    article_grown c.args.inodes v m w c.args.index.now c.push_article.new.self c.args.places.now c.push_change.new.self
+    text groups c.args.moment c.in-Ok.at (c.len-serial.result + 1) c.deref.result.now c.deref-2.result.now
+    ready.kept.seen c.in-Ok.ensures.filed (applied_dirties v m w ready.kept.seen c.in-Ok.ensures.kept c.in-Ok.ensures.filed.calls.count c.in-Ok.ensures.touches c.apply.ensures.cache c.apply.ensures.dirty c.apply.ensures.distinct)
+    c.apply.ensures.cache c.apply.ensures.seen c.in-Ok-push_change.ensures.ok
+    (λ host S may kept.
+    let serial = ap (λ (n : ℕ). n + 1) (c.len-serial.ensures S kept.indexed) in
+    let sizes : AreLineSizes S text groups c.deref-3.result.now = subst (λ (ns : List ℕ). AreLineSizes S text groups ns) (sym c.deref-3.ensures.value) (c.in_ok-lines.ensures.sizes S kept.indexed serial c.args.inodes v.cache kept.placed) in
+    subst (λ (gs : List Octets). Indexes (S ++ Article text gs c.args.moment ∷ []) c.push_article.new.self) c.in_ok-filed.ensures
+    (c.in-Ok-push_article.ensures.ok host S text (subst (λ (gs : List Octets). MayFile host S text gs c.args.moment) (sym c.in_ok-filed.ensures) may) c.id_of.ensures (ap (λ (o : Octets). length o) c.text.ensures)
+    (subst (λ (gs : List Octets). AreLineSizes S text gs c.deref-3.result.now) (sym c.in_ok-filed.ensures) sizes) kept.indexed))
+    (λ S indexed. ap (λ (n : ℕ). n + 1) (c.len-serial.ensures S indexed)) (c.deref.ensures.value ∙ c.in_ok-octets.ensures)
+    (λ host S kept.
+    let serial = ap (λ (n : ℕ). n + 1) (c.len-serial.ensures S kept.indexed) in
+    subst (λ (ps : List Piece). ArePieces (table c.args.inodes v.cache) S text groups ps) (sym c.deref-2.ensures.value) (c.in_ok-lines.ensures.pieces S kept.indexed serial c.args.inodes v.cache kept.placed))
+
+pub file_article-requires-clause-used : goal.file_article-requires-clause-used
+file_article-requires-clause-used c =
+    subst (λ (bs : List Octets). AreUsed c.args.from (table c.args.inodes bs)) (sym c.requires.ready.kept.seen) c.requires.used
+
+pub returns-clause-used : goal.returns-clause-used
+returns-clause-used c =
+    subst (λ (bs : List Octets). AreUsed c.in-Ok.at (table c.args.inodes bs)) (sym c.apply.ensures.cache) c.in-Ok.ensures.filed.used

@@ -1,0 +1,67 @@
+use Rattle.std.proofs.Common.{◌≡◌, ℕ, ◌+◌, List, length, ◌∙◌, sym, subst, ap, arith}
+use Rattle.model.specs.Stream.{Octets}
+use Rattle.model.specs.Records.{expiry_record}
+use Rattle.model.specs.Files.{table}
+use Rattle.model.specs.SpoolFiles.{expiry_name}
+use Rattle.model.specs.declared.change.Change.TheVariants.{Expire}
+use Rattle.model.proofs.Asking.{changes_ask_few}
+use Rattle.fs.specs.Calls.{IsThere}
+use Rattle.filing.specs.Calls.{AreUsed}
+use Rattle.spool_growing.specs.Growing.{HasFree}
+use Rattle.spool_growing.proofs.Grown.{applied_dirties, expiry_grown, lacks_expiry}
+use Rattle.spool_growing.proofs.Held.{changes_are_few, enough}
+use Rattle.spool_growing.proofs.Short.{here_is_short}
+use Rattle.spool_growing.proofs.growing.grow_by_expiry.Goals as goal
+
+pub overflow_add-serial : goal.overflow_add-serial
+overflow_add-serial c =
+    let ready = c.requires.ready in
+    omega (arith, c.len-serial.ensures ready.changes ready.kept.indexed, changes_are_few ready.host c.args.inodes c.args.volume.now.cache ready.changes ready.kept.is)
+
+pub expiry_record-requires : goal.expiry_record-requires
+expiry_record-requires c =
+    let ready = c.requires.ready in
+    omega (arith, here_is_short ready.host ready.changes c.args.name.now ready.kept.is.held.lawful ready.may.here)
+
+pub make_expiry-requires-clause-short : goal.make_expiry-requires-clause-short
+make_expiry-requires-clause-short c =
+    let ready = c.requires.ready in
+    let serial : c.len-serial.result ≡ length ready.changes = c.len-serial.ensures ready.changes ready.kept.indexed in
+    let says : c.deref.result.now ≡ expiry_record (record { serial = length ready.changes + 1; group = c.args.name.now; number = c.args.number }) =
+    c.deref.ensures.value ∙ c.in_ok-record.ensures
+    ∙ ap (λ (n : ℕ). expiry_record (record { serial = n + 1; group = c.args.name.now; number = c.args.number })) serial in
+    let few = changes_ask_few ready.host ready.changes (Expire c.args.name.now c.args.number)
+    (changes_are_few ready.host c.args.inodes c.args.volume.now.cache ready.changes ready.kept.is) ready.kept.is.held.lawful ready.may in
+    omega (arith, ap (λ (o : Octets). length o) says, few.made)
+
+pub make_expiry-requires-clause-lacks : goal.make_expiry-requires-clause-lacks
+make_expiry-requires-clause-lacks c =
+    let ready = c.requires.ready in
+    let serial : c.len-serial.result ≡ length ready.changes = c.len-serial.ensures ready.changes ready.kept.indexed in
+    subst (λ (n : ℕ). ¬ (IsThere (table c.args.inodes c.args.volume.now.seen) (expiry_name (n + 1)))) (sym serial)
+    (subst (λ (bs : List Octets). ¬ (IsThere (table c.args.inodes bs) (expiry_name (length ready.changes + 1)))) (sym ready.kept.seen) (lacks_expiry ready.host c.args.inodes c.args.volume.now.cache ready.changes ready.kept.is))
+
+pub make_expiry-requires-clause-free : goal.make_expiry-requires-clause-free
+make_expiry-requires-clause-free c =
+    let ready = c.requires.ready in
+    subst (λ (bs : List Octets). HasFree c.args.inodes 1 bs) (sym ready.kept.seen) (enough ready.host c.args.inodes c.args.volume.now.cache ready.changes ready.kept.is (Expire c.args.name.now c.args.number) ready.room)
+
+pub returns-clause-grown : goal.returns-clause-grown
+returns-clause-grown c =
+    let ready = c.requires.ready in
+    let v = c.args.volume.now in
+    let m = c.make_expiry.new.blocks in
+    let w = c.apply.new.self in
+    expiry_grown c.args.inodes v m w c.args.index.now c.push_expiry.new.self c.args.places.now c.push_change.new.self
+    c.args.name.now c.args.number c.in-Ok.at (c.len-serial.result + 1) c.deref.result.now
+    ready.kept.seen c.in-Ok.ensures.made (applied_dirties v m w ready.kept.seen c.in-Ok.ensures.kept c.in-Ok.ensures.made.calls.count c.in-Ok.ensures.touches c.apply.ensures.cache c.apply.ensures.dirty c.apply.ensures.distinct)
+    c.apply.ensures.cache c.apply.ensures.seen c.in-Ok-push_change.ensures.ok (λ S may indexed. c.in-Ok-push_expiry.ensures.ok ready.host S may indexed)
+    (λ S indexed. ap (λ (n : ℕ). n + 1) (c.len-serial.ensures S indexed)) (c.deref.ensures.value ∙ c.in_ok-record.ensures)
+
+pub make_expiry-requires-clause-used : goal.make_expiry-requires-clause-used
+make_expiry-requires-clause-used c =
+    subst (λ (bs : List Octets). AreUsed c.args.from (table c.args.inodes bs)) (sym c.requires.ready.kept.seen) c.requires.used
+
+pub returns-clause-used : goal.returns-clause-used
+returns-clause-used c =
+    subst (λ (bs : List Octets). AreUsed c.in-Ok.at (table c.args.inodes bs)) (sym c.apply.ensures.cache) c.in-Ok.ensures.made.used

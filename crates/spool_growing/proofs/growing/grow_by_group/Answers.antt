@@ -1,0 +1,64 @@
+use Rattle.std.proofs.Common.{◌≡◌, ℕ, ◌+◌, List, length, ◌∙◌, sym, subst, ap, arith}
+use Rattle.model.specs.Files.{table}
+use Rattle.model.specs.Stream.{Octets}
+use Rattle.model.specs.Records.{group_record}
+use Rattle.model.specs.declared.change.Change.TheVariants.{Group}
+use Rattle.model.proofs.Asking.{changes_ask_few}
+use Rattle.filing.specs.Calls.{AreUsed}
+use Rattle.spool_growing.specs.Growing.{HasFree, LacksGroup}
+use Rattle.spool_growing.proofs.Grown.{applied_dirties, group_grown, heads_lack, lacks_group}
+use Rattle.spool_growing.proofs.Held.{changes_are_few, enough}
+use Rattle.spool_growing.proofs.growing.grow_by_group.Goals as goal
+
+pub overflow_add-serial : goal.overflow_add-serial
+overflow_add-serial c =
+    let ready = c.requires.ready in
+    omega (arith, c.len-serial.ensures ready.changes ready.kept.indexed, changes_are_few ready.host c.args.inodes c.args.volume.now.cache ready.changes ready.kept.is)
+
+pub make_group-requires-clause-short : goal.make_group-requires-clause-short
+make_group-requires-clause-short c =
+    let ready = c.requires.ready in
+    let serial : c.len-serial.result ≡ length ready.changes = c.len-serial.ensures ready.changes ready.kept.indexed in
+    let says : c.deref.result.now ≡ group_record (record { serial = length ready.changes + 1; name = c.args.name.now; status = c.args.status; description = c.args.description.now; moment = c.args.moment }) =
+    c.deref.ensures.value ∙ c.in_ok-record.ensures c.args.name.now
+    ∙ ap (λ (n : ℕ). group_record (record { serial = n + 1; name = c.args.name.now; status = c.args.status; description = c.args.description.now; moment = c.args.moment })) serial in
+    let few = changes_ask_few ready.host ready.changes (Group c.args.name.now c.args.status c.args.description.now c.args.moment)
+    (changes_are_few ready.host c.args.inodes c.args.volume.now.cache ready.changes ready.kept.is) ready.kept.is.held.lawful ready.may in
+    omega (arith, ap (λ (o : Octets). length o) says, few.made)
+
+pub make_group-requires-clause-lacks : goal.make_group-requires-clause-lacks
+make_group-requires-clause-lacks c =
+    let ready = c.requires.ready in
+    subst (λ (bs : List Octets). LacksGroup c.args.inodes bs c.args.name.now) (sym ready.kept.seen) (lacks_group ready.host c.args.inodes c.args.volume.now.cache ready.changes c.args.name.now ready.kept.is ready.may.new)
+
+pub make_group-requires-clause-free : goal.make_group-requires-clause-free
+make_group-requires-clause-free c =
+    let ready = c.requires.ready in
+    subst (λ (bs : List Octets). HasFree c.args.inodes 3 bs) (sym ready.kept.seen) (enough ready.host c.args.inodes c.args.volume.now.cache ready.changes ready.kept.is (Group c.args.name.now c.args.status c.args.description.now c.args.moment) ready.room)
+
+pub push_group-requires-2 : goal.push_group-requires-2
+push_group-requires-2 c =
+    let ready = c.requires.ready in
+    heads_lack ready.changes c.args.index.now c.args.name.now ready.kept.indexed ready.may.new
+
+pub returns-clause-grown : goal.returns-clause-grown
+returns-clause-grown c =
+    let ready = c.requires.ready in
+    let v = c.args.volume.now in
+    let m = c.make_group.new.blocks in
+    let w = c.apply.new.self in
+    let at = c.in-Ok.made in
+    group_grown c.args.inodes v m w c.args.index.now c.push_group-2.new.self c.args.places.now c.push_group.new.self
+    c.args.name.now c.args.status c.args.description.now c.args.moment at.at at.numbers at.overview c.deref.result.now
+    ready.kept.seen c.in-Ok.ensures.made (applied_dirties v m w ready.kept.seen c.in-Ok.ensures.kept c.in-Ok.ensures.made.calls.count c.in-Ok.ensures.touches c.apply.ensures.cache c.apply.ensures.dirty c.apply.ensures.distinct)
+    c.apply.ensures.cache c.apply.ensures.seen c.in-Ok-push_group.ensures.ok c.in-Ok-push_group-2.ensures.ok
+    (λ S indexed. c.deref.ensures.value ∙ c.in_ok-record.ensures c.args.name.now
+    ∙ ap (λ (n : ℕ). group_record (record { serial = n + 1; name = c.args.name.now; status = c.args.status; description = c.args.description.now; moment = c.args.moment })) (c.len-serial.ensures S indexed))
+
+pub make_group-requires-clause-used : goal.make_group-requires-clause-used
+make_group-requires-clause-used c =
+    subst (λ (bs : List Octets). AreUsed c.args.from (table c.args.inodes bs)) (sym c.requires.ready.kept.seen) c.requires.used
+
+pub returns-clause-used : goal.returns-clause-used
+returns-clause-used c =
+    subst (λ (bs : List Octets). AreUsed c.in-Ok.made.overview (table c.args.inodes bs)) (sym c.apply.ensures.cache) c.in-Ok.ensures.made.used

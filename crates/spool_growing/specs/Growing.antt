@@ -1,0 +1,77 @@
+-- One change more, in all that a spool keeps.
+use Rattle.std.specs.Prelude.{◌≡◌, ◌⊎◌, ◌↔◌, ℕ, ◌+◌, ◌≤◌, false, List, [], ◌∷◌, ◌++◌, length, map, Some}
+use Rattle.std.specs.List.{Contains}
+use Rattle.model.specs.Files.{files_in, free_blocks, table}
+use Rattle.model.specs.Indexed.{FilePlaces}
+use Rattle.model.specs.Lawful.{MayFollow}
+use Rattle.model.specs.Room.{is_full}
+use Rattle.model.specs.Spool.{Spool}
+use Rattle.model.specs.SpoolFiles.{FileCall, Create, group_name, making_calls, numbers_name, overview_name}
+use Rattle.model.specs.Stream.{Octets}
+use Rattle.model.specs.Volume.{AreDistinct}
+use Rattle.model.specs.declared.change.Change.{Change}
+use Rattle.fs.specs.Calls.{IsThere}
+use Rattle.filing.specs.declared.Piece.{Piece}
+use Rattle.filing.specs.Calls.{AreUsed, Calls, append_call}
+use Rattle.index.specs.View.{IndexView}
+use Rattle.places.specs.Places.{name_of}
+use Rattle.volume.specs.Volume.{Differs, VolumeView}
+use Rattle.spool_growing.specs.Kept.{IsKept}
+
+-- ---- files
+
+-- the calls that make the files of a group with this record
+abbrev pub group_calls : Octets → Octets → List FileCall
+group_calls name octets = making_calls (group_name name) octets ++ Create (numbers_name name) ∷ Create (overview_name name) ∷ []
+
+-- no file has one of a group's names
+pub record LacksGroup (inodes : ℕ) (blocks : List Octets) (name : Octets) : Type 0 where
+  pub group : ¬ (IsThere (table inodes blocks) (group_name name))
+  pub numbers : ¬ (IsThere (table inodes blocks) (numbers_name name))
+  pub overview : ¬ (IsThere (table inodes blocks) (overview_name name))
+
+-- so many blocks and inodes are free
+pub record HasFree (inodes files : ℕ) (blocks : List Octets) : Type 0 where
+  pub inodes_free : length (files_in (table inodes blocks)) + files ≤ inodes
+  pub blocks_free : 256 ≤ free_blocks blocks
+
+-- a group's files were made in these inodes
+pub record MakesGroup (inodes at numbers overview : ℕ) (name octets : Octets) (old new : List Octets) : Type 0 where
+  pub calls : Calls inodes (group_calls name octets) old new
+  pub group : name_of (table inodes new) at ≡ Some (group_name name)
+  pub first : name_of (table inodes new) numbers ≡ Some (numbers_name name)
+  pub second : name_of (table inodes new) overview ≡ Some (overview_name name)
+  pub used : AreUsed overview (table inodes new)
+
+-- ---- the whole
+
+-- there are as many blocks, and the dirty ones are those that were dirty and those whose octets differ now, none of them twice; a
+-- change dirties at most 256
+pub record Dirties (old new : List Octets) (before after : List ℕ) : Type 0 where
+  pub size : length new ≡ length old
+  pub exactly : (k : ℕ) → Contains after k ↔ (Contains before k ⊎ Differs old new k)
+  pub distinct : AreDistinct after
+  pub few : length after ≤ length before + 256
+
+-- the blocks hold changes that this one may follow, and there is room for it
+pub record IsReady (inodes : ℕ) (volume : VolumeView) (index : IndexView) (places : FilePlaces) (c : Change) : Type 0 where
+  pub host : Octets
+  pub changes : Spool
+  pub kept : IsKept host inodes volume index places changes
+  pub may : MayFollow host changes c
+  pub room : is_full (length volume.cache) inodes changes (Some c) ≡ false
+
+-- whatever they held, they hold this change behind it
+pub record IsGrown (inodes : ℕ) (v w : VolumeView) (i j : IndexView) (p q : FilePlaces) (c : Change) : Type 0 where
+  pub kept : (host : Octets) (S : Spool) → IsKept host inodes v i p S → MayFollow host S c → IsKept host inodes w j q (S ++ c ∷ [])
+  pub dirties : Dirties v.cache w.cache v.dirty w.dirty
+  -- it takes few blocks
+  pub taken : (host : Octets) (S : Spool) → IsKept host inodes v i p S → MayFollow host S c → free_blocks v.cache ≤ free_blocks w.cache + 146
+
+-- ---- an article
+
+-- its file was made in this inode, and then these pieces were put at the ends of their files
+pub record FilesArticle (inodes at : ℕ) (name octets : Octets) (pieces : List Piece) (old new : List Octets) : Type 0 where
+  pub calls : Calls inodes (making_calls name octets ++ map (append_call (table inodes old)) pieces) old new
+  pub article : name_of (table inodes new) at ≡ Some name
+  pub used : AreUsed at (table inodes new)

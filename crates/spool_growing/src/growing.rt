@@ -1,0 +1,143 @@
+//! One change more in all that a spool keeps: its files on the stage, then their places and the index, and last the stage is
+//! applied, which takes no memory. Where memory is refused, all is as it was.
+
+ghost use Rattle.std.specs.Prelude.{◌≡◌, IfOk, OnErr, OnOk};
+ghost use Rattle.filing.specs.Calls.{AreUsed};
+ghost use Rattle.model.specs.Files.{table};
+ghost use Rattle.model.specs.declared.change.Change.{Change};
+ghost use Rattle.spool_growing.specs.Growing.{IsGrown, IsReady};
+
+use crate::articles::{copy_names, record_of};
+use crate::lines::lines_of;
+use crate::staging::{file_article, make_expiry, make_group};
+use article::Article;
+use index::Index;
+use model::Text;
+use places::Places;
+use records::{expiry_record, group_record};
+use spool_opening::id_of;
+use std::alloc::{AllocError, Global};
+use volume::Volume;
+
+/// Adds a group that may be made and for which there is room, and answers an inode below which none is free. No inode below `from` is
+/// free. An `Err` is out of memory and changes nothing.
+pub fn grow_by_group(
+    alloc: Global,
+    inodes: u32,
+    from: u32,
+    volume: &mut Volume,
+    index: &mut Index,
+    places: &mut Places,
+    name: &[u8],
+    status: u8,
+    description: &[u8],
+    moment: u64,
+) -> Result<u32, AllocError>
+    requires ready { IsReady inodes volume.old index.old places.old (Change.Group name.now status description.now moment) }
+    requires used { AreUsed from (table inodes volume.old.cache) }
+    ensures grown { OnOk result (IsGrown inodes volume.old volume.new index.old index.new places.old places.new (Change.Group name.now status description.now moment)) }
+    ensures used { IfOk result (λ next. AreUsed next (table inodes volume.new.cache)) }
+    ensures volume { OnErr result (volume.new ≡ volume.old) }
+    ensures index { OnErr result (index.new ≡ index.old) }
+    ensures places { OnErr result (places.new ≡ places.old) }
+{
+    let serial = index.len() + 1;
+    let record = group_record(alloc, serial, moment, status, description)?;
+    let Ok(made) = make_group(alloc, volume, inodes, from, name, &record) else {
+        volume.drop_stage();
+        return Err(AllocError);
+    };
+    let Ok(()) = places.push_group(made.at, made.numbers, made.overview) else {
+        volume.drop_stage();
+        return Err(AllocError);
+    };
+    let Ok(()) = index.push_group(name, status, description, moment) else {
+        places.pop_group();
+        volume.drop_stage();
+        return Err(AllocError);
+    };
+    volume.apply();
+    Ok(made.overview)
+}
+
+/// Adds an expiry that may follow and for which there is room, and answers an inode below which none is free. No inode below `from` is
+/// free. An `Err` is out of memory and changes nothing.
+pub fn grow_by_expiry(
+    alloc: Global,
+    inodes: u32,
+    from: u32,
+    volume: &mut Volume,
+    index: &mut Index,
+    places: &mut Places,
+    name: &[u8],
+    number: u32,
+) -> Result<u32, AllocError>
+    requires ready { IsReady inodes volume.old index.old places.old (Change.Expire name.now number) }
+    requires used { AreUsed from (table inodes volume.old.cache) }
+    ensures grown { OnOk result (IsGrown inodes volume.old volume.new index.old index.new places.old places.new (Change.Expire name.now number)) }
+    ensures used { IfOk result (λ next. AreUsed next (table inodes volume.new.cache)) }
+    ensures volume { OnErr result (volume.new ≡ volume.old) }
+    ensures index { OnErr result (index.new ≡ index.old) }
+    ensures places { OnErr result (places.new ≡ places.old) }
+{
+    let serial = index.len() + 1;
+    let record = expiry_record(alloc, serial, name, number)?;
+    let Ok(at) = make_expiry(alloc, volume, inodes, from, serial, &record) else {
+        volume.drop_stage();
+        return Err(AllocError);
+    };
+    let Ok(()) = places.push_change(at) else {
+        volume.drop_stage();
+        return Err(AllocError);
+    };
+    let Ok(()) = index.push_expiry(name, number as u64) else {
+        places.pop_change();
+        volume.drop_stage();
+        return Err(AllocError);
+    };
+    volume.apply();
+    Ok(at)
+}
+
+/// Files an article in these groups, where that change may follow and there is room for it, and answers an inode below which none is
+/// free. No inode below `from` is free. An `Err` is out of memory and changes nothing.
+pub fn grow_by_article(
+    alloc: Global,
+    inodes: u32,
+    from: u32,
+    volume: &mut Volume,
+    index: &mut Index,
+    places: &mut Places,
+    article: &Article<'_>,
+    groups: &[Text],
+    moment: u64,
+) -> Result<u32, AllocError>
+    requires ready { IsReady inodes volume.old index.old places.old (Change.Article article.now groups.now moment) }
+    requires used { AreUsed from (table inodes volume.old.cache) }
+    ensures grown { OnOk result (IsGrown inodes volume.old volume.new index.old index.new places.old places.new (Change.Article article.now groups.now moment)) }
+    ensures used { IfOk result (λ next. AreUsed next (table inodes volume.new.cache)) }
+    ensures volume { OnErr result (volume.new ≡ volume.old) }
+    ensures index { OnErr result (index.new ≡ index.old) }
+    ensures places { OnErr result (places.new ≡ places.old) }
+{
+    let serial = index.len() + 1;
+    let filed = copy_names(alloc, groups)?;
+    let octets = record_of(alloc, serial, article, groups, moment)?;
+    let lines = lines_of(alloc, index, places, serial, article, groups)?;
+    let Ok(at) = file_article(alloc, volume, inodes, from, serial, &octets, &lines.pieces) else {
+        volume.drop_stage();
+        return Err(AllocError);
+    };
+    let Ok(()) = places.push_change(at) else {
+        volume.drop_stage();
+        return Err(AllocError);
+    };
+    let size = article.text().len() as u64;
+    let Ok(()) = index.push_article(id_of(article), size, filed, moment, &lines.sizes) else {
+        places.pop_change();
+        volume.drop_stage();
+        return Err(AllocError);
+    };
+    volume.apply();
+    Ok(at)
+}

@@ -1,0 +1,87 @@
+//! What an article adds to the numbers and the overviews of its groups.
+
+ghost use Rattle.std.specs.Prelude.{◌≡◌, ◌+◌, ◌^◌, ◌<◌, ◌≤◌, ℕ, List, length, IfOk};
+ghost use Rattle.std.specs.List.{All};
+ghost use Rattle.model.specs.Files.{table};
+ghost use Rattle.model.specs.Indexed.{ArePlaces};
+ghost use Rattle.model.specs.Spool.{Spool};
+ghost use Rattle.index.specs.Filing.{AreLineSizes};
+ghost use Rattle.index.specs.View.{Indexes};
+ghost use Rattle.spool_growing.specs.Articles.{ArePieces, ArePiecesOf, CanFile, CanFileIn};
+
+use article::Article;
+use filing::Piece;
+use index::Index;
+use model::Text;
+use overview::line;
+use places::Places;
+use records::number_record;
+use std::alloc::{AllocError, Global};
+
+/// What an article adds to its groups.
+#[derive(Drop)]
+pub(crate) struct Lines {
+    /// for each group its number, and its line in the overview
+    pub(crate) pieces: Vec<Piece>,
+    /// the octets of the lines
+    pub(crate) sizes: Vec<u64>,
+}
+
+/// What an article adds to the numbers and to the overview of a group. An `Err` is out of memory.
+fn line_in(
+    alloc: Global,
+    index: &Index,
+    places: &Places,
+    serial: u64,
+    article: &Article<'_>,
+    name: &[u8],
+) -> Result<(Piece, Piece), AllocError>
+    requires { CanFileIn index.now places.now article.now name.now }
+    ensures pieces { IfOk result (λ p. (S : Spool) → Indexes S index.now → serial ≡ length S + 1 → (inodes : ℕ) (blocks : List (List ℕ)) → ArePlaces inodes blocks S places.now
+        → ArePiecesOf (table inodes blocks) S article.now name.now p.0 p.1) }
+    ensures short { IfOk result (λ p. length p.1.octets.items ≤ 8191) }
+{
+    let Some(place) = index.place(name) else {
+        unreachable!()
+    };
+    let group = &index.groups()[place];
+    let line = line(alloc, group.high() + 1, article)?;
+    let record = number_record(serial, group.overview_size() as u32, &line);
+    let number = Piece {
+        at: places.numbers()[place],
+        octets: Vec::from_slice(alloc, &record)?,
+    };
+    let line = Piece {
+        at: places.overviews()[place],
+        octets: line,
+    };
+    Ok((number, line))
+}
+
+/// What an article adds to its groups. An `Err` is out of memory.
+pub(crate) fn lines_of(
+    alloc: Global,
+    index: &Index,
+    places: &Places,
+    serial: u64,
+    article: &Article<'_>,
+    filed: &[Text],
+) -> Result<Lines, AllocError>
+    requires { CanFile index.now places.now article.now filed.now }
+    ensures pieces { IfOk result (λ l. (S : Spool) → Indexes S index.now → serial ≡ length S + 1 → (inodes : ℕ) (blocks : List (List ℕ)) → ArePlaces inodes blocks S places.now
+        → ArePieces (table inodes blocks) S article.now filed.now l.pieces.items) }
+    ensures sizes { IfOk result (λ l. (S : Spool) → Indexes S index.now → serial ≡ length S + 1 → (inodes : ℕ) (blocks : List (List ℕ)) → ArePlaces inodes blocks S places.now
+        → AreLineSizes S article.now filed.now l.sizes.items) }
+    ensures count { IfOk result (λ l. length l.sizes.items ≡ length filed.now) }
+    ensures small { IfOk result (λ l. All (λ n. n < 2 ^ 32) l.sizes.items) }
+{
+    let mut pieces = Vec::new(alloc);
+    let mut sizes = Vec::new(alloc);
+    for name in filed {
+        let (number, line) = line_in(alloc, index, places, serial, article, name.as_slice())?;
+        sizes.push(line.octets.len() as u64)?;
+        pieces.push(number)?;
+        pieces.push(line)?;
+    }
+    Ok(Lines { pieces, sizes })
+}

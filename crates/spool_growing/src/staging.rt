@@ -1,0 +1,110 @@
+//! The files that a change makes, on the stage. Each goes into the lowest free inode, which is looked for from `from` on: below that none
+//! is free.
+
+ghost use Rattle.std.specs.Prelude.{◌≡◌, ◌<◌, ◌≤◌, IfOk, OnOk, length};
+ghost use Rattle.model.specs.Files.{HasRoom, IsFileSystem, table};
+ghost use Rattle.model.specs.Records as model_records;
+ghost use Rattle.model.specs.SpoolFiles.{article_name, expiry_name};
+ghost use Rattle.fs.specs.Calls.{IsThere};
+ghost use Rattle.fs.specs.Touches.{Touches};
+ghost use Rattle.filing.specs.Calls.{AreUsed, MakesAt, MayAllGrow};
+ghost use Rattle.spool_growing.specs.Growing.{FilesArticle, HasFree, LacksGroup, MakesGroup};
+
+use filing::{Piece, append_all, create_file, make_file};
+use records::{FileKind, expiry_record, file_name, group_record, serial_digits};
+use std::alloc::{AllocError, Global};
+use volume::Blocks;
+
+/// The inodes of the files of a group.
+#[derive(Clone, Copy)]
+pub(crate) struct GroupPlaces {
+    pub(crate) at: u32,
+    pub(crate) numbers: u32,
+    pub(crate) overview: u32,
+}
+
+/// Makes the files of a group: its record, and empty numbers and overview. An `Err` is out of memory; the caller then drops what it
+/// staged.
+pub(crate) fn make_group<B: Blocks>(
+    alloc: Global,
+    blocks: &mut B,
+    inodes: u32,
+    from: u32,
+    name: &[u8],
+    record: &[u8],
+) -> Result<GroupPlaces, AllocError>
+    requires room { HasRoom inodes (B.blocks blocks.old) }
+    requires rule { IsFileSystem inodes (B.blocks blocks.old) }
+    requires name { length name.now ≤ 40 }
+    requires short { length record.now ≤ 262821 }
+    requires lacks { LacksGroup inodes (B.blocks blocks.old) name.now }
+    requires free { HasFree inodes 3 (B.blocks blocks.old) }
+    requires used { AreUsed from (table inodes (B.blocks blocks.old)) }
+    ensures made { IfOk result (λ p. MakesGroup inodes p.at p.numbers p.overview name.now record.now (B.blocks blocks.old) (B.blocks blocks.new)) }
+    ensures touches { OnOk result (Touches 254 (B.blocks blocks.old) (B.blocks blocks.new)) }
+    ensures kept { B.applied blocks.new ≡ B.applied blocks.old }
+{
+    let first = file_name(alloc, FileKind::Group, name)?;
+    let second = file_name(alloc, FileKind::Numbers, name)?;
+    let third = file_name(alloc, FileKind::Overview, name)?;
+    let at = make_file(blocks, inodes, from, &first, record)?;
+    let numbers = create_file(blocks, inodes, at, &second)?;
+    let overview = create_file(blocks, inodes, numbers, &third)?;
+    Ok(GroupPlaces {
+        at,
+        numbers,
+        overview,
+    })
+}
+
+/// Makes the file of an expiry. An `Err` is out of memory; the caller then drops what it staged.
+pub(crate) fn make_expiry<B: Blocks>(
+    alloc: Global,
+    blocks: &mut B,
+    inodes: u32,
+    from: u32,
+    serial: u64,
+    record: &[u8],
+) -> Result<u32, AllocError>
+    requires room { HasRoom inodes (B.blocks blocks.old) }
+    requires rule { IsFileSystem inodes (B.blocks blocks.old) }
+    requires short { length record.now ≤ 262821 }
+    requires lacks { ¬ (IsThere (table inodes (B.blocks blocks.old)) (expiry_name serial)) }
+    requires free { HasFree inodes 1 (B.blocks blocks.old) }
+    requires used { AreUsed from (table inodes (B.blocks blocks.old)) }
+    ensures made { IfOk result (λ at. MakesAt inodes at (expiry_name serial) record.now (B.blocks blocks.old) (B.blocks blocks.new)) }
+    ensures touches { OnOk result (Touches 254 (B.blocks blocks.old) (B.blocks blocks.new)) }
+    ensures kept { B.applied blocks.new ≡ B.applied blocks.old }
+{
+    let name = file_name(alloc, FileKind::Expiry, &serial_digits(serial))?;
+    make_file(blocks, inodes, from, &name, record)
+}
+
+/// Makes the file of an article, and puts what it adds to its groups at the ends of their files. An `Err` is out of memory; the caller
+/// then drops what it staged.
+pub(crate) fn file_article<B: Blocks>(
+    alloc: Global,
+    blocks: &mut B,
+    inodes: u32,
+    from: u32,
+    serial: u64,
+    octets: &[u8],
+    pieces: &[Piece],
+) -> Result<u32, AllocError>
+    requires room { HasRoom inodes (B.blocks blocks.old) }
+    requires rule { IsFileSystem inodes (B.blocks blocks.old) }
+    requires short { length octets.now ≤ 262821 }
+    requires lacks { ¬ (IsThere (table inodes (B.blocks blocks.old)) (article_name serial)) }
+    requires free { HasFree inodes 1 (B.blocks blocks.old) }
+    requires grow { MayAllGrow inodes pieces.now (B.blocks blocks.old) }
+    requires few { length pieces.now ≤ 32 }
+    requires used { AreUsed from (table inodes (B.blocks blocks.old)) }
+    ensures filed { IfOk result (λ at. FilesArticle inodes at (article_name serial) octets.now pieces.now (B.blocks blocks.old) (B.blocks blocks.new)) }
+    ensures touches { OnOk result (Touches 254 (B.blocks blocks.old) (B.blocks blocks.new)) }
+    ensures kept { B.applied blocks.new ≡ B.applied blocks.old }
+{
+    let name = file_name(alloc, FileKind::Article, &serial_digits(serial))?;
+    let at = make_file(blocks, inodes, from, &name, octets)?;
+    append_all(blocks, inodes, pieces)?;
+    Ok(at)
+}
