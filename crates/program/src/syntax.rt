@@ -27,7 +27,8 @@ pub(crate) const NUMBER: &str = "number";
 
 /// What `serve` does, in short.
 const SERVING: &str = "\
-Listens on 127.0.0.1 and prints `listening 127.0.0.1:P`. One server at a time serves a volume.
+Listens on 127.0.0.1 and prints `listening 127.0.0.1:P`. One server at a time serves a volume. \
+At most 64 sessions are served at one time; the next caller is told `400 Service ends`. Copy the volume for a backup while the server is stopped.
 
 Each line `group NAME STATUS MOMENT DESCRIPTION` of standard input makes a group, and each line `expire NAME N` takes the \
 articles of a group up to that number out of it; the serial is printed once it is durable, or the refusal. Where the device fails, the next caller is told `400 Service ends` and the server ends with `E1 Fault`, status 1. \

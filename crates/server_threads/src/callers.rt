@@ -143,6 +143,8 @@ fn posts_and_reads_replies(caller: &mut Caller) -> bool {
         && caller.reads("240 Article received")
         && caller.sends("STAT <1@a.example>\r\nSTAT <9@a.example>\r\n")
         && caller.reads_all(&["223 0 <1@a.example>", "430 No such article"])
+        && caller.sends("GROUP x.a\r\n")
+        && caller.reads("211 1 1 1 x.a")
 }
 
 /// A caller sends all at once and then no more; it is told all, and then the socket ends. So it does behind `QUIT`, where
@@ -170,7 +172,7 @@ fn sends_no_more<R: Net<Listener = TcpListener, Stream = TcpStream>>(
         && other.reads_end()
 }
 
-/// While the flush of one caller's article is held, another one comes and reads what depends on nothing.
+/// While the flush of one caller's article is held, another one comes and is told of a group that the article isn't in.
 fn reads_while_a_flush_is_held<R: Net<Listener = TcpListener, Stream = TcpStream>>(
     rt: &R,
     alloc: Global,
@@ -184,7 +186,9 @@ fn reads_while_a_flush_is_held<R: Net<Listener = TcpListener, Stream = TcpStream
     let Some(mut other) = Caller::connect(rt, alloc, address) else {
         return false;
     };
-    let is_read = other.reads(GREETING);
+    let is_read = other.reads(GREETING)
+        && other.sends("GROUP x.b\r\n")
+        && other.reads("211 0 1 0 x.b");
     flags.has_read.store(true, Ordering::SeqCst);
     is_read && caller.reads_all(&[GREETING, "340 Send article", "240 Article received"])
 }

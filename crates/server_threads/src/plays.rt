@@ -7,7 +7,7 @@ use crate::callers::call;
 use crate::gates::{Flags, Holds, TestGate};
 use crate::kernels::{Watch, Watched};
 use disk::Faults;
-use flusher::{BatchBuf, FlushError, Kern, Kernel, flush_turn};
+use flusher::{BatchBuf, FlushError, Kern, Kernel, Locked, Stale, flush_turn};
 use journal::Journal;
 use mark::{FlushSeat, Mark, Seat};
 use memdisk::MemDisk;
@@ -94,7 +94,15 @@ fn plan() -> Option<Plan<'static>> {
     })
 }
 
-/// A server that is about to serve a volume with the group `x.a`, which is durable.
+/// Makes a group that takes posts.
+fn add_group<K: Kern, R: Wait>(rt: &R, alloc: Global, kern: &K, name: &[u8]) -> Option<()> {
+    let name = GroupName::read(name).ok()?;
+    kern.admin(rt, alloc, &name, b'y', b"test", 1_000_000_000)
+        .ok()?;
+    Some(())
+}
+
+/// A server that is about to serve a volume with the groups `x.a` and `x.b`, which are durable.
 #[derive(Drop)]
 struct Stage<'a> {
     journal: Journal<MemDisk>,
@@ -132,12 +140,8 @@ impl<'a> Stage<'a> {
             flags,
             holds: Holds::Nothing,
         };
-        let Ok(name) = GroupName::read(b"x.a") else {
-            return None;
-        };
-        let Ok(_) = kern.admin(rt, alloc, &name, b'y', b"test", 1_000_000_000) else {
-            return None;
-        };
+        add_group(rt, alloc, &kern, b"x.a")?;
+        add_group(rt, alloc, &kern, b"x.b")?;
         let Ok(_) = flush_turn(
             rt,
             &mut journal,
@@ -186,7 +190,7 @@ impl<'a> Stage<'a> {
         } = self;
         let gate = TestGate { flags, holds };
         let lines: &'static [u8] = if holds == Holds::Answer {
-            b"group x.b y 1000000000 test\n"
+            b"group x.c y 1000000000 test\n"
         } else {
             b""
         };
@@ -211,7 +215,24 @@ pub(crate) fn raises_after_commit<R: Wait>(rt: &R, alloc: Global) -> bool {
     if Stage::new(rt, alloc, &mark, flush_seat, own, &flags).is_none() {
         return false;
     }
-    mark.durable(&mut seat) == 1 && !flags.failed.load(Ordering::SeqCst)
+    mark.durable(&mut seat) == 2 && !flags.failed.load(Ordering::SeqCst)
+}
+
+/// What a kernel answers to a ticket in time, to the same one again, and to one of a batch that a halt left in flight.
+pub(crate) fn tell<R: Wait>(rt: &R, alloc: Global) -> Option<[Result<(), Stale>; 3]> {
+    let (_, kernel) = open_volume(alloc, &plan()?)?;
+    let kern = Locked::new(kernel);
+    let Ok(mut batch) = BatchBuf::new(alloc) else {
+        return None;
+    };
+    add_group(rt, alloc, &kern, b"x.a")?;
+    let ticket = kern.take_batch(rt, &mut batch)?;
+    let in_time = kern.committed(rt, ticket);
+    let again = kern.committed(rt, ticket);
+    add_group(rt, alloc, &kern, b"x.b")?;
+    let ticket = kern.take_batch(rt, &mut batch)?;
+    kern.halt(rt);
+    Some([in_time, again, kern.committed(rt, ticket)])
 }
 
 /// Runs a server and its callers to their end.

@@ -1,5 +1,6 @@
 use crate::gates::Holds;
-use crate::plays::{Outcome, play, raises_after_commit};
+use crate::plays::{Outcome, play, raises_after_commit, tell};
+use flusher::Stale;
 use server::ServeError;
 
 /// A play in which all went well, and whose last commit was refused.
@@ -10,8 +11,8 @@ const GOOD: Outcome = Outcome {
     answered: 0,
 };
 
-/// `2` and LF.
-const SERIAL_TWO: u64 = 0x320a;
+/// `3` and LF.
+const SERIAL_THREE: u64 = 0x330a;
 
 #[test]
 fn a_client_reads_its_replies(rt: HostRuntime) {
@@ -31,7 +32,7 @@ fn another_sessions_post_commits_while_a_release_is_held(rt: HostRuntime) {
 #[test]
 fn the_operators_serial_waits_for_the_mark(rt: HostRuntime) {
     let told = Outcome {
-        answered: SERIAL_TWO,
+        answered: SERIAL_THREE,
         ..GOOD
     };
     assert_eq!(rt; play(&rt, rt.alloc(), Holds::Answer), Some(told));
@@ -49,4 +50,12 @@ fn a_fault_ends_the_server(rt: HostRuntime) {
 #[test]
 fn a_raise_follows_committed(rt: HostRuntime) {
     assert!(rt; raises_after_commit(&rt, rt.alloc()));
+}
+
+#[test]
+fn a_stale_ticket_is_refused(rt: HostRuntime) {
+    assert_eq!(rt;
+        tell(&rt, rt.alloc()),
+        Some([Ok(()), Err(Stale), Err(Stale)])
+    );
 }

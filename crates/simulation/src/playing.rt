@@ -19,8 +19,9 @@ use std::io::{BufRead, Write};
 use wcache::WCache;
 use world::{Answer, Event, StepError};
 
-/// The device calls of the largest batch, of 512 images, to its end.
-const MOST_CALLS: u32 = 2 * 512 + 7;
+/// The most device calls from the first of a batch to its end: `n + 4` of its commit, and those of a checkpoint of eight segments,
+/// which are a write of each home, a sync, and a write and a sync for each gate. A batch has at most 512 images.
+const MOST_CALLS: u32 = 9 * 512 + 5 + 2 * 8;
 
 /// Plays the script that `input` holds, one event a line, and prints what it does. A refused event prints its refusal,
 /// and the script goes on. What ends it before is a growth that is refused to the simulation itself (`Memory`), a new volume

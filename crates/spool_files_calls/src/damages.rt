@@ -235,7 +235,7 @@ fn rows() -> &'static [Row] {
 }
 
 /// A spool with the changes, as it is opened again.
-fn changed(alloc: Global) -> Result<Stored, Fail> {
+pub(crate) fn changed(alloc: Global) -> Result<Stored, Fail> {
     let mut stored = Stored::new(alloc)?;
     for (call, want) in CHANGES {
         if make(alloc, &mut stored, *call) != *want {

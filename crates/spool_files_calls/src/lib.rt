@@ -13,6 +13,8 @@ mod damages;
 #[cfg(test)]
 mod finding;
 #[cfg(test)]
+mod flips;
+#[cfg(test)]
 mod scripts;
 #[cfg(test)]
 mod sent;

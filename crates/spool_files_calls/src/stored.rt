@@ -61,6 +61,23 @@ impl Stored {
     pub(crate) fn refusal(&self, alloc: Global, changed: &[Octet]) -> Option<OpenError> {
         opened(alloc, &self.octets, changed).err()
     }
+
+    /// Opens what the batches have carried, once these bits of an octet are changed in it. The octet is that of a block of the volume.
+    pub(crate) fn flipped(
+        &self,
+        alloc: Global,
+        number: u32,
+        place: usize,
+        bits: u8,
+    ) -> Result<Spool, OpenError> {
+        match self
+            .octets
+            .get(number as usize * BLOCK_SIZE + place % BLOCK_SIZE)
+        {
+            Some(was) => opened(alloc, &self.octets, &[(number, place, *was ^ bits)]),
+            None => Err(OpenError::Memory),
+        }
+    }
 }
 
 /// An octet to replace: its block, its place there, and the octet in its stead.

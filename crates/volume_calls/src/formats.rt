@@ -107,6 +107,11 @@ fn first_wrong(alloc: Global, rows: &[Row]) -> Result<Option<&'static str>, Fail
 }
 
 #[test]
+fn octets_of_a_volume_of_1024_blocks(rt: HostRuntime) {
+    assert_eq!(rt; device_octets(1024), 21_041_152);
+}
+
+#[test]
 fn faults_before_the_batch_of_a_format(rt: HostRuntime) -> Result<(), Fail> {
     let wrong = first_wrong(rt.alloc(), BEFORE)?;
     assert_eq!(rt; wrong, None);
