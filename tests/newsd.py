@@ -4,7 +4,6 @@ import resource
 import signal
 import socket
 import subprocess
-import time
 
 HOST = "news.example"
 GROUP = "x.a"
@@ -65,7 +64,7 @@ class Volume:
 
 
 class Server:
-    """A running server. It is ended by its own process number."""
+    """A running server. It is ended by its own process number. What reads its pipes waits as long as the caller lets it."""
 
     def __init__(self, volume):
         for _ in range(5):
@@ -76,11 +75,15 @@ class Server:
                 # python ignores the signal of a file that grows past its limit, and so does the server then
                 restore_signals=False,
             )
-            line = self.process.stdout.readline().decode()
-            if line == "listening 127.0.0.1:%d\n" % self.port:
-                return
-            said = self.process.stderr.read().decode()
-            self.process.wait(SECONDS)
+            try:
+                line = self.process.stdout.readline().decode()
+                if line == "listening 127.0.0.1:%d\n" % self.port:
+                    return
+                said = self.process.stderr.read().decode()
+            except BaseException:
+                self.kill()
+                raise
+            self.kill()
         raise AssertionError("the server does not listen: %r %r" % (line, said))
 
     def __enter__(self):
@@ -169,13 +172,3 @@ def free_port():
     with socket.socket() as probe:
         probe.bind(("127.0.0.1", 0))
         return probe.getsockname()[1]
-
-
-def wait_until(holds, seconds=SECONDS):
-    """Whether it comes to hold in time."""
-    end = time.monotonic() + seconds
-    while time.monotonic() < end:
-        if holds():
-            return True
-        time.sleep(0.005)
-    return holds()

@@ -2,6 +2,7 @@
 """System tests of `newsd serve` and of the commands over a volume in a file. serving.py NEWSD [NAME..]"""
 import datetime
 import random
+import signal
 import socket
 import struct
 import sys
@@ -16,6 +17,15 @@ from syncs import count_calls
 
 PROGRAM = sys.argv[1]
 GREETING = "200 %s ready, posting permitted" % HOST
+SECONDS_OF_A_TEST = 180
+
+
+class Skipped(Exception):
+    """What a test needs, and this machine does not have."""
+
+
+class TooLong(Exception):
+    """A test was still running at the end of its time."""
 
 
 def a_client_posts_and_reads_back(volume):
@@ -93,7 +103,6 @@ def a_kill_under_load_takes_nothing_back(volume):
     chance = random.Random(seed)
     told = set()
     for round_number in range(3):
-        server = volume.serve()
         lock = threading.Lock()
 
         def post(poster):
@@ -121,12 +130,13 @@ def a_kill_under_load_takes_nothing_back(volume):
 
         threads = [threading.Thread(target=post, args=(poster,)) for poster in range(16)]
         threads.append(threading.Thread(target=look))
-        for thread in threads:
-            thread.start()
-        time.sleep(chance.uniform(0.05, 0.4))
-        server.kill()
-        for thread in threads:
-            thread.join()
+        with volume.serve() as server:
+            for thread in threads:
+                thread.start()
+            time.sleep(chance.uniform(0.05, 0.4))
+            server.kill()
+            for thread in threads:
+                thread.join()
         with volume.serve() as again, again.call() as caller:
             for name in sorted(told):
                 assert caller.ask("STAT " + message_id(name)).startswith("223"), name
@@ -209,8 +219,7 @@ def a_client_library_reads(volume):
             warnings.simplefilter("ignore")
             import nntplib
     except ImportError:
-        print("  this Python has no client")
-        return
+        raise Skipped("this Python has no client")
     volume.make_group()
     posted = b"From: a@example.org\r\nNewsgroups: x.a\r\nSubject: a dot\r\n\r\n.x\r\n..\r\n"
     with volume.serve() as server, nntplib.NNTP("127.0.0.1", server.port, timeout=30) as client:
@@ -373,7 +382,8 @@ def a_commit_syncs_the_device(volume):
     batch that makes a volume stands in one. Adding a group then syncs at the seal and at the gate of its batch. The next opening
     carries it home, and the one after that writes nothing."""
     counted = count_calls([volume.program, "group", volume.path, GROUP, "y", "1000000000", "test"])
-    assert counted is not None, "the program could not be traced"
+    if counted is None:
+        raise Skipped("the program can't be traced")
     assert counted["fdatasync"] == 5, counted
     opened = count_calls([volume.program, "dump", volume.path])
     assert opened["fdatasync"] == 3 and opened["pwrite64"] > 0, opened
@@ -422,25 +432,40 @@ TESTS = [
 ]
 
 
+def too_long(*_):
+    raise TooLong("more than %d seconds" % SECONDS_OF_A_TEST)
+
+
+def play(test):
+    """How a test ends: the word by which it counts, and why it was skipped."""
+    try:
+        with tempfile.TemporaryDirectory(prefix="newsd-") as directory:
+            signal.alarm(SECONDS_OF_A_TEST)
+            try:
+                test(Volume(PROGRAM, directory))
+            finally:
+                signal.alarm(0)
+        return "ok", ""
+    except Skipped as why:
+        return "skipped", ": %s" % why
+    except Exception:
+        traceback.print_exc()
+        return "FAILED", ""
+
+
 def main():
     wanted = sys.argv[2:]
-    passed, failed = 0, 0
+    ends = {"ok": 0, "FAILED": 0, "skipped": 0}
+    signal.signal(signal.SIGALRM, too_long)
     for test in TESTS:
         if wanted and test.__name__ not in wanted:
             continue
         start = time.monotonic()
-        try:
-            with tempfile.TemporaryDirectory(prefix="newsd-") as directory:
-                test(Volume(PROGRAM, directory))
-            passed += 1
-            said = "ok"
-        except Exception:
-            traceback.print_exc()
-            failed += 1
-            said = "FAILED"
-        print("%s ... %s (%.1f s)" % (test.__name__, said, time.monotonic() - start), flush=True)
-    print("system tests: %d passed, %d failed" % (passed, failed))
-    return 1 if failed else 0
+        end, why = play(test)
+        ends[end] += 1
+        print("%s ... %s%s (%.1f s)" % (test.__name__, end, why, time.monotonic() - start), flush=True)
+    print("system tests: %d passed, %d failed, %d skipped" % tuple(ends.values()))
+    return 1 if ends["FAILED"] else 0
 
 
 if __name__ == "__main__":

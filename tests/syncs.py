@@ -32,23 +32,41 @@ def count_calls(words):
         return None
     child = os.fork()
     if child == 0:
+        be_traced(words)
+    _, status = os.waitpid(child, 0)
+    if not os.WIFSTOPPED(status):
+        return None
+    counts = None
+    try:
+        if LIBC.ptrace(SETOPTIONS, child, None, TRACE_GOOD | TRACE_CLONE) == 0:
+            counts = count_to_end(child, machine)
+    finally:
+        if counts is None:
+            end(child)
+    return counts
+
+
+def be_traced(words):
+    """Stops, to be traced, and runs these words. Ends with status 1 where that can't be."""
+    try:
         silent = os.open(os.devnull, os.O_RDWR)
         for number in (0, 1, 2):
             os.dup2(silent, number)
-        LIBC.ptrace(TRACEME, 0, None, None)
-        os.kill(os.getpid(), signal.SIGSTOP)
-        os.execv(words[0], words)
-    os.waitpid(child, 0)
-    if LIBC.ptrace(SETOPTIONS, child, None, TRACE_GOOD | TRACE_CLONE) < 0:
-        os.kill(child, signal.SIGKILL)
-        os.waitpid(child, 0)
-        return None
+        if LIBC.ptrace(TRACEME, 0, None, None) == 0:
+            os.kill(os.getpid(), signal.SIGSTOP)
+            os.execv(words[0], words)
+    finally:
+        os._exit(1)
+
+
+def count_to_end(child, machine):
+    """The calls of a stopped child and of its threads, until it ends."""
     counts = {name: 0 for name in NAMES[machine].values()}
     inside = {}
     go_on(child, 0)
     while True:
         pid, status = os.waitpid(-1, ALL_CHILDREN)
-        if os.WIFEXITED(status) or os.WIFSIGNALED(status):
+        if has_ended(status):
             if pid == child:
                 return counts
             continue
@@ -62,6 +80,19 @@ def count_calls(words):
         elif signal_number in (signal.SIGTRAP, signal.SIGSTOP):
             signal_number = 0
         go_on(pid, signal_number)
+
+
+def end(child):
+    """Kills a traced child. It is gone once each of its threads was waited for."""
+    os.kill(child, signal.SIGKILL)
+    while True:
+        pid, status = os.waitpid(-1, ALL_CHILDREN)
+        if pid == child and has_ended(status):
+            return
+
+
+def has_ended(status):
+    return os.WIFEXITED(status) or os.WIFSIGNALED(status)
 
 
 def go_on(pid, signal_number):

@@ -1,18 +1,21 @@
-/* A load on a news server of this machine: load PORT SESSIONS SECONDS post
+/* A load on a news server of this machine: load PORT SESSIONS SECONDS post LIMIT
  *                                          load PORT SESSIONS SECONDS ask REQUEST line|block
- * Each session is a thread that waits for each reply before it sends again. Posts have about 1,000 octets of an id each.
- * Prints one line: replies, replies a second, and the microseconds of the median, of the 99th of 100 and of the slowest. */
+ * Each session is a thread that waits for each reply before it sends again, at most 30 seconds. Posts have about 1,000 octets of an id
+ * each, and all sessions together make at most LIMIT of them. The load ends in time, or earlier: after its last post, or at SIGTERM.
+ * Prints one line: replies, replies a second, and microseconds: the mean, the median, the 99th of 100 and the slowest. */
 #define _GNU_SOURCE
 #include <arpa/inet.h>
+#include <errno.h>
 #include <netinet/tcp.h>
 #include <pthread.h>
+#include <signal.h>
 #include <stdio.h>
 #include <stdlib.h>
 #include <string.h>
 #include <time.h>
 #include <unistd.h>
 
-enum { SESSIONS = 64, ROOM = 1 << 20, MOST = 2000000, BODY = 800 };
+enum { SESSIONS = 64, ROOM = 1 << 20, MOST = 2000000, BODY = 800, PATIENCE = 30 };
 
 struct session {
     int socket, number;
@@ -24,8 +27,9 @@ struct session {
 
 static int port, is_post, is_block;
 static const char *request;
-static long run;
-static volatile int is_over;
+static long run, posts_left;
+static double end_of_time;
+static volatile sig_atomic_t is_over;
 
 static void fail(const char *what) {
     fprintf(stderr, "load: %s\n", what);
@@ -41,10 +45,18 @@ static double now(void) {
 static void send_all(struct session *s, const char *text, size_t count) {
     while (count) {
         ssize_t sent = write(s->socket, text, count);
+        if (sent < 0 && errno == EINTR) continue;
         if (sent <= 0) fail("the server takes no more");
         text += sent;
         count -= (size_t)sent;
     }
+}
+
+static void fail_on_reply(const struct session *s) {
+    size_t count = 0;
+    while (count < s->held && s->room[count] != '\r') count++;
+    fprintf(stderr, "load: an unexpected reply to session %d, request %ld: %.*s\n", s->number, s->count, (int)count, s->room);
+    exit(1);
 }
 
 /* Reads up to this end, which a reply has, and forgets what was read. */
@@ -52,7 +64,7 @@ static void read_to(struct session *s, const char *end, const char *code) {
     for (;;) {
         char *at = memmem(s->room, s->held, end, strlen(end));
         if (at) {
-            if (code && memcmp(s->room, code, 3)) fail("an unexpected reply");
+            if (memcmp(s->room, code, strlen(code))) fail_on_reply(s);
             size_t used = (size_t)(at - s->room) + strlen(end);
             memmove(s->room, s->room + used, s->held - used);
             s->held -= used;
@@ -60,7 +72,9 @@ static void read_to(struct session *s, const char *end, const char *code) {
         }
         if (s->held == ROOM) fail("a reply is too long");
         ssize_t count = read(s->socket, s->room + s->held, ROOM - s->held);
-        if (count <= 0) fail("the server ends");
+        if (count < 0 && errno == EINTR) continue;
+        if (count < 0) fail("no reply in time");
+        if (count == 0) fail("the server ends");
         s->held += (size_t)count;
     }
 }
@@ -82,25 +96,41 @@ static void post(struct session *s) {
 static void ask(struct session *s) {
     send_all(s, request, strlen(request));
     send_all(s, "\r\n", 2);
-    read_to(s, is_block ? "\r\n.\r\n" : "\r\n", NULL);
+    read_to(s, is_block ? "\r\n.\r\n" : "\r\n", "2");
+}
+
+/* Whether a session has another request. A post that it may make is taken from those that are left. */
+static int goes_on(const struct session *s, double moment) {
+    if (is_over || moment >= end_of_time || s->count == MOST) return 0;
+    return !is_post || __atomic_sub_fetch(&posts_left, 1, __ATOMIC_RELAXED) >= 0;
 }
 
 static void *play(void *given) {
     struct session *s = given;
     struct sockaddr_in address = {.sin_family = AF_INET, .sin_port = htons((uint16_t)port), .sin_addr.s_addr = htonl(INADDR_LOOPBACK)};
+    struct timeval patience = {.tv_sec = PATIENCE};
     int one = 1;
     s->socket = socket(AF_INET, SOCK_STREAM, 0);
     setsockopt(s->socket, IPPROTO_TCP, TCP_NODELAY, &one, sizeof one);
+    setsockopt(s->socket, SOL_SOCKET, SO_RCVTIMEO, &patience, sizeof patience);
+    setsockopt(s->socket, SOL_SOCKET, SO_SNDTIMEO, &patience, sizeof patience);
     if (connect(s->socket, (void *)&address, sizeof address)) fail("no connection");
     read_to(s, "\r\n", "200");
-    while (!is_over && s->count < MOST) {
-        double start = now();
+    double start = now();
+    while (goes_on(s, start)) {
         if (is_post) post(s); else ask(s);
-        s->micros[s->count++] = now() - start;
+        double end = now();
+        s->micros[s->count++] = end - start;
+        start = end;
     }
     send_all(s, "QUIT\r\n", 6);
     close(s->socket);
     return NULL;
+}
+
+static void stop(int signal) {
+    (void)signal;
+    is_over = 1;
 }
 
 static int compare(const void *a, const void *b) {
@@ -109,38 +139,41 @@ static int compare(const void *a, const void *b) {
 }
 
 int main(int count, char **words) {
-    if (count != 5 && count != 7) fail("PORT SESSIONS SECONDS post | ask REQUEST line|block");
+    if (count != 6 && count != 7) fail("PORT SESSIONS SECONDS post LIMIT | ask REQUEST line|block");
     port = atoi(words[1]);
     int sessions = atoi(words[2]);
     is_post = !strcmp(words[4], "post");
-    if (is_post != (count == 5) || sessions < 1 || sessions > SESSIONS) fail("bad words");
-    if (!is_post) {
+    if (is_post != (count == 6) || sessions < 1 || sessions > SESSIONS) fail("bad words");
+    if (is_post) {
+        posts_left = atol(words[5]);
+    } else {
         request = words[5];
         is_block = !strcmp(words[6], "block");
     }
+    signal(SIGTERM, stop);
     struct timespec time;
     clock_gettime(CLOCK_REALTIME, &time);
     run = time.tv_sec % 1000000 * 1000 + time.tv_nsec / 1000000;
     static struct session all[SESSIONS];
     pthread_t threads[SESSIONS];
     double start = now();
+    end_of_time = start + atof(words[3]) * 1e6;
     for (int i = 0; i < sessions; i++) {
         all[i] = (struct session){.number = i, .room = malloc(ROOM), .micros = malloc(sizeof(double) * MOST)};
         pthread_create(&threads[i], NULL, play, &all[i]);
     }
-    usleep((useconds_t)(atof(words[3]) * 1e6));
-    is_over = 1;
     long total = 0;
     for (int i = 0; i < sessions; i++) {
         pthread_join(threads[i], NULL);
         total += all[i].count;
     }
     double seconds = (now() - start) / 1e6, *micros = malloc(sizeof(double) * (size_t)(total + 1));
+    double sum = 0;
     long at = 0;
     for (int i = 0; i < sessions; i++)
-        for (long k = 0; k < all[i].count; k++) micros[at++] = all[i].micros[k];
+        for (long k = 0; k < all[i].count; k++) sum += micros[at++] = all[i].micros[k];
     qsort(micros, (size_t)total, sizeof(double), compare);
     if (!total) fail("no reply in time");
-    printf("%ld %.1f %.1f %.1f %.1f\n", total, total / seconds, micros[total / 2], micros[total * 99 / 100], micros[total - 1]);
+    printf("%ld %.1f %.1f %.1f %.1f %.1f\n", total, total / seconds, sum / total, micros[total / 2], micros[total * 99 / 100], micros[total - 1]);
     return 0;
 }
