@@ -1,4 +1,4 @@
-//! Counts what 64 batches of 6 images ask of a device, with one segment and with eight, with and without a cache over it, and prints it. Where `--time` is
+//! Counts what 64 batches of 6 images ask of a device, with and without a cache over it, and prints it. Where `--time` is
 //! given, it also prints the time of a write of 64 octets to a cache, of 1,000, of 10,000 and of 100,000 between two syncs:
 //! the last is to be at most twice the first.
 #![tactic(auto)]
@@ -17,11 +17,13 @@ const BATCHES: u64 = 64;
 /// Octets of six images.
 const IMAGES: usize = 6 * 4096;
 
-/// More device calls than a batch of six images has that carries eight such home.
+/// More device calls than a batch of six images has.
 const MOST_CALLS: u64 = 100;
 
-/// Logical blocks of the volume.
+/// Logical blocks of the volume, and its octets.
 const BLOCKS: u64 = 1024;
+
+const OCTETS: u64 = 4096 * (515 + BLOCKS);
 
 /// Octets of a write to the cache.
 const PIECE: u64 = 64;
@@ -53,42 +55,22 @@ fn carry_all<D: Disk + Drop>(alloc: Global, disk: D) -> Result<D> {
     Ok(journal.into_disk())
 }
 
-/// A device with an empty volume of so many segments, 1 or 8, and how many writes and syncs that took.
-fn formatted(alloc: Global, segments: u32) -> Result<(MemDisk, (u64, u64))> {
-    ensure!(segments == 1 || segments == 8, "neither 1 nor 8 segments");
-    let octets = 4096 * (1 + 514 * u64::from(segments) + BLOCKS);
-    let mut disk = MemDisk::new(alloc, octets)?;
-    ensure!(disk.len() == octets, "another length");
-    format_with(alloc, &mut disk, segments, BLOCKS, &[0; 128])?;
+/// A device with an empty volume, and how many writes and syncs that took.
+fn formatted(alloc: Global) -> Result<(MemDisk, (u64, u64))> {
+    let mut disk = MemDisk::new(alloc, OCTETS)?;
+    ensure!(disk.len() == OCTETS, "another length");
+    format_with(alloc, &mut disk, 1, BLOCKS, &[0; 128])?;
     let counts = disk.counts();
     Ok((disk, counts))
 }
 
-fn show_counts(
-    rt: &impl Print,
-    segments: u32,
-    name: &str,
-    before: (u64, u64),
-    after: (u64, u64),
-) -> Result<()> {
+fn show_counts(rt: &impl Print, name: &str, before: (u64, u64), after: (u64, u64)) -> Result<()> {
     let writes = after.0.wrapping_sub(before.0);
     let syncs = after.1.wrapping_sub(before.1);
     rt.println(format_args!(
-        "{segments} segments, {name}: {writes} writes and {syncs} syncs for an opening and {BATCHES} batches"
+        "{name}: {writes} writes and {syncs} syncs for an opening and {BATCHES} batches"
     ))?;
     Ok(())
-}
-
-/// Counts for a volume of so many segments, 1 or 8.
-fn count(rt: &impl Print, alloc: Global, segments: u32) -> Result<()> {
-    let (disk, before) = formatted(alloc, segments)?;
-    let after = carry_all(alloc, disk)?.counts();
-    show_counts(rt, segments, "without a cache", before, after)?;
-    let (disk, before) = formatted(alloc, segments)?;
-    let after = carry_all(alloc, WCache::new(alloc, disk))?
-        .into_inner()
-        .counts();
-    show_counts(rt, segments, "with a cache", before, after)
 }
 
 /// The nanoseconds of one of so many writes, side by side, between two syncs.
@@ -108,9 +90,14 @@ fn time_of_writes(rt: &impl Clock, alloc: Global, writes: u64) -> Result<u128> {
 
 fn main(rt: HostRuntime) -> Result<()> {
     let alloc = rt.alloc();
-    for segments in [1, 8] {
-        count(&rt, alloc, segments)?;
-    }
+    let (disk, before) = formatted(alloc)?;
+    let after = carry_all(alloc, disk)?.counts();
+    show_counts(&rt, "without a cache", before, after)?;
+    let (disk, before) = formatted(alloc)?;
+    let after = carry_all(alloc, WCache::new(alloc, disk))?
+        .into_inner()
+        .counts();
+    show_counts(&rt, "with a cache", before, after)?;
     if std::env::args(&rt)?.count() > 1 {
         for writes in [1_000, 10_000, 100_000] {
             let time = time_of_writes(&rt, alloc, writes)?;
