@@ -1,5 +1,5 @@
-//! Counts what 64 batches of 6 images ask of a device, with and without a cache over it, and prints it. Where `--time` is
-//! given, it also prints the time of a write of 64 octets to a cache, of 1,000, of 10,000 and of 100,000 between two syncs:
+//! Counts what 64 batches of 6 images ask of a device, with one segment and with eight, with and without a cache over it, and
+//! prints it. Where `--time` is given, it also prints the time of a write of 64 octets to a cache, of 1,000, of 10,000 and of 100,000 between two syncs:
 //! the last is to be at most twice the first.
 #![tactic(auto)]
 
@@ -10,6 +10,7 @@ use memdisk::MemDisk;
 use std::alloc::Global;
 use std::rt::Clock;
 use std::time::Instant;
+use volume_format::layout::{BLOCK, SEGMENT_BLOCKS};
 use wcache::WCache;
 
 const BATCHES: u64 = 64;
@@ -20,10 +21,8 @@ const IMAGES: usize = 6 * 4096;
 /// More device calls than a batch of six images has.
 const MOST_CALLS: u64 = 100;
 
-/// Logical blocks of the volume, and its octets.
+/// Logical blocks of the volume.
 const BLOCKS: u64 = 1024;
-
-const OCTETS: u64 = 4096 * (515 + BLOCKS);
 
 /// Octets of a write to the cache.
 const PIECE: u64 = 64;
@@ -55,22 +54,42 @@ fn carry_all<D: Disk + Drop>(alloc: Global, disk: D) -> Result<D> {
     Ok(journal.into_disk())
 }
 
-/// A device with an empty volume, and how many writes and syncs that took.
-fn formatted(alloc: Global) -> Result<(MemDisk, (u64, u64))> {
-    let mut disk = MemDisk::new(alloc, OCTETS)?;
-    ensure!(disk.len() == OCTETS, "another length");
-    format_with(alloc, &mut disk, 1, BLOCKS, &[0; 128])?;
+/// A device with an empty volume of 1 or 8 segments, and how many writes and syncs that took.
+fn formatted(alloc: Global, segments: u32) -> Result<(MemDisk, (u64, u64))> {
+    ensure!(segments == 1 || segments == 8, "another number of segments");
+    let octets = BLOCK as u64 * (1 + SEGMENT_BLOCKS * u64::from(segments) + BLOCKS);
+    let mut disk = MemDisk::new(alloc, octets)?;
+    format_with(alloc, &mut disk, segments, BLOCKS, &[0; 128])?;
     let counts = disk.counts();
     Ok((disk, counts))
 }
 
-fn show_counts(rt: &impl Print, name: &str, before: (u64, u64), after: (u64, u64)) -> Result<()> {
+/// Prints what an opening and all batches asked of a device.
+fn show_counts(
+    rt: &impl Print,
+    segments: u32,
+    with: &str,
+    before: (u64, u64),
+    after: (u64, u64),
+) -> Result<()> {
     let writes = after.0.wrapping_sub(before.0);
     let syncs = after.1.wrapping_sub(before.1);
     rt.println(format_args!(
-        "{name}: {writes} writes and {syncs} syncs for an opening and {BATCHES} batches"
+        "segments {segments}, {with} a cache: {writes} writes and {syncs} syncs for an opening and {BATCHES} batches"
     ))?;
     Ok(())
+}
+
+/// Counts the calls of all batches on a volume with so many segments, without a cache and with one.
+fn count(rt: &impl Print, alloc: Global, segments: u32) -> Result<()> {
+    let (disk, before) = formatted(alloc, segments)?;
+    let after = carry_all(alloc, disk)?.counts();
+    show_counts(rt, segments, "without", before, after)?;
+    let (disk, before) = formatted(alloc, segments)?;
+    let after = carry_all(alloc, WCache::new(alloc, disk))?
+        .into_inner()
+        .counts();
+    show_counts(rt, segments, "with", before, after)
 }
 
 /// The nanoseconds of one of so many writes, side by side, between two syncs.
@@ -90,14 +109,9 @@ fn time_of_writes(rt: &impl Clock, alloc: Global, writes: u64) -> Result<u128> {
 
 fn main(rt: HostRuntime) -> Result<()> {
     let alloc = rt.alloc();
-    let (disk, before) = formatted(alloc)?;
-    let after = carry_all(alloc, disk)?.counts();
-    show_counts(&rt, "without a cache", before, after)?;
-    let (disk, before) = formatted(alloc)?;
-    let after = carry_all(alloc, WCache::new(alloc, disk))?
-        .into_inner()
-        .counts();
-    show_counts(&rt, "with a cache", before, after)?;
+    for segments in [1, 8] {
+        count(&rt, alloc, segments)?;
+    }
     if std::env::args(&rt)?.count() > 1 {
         for writes in [1_000, 10_000, 100_000] {
             let time = time_of_writes(&rt, alloc, writes)?;
