@@ -1,14 +1,14 @@
 -- The calls of a batch up to the one that commits it.
-use Rattle.std.proofs.Common.{◌≡◌, ◌≢◌, ◌≤◌, ◌<◌, ◌+◌, ◌-◌, ◌*◌, ℕ, Bool, false, eqb, IsTrue, List, length, refl, sym, ◌∙◌, ap, subst, arith, ◌⊎◌, inl, inr, true, Result, Ok, Err, IfErr}
+use Rattle.std.proofs.Common.{◌≡◌, ◌≢◌, ◌≤◌, ◌<◌, ◌+◌, ◌-◌, ℕ, Bool, false, IsTrue, List, length, refl, sym, ◌∙◌, ap, subst, arith, ◌⊎◌, inl, inr, true, Result, Ok, Err, IfErr}
 use Rattle.disk.specs.Device.{Device}
 use Rattle.journal.specs.Calls.{IsRetried, MakesCall, OnMade, OnRetried, blocks_after}
-use Rattle.journal.specs.Journal.{IsIdle, JournalView, LeavesAdmitted, calls, sizes, with_batch}
+use Rattle.journal.specs.Journal.{JournalView, LeavesAdmitted, calls, sizes, with_batch}
 use Rattle.journal.specs.Opening.{IsMore}
-use Rattle.journal.specs.Order.{answer, calls_made, following, syncs_made, writes_made}
+use Rattle.journal.specs.Order.{answer, following, syncs_made, writes_made}
 use Rattle.journal.specs.declared.Next.{Next}
 use Rattle.journal.specs.declared.Next.TheVariants.{Idle, Descriptor, Image, Seal, OpenGate, Commit, Home, Settle, CloseGate, Finish}
 use Rattle.journal.specs.declared.Progress.{Progress}
-use Rattle.journal.specs.declared.Progress.TheVariants.{Working, Committed, Idle as Ended}
+use Rattle.journal.specs.declared.Progress.TheVariants.{Committed}
 use Rattle.journal.specs.declared.JournalError.{JournalError}
 use Rattle.journal.proofs.Flights.{after_image}
 use Rattle.journal.proofs.During.{IsLeft, IsOnTheWay, on_the_way, same_sizes, stepped_on}

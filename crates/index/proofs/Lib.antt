@@ -7,3 +7,4 @@ pub mod Lists
 pub mod Serials
 pub mod Known
 pub mod Callers
+pub mod Moments

@@ -1,8 +1,8 @@
 -- Loops over lists: whether one passes, and the greatest.
-use Rattle.std.proofs.Common.{◌≡◌, ℕ, zero, suc, ◌+◌, ◌<◌, ◌≤◌, List, [], ◌∷◌, ◌++◌, length, map, take, get_or, refl, sym, ◌∙◌, ap, arith, Bool, true, false, cond}
+use Rattle.std.proofs.Common.{◌≡◌, ℕ, zero, suc, ◌+◌, ◌<◌, List, [], ◌∷◌, ◌++◌, length, map, take, get_or, refl, sym, ◌∙◌, ap, arith, Bool, true, false, cond}
 use Rattle.std.specs.Prelude.{Some, filter, max, slice_get, ◌&&◌, ◌||◌}
 use Rattle.std.specs.List.{list_any}
-use Rattle.std.proofs.lemmas.List.{map_push, take_all, take_more}
+use Rattle.std.proofs.lemmas.List.{map_push, take_more}
 use Rattle.model.specs.Spool.{greatest}
 
 -- ---- an element
@@ -52,17 +52,3 @@ greatest_step f xs i x last low is before =
     ∙ sym (greatest_push (map f (take i xs)) (f (get_or xs i x)))
     ∙ ap greatest (sym (map_push f (take i xs) (get_or xs i x)))
     ∙ ap (λ ys. greatest (map f ys)) (sym (take_more xs i x low))
-
-pub greatest_all : {X : Type 0} (f : X → ℕ) (xs : List X) (n last : ℕ) → length xs ≤ n → last ≡ greatest (map f (take n xs)) → last ≡ greatest (map f xs)
-greatest_all f xs n last all is = is ∙ ap (λ ys. greatest (map f ys)) (take_all n xs all)
-
-pub greatest_tested : {X : Type 0} (f : X → ℕ) (t : X → Bool) (xs : List X) → greatest (map (λ x. cond (t x) (f x) 0) xs) ≡ greatest (map f (filter t xs))
-greatest_tested f t [] = refl
-greatest_tested {X} f t (x ∷ xs) = by_test (t x) (greatest_tested f t xs) where
-  none : (n : ℕ) → max 0 n ≡ n
-  none n = omega arith
-
-  by_test : (b : Bool) → greatest (map (λ (y : X). cond (t y) (f y) 0) xs) ≡ greatest (map f (filter t xs))
-      → max (cond b (f x) 0) (greatest (map (λ (y : X). cond (t y) (f y) 0) xs)) ≡ greatest (map f (cond b (x ∷ filter t xs) (filter t xs)))
-  by_test true rest = ap (max (f x)) rest
-  by_test false rest = none (greatest (map (λ (y : X). cond (t y) (f y) 0) xs)) ∙ rest

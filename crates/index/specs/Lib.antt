@@ -4,3 +4,4 @@ pub mod Naming
 pub mod Filing
 pub mod Notes
 pub mod Finding
+pub mod Latest

@@ -1,7 +1,8 @@
 //! Look-ups of articles by their serials.
 
-ghost use Rattle.std.specs.Prelude.{◌≡◌, ◌&&◌, IsTrue, length, map, option_map};
+ghost use Rattle.std.specs.Prelude.{◌≡◌, ◌≤◌, ◌&&◌, ℕ, IfSome, IsTrue, false, length, map, option_map};
 ghost use Rattle.std.specs.List.{list_any};
+ghost use Rattle.model.specs.Answer.{is_since};
 ghost use Rattle.model.specs.Stream.{Octets};
 ghost use Rattle.model.specs.Names as model;
 ghost use Rattle.model.specs.Indexed.{note_of};
@@ -11,6 +12,7 @@ ghost use Rattle.lookups.specs.Held.{article_with, gone_with, groups_now};
 ghost use Rattle.index.specs.Finding.{note_at};
 
 use crate::Index;
+use crate::latest::moments_below;
 use crate::note::Note;
 use model::Text;
 use names::wildmat_matches;
@@ -55,6 +57,18 @@ impl Index {
         match self.note(serial) {
             Some(note) => note.moment(),
             None => None,
+        }
+    }
+
+    /// How many changes in front have no article of this moment or a later one, in seconds since 1970: all up to the first that
+    /// has, where moments don't fall from change to change. It takes the logarithm of their number.
+    pub fn older_than(&self, from: i64) -> u64
+        ensures few { (S : Spool) → Indexes S self.now → result ≤ length S }
+        ensures older { (S : Spool) → Indexes S self.now → (serial : ℕ) → serial ≤ result → IfSome (article_with S serial) (λ a. is_since from a.moment ≡ false) }
+    {
+        match u64::try_from(from) {
+            Ok(moment) => moments_below(&self.latest, moment) as u64,
+            Err(_) => 0,
         }
     }
 

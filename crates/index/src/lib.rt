@@ -1,7 +1,7 @@
 //! The index of a spool in memory: what its look-ups need beside the files, equal to the list of changes.
 #![tactic(auto)]
 
-ghost use Rattle.std.specs.Prelude.{◌≡◌, ◌+◌, ◌-◌, ◌^◌, ◌<◌, ◌≤◌, ◌∷◌, ◌++◌, ℕ, List, [], false, map, length, option_map, slice_get, slice_index, slice_index_or, Some, IfSome, OnOk, OnErr, bytes_eq, is_some};
+ghost use Rattle.std.specs.Prelude.{◌≡◌, ◌+◌, ◌-◌, ◌^◌, ◌<◌, ◌≤◌, ◌∷◌, ◌++◌, [], false, map, length, option_map, slice_get, Some, IfSome, OnOk, OnErr, bytes_eq, is_some};
 ghost use Rattle.std.specs.Bool.{OnTrue};
 ghost use Rattle.std.specs.List.{All, list_any};
 ghost use Rattle.std.specs.Option.{option_and_then};
@@ -19,12 +19,14 @@ mod articles;
 mod filing;
 mod group;
 mod keys;
+mod latest;
 mod note;
 mod views;
 
 use filing::{expire_one, overviews_below, place_of, push_lines, reserve_lines};
 pub use group::Group;
 use keys::Keys;
+use latest::push_latest;
 use model::{Names, Text};
 pub use note::Note;
 use std::alloc::{AllocError, Global};
@@ -35,6 +37,8 @@ use std::marker::Model;
 pub struct Index {
     alloc: Global,
     notes: Vec<Note>,
+    /// of each change the latest moment of an article up to it
+    latest: Vec<u64>,
     groups: Vec<Group>,
     /// the places of the groups by their names
     places: Keys,
@@ -45,6 +49,7 @@ pub struct Index {
 impl Model for Index {
     ghost use Rattle.std.specs.Prelude.{map};
     ghost use Rattle.index.specs.Shown.{shown};
+    ghost use Rattle.index.specs.Latest.{AreLatest};
     ghost use Rattle.index.specs.Naming.{AreNamed, heads};
     ghost use Rattle.index.specs.View.{IndexView};
 
@@ -52,7 +57,7 @@ impl Model for Index {
 
     ghost view = { λ x. record { notes = x.notes.items; groups = map shown x.groups.items; ids = x.ids } };
 
-    ghost invariant = { λ x. AreNamed x.places (heads (map shown x.groups.items)) };
+    ghost invariant = { λ x. AreNamed x.places (heads (map shown x.groups.items)) × AreLatest x.latest.items x.notes.items };
 }
 
 impl Index {
@@ -65,6 +70,7 @@ impl Index {
         Index {
             alloc,
             notes: Vec::new(alloc),
+            latest: Vec::new(alloc),
             groups: Vec::new(alloc),
             places: Keys::new(alloc),
             ids: Keys::new(alloc),
@@ -156,11 +162,13 @@ impl Index {
         let serial = self.notes.len() as u64 + 1;
         let group = Group::new(self.alloc, serial, name, status, description, moment)?;
         self.notes.reserve(1)?;
+        self.latest.reserve(1)?;
         self.groups.reserve(1)?;
         self.places.insert(name, self.groups.len() as u64)?;
         let Ok(()) = self.groups.push(group) else {
             unreachable!()
         };
+        push_latest(&mut self.latest, &Note::Group);
         let Ok(()) = self.notes.push(Note::Group) else {
             unreachable!()
         };
@@ -186,6 +194,7 @@ impl Index {
     {
         let serial = self.notes.len() as u64 + 1;
         self.notes.reserve(1)?;
+        self.latest.reserve(1)?;
         reserve_lines(&mut self.groups, &self.places, filed.as_slice())?;
         self.ids.insert(id, serial)?;
         push_lines(
@@ -201,6 +210,7 @@ impl Index {
             groups,
             moment,
         };
+        push_latest(&mut self.latest, &note);
         let Ok(()) = self.notes.push(note) else {
             unreachable!()
         };
@@ -217,8 +227,11 @@ impl Index {
         let serial = self.notes.len() as u64 + 1;
         let group = Text::new(Vec::from_slice(self.alloc, name)?);
         self.notes.reserve(1)?;
+        self.latest.reserve(1)?;
         expire_one(&mut self.groups, &self.places, name, serial, number)?;
-        let Ok(()) = self.notes.push(Note::Expiry { group, number }) else {
+        let note = Note::Expiry { group, number };
+        push_latest(&mut self.latest, &note);
+        let Ok(()) = self.notes.push(note) else {
             unreachable!()
         };
         Ok(())

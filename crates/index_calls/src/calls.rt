@@ -15,6 +15,8 @@ pub enum Call {
     Make(&'static str),
     /// Files an article with this id, this size, these groups and the sizes of its lines there, and answers how many changes there are.
     File(&'static str, u64, &'static [&'static str], &'static [u64]),
+    /// Files an article with this id and this moment in the group `x.a`, and answers how many changes there are.
+    FileAt(&'static str, u64),
     /// Takes the articles up to a number out of a group, and answers how many changes there are.
     Expire(&'static str, u64),
     Len,
@@ -47,7 +49,8 @@ pub enum Call {
     GoneAt(u64),
     /// Whether an article is in a group whose name the wildmat takes.
     IsInOne(u64, &'static str),
-    LastNaming(&'static str),
+    /// How many changes in front are older than a moment.
+    OlderThan(i64),
 }
 
 /// Makes a call, and answers what it finds: none where there is nothing, or where what the call asks for doesn't hold.
@@ -62,6 +65,7 @@ pub fn answer(alloc: Global, index: &mut Index, call: Call) -> Result<Option<u64
             groups,
             sizes,
         ),
+        Call::FileAt(id, moment) => file_at(alloc, index, id.as_bytes(), moment),
         Call::Expire(name, number) => expire(index, name.as_bytes(), number),
         found => Ok(find(index, found)),
     }
@@ -93,6 +97,20 @@ fn file(
     Ok(Some(index.len()))
 }
 
+fn file_at(
+    alloc: Global,
+    index: &mut Index,
+    id: &[u8],
+    moment: u64,
+) -> Result<Option<u64>, AllocError> {
+    let filed = names_of(alloc, &["x.a"])?;
+    if filed.as_slice().len() != 1 || !index.overviews_fit() {
+        return Ok(None);
+    }
+    index.push_article(id, 100, filed, moment, &[10])?;
+    Ok(Some(index.len()))
+}
+
 fn names_of(alloc: Global, groups: &[&str]) -> Result<Names, AllocError> {
     let mut names = Vec::new(alloc);
     for group in groups {
@@ -121,7 +139,7 @@ fn find(index: &Index, call: Call) -> Option<u64> {
         Call::ById(id) => index.by_id(id.as_bytes()),
         Call::GoneAt(serial) => index.gone_at(serial),
         Call::IsInOne(serial, wildmat) => is_in_one(index, serial, wildmat.as_bytes()),
-        Call::LastNaming(wildmat) => last_naming(index, wildmat.as_bytes()),
+        Call::OlderThan(from) => Some(index.older_than(from)),
         of_group => find_in_group(index, of_group),
     }
 }
@@ -174,11 +192,4 @@ fn is_in_one(index: &Index, serial: u64, wildmat: &[u8]) -> Option<u64> {
         return None;
     }
     Some(u64::from(index.is_in_one(serial, wildmat)))
-}
-
-fn last_naming(index: &Index, wildmat: &[u8]) -> Option<u64> {
-    if !is_wildmat(wildmat) {
-        return None;
-    }
-    Some(index.last_naming(wildmat))
 }

@@ -1,8 +1,7 @@
 -- What `admin` and `expire` answer, from what the spool answers.
-use Rattle.std.proofs.Common.{◌≡◌, ◌⊎◌, inl, inr, ℕ, ◌+◌, ◌<◌, ◌≤◌, Bool, true, false, List, [], ◌∷◌, length, refl, ap, sym, ◌∙◌, arith}
+use Rattle.std.proofs.Common.{◌≡◌, ◌⊎◌, inl, inr, ℕ, ◌+◌, ◌<◌, ◌≤◌, Bool, true, false, List, [], ◌∷◌, length, refl, ap, sym, ◌∙◌}
 use Rattle.std.specs.Prelude.{Ok, Option, Some, None, not, nat_le, nat_lt, if◌then◌else◌}
-use Rattle.std.proofs.lemmas.Bool.{leb-false, ltb-false, ltb-true}
-use Rattle.model.specs.Room.{is_full}
+use Rattle.std.proofs.lemmas.Bool.{leb-false, ltb-false}
 use Rattle.model.specs.Stream.{Octets}
 use Rattle.model.specs.Spool.{is_here}
 use Rattle.model.specs.declared.change.Change.{Change}
@@ -11,7 +10,7 @@ use Rattle.spool_files.specs.View.{SpoolView, Adds}
 use Rattle.spool_files.specs.Refusals.{expiry_refusal, group_refusal, has_number, is_full_for}
 use Rattle.spool_files.specs.declared.errors.AddError.TheVariants as add
 use Rattle.spool_files.specs.declared.errors.ExpireError.TheVariants as expire
-use Rattle.kernel.specs.Kernel.{Administers, Exists, Full, Halted, KernelView, LaterDirty, NotFound, Refusal, Seat, TooManySessions, admin_refusal_of, early_refusal, expire_refusal_of, first_failing, join_refusal, only_tested, takes_none}
+use Rattle.kernel.specs.Kernel.{Administers, Exists, Full, Halted, KernelView, LaterDirty, NotFound, Refusal, Seat, TooManySessions, admin_refusal_of, early_refusal, expire_refusal_of, first_failing, join_refusal, only_tested}
 use Rattle.kernel.specs.Stored.{kernel_of}
 use Rattle.kernel.proofs.ExecLaws.{changed_dirties}
 

@@ -1,6 +1,6 @@
 //! Posters: each has a session of its own, and posts from a thread of its own.
 
-ghost use Rattle.std.specs.Prelude.{◌≡◌, IsTrue};
+ghost use Rattle.std.specs.Prelude.{IsTrue};
 ghost use Rattle.kernel.specs.Kernel.{FitsMode};
 
 use kernel::{BatchBuf, ExecError, Kernel};

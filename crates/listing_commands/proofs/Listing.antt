@@ -1,6 +1,6 @@
 -- The lines of the groups that a list has, and the last serial that names one of them.
-use Rattle.std.proofs.Common.{◌≡◌, ℕ, zero, suc, ◌+◌, ◌<◌, ◌≤◌, List, [], ◌∷◌, ◌++◌, map, refl, sym, ◌∙◌, ap, arith, append_assoc, append-nil, Bool, true, false, cond, length}
-use Rattle.std.specs.Prelude.{◌==◌, codes, decimal, filter, flat_map, max, slice_get, take, Option, Some, None, ℤ}
+use Rattle.std.proofs.Common.{◌≡◌, ℕ, ◌+◌, List, [], ◌∷◌, ◌++◌, map, refl, sym, ◌∙◌, ap, arith, append_assoc, append-nil, Bool, true, false, cond, length}
+use Rattle.std.specs.Prelude.{◌==◌, filter, flat_map, max, slice_get, take, Some, None, ℤ}
 use Rattle.std.proofs.lemmas.List.{map-append, take_more, take_all, length-map}
 use Rattle.std.proofs.lemmas.List.Concat.{flat_map-append}
 use Rattle.std.proofs.lemmas.List.Elements.{filter-append}
@@ -9,7 +9,7 @@ use Rattle.model.specs.Answer.{is_listed, is_since}
 use Rattle.model.specs.Lawful.{IsLawful}
 use Rattle.model.specs.Replies.{block}
 use Rattle.model.specs.Spool.{Spool, Listed, NewsGroup, greatest, groups, last_naming, last_naming_one, listed}
-use Rattle.model.specs.Stream.{Octets, crlf, dot_line, line, stuffed_line}
+use Rattle.model.specs.Stream.{Octets, dot_line, line, stuffed_line}
 use Rattle.lookups.specs.Held.{Known, all_known, known}
 use Rattle.lookups.proofs.Absent.{greatest_last, last_of_groups}
 use Rattle.listing_commands.specs.Lists.{is_picked, last_of, later_of, line_of, lines_of, picked, rest_of, shown_as}

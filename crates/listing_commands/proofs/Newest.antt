@@ -1,6 +1,6 @@
 -- The lines of the articles that are new.
-use Rattle.std.proofs.Common.{◌≡◌, ℕ, zero, suc, ◌+◌, ◌<◌, ◌≤◌, List, [], ◌∷◌, ◌++◌, map, refl, sym, ◌∙◌, ap, subst, arith, append_assoc, append-nil, add-one, inl, inr, Bool, true, false, cond, length}
-use Rattle.std.specs.Prelude.{◌==◌, ◌&&◌, All, codes, filter, filter_map, flat_map, nat_le, slice_get, take, count_by, slice_index, Option, Some, None, ℤ, option_map, option_and_then, unwrap_or, IsTrue}
+use Rattle.std.proofs.Common.{◌≡◌, ℕ, zero, suc, ◌+◌, ◌≤◌, List, [], ◌∷◌, ◌++◌, map, refl, sym, ◌∙◌, ap, arith, append_assoc, append-nil, add-one, inl, inr, Bool, true, false, cond, length}
+use Rattle.std.specs.Prelude.{◌==◌, ◌&&◌, All, IfSome, codes, filter, filter_map, flat_map, nat_le, slice_get, take, Option, Some, None, ℤ, option_map, option_and_then, unwrap_or}
 use Rattle.std.specs.List.{cons_option, list_all, list_any}
 use Rattle.std.specs.Option.{option_to_list}
 use Rattle.std.proofs.lemmas.Bool.{and_parts, eqb-true, or_cases}
@@ -8,11 +8,11 @@ use Rattle.std.proofs.lemmas.List.{take_all}
 use Rattle.std.proofs.lemmas.List.Concat.{flat_map-append}
 use Rattle.std.proofs.lemmas.List.Elements.{All-cons, All-head, All-nil, All-tail, filter-append}
 use Rattle.model.specs.Answer.{id_of, is_since}
-use Rattle.model.specs.Article.{Carried, allows_id, cause, field_count, id, id_in_field, own_id}
+use Rattle.model.specs.Article.{Carried, allows_id, cause, field_count, id, id_in_field}
 use Rattle.model.specs.Lawful.{IsLawful, IsLawfulAfter}
 use Rattle.model.specs.Names.{is_message_id, is_visible, wildmat_matches}
 use Rattle.model.specs.Replies.{block}
-use Rattle.model.specs.Spool.{Spool, Entry, NewsArticle, article_filed, articles, articles_now, as_it_is, entries, entries_from}
+use Rattle.model.specs.Spool.{Spool, NewsArticle, article_filed, articles, articles_now, as_it_is, entries, entries_from}
 use Rattle.model.specs.Stream.{Octets, dot_line, line, stuffed_line}
 use Rattle.model.specs.declared.change.Change.TheVariants.{Group, Article, Expire}
 use Rattle.model.proofs.HoldsOne.{carried_cause}
@@ -75,6 +75,16 @@ pub lines_more : (S : Spool) (w : Octets) (from : ℤ) (n : ℕ) → lines_up_to
 lines_more S w from n =
     rw add-one (ap (new_lines S w from) (filter_map_more article_filed (entries S) n)
     ∙ new_lines-append S w from (filter_map article_filed (take n (entries S))) (option_to_list (article_with S (suc n))))
+
+-- none of what is older
+pub old_lines : (S : Spool) (w : Octets) (from : ℤ) (n : ℕ) → ((serial : ℕ) → serial ≤ n → IfSome (article_with S serial) (λ a. is_since from a.moment ≡ false)) → lines_up_to S w from n ≡ []
+old_lines S w from zero older = refl
+old_lines S w from (suc n) older =
+    ap (lines_up_to S w from) (sym (add-one n)) ∙ lines_more S w from n ∙ ap (λ os. os ++ new_lines S w from (option_to_list (article_with S (n + 1)))) (old_lines S w from n (λ serial low. older serial (omega arith))) ∙ by_article (article_with S (n + 1)) (older (n + 1) (omega arith))
+  where
+    by_article : (o : Option NewsArticle) → IfSome o (λ a. is_since from a.moment ≡ false) → new_lines S w from (option_to_list o) ≡ []
+    by_article None old = refl
+    by_article (Some a) old = no_line S w from (Some a) a.moment refl (ap (λ b. b && list_any (wildmat_matches w) (as_it_is S a).groups) old)
 
 entries_size : (n : ℕ) (S : Spool) → length (entries_from n S) ≡ length S
 entries_size n [] = refl

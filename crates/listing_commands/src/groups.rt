@@ -1,6 +1,6 @@
 //! The groups that a list has, and their lines.
 
-ghost use Rattle.std.specs.Prelude.{◌≡◌, ◌++◌, ◌∷◌, [], IfOk, IfSome, IsTrue, OnOk, decimal};
+ghost use Rattle.std.specs.Prelude.{◌≡◌, ◌++◌, ◌∷◌, IfOk, IfSome, IsTrue, OnOk, decimal};
 ghost use Rattle.model.specs.Answer.{is_listed, is_since};
 ghost use Rattle.model.specs.Names.{is_wildmat};
 ghost use Rattle.model.specs.Spool.{NewsGroup};

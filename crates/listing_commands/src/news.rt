@@ -57,7 +57,7 @@ fn articles_since<L: LookUps>(
     says(alloc, session, reply, spool.len())
 }
 
-/// A line for each article that is new, in rising serial.
+/// A line for each article that is new, in rising serial. Those that are surely older are passed over.
 fn push_articles<L: LookUps>(
     spool: &L,
     wildmat: &[u8],
@@ -67,7 +67,7 @@ fn push_articles<L: LookUps>(
     requires { IsTrue (is_wildmat wildmat.now) }
     ensures { OnOk result (reply.new.items ≡ reply.old.items ++ new_lines (L.changes spool.now) wildmat.now from (articles (L.changes spool.now))) }
 {
-    for place in 0..spool.len() {
+    for place in spool.older_than(from)..spool.len() {
         push_new(spool, wildmat, from, place + 1, reply)?;
     }
     Ok(())

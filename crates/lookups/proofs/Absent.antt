@@ -1,5 +1,5 @@
 -- A change of a lawful spool names only groups that are here. So the last serial that names one of some groups is that of one of them.
-use Rattle.std.proofs.Common.{◌≡◌, ℕ, suc, ◌+◌, ◌<◌, ◌≤◌, List, [], ◌∷◌, ◌++◌, map, refl, sym, ◌∙◌, ap, subst, arith, append_assoc, Bool, true, false, cond}
+use Rattle.std.proofs.Common.{◌≡◌, ℕ, suc, ◌+◌, ◌≤◌, List, [], ◌∷◌, ◌++◌, map, refl, sym, ◌∙◌, ap, subst, arith, append_assoc, Bool, true, false, cond}
 use Rattle.std.specs.Prelude.{filter, filter_map, find, length, max, Option, Some, None, bytes_eq, is_some, ◌||◌}
 use Rattle.std.specs.List.{list_any}
 use Rattle.std.specs.Option.{option_or}
@@ -9,8 +9,8 @@ use Rattle.std.proofs.lemmas.List.Elements.{filter_map-append}
 use Rattle.std.proofs.lemmas.List.Folds.{find-append}
 use Rattle.std.proofs.Math.Nat.{le-max_left, le-max_right}
 use Rattle.model.specs.Stream.{Octets}
-use Rattle.model.specs.Lawful.{IsLawful, IsLawfulAfter, MayFile}
-use Rattle.model.specs.Spool.{Spool, Contents, contents, Entry, NewsGroup, articles, entries, expiries, expiries_of, filed_in, entries_from, greatest, group_made, group_named, groups, is_here, is_name, last_naming, last_naming_one, names_one}
+use Rattle.model.specs.Lawful.{IsLawful, IsLawfulAfter}
+use Rattle.model.specs.Spool.{Spool, contents, NewsGroup, articles, entries, expiries, expiries_of, filed_in, entries_from, greatest, group_made, group_named, groups, is_here, is_name, last_naming, last_naming_one, names_one}
 use Rattle.model.specs.declared.change.Change.{Change}
 use Rattle.model.specs.declared.change.Change.TheVariants.{Group, Article, Expire}
 use Rattle.model.proofs.Filing.{entries_push, named_front}

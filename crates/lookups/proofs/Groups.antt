@@ -1,11 +1,10 @@
 -- What a view of a group says of the group with its name.
-use Rattle.std.proofs.Common.{◌≡◌, ℕ, ◌+◌, ◌<◌, ◌≤◌, ◌^◌, refl, sym, ◌∙◌, ap, subst, arith, true, false, Bool, cond}
-use Rattle.std.specs.Prelude.{find, length, ◌==◌, Option, Some, None, List, [], ◌∷◌, bytes_eq, option_map}
+use Rattle.std.proofs.Common.{◌≡◌, refl, sym, ◌∙◌, ap, true, false, Bool, cond}
+use Rattle.std.specs.Prelude.{find, ◌==◌, Option, Some, None, List, [], ◌∷◌, bytes_eq, option_map}
 use Rattle.std.proofs.lemmas.Slice.Eq.{bytes_eq-Decides}
 use Rattle.model.specs.Stream.{Octets}
 use Rattle.model.specs.Answer.{is_closed}
-use Rattle.model.specs.Lawful.{IsLawful}
-use Rattle.model.specs.Spool.{Spool, Contents, NewsGroup, contents, contents_if_here, filed_in, group_named, groups, high, is_here, is_name, last_naming, low}
+use Rattle.model.specs.Spool.{Spool, NewsGroup, contents, contents_if_here, group_named, groups, high, is_here, is_name, last_naming, low}
 use Rattle.lookups.specs.declared.GroupView.{GroupView}
 use Rattle.lookups.specs.Held.{Known, known, shown}
 

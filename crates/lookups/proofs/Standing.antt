@@ -1,6 +1,6 @@
 -- An article that is found stands under its serial.
-use Rattle.std.proofs.Common.{◌≡◌, ℕ, zero, suc, ◌+◌, ◌-◌, ◌<◌, ◌≤◌, List, [], ◌∷◌, refl, sym, ◌∙◌, ap, subst, arith, Bool, true, false, cond}
-use Rattle.std.specs.Prelude.{filter, filter_map, find, length, slice_get, Option, Some, None, option_map, option_and_then, unwrap_or, is_some, IsSome}
+use Rattle.std.proofs.Common.{◌≡◌, ℕ, zero, suc, ◌+◌, ◌-◌, List, [], ◌∷◌, refl, sym, ◌∙◌, ap, subst, arith, Bool, true, false, cond}
+use Rattle.std.specs.Prelude.{filter, filter_map, find, slice_get, Option, Some, None, option_map, option_and_then, unwrap_or}
 use Rattle.model.specs.Stream.{Octets}
 use Rattle.model.specs.Spool.{Spool, NewsArticle, article_filed, articles, by_id, by_number, entries, entries_from, filed_in, gone_at, is_gone, low, numbered, unless_gone}
 use Rattle.model.specs.declared.change.Change.TheVariants.{Group, Article, Expire}

@@ -2,10 +2,11 @@
 //! `model` say what each answer is.
 #![tactic(auto)]
 
-ghost use Rattle.std.specs.Prelude.{◌≡◌, ℕ, ◌+◌, ◌<◌, ◌≤◌, ◌^◌, ◌++◌, IsTrue, IsSome, OnOk, Some, length, option_map, slice_get};
+ghost use Rattle.std.specs.Prelude.{◌≡◌, ℕ, ◌+◌, ◌<◌, ◌≤◌, ◌^◌, ◌++◌, IfSome, IsTrue, IsSome, OnOk, Some, false, length, option_map, slice_get};
 ghost use Rattle.std.specs.List.{list_any};
 ghost use Rattle.model.specs.Stream.{Octets, line};
 ghost use Rattle.model.specs.Names.{is_host, is_wildmat, wildmat_matches};
+ghost use Rattle.model.specs.Answer.{is_since};
 ghost use Rattle.model.specs.Article.{id, overview_line};
 ghost use Rattle.model.specs.Lawful.{IsLawful};
 ghost use Rattle.model.specs.Spool.{Spool, by_id, by_number, expired_at, group_named, groups, high, low};
@@ -87,6 +88,12 @@ pub trait LookUps {
     /// The moment of the article with this serial, if there is one.
     fn moment(&self, serial: u64) -> Option<u64>
         ensures { result ≡ option_map (λ a. a.moment) (article_with (changes self.now) serial) };
+
+    /// How many changes in front have no article of this moment or a later one, in seconds since 1970: all up to the first that
+    /// has, where moments don't fall from change to change.
+    fn older_than(&self, from: i64) -> u64
+        ensures few { result ≤ length (changes self.now) }
+        ensures older { (serial : ℕ) → serial ≤ result → IfSome (article_with (changes self.now) serial) (λ a. is_since from a.moment ≡ false) };
 
     /// Whether the article with this serial is in a group whose name the wildmat takes.
     fn is_in_one(&self, serial: u64, wildmat: &[u8]) -> bool

@@ -1,11 +1,10 @@
 -- What is said of a posted text, by the cause that it is refused for.
-use Rattle.std.proofs.Common.{◌≡◌, ℕ, ◌+◌, refl, sym, ◌∙◌, ap, Bool, true, false, cond, length}
-use Rattle.std.specs.Prelude.{◌||◌, is_some, Option, Some, None, [], ◌∷◌}
+use Rattle.std.proofs.Common.{◌≡◌, ℕ, ◌+◌, refl, Bool, true, false, cond, length}
+use Rattle.std.specs.Prelude.{is_some, Option, Some, None, [], ◌∷◌}
 use Rattle.std.specs.Option.{option_or}
 use Rattle.model.specs.Stream.{Octets}
-use Rattle.model.specs.Answer.{is_long_as_stored, post_answer, post_outcome}
+use Rattle.model.specs.Answer.{post_outcome}
 use Rattle.model.specs.Article.{Cause, Origin, Posted, as_stored, cause, cause_but_long, first_cause, is_short, WrongOctets, NoEnd, Field, Twice, Missing, Id, Groups, Long}
-use Rattle.model.specs.Reads.{outcome_reads}
 use Rattle.model.specs.Replies.{not_accepted}
 use Rattle.model.specs.Spool.{Spool}
 use Rattle.model.specs.declared.message.Mark.TheVariants as mark

@@ -1,5 +1,5 @@
 -- What the code tells of an article is what comes of it.
-use Rattle.std.proofs.Common.{◌≡◌, ℕ, ◌<◌, List, [], ◌∷◌, refl, sym, ◌∙◌, ap, arith, length, true, false}
+use Rattle.std.proofs.Common.{◌≡◌, ℕ, List, [], ◌∷◌, refl, ap, true, false}
 use Rattle.std.specs.Prelude.{Option, Some, None, option_map}
 use Rattle.model.specs.Stream.{Octets}
 use Rattle.model.specs.Answer.{Outcome, accepted, article_answer, group_closed, groups_here, has_other_id, same_id, transfer_outcome, id_here, no_group_here, not_an_article, spool_outcome}

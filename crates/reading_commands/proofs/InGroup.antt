@@ -1,7 +1,7 @@
 -- The articles of a group that are in a range, by their numbers.
 use Rattle.std.proofs.Common.{◌≡◌, ℕ, zero, suc, ◌+◌, ◌-◌, ◌<◌, ◌≤◌, ◌^◌, List, [], ◌∷◌, ◌++◌, map, refl, sym, ◌∙◌, ap, arith, append_assoc, append-nil, Bool, true, false, cond, length}
-use Rattle.std.specs.Prelude.{◌&&◌, codes, decimal, drop, filter, flat_map, max, min, nat_le, take, Option, Some, None}
-use Rattle.std.specs.List.{enumerate_from, range_with_len}
+use Rattle.std.specs.Prelude.{◌&&◌, codes, decimal, drop, filter, flat_map, max, nat_le, take, Option, Some, None}
+use Rattle.std.specs.List.{enumerate_from}
 use Rattle.std.proofs.lemmas.Bool.{le-leb, lt-leb, leb-true, and_from}
 use Rattle.std.proofs.lemmas.List.{length-take, length-drop}
 use Rattle.model.specs.Names.{is_in_range}

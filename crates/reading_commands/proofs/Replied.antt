@@ -1,10 +1,10 @@
 -- What is sent of an article.
-use Rattle.std.proofs.Common.{◌≡◌, ℕ, zero, suc, ◌+◌, ◌<◌, ◌≤◌, ◌^◌, List, [], ◌∷◌, ◌++◌, map, refl, sym, ◌∙◌, ap, arith, append_assoc, append-nil, Bool, true, false, cond, length}
-use Rattle.std.specs.Prelude.{◌==◌, codes, decimal, flat_map}
+use Rattle.std.proofs.Common.{◌≡◌, ℕ, zero, suc, ◌+◌, ◌<◌, ◌^◌, List, [], ◌∷◌, ◌++◌, map, refl, sym, ◌∙◌, ap, arith, append_assoc, append-nil, false, cond, length}
+use Rattle.std.specs.Prelude.{◌==◌, codes, decimal}
 use Rattle.std.specs.Int.Digits.{digits_of}
 use Rattle.std.proofs.lemmas.Fmt.{decimal-digits_of, decimal_digit, decimal_nonempty}
 use Rattle.std.proofs.lemmas.Bool.{ne_eqb, cond-false}
-use Rattle.model.specs.Stream.{Octets, crlf, dot_line, line, stuffed_line}
+use Rattle.model.specs.Stream.{Octets, dot_line, line, stuffed_line}
 use Rattle.model.specs.Article.{body_lines, overview_field, overview_line}
 use Rattle.model.specs.Answer.{id_of, part_reply}
 use Rattle.model.specs.Replies.{block}

@@ -1,5 +1,5 @@
 -- What the lines of these commands say.
-use Rattle.std.specs.Prelude.{ℕ, ◌+◌, ◌-◌, ◌++◌, List, [], ◌∷◌, codes, decimal, flat_map, max, min, nat_lt, if◌then◌else◌, Option, Some, None}
+use Rattle.std.specs.Prelude.{ℕ, ◌+◌, ◌-◌, [], ◌∷◌, codes, decimal, flat_map, max, min, nat_lt, if◌then◌else◌, Option, Some, None}
 use Rattle.std.specs.List.{range_with_len}
 use Rattle.model.specs.Stream.{Octets, line, stuffed_line}
 use Rattle.model.specs.Answer.{spaced}

@@ -1,13 +1,12 @@
 //! GROUP and LISTGROUP.
 
 ghost use Rattle.std.specs.Prelude.{◌≡◌, ◌∷◌, decimal, ◌+◌, ◌-◌, ◌++◌, ◌≤◌, IfOk, OnOk};
-ghost use Rattle.model.specs.Stream.{line};
 ghost use Rattle.model.specs.Answer as answers;
 ghost use Rattle.model.specs.Names.{numbers_from};
 ghost use Rattle.model.specs.Reads.{group_reads, selected_reads};
 ghost use Rattle.model.specs.Spool.{contents, contents_if_here, last_naming};
 ghost use Rattle.lookups.specs.Held.{IsCounts};
-ghost use Rattle.replies.specs.Answered.{answered};
+ghost use Rattle.replies.specs.Answered.{answered, replied, with_group};
 ghost use Rattle.reading_commands.specs.Words.{counted};
 
 use crate::ranges::{numbers_in, push_numbers};
@@ -48,6 +47,21 @@ fn push_counted(reply: &mut Vec<u8>, counts: Counts, group: &[u8]) -> Result<(),
     reply.extend_from_slice(group)
 }
 
+/// A reply that selects the group with these numbers, and reads it.
+fn selects(
+    alloc: Global,
+    session: &Session,
+    group: &[u8],
+    counts: Counts,
+    reply: Vec<u8>,
+) -> Result<Answered, AllocError>
+    requires { 1 ≤ counts.low }
+    ensures { IfOk result (λ r. r ≡ answered (replied reply.items (with_group session.now group.now counts.low (counts.high + 1 - counts.low))) counts.last) }
+{
+    let next = selecting(alloc, session, group, counts.low, count(counts))?;
+    Ok(answer(reply, next, counts.last))
+}
+
 /// GROUP (RFC 3977, section 6.1.1).
 pub fn group<L: LookUps>(
     alloc: Global,
@@ -76,8 +90,7 @@ fn selected<L: LookUps>(
     let mut reply = Vec::new(alloc);
     push_counted(&mut reply, counts, group)?;
     reply.extend_from_slice(b"\r\n")?;
-    let next = selecting(alloc, session, group, counts.low, count(counts))?;
-    Ok(answer(reply, next, counts.last))
+    selects(alloc, session, group, counts, reply)
 }
 
 /// LISTGROUP of a group that is named (RFC 3977, section 6.1.2).
@@ -133,6 +146,5 @@ fn numbered<L: LookUps>(
     push_line(&mut reply, b" list follows")?;
     push_numbers(&mut reply, numbers_in(range, counts))?;
     push_end(&mut reply)?;
-    let next = selecting(alloc, session, group, counts.low, count(counts))?;
-    Ok(answer(reply, next, counts.last))
+    selects(alloc, session, group, counts, reply)
 }

@@ -1,6 +1,6 @@
 //! What a line of a script asks of a world, and what a world answers, in words.
 
-ghost use Rattle.std.specs.Prelude.{◌≤◌, IfOk, OnOk};
+ghost use Rattle.std.specs.Prelude.{IfOk, OnOk};
 ghost use Rattle.std.specs.List.{All};
 ghost use Rattle.script.specs.Script.{IsLawful};
 ghost use Rattle.world.specs.Events.{MayHappen};

@@ -1,6 +1,6 @@
 //! A device and a world over it, sealed: what is proved of a caller learns nothing of them.
 
-ghost use Rattle.std.specs.Prelude.{◌≡◌, ◌≤◌, slice_get, Some, ℕ};
+ghost use Rattle.std.specs.Prelude.{Some};
 ghost use Rattle.std.specs.List.{All};
 ghost use Rattle.world.specs.Events.{MayHappen};
 

@@ -52,6 +52,10 @@ impl LookUps for Spool {
         self.index.moment(serial)
     }
 
+    fn older_than(&self, from: i64) -> u64 {
+        self.index.older_than(from)
+    }
+
     fn is_in_one(&self, serial: u64, wildmat: &[u8]) -> bool {
         self.index.is_in_one(serial, wildmat)
     }

@@ -4,4 +4,4 @@ use Rattle.index.proofs.Growing.{none_indexed}
 use Rattle.index.proofs.Index.new.Goals as goal
 
 pub returns : goal.returns
-returns c = none_indexed _ c.new.ensures.items (ap (map shown) c.new-2.ensures.items) c.new-4.ensures
+returns c = none_indexed _ c.new.ensures.items (ap (map shown) c.new-3.ensures.items) c.new-5.ensures

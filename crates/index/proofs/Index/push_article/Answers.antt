@@ -2,6 +2,7 @@ use Rattle.std.proofs.Common.{◌≡◌, ◌+◌, ◌++◌, ◌∷◌, [], ℕ, 
 use Rattle.std.specs.Prelude.{Some, bytes_eq}
 use Rattle.model.specs.Indexed.{value_of}
 use Rattle.index.specs.Filing.{filed_by}
+use Rattle.index.specs.Latest.{AreLatest}
 use Rattle.index.specs.Naming.{AreNamed, heads}
 use Rattle.index.specs.Shown.{shown}
 use Rattle.index.specs.View.{IndexView}
@@ -14,8 +15,11 @@ use Rattle.index.proofs.Index.push_article.Goals as goal
 pub invariant_of-self-2 : goal.invariant_of-self-2
 invariant_of-self-2 c =
     let more = filed_twice c.self.inside.groups.items c.deref_mut.result.now c.reserve_lines.new.groups c.deref_mut-2.result.now c.push_lines.new.groups c.self.inside.groups.len (c.len.result + 1) c.as_slice-2.result.now c.args.filed c.args.sizes.now
-    (omega (arith, c.self.inside.groups.ok)) c.deref_mut.ensures.value c.in_ok-reserve_lines.ensures.same c.deref_mut-2.ensures.value c.push_lines.ensures c.as_slice-2.ensures in
-    subst (AreNamed c.self.inside.places) (sym (ap heads more ∙ heads_by (c.len.result + 1) c.args.filed c.args.sizes.now (length c.args.filed) (map shown c.self.inside.groups.items))) c.self.invariant
+    (omega (arith, c.self.inside.groups.ok)) c.deref_mut.ensures.value c.in_ok-reserve_lines.ensures.same c.deref_mut-2.ensures.value c.push_lines.ensures c.as_slice-2.ensures in (
+      subst (AreNamed c.self.inside.places) (sym (ap heads more ∙ heads_by (c.len.result + 1) c.args.filed c.args.sizes.now (length c.args.filed) (map shown c.self.inside.groups.items))) c.self.invariant.0,
+      subst (AreLatest c.push_latest.new.latest.items) (sym (c.in-Ok.ensures.items ∙ ap (λ (ns : List Note). ns ++ note.Article c.args.size c.args.filed c.args.moment ∷ []) c.in_ok-reserve.ensures.items))
+          (c.push_latest.ensures c.self.inside.notes.items (subst (λ (ms : List ℕ). AreLatest ms c.self.inside.notes.items) (sym c.in_ok-reserve-2.ensures.items) c.self.invariant.1)),
+    )
 
 pub returns-clause-ok : goal.returns-clause-ok
 returns-clause-ok c = λ host S text may key size sized is.

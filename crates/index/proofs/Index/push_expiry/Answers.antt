@@ -1,6 +1,7 @@
 use Rattle.std.proofs.Common.{◌≡◌, ◌+◌, ◌++◌, ◌∷◌, [], ℕ, List, length, map, sym, ap, subst, ◌∙◌, arith}
 use Rattle.model.specs.Stream.{Octets}
 use Rattle.index.specs.Filing.{expired_once}
+use Rattle.index.specs.Latest.{AreLatest}
 use Rattle.index.specs.Naming.{AreNamed, heads}
 use Rattle.index.specs.Shown.{shown}
 use Rattle.index.specs.View.{IndexView}
@@ -18,8 +19,11 @@ invariant_of-self-2 c =
     let more : map shown c.expire_one.new.groups ≡ map (expired_once serial c.args.name.now c.args.number) (map shown items) =
     c.in_ok-expire_one.ensures.ok ∙ ap (λ (gs : List Group). map (expired_once serial c.args.name.now c.args.number) (map shown gs)) c.deref_mut.ensures.value in
     let size : length c.expire_one.new.groups ≡ c.self.inside.groups.len = kept_size items c.expire_one.new.groups (expired_once serial c.args.name.now c.args.number) more ∙ omega (arith, c.self.inside.groups.ok) in
-    let back = written items c.expire_one.new.groups c.self.inside.groups.len size in
-    subst (AreNamed c.self.inside.places) (sym (ap (λ (gs : List Group). heads (map shown gs)) back ∙ ap heads more ∙ heads_expired serial c.args.name.now c.args.number (map shown items))) c.self.invariant
+    let back = written items c.expire_one.new.groups c.self.inside.groups.len size in (
+      subst (AreNamed c.self.inside.places) (sym (ap (λ (gs : List Group). heads (map shown gs)) back ∙ ap heads more ∙ heads_expired serial c.args.name.now c.args.number (map shown items))) c.self.invariant.0,
+      subst (AreLatest c.push_latest.new.latest.items) (sym (c.in-Ok.ensures.items ∙ ap (λ (ns : List Note). ns ++ note.Expiry c.new-group.result c.args.number ∷ []) c.in_ok-reserve.ensures.items))
+          (c.push_latest.ensures c.self.inside.notes.items (subst (λ (ms : List ℕ). AreLatest ms c.self.inside.notes.items) (sym c.in_ok-reserve-2.ensures.items) c.self.invariant.1)),
+    )
 
 pub returns-clause-ok : goal.returns-clause-ok
 returns-clause-ok c = λ host S may is.

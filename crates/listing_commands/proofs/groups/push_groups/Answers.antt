@@ -1,4 +1,4 @@
-use Rattle.std.proofs.Common.{◌≡◌, ◌++◌, sym, ◌∙◌, ap, append_assoc}
+use Rattle.std.proofs.Common.{◌++◌, sym, ◌∙◌, ap, append_assoc}
 use Rattle.std.specs.Prelude.{take}
 use Rattle.lookups.specs.Held.{all_known, shown}
 use Rattle.listing_commands.specs.Lists.{later_of, line_of, lines_of}

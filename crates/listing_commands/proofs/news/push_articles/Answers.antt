@@ -1,11 +1,18 @@
-use Rattle.std.proofs.Common.{◌≡◌, ℕ, ◌+◌, ◌++◌, ◌≤◌, length, sym, ◌∙◌, ap, append_assoc, arith, w64, to_z, of_z}
+use Rattle.std.proofs.Common.{◌≡◌, ◌+◌, ◌++◌, length, sym, ◌∙◌, ap, append_assoc, append-nil, arith, w64, to_z, of_z}
 use Rattle.std.specs.Option.{option_to_list}
 use Rattle.std.proofs.lemmas.Int.{to_z-of_z}
 use Rattle.model.specs.Spool.{articles}
 use Rattle.lookups.specs.Held.{article_with}
 use Rattle.listing_commands.specs.News.{new_lines}
-use Rattle.listing_commands.proofs.Newest.{all_lines, lines_more, lines_up_to}
+use Rattle.listing_commands.proofs.Newest.{all_lines, lines_more, lines_up_to, old_lines}
 use Rattle.listing_commands.proofs.news.push_articles.Goals as goal
+
+pub loop-place-init : goal.loop-place-init
+loop-place-init g c =
+    let S = g.L.LookUps.changes c.args.spool.now in
+    let wildmat = c.args.wildmat.now in
+    let from = to_z w64 (of_z w64 c.args.from) in
+    sym (ap (λ os. c.args.reply.now.items ++ os) (old_lines S wildmat from c.older_than-place.result c.older_than-place.ensures.older) ∙ append-nil c.args.reply.now.items)
 
 pub loop-place-preserved : goal.loop-place-preserved
 loop-place-preserved g c =

@@ -1,6 +1,6 @@
-use Rattle.std.proofs.Common.{◌≡◌, ap, sym, ◌∙◌}
+use Rattle.std.proofs.Common.{ap, sym}
 use Rattle.std.specs.Prelude.{length, None}
-use Rattle.model.specs.Spool.{Contents, group_named}
+use Rattle.model.specs.Spool.{Contents}
 use Rattle.lookups.proofs.Absent.{absent_contents, absent_last}
 use Rattle.lookups.proofs.Groups.{is_of, none_of}
 use Rattle.lookups.proofs.finding.counts_of.Goals as goal

@@ -1,6 +1,6 @@
-use Rattle.std.proofs.Common.{◌≡◌, ap}
+use Rattle.std.proofs.Common.{ap}
 use Rattle.std.specs.Prelude.{Option, option_map, unwrap_or, false, is_some, ◌==◌}
-use Rattle.model.specs.Spool.{Contents, NewsGroup, contents, contents_if_here, group_named}
+use Rattle.model.specs.Spool.{NewsGroup, contents, contents_if_here}
 use Rattle.lookups.proofs.Groups.{is_of, none_of}
 use Rattle.lookups.proofs.finding.find_group.Goals as goal
 

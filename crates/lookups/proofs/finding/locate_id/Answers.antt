@@ -1,6 +1,6 @@
-use Rattle.std.proofs.Common.{◌≡◌, ap}
-use Rattle.std.specs.Prelude.{Option, option_and_then}
-use Rattle.model.specs.Spool.{NewsArticle, here_by_id, unless_gone}
+use Rattle.std.proofs.Common.{ap}
+use Rattle.std.specs.Prelude.{option_and_then}
+use Rattle.model.specs.Spool.{here_by_id, unless_gone}
 use Rattle.lookups.proofs.Standing.{gone_located, here_located}
 use Rattle.lookups.proofs.finding.locate_id.Goals as goal
 

@@ -1,6 +1,6 @@
-use Rattle.std.proofs.Common.{◌≡◌, ◌+◌, length, sym, ◌∙◌, ap, subst, not, Bool, true, false}
+use Rattle.std.proofs.Common.{◌≡◌, ◌+◌, sym, ◌∙◌, ap, subst, not, true, false}
 use Rattle.std.specs.Prelude.{IfOk, Some}
-use Rattle.model.specs.Answer.{groups_here, same_id, spool_outcome, transfer_outcome}
+use Rattle.model.specs.Answer.{transfer_outcome}
 use Rattle.model.specs.Replies.{rejected, transferred}
 use Rattle.model.specs.declared.change.Change.TheVariants.{Article}
 use Rattle.replies.specs.Answered.{answered}

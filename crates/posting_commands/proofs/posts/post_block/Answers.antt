@@ -1,4 +1,4 @@
-use Rattle.std.proofs.Common.{◌≡◌, ◌+◌, sym, ◌∙◌, ap}
+use Rattle.std.proofs.Common.{◌+◌, sym, ◌∙◌, ap}
 use Rattle.model.specs.Article.{Posted, cause}
 use Rattle.model.specs.declared.message.Mark.TheVariants as mark
 use Rattle.article.specs.Origins.{cause_of}

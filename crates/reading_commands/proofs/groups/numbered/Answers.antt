@@ -1,8 +1,9 @@
-use Rattle.std.proofs.Common.{◌≡◌, ℕ, ◌++◌, ◌≤◌, ◌∙◌, ap, arith}
-use Rattle.std.specs.Prelude.{codes, ◌+◌, ◌-◌}
+use Rattle.std.proofs.Common.{◌≡◌, ◌++◌, ◌≤◌, ◌∙◌, refl, ap, subst, arith}
+use Rattle.std.specs.Prelude.{IfOk, codes, ◌+◌, ◌-◌}
 use Rattle.model.specs.Spool.{contents}
 use Rattle.model.specs.Stream.{dot_line, line}
-use Rattle.replies.specs.Answered.{answered, with_group}
+use Rattle.replies.specs.Answered.{answered}
+use Rattle.replies.specs.declared.sessions.Answered.{Answered}
 use Rattle.reading_commands.specs.Words.{counted, first_in, last_in, number_lines}
 use Rattle.reading_commands.proofs.InGroup.{listed_answer}
 use Rattle.reading_commands.proofs.groups.numbered.Goals as goal
@@ -20,6 +21,6 @@ returns g c =
     ∙ ap (λ os. os ++ dot_line) (c.in_ok-push_numbers.ensures
     ∙ ap (λ os. os ++ sent) (c.in_ok-push_line.ensures ∙ ap (λ os. os ++ line (codes " list follows")) (c.in_ok-push_counted.ensures ∙ ap (λ os. os ++ counted low high c.args.group.now) c.new-reply.ensures.items)))
     ∙ ap (λ os. counted low high c.args.group.now ++ line (codes " list follows") ++ os ++ dot_line) same in
-    let next = c.in_ok-next.ensures ∙ ap (with_group c.args.session.now c.args.group.now low) c.count.ensures in
-    c.answer.ensures
-    ∙ (λ i. answered (listed_answer c.args.session.now range c.args.group.now (contents (g.L.LookUps.changes c.args.spool.now) c.args.group.now) low high _ _ c.requires.low c.requires.high some items next i) (c.requires.last i))
+    subst (λ (a : Answered). IfOk c.selects.result (λ r. r ≡ a))
+    (λ i. answered (listed_answer c.args.session.now range c.args.group.now (contents (g.L.LookUps.changes c.args.spool.now) c.args.group.now) low high _ _ c.requires.low c.requires.high some items refl i) (c.requires.last i))
+    c.selects.ensures

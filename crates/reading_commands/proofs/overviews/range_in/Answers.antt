@@ -1,10 +1,9 @@
-use Rattle.std.proofs.Common.{◌≡◌, ℕ, ◌+◌, ◌-◌, ◌++◌, ◌<◌, ◌≤◌, ◌^◌, length, sym, ◌∙◌, ap, append_assoc, subst, arith}
+use Rattle.std.proofs.Common.{◌≡◌, ◌+◌, ◌-◌, ◌++◌, ◌<◌, ◌≤◌, ◌^◌, length, sym, ◌∙◌, ap, append_assoc, subst, arith}
 use Rattle.std.specs.Prelude.{IfOk}
 use Rattle.model.specs.Answer as answers
 use Rattle.model.specs.Replies.{overview_follows}
 use Rattle.model.specs.Spool.{contents, filed_in, high, low}
-use Rattle.model.specs.Stream.{Octets, dot_line, line}
-use Rattle.model.specs.declared.session.Answer.{Answer}
+use Rattle.model.specs.Stream.{dot_line, line}
 use Rattle.model.proofs.HoldsOne.{high_few}
 use Rattle.lookups.specs.Held.{overviews_between}
 use Rattle.replies.specs.Answered.{answered}

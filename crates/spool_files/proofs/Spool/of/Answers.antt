@@ -1,4 +1,4 @@
-use Rattle.std.proofs.Common.{◌≡◌, ◌≤◌, List, ap, arith, subst, sym}
+use Rattle.std.proofs.Common.{List, ap, arith, subst, sym}
 use Rattle.model.specs.Files.{HasRoom, free_blocks}
 use Rattle.model.specs.Stream.{Octets}
 use Rattle.spool_files.proofs.Held.{kept_stands, the_changes}

@@ -1,0 +1,88 @@
+-- One change more, and its moment.
+use Rattle.std.proofs.Common.{◌≡◌, ◌⊎◌, ℕ, zero, suc, ◌+◌, ◌<◌, ◌≤◌, List, [], ◌∷◌, ◌++◌, ◌-◌, length, get_or, refl, sym, ◌∙◌, ap, arith, inl, inr, pos, negsuc}
+use Rattle.std.specs.Prelude.{Option, Some, None, IfSome, ℤ, true, false, max, nat_lt, option_map, slice_get, slice_index, unwrap_or}
+use Rattle.std.specs.Int.{FitsUnsignedBits}
+use Rattle.std.specs.Option.{option_and_then}
+use Rattle.std.proofs.Math.IntN.{nat_abs}
+use Rattle.std.proofs.lemmas.Bool.{cases_lt, lt-leb, ltb-true}
+use Rattle.std.proofs.lemmas.List.{get_or_append_left, length-append}
+use Rattle.std.proofs.lemmas.Option.{same_Some, unwrap_or-slice_get}
+use Rattle.std.proofs.Math.Nat.{le-max_left, le-max_right}
+use Rattle.std.proofs.Math.Seq.{get_or-append_seam}
+use Rattle.model.specs.Answer.{is_since}
+use Rattle.model.specs.Indexed.{note_of}
+use Rattle.model.specs.Spool.{Spool, Entry, NewsArticle, article_filed}
+use Rattle.lookups.specs.Held.{article_with}
+use Rattle.index.specs.Finding.{entry_with}
+use Rattle.index.specs.Latest.{AreLatest}
+use Rattle.index.specs.Notes.{moment_in}
+use Rattle.index.specs.Shown.{kept}
+use Rattle.index.specs.View.{IndexView, Indexes}
+use Rattle.index.specs.declared.note.Note.{Note}
+use Rattle.index.proofs.Serials.{each_moment, noted}
+
+pub none_latest : (moments : List ℕ) (notes : List Note) → moments ≡ [] → notes ≡ [] → AreLatest moments notes
+none_latest [] [] none nothing = record { each = refl; rise = λ i j order low. absurd (omega arith); reach = λ k n moment is at. absurd (cc) }
+none_latest [] (n ∷ ns) none nothing = absurd (cc)
+none_latest (m ∷ ms) notes none nothing = absurd (cc)
+
+-- the last one, or one of those before
+pushed_get : {X : Type 0} (xs : List X) (last x : X) (k : ℕ) → slice_get (xs ++ last ∷ []) k ≡ Some x → ((k < length xs) × (slice_get xs k ≡ Some x)) ⊎ ((k ≡ length xs) × (x ≡ last))
+pushed_get [] last x zero is = inr (refl, sym (same_Some last x is))
+pushed_get [] last x (suc k) is = absurd (cc)
+pushed_get (y ∷ ys) last x zero is = inl (omega arith, is)
+pushed_get (y ∷ ys) last x (suc k) is = elim (pushed_get ys last x k is) [ inl there ↦ inl (omega (arith, there.0), there.1) | inr here ↦ inr (ap suc here.0, here.1) ]
+
+pub latest_pushed : (moments : List ℕ) (notes : List Note) (note : Note) (top : ℕ) → ((k : ℕ) → k < length moments → slice_index moments k ≤ top) → ((moment : ℕ) → moment_in note ≡ Some moment → moment ≤ top)
+    → AreLatest moments notes → AreLatest (moments ++ top ∷ []) (notes ++ note ∷ [])
+latest_pushed moments notes note top above its latest = record {
+  each = omega (arith, length-append moments (top ∷ []), length-append notes (note ∷ []), latest.each);
+  rise = λ i j order low. elim (cases_lt j (length moments)) [
+    | inl less ↦ omega (arith, latest.rise i j order less, before i (omega arith), before j less)
+    | inr more ↦
+        let at_last : j ≡ length moments = omega (arith, low, length-append moments (top ∷ [])) in
+        elim (cases_lt i (length moments)) [
+          | inl less ↦ omega (arith, above i less, before i less, last j at_last)
+          | inr same ↦ omega (arith, last j at_last, last i (omega arith))
+        ]
+  ];
+  reach = λ k n moment is says. elim (pushed_get notes note n k is) [
+    | inl there ↦ omega (arith, latest.reach k n moment there.1 says, before k (omega (arith, there.0, latest.each)))
+    | inr here ↦ omega (arith, its moment (ap moment_in (sym here.1) ∙ says), last k (here.0 ∙ sym latest.each))
+  ];
+}
+  where
+    before : (k : ℕ) → k < length moments → slice_index (moments ++ top ∷ []) k ≡ slice_index moments k
+    before k less = get_or_append_left moments (top ∷ []) 0 k less
+
+    last : (k : ℕ) → k ≡ length moments → slice_index (moments ++ top ∷ []) k ≡ top
+    last k is = ap (slice_index (moments ++ top ∷ [])) is ∙ get_or-append_seam moments top [] 0
+
+-- behind the last one stands the later of it and the moment of the change
+pub latest_later : (moments : List ℕ) (notes : List Note) (note : Note) (last its top : ℕ) → last ≡ unwrap_or (slice_get moments (length moments - 1)) 0 → its ≡ unwrap_or (moment_in note) 0 → top ≡ max its last
+    → AreLatest moments notes → AreLatest (moments ++ top ∷ []) (notes ++ note ∷ [])
+latest_later moments notes note last its top last_is its_is top_is latest =
+    latest_pushed moments notes note top
+    (λ k less. omega (arith, latest.rise k (length moments - 1) (omega arith) (omega arith), unwrap_or-slice_get moments (length moments - 1) 0, last_is, le-max_right its last, top_is))
+    (λ moment says. omega (arith, its_is, ap (λ (o : Option ℕ). unwrap_or o 0) says, le-max_left its last, top_is))
+    latest
+
+-- ---- what is older than a moment
+
+later_note : (S : Spool) (x : IndexView) (k : ℕ) (a : NewsArticle) → Indexes S x → article_with S (suc k) ≡ Some a → (n : Note) × (slice_get x.notes k ≡ Some n) × (moment_in n ≡ Some a.moment)
+later_note S x k a is at = by_entry (entry_with S (suc k)) (noted S x (suc k) is) at where
+  by_entry : (o : Option Entry) → slice_get x.notes k ≡ option_map (λ (e : Entry). kept (note_of e)) o → option_and_then article_filed o ≡ Some a → (n : Note) × (slice_get x.notes k ≡ Some n) × (moment_in n ≡ Some a.moment)
+  by_entry None got none = absurd (cc)
+  by_entry (Some e) got filed = (kept (note_of e), got, each_moment e ∙ ap (option_map (λ (b : NewsArticle). b.moment)) filed)
+
+-- where the latest moments of the first changes are below this one, no article among them is of it or later
+pub all_older : (S : Spool) (x : IndexView) (moments : List ℕ) (count : ℕ) (from : ℤ) (moment : ℕ) → FitsUnsignedBits 64 from → moment ≡ nat_abs from → AreLatest moments x.notes → Indexes S x
+    → ((k : ℕ) → k < count → nat_lt (slice_index moments k) moment ≡ true) → (serial : ℕ) → serial ≤ count → IfSome (article_with S serial) (λ a. is_since from a.moment ≡ false)
+all_older S x moments count (negsuc m) moment fits same latest is below serial low = absurd fits
+all_older S x moments count (pos m) moment fits same latest is below zero low = tt
+all_older S x moments count (pos m) moment fits same latest is below (suc k) low = by_article (article_with S (suc k)) refl where
+  by_article : (o : Option NewsArticle) → article_with S (suc k) ≡ o → IfSome o (λ a. is_since (pos m) a.moment ≡ false)
+  by_article None at = tt
+  by_article (Some a) at =
+      let found = later_note S x k a is at in
+      lt-leb m a.moment (omega (arith, same, latest.reach k found.0 a.moment found.1 found.2, ltb-true (slice_index moments k) moment (below k (omega arith))))
