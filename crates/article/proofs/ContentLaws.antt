@@ -1,14 +1,13 @@
 -- A text without its line ends, line by line.
-use Rattle.std.specs.Prelude.{◌≡◌, ℕ, suc, ◌-◌, ◌<◌, ◌≤◌, true, false, ◌&&◌, ◌==◌, [], ◌∷◌, ◌++◌, length, take, drop, get_or, reverse, flat_map}
+use Rattle.std.specs.Prelude.{◌≡◌, ℕ, ◌-◌, true, false, ◌&&◌, ◌==◌, [], ◌∷◌, ◌++◌, length, take, drop, flat_map}
 use Rattle.std.specs.List.{list_all}
-use Rattle.std.proofs.Common.{sym, ◌∙◌, ap, refl, arith}
-use Rattle.std.proofs.lemmas.Bool.{cond-true, cond-false, eqb-true}
-use Rattle.std.proofs.lemmas.List.{append-nil, append_assoc, nil_from_length, reverse-append, reverse-reverse, take_all}
+use Rattle.std.proofs.Common.{sym, ◌∙◌, ap}
+use Rattle.std.proofs.lemmas.Bool.{eqb-true}
+use Rattle.std.proofs.lemmas.List.{nil_from_length}
 use Rattle.std.proofs.lemmas.List.Folds.{list_all-append}
-use Rattle.std.proofs.Math.Seq.{take-suc}
 use Rattle.model.specs.Stream.{Octets, lines}
 use Rattle.model.specs.Names.{is_blank}
-use Rattle.model.specs.Article.{line_text, trimmed_start, unfolded}
+use Rattle.model.specs.Article.{line_text, unfolded}
 use Rattle.model.proofs.LineLaws.{lines-empty}
 
 module _ (rest line later : Octets) (n : ℕ) (first : lines rest ≡ take n rest ∷ lines (drop n rest)) (front : line ≡ take n rest) (back : later ≡ drop n rest) where

@@ -1,10 +1,10 @@
 -- The lines of a text, and the places of CRLF in it.
-use Rattle.std.specs.Prelude.{◌≡◌, ℕ, zero, suc, ◌+◌, ◌-◌, ◌<◌, ◌≤◌, true, false, nat_eq, List, [], ◌∷◌, ◌++◌, length, take, drop, get_or, flat_map}
+use Rattle.std.specs.Prelude.{◌≡◌, ℕ, zero, suc, ◌+◌, ◌-◌, ◌<◌, ◌≤◌, true, false, nat_eq, [], ◌∷◌, ◌++◌, length, take, drop, get_or, flat_map}
 use Rattle.std.specs.List.{ends_with}
-use Rattle.std.proofs.Common.{sym, ◌∙◌, ap, refl, arith, inl, inr}
+use Rattle.std.proofs.Common.{sym, ◌∙◌, ap, arith, inl, inr}
 use Rattle.std.proofs.lemmas.Bool.{cond-true, cond-false, true≢false}
 use Rattle.std.proofs.lemmas.List.{append-nil, drop-drop, get_or-drop, length-drop, length-take-le, take-take, take_all}
-use Rattle.memchr.specs.Find.{OccursAt, Nowhere, NoneBefore, matches}
+use Rattle.memchr.specs.Find.{OccursAt, Nowhere, matches}
 use Rattle.memchr.proofs.lemmas.MatchLemmas.{matches-first, matches-none}
 use Rattle.bstr.specs.Text.{replaced_at}
 use Rattle.bstr.proofs.lemmas.MatchListLemmas.{replaced-next, replaced-end}

@@ -1,5 +1,6 @@
 //! Counts what 64 batches of 6 images ask of a device, with one segment and with eight, with and without a cache over it, and
-//! prints it. Where `--time` is given, it also prints the time of a write of 64 octets to a cache, of 1,000, of 10,000 and of 100,000 between two syncs:
+//! prints it. Where `--time` is given, it also prints the time of a write of 64 octets to a cache, of 1,000, of 10,000 and of
+//! 100,000 before a sync: in a new cache, which takes memory for them, and in one that has kept that room over a sync. There
 //! the last is to be at most twice the first.
 #![tactic(auto)]
 
@@ -92,10 +93,9 @@ fn count(rt: &impl Print, alloc: Global, segments: u32) -> Result<()> {
     show_counts(rt, segments, "with", before, after)
 }
 
-/// The nanoseconds of one of so many writes, side by side, between two syncs.
-fn time_of_writes(rt: &impl Clock, alloc: Global, writes: u64) -> Result<u128> {
+/// The nanoseconds of one of so many writes, side by side, before a sync.
+fn time_of_writes(rt: &impl Clock, cache: &mut WCache<MemDisk>, writes: u64) -> Result<u128> {
     ensure!(0 < writes && writes <= 1_000_000, "too many writes");
-    let mut cache = WCache::new(alloc, MemDisk::new(alloc, PIECE * writes)?);
     let start = Instant::now(rt)?;
     for piece in 0..writes {
         let at = PIECE * piece;
@@ -107,6 +107,18 @@ fn time_of_writes(rt: &impl Clock, alloc: Global, writes: u64) -> Result<u128> {
     Ok(spent / u128::from(writes))
 }
 
+/// Prints it for a new cache, and for one that has had as many writes and a sync.
+fn show_time(rt: &(impl Clock + Print), alloc: Global, writes: u64) -> Result<()> {
+    ensure!(writes <= 1_000_000, "too many writes");
+    let mut cache = WCache::new(alloc, MemDisk::new(alloc, PIECE * writes)?);
+    let new = time_of_writes(rt, &mut cache, writes)?;
+    let kept = time_of_writes(rt, &mut cache, writes)?;
+    rt.println(format_args!(
+        "{writes} writes: {new} ns each in a new cache, {kept} ns in one that has the room"
+    ))?;
+    Ok(())
+}
+
 fn main(rt: HostRuntime) -> Result<()> {
     let alloc = rt.alloc();
     for segments in [1, 8] {
@@ -114,8 +126,7 @@ fn main(rt: HostRuntime) -> Result<()> {
     }
     if std::env::args(&rt)?.count() > 1 {
         for writes in [1_000, 10_000, 100_000] {
-            let time = time_of_writes(&rt, alloc, writes)?;
-            rt.println(format_args!("{writes} writes: {time} ns each"))?;
+            show_time(&rt, alloc, writes)?;
         }
     }
     Ok(())

@@ -3,7 +3,7 @@
 //! does nothing.
 #![tactic(auto)]
 
-ghost use Rattle.std.specs.Prelude.{◌≡◌, ◌≤◌, length, IfOk};
+ghost use Rattle.std.specs.Prelude.{◌≤◌, IfOk};
 ghost use Rattle.bench_files.specs.Files.{HasFiles};
 
 use anyhow::{Result, ensure};

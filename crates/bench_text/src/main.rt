@@ -1,7 +1,7 @@
 //! Measures the text crates. `bench_text measure` prints microseconds and their ratios; without a word it does nothing.
 #![tactic(auto)]
 
-ghost use Rattle.std.specs.Prelude.{◌≡◌, ◌<◌, None, OnOk};
+ghost use Rattle.std.specs.Prelude.{◌≡◌, ◌<◌, None};
 
 use anyhow::{Result, anyhow};
 use framing::{Message, Mode, Reader, stuff};

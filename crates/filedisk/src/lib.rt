@@ -4,7 +4,7 @@
 #[cfg(test)]
 mod tests;
 
-ghost use Rattle.std.specs.Prelude.{◌≡◌, ◌↔◌, ℕ, IsErr, IfOk, IfErr, OnOk};
+ghost use Rattle.std.specs.Prelude.{◌≡◌, ◌↔◌, IsErr, IfOk, IfErr, OnOk};
 ghost use Rattle.disk.specs.Device.{one_more};
 
 use disk::{Disk, DiskError};

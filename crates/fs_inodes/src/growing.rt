@@ -1,6 +1,6 @@
 //! Files that grow.
 
-ghost use Rattle.std.specs.Prelude.{◌≡◌, ◌≢◌, ℕ, ◌+◌, ◌%◌, ◌<◌, ◌≤◌, [], ◌∷◌, length, replicate, true, false, IfOk, OnOk};
+ghost use Rattle.std.specs.Prelude.{◌≡◌, ℕ, ◌+◌, ◌%◌, ◌<◌, ◌≤◌, [], ◌∷◌, length, replicate, true, IfOk, OnOk};
 ghost use Rattle.model.specs.Volume.{number_at};
 ghost use Rattle.model.specs.Files.{HasRoom, IsFileSystem, IsFile, entry, size, is_marked_used, free_blocks};
 ghost use Rattle.fs_layout.specs.Touches.{Touches, TouchesData, touched_by_growth};

@@ -1,6 +1,6 @@
 //! Records of 64 octets, 64 to a block: inodes, and slots of the directory.
 
-ghost use Rattle.std.specs.Prelude.{◌≡◌, ◌≢◌, ℕ, ◌+◌, ◌*◌, ◌/◌, ◌%◌, ◌<◌, ◌≤◌, List, [], length, slice_index_or, MatchOption, OnOk};
+ghost use Rattle.std.specs.Prelude.{◌≡◌, ◌≢◌, ℕ, ◌+◌, ◌*◌, ◌/◌, ◌%◌, ◌<◌, ◌≤◌, [], length, slice_index_or, MatchOption, OnOk};
 ghost use Rattle.disk.specs.Image.{part, overwritten};
 ghost use Rattle.model.specs.Files.{HasRoom, slot_of};
 ghost use Rattle.fs_layout.specs.Blocks.{PutsRecord, IsFoundIn, IsFound};

@@ -4,7 +4,7 @@ use Rattle.std.proofs.Common.{refl}
 use Rattle.std.specs.List.{list_all}
 use Rattle.std.proofs.lemmas.Bool.{and_parts}
 use Rattle.model.specs.Commands as commands
-use Rattle.model.specs.Commands.{Listing, active, times, newsgroups, overview, command_of, fetch, list_of, list_with, listing_of, newgroups_of, newnews_of, is_date_word, is_time_word, is_zone, keyword_of, over_of, parsed_by, parsed_line, parsed_words, selector_of, words}
+use Rattle.model.specs.Commands.{Listing, active, times, newsgroups, overview, command_of, fetch, list_of, list_with, listing_of, newgroups_of, newnews_of, is_date_word, is_time_word, is_zone, keyword_of, parsed_by, parsed_line, parsed_words, words}
 use Rattle.model.specs.Names.{begins, is_blank, is_visible, is_group_name, is_message_id, is_wildmat, number_of, range_of}
 use Rattle.model.specs.declared.command.Command.{Command}
 use Rattle.model.specs.declared.command.Command.TheVariants as command

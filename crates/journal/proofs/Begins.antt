@@ -2,9 +2,9 @@
 use Rattle.std.proofs.Common.{◌≡◌, ◌≢◌, ◌⊎◌, inl, inr, ◌<◌, ◌≤◌, ℕ, zero, suc, ◌+◌, ◌*◌, Bool, true, false, cond, eqb, List, [], ◌∷◌, ◌++◌, length, map, take, refl, sym, ◌∙◌, ap, subst, arith}
 use Rattle.std.specs.List.{All}
 use Rattle.std.proofs.lemmas.Bool.{cases_Bool, cases_eq, eqb-false}
-use Rattle.std.proofs.lemmas.List.{ext_get_or, get_or-take, length-take-le, map_more}
+use Rattle.std.proofs.lemmas.List.{length-take-le, map_more}
 use Rattle.disk.specs.Device.{Device}
-use Rattle.model.specs.Volume.{AreDistinct, StandsFor, blocks_from, descriptor_of, is_open, logical_blocks, number_at}
+use Rattle.model.specs.Volume.{AreDistinct, StandsFor, descriptor_of, is_open, number_at}
 use Rattle.segments.specs.Held.{AreOpen, HaveLess, Held, IsAmong}
 use Rattle.journal_segments.specs.Staged.{IsSound, IsStaged, Staged, held_as, none_staged, staged_at}
 use Rattle.journal.specs.Flight.{all_of, flight_in, left_of}

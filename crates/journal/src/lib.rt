@@ -6,7 +6,7 @@ mod batch;
 mod opening;
 mod stepping;
 
-ghost use Rattle.std.specs.Prelude.{◌≡◌, ◌≢◌, ◌≤◌, ◌<◌, ◌↔◌, ℕ, List, length, true, false, OnOk, IfErr, IsTrue};
+ghost use Rattle.std.specs.Prelude.{◌≡◌, ◌≤◌, ◌<◌, ◌↔◌, length, true, false, OnOk, IfErr, IsTrue};
 
 use batch::lowest_closed;
 use disk::{Disk, DiskCall, Faults};

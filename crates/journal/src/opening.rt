@@ -1,6 +1,6 @@
 //! Opening what stands on a device.
 
-ghost use Rattle.std.specs.Prelude.{MatchResult, ◌≤◌, ◌⊎◌, OnOk, IfOk, IfErr, IsErrOf, IsTrue, ◌≡◌, ◌≢◌, ◌+◌, ◌<◌, [], true, false, length, slice_index, sum};
+ghost use Rattle.std.specs.Prelude.{MatchResult, ◌≤◌, ◌⊎◌, OnOk, IfOk, IfErr, IsTrue, ◌≡◌, ◌+◌, ◌<◌, [], true, false, length, slice_index, sum};
 ghost use Rattle.disk.specs.Device.{Elapses, LeavesOnly};
 ghost use Rattle.model.specs.Volume.{StandsFor, open_segments};
 ghost use Rattle.journal_segments.specs.Staged.{staged_at};

@@ -5,7 +5,7 @@ ghost use Rattle.model.specs.Volume.{descriptor_place, gate_place, home_place, i
 ghost use Rattle.journal_segments.specs.Staged.{staged_at};
 ghost use Rattle.journal.specs.Flight.{all_of, flight_in, sizes_of};
 ghost use Rattle.journal.specs.Inside.{IsWithin};
-ghost use Rattle.journal.specs.Order.{all_calls, following, calls_made, writes_made, syncs_made, is_sync, at_fault, answer};
+ghost use Rattle.journal.specs.Order.{following, calls_made, writes_made, syncs_made, is_sync, at_fault, answer};
 ghost use Rattle.journal.specs.Opening.{IsMore};
 ghost use Rattle.journal.specs.Calls.{Call, IsAsked, call_at};
 

@@ -1,8 +1,8 @@
 //! Reads of what stands on a device.
 
-ghost use Rattle.std.specs.Prelude.{◌^◌, ◌⊎◌, OnOk, IfOk, IfErr, IsErrOf, take, IsTrue, ◌≡◌, ◌≢◌, ◌+◌, ◌*◌, ◌<◌, ◌≤◌, ℕ, List, length};
+ghost use Rattle.std.specs.Prelude.{◌^◌, OnOk, IfOk, IfErr, IsErrOf, take, IsTrue, ◌≡◌, ◌≢◌, ◌+◌, ◌*◌, ◌<◌, ◌≤◌, length};
 ghost use Rattle.disk.specs.Image.{overwritten, part};
-ghost use Rattle.model.specs.Volume.{IsDescriptor, IsSuperblock, is_open, number_at, block, listed, image_place, descriptor_place, gate_place, home_place};
+ghost use Rattle.model.specs.Volume.{IsDescriptor, IsSuperblock, is_open, number_at, block, listed, image_place, descriptor_place, gate_place};
 ghost use Rattle.journal_segments.specs.Found.{AreLoaded, IsQuiet, IsStill};
 
 use crate::SegmentError;

@@ -1,7 +1,6 @@
 //! A segment in memory.
 
-ghost use Rattle.std.specs.Prelude.{◌≡◌, ◌≢◌, ◌⊎◌, ◌≤◌, ◌<◌, ◌+◌, ◌*◌, ◌++◌, IfErr, IfOk, IsErrOf, IsTrue, OnOk, ℕ, length, drop, slice_index, slice_index_or, []};
-ghost use Rattle.disk.specs.Device.{Device};
+ghost use Rattle.std.specs.Prelude.{◌≡◌, ◌≢◌, ◌≤◌, ◌<◌, ◌+◌, ◌*◌, ◌++◌, IfOk, IsErrOf, IsTrue, OnOk, length, drop, slice_index, slice_index_or, []};
 ghost use Rattle.model.specs.Volume.{IsDescriptor, block, descriptor_place, gate_place, number_at};
 ghost use Rattle.journal_segments.specs.Staged.{number_of};
 ghost use Rattle.journal_segments.specs.Found.{IsQuiet, IsReadFrom, IsStill, IsTaken};

@@ -4,7 +4,7 @@
 
 mod blocks;
 
-ghost use Rattle.std.specs.Prelude.{◌≡◌, ◌+◌, ◌≤◌, ◌↔◌, ℕ, IsTrue, length, IfErr, IfOk, OnOk, IsErrOf, if◌then◌else◌};
+ghost use Rattle.std.specs.Prelude.{◌≡◌, ◌+◌, ◌≤◌, ◌↔◌, IsTrue, length, IfErr, IfOk, OnOk, IsErrOf, if◌then◌else◌};
 ghost use Rattle.memdisk.specs.Calls.{after_read, after_sync, after_write, all_synced, blank, picked};
 ghost use Rattle.memdisk.specs.Memory.{IsSound};
 ghost use Rattle.memdisk.specs.Plans.{fails_next, is_kind, plan_after, plan_for, plan_for_kind};

@@ -13,7 +13,7 @@ use Rattle.journal.specs.declared.Next.TheVariants.{Idle, Descriptor, Image, Sea
 use Rattle.journal.specs.declared.Progress.{Progress}
 use Rattle.journal.specs.declared.Progress.TheVariants.{Working, Idle as Ended}
 use Rattle.journal.specs.declared.JournalError.{JournalError}
-use Rattle.journal.specs.declared.JournalError.TheVariants.{Fault, Halted, Memory, NotAVolume}
+use Rattle.journal.specs.declared.JournalError.TheVariants.{Fault, Memory}
 use Rattle.journal.proofs.During.{same_itself, same_sizes, same_then}
 use Rattle.journal.proofs.Flights.{after_commit, after_gate, after_home, after_image}
 use Rattle.model.specs.Volume.{StandsFor, descriptor_of, laid_over}

@@ -1,5 +1,5 @@
 -- A release in its middle: some sessions have given, the others are still to give.
-use Rattle.std.proofs.Common.{◌≡◌, ℕ, zero, suc, ◌+◌, ◌-◌, ◌≤◌, ◌<◌, Bool, true, false, cond, List, [], ◌∷◌, ◌++◌, length, take, drop, map, refl, ap, sym, ◌∙◌, subst, arith, append_assoc, append-nil, length-append, drop-cons, get_or, set}
+use Rattle.std.proofs.Common.{◌≡◌, ℕ, suc, ◌+◌, ◌-◌, ◌≤◌, ◌<◌, Bool, true, false, cond, List, [], ◌∷◌, ◌++◌, length, take, drop, map, refl, ap, sym, ◌∙◌, subst, arith, append_assoc, append-nil, length-append, drop-cons, get_or, set}
 use Rattle.std.specs.Prelude.{◌==◌, ◌&&◌, not, filter}
 use Rattle.std.proofs.lemmas.List.{drop-set-lt, drop_all, get_or_default, length-set, map-append, take_all}
 use Rattle.std.proofs.Math.Seq.{take-suc-set}

@@ -1,5 +1,5 @@
 -- The outputs of all sessions, and what a release hands out of them. All of this is this project's rule.
-use Rattle.std.specs.Prelude.{◌≡◌, ℕ, suc, ◌+◌, ◌≤◌, Bool, true, false, ◌==◌, nat_le, if◌then◌else◌, List, [], ◌∷◌, ◌++◌, length, filter}
+use Rattle.std.specs.Prelude.{ℕ, suc, ◌+◌, ◌≤◌, Bool, true, false, ◌==◌, nat_le, if◌then◌else◌, List, [], ◌∷◌, ◌++◌, length, filter}
 use Rattle.outbox.specs.Queue.{Held, Giving, Entry, entry_of, give}
 
 -- A session's number; the dependency of its last output that was handed out whole, 0 at first; and its outputs that are held,

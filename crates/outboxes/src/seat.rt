@@ -1,6 +1,6 @@
 //! One session and its outputs.
 
-ghost use Rattle.std.specs.Prelude.{◌≡◌, ◌+◌, ◌-◌, ◌^◌, ◌<◌, ◌≤◌, ◌++◌, [], length, vec_len, if◌then◌else◌, OnErr, OnOk};
+ghost use Rattle.std.specs.Prelude.{◌≡◌, ◌+◌, ◌-◌, ◌^◌, ◌<◌, ◌≤◌, ◌++◌, length, vec_len, if◌then◌else◌, OnErr, OnOk};
 ghost use Rattle.outbox.specs.Queue.{buffered, entry_of, give, last_dependency, octets_in};
 ghost use Rattle.outboxes.specs.Sessions.{after_giving, is_holding, silent, with_output};
 ghost use Rattle.outboxes.specs.Outbox.{session_in};

@@ -2,7 +2,7 @@
 //! group. Inodes are found in memory, so no call searches the directory for a name.
 #![tactic(auto)]
 
-ghost use Rattle.std.specs.Prelude.{◌≡◌, ◌∷◌, ℕ, [], OnErr, OnOk};
+ghost use Rattle.std.specs.Prelude.{◌≡◌, ℕ, [], OnErr, OnOk};
 ghost use Rattle.model.specs.Indexed.{FilePlaces};
 ghost use Rattle.places.specs.Places.{with_change, with_group};
 

@@ -2,7 +2,7 @@
 //! as `specs/Answer.antt` of the crate `model` says. An error is that memory is refused.
 #![tactic(auto)]
 
-ghost use Rattle.std.specs.Prelude.{◌≡◌, ◌∷◌, ◌++◌, ◌<◌, [], IfOk, codes, map};
+ghost use Rattle.std.specs.Prelude.{◌≡◌, ◌++◌, ◌<◌, IfOk, codes};
 ghost use Rattle.model.specs.Answer as answers;
 ghost use Rattle.model.specs.Calendar.{date_reply, moment_limit};
 ghost use Rattle.model.specs.Replies.{bye, greeting, service_ends};

@@ -1,6 +1,6 @@
 //! The descriptor of a batch, from its octets and into them.
 
-ghost use Rattle.std.specs.Prelude.{◌≡◌, ◌↔◌, ◌<◌, ◌≤◌, ◌+◌, ℕ, IfSome, IsNone, IsTrue, length, replicate, take};
+ghost use Rattle.std.specs.Prelude.{◌≡◌, ◌↔◌, ◌<◌, ◌≤◌, ◌+◌, IfSome, IsNone, IsTrue, length, replicate, take};
 ghost use Rattle.std.specs.List.{All};
 ghost use Rattle.model.specs.Volume.{AreDistinct, IsDescriptor, descriptor_of, listed, number_at};
 

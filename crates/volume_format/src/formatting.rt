@@ -1,10 +1,10 @@
 //! A new volume.
 
-ghost use Rattle.std.specs.Prelude.{◌≡◌, ◌^◌, ◌⊎◌, ◌+◌, ◌*◌, ◌<◌, ◌≤◌, ℕ, [], length, OnOk, IfOk, IfErr, IsTrue};
+ghost use Rattle.std.specs.Prelude.{◌≡◌, ◌^◌, ◌⊎◌, ◌+◌, ◌*◌, ◌<◌, ◌≤◌, ℕ, [], length, OnOk, IfOk, IsTrue};
 ghost use Rattle.std.specs.List.{All};
 ghost use Rattle.disk.specs.Device.{Elapses, LeavesOnly};
-ghost use Rattle.disk.specs.Image.{overwritten, part};
-ghost use Rattle.model.specs.Volume.{IsSuperblock, StandsFor, block, home_place, number_at, open_segments, segment_count};
+ghost use Rattle.disk.specs.Image.{overwritten};
+ghost use Rattle.model.specs.Volume.{StandsFor, block, home_place, open_segments, segment_count};
 ghost use Rattle.volume_format.specs.Formatting.{CountsFaults, zeroed};
 
 use crate::FormatError;

@@ -1,6 +1,6 @@
 //! The superblock, from its octets and into them.
 
-ghost use Rattle.std.specs.Prelude.{◌≡◌, ◌↔◌, ◌⊎◌, ◌*◌, ◌≤◌, [], ℕ, IfSome, IsNone, IsTrue, drop, length, take};
+ghost use Rattle.std.specs.Prelude.{◌≡◌, ◌↔◌, ◌⊎◌, ◌*◌, ◌≤◌, IfSome, IsNone, IsTrue, drop, length, take};
 ghost use Rattle.std.specs.List.{All};
 ghost use Rattle.disk.specs.Image.{part};
 ghost use Rattle.model.specs.Volume.{IsSuperblock, home_place, magic, number_at};

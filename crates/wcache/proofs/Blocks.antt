@@ -1,6 +1,6 @@
 -- The runs of a block and of the blocks behind it, and calls one after the other.
 use Rattle.std.proofs.Common.{◌≡◌, ◌≢◌, ◌⊎◌, inl, inr, ◌<◌, ◌≤◌, ℕ, zero, suc, ◌+◌, ◌-◌, ◌*◌, ◌%◌, if◌then◌else◌, List, [], ◌∷◌, ◌++◌, length, get_or, map, take, drop, Option, Some, None, refl, sym, ◌∙◌, ap, subst, arith, length-take, length-drop, Result, Ok, Err, IsErr}
-use Rattle.std.proofs.lemmas.List.{length-map, ext_get_or, drop-drop, get_or-drop, get_or-take, get_or_append_left, get_or-append_right, get_or_past, take-append-drop, map-append, get_or_default}
+use Rattle.std.proofs.lemmas.List.{length-map, ext_get_or, drop-drop, get_or-drop, get_or-take, get_or_append_left, get_or-append_right, get_or_past, take-append-drop, map-append}
 use Rattle.std.proofs.lemmas.List.FromFn.{length-map-range_with_len, get_or-map-range_with_len}
 use Rattle.std.proofs.lemmas.Bool.{cases_lt, ne_eqb}
 use Rattle.disk.specs.Calls.{Call, Does, Makes, Writes}

@@ -6,7 +6,7 @@
 mod collected;
 mod giving;
 
-ghost use Rattle.std.specs.Prelude.{◌≡◌, ◌+◌, ◌≤◌, ℕ, IsTrue, Some, None, IfErr, OnErr, OnOk, length, map, replicate};
+ghost use Rattle.std.specs.Prelude.{◌≡◌, ◌+◌, ◌≤◌, IsTrue, Some, None, IfErr, OnErr, OnOk, length, map, replicate};
 ghost use Rattle.disk.specs.Calls.{Makes};
 ghost use Rattle.disk.specs.Device.{Elapses, HasCause, IsRead, IsSync, IsUnchanged, IsWrite, LeavesNoMore, LeavesOnly, LeftNoMore, LeftTornAt, OnAsked, OnRefused, TearsAt};
 ghost use Rattle.disk.specs.Image.{overwritten, part};

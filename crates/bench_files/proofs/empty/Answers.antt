@@ -1,4 +1,4 @@
-use Rattle.std.proofs.Common.{ℕ, ◌*◌, ◌∙◌, sym, subst, refl, arith, rules}
+use Rattle.std.proofs.Common.{◌*◌, ◌∙◌, sym, subst, refl, arith, rules}
 use Rattle.fs.proofs.Zeros.{has_room, are_zeros}
 use Rattle.bench_files.specs.Files.{HasFiles}
 use Rattle.bench_files.proofs.empty.Goals as goal

@@ -1,4 +1,4 @@
-use Rattle.std.proofs.Common.{ℕ, ◌*◌, ◌∙◌, refl, arith, rules}
+use Rattle.std.proofs.Common.{◌*◌, ◌∙◌, refl, arith, rules}
 use Rattle.fs.proofs.Zeros.{has_room, are_zeros}
 use Rattle.fs_calls.proofs.volumes.empty_of.Goals as goal
 

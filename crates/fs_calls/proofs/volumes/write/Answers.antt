@@ -1,4 +1,4 @@
-use Rattle.std.proofs.Common.{◌≤◌, List, ℕ, length, ap, arith}
+use Rattle.std.proofs.Common.{List, ℕ, length, ap, arith}
 use Rattle.fs_layout.proofs.Tables.{there_once}
 use Rattle.fs_calls.proofs.volumes.write.Goals as goal
 

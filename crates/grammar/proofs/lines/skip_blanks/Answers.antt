@@ -1,4 +1,4 @@
-use Rattle.std.proofs.Common.{◌∙◌, ap, sym}
+use Rattle.std.proofs.Common.{◌∙◌, ap}
 use Rattle.std.proofs.lemmas.List.{take_rest}
 use Rattle.model.specs.Commands.{words}
 use Rattle.model.specs.Names.{begins, is_blank}

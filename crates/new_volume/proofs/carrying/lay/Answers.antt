@@ -1,4 +1,4 @@
-use Rattle.std.proofs.Common.{◌≡◌, ◌∙◌, sym, ap, subst}
+use Rattle.std.proofs.Common.{◌≡◌, ap, subst}
 use Rattle.disk.specs.Device.{Device}
 use Rattle.new_volume.specs.Formatting.{Spoils}
 use Rattle.new_volume.proofs.Carried.{caused_spoils}

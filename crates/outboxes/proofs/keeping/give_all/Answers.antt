@@ -1,4 +1,4 @@
-use Rattle.std.proofs.Common.{◌≡◌, suc, ◌<◌, length, set, sym, subst, arith, add-one}
+use Rattle.std.proofs.Common.{suc, ◌<◌, length, set, sym, subst, arith, add-one}
 use Rattle.outboxes.proofs.Releases.{GoesOn, goes_on}
 use Rattle.outboxes.proofs.keeping.give_all.Goals as goal
 

@@ -1,4 +1,4 @@
-use Rattle.std.proofs.Common.{◌≡◌, ◌∙◌, ap, arith}
+use Rattle.std.proofs.Common.{◌∙◌, ap, arith}
 use Rattle.outbox.specs.Queue.{Held, buffered}
 use Rattle.outboxes.specs.Sessions.{Session, sent, session_of, with_output}
 use Rattle.outboxes.specs.Outbox.{sessions}

@@ -1,4 +1,4 @@
-use Rattle.std.proofs.Common.{◌≡◌, ap, arith}
+use Rattle.std.proofs.Common.{ap, arith}
 use Rattle.outbox.specs.Queue.{buffered}
 use Rattle.outboxes.specs.Sessions.{Session, with_output}
 use Rattle.outboxes.proofs.Places.{changed_set, room_here, room_less, session_here}

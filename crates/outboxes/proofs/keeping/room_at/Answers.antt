@@ -1,7 +1,6 @@
-use Rattle.std.proofs.Common.{◌≡◌, ◌<◌, ◌≤◌, set, sym, ap, subst, arith}
+use Rattle.std.proofs.Common.{◌<◌, ◌≤◌, sym, ap, subst, arith}
 use Rattle.std.specs.Prelude.{OnErr, OnOk, Result, Ok, Err}
 use Rattle.outboxes.specs.Sessions.{Session}
-use Rattle.outboxes.specs.Outbox.{Kept}
 use Rattle.outboxes.proofs.Places.{changed_set, room_here, room_less, room_now, sessions_set, stands_set}
 use Rattle.outboxes.proofs.keeping.room_at.Goals as goal
 

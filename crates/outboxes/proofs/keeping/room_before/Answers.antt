@@ -1,5 +1,5 @@
-use Rattle.std.proofs.Common.{◌≡◌, ◌≤◌, sym, ◌∙◌, ap, subst, arith}
-use Rattle.outboxes.specs.Outbox.{HaveRoom, Stands, place_of, room_of, sessions}
+use Rattle.std.proofs.Common.{sym, ◌∙◌, ap, subst, arith}
+use Rattle.outboxes.specs.Outbox.{HaveRoom, Stands, room_of, sessions}
 use Rattle.outboxes.proofs.Places.{joined_insert, none_before, place_most, room_before, room_new, stands_insert}
 use Rattle.outboxes.proofs.keeping.room_before.Goals as goal
 

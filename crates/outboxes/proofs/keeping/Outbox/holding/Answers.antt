@@ -1,4 +1,4 @@
-use Rattle.std.proofs.Common.{◌≡◌, ◌≤◌, List, ap, arith}
+use Rattle.std.proofs.Common.{List, ap, arith}
 use Rattle.outboxes.specs.Outbox.{Kept, sessions}
 use Rattle.outboxes.specs.Sessions.{holding}
 use Rattle.outboxes.proofs.Rising.{sent_holding}

@@ -1,4 +1,4 @@
-use Rattle.std.proofs.Common.{◌≡◌, ◌≤◌, List, refl, ap, arith}
+use Rattle.std.proofs.Common.{List, refl, ap, arith}
 use Rattle.outbox.specs.Queue.{Held}
 use Rattle.outboxes.specs.Sessions.{holding, sent, with_output}
 use Rattle.outboxes.specs.Outbox.{Kept, sessions}

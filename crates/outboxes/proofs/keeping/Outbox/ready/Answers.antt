@@ -1,4 +1,4 @@
-use Rattle.std.proofs.Common.{◌≡◌, ◌≤◌, sym, ap, subst, arith}
+use Rattle.std.proofs.Common.{sym, ap, subst, arith}
 use Rattle.outboxes.specs.Sessions.{RiseFrom, holding}
 use Rattle.outboxes.specs.Outbox.{sessions}
 use Rattle.outboxes.proofs.Releases.{holding_release, rise_release}

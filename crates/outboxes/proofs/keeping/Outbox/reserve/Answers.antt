@@ -1,4 +1,4 @@
-use Rattle.std.proofs.Common.{◌≡◌, ◌≤◌, refl, ap, arith}
+use Rattle.std.proofs.Common.{refl, ap, arith}
 use Rattle.outboxes.specs.Sessions.{holding}
 use Rattle.outboxes.specs.Outbox.{sessions}
 use Rattle.outboxes.proofs.Rising.{joined_holding, sound_with}

@@ -1,4 +1,4 @@
-use Rattle.std.proofs.Common.{◌≡◌, ◌-◌, ap, arith, length}
+use Rattle.std.proofs.Common.{◌-◌, ap, arith, length}
 use Rattle.outbox.specs.Queue.{octets_in}
 use Rattle.outboxes.specs.Outbox.{Kept}
 use Rattle.outboxes.proofs.Releases.{give_fewer}
