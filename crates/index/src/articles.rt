@@ -1,6 +1,6 @@
 //! Look-ups of articles by their serials.
 
-ghost use Rattle.std.specs.Prelude.{◌≡◌, ◌≤◌, ◌&&◌, ℕ, IfSome, IsTrue, false, length, map, option_map};
+ghost use Rattle.std.specs.Prelude.{◌≡◌, ◌+◌, ◌<◌, ◌≤◌, ◌&&◌, ℕ, IfSome, IsTrue, Some, true, false, length, map, option_map};
 ghost use Rattle.std.specs.List.{list_any};
 ghost use Rattle.model.specs.Answer.{is_since};
 ghost use Rattle.model.specs.Stream.{Octets};
@@ -60,11 +60,13 @@ impl Index {
         }
     }
 
-    /// How many changes in front have no article of this moment or a later one, in seconds since 1970: all up to the first that
-    /// has, where moments don't fall from change to change. It takes the logarithm of their number.
+    /// How many changes stand before the first article of this moment or a later one, in seconds since 1970; all, where there is
+    /// none. None before 1970, and at its first second. It takes the logarithm of their number.
     pub fn older_than(&self, from: i64) -> u64
         ensures few { (S : Spool) → Indexes S self.now → result ≤ length S }
         ensures older { (S : Spool) → Indexes S self.now → (serial : ℕ) → serial ≤ result → IfSome (article_with S serial) (λ a. is_since from a.moment ≡ false) }
+        ensures next { (S : Spool) → Indexes S self.now → is_since from 0 ≡ false → result < length S → option_map (λ a. is_since from a.moment) (article_with S (result + 1)) ≡ Some true }
+        ensures none { is_since from 0 ≡ true → result ≡ 0 }
     {
         match u64::try_from(from) {
             Ok(moment) => moments_below(&self.latest, moment) as u64,

@@ -2,7 +2,7 @@
 //! `model` say what each answer is.
 #![tactic(auto)]
 
-ghost use Rattle.std.specs.Prelude.{◌≡◌, ℕ, ◌+◌, ◌<◌, ◌≤◌, ◌^◌, ◌++◌, IfSome, IsTrue, IsSome, OnOk, Some, false, length, option_map, slice_get};
+ghost use Rattle.std.specs.Prelude.{◌≡◌, ℕ, ◌+◌, ◌<◌, ◌≤◌, ◌^◌, ◌++◌, IfSome, IsTrue, IsSome, OnOk, Some, true, false, length, option_map, slice_get};
 ghost use Rattle.std.specs.List.{list_any};
 ghost use Rattle.model.specs.Stream.{Octets, line};
 ghost use Rattle.model.specs.Names.{is_host, is_wildmat, wildmat_matches};
@@ -89,11 +89,13 @@ pub trait LookUps {
     fn moment(&self, serial: u64) -> Option<u64>
         ensures { result ≡ option_map (λ a. a.moment) (article_with (changes self.now) serial) };
 
-    /// How many changes in front have no article of this moment or a later one, in seconds since 1970: all up to the first that
-    /// has, where moments don't fall from change to change.
+    /// How many changes stand before the first article of this moment or a later one, in seconds since 1970; all, where there is
+    /// none. None before 1970, and at its first second.
     fn older_than(&self, from: i64) -> u64
         ensures few { result ≤ length (changes self.now) }
-        ensures older { (serial : ℕ) → serial ≤ result → IfSome (article_with (changes self.now) serial) (λ a. is_since from a.moment ≡ false) };
+        ensures older { (serial : ℕ) → serial ≤ result → IfSome (article_with (changes self.now) serial) (λ a. is_since from a.moment ≡ false) }
+        ensures next { is_since from 0 ≡ false → result < length (changes self.now) → option_map (λ a. is_since from a.moment) (article_with (changes self.now) (result + 1)) ≡ Some true }
+        ensures none { is_since from 0 ≡ true → result ≡ 0 };
 
     /// Whether the article with this serial is in a group whose name the wildmat takes.
     fn is_in_one(&self, serial: u64, wildmat: &[u8]) -> bool
