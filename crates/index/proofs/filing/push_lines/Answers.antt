@@ -42,3 +42,6 @@ loop-i-preserved c =
           (ends_less ((c.loop-i.i + 1) * 2 ^ 32 + 2 ^ 32) ((c.loop-i.i + 1 + 1) * 2 ^ 32) (map (filed_once c.args.serial c.as_slice.result.now size) (map shown c.loop-i.groups)) (omega arith)
           (ends_more ((c.loop-i.i + 1) * 2 ^ 32) (2 ^ 32) c.args.serial c.as_slice.result.now size (map shown c.loop-i.groups) c.loop-i.invariant.ends small));
     }
+
+pub returns : goal.returns
+returns c = search rules

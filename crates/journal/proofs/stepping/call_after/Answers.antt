@@ -1,4 +1,4 @@
-use Rattle.std.proofs.Common.{◌≡◌, ◌≤◌, ℕ, ◌+◌, cond, eqb, length, get_or, sym, ◌∙◌, ap, subst, arith}
+use Rattle.std.proofs.Common.{rules, ◌≡◌, ◌≤◌, ℕ, ◌+◌, cond, eqb, length, get_or, sym, ◌∙◌, ap, subst, arith}
 use Rattle.segments.specs.Held.{Held}
 use Rattle.journal_segments.specs.Staged.{Staged, staged_at}
 use Rattle.journal.specs.Flight.{Flight, flight_in, sizes_of}
@@ -25,3 +25,6 @@ returns-in-Home c =
     (c.after_home.ensures
     ∙ ap (λ (k : ℕ). cond (eqb (i + 1) k) (cond (eqb (j + 1) (c.args.filled + 1)) Settle (Home (j + 1) 0)) (Home j (i + 1))) count
     ∙ ap (λ (k : ℕ). cond (eqb (i + 1) (get_or (sizes_of f) j 0)) (cond (eqb (j + 1) k) Settle (Home (j + 1) 0)) (Home j (i + 1))) all)
+
+pub returns-in-Commit : goal.returns-in-Commit
+returns-in-Commit c = search rules

@@ -1,4 +1,4 @@
-use Rattle.std.proofs.Common.{refl, sym, ◌∙◌}
+use Rattle.std.proofs.Common.{rules, refl, sym, ◌∙◌}
 use Rattle.std.proofs.lemmas.Bool.{true≢false}
 use Rattle.model.specs.Files.{table}
 use Rattle.spool_reading.proofs.Passing.{named_file_is}
@@ -18,3 +18,6 @@ returns-in_default-size_by_name g c = λ S is.
       λ yes. absurd (true≢false (sym yes)),
       λ whole. absurd (c.in_default-size_by_name.ensures S is _ (named_whole (table c.args.inodes (g.B.Blocks.blocks c.args.blocks.now)) S c.args.at its.file c.as_slice-octets.result.now its.there named other whole)),
     )
+
+pub returns : goal.returns
+returns c = search rules

@@ -1,4 +1,4 @@
-use Rattle.std.proofs.Common.{refl, sym, ◌∙◌}
+use Rattle.std.proofs.Common.{rules, refl, sym, ◌∙◌}
 use Rattle.std.proofs.lemmas.Bool.{true≢false}
 use Rattle.spool_opening.proofs.Testing.{none_by, some_by}
 use Rattle.spool_opening.proofs.following.may_have_id.Goals as goal
@@ -11,3 +11,6 @@ returns-then-not-is_of_host c = λ S is. (
   λ yes. record { new = none_by _ (c.in_default.ensures S is); own = λ own. absurd (true≢false (sym own ∙ sym c.is_of_host.ensures ∙ c.if-not-is_of_host.true)) },
   λ may. refl,
 )
+
+pub returns : goal.returns
+returns c = search rules

@@ -1,3 +1,4 @@
+use Rattle.std.proofs.lemmas.Grind.{common_steps}
 use Rattle.std.proofs.Common.{◌≡◌, ◌-◌, ◌<◌, length, ◌∙◌, ap, refl, arith}
 use Rattle.outbox.specs.Queue.{QueueView, last_dependency}
 use Rattle.outbox.proofs.GivingLaws.{last_dependency-back}
@@ -11,3 +12,6 @@ returns-in-Some c =
     c.dependency.ensures
     ∙ last_dependency-back q.given q.outputs.items (q.outputs.len - 1) c.in-Some.last.now (omega arith) c.in-Some.ensures.lookup
     ∙ ap (λ (view : QueueView). last_dependency view.given view.held) c.self.view_is
+
+pub returns-in-None : goal.returns-in-None
+returns-in-None c = grind (arith, common_steps)
