@@ -1,3 +1,4 @@
+use Rattle.std.proofs.lemmas.Grind.{common_steps}
 use Rattle.std.proofs.Common.{◌≡◌, ℕ, ◌+◌, ◌-◌, ◌≤◌, List, ◌++◌, length, take, drop, refl, sym, ◌∙◌, ap, subst, arith, length-drop, length-take-le}
 use Rattle.std.proofs.Math.Seq.{take-add}
 use Rattle.fs_inodes.specs.Growing.{GrowsBy}
@@ -78,3 +79,6 @@ returns-clause-touches g c =
     let new = g.B.Blocks.blocks c.loop-from.blocks in
     subst (λ (n : ℕ). Touches (touched_by_growth n (length c.args.octets.now)) old new) c.size_of-size.ensures
     (spread_all c.args.at c.size_of-size.result c.loop-from.from (length c.args.octets.now) old new c.loop-from.invariant.spread c.loop-from.invariant.here.within)
+
+pub returns-clause-grown : goal.returns-clause-grown
+returns-clause-grown c = grind (arith, common_steps)

@@ -1,4 +1,4 @@
-use Rattle.std.proofs.Common.{◌≡◌, ℕ, ◌+◌, ◌%◌, ◌≤◌, List, length, take, replicate, refl, sym, ◌∙◌, subst, arith}
+use Rattle.std.proofs.Common.{rules, ◌≡◌, ℕ, ◌+◌, ◌%◌, ◌≤◌, List, length, take, replicate, refl, sym, ◌∙◌, subst, arith}
 use Rattle.std.proofs.lemmas.List.{length-replicate, take-replicate, replicate-append-replicate}
 use Rattle.model.specs.Files.{entry, size}
 use Rattle.fs_inodes.specs.Growing.{GrowsBy, HasRoomFor}
@@ -76,3 +76,6 @@ returns-clause-touches g c =
     let new = g.B.Blocks.blocks c.loop-from.blocks in
     subst (λ (n : ℕ). Touches (touched_by_growth n (c.args.count)) old new) c.size_of-size.ensures
     (spread_all c.args.at c.size_of-size.result c.loop-from.from (c.args.count) old new c.loop-from.invariant.spread c.loop-from.invariant.here.within)
+
+pub returns-clause-grown : goal.returns-clause-grown
+returns-clause-grown c = search rules
