@@ -1,4 +1,4 @@
-use Rattle.std.proofs.Common.{◌≡◌, ℕ, Bool, IsTrue, length, sym, ◌∙◌, ap, subst, arith}
+use Rattle.std.proofs.Common.{rules, ◌≡◌, ℕ, Bool, IsTrue, length, sym, ◌∙◌, ap, subst, arith}
 use Rattle.disk.specs.Image.{overwritten}
 use Rattle.volume_format.proofs.Formatted.{blocks_more}
 use Rattle.volume_format.proofs.formatting.write_blocks.Goals as goal
@@ -18,3 +18,6 @@ loop-k-preserved g c = record {
       let put = c.in_ok-write_part.ensures.content here ∙ ap (λ (n : ℕ). overwritten n c.args.octets.now (g.D.Disk.device c.loop-k.disk).content) c.start_of.ensures in
       blocks_more c.loop-k.k c.args.octets.now old (g.D.Disk.device c.write_part.new.disk).content put c.requires.whole (omega (arith, size, c.loop-k.invariant.time.size, c.requires.size, c.loop-k-test.true)) (c.loop-k.invariant.blocks t);
 }
+
+pub loop-k-init : goal.loop-k-init
+loop-k-init c = search rules

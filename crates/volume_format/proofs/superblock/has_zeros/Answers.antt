@@ -1,4 +1,4 @@
-use Rattle.std.proofs.Common.{◌≡◌, refl, ℕ, ◌+◌, ◌-◌, get_or, drop, sym, ◌∙◌, ap, arith, length-drop}
+use Rattle.std.proofs.Common.{rules, ◌≡◌, refl, ℕ, ◌+◌, ◌-◌, get_or, drop, sym, ◌∙◌, ap, arith, length-drop}
 use Rattle.std.proofs.lemmas.List.{get_or-drop}
 use Rattle.std.proofs.lemmas.List.Elements.{All-from_get_or, All-get_or}
 use Rattle.std.proofs.lemmas.Bool.{false≢true}
@@ -19,3 +19,6 @@ returns-then-octets-at-ne0 c = (
       let is : get_or c.args.octets.now c.loop-at.at 0 ≡ 0 = ap (λ (n : ℕ). get_or c.args.octets.now n 0) (sym place) ∙ sym (get_or-drop 148 c.args.octets.now (c.loop-at.at - 148) 0) ∙ zero in
       absurd (c.if-octets-at-ne0.true is),
 )
+
+pub loop-at-init : goal.loop-at-init
+loop-at-init c = search rules

@@ -18,3 +18,6 @@ returns-then-has_zeros-clause-some c =
       blocks,
       segments,
     )
+
+pub returns-else-has_magic-clause-none : goal.returns-else-has_magic-clause-none
+returns-else-has_magic-clause-none c = search rules

@@ -1,4 +1,4 @@
-use Rattle.std.proofs.Common.{◌≡◌, ◌<◌, ℕ, List, [], length, get_or, sym, ◌∙◌, ap, subst}
+use Rattle.std.proofs.Common.{rules, ◌≡◌, ◌<◌, ℕ, List, [], length, get_or, sym, ◌∙◌, ap, subst}
 use Rattle.std.specs.List.{All, flat_map}
 use Rattle.model.specs.Volume.{block, blocks_from, laid_over}
 use Rattle.volume.specs.Volume.{VolumeView, BatchView, AgreeOutside}
@@ -39,3 +39,6 @@ returns-clause-laid c =
     (subst (λ (l : List ℕ). P inside.dirty.members l c.args.self.now.cache) (sym images)
     (subst (λ (v : VolumeView). P inside.dirty.members (flat_map (λ n. block n inside.cache.items) inside.dirty.members) v.cache) c.self.view_is
     (copied_laid inside.staged.bound inside.cache.items inside.dirty.members c.self.invariant.cache_size below)))
+
+pub returns-clause-clean : goal.returns-clause-clean
+returns-clause-clean c = search rules

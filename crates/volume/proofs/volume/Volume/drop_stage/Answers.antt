@@ -3,3 +3,6 @@ use Rattle.volume.proofs.volume.Volume.drop_stage.Goals as goal
 
 pub returns : goal.returns
 returns c = search rules
+
+pub invariant_of-self : goal.invariant_of-self
+invariant_of-self c = search rules

@@ -1,4 +1,4 @@
-use Rattle.std.proofs.Common.{◌≡◌, ℕ, ◌*◌, List, [], ◌∷◌, ◌++◌, length, set, ◌∙◌, ap, arith}
+use Rattle.std.proofs.Common.{rules, ◌≡◌, ℕ, ◌*◌, List, [], ◌∷◌, ◌++◌, length, set, ◌∙◌, ap, arith}
 use Rattle.std.proofs.lemmas.List.{with_items_is}
 use Rattle.disk.specs.Image.{overwritten}
 use Rattle.volume.specs.Numbers.{Numbers}
@@ -35,3 +35,6 @@ returns-in_ok-extend_from_slice-in-None-clause-put c =
     ∙ ap (λ (l : List ℕ). seen_over inside.staged.bound inside.cache.items (inside.staged.members ++ c.args.number ∷ []) l) c.in_ok-extend_from_slice-in-None.ensures.items
     ∙ put_first inside.cache.items inside.images.items inside.staged inside.dirty c.self.invariant c.args.from.now c.requires.whole c.args.number
     ∙ ap (λ (v : VolumeView). set v.seen c.args.number c.args.from.now) c.self.view_is
+
+pub returns-in_ok-extend_from_slice-in-None-clause-kept : goal.returns-in_ok-extend_from_slice-in-None-clause-kept
+returns-in_ok-extend_from_slice-in-None-clause-kept c = search rules
