@@ -1,4 +1,4 @@
-use Rattle.std.proofs.Common.{◌≡◌, refl, sym, ◌∙◌}
+use Rattle.std.proofs.Common.{rules, ◌≡◌, refl, sym, ◌∙◌}
 use Rattle.std.specs.Prelude.{Result, Ok, Err, IfErr}
 use Rattle.model.specs.Files.{entry, content_of, table}
 use Rattle.fs_layout.specs.declared.errors.FsError.{FsError}
@@ -32,3 +32,6 @@ returns-clause-full g c =
     if_err c.create_absent.result (λ e. e ≡ Full → HasNoFreeInode c.args.inodes blocks × (c.create_absent.new.blocks ≡ c.args.blocks.now))
     (λ e. e ≡ Full → (¬ (IsThere (table c.args.inodes blocks) c.args.name.now)) × HasNoFreeInode c.args.inodes blocks × (c.create_absent.new.blocks ≡ c.args.blocks.now))
     (λ e had is. (absent, (had is).0, (had is).1)) c.create_absent.ensures.full
+
+pub returns-in-Some-clause-full : goal.returns-in-Some-clause-full
+returns-in-Some-clause-full c = search rules
