@@ -1,4 +1,4 @@
-use Rattle.std.proofs.Common.{◌≡◌, ◌<◌, ℕ, List, [], length, get_or, ◌∙◌, subst, arith}
+use Rattle.std.proofs.Common.{rules, ◌≡◌, ◌<◌, ℕ, List, [], length, get_or, ◌∙◌, subst, arith}
 use Rattle.std.proofs.lemmas.List.{get_or_default}
 use Rattle.model.specs.Volume.{laid_over}
 use Rattle.journal_segments.specs.Staged.{Staged, none_staged, staged_at}
@@ -16,3 +16,9 @@ loop-i-preserved c =
           (subst (λ (s : Staged). (bs : List (List ℕ)) → c.args.block < length bs → get_or bs c.args.block [] ≡ c.loop-i.octets → get_or (laid_over bs s.numbers s.images) c.args.block [] ≡ c.lay_image.new.octets) is c.lay_image.ensures.laid)
           (c.loop-i.invariant.laid blocks below first);
     }
+
+pub loop-i-init : goal.loop-i-init
+loop-i-init c = search rules
+
+pub returns-clause-laid : goal.returns-clause-laid
+returns-clause-laid c = search rules

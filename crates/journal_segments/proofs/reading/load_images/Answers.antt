@@ -1,4 +1,4 @@
-use Rattle.std.proofs.Common.{◌≡◌, ◌+◌, ◌*◌, ℕ, Bool, IsTrue, List, length, sym, ◌∙◌, ap, subst, arith}
+use Rattle.std.proofs.Common.{rules, ◌≡◌, ◌+◌, ◌*◌, ℕ, Bool, IsTrue, List, length, sym, ◌∙◌, ap, subst, arith}
 use Rattle.disk.specs.Image.{overwritten}
 use Rattle.journal_segments.specs.Found.{AreLoaded}
 use Rattle.model.specs.Volume.{block, image_place}
@@ -18,3 +18,6 @@ loop-i-preserved g c = record {
       let more = loaded_more c.args.place c.loop-i.i x c.loop-i.images (omega (arith, size, c.requires.size, c.requires.few, c.loop-i-test.true)) (omega (arith, c.requires.room, c.requires.few, c.loop-i-test.true, c.loop-i.auto.images)) (c.loop-i.invariant.loaded t) in
       subst (λ (o : List ℕ). AreLoaded c.args.place (c.loop-i.i + 1) x o) (sym put) more;
 }
+
+pub loop-i-init : goal.loop-i-init
+loop-i-init c = search rules

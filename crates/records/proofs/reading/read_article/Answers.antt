@@ -1,3 +1,4 @@
+use Rattle.std.proofs.lemmas.Grind.{common_steps}
 use Rattle.std.proofs.Common.{◌≡◌, ℕ, List, map, length, ap, ◌∙◌, arith}
 use Rattle.std.proofs.lemmas.List.{length-map}
 use Rattle.records.proofs.Cuts.{article_is, text_is}
@@ -11,3 +12,6 @@ returns-then-text-head c = λ a short is.
     let count : length names ≡ length a.groups = length-map c.in-Some-2.groups.items (λ g. g.now) ∙ cut.0 ∙ its.count_is in
     let same : c.in-Some-2.text.now ≡ a.text = text_is a names c.in-Some.rest.now c.in-Some-2.text.now count its.rest_is cut.1 in
     absurd (omega (arith, ap length same, its.text_is))
+
+pub returns : goal.returns
+returns c = grind (arith, common_steps)
