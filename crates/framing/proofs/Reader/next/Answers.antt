@@ -1,4 +1,4 @@
-use Rattle.std.proofs.Common.{sym, ◌∙◌, ap, subst, arith, ◌≡◌, ◌++◌, ◌+◌, ◌≤◌, length, take, drop, replicate, Some, length-drop, cond, ◌==◌}
+use Rattle.std.proofs.Common.{rules, sym, ◌∙◌, ap, subst, arith, ◌≡◌, ◌++◌, ◌+◌, ◌≤◌, length, take, drop, replicate, Some, length-drop, cond, ◌==◌}
 use Rattle.std.proofs.lemmas.List.{drop-drop}
 use Rattle.model.specs.Stream.{next, message_of}
 use Rattle.model.specs.declared.message.Message.TheVariants.{TooLong}
@@ -58,3 +58,6 @@ returns-in-None-clause-alike c more =
     let sheds : Sheds r.dropped u c.shed-self-inside.result kept = subst (λ s. Sheds r.dropped s c.shed-self-inside.result kept) c.forget_front.ensures c.shed-self-inside.ensures in
     ap (λ h. next c.args.mode (h.rest ++ more)) (sym c.self.view_is)
     ∙ Sheds-reads_alike c.args.mode u r.dropped r.searched c.self.invariant.dropped before c.shed-self-inside.result kept sheds none more
+
+pub invariant_of-self : goal.invariant_of-self
+invariant_of-self c = search rules

@@ -1,4 +1,4 @@
-use Rattle.std.proofs.Common.{◌≡◌, ℕ, ◌+◌, List, length, ◌∙◌, sym, subst, ap, arith}
+use Rattle.std.proofs.Common.{rules, ◌≡◌, ℕ, ◌+◌, List, length, ◌∙◌, sym, subst, ap, arith}
 use Rattle.model.specs.Files.{table}
 use Rattle.model.specs.Stream.{Octets}
 use Rattle.model.specs.Records.{group_record}
@@ -62,3 +62,6 @@ make_group-requires-clause-used c =
 pub returns-clause-used : goal.returns-clause-used
 returns-clause-used c =
     subst (λ (bs : List Octets). AreUsed c.in-Ok.made.overview (table c.args.inodes bs)) (sym c.apply.ensures.cache) c.in-Ok.ensures.made.used
+
+pub returns-in_default-push_group-2-clause-places : goal.returns-in_default-push_group-2-clause-places
+returns-in_default-push_group-2-clause-places c = search rules

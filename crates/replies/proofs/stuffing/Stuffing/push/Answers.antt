@@ -1,3 +1,4 @@
+use Rattle.std.proofs.lemmas.Grind.{common_steps}
 use Rattle.std.proofs.Common.{◌<◌, ◌+◌, ◌-◌, ◌++◌, ◌∙◌, sym, arith, length, take, drop}
 use Rattle.replies.proofs.Pieced.{dot_more, more_state, plain_more}
 use Rattle.replies.proofs.stuffing.Stuffing.push.Goals as goal
@@ -25,3 +26,6 @@ loop-i-preserved c =
       ];
       state = c.next-state.ensures ∙ more_state c.args.self.now piece i c.loop-i.state low c.loop-i.invariant.state;
     }
+
+pub returns-clause-state : goal.returns-clause-state
+returns-clause-state c = grind (arith, common_steps)
