@@ -1,4 +1,4 @@
-use Rattle.std.proofs.Common.{List, refl, ap, arith}
+use Rattle.std.proofs.Common.{rules, List, refl, ap, arith}
 use Rattle.outbox.specs.Queue.{Held}
 use Rattle.outboxes.specs.Sessions.{holding, sent, with_output}
 use Rattle.outboxes.specs.Outbox.{Kept, sessions}
@@ -11,3 +11,6 @@ invariant_of-self-2 c =
     let now = c.in_ok-put.ensures.ok in
     let same = ap (λ (ks : List Kept). holding (sent c.args.sid output (sessions ks))) c.self.view_is in
     sound_with (with_output output) (λ s. refl) c.args.sid c.self.inside.seats.items c.put.new.seats.items now c.self.invariant (omega (arith, ap holding now, same, c.requires))
+
+pub returns-then-buffered-len-clause-full : goal.returns-then-buffered-len-clause-full
+returns-then-buffered-len-clause-full c = search rules
