@@ -16,6 +16,7 @@ use Rattle.fs.specs.Growing.{GrowsBy, HasRoomFor}
 use Rattle.fs_inodes.proofs.Grown.{file_after, one_content, one_name}
 use Rattle.fs_layout.proofs.Entries.{length-content}
 use Rattle.fs_layout.proofs.Marking.{same_free}
+use Rattle.fs_layout.specs.Marks.{NoneFreeBelow}
 use Rattle.fs_layout.proofs.Tables.{length-table, named_from_there}
 use Rattle.filing.specs.Calls.{AppendsAt, AreUsed, Calls, CreatesAt, MakesAt, SameFilesBut, blocks_for_more}
 use Rattle.places.specs.Places.{KeepsNames, name_of}
@@ -33,11 +34,16 @@ calls_then inodes calls more old mid new first second = record {
   rule = second.rule;
   files = λ files same. subst (λ (fs : List File). IsPermutation (files_in (table inodes new)) fs) (sym (calls_after files calls more)) (second.files (after_calls files calls) (first.files files same));
   names = λ k name named. second.names k name (first.names k name named);
+  marks = λ b low is. second.marks b low (first.marks b low is);
   free = omega (arith, first.free, second.free, sum_by-append blocks_taken calls more);
 }
 
 pub no_calls : (inodes : ℕ) (blocks : List Octets) → HasRoom inodes blocks → IsFileSystem inodes blocks → Calls inodes [] blocks blocks
-no_calls inodes blocks room rule = record { count = refl; room = room; rule = rule; files = λ files same. same; names = λ k name named. named; free = omega arith }
+no_calls inodes blocks room rule = record { count = refl; room = room; rule = rule; files = λ files same. same; names = λ k name named. named; marks = λ b low is. is; free = omega arith }
+
+-- no block is given up
+pub still_none : (n inodes : ℕ) (calls : List FileCall) (old new : List Octets) → Calls inodes calls old new → NoneFreeBelow n old → NoneFreeBelow n new
+still_none n inodes calls old new made none b less low = made.marks b (omega (arith, low, made.room.count_few)) (none b less (omega (arith, low, made.count)))
 
 -- ---- one inode has another file
 
@@ -76,6 +82,7 @@ created inodes name at old new made marks =
         rule = made.makes.rule;
         files = λ files same. subst (λ (t : List (Option File)). IsPermutation (files_in t) (after_call files (Create name))) (sym made.makes.files_are) (creates_one files (table inodes old) at name low made.free same);
         names = named_others inodes at old new others (λ q named. absurd (let none : None ≡ Some q = ap (option_map (λ (f : File). f.name)) (sym made.free) ∙ named in cc));
+        marks = λ b low is. marks.marks b low ∙ is;
         free = omega (arith, same_free old new marks.count (λ b less. marks.marks b (omega (arith, less, made.makes.room.count_few, marks.count))));
       };
       there = here inodes at (record { name = name; content = [] }) old new made.makes.files_are low;
@@ -123,6 +130,7 @@ appended inodes at octets old new rule grown =
         rule = grown.makes.rule;
         files = λ files same. subst (λ (t : List (Option File)). IsPermutation (files_in t) (after_call files (Append grown.name octets))) (sym grown.makes.files_are) (appends_to_one files inodes old at grown.name grown.was octets rule grown.there same);
         names = named_others inodes at old new others (λ q named. ap (option_map (λ (f : File). f.name)) now ∙ sym (ap (option_map (λ (f : File). f.name)) grown.there) ∙ named);
+        marks = grown.kept;
         free = omega (arith, grown.free, files_grow_by_blocks (length grown.was) (length octets));
       };
       there = now;

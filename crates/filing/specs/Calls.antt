@@ -6,7 +6,10 @@ use Rattle.model.specs.Files.{File, HasRoom, IsFileSystem, files_in, free_blocks
 use Rattle.model.specs.Room.{blocks_taken}
 use Rattle.model.specs.SpoolFiles.{FileCall, Create, Append, after_calls, making_calls}
 use Rattle.fs.specs.Calls.{IsFileAt}
+use Rattle.fs.specs.Growing.{KeepsMarks}
+use Rattle.fs_layout.specs.Marks.{NoneFreeBelow}
 use Rattle.places.specs.Places.{KeepsNames, name_of}
+use Rattle.filing.specs.declared.Hints.{Hints}
 use Rattle.filing.specs.declared.Piece.{Piece}
 
 -- these calls were made on the files; each file keeps its inode and its name
@@ -16,6 +19,7 @@ pub record Calls (inodes : ℕ) (calls : List FileCall) (old new : List Octets) 
   pub rule : IsFileSystem inodes new
   pub files : (files : List File) → IsPermutation (files_in (table inodes old)) files → IsPermutation (files_in (table inodes new)) (after_calls files calls)
   pub names : KeepsNames (table inodes old) (table inodes new)
+  pub marks : KeepsMarks old new
   -- they took no more blocks than these
   pub free : free_blocks old ≤ free_blocks new + sum_by blocks_taken calls
 
@@ -37,6 +41,11 @@ pub record MayGrow (inodes at more : ℕ) (blocks : List Octets) : Type 0 where
 -- none of the first so many inodes is free
 abbrev pub AreUsed : ℕ → List (Option File) → Type 0
 AreUsed n inodes = (k : ℕ) → k < n → slice_index_or inodes k None ≢ None
+
+-- no inode and no block below these is free
+pub record AreHints (inodes : ℕ) (hints : Hints) (blocks : List Octets) : Type 0 where
+  pub used : AreUsed hints.inode (table inodes blocks)
+  pub none : NoneFreeBelow hints.block blocks
 
 -- this inode, which was the lowest free one, got an empty file of this name
 pub record CreatesAt (inodes at : ℕ) (name : Octets) (old new : List Octets) : Type 0 where

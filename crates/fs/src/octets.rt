@@ -69,7 +69,7 @@ pub fn append<B: Blocks>(
     if !has_room_for(blocks, inodes, size, size + octets.len() as u64) {
         return Err(FsError::Full);
     }
-    extend(blocks, inodes, at, octets)?;
+    extend(blocks, inodes, 0, at, octets)?;
     Ok(())
 }
 
@@ -111,7 +111,7 @@ pub fn write_at<B: Blocks>(
     }
     let within = (size - place) as usize;
     overwrite(blocks, inodes, at, place, &octets[..within])?;
-    extend(blocks, inodes, at, &octets[within..])?;
+    extend(blocks, inodes, 0, at, &octets[within..])?;
     Ok(())
 }
 

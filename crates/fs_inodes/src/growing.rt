@@ -3,6 +3,7 @@
 ghost use Rattle.std.specs.Prelude.{◌≡◌, ℕ, ◌+◌, ◌%◌, ◌<◌, ◌≤◌, [], ◌∷◌, length, replicate, true, IfOk, OnOk};
 ghost use Rattle.model.specs.Volume.{number_at};
 ghost use Rattle.model.specs.Files.{HasRoom, IsFileSystem, IsFile, entry, size, is_marked_used, free_blocks};
+ghost use Rattle.fs_layout.specs.Marks.{NoneFreeBelow};
 ghost use Rattle.fs_layout.specs.Touches.{Touches, TouchesData, touched_by_growth};
 ghost use Rattle.fs_inodes.specs.Growing.{PutsPointer, AddsBlock, taken_with, GrowsBy, HasRoomFor};
 
@@ -39,8 +40,13 @@ fn put_pointer<B: Blocks>(
     blocks.put(indirect, &pointers)
 }
 
-// Gives a file its i-th block, and with the first that does not fit into its inode an indirect block.
-fn add_block<B: Blocks>(blocks: &mut B, inode: &mut [u8], i: u32) -> Result<u32, AllocError>
+// Gives a file its i-th block, and with the first that does not fit into its inode an indirect block. No block below `from` is free.
+fn add_block<B: Blocks>(
+    blocks: &mut B,
+    from: u32,
+    inode: &mut [u8],
+    i: u32,
+) -> Result<u32, AllocError>
     requires whole { length inode.old ≡ 64 }
     requires few { i < 1034 }
     requires some { 2 ≤ length (B.blocks blocks.old) }
@@ -49,12 +55,13 @@ fn add_block<B: Blocks>(blocks: &mut B, inode: &mut [u8], i: u32) -> Result<u32,
     requires no_indirect { i ≤ 10 → number_at 52 4 inode.old ≡ 0 }
     requires indirect { 10 < i → (2 ≤ number_at 52 4 inode.old) × (number_at 52 4 inode.old < length (B.blocks blocks.old)) }
     requires free { taken_with i ≤ free_blocks (B.blocks blocks.old) }
+    requires none { NoneFreeBelow from (B.blocks blocks.old) }
     ensures done { IfOk result (λ number. AddsBlock i number inode.old inode.new (B.blocks blocks.old) (B.blocks blocks.new)) }
     ensures kept { B.applied blocks.new ≡ B.applied blocks.old }
 {
-    let number = take_block(blocks)?;
+    let number = take_block(blocks, from)?;
     if i == DIRECT_POINTERS {
-        let indirect = take_block(blocks)?;
+        let indirect = take_block(blocks, from)?;
         blocks.put(indirect, &[0; BLOCK_SIZE])?;
         put32(inode, INDIRECT_AT, indirect);
     }
@@ -62,10 +69,11 @@ fn add_block<B: Blocks>(blocks: &mut B, inode: &mut [u8], i: u32) -> Result<u32,
     Ok(number)
 }
 
-// Puts octets after those of a file, all of them in its last block or all in a new one.
+// Puts octets after those of a file, all of them in its last block or all in a new one. No block below `from` is free.
 fn add_piece<B: Blocks>(
     blocks: &mut B,
     inodes: u32,
+    from: u32,
     at: u32,
     piece: &[u8],
 ) -> Result<(), AllocError>
@@ -77,6 +85,7 @@ fn add_piece<B: Blocks>(
     requires within { size (entry inodes (B.blocks blocks.old) at) % 4096 + length piece.now ≤ 4096 }
     requires enough { HasRoomFor (B.blocks blocks.old) (size (entry inodes (B.blocks blocks.old) at))
         (size (entry inodes (B.blocks blocks.old) at) + length piece.now) }
+    requires none { NoneFreeBelow from (B.blocks blocks.old) }
     ensures grown { OnOk result (GrowsBy inodes at piece.now (B.blocks blocks.old) (B.blocks blocks.new)) }
     ensures touches { OnOk result ((block : ℕ) × TouchesData at (block ∷ []) (B.blocks blocks.old) (B.blocks blocks.new)) }
     ensures kept { B.applied blocks.new ≡ B.applied blocks.old }
@@ -88,7 +97,7 @@ fn add_piece<B: Blocks>(
     let within = (size % BLOCK_SIZE as u64) as usize;
     let mut block = [0; BLOCK_SIZE];
     let number = if within == 0 {
-        add_block(blocks, &mut inode, i)?
+        add_block(blocks, from, &mut inode, i)?
     } else {
         let last = pointer_at(blocks, &inode, i);
         blocks.get(last, &mut block);
@@ -100,10 +109,12 @@ fn add_piece<B: Blocks>(
     put_record(blocks, INODES_AT, at, &inode)
 }
 
-/// Puts octets after those of the file of an inode, for which there is room.
+/// Puts octets after those of the file of an inode, for which there is room. Blocks for them are looked for from `from` on: none below
+/// is free.
 pub fn extend<B: Blocks>(
     blocks: &mut B,
     inodes: u32,
+    from: u32,
     at: u32,
     octets: &[u8],
 ) -> Result<(), AllocError>
@@ -113,17 +124,18 @@ pub fn extend<B: Blocks>(
     requires file { IsFile (entry inodes (B.blocks blocks.old) at) }
     requires enough { HasRoomFor (B.blocks blocks.old) (size (entry inodes (B.blocks blocks.old) at))
         (size (entry inodes (B.blocks blocks.old) at) + length octets.now) }
+    requires none { NoneFreeBelow from (B.blocks blocks.old) }
     ensures grown { OnOk result (GrowsBy inodes at octets.now (B.blocks blocks.old) (B.blocks blocks.new)) }
     ensures touches { OnOk result (Touches (touched_by_growth (size (entry inodes (B.blocks blocks.old) at)) (length octets.now))
         (B.blocks blocks.old) (B.blocks blocks.new)) }
     ensures kept { B.applied blocks.new ≡ B.applied blocks.old }
 {
     let size = size_of(blocks, inodes, at) as usize;
-    let mut from = 0;
-    while from < octets.len() {
-        let some = (BLOCK_SIZE - (size + from) % BLOCK_SIZE).min(octets.len() - from);
-        add_piece(blocks, inodes, at, &octets[from..from + some])?;
-        from += some;
+    let mut done = 0;
+    while done < octets.len() {
+        let some = (BLOCK_SIZE - (size + done) % BLOCK_SIZE).min(octets.len() - done);
+        add_piece(blocks, inodes, from, at, &octets[done..done + some])?;
+        done += some;
     }
     Ok(())
 }
@@ -152,7 +164,7 @@ pub fn extend_zeros<B: Blocks>(
     while from < count {
         let free = BLOCK_SIZE - ((size + from) % BLOCK_SIZE as u64) as usize;
         let some = free.min((count - from) as usize);
-        add_piece(blocks, inodes, at, &zeros[..some])?;
+        add_piece(blocks, inodes, 0, at, &zeros[..some])?;
         from += some as u64;
     }
     Ok(())

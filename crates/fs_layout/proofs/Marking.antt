@@ -7,7 +7,7 @@ use Rattle.std.proofs.lemmas.Bool.{cases_lt, cases_eq}
 use Rattle.model.specs.Stream.{Octets}
 use Rattle.model.specs.Files.{is_marked_used, free_blocks}
 use Rattle.fs_layout.specs.Bits.{bit_of, SetsBit}
-use Rattle.fs_layout.specs.Marks.{IsLowestClear, IsLowestFree, HasNoFreeBlock, SetsMark, TakesBlock}
+use Rattle.fs_layout.specs.Marks.{IsLowestClear, IsLowestFree, HasNoFreeBlock, NoneFreeBelow, SetsMark, TakesBlock}
 use Rattle.fs_layout.proofs.Counts.{count_same, count_split, count_more, mark_is_bit}
 
 -- ---- bits of the bitmap's blocks
@@ -56,6 +56,12 @@ module _ (blocks : List Octets) where
     where
       low : (b : ℕ) → b < 32768 → is_marked_used blocks b ≡ bit_of bitmap b
       low b small = let none : b - 32768 * 0 ≡ b = omega arith in mark_in blocks 0 b bitmap is (omega arith) (omega arith) ∙ ap (λ (k : ℕ). bit_of bitmap k) none
+
+  -- below a number none is free, so these bits are set
+  pub bits_set : (n from b : ℕ) (bitmap : Octets) → bitmap ≡ get_or blocks n [] → NoneFreeBelow from blocks → b < 32768 → 32768 * n + b < from → 32768 * n + b < length blocks → bit_of bitmap b ≡ true
+  bits_set n from b bitmap is none low less within =
+      let at : 32768 * n + b - 32768 * n ≡ b = omega arith in
+      sym (mark_in blocks n (32768 * n + b) bitmap is (omega arith) (omega arith) ∙ ap (λ (k : ℕ). bit_of bitmap k) at) ∙ none (32768 * n + b) less within
 
   -- the first block of the bitmap is full
   pub first_full : (bitmap : Octets) (count : ℕ) → bitmap ≡ get_or blocks 0 [] → count ≤ 32768 → ((b : ℕ) → b < count → bit_of bitmap b ≡ true) → (b : ℕ) → b < count → is_marked_used blocks b ≡ true
@@ -118,6 +124,15 @@ pub one_less_free : (block : ℕ) (old new : List Octets) → length old ≤ 655
 one_less_free block old new few takes =
     ap (λ (n : ℕ). count_by (λ b. not (is_marked_used new b)) (range_with_len 0 n) + 1) takes.sets.count
     ∙ count_one_less (λ b. not (is_marked_used old b)) (λ b. not (is_marked_used new b)) block (length old) takes.lowest.below (ap not takes.lowest.free) (ap not takes.sets.here) (λ i low apart. ap not (takes.sets.other i (omega arith) apart))
+
+-- below a number none is free still
+pub none_after_taken : (n block : ℕ) (old new : List Octets) → length old ≤ 65536 → TakesBlock block old new → NoneFreeBelow n old → NoneFreeBelow n new
+none_after_taken n block old new few takes none b less low = elim (cases_eq b block) [
+  | inl same ↦ ap (λ (k : ℕ). is_marked_used new k) same ∙ takes.sets.here
+  | inr other ↦
+      let there : b < length old = omega (arith, low, takes.sets.count) in
+      takes.sets.other b (omega (arith, there, few)) other ∙ none b less there
+]
 
 -- the same marks
 pub same_free : (old new : List Octets) → length new ≡ length old → ((b : ℕ) → b < length old → is_marked_used new b ≡ is_marked_used old b) → free_blocks new ≡ free_blocks old

@@ -17,6 +17,10 @@ pub record IsLowestFree (blocks : List Octets) (block : ℕ) : Type 0 where
   pub free : is_marked_used blocks block ≡ false
   pub lower : (b : ℕ) → b < block → is_marked_used blocks b ≡ true
 
+-- no block below this number is free
+abbrev pub NoneFreeBelow : ℕ → List Octets → Type 0
+NoneFreeBelow n blocks = (b : ℕ) → b < n → b < length blocks → is_marked_used blocks b ≡ true
+
 -- every block has a mark
 abbrev pub HasNoFreeBlock : List Octets → Type 0
 HasNoFreeBlock blocks = (b : ℕ) → b < length blocks → is_marked_used blocks b ≡ true

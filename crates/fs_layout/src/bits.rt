@@ -75,32 +75,36 @@ fn clear_between(octets: &[u8], from: usize, to: usize) -> u32
 /// Octets that a search passes over in one step where each of their bits is set.
 const FULL: [u8; 64] = [u8::MAX; 64];
 
-/// How many octets a search passes over in such steps.
-fn full_front(octets: &[u8]) -> usize
+/// The octet up to which a search gets in such steps. Each bit of the octets before `from` is set.
+fn full_front(octets: &[u8], from: usize) -> usize
     requires few { length octets.now ≤ 4096 }
+    requires within { from ≤ length octets.now }
+    requires set { (b : ℕ) → b < 8 * from → bit_of octets.now b ≡ true }
     ensures room { result ≤ length octets.now }
     ensures set { (b : ℕ) → b < 8 * result → bit_of octets.now b ≡ true }
 {
-    let steps = octets.len() / FULL.len();
+    let steps = (octets.len() - from) / FULL.len();
     for step in 0..steps {
-        let start = step * FULL.len();
+        let start = from + step * FULL.len();
         let is_full = octets[start..start + FULL.len()] == FULL[..];
         if !is_full {
             return start;
         }
     }
-    steps * FULL.len()
+    from + steps * FULL.len()
 }
 
-/// The lowest of the first bits that is clear.
-pub fn lowest_clear(octets: &[u8], count: usize) -> Option<usize>
+/// The lowest of the first bits that is clear. Each below `from` is set.
+pub fn lowest_clear(octets: &[u8], from: usize, count: usize) -> Option<usize>
     requires room { count ≤ 8 * length octets.now }
     requires few { length octets.now ≤ 4096 }
+    requires within { from ≤ count }
+    requires set { (b : ℕ) → b < from → bit_of octets.now b ≡ true }
     ensures { MatchOption result
         ((b : ℕ) → b < count → bit_of octets.now b ≡ true)
         (IsLowestClear octets.now count) }
 {
-    for place in full_front(octets)..octets.len() {
+    for place in full_front(octets, from / 8)..octets.len() {
         let octet = octets[place];
         if octet < u8::MAX {
             let bit = 8 * place + octet.trailing_ones() as usize;

@@ -2,7 +2,7 @@
 
 ghost use Rattle.std.specs.Prelude.{◌≡◌, ◌<◌, ◌≤◌, true, false, length, MatchOption, IfOk, OnOk};
 ghost use Rattle.model.specs.Files.{HasRoom, free_blocks};
-ghost use Rattle.fs_layout.specs.Marks.{IsLowestFree, HasNoFreeBlock, SetsMark, TakesBlock};
+ghost use Rattle.fs_layout.specs.Marks.{IsLowestFree, HasNoFreeBlock, NoneFreeBelow, SetsMark, TakesBlock};
 
 use crate::bits::{count_clear, lowest_clear, set, unset};
 use std::alloc::AllocError;
@@ -11,20 +11,24 @@ use volume::{BLOCK_SIZE, Blocks};
 /// The bits of a block.
 pub const BLOCK_BITS: usize = 8 * BLOCK_SIZE;
 
-// The lowest free block.
-fn lowest_free<B: Blocks>(blocks: &B) -> Option<u32>
+/// The lowest free block. It is looked for from `from` on, below which none is free.
+pub fn lowest_free<B: Blocks>(blocks: &B, from: u32) -> Option<u32>
     requires some { 2 ≤ length (B.blocks blocks.now) }
     requires few { length (B.blocks blocks.now) ≤ 65536 }
+    requires none { NoneFreeBelow from (B.blocks blocks.now) }
     ensures { MatchOption result (HasNoFreeBlock (B.blocks blocks.now)) (IsLowestFree (B.blocks blocks.now)) }
 {
     let count = blocks.len() as usize;
-    if let Some(bit) = lowest_clear(blocks.block(0), count.min(BLOCK_BITS)) {
+    let from = (from as usize).min(count);
+    let low = count.min(BLOCK_BITS);
+    if let Some(bit) = lowest_clear(blocks.block(0), from.min(low), low) {
         return Some(bit as u32);
     }
     if count <= BLOCK_BITS {
         return None;
     }
-    let Some(bit) = lowest_clear(blocks.block(1), count - BLOCK_BITS) else {
+    let rest = from.saturating_sub(BLOCK_BITS);
+    let Some(bit) = lowest_clear(blocks.block(1), rest, count - BLOCK_BITS) else {
         return None;
     };
     Some((BLOCK_BITS + bit) as u32)
@@ -45,15 +49,16 @@ fn mark<B: Blocks>(blocks: &mut B, number: u32) -> Result<(), AllocError>
     blocks.put(table, &bitmap)
 }
 
-/// Marks the lowest free block.
-pub fn take_block<B: Blocks>(blocks: &mut B) -> Result<u32, AllocError>
+/// Marks the lowest free block, and answers it. No block below `from` is free.
+pub fn take_block<B: Blocks>(blocks: &mut B, from: u32) -> Result<u32, AllocError>
     requires some { 2 ≤ length (B.blocks blocks.old) }
     requires few { length (B.blocks blocks.old) ≤ 65536 }
+    requires none { NoneFreeBelow from (B.blocks blocks.old) }
     requires free { 0 < free_blocks (B.blocks blocks.old) }
     ensures taken { IfOk result (λ block. TakesBlock block (B.blocks blocks.old) (B.blocks blocks.new)) }
     ensures kept { B.applied blocks.new ≡ B.applied blocks.old }
 {
-    let Some(number) = lowest_free(blocks) else {
+    let Some(number) = lowest_free(blocks, from) else {
         unreachable!()
     };
     mark(blocks, number)?;

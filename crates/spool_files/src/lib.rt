@@ -25,6 +25,7 @@ mod stored;
 
 use article::{Article, Origin, ReadError};
 pub use errors::{AddError, ExpireError};
+use filing::Hints;
 use fs::free_block_count;
 use index::{Group, Index};
 use lookups::LookUps;
@@ -71,8 +72,7 @@ pub struct Spool {
     free_inodes: u32,
     // at least so many blocks are free
     free_blocks: u32,
-    // no inode below is free
-    free_from: u32,
+    hints: Hints,
     volume: Volume,
     index: Index,
     places: Places,
@@ -90,7 +90,7 @@ impl Drop for Spool {
             inodes: _,
             free_inodes: _,
             free_blocks: _,
-            free_from: _,
+            hints: _,
             volume: _,
             index: _,
             places: _,
@@ -99,8 +99,7 @@ impl Drop for Spool {
 }
 
 impl Model for Spool {
-    ghost use Rattle.filing.specs.Calls.{AreUsed};
-    ghost use Rattle.model.specs.Files.{table};
+    ghost use Rattle.filing.specs.Calls.{AreHints};
     ghost use Rattle.spool_files.specs.Kept.{AreFree, AreLeft};
     ghost use Rattle.spool_growing.specs.Kept.{IsKept};
     ghost use Rattle.spool_files.specs.View.{SpoolView};
@@ -109,7 +108,7 @@ impl Model for Spool {
 
     ghost view = { λ s. record { host = s.host; inodes = s.inodes; changes = s.stands.changes; blocks = s.volume.cache; dirty = s.volume.dirty; sound = s.stands.held } };
 
-    ghost invariant = { λ s. IsKept s.host s.inodes s.volume s.index s.places s.stands.changes × AreFree s.free_inodes s.inodes s.stands.changes × AreLeft s.free_blocks s.volume.cache × AreUsed s.free_from (table s.inodes s.volume.cache) };
+    ghost invariant = { λ s. IsKept s.host s.inodes s.volume s.index s.places s.stands.changes × AreFree s.free_inodes s.inodes s.stands.changes × AreLeft s.free_blocks s.volume.cache × AreHints s.inodes s.hints s.volume.cache };
 }
 
 impl Spool {
@@ -141,7 +140,7 @@ impl Spool {
             inodes,
             free_inodes,
             free_blocks,
-            free_from: 0,
+            hints: Hints { inode: 0, block: 0 },
             volume,
             index,
             places,
@@ -288,10 +287,10 @@ impl Spool {
         ensures ok { OnOk result (Adds self.old self.new (changed.Group name.now status description.now moment)) }
         ensures err { OnErr result (self.new ≡ self.old) }
     {
-        let from = grow_by_group(
+        let hints = grow_by_group(
             self.alloc,
             self.inodes,
-            self.free_from,
+            self.hints,
             &mut self.volume,
             &mut self.index,
             &mut self.places,
@@ -300,7 +299,7 @@ impl Spool {
             description,
             moment,
         )?;
-        self.free_from = from;
+        self.hints = hints;
         self.free_inodes -= GROUP_FILES;
         let left = left_after(&self.volume, self.inodes, self.free_blocks);
         self.free_blocks = left;
@@ -353,10 +352,10 @@ impl Spool {
         ensures ok { OnOk result (Adds self.old self.new (changed.Article article.now groups.now moment)) }
         ensures err { OnErr result (self.new ≡ self.old) }
     {
-        let from = grow_by_article(
+        let hints = grow_by_article(
             self.alloc,
             self.inodes,
-            self.free_from,
+            self.hints,
             &mut self.volume,
             &mut self.index,
             &mut self.places,
@@ -364,7 +363,7 @@ impl Spool {
             groups,
             moment,
         )?;
-        self.free_from = from;
+        self.hints = hints;
         self.free_inodes -= 1;
         let left = left_after(&self.volume, self.inodes, self.free_blocks);
         self.free_blocks = left;
@@ -406,17 +405,17 @@ impl Spool {
         ensures ok { OnOk result (Adds self.old self.new (changed.Expire name.now number)) }
         ensures err { OnErr result (self.new ≡ self.old) }
     {
-        let from = grow_by_expiry(
+        let hints = grow_by_expiry(
             self.alloc,
             self.inodes,
-            self.free_from,
+            self.hints,
             &mut self.volume,
             &mut self.index,
             &mut self.places,
             name,
             number,
         )?;
-        self.free_from = from;
+        self.hints = hints;
         self.free_inodes -= 1;
         let left = left_after(&self.volume, self.inodes, self.free_blocks);
         self.free_blocks = left;

@@ -2,8 +2,9 @@
 //! applied, which takes no memory. Where memory is refused, all is as it was.
 
 ghost use Rattle.std.specs.Prelude.{◌≡◌, IfOk, OnErr, OnOk};
-ghost use Rattle.filing.specs.Calls.{AreUsed};
-ghost use Rattle.model.specs.Files.{table};
+ghost use Rattle.filing.specs.Calls.{AreHints, AreUsed};
+ghost use Rattle.fs_layout.specs.Marks.{NoneFreeBelow};
+ghost use Rattle.model.specs.Files.{HasRoom, table};
 ghost use Rattle.model.specs.declared.change.Change.{Change};
 ghost use Rattle.spool_growing.specs.Growing.{IsGrown, IsReady};
 
@@ -11,20 +12,36 @@ use crate::articles::{copy_names, record_of};
 use crate::lines::lines_of;
 use crate::staging::{file_article, make_expiry, make_group};
 use article::Article;
+use filing::Hints;
+use fs_layout::marks::lowest_free;
 use index::Index;
 use model::Text;
 use places::Places;
 use records::{expiry_record, group_record};
 use spool_opening::id_of;
 use std::alloc::{AllocError, Global};
-use volume::Volume;
+use volume::{Blocks, Volume};
 
-/// Adds a group that may be made and for which there is room, and answers an inode below which none is free. No inode below `from` is
-/// free. An `Err` is out of memory and changes nothing.
+/// Where the next search begins, after a change whose last inode is this. No block below `from` is free.
+fn hints_after(volume: &Volume, inodes: u32, inode: u32, from: u32) -> Hints
+    requires room { HasRoom inodes volume.now.seen }
+    requires used { AreUsed inode (table inodes volume.now.seen) }
+    requires none { NoneFreeBelow from volume.now.seen }
+    ensures { AreHints inodes result volume.now.seen }
+{
+    let block = match lowest_free(volume, from) {
+        Some(block) => block,
+        None => volume.len(),
+    };
+    Hints { inode, block }
+}
+
+/// Adds a group that may be made and for which there is room, and answers where the next search begins. An `Err` is out of memory and
+/// changes nothing.
 pub fn grow_by_group(
     alloc: Global,
     inodes: u32,
-    from: u32,
+    hints: Hints,
     volume: &mut Volume,
     index: &mut Index,
     places: &mut Places,
@@ -32,18 +49,18 @@ pub fn grow_by_group(
     status: u8,
     description: &[u8],
     moment: u64,
-) -> Result<u32, AllocError>
+) -> Result<Hints, AllocError>
     requires ready { IsReady inodes volume.old index.old places.old (Change.Group name.now status description.now moment) }
-    requires used { AreUsed from (table inodes volume.old.cache) }
+    requires hints { AreHints inodes hints volume.old.cache }
     ensures grown { OnOk result (IsGrown inodes volume.old volume.new index.old index.new places.old places.new (Change.Group name.now status description.now moment)) }
-    ensures used { IfOk result (λ next. AreUsed next (table inodes volume.new.cache)) }
+    ensures hints { IfOk result (λ next. AreHints inodes next volume.new.cache) }
     ensures volume { OnErr result (volume.new ≡ volume.old) }
     ensures index { OnErr result (index.new ≡ index.old) }
     ensures places { OnErr result (places.new ≡ places.old) }
 {
     let serial = index.len() + 1;
     let record = group_record(alloc, serial, moment, status, description)?;
-    let Ok(made) = make_group(alloc, volume, inodes, from, name, &record) else {
+    let Ok(made) = make_group(alloc, volume, inodes, hints, name, &record) else {
         volume.drop_stage();
         return Err(AllocError);
     };
@@ -57,32 +74,32 @@ pub fn grow_by_group(
         return Err(AllocError);
     };
     volume.apply();
-    Ok(made.overview)
+    Ok(hints_after(volume, inodes, made.overview, hints.block))
 }
 
-/// Adds an expiry that may follow and for which there is room, and answers an inode below which none is free. No inode below `from` is
-/// free. An `Err` is out of memory and changes nothing.
+/// Adds an expiry that may follow and for which there is room, and answers where the next search begins. An `Err` is out of memory and
+/// changes nothing.
 pub fn grow_by_expiry(
     alloc: Global,
     inodes: u32,
-    from: u32,
+    hints: Hints,
     volume: &mut Volume,
     index: &mut Index,
     places: &mut Places,
     name: &[u8],
     number: u32,
-) -> Result<u32, AllocError>
+) -> Result<Hints, AllocError>
     requires ready { IsReady inodes volume.old index.old places.old (Change.Expire name.now number) }
-    requires used { AreUsed from (table inodes volume.old.cache) }
+    requires hints { AreHints inodes hints volume.old.cache }
     ensures grown { OnOk result (IsGrown inodes volume.old volume.new index.old index.new places.old places.new (Change.Expire name.now number)) }
-    ensures used { IfOk result (λ next. AreUsed next (table inodes volume.new.cache)) }
+    ensures hints { IfOk result (λ next. AreHints inodes next volume.new.cache) }
     ensures volume { OnErr result (volume.new ≡ volume.old) }
     ensures index { OnErr result (index.new ≡ index.old) }
     ensures places { OnErr result (places.new ≡ places.old) }
 {
     let serial = index.len() + 1;
     let record = expiry_record(alloc, serial, name, number)?;
-    let Ok(at) = make_expiry(alloc, volume, inodes, from, serial, &record) else {
+    let Ok(at) = make_expiry(alloc, volume, inodes, hints, serial, &record) else {
         volume.drop_stage();
         return Err(AllocError);
     };
@@ -96,26 +113,26 @@ pub fn grow_by_expiry(
         return Err(AllocError);
     };
     volume.apply();
-    Ok(at)
+    Ok(hints_after(volume, inodes, at, hints.block))
 }
 
-/// Files an article in these groups, where that change may follow and there is room for it, and answers an inode below which none is
-/// free. No inode below `from` is free. An `Err` is out of memory and changes nothing.
+/// Files an article in these groups, where that change may follow and there is room for it, and answers where the next search begins. An
+/// `Err` is out of memory and changes nothing.
 pub fn grow_by_article(
     alloc: Global,
     inodes: u32,
-    from: u32,
+    hints: Hints,
     volume: &mut Volume,
     index: &mut Index,
     places: &mut Places,
     article: &Article<'_>,
     groups: &[Text],
     moment: u64,
-) -> Result<u32, AllocError>
+) -> Result<Hints, AllocError>
     requires ready { IsReady inodes volume.old index.old places.old (Change.Article article.now groups.now moment) }
-    requires used { AreUsed from (table inodes volume.old.cache) }
+    requires hints { AreHints inodes hints volume.old.cache }
     ensures grown { OnOk result (IsGrown inodes volume.old volume.new index.old index.new places.old places.new (Change.Article article.now groups.now moment)) }
-    ensures used { IfOk result (λ next. AreUsed next (table inodes volume.new.cache)) }
+    ensures hints { IfOk result (λ next. AreHints inodes next volume.new.cache) }
     ensures volume { OnErr result (volume.new ≡ volume.old) }
     ensures index { OnErr result (index.new ≡ index.old) }
     ensures places { OnErr result (places.new ≡ places.old) }
@@ -124,7 +141,7 @@ pub fn grow_by_article(
     let filed = copy_names(alloc, groups)?;
     let octets = record_of(alloc, serial, article, groups, moment)?;
     let lines = lines_of(alloc, index, places, serial, article, groups)?;
-    let Ok(at) = file_article(alloc, volume, inodes, from, serial, &octets, &lines.pieces) else {
+    let Ok(at) = file_article(alloc, volume, inodes, hints, serial, &octets, &lines.pieces) else {
         volume.drop_stage();
         return Err(AllocError);
     };
@@ -139,5 +156,5 @@ pub fn grow_by_article(
         return Err(AllocError);
     };
     volume.apply();
-    Ok(at)
+    Ok(hints_after(volume, inodes, at, hints.block))
 }

@@ -5,6 +5,7 @@ use Rattle.fs.specs.Touches.{Touches, touched_by_growth}
 use Rattle.fs.specs.Calls.{IsFileAt}
 use Rattle.model.specs.Files.{free_blocks, table}
 use Rattle.filing.specs.Calls.{AppendsAt, MayGrow, blocks_for_more}
+use Rattle.filing.proofs.Calling.{still_none}
 use Rattle.filing.proofs.Pieces.{may_still, none_yet, one_more, still_free, touches_none, touches_one_more}
 use Rattle.filing.proofs.append_all.Goals as goal
 
@@ -30,6 +31,10 @@ append_to-requires-clause-free g c =
     let n = c.loop-piece.piece-index in
     let at : slice_get c.args.pieces.now n ≡ Some p = slice_get_read c.args.pieces.now (length c.args.pieces.now) n p Rattle.std.proofs.Common.refl c.loop-piece-test.true c.piece-item.is in
     subst (λ (o : List ℕ). blocks_for_more (length o) ≤ free_blocks mid) (sym c.deref.ensures.value) (still_free c.args.inodes c.args.pieces.now old mid n p c.requires.there c.loop-piece.invariant.appended at c.loop-piece-test.true c.requires.free)
+
+pub append_to-requires-clause-none : goal.append_to-requires-clause-none
+append_to-requires-clause-none g c =
+    still_none c.args.from c.args.inodes _ (g.B.Blocks.blocks c.args.blocks.now) (g.B.Blocks.blocks c.loop-piece.blocks) c.loop-piece.invariant.appended.calls c.requires.none
 
 pub loop-piece-preserved : goal.loop-piece-preserved
 loop-piece-preserved g c =

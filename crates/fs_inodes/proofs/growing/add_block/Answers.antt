@@ -6,7 +6,7 @@ use Rattle.volume_format.proofs.Numbers.{number_at_written}
 use Rattle.model.specs.Volume.{number_at}
 use Rattle.fs_inodes.specs.Growing.{PutsPointer, AddsBlock, taken_with}
 use Rattle.fs_inodes.proofs.Attaching.{adds_direct, adds_indirect, indirect_past}
-use Rattle.fs_layout.proofs.Marking.{one_less_free}
+use Rattle.fs_layout.proofs.Marking.{none_after_taken, one_less_free}
 use Rattle.fs_inodes.proofs.growing.add_block.Goals as goal
 use Rattle.fs_inodes.proofs.growing.add_block.Goals.{then-i-eq-DIRECT_POINTERS+in_ok-indirect+in_ok-put, else-i-eq-DIRECT_POINTERS}
 
@@ -16,6 +16,10 @@ take_block-requires-then-i-eq-DIRECT_POINTERS-clause-free g c =
     let mid = g.B.Blocks.blocks c.take_block.new.blocks in
     let two : taken_with c.args.i ≡ 2 = ap (λ (t : Bool). cond t 2 1) (eq-eqb c.args.i 10 c.if-i-eq-DIRECT_POINTERS.true) in
     omega (arith, one_less_free c.in_ok-number.number old mid c.requires.count_few c.in_ok-number.ensures.taken, two, c.requires.free)
+
+pub take_block-requires-then-i-eq-DIRECT_POINTERS-clause-none : goal.take_block-requires-then-i-eq-DIRECT_POINTERS-clause-none
+take_block-requires-then-i-eq-DIRECT_POINTERS-clause-none g c =
+    none_after_taken c.args.from c.in_ok-number.number (g.B.Blocks.blocks c.args.blocks.now) (g.B.Blocks.blocks c.take_block.new.blocks) c.requires.count_few c.in_ok-number.ensures.taken c.requires.none
 
 pub put_pointer-requires-clause-indirect : goal.put_pointer-requires-clause-indirect
 put_pointer-requires-clause-indirect g c high =

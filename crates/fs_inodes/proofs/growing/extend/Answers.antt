@@ -18,8 +18,8 @@ piece_more from some octets =
     let width : from + some - from ≡ some = omega arith in
     ap (λ (n : ℕ). take from octets ++ take n (drop from octets)) width ∙ sym (take-add from some octets)
 
-pub loop-from-init : goal.loop-from-init
-loop-from-init g c = record {
+pub loop-done-init : goal.loop-done-init
+loop-done-init g c = record {
   here = record {
     within = omega arith;
     grown = grows_none c.args.inodes c.args.at (g.B.Blocks.blocks c.args.blocks.now) c.requires.room c.requires.rule c.requires.below c.requires.file;
@@ -31,54 +31,59 @@ loop-from-init g c = record {
 pub add_piece-requires-clause-file : goal.add_piece-requires-clause-file
 add_piece-requires-clause-file g c =
     file_now c.args.inodes c.args.at (g.B.Blocks.blocks c.args.blocks.now) c.requires.room c.requires.rule c.requires.below c.requires.file
-    (take c.loop-from.from c.args.octets.now) (g.B.Blocks.blocks c.loop-from.blocks) c.loop-from.invariant.here.grown
+    (take c.loop-done.done c.args.octets.now) (g.B.Blocks.blocks c.loop-done.blocks) c.loop-done.invariant.here.grown
 
 pub add_piece-requires-clause-within : goal.add_piece-requires-clause-within
 add_piece-requires-clause-within g c =
-    let from = c.loop-from.from in
-    let long = length-take-le from c.args.octets.now c.loop-from.invariant.here.within in
+    let from = c.loop-done.done in
+    let long = length-take-le from c.args.octets.now c.loop-done.invariant.here.within in
     let now =
     size_now c.args.inodes c.args.at (g.B.Blocks.blocks c.args.blocks.now) c.requires.room c.requires.rule c.requires.below c.requires.file
-    (take from c.args.octets.now) (g.B.Blocks.blocks c.loop-from.blocks) c.loop-from.invariant.here.grown in
-    let piece = length_piece from c.min-some.result c.args.octets.now (omega (arith, c.loop-from.invariant.here.within)) in
+    (take from c.args.octets.now) (g.B.Blocks.blocks c.loop-done.blocks) c.loop-done.invariant.here.grown in
+    let piece = length_piece from c.min-some.result c.args.octets.now (omega (arith, c.loop-done.invariant.here.within)) in
     omega (arith, long, now, piece, c.size_of-size.ensures)
 
 pub add_piece-requires-clause-enough : goal.add_piece-requires-clause-enough
 add_piece-requires-clause-enough g c =
-    let from = c.loop-from.from in
-    let long = length-take-le from c.args.octets.now c.loop-from.invariant.here.within in
+    let from = c.loop-done.done in
+    let long = length-take-le from c.args.octets.now c.loop-done.invariant.here.within in
     let some = length (take (from + c.min-some.result - from) (drop from c.args.octets.now)) in
-    let piece = length_piece from c.min-some.result c.args.octets.now (omega (arith, c.loop-from.invariant.here.within)) in
+    let piece = length_piece from c.min-some.result c.args.octets.now (omega (arith, c.loop-done.invariant.here.within)) in
     room_now c.args.inodes c.args.at (g.B.Blocks.blocks c.args.blocks.now) c.requires.room c.requires.rule c.requires.below c.requires.file
-    (take from c.args.octets.now) (g.B.Blocks.blocks c.loop-from.blocks) c.loop-from.invariant.here.grown some (length c.args.octets.now)
-    (omega (arith, long, piece, c.loop-from.invariant.here.within)) c.requires.enough
+    (take from c.args.octets.now) (g.B.Blocks.blocks c.loop-done.blocks) c.loop-done.invariant.here.grown some (length c.args.octets.now)
+    (omega (arith, long, piece, c.loop-done.invariant.here.within)) c.requires.enough
 
-pub loop-from-preserved : goal.loop-from-preserved
-loop-from-preserved g c =
-    let from = c.loop-from.from in
+pub add_piece-requires-clause-none : goal.add_piece-requires-clause-none
+add_piece-requires-clause-none g c b less low =
+    let grown = c.loop-done.invariant.here.grown in
+    grown.kept b (omega (arith, low, grown.count, c.requires.room.count_few)) (c.requires.none b less (omega (arith, low, grown.count)))
+
+pub loop-done-preserved : goal.loop-done-preserved
+loop-done-preserved g c =
+    let from = c.loop-done.done in
     let some = c.min-some.result in
     let octets = c.args.octets.now in
     let old = g.B.Blocks.blocks c.args.blocks.now in
     let new = g.B.Blocks.blocks c.add_piece.new.blocks in
     record {
       here = record {
-        within = omega (arith, c.loop-from.invariant.here.within);
+        within = omega (arith, c.loop-done.invariant.here.within);
         grown =
             subst (λ (l : List ℕ). GrowsBy c.args.inodes c.args.at l old new) (piece_more from some octets)
-            (grows_then c.args.inodes c.args.at (take from octets) (take (from + some - from) (drop from octets)) old (g.B.Blocks.blocks c.loop-from.blocks) new c.loop-from.invariant.here.grown c.in_ok-add_piece.ensures.grown c.requires.room.count_few);
+            (grows_then c.args.inodes c.args.at (take from octets) (take (from + some - from) (drop from octets)) old (g.B.Blocks.blocks c.loop-done.blocks) new c.loop-done.invariant.here.grown c.in_ok-add_piece.ensures.grown c.requires.room.count_few);
       };
       spread =
-          spread_more c.args.at c.size_of-size.result from some (length c.args.octets.now) old (g.B.Blocks.blocks c.loop-from.blocks) new c.loop-from.invariant.spread c.in_ok-add_piece.ensures.touches
-          (omega arith) (omega arith) (λ more. omega (arith, more)) (omega (arith, c.loop-from.invariant.here.within));
-      kept = c.in_ok-add_piece.ensures.kept ∙ c.loop-from.invariant.kept;
+          spread_more c.args.at c.size_of-size.result from some (length c.args.octets.now) old (g.B.Blocks.blocks c.loop-done.blocks) new c.loop-done.invariant.spread c.in_ok-add_piece.ensures.touches
+          (omega arith) (omega arith) (λ more. omega (arith, more)) (omega (arith, c.loop-done.invariant.here.within));
+      kept = c.in_ok-add_piece.ensures.kept ∙ c.loop-done.invariant.kept;
     }
 
 pub returns-clause-touches : goal.returns-clause-touches
 returns-clause-touches g c =
     let old = g.B.Blocks.blocks c.args.blocks.now in
-    let new = g.B.Blocks.blocks c.loop-from.blocks in
+    let new = g.B.Blocks.blocks c.loop-done.blocks in
     subst (λ (n : ℕ). Touches (touched_by_growth n (length c.args.octets.now)) old new) c.size_of-size.ensures
-    (spread_all c.args.at c.size_of-size.result c.loop-from.from (length c.args.octets.now) old new c.loop-from.invariant.spread c.loop-from.invariant.here.within)
+    (spread_all c.args.at c.size_of-size.result c.loop-done.done (length c.args.octets.now) old new c.loop-done.invariant.spread c.loop-done.invariant.here.within)
 
 pub returns-clause-grown : goal.returns-clause-grown
 returns-clause-grown c = grind (arith, common_steps)

@@ -20,11 +20,11 @@ in_full octets from b same low high =
 pub loop-step-preserved : goal.loop-step-preserved
 loop-step-preserved c b low =
     let octets = c.args.octets.now in
-    let from : ℕ = c.loop-step.step * 64 in
+    let from : ℕ = c.args.from + c.loop-step.step * 64 in
     let width : from + 64 - from ≡ 64 = omega arith in
     let same : take 64 (drop from octets) ≡ replicate 64 255 =
     ap (λ (m : ℕ). take m (drop from octets)) (sym width) ∙ (slice_eq-Decides Decides-eqb _ _ _ (sym c.if-not-is_full.false ∙ c.eq-is_full.ensures)).0 refl in
-    elim (cases_lt b (512 * c.loop-step.step)) [
+    elim (cases_lt b (8 * c.args.from + 512 * c.loop-step.step)) [
       | inl earlier ↦ c.loop-step.invariant b earlier
       | inr here ↦ in_full octets from b same (omega (arith, here)) (omega (arith, low))
     ]

@@ -11,7 +11,7 @@ pub invariant_of-result-2 : goal.invariant_of-result-2
 invariant_of-result-2 c =
     let its = c.requires in
     let both = kept_stands c.args.host c.args.inodes c.args.volume c.args.index c.args.places c.args.free_inodes its.changes c.result-1.given.0 its.kept its.free_are in
-    (both.0, both.1, omega (arith, c.free_block_count-free_blocks.ensures, ap free_blocks its.kept.seen), λ k less. omega (arith, less))
+    (both.0, both.1, omega (arith, c.free_block_count-free_blocks.ensures, ap free_blocks its.kept.seen), record { used = λ k less. omega (arith, less); none = λ b less low. absurd (omega (arith, less)) })
 
 pub returns-clause-changes : goal.returns-clause-changes
 returns-clause-changes c =

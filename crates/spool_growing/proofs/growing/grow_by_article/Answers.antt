@@ -3,14 +3,16 @@ use Rattle.std.proofs.lemmas.List.{get_or_default}
 use Rattle.model.specs.Stream.{Octets}
 use Rattle.model.specs.Lawful.{MayFile}
 use Rattle.model.specs.Records.{article_record}
-use Rattle.model.specs.Files.{table}
+use Rattle.model.specs.Files.{HasRoom, table}
 use Rattle.model.specs.SpoolFiles.{article_name}
 use Rattle.model.specs.declared.change.Change.TheVariants.{Article}
 use Rattle.model.proofs.Asking.{changes_ask_few}
 use Rattle.model.proofs.HoldsOne.{carried_size}
 use Rattle.fs.specs.Calls.{IsThere}
 use Rattle.filing.specs.declared.Piece.{Piece}
-use Rattle.filing.specs.Calls.{AreUsed, MayAllGrow}
+use Rattle.filing.specs.Calls.{AreHints, AreUsed, MayAllGrow}
+use Rattle.filing.proofs.Calling.{still_none}
+use Rattle.fs_layout.specs.Marks.{NoneFreeBelow}
 use Rattle.index.specs.Filing.{AreLineSizes}
 use Rattle.index.specs.View.{Indexes}
 use Rattle.index.proofs.Callers.{few_groups, overviews_end}
@@ -121,10 +123,23 @@ returns-clause-grown c =
     let serial = ap (λ (n : ℕ). n + 1) (c.len-serial.ensures S kept.indexed) in
     subst (λ (ps : List Piece). ArePieces (table c.args.inodes v.cache) S text groups ps) (sym c.deref-2.ensures.value) (c.in_ok-lines.ensures.pieces S kept.indexed serial c.args.inodes v.cache kept.placed))
 
-pub file_article-requires-clause-used : goal.file_article-requires-clause-used
-file_article-requires-clause-used c =
-    subst (λ (bs : List Octets). AreUsed c.args.from (table c.args.inodes bs)) (sym c.requires.ready.kept.seen) c.requires.used
+pub file_article-requires-clause-hints : goal.file_article-requires-clause-hints
+file_article-requires-clause-hints c =
+    subst (λ (bs : List Octets). AreHints c.args.inodes c.args.hints bs) (sym c.requires.ready.kept.seen) c.requires.hints
 
-pub returns-clause-used : goal.returns-clause-used
-returns-clause-used c =
-    subst (λ (bs : List Octets). AreUsed c.in-Ok.at (table c.args.inodes bs)) (sym c.apply.ensures.cache) c.in-Ok.ensures.filed.used
+pub hints_after-requires-clause-room : goal.hints_after-requires-clause-room
+hints_after-requires-clause-room c = subst (λ (bs : List Octets). HasRoom c.args.inodes bs) (sym c.apply.ensures.seen) c.in-Ok.ensures.filed.calls.room
+
+pub hints_after-requires-clause-used : goal.hints_after-requires-clause-used
+hints_after-requires-clause-used c =
+    subst (λ (bs : List Octets). AreUsed c.in-Ok.at (table c.args.inodes bs)) (sym c.apply.ensures.seen) c.in-Ok.ensures.filed.used
+
+pub hints_after-requires-clause-none : goal.hints_after-requires-clause-none
+hints_after-requires-clause-none c =
+    subst (λ (bs : List Octets). NoneFreeBelow c.args.hints.block bs) (sym c.apply.ensures.seen)
+    (still_none c.args.hints.block c.args.inodes _ c.args.volume.now.seen c.file_article.new.blocks.seen c.in-Ok.ensures.filed.calls
+    (subst (λ (bs : List Octets). NoneFreeBelow c.args.hints.block bs) (sym c.requires.ready.kept.seen) c.requires.hints.none))
+
+pub returns-clause-hints : goal.returns-clause-hints
+returns-clause-hints c =
+    subst (λ (bs : List Octets). AreHints c.args.inodes c.hints_after.result bs) (c.apply.ensures.seen ∙ sym c.apply.ensures.cache) c.hints_after.ensures

@@ -1,10 +1,12 @@
 use Rattle.std.proofs.Common.{rules, ◌≡◌, ℕ, ◌+◌, List, length, ◌∙◌, sym, subst, ap, arith}
-use Rattle.model.specs.Files.{table}
+use Rattle.model.specs.Files.{HasRoom, table}
 use Rattle.model.specs.Stream.{Octets}
 use Rattle.model.specs.Records.{group_record}
 use Rattle.model.specs.declared.change.Change.TheVariants.{Group}
 use Rattle.model.proofs.Asking.{changes_ask_few}
-use Rattle.filing.specs.Calls.{AreUsed}
+use Rattle.filing.specs.Calls.{AreHints, AreUsed}
+use Rattle.filing.proofs.Calling.{still_none}
+use Rattle.fs_layout.specs.Marks.{NoneFreeBelow}
 use Rattle.spool_growing.specs.Growing.{HasFree, LacksGroup}
 use Rattle.spool_growing.proofs.Grown.{applied_dirties, group_grown, heads_lack, lacks_group}
 use Rattle.spool_growing.proofs.Held.{changes_are_few, enough}
@@ -55,13 +57,26 @@ returns-clause-grown c =
     (λ S indexed. c.deref.ensures.value ∙ c.in_ok-record.ensures c.args.name.now
     ∙ ap (λ (n : ℕ). group_record (record { serial = n + 1; name = c.args.name.now; status = c.args.status; description = c.args.description.now; moment = c.args.moment })) (c.len-serial.ensures S indexed))
 
-pub make_group-requires-clause-used : goal.make_group-requires-clause-used
-make_group-requires-clause-used c =
-    subst (λ (bs : List Octets). AreUsed c.args.from (table c.args.inodes bs)) (sym c.requires.ready.kept.seen) c.requires.used
+pub make_group-requires-clause-hints : goal.make_group-requires-clause-hints
+make_group-requires-clause-hints c =
+    subst (λ (bs : List Octets). AreHints c.args.inodes c.args.hints bs) (sym c.requires.ready.kept.seen) c.requires.hints
 
-pub returns-clause-used : goal.returns-clause-used
-returns-clause-used c =
-    subst (λ (bs : List Octets). AreUsed c.in-Ok.made.overview (table c.args.inodes bs)) (sym c.apply.ensures.cache) c.in-Ok.ensures.made.used
+pub hints_after-requires-clause-room : goal.hints_after-requires-clause-room
+hints_after-requires-clause-room c = subst (λ (bs : List Octets). HasRoom c.args.inodes bs) (sym c.apply.ensures.seen) c.in-Ok.ensures.made.calls.room
+
+pub hints_after-requires-clause-used : goal.hints_after-requires-clause-used
+hints_after-requires-clause-used c =
+    subst (λ (bs : List Octets). AreUsed c.in-Ok.made.overview (table c.args.inodes bs)) (sym c.apply.ensures.seen) c.in-Ok.ensures.made.used
+
+pub hints_after-requires-clause-none : goal.hints_after-requires-clause-none
+hints_after-requires-clause-none c =
+    subst (λ (bs : List Octets). NoneFreeBelow c.args.hints.block bs) (sym c.apply.ensures.seen)
+    (still_none c.args.hints.block c.args.inodes _ c.args.volume.now.seen c.make_group.new.blocks.seen c.in-Ok.ensures.made.calls
+    (subst (λ (bs : List Octets). NoneFreeBelow c.args.hints.block bs) (sym c.requires.ready.kept.seen) c.requires.hints.none))
+
+pub returns-clause-hints : goal.returns-clause-hints
+returns-clause-hints c =
+    subst (λ (bs : List Octets). AreHints c.args.inodes c.hints_after.result bs) (c.apply.ensures.seen ∙ sym c.apply.ensures.cache) c.hints_after.ensures
 
 pub returns-in_default-push_group-2-clause-places : goal.returns-in_default-push_group-2-clause-places
 returns-in_default-push_group-2-clause-places c = search rules
