@@ -30,6 +30,13 @@ def message_id(number):
     return "<%s@a.example>" % number
 
 
+def simulate(program, lines, blocks, inodes):
+    """What the program prints of these lines of a script, which it plays on a volume in memory."""
+    words = [program, "sim", "--host", HOST, "--blocks", str(blocks), "--inodes", str(inodes)]
+    done = subprocess.run(words, input=("\n".join(lines) + "\n").encode(), capture_output=True, timeout=SECONDS, check=True)
+    return done.stdout.decode().splitlines()
+
+
 class Volume:
     """A volume in a file of a directory that goes with the test."""
 

@@ -12,12 +12,13 @@ import time
 import traceback
 import warnings
 
-from newsd import GROUP, HOST, Caller, Volume, article, message_id
+from newsd import GROUP, HOST, Caller, Volume, article, message_id, simulate
 from syncs import count_calls
 
 PROGRAM = sys.argv[1]
 GREETING = "200 %s ready, posting permitted" % HOST
 SECONDS_OF_A_TEST = 180
+MOMENT = 1000000000
 
 
 class Skipped(Exception):
@@ -412,6 +413,46 @@ def settled_octets(path):
     raise AssertionError("the file does not come to rest")
 
 
+def a_server_has_4096_groups_at_most(volume):
+    making = "group %%s y %d test" % MOMENT
+    lines = []
+    for number in range(1, 4097):
+        lines.append(making % ("g.%d" % number))
+        if number % 20 == 0:
+            lines += ["commit", "settle"]
+    lines += ["commit", "settle", making % "x.a", making % "g.1", "crash old", making % "x.a"]
+    said = simulate(volume.program, lines, 32768, 16384)
+    refused = [line for line in said if not line.startswith("durable")]
+    assert "durable 4096" in said and refused == ["E6 Full", "E11 Exists", "opened 4096", "E6 Full"], refused
+
+
+def a_group_takes_no_article_that_its_overview_has_no_room_for(volume):
+    """The last one that it takes begins at most 4,222,976 octets behind the start of its overview."""
+    references = " ".join("<%s@a.example>" % (letter * 200) for letter in "abcdefghijklmnopqrstuvwxyzABCDEFGHIJ")
+    lines = ["group %s y %d test" % (name, MOMENT) for name in (GROUP, "x.b")] + ["commit", "settle", "join"]
+
+    def post(number, group):
+        text = article(number).decode().replace(GROUP, group).replace("\r\n\r\n", "\r\nReferences: %s\r\n\r\n" % references, 1)
+        return ["line 1 POST", "exec 1 %d" % MOMENT, *[("line 1 " + it).rstrip() for it in text.splitlines()], "exec 1 %d" % MOMENT]
+
+    for number in range(1, 601):
+        lines += post(number, GROUP)
+        if number % 10 == 0:
+            lines += ["commit", "settle", "release"]
+    lines += [*post(601, "x.b"), "commit", "settle", "release"]
+    for asked in ("GROUP " + GROUP, "OVER 1"):
+        lines += ["line 1 " + asked, "exec 1 %d" % MOMENT, "release"]
+    said = "".join(line[len("out 1 "):] for line in simulate(volume.program, lines, 32768, 1024) if line.startswith("out 1 "))
+    said = said.replace("\\x09", "\t").split("\\r\\n")
+    replies = [line[:3] for line in said if line[:4] in ("240 ", "441 ")]
+    taken = replies.index("441")
+    assert replies == ["240"] * taken + ["441"] * (600 - taken) + ["240"], replies
+    first = next(len(line) + 2 for line in said if line.startswith("1\t"))
+    # the line of each names its number twice
+    sizes = [first + 2 * len(str(number)) - 2 for number in range(1, taken + 1)]
+    assert sum(sizes[:-1]) <= 4222976 < sum(sizes), (taken, first)
+
+
 TESTS = [
     a_client_posts_and_reads_back,
     commands_come_in_one_piece,
@@ -429,6 +470,8 @@ TESTS = [
     what_can_not_be_served_is_refused,
     a_damaged_volume_is_not_opened,
     a_commit_syncs_the_device,
+    a_server_has_4096_groups_at_most,
+    a_group_takes_no_article_that_its_overview_has_no_room_for,
 ]
 
 
