@@ -45,9 +45,11 @@ class Volume:
         self.path = os.path.join(directory, "volume")
         self.run("format", self.path, "--host", HOST, "--blocks", str(blocks), "--inodes", str(inodes)).check_returncode()
 
-    def run(self, *words):
-        """The program on these words, to its end."""
-        return subprocess.run([self.program, *words], stdin=subprocess.DEVNULL, capture_output=True, timeout=SECONDS)
+    def run(self, *words, most_memory=resource.RLIM_INFINITY):
+        """The program on these words, to its end, with so many octets of memory at most."""
+        def limit():
+            resource.setrlimit(resource.RLIMIT_AS, (most_memory, most_memory))
+        return subprocess.run([self.program, *words], stdin=subprocess.DEVNULL, capture_output=True, timeout=SECONDS, preexec_fn=limit)
 
     def make_group(self, name=GROUP):
         made = self.run("group", self.path, name, "y", "1000000000", "test")

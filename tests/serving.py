@@ -453,6 +453,17 @@ def a_group_takes_no_article_that_its_overview_has_no_room_for(volume):
     assert sum(sizes[:-1]) <= 4222976 < sum(sizes), (taken, first)
 
 
+def without_memory_no_volume_is_made(volume):
+    format_words = ["format", volume.path, "--host", HOST]
+    for megabytes in (8, 16, 24, 32):
+        done = volume.run(*format_words, most_memory=megabytes << 20)
+        assert (done.returncode, done.stderr) == (1, b"newsd: E2 Memory\n"), (megabytes, done)
+        done = volume.run("dump", volume.path)
+        assert (done.returncode, done.stderr) == (1, b"newsd: E3 NotAVolume\n"), (megabytes, done)
+    volume.run(*format_words).check_returncode()
+    assert volume.dump() == ["spool 0"]
+
+
 TESTS = [
     a_client_posts_and_reads_back,
     commands_come_in_one_piece,
@@ -470,6 +481,7 @@ TESTS = [
     what_can_not_be_served_is_refused,
     a_damaged_volume_is_not_opened,
     a_commit_syncs_the_device,
+    without_memory_no_volume_is_made,
     a_server_has_4096_groups_at_most,
     a_group_takes_no_article_that_its_overview_has_no_room_for,
 ]
