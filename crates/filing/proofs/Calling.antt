@@ -18,7 +18,8 @@ use Rattle.fs_layout.proofs.Entries.{length-content}
 use Rattle.fs_layout.proofs.Marking.{same_free}
 use Rattle.fs_layout.specs.Marks.{NoneFreeBelow}
 use Rattle.fs_layout.proofs.Tables.{length-table, named_from_there}
-use Rattle.filing.specs.Calls.{AppendsAt, AreUsed, Calls, CreatesAt, MakesAt, SameFilesBut, blocks_for_more}
+use Rattle.filing.specs.Calls.{AppendsAt, AreUsed, Calls, CreatesAt, IsKnown, MakesAt, SameFilesBut, blocks_for_more}
+use Rattle.filing.specs.declared.Free.{Free}
 use Rattle.places.specs.Places.{KeepsNames, name_of}
 
 -- ---- calls after calls
@@ -136,6 +137,24 @@ appended inodes at octets old new rule grown =
       there = now;
       others = others;
     }
+
+-- ---- what is known of free blocks and inodes
+
+pub known_created : (inodes : ℕ) (name : Octets) (at : ℕ) (free : Free) (old new : List Octets) → Creates inodes name at old new → SameMarks old new → IsKnown inodes free old → IsKnown inodes (record free { inode = at }) new
+known_created inodes name at free old new made marks known =
+    let creates = created inodes name at old new made marks in
+    record {
+      used = creates.used;
+      none = still_none free.block inodes (Create name ∷ []) old new creates.calls known.none;
+      count = known.count ∙ sym (same_free old new marks.count (λ b less. marks.marks b (omega (arith, less, made.makes.room.count_few, marks.count))));
+    }
+
+pub known_appended : (inodes at : ℕ) (octets : Octets) (free : Free) (left : ℕ) (old new : List Octets) → AppendsAt inodes at octets old new → left ≡ free_blocks new → IsKnown inodes free old → IsKnown inodes (record free { blocks = left }) new
+known_appended inodes at octets free left old new appends is known = record {
+  used = still_used free.inode (table inodes old) (table inodes new) appends.calls.names known.used;
+  none = still_none free.block inodes (Append appends.name octets ∷ []) old new appends.calls known.none;
+  count = is;
+}
 
 -- ---- a new file with octets
 

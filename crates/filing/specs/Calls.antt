@@ -9,7 +9,7 @@ use Rattle.fs.specs.Calls.{IsFileAt}
 use Rattle.fs.specs.Growing.{KeepsMarks}
 use Rattle.fs_layout.specs.Marks.{NoneFreeBelow}
 use Rattle.places.specs.Places.{KeepsNames, name_of}
-use Rattle.filing.specs.declared.Hints.{Hints}
+use Rattle.filing.specs.declared.Free.{Free}
 use Rattle.filing.specs.declared.Piece.{Piece}
 
 -- these calls were made on the files; each file keeps its inode and its name
@@ -42,10 +42,11 @@ pub record MayGrow (inodes at more : ℕ) (blocks : List Octets) : Type 0 where
 abbrev pub AreUsed : ℕ → List (Option File) → Type 0
 AreUsed n inodes = (k : ℕ) → k < n → slice_index_or inodes k None ≢ None
 
--- no inode and no block below these is free
-pub record AreHints (inodes : ℕ) (hints : Hints) (blocks : List Octets) : Type 0 where
-  pub used : AreUsed hints.inode (table inodes blocks)
-  pub none : NoneFreeBelow hints.block blocks
+-- no inode and no block below these is free, and so many blocks are
+pub record IsKnown (inodes : ℕ) (free : Free) (blocks : List Octets) : Type 0 where
+  pub used : AreUsed free.inode (table inodes blocks)
+  pub none : NoneFreeBelow free.block blocks
+  pub count : free.blocks ≡ free_blocks blocks
 
 -- this inode, which was the lowest free one, got an empty file of this name
 pub record CreatesAt (inodes at : ℕ) (name : Octets) (old new : List Octets) : Type 0 where

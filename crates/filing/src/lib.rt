@@ -5,27 +5,30 @@ ghost use Rattle.std.specs.Prelude.{◌≡◌, ◌+◌, ◌*◌, ◌/◌, ◌<�
 ghost use Rattle.model.specs.Files.{HasRoom, IsFileSystem, files_in, free_blocks, table};
 ghost use Rattle.fs.specs.Calls.{IsFileAt, IsName, IsThere};
 ghost use Rattle.fs.specs.Touches.{Touches, touched_by_growth};
-ghost use Rattle.fs_layout.specs.Marks.{NoneFreeBelow};
-ghost use Rattle.filing.specs.Calls.{AppendsAt, AppendsFirst, AreHints, AreUsed, CreatesAt, MakesAt, MayAllGrow, MayGrow, blocks_for_more};
+ghost use Rattle.filing.specs.Calls.{AppendsAt, AppendsFirst, CreatesAt, IsKnown, MakesAt, MayAllGrow, MayGrow, blocks_for_more};
 
 use fs::by_inode::extend;
 use fs::{FsError, create_absent};
 use std::alloc::AllocError;
 use volume::Blocks;
 
-/// Where the search for a free inode and for a free block begins: none below is free.
+/// What is known of the free blocks and inodes.
 #[derive(Clone, Copy)]
-pub struct Hints {
+pub struct Free {
+    /// No inode below is free.
     pub inode: u32,
+    /// No block below is free.
     pub block: u32,
+    /// So many blocks are free.
+    pub blocks: u32,
 }
 
-/// Makes an empty file of a new name, for which an inode is free, and answers its inode, the lowest free one. It looks for that from
-/// `from` on, below which none is free. An `Err` is out of memory; the caller then drops what it staged.
+/// Makes an empty file of a new name, for which an inode is free, and answers its inode, the lowest free one. An `Err` is out of
+/// memory; the caller then drops what it staged.
 pub fn create_file<B: Blocks>(
     blocks: &mut B,
     inodes: u32,
-    from: u32,
+    free: &mut Free,
     name: &[u8],
 ) -> Result<u32, AllocError>
     requires room { HasRoom inodes (B.blocks blocks.old) }
@@ -33,24 +36,28 @@ pub fn create_file<B: Blocks>(
     requires name { IsName name.now }
     requires new { ¬ (IsThere (table inodes (B.blocks blocks.old)) name.now) }
     requires few { length (files_in (table inodes (B.blocks blocks.old))) < inodes }
-    requires used { AreUsed from (table inodes (B.blocks blocks.old)) }
+    requires known { IsKnown inodes free.old (B.blocks blocks.old) }
     ensures created { IfOk result (λ at. CreatesAt inodes at name.now (B.blocks blocks.old) (B.blocks blocks.new)) }
+    ensures known { OnOk result (IsKnown inodes free.new (B.blocks blocks.new)) }
     ensures touches { OnOk result (Touches 2 (B.blocks blocks.old) (B.blocks blocks.new)) }
     ensures kept { B.applied blocks.new ≡ B.applied blocks.old }
 {
-    match create_absent(blocks, inodes, name, from) {
-        Ok(at) => Ok(at),
+    match create_absent(blocks, inodes, name, free.inode) {
+        Ok(at) => {
+            free.inode = at;
+            Ok(at)
+        }
         Err(FsError::Full) => unreachable!(),
         Err(_) => Err(AllocError),
     }
 }
 
-/// Puts octets after those of the file of an inode, for which there is room. No block below `from` is free. An `Err` is out of memory;
-/// the caller then drops what it staged.
+/// Puts octets after those of the file of an inode, for which there is room. An `Err` is out of memory; the caller then drops what it
+/// staged.
 pub fn append_to<B: Blocks>(
     blocks: &mut B,
     inodes: u32,
-    from: u32,
+    free: &mut Free,
     at: u32,
     octets: &[u8],
 ) -> Result<(), AllocError>
@@ -58,13 +65,16 @@ pub fn append_to<B: Blocks>(
     requires rule { IsFileSystem inodes (B.blocks blocks.old) }
     requires there { MayGrow inodes at (length octets.now) (B.blocks blocks.old) }
     requires free { blocks_for_more (length octets.now) ≤ free_blocks (B.blocks blocks.old) }
-    requires none { NoneFreeBelow from (B.blocks blocks.old) }
+    requires known { IsKnown inodes free.old (B.blocks blocks.old) }
     ensures appended { OnOk result (AppendsAt inodes at octets.now (B.blocks blocks.old) (B.blocks blocks.new)) }
+    ensures known { OnOk result (IsKnown inodes free.new (B.blocks blocks.new)) }
     ensures touches { OnOk result ((name content : List ℕ) → IsFileAt (table inodes (B.blocks blocks.old)) at name content
         → Touches (touched_by_growth (length content) (length octets.now)) (B.blocks blocks.old) (B.blocks blocks.new)) }
     ensures kept { B.applied blocks.new ≡ B.applied blocks.old }
 {
-    extend(blocks, inodes, from, at, octets)
+    let taken = extend(blocks, inodes, free.block, at, octets)?;
+    free.blocks -= taken;
+    Ok(())
 }
 
 /// Makes a file of a new name with these octets, for which there is room, and answers its inode, the lowest free one. An `Err` is out
@@ -72,7 +82,7 @@ pub fn append_to<B: Blocks>(
 pub fn make_file<B: Blocks>(
     blocks: &mut B,
     inodes: u32,
-    hints: Hints,
+    free: &mut Free,
     name: &[u8],
     octets: &[u8],
 ) -> Result<u32, AllocError>
@@ -83,13 +93,14 @@ pub fn make_file<B: Blocks>(
     requires few { length (files_in (table inodes (B.blocks blocks.old))) < inodes }
     requires small { length octets.now ≤ 4235264 }
     requires free { blocks_for_more (length octets.now) ≤ free_blocks (B.blocks blocks.old) }
-    requires hints { AreHints inodes hints (B.blocks blocks.old) }
+    requires known { IsKnown inodes free.old (B.blocks blocks.old) }
     ensures made { IfOk result (λ at. MakesAt inodes at name.now octets.now (B.blocks blocks.old) (B.blocks blocks.new)) }
+    ensures known { OnOk result (IsKnown inodes free.new (B.blocks blocks.new)) }
     ensures touches { OnOk result (Touches (2 + touched_by_growth 0 (length octets.now)) (B.blocks blocks.old) (B.blocks blocks.new)) }
     ensures kept { B.applied blocks.new ≡ B.applied blocks.old }
 {
-    let at = create_file(blocks, inodes, hints.inode, name)?;
-    append_to(blocks, inodes, hints.block, at, octets)?;
+    let at = create_file(blocks, inodes, free, name)?;
+    append_to(blocks, inodes, free, at, octets)?;
     Ok(at)
 }
 
@@ -101,25 +112,26 @@ pub struct Piece {
     pub octets: Vec<u8>,
 }
 
-/// Puts pieces at the ends of their files, one after the other, where there is room for all. No two go to one file, and no block below
-/// `from` is free. An `Err` is out of memory; the caller then drops what it staged.
+/// Puts pieces at the ends of their files, one after the other, where there is room for all. No two go to one file. An `Err` is out
+/// of memory; the caller then drops what it staged.
 pub fn append_all<B: Blocks>(
     blocks: &mut B,
     inodes: u32,
-    from: u32,
+    free: &mut Free,
     pieces: &[Piece],
 ) -> Result<(), AllocError>
     requires room { HasRoom inodes (B.blocks blocks.old) }
     requires rule { IsFileSystem inodes (B.blocks blocks.old) }
     requires there { MayAllGrow inodes pieces.now (B.blocks blocks.old) }
     requires free { 3 * length pieces.now ≤ free_blocks (B.blocks blocks.old) }
-    requires none { NoneFreeBelow from (B.blocks blocks.old) }
+    requires known { IsKnown inodes free.old (B.blocks blocks.old) }
     ensures appended { OnOk result (AppendsFirst inodes pieces.now (length pieces.now) (B.blocks blocks.old) (B.blocks blocks.new)) }
+    ensures known { OnOk result (IsKnown inodes free.new (B.blocks blocks.new)) }
     ensures touches { OnOk result (Touches (5 * length pieces.now) (B.blocks blocks.old) (B.blocks blocks.new)) }
     ensures kept { B.applied blocks.new ≡ B.applied blocks.old }
 {
     for piece in pieces {
-        append_to(blocks, inodes, from, piece.at, &piece.octets)?;
+        append_to(blocks, inodes, free, piece.at, &piece.octets)?;
     }
     Ok(())
 }

@@ -4,13 +4,6 @@ use crate::Gate;
 use std::sync::Wait;
 use std::sync::atomic::{AtomicU64, Ordering};
 use std::thread::Parker;
-use std::time::Duration;
-
-/// How many microseconds the flusher waits for one message more; twice in vain, and it waits no longer.
-const GAP_MICROS: u64 = 150;
-
-/// How many messages it waits for, at most.
-const MOST_WAITS: usize = 128;
 
 /// A bell on which any number of threads wait. Who waits notes the count first, looks whether there is something to do,
 /// and then sleeps for as long as the count is the one that it noted.
@@ -93,11 +86,6 @@ impl Turns {
 pub struct Bells {
     /// There may be something to flush.
     pub flusher: Parker,
-    /// How many messages that may bring a change were served, and how many before the last commit. 2^64 are never reached.
-    brought: AtomicU64,
-    committed: AtomicU64,
-    /// A message wakes the flusher where at least so many were served then.
-    awaited: AtomicU64,
     /// There may be something to release, or a caller has come or gone.
     pub releaser: Parker,
     /// The mark was raised, or the flusher has stopped.
@@ -113,61 +101,12 @@ impl Bells {
     pub fn new() -> Bells {
         Bells {
             flusher: Parker::new(),
-            brought: AtomicU64::new(0),
-            committed: AtomicU64::new(0),
-            awaited: AtomicU64::new(0),
             releaser: Parker::new(),
             operator: Parker::new(),
             later: Bell::new(),
             turns: Turns::new(),
             parting: AtomicU64::new(0),
         }
-    }
-
-    /// A message was served that may bring a change.
-    pub fn bring(&self) {
-        let before = self.brought.fetch_add(1, Ordering::SeqCst);
-        if self.awaited.load(Ordering::SeqCst) <= before.wrapping_add(1) {
-            self.flusher.unpark();
-        }
-    }
-
-    /// How many of these there were.
-    pub fn brought(&self) -> u64 {
-        self.brought.load(Ordering::SeqCst)
-    }
-
-    /// How many there were at the last commit.
-    pub fn committed(&self) -> u64 {
-        self.committed.load(Ordering::SeqCst)
-    }
-
-    /// The flusher waits until there were so many, for as long as they keep coming.
-    pub fn await_brought<R: Wait>(&self, rt: &R, awaited: u64) {
-        self.awaited.store(awaited, Ordering::SeqCst);
-        let mut brought = self.brought();
-        let mut was_in_vain = false;
-        for _ in 0..MOST_WAITS {
-            if awaited <= brought {
-                break;
-            }
-            self.flusher.park_timeout(rt, Duration::from_micros(GAP_MICROS));
-            let now = self.brought();
-            let is_in_vain = now == brought;
-            if is_in_vain && was_in_vain {
-                break;
-            }
-            was_in_vain = is_in_vain;
-            brought = now;
-        }
-        self.awaited.store(0, Ordering::SeqCst);
-    }
-
-    /// A batch is durable.
-    fn commit(&self) {
-        self.committed.store(self.brought(), Ordering::SeqCst);
-        self.releaser.unpark();
-        self.operator.unpark();
     }
 
     /// The flusher has ended a turn.
@@ -193,7 +132,8 @@ impl<'a, 'b, G: Gate> Gate for Ringing<'a, 'b, G> {
     }
 
     fn after_flush(&self) {
-        self.bells.commit();
+        self.bells.releaser.unpark();
+        self.bells.operator.unpark();
         self.gate.after_flush();
     }
 

@@ -165,26 +165,6 @@ fn has_failed(answer: Result<Progress, JournalError>) -> bool
     }
 }
 
-/// How many messages were served before the flusher last took what changed, and how many of them since the take before.
-#[derive(Clone, Copy)]
-struct Taken {
-    served: u64,
-    new: u64,
-}
-
-/// Waits until as many messages came since the last commit as that one released: who got a reply is likely to send again, and one batch
-/// then carries what they all bring. It doesn't wait where nothing came since the last take, nor for long (`await_brought`).
-fn gather<R: Wait>(rt: &R, bells: &Bells, last: Taken) -> Taken {
-    if bells.brought() != last.served {
-        bells.await_brought(rt, bells.committed().wrapping_add(last.new));
-    }
-    let served = bells.brought();
-    Taken {
-        served,
-        new: served.wrapping_sub(last.served),
-    }
-}
-
 /// Flushes whenever there is something, until a turn is refused.
 pub fn flush_all<R: Wait, D: Disk + Drop, K: Kern, G: Gate>(
     rt: &R,
@@ -202,9 +182,7 @@ pub fn flush_all<R: Wait, D: Disk + Drop, K: Kern, G: Gate>(
     let mut journal = journal;
     let mut seat = seat;
     let mut batch = batch;
-    let mut taken = Taken { served: 0, new: 0 };
     'turns: for _ in rt.forever() {
-        taken = gather(rt, bells, taken);
         bells.turns.begin();
         match flush_turn(rt, &mut journal, kern, mark, &mut seat, &mut batch, gate) {
             Ok(Some(_)) => bells.end_turn(),

@@ -76,6 +76,16 @@ module _ (inodes k : ℕ) (p q : Octets) (a b c : List Octets) (first : GrowsBy 
       total : length first.was + length (p ++ q) ≡ length first.was + length p + length q
       total = omega (arith, length-append p q)
 
+over : (m n : ℕ) → m ≤ n → cond {A = ℕ} (ltb 40960 m) 1 0 ≤ cond (ltb 40960 n) 1 0
+over m n less = elim (cases_lt 40960 m) [
+  | inl more ↦ (let x = ap (λ (t : Bool). cond {A = ℕ} t 1 0) (lt-ltb 40960 m more) in let y = ap (λ (t : Bool). cond {A = ℕ} t 1 0) (lt-ltb 40960 n (omega arith)) in omega arith)
+  | inr few ↦ (let x = ap (λ (t : Bool). cond {A = ℕ} t 1 0) (le-ltb 40960 m few) in omega arith)
+]
+
+-- a larger file owns as many blocks at least
+pub blocks_for_le : (m n : ℕ) → m ≤ n → blocks_for m ≤ blocks_for n
+blocks_for_le m n less = let one = over m n less in omega arith
+
 module _ (inodes k : ℕ) (a : List Octets) (room : HasRoom inodes a) (fs : IsFileSystem inodes a) (low : k < inodes) (file : IsFile (entry inodes a k)) where
   was_there : IsFileAt (table inodes a) k (name_in (slot_of inodes a k)) (content_of a (entry inodes a k))
   was_there = get_or-table inodes a k low ∙ file_at_file inodes a k file
@@ -122,12 +132,10 @@ module _ (inodes k : ℕ) (a : List Octets) (room : HasRoom inodes a) (fs : IsFi
         ap (λ (n : ℕ). free_blocks b + blocks_for n) (size_now ∙ ap (λ (n : ℕ). n + length octets) (sym was_size)) ∙ grown.free ∙ ap (λ (n : ℕ). free_blocks a + blocks_for n) was_size in
         let more = blocks_for_le (size (entry inodes b k) + some) (size (entry inodes a k) + total) (omega (arith, size_now)) in
         (omega (arith, size_now, enough.0), omega (arith, left, more, enough.1))
-      where
-        over : (m n : ℕ) → m ≤ n → cond {A = ℕ} (ltb 40960 m) 1 0 ≤ cond (ltb 40960 n) 1 0
-        over m n less = elim (cases_lt 40960 m) [
-          | inl more ↦ (let x = ap (λ (t : Bool). cond {A = ℕ} t 1 0) (lt-ltb 40960 m more) in let y = ap (λ (t : Bool). cond {A = ℕ} t 1 0) (lt-ltb 40960 n (omega arith)) in omega arith)
-          | inr few ↦ (let x = ap (λ (t : Bool). cond {A = ℕ} t 1 0) (le-ltb 40960 m few) in omega arith)
-        ]
 
-        blocks_for_le : (m n : ℕ) → m ≤ n → blocks_for m ≤ blocks_for n
-        blocks_for_le m n less = let one = over m n less in omega arith
+    -- how many blocks it took
+    pub taken_is : (taken : ℕ) → blocks_for (size (entry inodes a k)) + taken ≡ blocks_for (size (entry inodes a k) + length octets) → free_blocks b + taken ≡ free_blocks a
+    taken_is taken more =
+        let left : free_blocks b + blocks_for (size (entry inodes a k) + length octets) ≡ free_blocks a + blocks_for (size (entry inodes a k)) =
+        ap (λ (n : ℕ). free_blocks b + blocks_for (n + length octets)) (sym was_size) ∙ grown.free ∙ ap (λ (n : ℕ). free_blocks a + blocks_for n) was_size in
+        omega (arith, left, more)

@@ -7,6 +7,7 @@ ghost use Rattle.fs_layout.specs.Marks.{NoneFreeBelow};
 ghost use Rattle.fs_layout.specs.Touches.{Touches, TouchesData, touched_by_growth};
 ghost use Rattle.fs_inodes.specs.Growing.{PutsPointer, AddsBlock, taken_with, GrowsBy, HasRoomFor};
 
+use crate::room::blocks_more;
 use fs_layout::inodes::{
     DIRECT_POINTERS, INDIRECT_AT, INODES_AT, POINTERS_AT, SIZE_AT, pointer_at, size_of,
 };
@@ -109,15 +110,15 @@ fn add_piece<B: Blocks>(
     put_record(blocks, INODES_AT, at, &inode)
 }
 
-/// Puts octets after those of the file of an inode, for which there is room. Blocks for them are looked for from `from` on: none below
-/// is free.
+/// Puts octets after those of the file of an inode, for which there is room, and answers how many blocks that took. They are looked for
+/// from `from` on: none below is free.
 pub fn extend<B: Blocks>(
     blocks: &mut B,
     inodes: u32,
     from: u32,
     at: u32,
     octets: &[u8],
-) -> Result<(), AllocError>
+) -> Result<u32, AllocError>
     requires room { HasRoom inodes (B.blocks blocks.old) }
     requires rule { IsFileSystem inodes (B.blocks blocks.old) }
     requires below { at < inodes }
@@ -126,6 +127,7 @@ pub fn extend<B: Blocks>(
         (size (entry inodes (B.blocks blocks.old) at) + length octets.now) }
     requires none { NoneFreeBelow from (B.blocks blocks.old) }
     ensures grown { OnOk result (GrowsBy inodes at octets.now (B.blocks blocks.old) (B.blocks blocks.new)) }
+    ensures taken { IfOk result (λ taken. free_blocks (B.blocks blocks.new) + taken ≡ free_blocks (B.blocks blocks.old)) }
     ensures touches { OnOk result (Touches (touched_by_growth (size (entry inodes (B.blocks blocks.old) at)) (length octets.now))
         (B.blocks blocks.old) (B.blocks blocks.new)) }
     ensures kept { B.applied blocks.new ≡ B.applied blocks.old }
@@ -137,7 +139,7 @@ pub fn extend<B: Blocks>(
         add_piece(blocks, inodes, from, at, &octets[done..done + some])?;
         done += some;
     }
-    Ok(())
+    Ok(blocks_more(size as u64, (size + octets.len()) as u64))
 }
 
 /// Puts so many zeros after the octets of the file of an inode, for which there is room.

@@ -1,6 +1,6 @@
 //! Whether a file can grow.
 
-ghost use Rattle.std.specs.Prelude.{◌≡◌, ◌≤◌};
+ghost use Rattle.std.specs.Prelude.{◌≡◌, ◌+◌, ◌≤◌};
 ghost use Rattle.std.specs.Bool.{OnTrue, OnFalse};
 ghost use Rattle.model.specs.Files.{HasRoom};
 ghost use Rattle.fs_inodes.specs.Growing.{blocks_for, HasNoRoomFor};
@@ -21,6 +21,15 @@ fn owned_blocks(size: u64) -> u64
     } else {
         count
     }
+}
+
+// How many blocks more a file owns when it grows from `was` to `size` octets.
+pub(crate) fn blocks_more(was: u64, size: u64) -> u32
+    requires order { was ≤ size }
+    requires small { size ≤ 4235264 }
+    ensures { blocks_for was + result ≡ blocks_for size }
+{
+    (owned_blocks(size) - owned_blocks(was)) as u32
 }
 
 /// Whether a file that has `was` octets can have `size`. Free blocks are counted only where some are needed.

@@ -1,10 +1,9 @@
 -- What a spool keeps beside its blocks.
-use Rattle.std.specs.Prelude.{◌≡◌, ℕ, ◌+◌, ◌≤◌, List, length}
+use Rattle.std.specs.Prelude.{◌≡◌, ℕ, ◌+◌, List, length}
 use mathlib.Core.HLevel.{is_prop→PathP}
 use mathlib.Core.Path.{PathP}
 use Rattle.std.proofs.Math.Logic.{∥∥₁_elim, ∥∥₁_prop}
 use Rattle.std.proofs.Props.{props}
-use Rattle.model.specs.Files.{free_blocks}
 use Rattle.model.specs.Indexed.{FilePlaces}
 use Rattle.model.specs.Spool.{Spool}
 use Rattle.model.specs.SpoolFiles.{files_of}
@@ -34,10 +33,6 @@ one_stands host inodes blocks p q = λ i. record { changes = same i; held = alon
 -- so many inodes have no file
 abbrev pub AreFree : ℕ → ℕ → Spool → Type 0
 AreFree free inodes S = free + length (files_of S) ≡ inodes
-
--- at least so many blocks are free
-abbrev pub AreLeft : ℕ → List Octets → Type 0
-AreLeft free blocks = free ≤ free_blocks blocks
 
 -- some changes stand so
 pub record CanStand (host : Octets) (inodes free : ℕ) (volume : VolumeView) (index : IndexView) (places : FilePlaces) : Type 0 where

@@ -8,7 +8,7 @@ ghost use Rattle.model.specs.Lawful.{MayExpire, MayFile, MayMake, is_description
 ghost use Rattle.model.specs.Layout.{Holds};
 ghost use Rattle.model.specs.Names.{is_group_name, is_host};
 ghost use Rattle.model.specs.Room.{free_blocks_beside, free_inodes_beside};
-ghost use Rattle.model.specs.Files.{HasRoom, IsFileSystem, free_blocks, table};
+ghost use Rattle.model.specs.Files.{HasRoom, IsFileSystem, table};
 ghost use Rattle.model.specs.Spool.{Spool as Changes, groups, is_here};
 ghost use Rattle.model.specs.SpoolFiles.{files_of};
 ghost use Rattle.model.specs.Volume.{AreDistinct, blocks_from, laid_over};
@@ -25,7 +25,7 @@ mod stored;
 
 use article::{Article, Origin, ReadError};
 pub use errors::{AddError, ExpireError};
-use filing::Hints;
+use filing::Free;
 use fs::free_block_count;
 use index::{Group, Index};
 use lookups::LookUps;
@@ -44,25 +44,8 @@ const BLOCKS_ASKED: u32 = 256;
 /// The most groups on a server.
 const GROUPS: usize = 4096;
 
-/// The most blocks that a change takes.
-const BLOCKS_TAKEN: u32 = 146;
-
 /// The files of a group: its record, its numbers, its overview.
 const GROUP_FILES: u32 = 3;
-
-/// At least how many blocks are free after a change, where at least so many were before it. They are counted where fewer than a
-/// change asks for may be left.
-fn left_after(volume: &Volume, inodes: u32, free: u32) -> u32
-    requires room { HasRoom inodes volume.now.seen }
-    requires taken { free ≤ free_blocks volume.now.seen + 146 }
-    ensures { result ≤ free_blocks volume.now.seen }
-{
-    if BLOCKS_ASKED + BLOCKS_TAKEN <= free {
-        free - BLOCKS_TAKEN
-    } else {
-        free_block_count(volume, inodes)
-    }
-}
 
 /// The accepted changes of a host, in files, and the cache of the logical blocks that hold them.
 pub struct Spool {
@@ -70,9 +53,7 @@ pub struct Spool {
     host: Text,
     inodes: u32,
     free_inodes: u32,
-    // at least so many blocks are free
-    free_blocks: u32,
-    hints: Hints,
+    free: Free,
     volume: Volume,
     index: Index,
     places: Places,
@@ -89,8 +70,7 @@ impl Drop for Spool {
             host: _,
             inodes: _,
             free_inodes: _,
-            free_blocks: _,
-            hints: _,
+            free: _,
             volume: _,
             index: _,
             places: _,
@@ -99,8 +79,8 @@ impl Drop for Spool {
 }
 
 impl Model for Spool {
-    ghost use Rattle.filing.specs.Calls.{AreHints};
-    ghost use Rattle.spool_files.specs.Kept.{AreFree, AreLeft};
+    ghost use Rattle.filing.specs.Calls.{IsKnown};
+    ghost use Rattle.spool_files.specs.Kept.{AreFree};
     ghost use Rattle.spool_growing.specs.Kept.{IsKept};
     ghost use Rattle.spool_files.specs.View.{SpoolView};
 
@@ -108,7 +88,7 @@ impl Model for Spool {
 
     ghost view = { λ s. record { host = s.host; inodes = s.inodes; changes = s.stands.changes; blocks = s.volume.cache; dirty = s.volume.dirty; sound = s.stands.held } };
 
-    ghost invariant = { λ s. IsKept s.host s.inodes s.volume s.index s.places s.stands.changes × AreFree s.free_inodes s.inodes s.stands.changes × AreLeft s.free_blocks s.volume.cache × AreHints s.inodes s.hints s.volume.cache };
+    ghost invariant = { λ s. IsKept s.host s.inodes s.volume s.index s.places s.stands.changes × AreFree s.free_inodes s.inodes s.stands.changes × IsKnown s.inodes s.free s.volume.cache };
 }
 
 impl Spool {
@@ -133,14 +113,17 @@ impl Spool {
         ensures blocks { result.blocks ≡ volume.cache }
         ensures dirty { result.dirty ≡ volume.dirty }
     {
-        let free_blocks = free_block_count(&volume, inodes);
+        let blocks = free_block_count(&volume, inodes);
         Spool {
             alloc,
             host,
             inodes,
             free_inodes,
-            free_blocks,
-            hints: Hints { inode: 0, block: 0 },
+            free: Free {
+                inode: 0,
+                block: 0,
+                blocks,
+            },
             volume,
             index,
             places,
@@ -220,14 +203,11 @@ impl Spool {
         self.index.group(name).is_some()
     }
 
-    /// Whether too few blocks are free for a change. They are counted only where few may be left.
+    /// Whether too few blocks are free for a change.
     fn lacks_blocks(&self) -> bool
         ensures { result ≡ nat_lt (free_blocks_beside (length self.now.blocks) self.now.inodes (files_of self.now.changes)) 256 }
     {
-        if self.free_blocks >= BLOCKS_ASKED {
-            return false;
-        }
-        free_block_count(&self.volume, self.inodes) < BLOCKS_ASKED
+        self.free.blocks < BLOCKS_ASKED
     }
 
     /// Whether too few blocks are free for a change, or too few inodes for its files.
@@ -287,10 +267,10 @@ impl Spool {
         ensures ok { OnOk result (Adds self.old self.new (changed.Group name.now status description.now moment)) }
         ensures err { OnErr result (self.new ≡ self.old) }
     {
-        let hints = grow_by_group(
+        let free = grow_by_group(
             self.alloc,
             self.inodes,
-            self.hints,
+            self.free,
             &mut self.volume,
             &mut self.index,
             &mut self.places,
@@ -299,10 +279,8 @@ impl Spool {
             description,
             moment,
         )?;
-        self.hints = hints;
+        self.free = free;
         self.free_inodes -= GROUP_FILES;
-        let left = left_after(&self.volume, self.inodes, self.free_blocks);
-        self.free_blocks = left;
         Ok(())
     }
 
@@ -352,10 +330,10 @@ impl Spool {
         ensures ok { OnOk result (Adds self.old self.new (changed.Article article.now groups.now moment)) }
         ensures err { OnErr result (self.new ≡ self.old) }
     {
-        let hints = grow_by_article(
+        let free = grow_by_article(
             self.alloc,
             self.inodes,
-            self.hints,
+            self.free,
             &mut self.volume,
             &mut self.index,
             &mut self.places,
@@ -363,10 +341,8 @@ impl Spool {
             groups,
             moment,
         )?;
-        self.hints = hints;
+        self.free = free;
         self.free_inodes -= 1;
-        let left = left_after(&self.volume, self.inodes, self.free_blocks);
-        self.free_blocks = left;
         Ok(())
     }
 
@@ -405,20 +381,18 @@ impl Spool {
         ensures ok { OnOk result (Adds self.old self.new (changed.Expire name.now number)) }
         ensures err { OnErr result (self.new ≡ self.old) }
     {
-        let hints = grow_by_expiry(
+        let free = grow_by_expiry(
             self.alloc,
             self.inodes,
-            self.hints,
+            self.free,
             &mut self.volume,
             &mut self.index,
             &mut self.places,
             name,
             number,
         )?;
-        self.hints = hints;
+        self.free = free;
         self.free_inodes -= 1;
-        let left = left_after(&self.volume, self.inodes, self.free_blocks);
-        self.free_blocks = left;
         Ok(())
     }
 }

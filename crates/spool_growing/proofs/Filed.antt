@@ -28,7 +28,7 @@ use Rattle.spool_growing.specs.Kept.{IsHeld, IsKept}
 use Rattle.spool_growing.specs.Growing.{Dirties}
 use Rattle.spool_growing.proofs.Absent.{lacks_serial}
 use Rattle.spool_growing.proofs.Adding.{pieces_call}
-use Rattle.spool_growing.proofs.Held.{changes_are_few, few_taken, grown, not_there}
+use Rattle.spool_growing.proofs.Held.{changes_are_few, grown, not_there}
 use Rattle.std.proofs.lemmas.List.{take_all}
 
 pub lacks_article : (host : Octets) (inodes : ℕ) (blocks : List Octets) (S : Spool) → IsHeld host inodes blocks S → ¬ (IsThere (table inodes blocks) (article_name (length S + 1)))
@@ -133,8 +133,4 @@ article_grown inodes v m w i j p q text filed moment at serial octets pieces see
           let its = serials S kept.indexed in
           kept_with_article host inodes v w i j p q S text filed moment at octets pieces kept may (said S its) (are host S kept) (named S its) places (indexed host S may kept) (now ∙ sym cache);
       dirties = dirties;
-      taken = λ host S kept may.
-          let its = serials S kept.indexed in
-          few_taken host inodes v.cache S kept.is (Article text filed moment) w.cache may
-          (article_is_filed inodes S text filed moment at octets pieces v.cache w.cache (said S its) (are host S kept) (named S its));
     }

@@ -35,7 +35,7 @@ use Rattle.spool_growing.specs.Growing.{IsGrown}
 use Rattle.spool_growing.specs.Growing.{Dirties}
 use Rattle.spool_growing.proofs.Dirty.{dirties}
 use Rattle.spool_growing.proofs.Absent.{lacks_names, lacks_serial}
-use Rattle.spool_growing.proofs.Held.{changes_are_few, few_taken, grown, not_there}
+use Rattle.spool_growing.proofs.Held.{changes_are_few, grown, not_there}
 
 -- ---- names that are not there
 
@@ -181,9 +181,6 @@ group_grown inodes v m w i j p q name status description moment at numbers overv
       kept = λ host S kept may.
           kept_with_group host inodes v w i j p q S name status description moment at numbers overview octets kept may (says S kept.indexed) made' places (indexed host S kept.is.held.lawful may kept.indexed) (now ∙ sym cache);
       dirties = dirties;
-      taken = λ host S kept may.
-          few_taken host inodes v.cache S kept.is (Group name status description moment) w.cache may
-          (group_is_made inodes S name status description moment at numbers overview octets v.cache w.cache (says S kept.indexed) made');
     }
 
 pub expiry_grown : (inodes : ℕ) (v m w : VolumeView) (i j : IndexView) (p q : FilePlaces) (group : Octets) (number at serial : ℕ) (octets : Octets)
@@ -205,7 +202,4 @@ expiry_grown inodes v m w i j p q group number at serial octets seen made dirtie
           let its = serials S kept.indexed in
           kept_with_expiry host inodes v w i j p q S group number at octets kept may (said S its) (named S its) places (indexed S may kept.indexed) (now ∙ sym cache);
       dirties = dirties;
-      taken = λ host S kept may.
-          let its = serials S kept.indexed in
-          few_taken host inodes v.cache S kept.is (Expire group number) w.cache may (expiry_is_made inodes S group number at octets v.cache w.cache (said S its) (named S its));
     }

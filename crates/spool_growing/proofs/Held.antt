@@ -66,10 +66,6 @@ module _ (host : Octets) (inodes : ℕ) (blocks : List Octets) (S : Spool) (is :
       one_at_least (Article text filed moment) = omega arith
       one_at_least (Expire group number) = omega arith
 
-  -- the calls of a change take few blocks
-  pub few_taken : (c : Change) (new : List Octets) → MayFollow host S c → Calls inodes (change_calls S c) blocks new → free_blocks blocks ≤ free_blocks new + 146
-  few_taken c new may calls = omega (arith, calls.free, (changes_ask_few host S c changes_are_few is.held.lawful may).blocks)
-
   -- they lead to the blocks that hold it
   pub grown : (c : Change) (new : List Octets) → MayFollow host S c → Calls inodes (change_calls S c) blocks new → IsHeld host inodes new (S ++ c ∷ [])
   grown c new may calls = record {

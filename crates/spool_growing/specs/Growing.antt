@@ -65,8 +65,6 @@ pub record IsReady (inodes : ℕ) (volume : VolumeView) (index : IndexView) (pla
 pub record IsGrown (inodes : ℕ) (v w : VolumeView) (i j : IndexView) (p q : FilePlaces) (c : Change) : Type 0 where
   pub kept : (host : Octets) (S : Spool) → IsKept host inodes v i p S → MayFollow host S c → IsKept host inodes w j q (S ++ c ∷ [])
   pub dirties : Dirties v.cache w.cache v.dirty w.dirty
-  -- it takes few blocks
-  pub taken : (host : Octets) (S : Spool) → IsKept host inodes v i p S → MayFollow host S c → free_blocks v.cache ≤ free_blocks w.cache + 146
 
 -- ---- an article
 

@@ -2,9 +2,8 @@
 //! applied, which takes no memory. Where memory is refused, all is as it was.
 
 ghost use Rattle.std.specs.Prelude.{◌≡◌, IfOk, OnErr, OnOk};
-ghost use Rattle.filing.specs.Calls.{AreHints, AreUsed};
-ghost use Rattle.fs_layout.specs.Marks.{NoneFreeBelow};
-ghost use Rattle.model.specs.Files.{HasRoom, table};
+ghost use Rattle.filing.specs.Calls.{IsKnown};
+ghost use Rattle.model.specs.Files.{HasRoom};
 ghost use Rattle.model.specs.declared.change.Change.{Change};
 ghost use Rattle.spool_growing.specs.Growing.{IsGrown, IsReady};
 
@@ -12,7 +11,7 @@ use crate::articles::{copy_names, record_of};
 use crate::lines::lines_of;
 use crate::staging::{file_article, make_expiry, make_group};
 use article::Article;
-use filing::Hints;
+use filing::Free;
 use fs_layout::marks::lowest_free;
 use index::Index;
 use model::Text;
@@ -22,26 +21,25 @@ use spool_opening::id_of;
 use std::alloc::{AllocError, Global};
 use volume::{Blocks, Volume};
 
-/// Where the next search begins, after a change whose last inode is this. No block below `from` is free.
-fn hints_after(volume: &Volume, inodes: u32, inode: u32, from: u32) -> Hints
+/// The same, after the lowest free block was looked for.
+fn seek_block(volume: &Volume, inodes: u32, free: Free) -> Free
     requires room { HasRoom inodes volume.now.seen }
-    requires used { AreUsed inode (table inodes volume.now.seen) }
-    requires none { NoneFreeBelow from volume.now.seen }
-    ensures { AreHints inodes result volume.now.seen }
+    requires known { IsKnown inodes free volume.now.seen }
+    ensures { IsKnown inodes result volume.now.seen }
 {
-    let block = match lowest_free(volume, from) {
+    let block = match lowest_free(volume, free.block) {
         Some(block) => block,
         None => volume.len(),
     };
-    Hints { inode, block }
+    Free { block, ..free }
 }
 
-/// Adds a group that may be made and for which there is room, and answers where the next search begins. An `Err` is out of memory and
-/// changes nothing.
+/// Adds a group that may be made and for which there is room, and answers what is free then. An `Err` is out of memory and changes
+/// nothing.
 pub fn grow_by_group(
     alloc: Global,
     inodes: u32,
-    hints: Hints,
+    free: Free,
     volume: &mut Volume,
     index: &mut Index,
     places: &mut Places,
@@ -49,18 +47,19 @@ pub fn grow_by_group(
     status: u8,
     description: &[u8],
     moment: u64,
-) -> Result<Hints, AllocError>
+) -> Result<Free, AllocError>
     requires ready { IsReady inodes volume.old index.old places.old (Change.Group name.now status description.now moment) }
-    requires hints { AreHints inodes hints volume.old.cache }
+    requires known { IsKnown inodes free volume.old.cache }
     ensures grown { OnOk result (IsGrown inodes volume.old volume.new index.old index.new places.old places.new (Change.Group name.now status description.now moment)) }
-    ensures hints { IfOk result (λ next. AreHints inodes next volume.new.cache) }
+    ensures known { IfOk result (λ next. IsKnown inodes next volume.new.cache) }
     ensures volume { OnErr result (volume.new ≡ volume.old) }
     ensures index { OnErr result (index.new ≡ index.old) }
     ensures places { OnErr result (places.new ≡ places.old) }
 {
     let serial = index.len() + 1;
     let record = group_record(alloc, serial, moment, status, description)?;
-    let Ok(made) = make_group(alloc, volume, inodes, hints, name, &record) else {
+    let mut next = free;
+    let Ok(made) = make_group(alloc, volume, inodes, &mut next, name, &record) else {
         volume.drop_stage();
         return Err(AllocError);
     };
@@ -74,32 +73,33 @@ pub fn grow_by_group(
         return Err(AllocError);
     };
     volume.apply();
-    Ok(hints_after(volume, inodes, made.overview, hints.block))
+    Ok(seek_block(volume, inodes, next))
 }
 
-/// Adds an expiry that may follow and for which there is room, and answers where the next search begins. An `Err` is out of memory and
-/// changes nothing.
+/// Adds an expiry that may follow and for which there is room, and answers what is free then. An `Err` is out of memory and changes
+/// nothing.
 pub fn grow_by_expiry(
     alloc: Global,
     inodes: u32,
-    hints: Hints,
+    free: Free,
     volume: &mut Volume,
     index: &mut Index,
     places: &mut Places,
     name: &[u8],
     number: u32,
-) -> Result<Hints, AllocError>
+) -> Result<Free, AllocError>
     requires ready { IsReady inodes volume.old index.old places.old (Change.Expire name.now number) }
-    requires hints { AreHints inodes hints volume.old.cache }
+    requires known { IsKnown inodes free volume.old.cache }
     ensures grown { OnOk result (IsGrown inodes volume.old volume.new index.old index.new places.old places.new (Change.Expire name.now number)) }
-    ensures hints { IfOk result (λ next. AreHints inodes next volume.new.cache) }
+    ensures known { IfOk result (λ next. IsKnown inodes next volume.new.cache) }
     ensures volume { OnErr result (volume.new ≡ volume.old) }
     ensures index { OnErr result (index.new ≡ index.old) }
     ensures places { OnErr result (places.new ≡ places.old) }
 {
     let serial = index.len() + 1;
     let record = expiry_record(alloc, serial, name, number)?;
-    let Ok(at) = make_expiry(alloc, volume, inodes, hints, serial, &record) else {
+    let mut next = free;
+    let Ok(at) = make_expiry(alloc, volume, inodes, &mut next, serial, &record) else {
         volume.drop_stage();
         return Err(AllocError);
     };
@@ -113,26 +113,26 @@ pub fn grow_by_expiry(
         return Err(AllocError);
     };
     volume.apply();
-    Ok(hints_after(volume, inodes, at, hints.block))
+    Ok(seek_block(volume, inodes, next))
 }
 
-/// Files an article in these groups, where that change may follow and there is room for it, and answers where the next search begins. An
-/// `Err` is out of memory and changes nothing.
+/// Files an article in these groups, where that change may follow and there is room for it, and answers what is free then. An `Err` is
+/// out of memory and changes nothing.
 pub fn grow_by_article(
     alloc: Global,
     inodes: u32,
-    hints: Hints,
+    free: Free,
     volume: &mut Volume,
     index: &mut Index,
     places: &mut Places,
     article: &Article<'_>,
     groups: &[Text],
     moment: u64,
-) -> Result<Hints, AllocError>
+) -> Result<Free, AllocError>
     requires ready { IsReady inodes volume.old index.old places.old (Change.Article article.now groups.now moment) }
-    requires hints { AreHints inodes hints volume.old.cache }
+    requires known { IsKnown inodes free volume.old.cache }
     ensures grown { OnOk result (IsGrown inodes volume.old volume.new index.old index.new places.old places.new (Change.Article article.now groups.now moment)) }
-    ensures hints { IfOk result (λ next. AreHints inodes next volume.new.cache) }
+    ensures known { IfOk result (λ next. IsKnown inodes next volume.new.cache) }
     ensures volume { OnErr result (volume.new ≡ volume.old) }
     ensures index { OnErr result (index.new ≡ index.old) }
     ensures places { OnErr result (places.new ≡ places.old) }
@@ -141,7 +141,16 @@ pub fn grow_by_article(
     let filed = copy_names(alloc, groups)?;
     let octets = record_of(alloc, serial, article, groups, moment)?;
     let lines = lines_of(alloc, index, places, serial, article, groups)?;
-    let Ok(at) = file_article(alloc, volume, inodes, hints, serial, &octets, &lines.pieces) else {
+    let mut next = free;
+    let Ok(at) = file_article(
+        alloc,
+        volume,
+        inodes,
+        &mut next,
+        serial,
+        &octets,
+        &lines.pieces,
+    ) else {
         volume.drop_stage();
         return Err(AllocError);
     };
@@ -156,5 +165,5 @@ pub fn grow_by_article(
         return Err(AllocError);
     };
     volume.apply();
-    Ok(hints_after(volume, inodes, at, hints.block))
+    Ok(seek_block(volume, inodes, next))
 }

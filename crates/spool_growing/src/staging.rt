@@ -6,10 +6,10 @@ ghost use Rattle.model.specs.Records as model_records;
 ghost use Rattle.model.specs.SpoolFiles.{article_name, expiry_name};
 ghost use Rattle.fs.specs.Calls.{IsThere};
 ghost use Rattle.fs.specs.Touches.{Touches};
-ghost use Rattle.filing.specs.Calls.{AreHints, MakesAt, MayAllGrow};
+ghost use Rattle.filing.specs.Calls.{IsKnown, MakesAt, MayAllGrow};
 ghost use Rattle.spool_growing.specs.Growing.{FilesArticle, HasFree, LacksGroup, MakesGroup};
 
-use filing::{Hints, Piece, append_all, create_file, make_file};
+use filing::{Free, Piece, append_all, create_file, make_file};
 use records::{FileKind, expiry_record, file_name, group_record, serial_digits};
 use std::alloc::{AllocError, Global};
 use volume::Blocks;
@@ -28,7 +28,7 @@ pub(crate) fn make_group<B: Blocks>(
     alloc: Global,
     blocks: &mut B,
     inodes: u32,
-    hints: Hints,
+    free: &mut Free,
     name: &[u8],
     record: &[u8],
 ) -> Result<GroupPlaces, AllocError>
@@ -38,17 +38,18 @@ pub(crate) fn make_group<B: Blocks>(
     requires short { length record.now ≤ 262821 }
     requires lacks { LacksGroup inodes (B.blocks blocks.old) name.now }
     requires free { HasFree inodes 3 (B.blocks blocks.old) }
-    requires hints { AreHints inodes hints (B.blocks blocks.old) }
+    requires known { IsKnown inodes free.old (B.blocks blocks.old) }
     ensures made { IfOk result (λ p. MakesGroup inodes p.at p.numbers p.overview name.now record.now (B.blocks blocks.old) (B.blocks blocks.new)) }
     ensures touches { OnOk result (Touches 254 (B.blocks blocks.old) (B.blocks blocks.new)) }
+    ensures known { OnOk result (IsKnown inodes free.new (B.blocks blocks.new)) }
     ensures kept { B.applied blocks.new ≡ B.applied blocks.old }
 {
     let first = file_name(alloc, FileKind::Group, name)?;
     let second = file_name(alloc, FileKind::Numbers, name)?;
     let third = file_name(alloc, FileKind::Overview, name)?;
-    let at = make_file(blocks, inodes, hints, &first, record)?;
-    let numbers = create_file(blocks, inodes, at, &second)?;
-    let overview = create_file(blocks, inodes, numbers, &third)?;
+    let at = make_file(blocks, inodes, free, &first, record)?;
+    let numbers = create_file(blocks, inodes, free, &second)?;
+    let overview = create_file(blocks, inodes, free, &third)?;
     Ok(GroupPlaces {
         at,
         numbers,
@@ -61,7 +62,7 @@ pub(crate) fn make_expiry<B: Blocks>(
     alloc: Global,
     blocks: &mut B,
     inodes: u32,
-    hints: Hints,
+    free: &mut Free,
     serial: u64,
     record: &[u8],
 ) -> Result<u32, AllocError>
@@ -70,13 +71,14 @@ pub(crate) fn make_expiry<B: Blocks>(
     requires short { length record.now ≤ 262821 }
     requires lacks { ¬ (IsThere (table inodes (B.blocks blocks.old)) (expiry_name serial)) }
     requires free { HasFree inodes 1 (B.blocks blocks.old) }
-    requires hints { AreHints inodes hints (B.blocks blocks.old) }
+    requires known { IsKnown inodes free.old (B.blocks blocks.old) }
     ensures made { IfOk result (λ at. MakesAt inodes at (expiry_name serial) record.now (B.blocks blocks.old) (B.blocks blocks.new)) }
     ensures touches { OnOk result (Touches 254 (B.blocks blocks.old) (B.blocks blocks.new)) }
+    ensures known { OnOk result (IsKnown inodes free.new (B.blocks blocks.new)) }
     ensures kept { B.applied blocks.new ≡ B.applied blocks.old }
 {
     let name = file_name(alloc, FileKind::Expiry, &serial_digits(serial))?;
-    make_file(blocks, inodes, hints, &name, record)
+    make_file(blocks, inodes, free, &name, record)
 }
 
 /// Makes the file of an article, and puts what it adds to its groups at the ends of their files. An `Err` is out of memory; the caller
@@ -85,7 +87,7 @@ pub(crate) fn file_article<B: Blocks>(
     alloc: Global,
     blocks: &mut B,
     inodes: u32,
-    hints: Hints,
+    free: &mut Free,
     serial: u64,
     octets: &[u8],
     pieces: &[Piece],
@@ -97,13 +99,14 @@ pub(crate) fn file_article<B: Blocks>(
     requires free { HasFree inodes 1 (B.blocks blocks.old) }
     requires grow { MayAllGrow inodes pieces.now (B.blocks blocks.old) }
     requires few { length pieces.now ≤ 32 }
-    requires hints { AreHints inodes hints (B.blocks blocks.old) }
+    requires known { IsKnown inodes free.old (B.blocks blocks.old) }
     ensures filed { IfOk result (λ at. FilesArticle inodes at (article_name serial) octets.now pieces.now (B.blocks blocks.old) (B.blocks blocks.new)) }
     ensures touches { OnOk result (Touches 254 (B.blocks blocks.old) (B.blocks blocks.new)) }
+    ensures known { OnOk result (IsKnown inodes free.new (B.blocks blocks.new)) }
     ensures kept { B.applied blocks.new ≡ B.applied blocks.old }
 {
     let name = file_name(alloc, FileKind::Article, &serial_digits(serial))?;
-    let at = make_file(blocks, inodes, hints, &name, octets)?;
-    append_all(blocks, inodes, hints.block, pieces)?;
+    let at = make_file(blocks, inodes, free, &name, octets)?;
+    append_all(blocks, inodes, free, pieces)?;
     Ok(at)
 }

@@ -5,14 +5,13 @@ use Rattle.fs.specs.Touches.{Touches, touched_by_growth}
 use Rattle.fs.specs.Calls.{IsFileAt}
 use Rattle.model.specs.Files.{free_blocks, table}
 use Rattle.filing.specs.Calls.{AppendsAt, MayGrow, blocks_for_more}
-use Rattle.filing.proofs.Calling.{still_none}
 use Rattle.filing.proofs.Pieces.{may_still, none_yet, one_more, still_free, touches_none, touches_one_more}
 use Rattle.filing.proofs.append_all.Goals as goal
 
 pub loop-piece-init : goal.loop-piece-init
 loop-piece-init g c =
     let old = g.B.Blocks.blocks c.args.blocks.now in
-    record { appended = none_yet c.args.inodes c.args.pieces.now old c.requires.room c.requires.rule; touches = touches_none old; kept = Rattle.std.proofs.Common.refl }
+    record { appended = none_yet c.args.inodes c.args.pieces.now old c.requires.room c.requires.rule; touches = touches_none old; known = c.requires.known; kept = Rattle.std.proofs.Common.refl }
 
 pub append_to-requires-clause-there : goal.append_to-requires-clause-there
 append_to-requires-clause-there g c =
@@ -32,10 +31,6 @@ append_to-requires-clause-free g c =
     let at : slice_get c.args.pieces.now n ≡ Some p = slice_get_read c.args.pieces.now (length c.args.pieces.now) n p Rattle.std.proofs.Common.refl c.loop-piece-test.true c.piece-item.is in
     subst (λ (o : List ℕ). blocks_for_more (length o) ≤ free_blocks mid) (sym c.deref.ensures.value) (still_free c.args.inodes c.args.pieces.now old mid n p c.requires.there c.loop-piece.invariant.appended at c.loop-piece-test.true c.requires.free)
 
-pub append_to-requires-clause-none : goal.append_to-requires-clause-none
-append_to-requires-clause-none g c =
-    still_none c.args.from c.args.inodes _ (g.B.Blocks.blocks c.args.blocks.now) (g.B.Blocks.blocks c.loop-piece.blocks) c.loop-piece.invariant.appended.calls c.requires.none
-
 pub loop-piece-preserved : goal.loop-piece-preserved
 loop-piece-preserved g c =
     let old = g.B.Blocks.blocks c.args.blocks.now in
@@ -50,5 +45,6 @@ loop-piece-preserved g c =
     record {
       appended = one_more c.args.inodes c.args.pieces.now old mid n p c.requires.there c.loop-piece.invariant.appended at c.loop-piece-test.true new appended;
       touches = touches_one_more c.args.inodes c.args.pieces.now old mid n p c.requires.there c.loop-piece.invariant.appended at c.loop-piece-test.true new c.loop-piece.invariant.touches touched;
+      known = c.in_ok-append_to.ensures.known;
       kept = c.in_ok-append_to.ensures.kept ∙ c.loop-piece.invariant.kept;
     }

@@ -1,12 +1,8 @@
 use Rattle.std.proofs.Common.{length, []}
 use Rattle.fs.specs.Touches.{touched_by_growth}
 use Rattle.fs_layout.proofs.Touching.{touches_then}
-use Rattle.filing.proofs.Calling.{made, still_none}
+use Rattle.filing.proofs.Calling.{made}
 use Rattle.filing.proofs.make_file.Goals as goal
-
-pub append_to-requires-clause-none : goal.append_to-requires-clause-none
-append_to-requires-clause-none g c =
-    still_none c.args.hints.block c.args.inodes _ (g.B.Blocks.blocks c.args.blocks.now) (g.B.Blocks.blocks c.create_file.new.blocks) c.in_ok-at.ensures.created.calls c.requires.hints.none
 
 pub returns-clause-made : goal.returns-clause-made
 returns-clause-made g c =

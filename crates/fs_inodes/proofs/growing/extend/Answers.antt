@@ -1,8 +1,9 @@
 use Rattle.std.proofs.lemmas.Grind.{common_steps}
 use Rattle.std.proofs.Common.{◌≡◌, ℕ, ◌+◌, ◌-◌, ◌≤◌, List, ◌++◌, length, take, drop, refl, sym, ◌∙◌, ap, subst, arith, length-drop, length-take-le}
 use Rattle.std.proofs.Math.Seq.{take-add}
-use Rattle.fs_inodes.specs.Growing.{GrowsBy}
-use Rattle.fs_inodes.proofs.Grown.{grows_none, grows_then, file_now, size_now, room_now}
+use Rattle.model.specs.Files.{entry, size}
+use Rattle.fs_inodes.specs.Growing.{GrowsBy, blocks_for}
+use Rattle.fs_inodes.proofs.Grown.{grows_none, grows_then, file_now, size_now, room_now, taken_is}
 use Rattle.fs_layout.specs.Touches.{Touches, touched_by_growth}
 use Rattle.fs_layout.proofs.Touching.{spread_none, spread_more, spread_all}
 use Rattle.fs_inodes.proofs.growing.extend.Goals as goal
@@ -84,6 +85,16 @@ returns-clause-touches g c =
     let new = g.B.Blocks.blocks c.loop-done.blocks in
     subst (λ (n : ℕ). Touches (touched_by_growth n (length c.args.octets.now)) old new) c.size_of-size.ensures
     (spread_all c.args.at c.size_of-size.result c.loop-done.done (length c.args.octets.now) old new c.loop-done.invariant.spread c.loop-done.invariant.here.within)
+
+pub returns-clause-taken : goal.returns-clause-taken
+returns-clause-taken g c =
+    let octets = c.args.octets.now in
+    let invariant = c.loop-done.invariant.here in
+    let all : length (take c.loop-done.done octets) ≡ length octets = length-take-le c.loop-done.done octets invariant.within ∙ omega (arith, invariant.within) in
+    taken_is c.args.inodes c.args.at (g.B.Blocks.blocks c.args.blocks.now) c.requires.room c.requires.rule c.requires.below c.requires.file (take c.loop-done.done octets) (g.B.Blocks.blocks c.loop-done.blocks) invariant.grown
+    c.blocks_more.result
+    (ap (λ (n : ℕ). blocks_for n + c.blocks_more.result) (sym c.size_of-size.ensures) ∙ c.blocks_more.ensures
+    ∙ ap (λ (n : ℕ). blocks_for (n + length octets)) c.size_of-size.ensures ∙ ap (λ (n : ℕ). blocks_for (size (entry c.args.inodes (g.B.Blocks.blocks c.args.blocks.now) c.args.at) + n)) (sym all))
 
 pub returns-clause-grown : goal.returns-clause-grown
 returns-clause-grown c = grind (arith, common_steps)

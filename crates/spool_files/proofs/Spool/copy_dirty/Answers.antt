@@ -1,6 +1,5 @@
-use Rattle.std.proofs.Common.{◌≤◌, [], ◌∙◌, ap, subst, sym}
-use Rattle.model.specs.Files.{free_blocks}
-use Rattle.filing.specs.Calls.{AreHints}
+use Rattle.std.proofs.Common.{[], ◌∙◌, ap, subst, sym}
+use Rattle.filing.specs.Calls.{IsKnown}
 use Rattle.volume.specs.Volume.{VolumeView}
 use Rattle.spool_files.specs.View.{SpoolView}
 use Rattle.spool_files.proofs.Held.{cleaned, kept_stands, kept_view, the_changes}
@@ -11,7 +10,7 @@ invariant_of-self c =
     let s = c.self.inside in
     let kept = cleaned s.host s.inodes s.volume c.copy_dirty.new.self s.index s.places s.stands.changes c.copy_dirty.ensures.clean c.self.invariant.0 in
     let both = kept_stands s.host s.inodes c.copy_dirty.new.self s.index s.places s.free_inodes s.stands.changes c.self-1.given.0 kept c.self.invariant.1 in
-    (both.0, both.1, subst (λ (x : VolumeView). s.free_blocks ≤ free_blocks x.cache) (sym c.copy_dirty.ensures.clean) c.self.invariant.2, subst (λ (x : VolumeView). AreHints s.inodes s.hints x.cache) (sym c.copy_dirty.ensures.clean) c.self.invariant.3)
+    (both.0, both.1, subst (λ (x : VolumeView). IsKnown s.inodes s.free x.cache) (sym c.copy_dirty.ensures.clean) c.self.invariant.2)
 
 pub returns-clause-clean : goal.returns-clause-clean
 returns-clause-clean c =

@@ -10,9 +10,7 @@ use Rattle.model.proofs.Asking.{changes_ask_few}
 use Rattle.model.proofs.HoldsOne.{carried_size}
 use Rattle.fs.specs.Calls.{IsThere}
 use Rattle.filing.specs.declared.Piece.{Piece}
-use Rattle.filing.specs.Calls.{AreHints, AreUsed, MayAllGrow}
-use Rattle.filing.proofs.Calling.{still_none}
-use Rattle.fs_layout.specs.Marks.{NoneFreeBelow}
+use Rattle.filing.specs.Calls.{IsKnown, MayAllGrow}
 use Rattle.index.specs.Filing.{AreLineSizes}
 use Rattle.index.specs.View.{Indexes}
 use Rattle.index.proofs.Callers.{few_groups, overviews_end}
@@ -123,23 +121,17 @@ returns-clause-grown c =
     let serial = ap (λ (n : ℕ). n + 1) (c.len-serial.ensures S kept.indexed) in
     subst (λ (ps : List Piece). ArePieces (table c.args.inodes v.cache) S text groups ps) (sym c.deref-2.ensures.value) (c.in_ok-lines.ensures.pieces S kept.indexed serial c.args.inodes v.cache kept.placed))
 
-pub file_article-requires-clause-hints : goal.file_article-requires-clause-hints
-file_article-requires-clause-hints c =
-    subst (λ (bs : List Octets). AreHints c.args.inodes c.args.hints bs) (sym c.requires.ready.kept.seen) c.requires.hints
+pub file_article-requires-clause-known : goal.file_article-requires-clause-known
+file_article-requires-clause-known c =
+    subst (λ (bs : List Octets). IsKnown c.args.inodes c.args.free bs) (sym c.requires.ready.kept.seen) c.requires.known
 
-pub hints_after-requires-clause-room : goal.hints_after-requires-clause-room
-hints_after-requires-clause-room c = subst (λ (bs : List Octets). HasRoom c.args.inodes bs) (sym c.apply.ensures.seen) c.in-Ok.ensures.filed.calls.room
+pub seek_block-requires-clause-room : goal.seek_block-requires-clause-room
+seek_block-requires-clause-room c = subst (λ (bs : List Octets). HasRoom c.args.inodes bs) (sym c.apply.ensures.seen) c.in-Ok.ensures.filed.calls.room
 
-pub hints_after-requires-clause-used : goal.hints_after-requires-clause-used
-hints_after-requires-clause-used c =
-    subst (λ (bs : List Octets). AreUsed c.in-Ok.at (table c.args.inodes bs)) (sym c.apply.ensures.seen) c.in-Ok.ensures.filed.used
+pub seek_block-requires-clause-known : goal.seek_block-requires-clause-known
+seek_block-requires-clause-known c =
+    subst (λ (bs : List Octets). IsKnown c.args.inodes c.file_article.new.free bs) (sym c.apply.ensures.seen) c.in-Ok.ensures.known
 
-pub hints_after-requires-clause-none : goal.hints_after-requires-clause-none
-hints_after-requires-clause-none c =
-    subst (λ (bs : List Octets). NoneFreeBelow c.args.hints.block bs) (sym c.apply.ensures.seen)
-    (still_none c.args.hints.block c.args.inodes _ c.args.volume.now.seen c.file_article.new.blocks.seen c.in-Ok.ensures.filed.calls
-    (subst (λ (bs : List Octets). NoneFreeBelow c.args.hints.block bs) (sym c.requires.ready.kept.seen) c.requires.hints.none))
-
-pub returns-clause-hints : goal.returns-clause-hints
-returns-clause-hints c =
-    subst (λ (bs : List Octets). AreHints c.args.inodes c.hints_after.result bs) (c.apply.ensures.seen ∙ sym c.apply.ensures.cache) c.hints_after.ensures
+pub returns-clause-known : goal.returns-clause-known
+returns-clause-known c =
+    subst (λ (bs : List Octets). IsKnown c.args.inodes c.seek_block.result bs) (c.apply.ensures.seen ∙ sym c.apply.ensures.cache) c.seek_block.ensures

@@ -6,9 +6,7 @@ use Rattle.model.specs.SpoolFiles.{expiry_name}
 use Rattle.model.specs.declared.change.Change.TheVariants.{Expire}
 use Rattle.model.proofs.Asking.{changes_ask_few}
 use Rattle.fs.specs.Calls.{IsThere}
-use Rattle.filing.specs.Calls.{AreHints, AreUsed}
-use Rattle.filing.proofs.Calling.{still_none}
-use Rattle.fs_layout.specs.Marks.{NoneFreeBelow}
+use Rattle.filing.specs.Calls.{IsKnown}
 use Rattle.spool_growing.specs.Growing.{HasFree}
 use Rattle.spool_growing.proofs.Grown.{applied_dirties, expiry_grown, lacks_expiry}
 use Rattle.spool_growing.proofs.Held.{changes_are_few, enough}
@@ -60,23 +58,17 @@ returns-clause-grown c =
     c.apply.ensures.cache c.apply.ensures.seen c.in-Ok-push_change.ensures.ok (λ S may indexed. c.in-Ok-push_expiry.ensures.ok ready.host S may indexed)
     (λ S indexed. ap (λ (n : ℕ). n + 1) (c.len-serial.ensures S indexed)) (c.deref.ensures.value ∙ c.in_ok-record.ensures)
 
-pub make_expiry-requires-clause-hints : goal.make_expiry-requires-clause-hints
-make_expiry-requires-clause-hints c =
-    subst (λ (bs : List Octets). AreHints c.args.inodes c.args.hints bs) (sym c.requires.ready.kept.seen) c.requires.hints
+pub make_expiry-requires-clause-known : goal.make_expiry-requires-clause-known
+make_expiry-requires-clause-known c =
+    subst (λ (bs : List Octets). IsKnown c.args.inodes c.args.free bs) (sym c.requires.ready.kept.seen) c.requires.known
 
-pub hints_after-requires-clause-room : goal.hints_after-requires-clause-room
-hints_after-requires-clause-room c = subst (λ (bs : List Octets). HasRoom c.args.inodes bs) (sym c.apply.ensures.seen) c.in-Ok.ensures.made.calls.room
+pub seek_block-requires-clause-room : goal.seek_block-requires-clause-room
+seek_block-requires-clause-room c = subst (λ (bs : List Octets). HasRoom c.args.inodes bs) (sym c.apply.ensures.seen) c.in-Ok.ensures.made.calls.room
 
-pub hints_after-requires-clause-used : goal.hints_after-requires-clause-used
-hints_after-requires-clause-used c =
-    subst (λ (bs : List Octets). AreUsed c.in-Ok.at (table c.args.inodes bs)) (sym c.apply.ensures.seen) c.in-Ok.ensures.made.used
+pub seek_block-requires-clause-known : goal.seek_block-requires-clause-known
+seek_block-requires-clause-known c =
+    subst (λ (bs : List Octets). IsKnown c.args.inodes c.make_expiry.new.free bs) (sym c.apply.ensures.seen) c.in-Ok.ensures.known
 
-pub hints_after-requires-clause-none : goal.hints_after-requires-clause-none
-hints_after-requires-clause-none c =
-    subst (λ (bs : List Octets). NoneFreeBelow c.args.hints.block bs) (sym c.apply.ensures.seen)
-    (still_none c.args.hints.block c.args.inodes _ c.args.volume.now.seen c.make_expiry.new.blocks.seen c.in-Ok.ensures.made.calls
-    (subst (λ (bs : List Octets). NoneFreeBelow c.args.hints.block bs) (sym c.requires.ready.kept.seen) c.requires.hints.none))
-
-pub returns-clause-hints : goal.returns-clause-hints
-returns-clause-hints c =
-    subst (λ (bs : List Octets). AreHints c.args.inodes c.hints_after.result bs) (c.apply.ensures.seen ∙ sym c.apply.ensures.cache) c.hints_after.ensures
+pub returns-clause-known : goal.returns-clause-known
+returns-clause-known c =
+    subst (λ (bs : List Octets). IsKnown c.args.inodes c.seek_block.result bs) (c.apply.ensures.seen ∙ sym c.apply.ensures.cache) c.seek_block.ensures

@@ -4,9 +4,7 @@ use Rattle.model.specs.Stream.{Octets}
 use Rattle.model.specs.Records.{group_record}
 use Rattle.model.specs.declared.change.Change.TheVariants.{Group}
 use Rattle.model.proofs.Asking.{changes_ask_few}
-use Rattle.filing.specs.Calls.{AreHints, AreUsed}
-use Rattle.filing.proofs.Calling.{still_none}
-use Rattle.fs_layout.specs.Marks.{NoneFreeBelow}
+use Rattle.filing.specs.Calls.{IsKnown}
 use Rattle.spool_growing.specs.Growing.{HasFree, LacksGroup}
 use Rattle.spool_growing.proofs.Grown.{applied_dirties, group_grown, heads_lack, lacks_group}
 use Rattle.spool_growing.proofs.Held.{changes_are_few, enough}
@@ -57,26 +55,20 @@ returns-clause-grown c =
     (λ S indexed. c.deref.ensures.value ∙ c.in_ok-record.ensures c.args.name.now
     ∙ ap (λ (n : ℕ). group_record (record { serial = n + 1; name = c.args.name.now; status = c.args.status; description = c.args.description.now; moment = c.args.moment })) (c.len-serial.ensures S indexed))
 
-pub make_group-requires-clause-hints : goal.make_group-requires-clause-hints
-make_group-requires-clause-hints c =
-    subst (λ (bs : List Octets). AreHints c.args.inodes c.args.hints bs) (sym c.requires.ready.kept.seen) c.requires.hints
+pub make_group-requires-clause-known : goal.make_group-requires-clause-known
+make_group-requires-clause-known c =
+    subst (λ (bs : List Octets). IsKnown c.args.inodes c.args.free bs) (sym c.requires.ready.kept.seen) c.requires.known
 
-pub hints_after-requires-clause-room : goal.hints_after-requires-clause-room
-hints_after-requires-clause-room c = subst (λ (bs : List Octets). HasRoom c.args.inodes bs) (sym c.apply.ensures.seen) c.in-Ok.ensures.made.calls.room
+pub seek_block-requires-clause-room : goal.seek_block-requires-clause-room
+seek_block-requires-clause-room c = subst (λ (bs : List Octets). HasRoom c.args.inodes bs) (sym c.apply.ensures.seen) c.in-Ok.ensures.made.calls.room
 
-pub hints_after-requires-clause-used : goal.hints_after-requires-clause-used
-hints_after-requires-clause-used c =
-    subst (λ (bs : List Octets). AreUsed c.in-Ok.made.overview (table c.args.inodes bs)) (sym c.apply.ensures.seen) c.in-Ok.ensures.made.used
+pub seek_block-requires-clause-known : goal.seek_block-requires-clause-known
+seek_block-requires-clause-known c =
+    subst (λ (bs : List Octets). IsKnown c.args.inodes c.make_group.new.free bs) (sym c.apply.ensures.seen) c.in-Ok.ensures.known
 
-pub hints_after-requires-clause-none : goal.hints_after-requires-clause-none
-hints_after-requires-clause-none c =
-    subst (λ (bs : List Octets). NoneFreeBelow c.args.hints.block bs) (sym c.apply.ensures.seen)
-    (still_none c.args.hints.block c.args.inodes _ c.args.volume.now.seen c.make_group.new.blocks.seen c.in-Ok.ensures.made.calls
-    (subst (λ (bs : List Octets). NoneFreeBelow c.args.hints.block bs) (sym c.requires.ready.kept.seen) c.requires.hints.none))
-
-pub returns-clause-hints : goal.returns-clause-hints
-returns-clause-hints c =
-    subst (λ (bs : List Octets). AreHints c.args.inodes c.hints_after.result bs) (c.apply.ensures.seen ∙ sym c.apply.ensures.cache) c.hints_after.ensures
+pub returns-clause-known : goal.returns-clause-known
+returns-clause-known c =
+    subst (λ (bs : List Octets). IsKnown c.args.inodes c.seek_block.result bs) (c.apply.ensures.seen ∙ sym c.apply.ensures.cache) c.seek_block.ensures
 
 pub returns-in_default-push_group-2-clause-places : goal.returns-in_default-push_group-2-clause-places
 returns-in_default-push_group-2-clause-places c = search rules

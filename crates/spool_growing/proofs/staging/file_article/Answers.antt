@@ -1,7 +1,6 @@
 use Rattle.std.proofs.Common.{◌≡◌, ◌∙◌, ◌∷◌, subst, List, ℕ, ap}
 use Rattle.model.specs.SpoolFiles.{article_name}
 use Rattle.filing.specs.Calls.{MakesAt}
-use Rattle.filing.proofs.Calling.{still_none}
 use Rattle.spool_growing.proofs.Filed.{article_touches, files_article, may_still, still_free}
 use Rattle.spool_growing.proofs.staging.file_article.Goals as goal
 
@@ -20,10 +19,6 @@ append_all-requires-clause-free g c =
     let name : c.deref.result.now ≡ article_name c.args.serial = c.deref.ensures.value ∙ c.in_ok-name.ensures ∙ ap (λ (d : List ℕ). 97 ∷ 46 ∷ d) c.serial_digits.ensures in
     let made = subst (λ (q : List ℕ). MakesAt c.args.inodes c.in_ok-at.at q c.args.octets.now old mid) name c.in_ok-at.ensures.made in
     still_free c.args.inodes c.in_ok-at.at (article_name c.args.serial) c.args.octets.now c.args.pieces.now old mid made c.requires.lacks c.requires.grow c.requires.short c.requires.few c.requires.free.blocks_free
-
-pub append_all-requires-clause-none : goal.append_all-requires-clause-none
-append_all-requires-clause-none g c =
-    still_none c.args.hints.block c.args.inodes _ (g.B.Blocks.blocks c.args.blocks.now) (g.B.Blocks.blocks c.make_file.new.blocks) c.in_ok-at.ensures.made.calls c.requires.hints.none
 
 pub returns-clause-filed : goal.returns-clause-filed
 returns-clause-filed g c =
