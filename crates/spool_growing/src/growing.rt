@@ -12,12 +12,12 @@ use crate::lines::lines_of;
 use crate::staging::{file_article, make_expiry, make_group};
 use article::Article;
 use filing::Free;
+use following::id_of;
 use fs_layout::marks::lowest_free;
 use index::Index;
 use model::Text;
 use places::Places;
 use records::{expiry_record, group_record};
-use spool_opening::id_of;
 use std::alloc::{AllocError, Global};
 use volume::{Blocks, Volume};
 

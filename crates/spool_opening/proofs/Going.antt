@@ -14,7 +14,7 @@ use Rattle.model.proofs.Indexing.{numbers_size}
 use Rattle.index.specs.Filing.{end_of}
 use Rattle.spool_reading.specs.Sorted.{AreSorted}
 use Rattle.spool_opening.specs.Stored.{HasPiece, IsFileAt, Numbers, Overview, Which, file_for, name_for, piece_for}
-use Rattle.spool_opening.specs.Following.{GoesOn}
+use Rattle.spool_opening.specs.Going.{GoesOn}
 use Rattle.spool_reading.proofs.Contents.{content_fits}
 use Rattle.fs_layout.proofs.Tables.{there_once}
 

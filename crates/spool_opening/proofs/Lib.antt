@@ -1,7 +1,6 @@
 pub mod GroupFiles
 pub mod Fronts
 pub mod Growing
-pub mod Testing
 pub mod Replaying
 pub mod Going
 pub mod Sizes

@@ -1,5 +1,5 @@
 pub mod Stored
-pub mod Following
+pub mod Going
 pub mod Replayed
 pub mod Laws
 pub mod Ended

@@ -9,8 +9,8 @@ ghost use Rattle.index.specs.View.{Indexes};
 ghost use Rattle.spool_opening.specs.Ended.{IsNameOf, IsWholeAt};
 ghost use Rattle.spool_opening.specs.Replayed.{IsBounded};
 
-use crate::following::find_group;
 use crate::lines::NUMBER_SIZE;
+use following::find_group;
 use fs_layout::inodes::free_inode_count;
 use index::Index;
 use records::{FileKind, kind_of};

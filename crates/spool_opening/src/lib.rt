@@ -5,7 +5,6 @@
 
 mod all;
 mod ending;
-mod following;
 mod laws;
 mod lines;
 mod next;
@@ -14,7 +13,6 @@ mod replay;
 
 pub use all::replay_all;
 pub use ending::{are_as_many, are_whole};
-pub use following::{groups_here, id_of, may_expire, may_file, may_make};
 pub use laws::{
     changes_are_read_in_order, changes_that_were_read_are_held,
     numbers_and_overviews_are_the_spools, one_change_more_is_read,

@@ -12,10 +12,10 @@ ghost use Rattle.spool_opening.specs.Replayed.{AllGoOn, AreHere, IsBounded};
 ghost use Rattle.index.specs.Shown.{shown};
 ghost use Rattle.spool_reading.specs.Sorted.{AreSorted};
 ghost use Rattle.spool_opening.specs.Stored.{HasPiece};
-ghost use Rattle.spool_opening.specs.Following.{GoesOn};
+ghost use Rattle.spool_opening.specs.Going.{GoesOn};
 
-use crate::following::find_group;
 use article::Article;
+use following::find_group;
 use index::{Group, Index};
 use model::Text;
 use overview::line;

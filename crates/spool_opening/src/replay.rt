@@ -11,9 +11,9 @@ ghost use Rattle.spool_opening.specs.Replayed.{AllGoOn, AreReplayed, CanReplay, 
 ghost use Rattle.spool_reading.specs.Sorted.{AreSorted};
 ghost use Rattle.spool_opening.specs.Stored.{IsFileAt};
 
-use crate::following::{groups_here, id_of, may_expire, may_file, may_make};
 use crate::lines::line_sizes;
 use article::{Article, Origin, ReadError};
+use following::{groups_here, id_of, may_expire, may_file, may_make};
 use index::Index;
 use model::Names;
 use places::Places;
