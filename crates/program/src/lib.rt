@@ -1,9 +1,7 @@
-//! The program `newsd` over a reader and two writers: its words, and what each of them does.
+//! The program `newsd` over a reader and two writers: what each of its words does.
 #![tactic(auto)]
 
 mod running;
-mod syntax;
-mod words;
 
 pub use running::{asked_service, run, serve};
 pub use words::Service;

@@ -1,6 +1,5 @@
 //! What the program does: each of its commands but the simulation, and the server.
 
-use crate::words::{Asked, Service, read_words};
 use names::GroupName;
 use printing::{DONE, Failure, NOT_UNDERSTOOD};
 use script::{Line, ParseError, parse};
@@ -14,6 +13,7 @@ use std::rt::Files;
 use std::sync::Wait;
 use std::thread::Threads;
 use std::time::Clock;
+use words::{Asked, Service, read_words};
 
 /// Runs the program on its words, the first of which is its name, and answers its status: `DONE`, `REFUSED` with the
 /// refusal on `faults`, or `NOT_UNDERSTOOD`. Help that is asked for goes to `output`. Words that ask for a server are for

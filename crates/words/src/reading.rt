@@ -1,4 +1,4 @@
-//! The program's words.
+//! The program's words are read.
 
 use crate::syntax::{
     BLOCKS, CACHE, DESCRIPTION, HOST, INODES, MOMENT, NAME, NUMBER, PATH, PORT, STATUS, syntax,
@@ -15,7 +15,7 @@ use std::io::Write;
 
 /// What the words ask for.
 #[derive(Drop)]
-pub(crate) enum Asked<'a> {
+pub enum Asked<'a> {
     /// Nothing more: help was printed, or words were not understood.
     Nothing(u8),
     /// Over a device in memory, with or without a cache that collects writes until a sync.
@@ -30,12 +30,13 @@ pub(crate) enum Asked<'a> {
 /// The volume that a server serves, and its port.
 #[derive(Clone, Copy)]
 pub struct Service<'a> {
-    pub(crate) path: &'a str,
-    pub(crate) port: u16,
+    pub path: &'a str,
+    pub port: u16,
 }
 
-/// Reads the words. Where they aren't understood, the parser's text goes to `faults`; help goes to `output`.
-pub(crate) fn read_words<'a, S: AsStr, W: Write, F: Write>(
+/// Reads the words, the first of which is the program's name. Where they aren't understood, the parser's text goes to `faults`;
+/// help goes to `output`. `Bad` where a word is outside its grammar or range, `Memory` where a growth was refused.
+pub fn read_words<'a, S: AsStr, W: Write, F: Write>(
     alloc: Global,
     words: &'a [S],
     output: &mut W,

@@ -1,0 +1,7 @@
+//! The words of the program `newsd`: their grammar, its help, and what they ask for.
+#![tactic(auto)]
+
+mod reading;
+mod syntax;
+
+pub use reading::{Asked, Service, read_words};
