@@ -1,13 +1,11 @@
 //! What calls of one spool answer, one after the other. Of 64 inodes and 1,024 blocks, 1,020 blocks are free at first.
 
-use crate::calls::{Answer, Call, make};
-use crate::changes::Wanted;
-use crate::changing::Filed;
-use crate::finding::{Asked, Sought};
-use crate::sent::{CROSSPOSTED, FIRST, FOR_CLOSED, FOURTH, LARGE, MEDIUM, SMALL, Sent, THIRD};
-use crate::stored::Stored;
 use serving::FileError;
 use spool_files::{AddError, ExpireError};
+use spool_plays::{
+    Answer, Asked, CROSSPOSTED, Call, FIRST, FOR_CLOSED, FOURTH, Filed, LARGE, MEDIUM, SMALL, Sent,
+    Sought, Stored, THIRD, Wanted, make,
+};
 use std::alloc::Global;
 use std::test::Fail;
 

@@ -14,11 +14,11 @@ use spool_files::{AddError, ExpireError, Spool};
 use std::alloc::Global;
 
 /// When everything is made, in seconds since 1970.
-pub(crate) const MOMENT: u64 = 1_000_000_000;
+pub const MOMENT: u64 = 1_000_000_000;
 
 /// What a change is answered.
 #[derive(Clone, Copy, Debug, PartialEq)]
-pub(crate) enum Filed {
+pub enum Filed {
     /// It has this serial.
     Serial(u64),
     /// The code of the reply, and the serial that it reads.
@@ -37,7 +37,7 @@ pub(crate) enum Filed {
 }
 
 /// Adds a group.
-pub(crate) fn add(spool: &mut Spool, name: &[u8], status: u8, description: &[u8]) -> Filed {
+pub fn add(spool: &mut Spool, name: &[u8], status: u8, description: &[u8]) -> Filed {
     if !is_group_name(name) || !is_described(status, description) {
         return Filed::NotCalled;
     }
@@ -65,7 +65,7 @@ fn is_printable(description: &[u8]) -> bool
 }
 
 /// Takes articles out of a group.
-pub(crate) fn expire(spool: &mut Spool, name: &[u8], number: u32) -> Filed {
+pub fn expire(spool: &mut Spool, name: &[u8], number: u32) -> Filed {
     match spool.expire(name, number) {
         Ok(serial) => Filed::Serial(serial),
         Err(error) => Filed::NotExpired(error),
@@ -73,7 +73,7 @@ pub(crate) fn expire(spool: &mut Spool, name: &[u8], number: u32) -> Filed {
 }
 
 /// Files a group as a change.
-pub(crate) fn file_group(alloc: Global, spool: &mut Spool, name: &[u8], status: u8) -> Filed {
+pub fn file_group(alloc: Global, spool: &mut Spool, name: &[u8], status: u8) -> Filed {
     let Ok(octets) = name.to_vec(alloc) else {
         return Filed::Memory;
     };
@@ -87,7 +87,7 @@ pub(crate) fn file_group(alloc: Global, spool: &mut Spool, name: &[u8], status: 
 }
 
 /// Files an expiry as a change.
-pub(crate) fn file_expiry(alloc: Global, spool: &mut Spool, name: &[u8], number: u64) -> Filed {
+pub fn file_expiry(alloc: Global, spool: &mut Spool, name: &[u8], number: u64) -> Filed {
     let Ok(octets) = name.to_vec(alloc) else {
         return Filed::Memory;
     };
@@ -151,12 +151,12 @@ fn may_expire(spool: &Spool, group: &[u8], number: u64) -> bool
 }
 
 /// Posts an article.
-pub(crate) fn post(alloc: Global, spool: &mut Spool, sent: &Sent) -> Filed {
+pub fn post(alloc: Global, spool: &mut Spool, sent: &Sent) -> Filed {
     deliver(alloc, spool, sent, Awaits::PostBlock)
 }
 
 /// Takes an article over from another server, which offered it under its id.
-pub(crate) fn take(alloc: Global, spool: &mut Spool, sent: &Sent) -> Filed {
+pub fn take(alloc: Global, spool: &mut Spool, sent: &Sent) -> Filed {
     let Ok(id) = Vec::from_slice(alloc, sent.id.as_bytes()) else {
         return Filed::Memory;
     };

@@ -1,6 +1,6 @@
 use Rattle.model.specs.declared.change.Change.TheVariants.{Group, Expire}
-use Rattle.spool_files_calls.proofs.Following.{lawful_with}
-use Rattle.spool_files_calls.proofs.changing.may_follow.Goals as goal
+use Rattle.spool_plays.proofs.Following.{lawful_with}
+use Rattle.spool_plays.proofs.changing.may_follow.Goals as goal
 
 pub returns-then-moment-eq-MOMENT : goal.returns-then-moment-eq-MOMENT
 returns-then-moment-eq-MOMENT c = λ yes.

@@ -10,7 +10,7 @@ use std::alloc::Global;
 
 /// A call.
 #[derive(Clone, Copy)]
-pub(crate) enum Call {
+pub enum Call {
     /// Adds a group with this status and this description.
     Add(&'static str, u8, &'static str),
     /// Adds so many groups, with the names g.1, g.2 and so on.
@@ -41,7 +41,7 @@ pub(crate) enum Call {
 
 /// What a call answers.
 #[derive(Clone, Copy, Debug, PartialEq)]
-pub(crate) enum Answer {
+pub enum Answer {
     Changed(Filed),
     Found(u64),
     Nothing,
@@ -56,7 +56,7 @@ pub(crate) enum Answer {
 }
 
 /// Makes a call.
-pub(crate) fn make(alloc: Global, stored: &mut Stored, call: Call) -> Answer {
+pub fn make(alloc: Global, stored: &mut Stored, call: Call) -> Answer {
     match call {
         Call::Change(serial, wanted) => {
             match is_change(alloc, &stored.spool, serial, &wanted) {

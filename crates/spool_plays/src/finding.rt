@@ -8,7 +8,7 @@ use std::alloc::{AllocError, Global};
 
 /// What is asked.
 #[derive(Clone, Copy)]
-pub(crate) enum Asked {
+pub enum Asked {
     Len,
     Blocks,
     Inodes,
@@ -31,7 +31,7 @@ pub(crate) enum Asked {
 }
 
 /// What a look-up finds; none where there is nothing, or where what it requires doesn't hold.
-pub(crate) fn find(spool: &Spool, asked: Asked) -> Option<u64> {
+pub fn find(spool: &Spool, asked: Asked) -> Option<u64> {
     match asked {
         Asked::Len => Some(spool.len()),
         Asked::Blocks => Some(u64::from(spool.blocks())),
@@ -76,7 +76,7 @@ fn find_in_group(spool: &Spool, asked: Asked) -> Option<u64> {
 
 /// A text that is asked for.
 #[derive(Clone, Copy)]
-pub(crate) enum Sought {
+pub enum Sought {
     Host,
     Name(&'static str),
     Description(&'static str),
@@ -92,7 +92,7 @@ pub(crate) enum Sought {
 }
 
 /// A text; none where there is nothing, or where what the look-up requires doesn't hold.
-pub(crate) fn text_of(
+pub fn text_of(
     alloc: Global,
     spool: &Spool,
     sought: Sought,

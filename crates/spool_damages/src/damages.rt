@@ -17,10 +17,7 @@
 //!
 //! The overview lines in block 8 begin at 0, 72 and 147.
 
-use crate::calls::{Answer, Call, make};
-use crate::changing::Filed;
-use crate::sent::Sent;
-use crate::stored::{Octet, Stored};
+use spool_plays::{Answer, Call, Filed, Octet, Sent, Stored, make};
 use spool_reading::OpenError;
 use std::alloc::Global;
 use std::test::Fail;
@@ -234,10 +231,15 @@ fn rows() -> &'static [Row] {
     ROWS
 }
 
+/// The changes, as a function for the same reason.
+fn changes() -> &'static [(Call, Answer)] {
+    CHANGES
+}
+
 /// A spool with the changes, as it is opened again.
 pub(crate) fn changed(alloc: Global) -> Result<Stored, Fail> {
     let mut stored = Stored::new(alloc)?;
-    for (call, want) in CHANGES {
+    for (call, want) in changes() {
         if make(alloc, &mut stored, *call) != *want {
             return Err("a change was answered otherwise")?;
         }

@@ -11,25 +11,25 @@ use std::alloc::{AllocError, Global};
 use volume::{BATCH_BLOCKS, BLOCK_SIZE, BatchBuf, Blocks, Volume};
 
 /// The inodes of the volumes that are tested.
-pub(crate) const INODES: u32 = 64;
+pub const INODES: u32 = 64;
 
 /// The blocks of the volumes that are tested.
-pub(crate) const COUNT: u32 = 1024;
+pub const COUNT: u32 = 1024;
 
 /// The host of the spools that are tested.
-pub(crate) const HOST: &[u8] = b"news.example";
+pub const HOST: &[u8] = b"news.example";
 
 /// A spool, and the octets of the blocks that batches have carried.
 #[derive(Drop)]
-pub(crate) struct Stored {
-    pub(crate) spool: Spool,
+pub struct Stored {
+    pub spool: Spool,
     octets: Vec<u8>,
     batch: BatchBuf,
 }
 
 impl Stored {
     /// The spool without changes, in the empty file system.
-    pub(crate) fn new(alloc: Global) -> Result<Stored, OpenError> {
+    pub fn new(alloc: Global) -> Result<Stored, OpenError> {
         let octets = empty(alloc, COUNT)?;
         let Ok(batch) = BatchBuf::new(alloc) else {
             return Err(OpenError::Memory);
@@ -42,7 +42,7 @@ impl Stored {
     }
 
     /// Carries a batch of what is dirty, and answers how many blocks it has; none where that is more than a batch may have.
-    pub(crate) fn carry(&mut self) -> Option<usize> {
+    pub fn carry(&mut self) -> Option<usize> {
         if self.spool.dirty_len() > BATCH_BLOCKS {
             return None;
         }
@@ -52,18 +52,18 @@ impl Stored {
     }
 
     /// Opens what the batches have carried, in place of the spool. A refusal changes nothing.
-    pub(crate) fn reopen(&mut self, alloc: Global) -> Result<(), OpenError> {
+    pub fn reopen(&mut self, alloc: Global) -> Result<(), OpenError> {
         self.spool = opened(alloc, &self.octets, &[])?;
         Ok(())
     }
 
     /// Why what the batches have carried is not opened once octets are replaced in it; none where it is opened.
-    pub(crate) fn refusal(&self, alloc: Global, changed: &[Octet]) -> Option<OpenError> {
+    pub fn refusal(&self, alloc: Global, changed: &[Octet]) -> Option<OpenError> {
         opened(alloc, &self.octets, changed).err()
     }
 
     /// Opens what the batches have carried, once these bits of an octet are changed in it. The octet is that of a block of the volume.
-    pub(crate) fn flipped(
+    pub fn flipped(
         &self,
         alloc: Global,
         number: u32,
@@ -81,7 +81,7 @@ impl Stored {
 }
 
 /// An octet to replace: its block, its place there, and the octet in its stead.
-pub(crate) type Octet = (u32, usize, u8);
+pub type Octet = (u32, usize, u8);
 
 // The octets of the empty file system: the bitmap marks its own two blocks, that of the inodes and that of the slots.
 fn empty(alloc: Global, count: u32) -> Result<Vec<u8>, OpenError> {

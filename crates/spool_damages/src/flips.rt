@@ -1,9 +1,8 @@
 //! The volume of `damages` with one bit changed, octet by octet: each is told as damaged, or opened as a spool that answers.
 
 use crate::damages::changed;
-use crate::finding::{Asked, Sought, find, text_of};
-use crate::stored::Stored;
 use spool_files::Spool;
+use spool_plays::{Asked, Sought, Stored, find, text_of};
 use spool_reading::OpenError;
 use std::alloc::{AllocError, Global};
 use std::test::Fail;

@@ -5,15 +5,15 @@ use std::alloc::{AllocError, Global};
 /// An article that is sent: its message-id, its groups, and how many octets it is lengthened to. Without an id it lacks the fields
 /// that the server adds.
 #[derive(Clone, Copy)]
-pub(crate) struct Sent {
-    pub(crate) id: &'static str,
-    pub(crate) groups: &'static str,
-    pub(crate) size: usize,
+pub struct Sent {
+    pub id: &'static str,
+    pub groups: &'static str,
+    pub size: usize,
 }
 
 impl Sent {
     /// Its octets.
-    pub(crate) fn text(&self, alloc: Global) -> Result<Vec<u8>, AllocError> {
+    pub fn text(&self, alloc: Global) -> Result<Vec<u8>, AllocError> {
         let Sent { id, groups, size } = self;
         let mut text = Vec::new(alloc);
         if !id.is_empty() {
@@ -35,54 +35,54 @@ impl Sent {
 }
 
 /// An article of 146 octets.
-pub(crate) const FIRST: Sent = Sent {
+pub const FIRST: Sent = Sent {
     id: "<1@a.example>",
     groups: "x.a",
     size: 0,
 };
 
 /// One of 156 octets for two groups, and for one that isn't here.
-pub(crate) const CROSSPOSTED: Sent = Sent {
+pub const CROSSPOSTED: Sent = Sent {
     id: "<2@a.example>",
     groups: "x.b ,x.z,\tx.a",
     size: 0,
 };
 
-pub(crate) const THIRD: Sent = Sent {
+pub const THIRD: Sent = Sent {
     id: "<3@a.example>",
     groups: "x.a",
     size: 0,
 };
 
 /// One for a group that takes no posts, too.
-pub(crate) const FOR_CLOSED: Sent = Sent {
+pub const FOR_CLOSED: Sent = Sent {
     id: "<3@a.example>",
     groups: "x.a,x.c",
     size: 0,
 };
 
-pub(crate) const FOURTH: Sent = Sent {
+pub const FOURTH: Sent = Sent {
     id: "<4@a.example>",
     groups: "x.a",
     size: 0,
 };
 
 /// An article of 58 octets, which lacks what the server adds.
-pub(crate) const SMALL: Sent = Sent {
+pub const SMALL: Sent = Sent {
     id: "",
     groups: "x.a",
     size: 0,
 };
 
 /// One that is stored in 64 blocks and an indirect block.
-pub(crate) const LARGE: Sent = Sent {
+pub const LARGE: Sent = Sent {
     id: "",
     groups: "x.a",
     size: 262_000,
 };
 
 /// One that is stored, under a serial of two digits, in 45 blocks and an indirect block.
-pub(crate) const MEDIUM: Sent = Sent {
+pub const MEDIUM: Sent = Sent {
     id: "",
     groups: "x.a",
     size: 184_192,

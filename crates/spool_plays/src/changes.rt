@@ -9,7 +9,7 @@ use std::alloc::{AllocError, Global};
 
 /// What a change is to be.
 #[derive(Clone, Copy)]
-pub(crate) enum Wanted {
+pub enum Wanted {
     /// A group with this status and this description.
     Group(&'static str, u8, &'static str),
     /// An article as it was sent, filed in these groups.
@@ -18,7 +18,7 @@ pub(crate) enum Wanted {
 }
 
 /// Whether the change with a serial is this one; none where there is no such change.
-pub(crate) fn is_change(
+pub fn is_change(
     alloc: Global,
     spool: &Spool,
     serial: u64,

@@ -1,0 +1,17 @@
+//! A spool in files over a volume in memory, for tests: its calls and their answers as data. Each call tests anew what it requires,
+//! and promises nothing.
+#![tactic(auto)]
+
+mod calls;
+mod changes;
+mod changing;
+mod finding;
+mod sent;
+mod stored;
+
+pub use calls::{Answer, Call, make};
+pub use changes::Wanted;
+pub use changing::Filed;
+pub use finding::{Asked, Sought, find, text_of};
+pub use sent::{CROSSPOSTED, FIRST, FOR_CLOSED, FOURTH, LARGE, MEDIUM, SMALL, Sent, THIRD};
+pub use stored::{Octet, Stored};
