@@ -1,6 +1,7 @@
 //! How the threads wake one another. Each waiter has its bell; a ring that comes before the wait is not lost.
 
 use crate::Gate;
+use crate::arrivals::Arrivals;
 use std::sync::Wait;
 use std::sync::atomic::{AtomicU64, Ordering};
 use std::thread::Parker;
@@ -93,6 +94,7 @@ pub struct Bells {
     /// A batch was taken or something was released: what was put off may be asked again.
     pub later: Bell,
     pub turns: Turns,
+    pub arrivals: Arrivals,
     /// How many callers are gone whose sessions still stand.
     pub parting: AtomicU64,
 }
@@ -105,8 +107,28 @@ impl Bells {
             operator: Parker::new(),
             later: Bell::new(),
             turns: Turns::new(),
+            arrivals: Arrivals::new(),
             parting: AtomicU64::new(0),
         }
+    }
+
+    /// A command that asks for a block was served, or a block, which may have brought a change.
+    pub fn note_post(&self, is_block: bool) {
+        if self.arrivals.note(is_block) {
+            self.flusher.unpark();
+        }
+    }
+
+    /// What changed is to be flushed without waiting for more.
+    pub fn flush_now(&self) {
+        self.arrivals.hurry();
+        self.flusher.unpark();
+    }
+
+    /// The flusher begins a turn.
+    pub fn begin_turn(&self) {
+        self.arrivals.begin_turn();
+        self.turns.begin();
     }
 
     /// The flusher has ended a turn.
@@ -132,6 +154,7 @@ impl<'a, 'b, G: Gate> Gate for Ringing<'a, 'b, G> {
     }
 
     fn after_flush(&self) {
+        self.bells.arrivals.note_commit();
         self.bells.releaser.unpark();
         self.bells.operator.unpark();
         self.gate.after_flush();

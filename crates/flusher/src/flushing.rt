@@ -165,7 +165,16 @@ fn has_failed(answer: Result<Progress, JournalError>) -> bool
     }
 }
 
-/// Flushes whenever there is something, until a turn is refused.
+/// How many changes a batch had that raised the mark to this number; none where the one before it isn't known.
+fn released(last: Option<u64>, raised: u64) -> u64 {
+    match last {
+        Some(last) => raised.saturating_sub(last),
+        None => 0,
+    }
+}
+
+/// Flushes whenever there is something, until a turn is refused. After a batch it waits a little for those whose replies that
+/// batch has released.
 pub fn flush_all<R: Wait, D: Disk + Drop, K: Kern, G: Gate>(
     rt: &R,
     journal: Journal<D>,
@@ -182,10 +191,16 @@ pub fn flush_all<R: Wait, D: Disk + Drop, K: Kern, G: Gate>(
     let mut journal = journal;
     let mut seat = seat;
     let mut batch = batch;
+    let mut last = None;
     'turns: for _ in rt.forever() {
-        bells.turns.begin();
+        bells.begin_turn();
         match flush_turn(rt, &mut journal, kern, mark, &mut seat, &mut batch, gate) {
-            Ok(Some(_)) => bells.end_turn(),
+            Ok(Some(raised)) => {
+                bells.end_turn();
+                let released = released(last, raised);
+                bells.arrivals.gather(rt, &bells.flusher, released);
+                last = Some(raised);
+            }
             Ok(None) => {
                 bells.end_turn();
                 bells.flusher.park(rt);

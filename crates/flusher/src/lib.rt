@@ -2,12 +2,14 @@
 //! without the lock, tells the kernel, and raises the mark. `specs/Flush.antt` says what a turn of it does.
 #![tactic(auto)]
 
+mod arrivals;
 mod bells;
 mod flushing;
 mod gate;
 mod kern;
 mod locked;
 
+pub use arrivals::Arrivals;
 pub use bells::{Bell, Bells, Ringing, Turns};
 pub use flushing::{FlushError, flush_all, flush_turn};
 pub use gate::{Gate, NoGate};

@@ -1,7 +1,8 @@
 use crate::gates::Holds;
 use crate::plays::{Outcome, play, raises_after_commit, tell};
-use flusher::Stale;
+use flusher::{Arrivals, Stale};
 use server::ServeError;
+use std::thread::Parker;
 
 /// A play in which all went well, and whose last commit was refused.
 const GOOD: Outcome = Outcome {
@@ -58,4 +59,17 @@ fn a_stale_ticket_is_refused(rt: HostRuntime) {
         tell(&rt, rt.alloc()),
         Some([Ok(()), Err(Stale), Err(Stale)])
     );
+}
+
+#[test]
+fn a_wait_for_blocks_that_do_not_come_ends(rt: HostRuntime) {
+    let (arrivals, bell) = (Arrivals::new(), Parker::new());
+    assert!(rt; arrivals.note(true));
+    assert!(rt; !arrivals.note(false));
+    arrivals.note_commit();
+    arrivals.gather(&rt, &bell, 1);
+    assert!(rt; arrivals.note(true));
+    arrivals.hurry();
+    arrivals.gather(&rt, &bell, 1_000_000);
+    assert!(rt; arrivals.note(true));
 }
