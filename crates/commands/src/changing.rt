@@ -11,6 +11,7 @@ use flusher::{BatchBuf, FlushError, Kern, Locked, NoGate, flush_turn};
 use journal::Journal;
 use mark::Mark;
 use names::GroupName;
+use opening::Opened;
 use printing::CommandError;
 use std::alloc::Global;
 use std::fs::File;
@@ -33,7 +34,10 @@ pub fn group<R: Files<File = File> + Wait>(
     requires moment { moment < moment_limit }
 {
     let mut batch = BatchBuf::new(alloc)?;
-    let (mut journal, kernel) = open(rt, alloc, path)?;
+    let Opened {
+        mut journal,
+        kernel,
+    } = open(rt, alloc, path)?;
     let kern = Locked::new(kernel);
     let serial = match kern.admin(rt, alloc, name, status, description, moment) {
         Ok(serial) => serial,
@@ -52,7 +56,10 @@ pub fn expire<R: Files<File = File> + Wait>(
     number: u32,
 ) -> Result<u64, CommandError> {
     let mut batch = BatchBuf::new(alloc)?;
-    let (mut journal, kernel) = open(rt, alloc, path)?;
+    let Opened {
+        mut journal,
+        kernel,
+    } = open(rt, alloc, path)?;
     let kern = Locked::new(kernel);
     let serial = match kern.expire(rt, name, number) {
         Ok(serial) => serial,

@@ -4,9 +4,8 @@ ghost use Rattle.std.specs.Prelude.{IfOk};
 ghost use Rattle.journal.specs.Journal.{IsReady};
 
 use filedisk::FileDisk;
-use flusher::Kernel;
-use journal::Journal;
 use new_volume::{Plan, device_octets, format as format_device};
+use opening::Opened;
 use printing::CommandError;
 use std::alloc::Global;
 use std::fs::File;
@@ -35,18 +34,14 @@ pub(crate) fn open<R: Files<File = File>>(
     rt: &R,
     alloc: Global,
     path: &str,
-) -> Result<(Journal<VolumeDisk>, Kernel), CommandError>
-    ensures { IfOk result (λ opened. IsReady opened.0) }
+) -> Result<Opened<VolumeDisk>, CommandError>
+    ensures { IfOk result (λ opened. IsReady opened.journal) }
 {
     let Ok(disk) = FileDisk::open_existing(rt, path) else {
         return Err(CommandError::Fault);
     };
-    let mut journal = match Journal::open(alloc, WCache::new(alloc, disk)) {
-        Ok(journal) => journal,
-        Err(refused) => return Err(CommandError::from(refused.error)),
-    };
-    match Kernel::open(alloc, &mut journal) {
-        Ok(kernel) => Ok((journal, kernel)),
-        Err(error) => Err(CommandError::NotOpened(error)),
+    match opening::open(alloc, WCache::new(alloc, disk)) {
+        Ok(opened) => Ok(opened),
+        Err(refused) => Err(CommandError::NotOpened(refused.error)),
     }
 }

@@ -6,6 +6,7 @@ use crate::files::{VolumeDisk, open};
 use flusher::{Kernel, Locked, NoGate};
 use journal::Journal;
 use mark::Mark;
+use opening::Opened;
 use printing::CommandError;
 use server::ServeError;
 use std::alloc::Global;
@@ -31,7 +32,7 @@ pub fn serve<
     L: BufRead + Send + Drop + 'static,
     A: Write + Send + Drop,
 >(rt: &R, alloc: Global, path: &str, port: u16, lines: L, answers: A) -> Result<(), CommandError> {
-    let (journal, kernel) = open(rt, alloc, path)?;
+    let Opened { journal, kernel } = open(rt, alloc, path)?;
     let mut answers = answers;
     match listen(rt, port, &mut answers) {
         Ok(listener) => run(rt, alloc, &listener, journal, kernel, lines, answers),

@@ -10,7 +10,8 @@ use Rattle.spool_files.specs.View.{SpoolView, Adds}
 use Rattle.spool_files.specs.Refusals.{expiry_refusal, group_refusal, has_number, is_full_for}
 use Rattle.spool_files.specs.declared.errors.AddError.TheVariants as add
 use Rattle.spool_files.specs.declared.errors.ExpireError.TheVariants as expire
-use Rattle.kernel.specs.Kernel.{Administers, Exists, Full, Halted, KernelView, LaterDirty, NotFound, Refusal, Seat, TooManySessions, admin_refusal_of, early_refusal, expire_refusal_of, first_failing, join_refusal, only_tested}
+use Rattle.kernel.specs.Kernel.{Administers, Exists, Full, Halted, KernelView, LaterDirty, NotFound, Refusal, TooManySessions, admin_refusal_of, early_refusal, expire_refusal_of, first_failing, join_refusal, only_tested}
+use Rattle.seats.specs.Seats.{Seat}
 use Rattle.kernel.specs.Stored.{kernel_of}
 use Rattle.kernel.proofs.ExecLaws.{changed_dirties}
 

@@ -27,12 +27,13 @@ use Rattle.spool_files.specs.View as changed
 use Rattle.std.specs.Cmp.{both_ways}
 use Rattle.std.specs.List.{Contains}
 use Rattle.volume.specs.Volume.{Differs}
-use Rattle.kernel.specs.Kernel.{KernelView, Seat, Refusal, NoSession, LaterOut, LaterDirty, Dirties, Executed, Execs, Tested, answered_by, exec_refusal, first_failing, is_block, is_dirty, mark_for, mode_at, seat_of, buffered, with_seat}
-use Rattle.kernel.specs.Kept.{RiseFrom}
+use Rattle.kernel.specs.Kernel.{KernelView, Refusal, NoSession, LaterOut, LaterDirty, Dirties, Executed, Execs, Tested, exec_refusal, first_failing, is_block, is_dirty, mark_for, mode_at, seat_of, buffered}
+use Rattle.seats.specs.Seats.{Seat, answered_by, with_seat}
+use Rattle.seats.specs.Kept.{RiseFrom}
 use Rattle.kernel.specs.Serving.{Grows, answer_in, mark_in}
 use Rattle.kernel.specs.Stored.{kernel_of}
 use Rattle.kernel.proofs.KernelLaws.{grown, mode_found, only_blocks_change}
-use Rattle.kernel.proofs.SeatsLaws.{RiseFrom-set, find_at, with_seat_set}
+use Rattle.seats.proofs.SeatsLaws.{RiseFrom-set, find_at, with_seat_set}
 use Rattle.kernel.proofs.TakingLaws.{among, contained}
 
 -- ---- tests in their order

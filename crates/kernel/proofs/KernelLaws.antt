@@ -21,13 +21,15 @@ use Rattle.model.specs.declared.session.Session.{Session}
 use Rattle.outbox.specs.Queue.{Held}
 use Rattle.spool_files.specs.View.{Dirties, IsSpool, SpoolView}
 use Rattle.volume.specs.Volume.{Differs}
-use Rattle.kernel.specs.Kernel.{KernelView, Seat, answered_by, is_block, mode_at, new_seat, ready}
-use Rattle.kernel.specs.Kept.{IsKept, IsSeat, RiseFrom, StillAwaits}
+use Rattle.kernel.specs.Kernel.{KernelView, is_block, mode_at}
+use Rattle.seats.specs.Seats.{Seat, answered_by, new_seat, ready}
+use Rattle.kernel.specs.Kept.{IsKept}
+use Rattle.seats.specs.Kept.{IsSeat, RiseFrom, StillAwaits}
 use Rattle.kernel.specs.Serving.{answer_in, Grows}
 use Rattle.kernel.specs.Stored.{kernel_of}
-use Rattle.kernel.proofs.Keeping.{SeatIsKept-answered}
-use Rattle.kernel.proofs.Releasing.{ready_seats, ready_rises, ready_few}
-use Rattle.kernel.proofs.SeatsLaws.{RiseFrom-filter, RiseFrom-push, RiseFrom-set, below_differs, filter_above, find_at, seats_more}
+use Rattle.seats.proofs.Keeping.{SeatIsKept-answered}
+use Rattle.seats.proofs.Releasing.{ready_seats, ready_rises, ready_few}
+use Rattle.seats.proofs.SeatsLaws.{RiseFrom-filter, RiseFrom-push, RiseFrom-set, below_differs, filter_above, find_at, seats_more}
 
 -- what holds of each session holds of the one at a place
 pub all_at : (P : Seat → Type 0) (at : ℕ) (seats : List Seat) (seat : Seat) → All P seats → slice_get seats at ≡ Some seat → P seat

@@ -1,10 +1,4 @@
-pub mod Keeping
-pub mod Releasing
-pub mod SeatLaws
-pub mod SeatsLaws
-pub mod Rest
 pub mod KernelLaws
 pub mod TakingLaws
 pub mod ExecLaws
 pub mod AdminLaws
-pub mod LabelLaws

@@ -1,12 +1,10 @@
 -- The kernel as its callers see it, and what each call does.
-use Rattle.std.specs.Prelude.{All, bytes_eq, slice_index_or, ◌≡◌, ◌⊎◌, ℕ, ◌+◌, ◌-◌, ◌^◌, ◌≤◌, ◌<◌, max, Bool, true, false, not, ◌&&◌, ◌||◌, ◌==◌, nat_lt, nat_le, if◌then◌else◌, List, [], ◌∷◌, ◌++◌, map, filter, find, length, Option, Some, None, is_none, is_some, Result, Ok, Err, MatchResult}
+use Rattle.std.specs.Prelude.{All, bytes_eq, slice_index_or, ◌≡◌, ◌⊎◌, ℕ, ◌+◌, ◌-◌, ◌^◌, ◌≤◌, ◌<◌, Bool, true, false, not, ◌&&◌, ◌||◌, ◌==◌, nat_lt, nat_le, if◌then◌else◌, List, [], ◌∷◌, ◌++◌, map, filter, find, length, Option, Some, None, is_none, is_some, Result, Ok, Err, MatchResult}
 use Rattle.std.specs.List.{list_any}
 use Rattle.std.specs.Option.{option_to_list}
 use Rattle.model.specs.Stream.{Octets}
 use Rattle.model.specs.Spool.{Spool, is_here}
-use Rattle.model.specs.Answer.{answer, is_long, new_session}
-use Rattle.model.specs.Reads.{reads}
-use Rattle.model.specs.Replies.{greeting}
+use Rattle.model.specs.Answer.{answer, is_long}
 use Rattle.model.specs.Room.{is_full}
 use Rattle.model.specs.Service.{mode_of}
 use Rattle.model.specs.Volume.{laid_over, AreDistinct}
@@ -20,15 +18,8 @@ use Rattle.model.specs.declared.message.Mode.{Mode}
 use Rattle.model.specs.declared.message.Mode.TheVariants as mode
 use Rattle.model.specs.declared.session.Session.{Session}
 use Rattle.spool_files.specs.Refusals.{has_number}
-use Rattle.outbox.specs.Queue.{Held, Giving, Entry, buffered as octets_held, last_dependency, give, entry_of, octets_in}
-
--- a session that is there
-pub record Seat : Type 0 where
-  pub number : ℕ
-  pub session : Session
-  -- the dependency of its last output that was handed out whole, 0 at first
-  pub given : ℕ
-  pub held : List Held
+use Rattle.outbox.specs.Queue.{buffered as octets_held}
+use Rattle.seats.specs.Seats.{Seat, answered_by, new_seat, ready, with_seat}
 
 pub record KernelView : Type 0 where
   pub host : Octets
@@ -107,25 +98,8 @@ mark_for kernel x m t =
     else if is_full (length kernel.blocks) kernel.inodes kernel.spool (answer kernel.host kernel.spool x m t mark.Served).change then mark.Full
     else mark.Served
 
--- the session with one reply more
-abbrev pub answered_by : Octets → Spool → Message → ℕ → Mark → Seat → Seat
-answered_by host S m t mark seat =
-    record {
-      number = seat.number;
-      session = (answer host S seat.session m t mark).next;
-      given = seat.given;
-      held = seat.held ++ record {
-        octets = (answer host S seat.session m t mark).reply;
-        dependency = max (last_dependency seat.given seat.held) (reads host S seat.session m t mark);
-        ends = is_none (mode_of (answer host S seat.session m t mark).next.awaits);
-      } ∷ [];
-    }
-
 abbrev pub answered : KernelView → Message → ℕ → Mark → Seat → Seat
 answered kernel m t mark seat = answered_by kernel.host kernel.spool m t mark seat
-
-abbrev pub with_seat : List Seat → Seat → List Seat
-with_seat seats seat = map (λ (other : Seat). if other.number == seat.number then seat else other) seats
 
 -- whether this block changed since a batch was taken last
 abbrev pub is_dirty : KernelView → ℕ → Bool
@@ -151,33 +125,6 @@ pub record Executed (old new : KernelView) (seat : Seat) (m : Message) (t : ℕ)
   pub blocks : Dirties old new
   -- an answer without a change leaves each block
   pub still : (answer old.host old.spool seat.session m t mark).change ≡ None → (new.blocks ≡ old.blocks) × (new.dirty ≡ old.dirty)
-
--- ---- take_ready
-
--- the entries of a release, and the sessions after it
-pub record Ready : Type 0 where
-  pub entries : List Entry
-  pub seats : List Seat
-
--- a session after what it gave
-abbrev pub seat_given : Seat → Giving → Seat
-seat_given seat g = record { number = seat.number; session = seat.session; given = g.given; held = g.held }
-
--- a session's entry, and the session, unless it ended
-abbrev pub given_by : Seat → Giving → Ready → Ready
-given_by seat g later = record {
-  entries = entry_of seat.number g ++ later.entries;
-  seats = if g.ended then later.seats else seat_given seat g ∷ later.seats;
-}
-
--- what a session gives into a buffer that has these entries, with room for 65,536 octets
-abbrev pub given_of : ℕ → List Entry → Seat → Giving
-given_of p entries seat = give p (65536 - octets_in entries) seat.given seat.held
-
--- through the sessions in rising number
-abbrev pub ready : ℕ → ℕ → List Seat → Ready
-ready p room [] = record { entries = []; seats = [] }
-ready p room (seat ∷ seats) = given_by seat (give p room seat.given seat.held) (ready p (give p room seat.given seat.held).room seats)
 
 -- ---- take_batch
 
@@ -224,10 +171,6 @@ pub record Takes (old new : KernelView) (numbers : List ℕ) (images : List Octe
   pub lays : (base : List Octets) → AgreesBehind old base → laid_over base numbers images ≡ old.blocks
 
 -- ---- the small calls
-
--- a session that has just begun holds its greeting, which depends on nothing
-abbrev pub new_seat : Octets → ℕ → Seat
-new_seat host number = record { number = number; session = new_session; given = 0; held = record { octets = greeting host; dependency = 0; ends = false } ∷ [] }
 
 abbrev pub joined : KernelView → KernelView
 joined kernel = record kernel { joined = kernel.joined + 1; seats = kernel.seats ++ new_seat kernel.host (kernel.joined + 1) ∷ [] }

@@ -3,5 +3,4 @@ pub mod Errors
 pub mod Kept
 pub mod Serving
 pub mod Stored
-pub mod Label
 pub mod Opening

@@ -1,7 +1,8 @@
 -- The kernel's view, from the parts that it has.
 use Rattle.std.specs.Prelude.{ℕ, Bool, List, Option}
 use Rattle.spool_files.specs.View.{SpoolView}
-use Rattle.kernel.specs.Kernel.{KernelView, Seat}
+use Rattle.kernel.specs.Kernel.{KernelView}
+use Rattle.seats.specs.Seats.{Seat}
 
 abbrev pub kernel_of : SpoolView → ℕ → Option ℕ → Bool → ℕ → List Seat → KernelView
 kernel_of s durable in_flight halted joined seats =

@@ -7,7 +7,8 @@ ghost use Rattle.std.specs.Prelude.{[], None, ◌&&◌, nat_lt, ◌≡◌, ◌�
 ghost use Rattle.std.specs.List.{list_all};
 ghost use Rattle.kernel.specs.Errors.{of_join, of_exec, of_admin, of_expire};
 ghost use Rattle.kernel.specs.Kept.{IsKept};
-ghost use Rattle.kernel.specs.Kernel.{Administers, Execs, FitsMode, Takes, Tested, TestedOrMemory, admin_refusal_of, early_refusal, exec_refusal, expire_refusal_of, has_batch, halted_for_good, is_block, join_refusal, joined, left, made_durable, mode_at, only_tested, ready, released, seat_of, Seat as SeatView};
+ghost use Rattle.kernel.specs.Kernel.{Administers, Execs, FitsMode, Takes, Tested, TestedOrMemory, admin_refusal_of, early_refusal, exec_refusal, expire_refusal_of, has_batch, halted_for_good, is_block, join_refusal, joined, left, made_durable, mode_at, only_tested, released, seat_of};
+ghost use Rattle.seats.specs.Seats.{ready, Seat as SeatView};
 ghost use Rattle.model.specs.Calendar.{moment_limit};
 ghost use Rattle.model.specs.Lawful.{is_description_octet};
 ghost use Rattle.model.specs.Volume.{blocks_from};
@@ -15,17 +16,15 @@ ghost use Rattle.model.specs.declared.change.Change.TheVariants.{Group, Expire};
 ghost use Rattle.kernel.specs.Stored.{kernel_of};
 
 mod errors;
-mod label;
 mod opening;
-mod seat;
 
-use crate::seat::{Seat, position, release};
 pub use errors::{AdminError, ExecError, ExpireError, JoinError, Stale};
 use lookups::LookUps;
 use model::{Mark, Message, Mode};
 use names::GroupName;
 pub use opening::OpenError;
 use outbox::ReadyBuf;
+use seats::{Seat, position, release};
 use spool_files::AddError;
 pub use spool_files::Spool;
 use std::alloc::Global;

@@ -6,13 +6,13 @@ ghost use Rattle.model.specs.Files.{HasRoom};
 ghost use Rattle.model.specs.Layout.{Holds};
 ghost use Rattle.model.specs.Names.{is_host};
 ghost use Rattle.model.specs.Spool.{Spool as Changes};
-ghost use Rattle.kernel.specs.Label.{IsNoLabel};
+ghost use Rattle.labels.specs.Label.{IsNoLabel};
 ghost use Rattle.kernel.specs.Opening.{HasFailed, IsDamaged, IsOpened, IsStill, OnlyReads, OpensOver};
 
 use crate::Kernel;
-use crate::label::read_label;
 use disk::Disk;
 use journal::Journal;
+use labels::read_label;
 use model::Text;
 use spool_files::Spool;
 use std::alloc::Global;

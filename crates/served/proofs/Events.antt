@@ -12,7 +12,8 @@ use Rattle.model.specs.declared.message.Mark.{Mark}
 use Rattle.model.specs.declared.message.Mode.{Mode}
 use Rattle.model.specs.declared.session.Session.{Session}
 use Rattle.outbox.specs.Queue.{Entry as Given}
-use Rattle.kernel.specs.Kernel.{KernelView, Seat, new_seat, seat_of, joined, left, released, ready, answered, Executed}
+use Rattle.kernel.specs.Kernel.{KernelView, seat_of, joined, left, released, answered, Executed}
+use Rattle.seats.specs.Seats.{Seat, new_seat, ready}
 use Rattle.kernel.specs.Kept.{IsKept}
 use Rattle.synchrony.specs.Framing.{next_in}
 use Rattle.synchrony.specs.Server.{Entry, Command, Admin, Connection, opened, updated}

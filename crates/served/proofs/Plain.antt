@@ -8,7 +8,7 @@ use Rattle.model.specs.Stream.{Octets}
 use Rattle.model.specs.declared.change.Change.{Change}
 use Rattle.model.specs.declared.session.Session.{Session}
 use Rattle.outbox.specs.Queue.{Held}
-use Rattle.kernel.specs.Kernel.{Seat}
+use Rattle.seats.specs.Seats.{Seat}
 use Rattle.synchrony.specs.Dependency.{Output, octets_of}
 use Rattle.synchrony.specs.Progress.{unreleased}
 use Rattle.synchrony.specs.Server.{Connection, Server}

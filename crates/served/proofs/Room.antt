@@ -3,9 +3,9 @@ use Rattle.std.proofs.Common.{◌≡◌, ◌≢◌, ℕ, zero, suc, ◌+◌, ◌
 use Rattle.std.specs.Prelude.{slice_get, vec_len, vec_capacity, if◌then◌else◌, option_map}
 use Rattle.std.proofs.Common.{⊎_elim}
 use Rattle.std.proofs.lemmas.Bool.{cases_lt}
-use Rattle.kernel.specs.Kept.{RiseFrom}
+use Rattle.seats.specs.Kept.{RiseFrom}
 use Rattle.std.specs.Option.{IsSome}
-use Rattle.kernel.specs.Kernel.{Seat, ready}
+use Rattle.seats.specs.Seats.{Seat, ready}
 use Rattle.outbox.specs.Queue.{Entry}
 use Rattle.synchrony.specs.Server.{updated}
 use Rattle.served.specs.Events.{with_released}

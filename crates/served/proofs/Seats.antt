@@ -5,8 +5,8 @@ use Rattle.std.proofs.lemmas.Bool.{eqb-true, eqb-false, eq-eqb}
 use Rattle.std.proofs.lemmas.Bool.Decides.{nat_tests}
 use Rattle.std.proofs.lemmas.List.{append-nil}
 use Rattle.outbox.specs.Queue.{Giving, Entry, give, entry_of}
-use Rattle.kernel.specs.Kernel.{Seat, Ready, ready, with_seat}
-use Rattle.kernel.specs.Kept.{RiseFrom}
+use Rattle.seats.specs.Seats.{Seat, Ready, ready, with_seat}
+use Rattle.seats.specs.Kept.{RiseFrom}
 use Rattle.served.specs.Fields.{given_in}
 use Rattle.served.proofs.Giving.{give_room}
 use Rattle.synchrony.specs.Server.{updated}

@@ -6,8 +6,8 @@ use Rattle.std.proofs.lemmas.List.{append-nil, length-set}
 use Rattle.std.proofs.lemmas.Option.{slice_get_past, slice_get_within, slice_get-map}
 use Rattle.std.proofs.lemmas.List.Elements.{All-head, All-tail}
 use Rattle.outbox.specs.Queue.{Entry, Giving, give, entry_of}
-use Rattle.kernel.specs.Kernel.{Seat, ready}
-use Rattle.kernel.specs.Kept.{IsSeat}
+use Rattle.seats.specs.Seats.{Seat, ready}
+use Rattle.seats.specs.Kept.{IsSeat}
 use Rattle.model.specs.declared.change.Change.{Change}
 use Rattle.synchrony.specs.Server.{updated}
 use Rattle.served.specs.Served.{Sent, nobody, numbered, session_at, sent_at, with_sent}

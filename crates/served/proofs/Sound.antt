@@ -2,7 +2,8 @@
 use Rattle.std.proofs.Common.{◌≡◌, ◌≢◌, ◌⊎◌, inl, inr, ℕ, zero, suc, ◌+◌, ◌≤◌, ◌==◌, Bool, true, false, List, [], ◌∷◌, ◌++◌, length, take, Option, Some, None, refl, ap, sym, ◌∙◌, subst, arith, length-append}
 use Rattle.std.specs.Prelude.{filter, is_err, not, OnOk, IfOk, IfSome, IsNone, MatchOption, OnErr, Result, Ok, Err, unwrap_or, is_some, if◌then◌else◌}
 use Rattle.std.proofs.lemmas.List.{append-nil, length-set, take_all}
-use Rattle.kernel.specs.Kernel.{FitsMode, KernelView, Refusal, Seat, Tested, answered, exec_refusal, halted_for_good, joined, made_durable, mode_at, new_seat, ready, released, seat_of, taken}
+use Rattle.kernel.specs.Kernel.{FitsMode, KernelView, Refusal, Tested, answered, exec_refusal, halted_for_good, joined, made_durable, mode_at, released, seat_of, taken}
+use Rattle.seats.specs.Seats.{Seat, new_seat, ready}
 use Rattle.kernel.specs.Errors.{of_exec}
 use Rattle.kernel.specs.declared.errors.ExecError.{ExecError}
 use Rattle.kernel.specs.declared.errors.ExecError.TheVariants as exec

@@ -8,7 +8,7 @@ use Rattle.model.specs.Stream.{Octets}
 use Rattle.model.specs.News.{greeting, mode_of}
 use Rattle.model.specs.declared.session.Session.{Session}
 use Rattle.outbox.specs.Queue.{Held, Giving, give, last_dependency}
-use Rattle.kernel.specs.Kernel.{Seat, new_seat}
+use Rattle.seats.specs.Seats.{Seat, new_seat}
 use Rattle.synchrony.specs.Server.{Connection}
 use Rattle.synchrony.specs.Dependency.{Output, greatest, octets_of}
 use Rattle.synchrony.specs.Synchrony.{IsReleased}

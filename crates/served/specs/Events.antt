@@ -6,7 +6,8 @@ use Rattle.model.specs.declared.message.Message.{Message}
 use Rattle.model.specs.declared.message.Mark.{Mark}
 use Rattle.model.specs.declared.message.Mode.{Mode}
 use Rattle.outbox.specs.Queue.{Entry as Given}
-use Rattle.kernel.specs.Kernel.{KernelView, seat_of, mode_at, joined, left, released, ready, exec_refusal, first_failing, Refusal, NoSession, Execs, Administers, TestedOrMemory}
+use Rattle.kernel.specs.Kernel.{KernelView, seat_of, mode_at, joined, left, released, exec_refusal, first_failing, Refusal, NoSession, Execs, Administers, TestedOrMemory}
+use Rattle.seats.specs.Seats.{ready}
 use Rattle.kernel.specs.Errors.{of_exec}
 use Rattle.kernel.specs.declared.errors.ExecError.{ExecError}
 use Rattle.kernel.specs.declared.errors.ExecError.TheVariants as exec

@@ -1,7 +1,8 @@
 -- What the fields of the code stand for, and what they keep.
 use Rattle.std.specs.Option.{IsSome}
 use Rattle.std.specs.Prelude.{◌≡◌, ◌+◌, ◌≤◌, ◌++◌, ◌==◌, ℕ, List, [], ◌∷◌, if◌then◌else◌, length, map, Option, Some, vec_len, vec_capacity}
-use Rattle.kernel.specs.Kernel.{Seat, seat_of}
+use Rattle.kernel.specs.Kernel.{seat_of}
+use Rattle.seats.specs.Seats.{Seat}
 use Rattle.model.specs.News.{mode_of}
 use Rattle.model.specs.declared.change.Change.{Change}
 use Rattle.model.specs.declared.message.Mark.{Mark}

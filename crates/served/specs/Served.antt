@@ -9,7 +9,8 @@ use Rattle.model.specs.declared.message.Message.{Message}
 use Rattle.model.specs.declared.message.Mark.{Mark}
 use Rattle.model.specs.declared.session.Session.{Session}
 use Rattle.outbox.specs.Queue.{Held, Entry as Given, last_dependency}
-use Rattle.kernel.specs.Kernel.{Seat, KernelView, seat_of}
+use Rattle.kernel.specs.Kernel.{KernelView, seat_of}
+use Rattle.seats.specs.Seats.{Seat}
 use Rattle.synchrony.specs.Server.{Entry, Connection, Server, opened, sync, taken}
 use Rattle.synchrony.specs.Dependency.{Output, Account, greatest, account_of, octets_of}
 use Rattle.synchrony.specs.Progress.{EachFindsMessage, unreleased}

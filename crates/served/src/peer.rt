@@ -3,7 +3,7 @@
 ghost use Rattle.std.specs.Prelude.{◌≡◌, ◌+◌, ◌++◌, ◌≤◌, ◌<◌, [], ℕ, List, Some, None, IfOk, OnOk, OnErr, MatchOption, true, ◌==◌, slice_get, if◌then◌else◌, length};
 ghost use Rattle.model.specs.declared.message.Mode.{Mode as ItsMode};
 ghost use Rattle.served.specs.Events.{with_released};
-ghost use Rattle.kernel.specs.Kernel.{Seat};
+ghost use Rattle.seats.specs.Seats.{Seat};
 ghost use Rattle.served.specs.Fields.{AreKnown, Becomes, HasRoom, HaveRoom, given_in, inputs, sent_of, sents};
 ghost use Rattle.served.specs.Input.{Found, MayAsk, Waits};
 ghost use Rattle.served.specs.Served.{nobody, numbered, sent_at, with_numbered};

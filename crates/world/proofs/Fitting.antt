@@ -11,7 +11,8 @@ use Rattle.model.specs.Layout.{IsLabel}
 use Rattle.model.specs.News.{Holds, Stands, service}
 use Rattle.model.specs.Volume.{StandsFor, laid_over}
 use Rattle.model.specs.declared.session.Session.{Session}
-use Rattle.kernel.specs.Kernel.{KernelView, Seat, seat_of}
+use Rattle.kernel.specs.Kernel.{KernelView, seat_of}
+use Rattle.seats.specs.Seats.{Seat}
 use Rattle.kernel.specs.Kept.{IsKept}
 use Rattle.synchrony.specs.Server.{Connection, Server, sync}
 use Rattle.synchrony.specs.Dependency.{Output}

@@ -10,7 +10,6 @@ use Rattle.journal.proofs.Waiting.{committed_at}
 use Rattle.journal.specs.declared.Next.TheVariants as next
 use Rattle.journal.specs.declared.Progress.{Progress}
 use Rattle.journal.specs.declared.Progress.TheVariants as progress
-use Rattle.journal.specs.declared.Progress.TheVariants.{Committed}
 use Rattle.kernel.specs.Kernel as refusal
 use Rattle.kernel.specs.declared.errors.ExecError.TheVariants as exec
 use Rattle.world.specs.declared.events.Answer.TheVariants as answer
@@ -18,7 +17,8 @@ use Rattle.std.specs.Prelude.{drop, ◌||◌, ◌&&◌, not, is_none, nat_le, na
 use Rattle.journal.specs.Journal.{IsReady, JournalView, sizes, still_open}
 use Rattle.journal.specs.declared.Next.TheVariants.{Descriptor}
 use Rattle.kernel.specs.Errors.{of_exec}
-use Rattle.kernel.specs.Kernel.{AgreesBehind, KernelView, halted_for_good, made_durable, Refusal, Seat, Takes, Tested, TestedOrMemory, buffered, exec_refusal, first_failing, has_batch, is_block, mode_at, taken}
+use Rattle.kernel.specs.Kernel.{AgreesBehind, KernelView, halted_for_good, made_durable, Refusal, Takes, Tested, TestedOrMemory, buffered, exec_refusal, first_failing, has_batch, is_block, mode_at, taken}
+use Rattle.seats.specs.Seats.{Seat}
 use Rattle.kernel.specs.Kept.{IsKept}
 use Rattle.kernel.specs.declared.Ticket.{Ticket}
 use Rattle.kernel.specs.declared.errors.ExecError.{ExecError}

@@ -14,7 +14,8 @@ use Rattle.journal.specs.declared.Next.{Next}
 use Rattle.journal.specs.declared.Next.TheVariants as next
 use Rattle.journal.specs.declared.Progress.{Progress}
 use Rattle.journal.specs.declared.Progress.TheVariants.{Working}
-use Rattle.kernel.specs.Kernel.{KernelView, Seat, AgreesBehind, Dirties, Executed, Administers, has_batch, halted_for_good, is_dirty, made_durable, taken}
+use Rattle.kernel.specs.Kernel.{KernelView, AgreesBehind, Dirties, Executed, Administers, has_batch, halted_for_good, is_dirty, made_durable, taken}
+use Rattle.seats.specs.Seats.{Seat}
 use Rattle.kernel.specs.Kept.{IsKept}
 use Rattle.model.specs.Layout.{IsLabel}
 use Rattle.model.specs.News.{Holds, answer as answer_to}

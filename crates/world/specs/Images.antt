@@ -1,13 +1,11 @@
 -- External synchrony of the images that a crash may leave.
-use Rattle.std.specs.Prelude.{◌≡◌, ◌⊎◌, ℕ, ◌≤◌, List, length, take, Some, IsTrue}
+use Rattle.std.specs.Prelude.{◌≡◌, ◌⊎◌, ℕ, ◌≤◌, length, take, Some, IsTrue}
 use Rattle.std.specs.List.{concat}
 use mathlib.Core.List.{IsPrefix}
 use Rattle.disk.specs.Device.{Device}
 use Rattle.model.specs.Stream.{Octets}
 use Rattle.model.specs.Spool.{Spool}
-use Rattle.model.specs.Layout.{IsLabel}
-use Rattle.model.specs.News.{Holds, Stands, service}
-use Rattle.model.specs.Volume.{StandsFor}
+use Rattle.model.specs.News.{Stands, service}
 use Rattle.kernel.specs.Kernel.{KernelView}
 use Rattle.synchrony.specs.Server.{sync}
 use Rattle.synchrony.specs.Dependency.{account_of, survivors}
@@ -52,20 +50,6 @@ LeftFits old new P = IsTrue old.tells → (t : ℕ) (image : Octets) → t ≤ o
 -- the image stands for no spool
 abbrev pub StandsForNone : Octets → Type 0
 StandsForNone image = (host : Octets) (S : Spool) → Stands host image S → ⊥
-
--- no volume stands there whose label is one of a news server's volume of its size
-abbrev pub IsNoNewsVolume : Octets → Type 0
-IsNoNewsVolume image = (label : Octets) (blocks : List Octets) (inodes : ℕ) (host : Octets) → StandsFor image label blocks → IsLabel label (length blocks) inodes host → ⊥
-
--- a labelled volume stands there, and its blocks hold no lawful spool of the label's host
-pub record IsDamagedVolume (image : Octets) : Type 0 where
-  pub label : Octets
-  pub blocks : List Octets
-  pub inodes : ℕ
-  pub host : Octets
-  pub volume : StandsFor image label blocks
-  pub labelled : IsLabel label (length blocks) inodes host
-  pub holds_none : (S : Spool) → Holds host inodes blocks S → ⊥
 
 -- what a crash during an opening leaves stands for the spool of an image that a crash at its start might have left
 abbrev pub KeepsSpools : Device → Device → Type 0

@@ -1,9 +1,6 @@
 -- What an opening answers.
 use Rattle.std.specs.Prelude.{◌≡◌, None, [], false, length}
-use Rattle.journal.specs.declared.JournalError.{JournalError}
 use Rattle.journal.specs.declared.JournalError.TheVariants as journal
-use Rattle.kernel.specs.declared.opening.OpenError.{OpenError}
-use Rattle.kernel.specs.declared.opening.OpenError.TheVariants.{Fault, Memory, NotAVolume}
 use Rattle.world.specs.World.{WorldView, kernel_of}
 
 -- all changes are durable, and nothing has happened yet
@@ -19,10 +16,3 @@ pub record IsNew {D : Type 0} (world : WorldView D) : Type 0 where
   pub trace : world.served.trace ≡ []
   pub ready : world.served.ready ≡ []
   pub untold : world.untold ≡ []
-
--- the journal's refusals, as the opening tells them
-abbrev pub open_error : JournalError → OpenError
-open_error journal.Fault = Fault
-open_error journal.Memory = Memory
-open_error journal.NotAVolume = NotAVolume
-open_error journal.Halted = Memory

@@ -17,8 +17,9 @@ ghost use Rattle.disk.specs.Device.{Elapses};
 ghost use Rattle.journal.specs.Journal.{IsReady};
 ghost use Rattle.journal.specs.Opening.{Costs, LeftKept, NeverSyncs, SyncsFirst};
 ghost use Rattle.model.specs.News.{Stands};
-ghost use Rattle.world.specs.Images.{EachNow, EachSince, Fits, IsDamagedVolume, IsNoNewsVolume, KeepsSpools, LeftFits, StandsForNone};
-ghost use Rattle.world.specs.Opening.{IsNew, open_error};
+ghost use Rattle.opening.specs.Standing.{IsDamagedVolume, IsNoNewsVolume};
+ghost use Rattle.world.specs.Images.{EachNow, EachSince, Fits, KeepsSpools, LeftFits, StandsForNone};
+ghost use Rattle.world.specs.Opening.{IsNew};
 ghost use Rattle.world.specs.Tied.{IsWorld};
 ghost use Rattle.world.specs.World.{WorldView, kernel_of, with_served};
 ghost use Rattle.world.specs.declared.events.Event.{Event as ItsEvent};
@@ -28,10 +29,12 @@ mod events;
 use disk::{Disk, DiskCall, Faults};
 pub use events::{Answer, Event, StepError};
 use journal::{Journal, JournalError, Progress};
-use kernel::{AdminError, BatchBuf, ExecError, ExpireError, JoinError, Kernel, Ticket};
-pub use kernel::{OpenError, Spool};
+pub use kernel::Spool;
+use kernel::{AdminError, BatchBuf, ExecError, ExpireError, JoinError, Ticket};
 use model::{Mark, Mode};
 use names::GroupName;
+use opening::Opened;
+pub use opening::{OpenError, Refused};
 use outbox::ReadyBuf;
 use served::{ArriveError, Entry, Served};
 use std::alloc::Global;
@@ -48,13 +51,6 @@ pub struct World<D: Disk> {
     is_committed: bool,
     // The device failed, and the kernel was not told.
     has_failed: bool,
-}
-
-/// A refused opening, with the device as it was left.
-#[derive(Drop)]
-pub struct Refused<D> {
-    pub disk: D,
-    pub error: OpenError,
 }
 
 // By hand: who drops one would prove a derived one again, field by field.
@@ -117,22 +113,9 @@ impl<D: Disk> World<D> {
         ensures damaged { IfErr result (λ refused. refused.error ≡ OpenError.Damaged → IsTrue (D.device disk).tells → IsDamagedVolume (D.device disk).content) }
         ensures no_spool { IfErr result (λ refused. (refused.error ≡ OpenError.NotAVolume) ⊎ (refused.error ≡ OpenError.Damaged) → IsTrue (D.device disk).tells → StandsForNone (D.device disk).content) }
     {
-        let mut journal = match Journal::open(alloc, disk) {
-            Ok(journal) => journal,
-            Err(refused) => {
-                let journal::Refused { disk, error } = refused;
-                return Err(Refused {
-                    disk,
-                    error: journal_error(error),
-                });
-            }
-        };
-        let kernel = match Kernel::open(alloc, &mut journal) {
-            Ok(kernel) => kernel,
-            Err(error) => {
-                let disk = journal.into_disk();
-                return Err(Refused { disk, error });
-            }
+        let Opened { journal, kernel } = match opening::open(alloc, disk) {
+            Ok(opened) => opened,
+            Err(refused) => return Err(refused),
         };
         let Ok(served) = Served::new(alloc, kernel) else {
             return Err(Refused {
@@ -533,16 +516,4 @@ fn is_for_memory(answered: &Result<Answer, StepError>) -> bool
     ensures { result ≡ for_memory answered.now }
 {
     matches!(answered, Err(StepError::Memory))
-}
-
-/// Why the journal was not opened, as the world tells it. A journal that is opened is not halted.
-fn journal_error(error: JournalError) -> OpenError
-    ensures { result ≡ open_error error }
-{
-    match error {
-        JournalError::Fault => OpenError::Fault,
-        JournalError::Memory => OpenError::Memory,
-        JournalError::NotAVolume => OpenError::NotAVolume,
-        JournalError::Halted => OpenError::Memory,
-    }
 }

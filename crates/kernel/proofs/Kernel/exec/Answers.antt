@@ -6,8 +6,9 @@ use Rattle.model.specs.declared.message.Mode.{Mode}
 use Rattle.model.specs.declared.message.Mark.TheVariants as mark
 use Rattle.outbox.specs.Queue.{buffered as octets_held}
 use Rattle.spool_files.specs.View.{SpoolView}
-use Rattle.kernel.specs.Kept.{IsSeat}
-use Rattle.kernel.specs.Kernel.{KernelView, answered_by, LaterDirty, LaterOut, NoSession, Seat, buffered, is_block, mode_at}
+use Rattle.seats.specs.Kept.{IsSeat}
+use Rattle.kernel.specs.Kernel.{KernelView, LaterDirty, LaterOut, NoSession, buffered, is_block, mode_at}
+use Rattle.seats.specs.Seats.{answered_by, Seat}
 use Rattle.kernel.specs.Serving.{Grows, answer_in, mark_in}
 use Rattle.kernel.specs.Stored.{kernel_of}
 use Rattle.kernel.specs.declared.errors.ExecError.TheVariants as exec

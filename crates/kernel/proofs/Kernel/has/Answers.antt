@@ -1,7 +1,8 @@
 use Rattle.std.proofs.Common.{◌≡◌, ℕ, zero, suc, Bool, true, false, List, [], ◌∷◌, Some, None, ap, refl, sym, subst, ◌∙◌}
 use Rattle.std.specs.Prelude.{◌==◌, find, is_some, slice_get, if◌then◌else◌}
 use Rattle.std.proofs.lemmas.Bool.{eq-eqb}
-use Rattle.kernel.specs.Kernel.{KernelView, Seat, seat_of}
+use Rattle.kernel.specs.Kernel.{KernelView, seat_of}
+use Rattle.seats.specs.Seats.{Seat}
 use Rattle.kernel.proofs.Kernel.has.Goals as goal
 
 found_some : (seats : List Seat) (at sid : ℕ) (seat : Seat) → slice_get seats at ≡ Some seat → seat.number ≡ sid → is_some (find (λ (s : Seat). s.number == sid) seats) ≡ true

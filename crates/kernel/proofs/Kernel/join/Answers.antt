@@ -3,7 +3,8 @@ use Rattle.std.specs.Prelude.{List}
 use Rattle.model.specs.Stream.{Octets}
 use Rattle.kernel.specs.Kept.{IsKept}
 use Rattle.kernel.specs.Errors.{of_join}
-use Rattle.kernel.specs.Kernel.{KernelView, Seat, join_refusal, new_seat}
+use Rattle.kernel.specs.Kernel.{KernelView, join_refusal}
+use Rattle.seats.specs.Seats.{Seat, new_seat}
 use Rattle.kernel.specs.Stored.{kernel_of}
 use Rattle.kernel.proofs.AdminLaws.{few_seats, passed}
 use Rattle.kernel.proofs.KernelLaws.{kept_joined}

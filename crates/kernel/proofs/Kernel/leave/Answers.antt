@@ -1,7 +1,8 @@
 use Rattle.std.proofs.Common.{◌≡◌, List, ap, refl, sym, subst, ◌∙◌}
 use Rattle.std.specs.Prelude.{Some, None, ◌==◌, filter, find, not, slice_get}
 use Rattle.kernel.specs.Kept.{IsKept}
-use Rattle.kernel.specs.Kernel.{KernelView, Seat, left}
+use Rattle.kernel.specs.Kernel.{KernelView, left}
+use Rattle.seats.specs.Seats.{Seat}
 use Rattle.kernel.specs.Stored.{kernel_of}
 use Rattle.kernel.proofs.KernelLaws.{filter_at, filter_missing, kept_left}
 use Rattle.kernel.proofs.Kernel.leave.Goals as goal

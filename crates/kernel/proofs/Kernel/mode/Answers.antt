@@ -1,6 +1,7 @@
 use Rattle.std.proofs.Common.{◌≡◌, List, ap, sym, subst, ◌∙◌}
 use Rattle.std.specs.Prelude.{Some, slice_get}
-use Rattle.kernel.specs.Kernel.{KernelView, Seat, mode_at}
+use Rattle.kernel.specs.Kernel.{KernelView, mode_at}
+use Rattle.seats.specs.Seats.{Seat}
 use Rattle.kernel.specs.Stored.{kernel_of}
 use Rattle.kernel.proofs.KernelLaws.{mode_found, same_place}
 use Rattle.model.specs.Service.{mode_of}

@@ -1,7 +1,7 @@
 use Rattle.std.proofs.Common.{sym, subst}
 use Rattle.std.specs.Prelude.{List}
 use Rattle.kernel.specs.Kept.{IsKept}
-use Rattle.kernel.specs.Kernel.{Seat}
+use Rattle.seats.specs.Seats.{Seat}
 use Rattle.kernel.specs.Stored.{kernel_of}
 use Rattle.kernel.proofs.KernelLaws.{kept_released}
 use Rattle.kernel.proofs.Kernel.take_ready.Goals as goal

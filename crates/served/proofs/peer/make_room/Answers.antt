@@ -1,7 +1,7 @@
 use Rattle.std.proofs.Common.{◌≡◌, ◌<◌, None, length, sym, ◌∙◌, arith}
 use Rattle.std.specs.Prelude.{slice_get}
 use Rattle.std.proofs.lemmas.Option.{slice_get_within}
-use Rattle.kernel.specs.Kernel.{Seat}
+use Rattle.seats.specs.Seats.{Seat}
 use Rattle.served.proofs.Room.{get_past, none_there, room_more}
 use Rattle.served.proofs.peer.make_room.Goals as goal
 

@@ -1,7 +1,0 @@
-use Rattle.std.proofs.Common.{◌≡◌, ◌==◌, drop}
-use Rattle.std.specs.Prelude.{find}
-use Rattle.kernel.specs.Kernel.{Seat}
-use Rattle.kernel.proofs.seat.position.Given as goal
-
-abbrev pub invariant-loop-at : goal.invariant-loop-at
-invariant-loop-at l = find (λ (s : Seat). s.number == l.sid) l.seats ≡ find (λ (s : Seat). s.number == l.sid) (drop l.at l.seats)

@@ -1,0 +1,84 @@
+//! Opening what stands on a device: the journal there, and the kernel in its logical blocks. `specs/Standing.antt` says what stands
+//! where an opening is refused.
+#![tactic(auto)]
+
+ghost use Rattle.std.specs.Prelude.{◌≡◌, ◌≢◌, ◌⊎◌, IfErr, IfOk, IsTrue, MatchResult};
+ghost use Rattle.disk.specs.Device.{Elapses};
+ghost use Rattle.journal.specs.Journal.{IsReady};
+ghost use Rattle.journal.specs.Opening.{Costs, LeftKept, NeverSyncs, SyncsFirst};
+ghost use Rattle.kernel.specs.Opening.{IsOpened};
+ghost use Rattle.model.specs.News.{Stands};
+ghost use Rattle.opening.specs.Standing.{IsDamagedVolume, IsNoNewsVolume, open_error};
+
+use disk::Disk;
+use journal::{Journal, JournalError};
+use kernel::Kernel;
+pub use kernel::OpenError;
+use std::alloc::Global;
+
+/// What was opened: a journal that is idle, and the kernel that stands in its logical blocks.
+#[derive(Drop)]
+pub struct Opened<D: Disk> {
+    pub journal: Journal<D>,
+    pub kernel: Kernel,
+}
+
+/// A refused opening, with the device as it was left.
+#[derive(Drop)]
+pub struct Refused<D> {
+    pub disk: D,
+    pub error: OpenError,
+}
+
+/// Opens what stands on a device: all its changes are durable, and no session is there. A crash during it leaves, from the first
+/// good sync on, which comes before every write, the volume that a read gives, with its label and its logical blocks, whatever
+/// these hold; and before that what a crash at its start might have left.
+/// A refusal keeps to this too, so it overwrites no disk, and hands the device back:
+/// `Fault` (E1) where the device failed, `Memory` (E2) where it did not, `NotAVolume` (E3) where no volume with a label of its
+/// size stands there, and `Damaged` (E5) where one does, and holds no lawful spool of the label's host.
+pub fn open<D: Disk>(alloc: Global, disk: D) -> Result<Opened<D>, Refused<D>>
+    ensures opened { IfOk result (λ o. IsOpened D.device o.journal o.kernel) }
+    ensures idle { IfOk result (λ o. IsReady o.journal) }
+    ensures spool { IsTrue (D.device disk).tells → IfOk result (λ o. Stands o.kernel.host (D.device disk).content o.kernel.spool) }
+    ensures still { IfOk result (λ o. (D.device o.journal.disk).failures ≡ (D.device disk).failures) }
+    ensures time { MatchResult result (λ o. Elapses (D.device disk) (D.device o.journal.disk)) (λ refused. Elapses (D.device disk) (D.device refused.disk)) }
+    ensures volume { MatchResult result (λ o. LeftKept (D.device disk) (D.device o.journal.disk)) (λ refused. LeftKept (D.device disk) (D.device refused.disk)) }
+    ensures moment { MatchResult result (λ o. SyncsFirst D.device disk o.journal.disk) (λ refused. SyncsFirst D.device disk refused.disk ⊎ NeverSyncs D.device disk refused.disk) }
+    ensures judged { IfErr result (λ refused. (refused.error ≡ OpenError.NotAVolume) ⊎ (refused.error ≡ OpenError.Damaged) → SyncsFirst D.device disk refused.disk) }
+    ensures cost { IsTrue (D.device disk).tells → IfOk result (λ o. Costs 1 (D.device disk).content (D.device disk) (D.device o.journal.disk)) }
+    ensures fault { IfErr result (λ refused. refused.error ≡ OpenError.Fault → (D.device refused.disk).failures ≢ (D.device disk).failures) }
+    ensures memory { IfErr result (λ refused. refused.error ≡ OpenError.Memory → (D.device refused.disk).failures ≡ (D.device disk).failures) }
+    ensures no_volume { IfErr result (λ refused. refused.error ≡ OpenError.NotAVolume → IsTrue (D.device disk).tells → IsNoNewsVolume (D.device disk).content) }
+    ensures damaged { IfErr result (λ refused. refused.error ≡ OpenError.Damaged → IsTrue (D.device disk).tells → IsDamagedVolume (D.device disk).content) }
+{
+    let mut journal = match Journal::open(alloc, disk) {
+        Ok(journal) => journal,
+        Err(refused) => {
+            let journal::Refused { disk, error } = refused;
+            return Err(Refused {
+                disk,
+                error: journal_error(error),
+            });
+        }
+    };
+    let kernel = match Kernel::open(alloc, &mut journal) {
+        Ok(kernel) => kernel,
+        Err(error) => {
+            let disk = journal.into_disk();
+            return Err(Refused { disk, error });
+        }
+    };
+    Ok(Opened { journal, kernel })
+}
+
+/// Why the journal was not opened, as the opening tells it. A journal that is opened is not halted.
+fn journal_error(error: JournalError) -> OpenError
+    ensures { result ≡ open_error error }
+{
+    match error {
+        JournalError::Fault => OpenError::Fault,
+        JournalError::Memory => OpenError::Memory,
+        JournalError::NotAVolume => OpenError::NotAVolume,
+        JournalError::Halted => OpenError::Memory,
+    }
+}

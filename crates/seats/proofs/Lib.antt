@@ -1,0 +1,5 @@
+pub mod Keeping
+pub mod Releasing
+pub mod SeatLaws
+pub mod SeatsLaws
+pub mod Rest

@@ -1,0 +1,70 @@
+-- A session as callers of the kernel see it, and what it holds, gives and is answered.
+use Rattle.std.specs.Prelude.{ℕ, ◌+◌, ◌-◌, max, false, ◌==◌, if◌then◌else◌, List, [], ◌∷◌, ◌++◌, map, is_none}
+use Rattle.model.specs.Stream.{Octets}
+use Rattle.model.specs.Spool.{Spool}
+use Rattle.model.specs.Answer.{answer, new_session}
+use Rattle.model.specs.Reads.{reads}
+use Rattle.model.specs.Replies.{greeting}
+use Rattle.model.specs.Service.{mode_of}
+use Rattle.model.specs.declared.message.Message.{Message}
+use Rattle.model.specs.declared.message.Mark.{Mark}
+use Rattle.model.specs.declared.session.Session.{Session}
+use Rattle.outbox.specs.Queue.{Held, Giving, Entry, last_dependency, give, entry_of, octets_in}
+
+-- a session that is there
+pub record Seat : Type 0 where
+  pub number : ℕ
+  pub session : Session
+  -- the dependency of its last output that was handed out whole, 0 at first
+  pub given : ℕ
+  pub held : List Held
+
+-- ---- a session begins, and is answered
+
+-- a session that has just begun holds its greeting, which depends on nothing
+abbrev pub new_seat : Octets → ℕ → Seat
+new_seat host number = record { number = number; session = new_session; given = 0; held = record { octets = greeting host; dependency = 0; ends = false } ∷ [] }
+
+-- the session with one reply more
+abbrev pub answered_by : Octets → Spool → Message → ℕ → Mark → Seat → Seat
+answered_by host S m t mark seat =
+    record {
+      number = seat.number;
+      session = (answer host S seat.session m t mark).next;
+      given = seat.given;
+      held = seat.held ++ record {
+        octets = (answer host S seat.session m t mark).reply;
+        dependency = max (last_dependency seat.given seat.held) (reads host S seat.session m t mark);
+        ends = is_none (mode_of (answer host S seat.session m t mark).next.awaits);
+      } ∷ [];
+    }
+
+abbrev pub with_seat : List Seat → Seat → List Seat
+with_seat seats seat = map (λ (other : Seat). if other.number == seat.number then seat else other) seats
+
+-- ---- what is ready is given
+
+-- the entries of a release, and the sessions after it
+pub record Ready : Type 0 where
+  pub entries : List Entry
+  pub seats : List Seat
+
+-- a session after what it gave
+abbrev pub seat_given : Seat → Giving → Seat
+seat_given seat g = record { number = seat.number; session = seat.session; given = g.given; held = g.held }
+
+-- a session's entry, and the session, unless it ended
+abbrev pub given_by : Seat → Giving → Ready → Ready
+given_by seat g later = record {
+  entries = entry_of seat.number g ++ later.entries;
+  seats = if g.ended then later.seats else seat_given seat g ∷ later.seats;
+}
+
+-- what a session gives into a buffer that has these entries, with room for 65,536 octets
+abbrev pub given_of : ℕ → List Entry → Seat → Giving
+given_of p entries seat = give p (65536 - octets_in entries) seat.given seat.held
+
+-- through the sessions in rising number
+abbrev pub ready : ℕ → ℕ → List Seat → Ready
+ready p room [] = record { entries = []; seats = [] }
+ready p room (seat ∷ seats) = given_by seat (give p room seat.given seat.held) (ready p (give p room seat.given seat.held).room seats)

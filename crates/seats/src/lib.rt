@@ -1,0 +1,199 @@
+//! The sessions that are there, and their outputs. `specs/Seats.antt` says what callers see of one and what each call does to it,
+//! `specs/Kept.antt` what is kept of it.
+#![tactic(auto)]
+
+ghost use Rattle.std.specs.Prelude.{Some, IfSome, IsNone, None, ℕ, find, slice_get, ◌==◌, ◌≡◌, ◌<◌, ◌≤◌, ◌+◌, ◌^◌, ◌++◌, ◌∷◌, [], max, IfOk, OnErr, OnOk, length};
+ghost use Rattle.seats.specs.Seats.{Seat as SeatView, answered_by, given_of, new_seat, ready, seat_given};
+ghost use Rattle.seats.specs.Serving.{SeatServed};
+ghost use Rattle.model.specs.Calendar.{moment_limit};
+ghost use Rattle.model.specs.Lawful.{IsLawfulSession};
+ghost use Rattle.model.specs.Service.{mode_of};
+ghost use Rattle.model.specs.Spool.{Spool as Changes};
+ghost use Rattle.model.specs.Stream.{Octets};
+ghost use Rattle.model.specs.declared.message.Message.{Message as MessageView};
+ghost use Rattle.outbox.specs.Queue.{buffered, entry_of, last_dependency};
+
+use model::{Answer, Awaits, Mark, Message, Mode, Session};
+use outbox::{Queue, ReadyBuf};
+use plain_commands::stopped;
+use replies::{Answered, push_greeting};
+use serving::{Files, Served, serve};
+use std::alloc::{AllocError, Global};
+use std::marker::Model;
+
+/// A session that is there.
+pub struct Seat {
+    number: u64,
+    session: Session,
+    queue: Queue,
+}
+
+// By hand: who drops one would prove a derived one again, field by field.
+impl Drop for Seat {
+    fn drop(self) {
+        let Seat {
+            number: _,
+            session: _,
+            queue: _,
+        } = self;
+    }
+}
+
+impl Model for Seat {
+    ghost use Rattle.seats.specs.Seats.{Seat as SeatView};
+
+    ghost Value = { SeatView };
+
+    ghost view = { λ s. record { number = s.number; session = s.session; given = s.queue.given; held = s.queue.held } };
+}
+
+impl Seat {
+    /// A session that has just begun, with its greeting, which depends on nothing.
+    pub fn new(alloc: Global, number: u64, host: &[u8]) -> Result<Seat, AllocError>
+        ensures { IfOk result (λ seat. seat ≡ new_seat host.now number) }
+    {
+        let mut greeting = Vec::new(alloc);
+        push_greeting(&mut greeting, host)?;
+        let mut queue = Queue::new(alloc);
+        queue.reserve(1)?;
+        queue.push(greeting, 0, false);
+        Ok(Seat {
+            number,
+            session: Session {
+                awaits: Awaits::Line,
+                group: None,
+                current: None,
+            },
+            queue,
+        })
+    }
+
+    /// The number that the session was given when it joined.
+    pub fn number(&self) -> u64
+        ensures { result ≡ self.now.number }
+    {
+        self.number
+    }
+
+    /// What the session sends next; `None` where it was closed.
+    pub fn mode(&self) -> Option<Mode>
+        ensures { result ≡ mode_of self.now.session.awaits }
+    {
+        mode_of(&self.session.awaits)
+    }
+
+    /// How many octets are held.
+    pub fn buffered(&self) -> u64
+        ensures { result ≡ buffered self.now.held }
+    {
+        self.queue.buffered()
+    }
+
+    /// Serves a message over a spool that takes changes, and holds its reply. Answers what the session sends next, and how the message
+    /// was served. `moment` is in seconds since 1970. Refused where memory is, and then neither session nor spool changes.
+    pub fn serve<S: Files>(
+        &mut self,
+        alloc: Global,
+        spool: &mut S,
+        message: &Message,
+        moment: u64,
+    ) -> Result<(Option<Mode>, Mark), AllocError>
+        requires session { IsLawfulSession (S.host_of spool.old) self.old.session }
+        requires moment { moment < moment_limit }
+        requires room { buffered self.old.held < 1_048_576 }
+        ensures ok { IfOk result (SeatServed (S.host_of spool.old) (S.changes spool.old) (S.lacks_room spool.old) (S.adds spool.old spool.new) (spool.new ≡ spool.old) self.old self.new message.now moment) }
+        ensures seat { OnErr result (self.new ≡ self.old) }
+        ensures spool { OnErr result (spool.new ≡ spool.old) }
+    {
+        self.queue.reserve(1)?;
+        let Served {
+            reply,
+            next,
+            mark,
+            reads,
+        } = serve(alloc, spool, &self.session, message, moment)?;
+        self.session = next;
+        let mode = mode_of(&self.session.awaits);
+        hold(&mut self.queue, reply.into_octets(), reads, mode.is_none());
+        Ok((mode, mark))
+    }
+
+    /// Moves the outputs that depend on `durable` changes at most into the buffer, as this session's entry. Whether the
+    /// session ends with them.
+    pub fn give(&mut self, durable: u64, into: &mut ReadyBuf) -> bool
+        requires { length into.old < 64 }
+        ensures ended { result ≡ (given_of durable into.old self.old).ended }
+        ensures entries { into.new ≡ into.old ++ entry_of self.old.number (given_of durable into.old self.old) }
+        ensures seat { self.new ≡ seat_given self.old (given_of durable into.old self.old) }
+    {
+        self.queue.give(self.number, durable, into)
+    }
+
+    /// Tells the session that the service ends, whatever its message says; it is closed then. Refused where memory is, and then
+    /// nothing changes.
+    pub fn stop(&mut self, alloc: Global) -> Result<(), AllocError>
+        requires room { buffered self.old.held < 1_048_576 }
+        ensures ok { OnOk result ((host : Octets) (S : Changes) (m : MessageView) (t : ℕ) → self.new ≡ answered_by host S m t Mark.Stopped self.old) }
+        ensures seat { OnErr result (self.new ≡ self.old) }
+    {
+        self.queue.reserve(1)?;
+        let Answered { answer, reads } = stopped(alloc, &self.session)?;
+        let Answer { reply, next, .. } = answer;
+        self.session = next;
+        hold(&mut self.queue, reply.into_octets(), reads, true);
+        Ok(())
+    }
+}
+
+/// Holds a reply after the others, with the greater of what it reads and what the one before it depends on.
+fn hold(queue: &mut Queue, octets: Vec<u8>, reads: u64, ends: bool)
+    requires room { 1 ≤ queue.old.room }
+    requires countable { buffered queue.old.held + length octets.items < 2 ^ 64 }
+    ensures given { queue.new.given ≡ queue.old.given }
+    ensures held { queue.new.held ≡ queue.old.held ++ record { octets = octets.items; dependency = max (last_dependency queue.old.given queue.old.held) reads; ends = ends } ∷ [] }
+{
+    let dependency = queue.last_dependency().max(reads);
+    queue.push(octets, dependency, ends);
+}
+
+/// What is read next of a session's stream.
+fn mode_of(awaits: &Awaits) -> Option<Mode>
+    ensures { result ≡ mode_of awaits.now }
+{
+    match awaits {
+        Awaits::Line => Some(Mode::Line),
+        Awaits::PostBlock | Awaits::IhaveBlock(_) => Some(Mode::Block),
+        Awaits::Nothing => None,
+    }
+}
+
+/// The place of a session among those that are there; `None` where it isn't.
+pub fn position(seats: &[Seat], sid: u64) -> Option<usize>
+    ensures some { IfSome result (λ at. (seat : SeatView) × (slice_get seats.now at ≡ Some seat) × (seat.number ≡ sid)) }
+    ensures none { IsNone result → find (λ (seat : SeatView). seat.number == sid) seats.now ≡ None }
+{
+    for (at, seat) in seats.iter().enumerate() {
+        if seat.number() == sid {
+            return Some(at);
+        }
+    }
+    None
+}
+
+/// Goes through the sessions in order, each giving what is ready, and drops those that end.
+pub fn release(seats: &mut Vec<Seat>, durable: u64, into: &mut ReadyBuf)
+    requires few { length seats.old.items ≤ 64 }
+    requires empty { into.old ≡ [] }
+    ensures given { into.new ≡ (ready durable 65536 seats.old.items).entries }
+    ensures kept { seats.new.items ≡ (ready durable 65536 seats.old.items).seats }
+{
+    let mut at = 0;
+    while at < seats.len() {
+        let seat = &mut seats[at];
+        if seat.give(durable, into) {
+            seats.remove(at);
+        } else {
+            at += 1;
+        }
+    }
+}
