@@ -1,8 +1,9 @@
 //! Where a test stops the flusher or the releaser, and what its threads tell one another.
 
-use flusher::Gate;
+use flusher::{Arrivals, Gate};
+use std::sync::Wait;
 use std::sync::atomic::{AtomicBool, AtomicU64, Ordering};
-use std::thread;
+use std::thread::{self, Parker};
 
 /// A test waits for so many turns of one load and one yield, and then fails.
 const TURNS: u32 = 1_000_000;
@@ -109,4 +110,29 @@ impl<'a> Gate for TestGate<'a> {
     }
 
     fn after_release(&self, _sid: u64) {}
+}
+
+/// Waits for more blocks than come, again and again until a flag is set.
+pub(crate) fn gather_until<R: Wait>(rt: &R, arrivals: &Arrivals, flag: &AtomicBool) {
+    let bell = Parker::new();
+    for _ in 0..TURNS {
+        if flag.load(Ordering::SeqCst) {
+            return;
+        }
+        arrivals.gather(rt, &bell, u64::from(u32::MAX));
+    }
+}
+
+/// Notes blocks until one rings nobody, since the flusher waits for a later one, and then sets the flag. It is false at the limit.
+pub(crate) fn note_until_quiet(arrivals: &Arrivals, flag: &AtomicBool) -> bool {
+    let mut is_quiet = false;
+    for _ in 0..TURNS {
+        if !arrivals.note(true) {
+            is_quiet = true;
+            break;
+        }
+        thread::yield_now();
+    }
+    flag.store(true, Ordering::SeqCst);
+    is_quiet
 }

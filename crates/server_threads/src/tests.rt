@@ -1,8 +1,9 @@
-use crate::gates::Holds;
+use crate::gates::{Holds, gather_until, note_until_quiet};
 use crate::plays::{Outcome, play, raises_after_commit, tell};
 use flusher::{Arrivals, Stale};
 use server::ServeError;
-use std::thread::Parker;
+use std::sync::atomic::AtomicBool;
+use std::thread::{Parker, join};
 
 /// A play in which all went well, and whose last commit was refused.
 const GOOD: Outcome = Outcome {
@@ -71,5 +72,17 @@ fn a_wait_for_blocks_that_do_not_come_ends(rt: HostRuntime) {
     assert!(rt; arrivals.note(true));
     arrivals.hurry();
     arrivals.gather(&rt, &bell, 1_000_000);
+    assert!(rt; arrivals.note(true));
+}
+
+#[test]
+fn a_block_before_the_awaited_one_rings_nobody(rt: HostRuntime) {
+    let (arrivals, has_ended) = (Arrivals::new(), AtomicBool::new(false));
+    let ((), is_quiet) = join(
+        &rt,
+        || gather_until(&rt, &arrivals, &has_ended),
+        || note_until_quiet(&arrivals, &has_ended),
+    );
+    assert!(rt; is_quiet);
     assert!(rt; arrivals.note(true));
 }
