@@ -1,10 +1,10 @@
 //! The callers of a test: each is a socket, read line by line, whose reads end in time.
 
-use crate::gates::{Flags, Holds, turn_until};
+use crate::gates::{Flags, Holds};
 use std::alloc::Global;
 use std::io::{BufRead, BufReader, Read, Write};
 use std::net::{Net, Shutdown, SocketAddr, TcpListener, TcpStream};
-use std::sync::atomic::Ordering;
+use std::sync::atomic::{AtomicBool, Ordering};
 use std::thread;
 use std::time::{Clock, Duration};
 
@@ -12,7 +12,7 @@ use std::time::{Clock, Duration};
 const READ_SECS: u64 = 20;
 
 /// How often a caller comes again until the server tells it that the service ends, and the milliseconds between.
-const TRIES: u32 = 40;
+const TRIES: u32 = 500;
 
 const PAUSE_MILLIS: u64 = 20;
 
@@ -121,7 +121,7 @@ pub(crate) fn call<R: Net<Listener = TcpListener, Stream = TcpStream> + Clock>(
         Holds::Release => posts_while_a_release_is_held(rt, alloc, address, &mut caller),
         Holds::Answer => {
             caller.reads(GREETING)
-                && turn_until(&flags.flushed)
+                && sleep_until(rt, &flags.flushed)
                 && posts_and_reads_replies(&mut caller)
         }
     };
@@ -172,15 +172,26 @@ fn sends_no_more<R: Net<Listener = TcpListener, Stream = TcpStream>>(
         && other.reads_end()
 }
 
+/// Looks for a flag each millisecond until it is set, for as long as a read may take. It is false at the end of that time.
+fn sleep_until<R: Clock>(rt: &R, flag: &AtomicBool) -> bool {
+    for _ in 0..READ_SECS * 1000 {
+        if flag.load(Ordering::SeqCst) {
+            return true;
+        }
+        thread::sleep(rt, Duration::from_millis(1));
+    }
+    false
+}
+
 /// While the flush of one caller's article is held, another one comes and is told of a group that the article isn't in.
-fn reads_while_a_flush_is_held<R: Net<Listener = TcpListener, Stream = TcpStream>>(
+fn reads_while_a_flush_is_held<R: Net<Listener = TcpListener, Stream = TcpStream> + Clock>(
     rt: &R,
     alloc: Global,
     address: SocketAddr,
     flags: &Flags,
     caller: &mut Caller,
 ) -> bool {
-    if !caller.sends(FIRST) || !turn_until(&flags.flushing) {
+    if !caller.sends(FIRST) || !sleep_until(rt, &flags.flushing) {
         return false;
     }
     let Some(mut other) = Caller::connect(rt, alloc, address) else {

@@ -49,7 +49,7 @@ impl Flags {
 }
 
 /// Turns until a flag is set. It is false at the limit.
-pub(crate) fn turn_until(flag: &AtomicBool) -> bool {
+fn turn_until(flag: &AtomicBool) -> bool {
     for _ in 0..TURNS {
         if flag.load(Ordering::SeqCst) {
             return true;
