@@ -74,6 +74,34 @@ def a_caller_that_sends_no_more_is_told_all(volume):
                 assert caller.has_ended()
 
 
+def long_replies_come_whole_beside_posts(volume):
+    """Each reply is longer than a release, and those that one caller asks for at once are more than a session may hold."""
+    volume.make_group()
+    text = article("long", body="\r\n".join(["x" * 70] * 2800))
+    whole, posted = [], []
+
+    def read():
+        with server.call() as caller:
+            caller.send(b"ARTICLE <long@a.example>\r\n" * 20)
+            for _ in range(20):
+                whole.append(caller.line() == "220 0 <long@a.example>" and caller.file.read(len(text)) == text)
+
+    def post(poster):
+        with server.call() as caller:
+            posted.extend(caller.post(article("%d.%d" % (poster, number))) for number in range(50))
+
+    with volume.serve() as server:
+        with server.call() as caller:
+            assert caller.post(text) == "240 Article received"
+        threads = [threading.Thread(target=read) for _ in range(4)]
+        threads += [threading.Thread(target=post, args=(poster,)) for poster in range(4)]
+        for thread in threads:
+            thread.start()
+        for thread in threads:
+            thread.join()
+    assert whole == [True] * 80 and posted == ["240 Article received"] * 200, (len(whole), len(posted))
+
+
 def sixty_four_callers_and_one_more(volume):
     volume.make_group()
     with volume.serve() as server:
@@ -469,6 +497,7 @@ TESTS = [
     commands_come_in_one_piece,
     octets_come_one_by_one,
     a_caller_that_sends_no_more_is_told_all,
+    long_replies_come_whole_beside_posts,
     sixty_four_callers_and_one_more,
     a_kill_under_load_takes_nothing_back,
     one_server_holds_a_volume,

@@ -2,6 +2,7 @@
  *                                          load PORT SESSIONS SECONDS ask REQUEST line|block
  * Each session is a thread that waits for each reply before it sends again, at most 30 seconds. Posts have about 1,000 octets of an id
  * each, and all sessions together make at most LIMIT of them. The load ends in time, or earlier: after its last post, or at SIGTERM.
+ * A time is that from the first octet sent to the last one read.
  * Prints one line: replies, replies a second, and microseconds: the mean, the median, the 99th of 100 and the slowest. */
 #define _GNU_SOURCE
 #include <arpa/inet.h>
@@ -15,12 +16,12 @@
 #include <time.h>
 #include <unistd.h>
 
-enum { SESSIONS = 64, ROOM = 1 << 20, MOST = 2000000, BODY = 800, PATIENCE = 30 };
+enum { SESSIONS = 64, ROOM = 1 << 20, MOST = 2000000, BODY = 800, TEXT = 2048, PATIENCE = 30 };
 
 struct session {
     int socket, number;
-    size_t held;
-    char *room;
+    size_t held, length;
+    char *room, text[TEXT];
     double *micros;
     long count;
 };
@@ -79,17 +80,21 @@ static void read_to(struct session *s, const char *end, const char *code) {
     }
 }
 
-static void post(struct session *s) {
-    char text[2048], body[BODY + 1];
+/* Writes the session's next article. */
+static void make_article(struct session *s) {
+    char body[BODY + 1];
     memset(body, 'x', BODY);
     for (int at = 70; at + 1 < BODY; at += 72) memcpy(body + at, "\r\n", 2);
     body[BODY] = 0;
-    int count = snprintf(text, sizeof text,
+    s->length = (size_t)snprintf(s->text, sizeof s->text,
         "Path: p!not-for-mail\r\nDate: Sun, 09 Sep 2001 01:46:40 +0000\r\nMessage-ID: <%ld.%d.%ld@load.example>\r\n"
         "From: a@example.org\r\nNewsgroups: x.a\r\nSubject: load\r\n\r\n%s\r\n.\r\n", run, s->number, s->count, body);
+}
+
+static void post(struct session *s) {
     send_all(s, "POST\r\n", 6);
     read_to(s, "\r\n", "340");
-    send_all(s, text, (size_t)count);
+    send_all(s, s->text, s->length);
     read_to(s, "\r\n", "240");
 }
 
@@ -116,12 +121,11 @@ static void *play(void *given) {
     setsockopt(s->socket, SOL_SOCKET, SO_SNDTIMEO, &patience, sizeof patience);
     if (connect(s->socket, (void *)&address, sizeof address)) fail("no connection");
     read_to(s, "\r\n", "200");
-    double start = now();
-    while (goes_on(s, start)) {
+    while (goes_on(s, now())) {
+        if (is_post) make_article(s);
+        double start = now();
         if (is_post) post(s); else ask(s);
-        double end = now();
-        s->micros[s->count++] = end - start;
-        start = end;
+        s->micros[s->count++] = now() - start;
     }
     send_all(s, "QUIT\r\n", 6);
     close(s->socket);

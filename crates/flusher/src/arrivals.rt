@@ -7,10 +7,10 @@ use std::thread::Parker;
 use std::time::Duration;
 
 /// The wait ends once nothing of a post was served for so many microseconds.
-const PAUSE_MICROS: u64 = 500;
+const PAUSE_MICROS: u64 = 1000;
 
 /// And it takes at most so many pauses.
-const PAUSES: u32 = 40;
+const PAUSES: u32 = 20;
 
 /// What the sessions have served of posts and transfers, as far as the flusher goes by it.
 #[derive(Drop)]
@@ -65,8 +65,12 @@ impl Arrivals {
     }
 
     /// Waits until as many blocks were served after the last commit as that batch had changes, in pauses of the flusher's bell.
-    /// It ends early once nothing of a post was served for a pause, once somebody is in a hurry, and after the last pause.
+    /// It ends early once nothing of a post was served for a pause, once somebody is in a hurry, and after the last pause. For one
+    /// change it doesn't wait: the next block wakes the flusher as well.
     pub fn gather<R: Wait>(&self, rt: &R, flusher: &Parker, released: u64) {
+        if released < 2 {
+            return;
+        }
         let awaited = self
             .before_commit
             .load(Ordering::SeqCst)

@@ -78,12 +78,11 @@ pub fn serve<
     requires seat { seat.mark ≡ mark.now }
 {
     let bells = Bells::new();
-    let door = Door::new(alloc);
     match make_parts(rt, alloc, lines) {
         Ok(
             Parts {
                 batch,
-                ready,
+                door,
                 caller,
                 calls,
                 order,
@@ -91,7 +90,7 @@ pub fn serve<
             },
         ) => Err(run(
             rt, alloc, listener, journal, kern, mark, flush_seat, seat, gate, answers, &bells,
-            &door, batch, ready, caller, &calls, order, &orders,
+            &door, batch, caller, &calls, order, &orders,
         )),
         Err(error) => Err(error),
     }
@@ -101,7 +100,7 @@ pub fn serve<
 #[derive(Drop)]
 struct Parts {
     batch: BatchBuf,
-    ready: ReadyBuf,
+    door: Door,
     caller: Sender<Call>,
     calls: Receiver<Call>,
     order: Sender<Order>,
@@ -115,12 +114,12 @@ fn make_parts<R: Threads + Wait + Copy + Send + 'static, L: BufRead + Send + Dro
     lines: L,
 ) -> Result<Parts, ServeError> {
     let batch = BatchBuf::new(alloc)?;
-    let ready = ReadyBuf::new(alloc)?;
+    let door = Door::new(alloc, ReadyBuf::new(alloc)?);
     let (caller, calls) = bounded(alloc, SESSIONS)?;
     let (order, orders) = start_reading(rt, alloc, lines)?;
     Ok(Parts {
         batch,
-        ready,
+        door,
         caller,
         calls,
         order,
@@ -150,7 +149,6 @@ fn run<
     bells: &'a Bells,
     door: &'a Door,
     batch: BatchBuf,
-    ready: ReadyBuf,
     caller: Sender<Call>,
     calls: &'a Receiver<Call>,
     order: Sender<Order>,
@@ -168,12 +166,12 @@ fn run<
         {
             let mut is_started = true;
             for _ in 0..SESSIONS {
-                let thread = scope.spawn(move || serve_calls(rt, alloc, kern, bells, door, calls));
+                let thread = scope.spawn(move || serve_calls(
+                    rt, alloc, kern, gate, bells, door, calls,
+                ));
                 is_started &= thread.is_ok();
             }
-            let releaser = scope.spawn(move || release_all(
-                rt, alloc, kern, gate, bells, door, ready,
-            ));
+            let releaser = scope.spawn(move || release_all(rt, kern, gate, bells, door));
             let operator = scope.spawn(
                 move || -> ()
                     requires { seat.mark ≡ mark.now }

@@ -68,7 +68,7 @@ fn a_wait_for_blocks_that_do_not_come_ends(rt: HostRuntime) {
     assert!(rt; arrivals.note(true));
     assert!(rt; !arrivals.note(false));
     arrivals.note_commit();
-    arrivals.gather(&rt, &bell, 1);
+    arrivals.gather(&rt, &bell, 2);
     assert!(rt; arrivals.note(true));
     arrivals.hurry();
     arrivals.gather(&rt, &bell, 1_000_000);
