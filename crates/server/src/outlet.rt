@@ -35,8 +35,8 @@ pub(crate) struct Outlet {
 #[derive(Clone, Copy, PartialEq, Eq)]
 pub(crate) enum Found {
     Nothing,
-    /// There may be more.
-    Some,
+    /// Something, and there may be more.
+    Part,
     /// All that was ready when the turn began.
     All,
 }
@@ -68,7 +68,7 @@ impl Outlet {
         if self.ready.is_empty() {
             Found::Nothing
         } else if was_left || is_full(&self.ready) {
-            Found::Some
+            Found::Part
         } else {
             Found::All
         }
