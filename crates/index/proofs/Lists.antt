@@ -12,11 +12,6 @@ got [] k d low = absurd (omega arith)
 got (x ∷ xs) zero d low = refl
 got (x ∷ xs) (suc k) d low = got xs k d (omega arith)
 
-pub got_within : {X : Type 0} (xs : List X) (k : ℕ) (x : X) → slice_get xs k ≡ Some x → k < length xs
-got_within [] k x is = absurd (cc)
-got_within (y ∷ xs) zero x is = omega arith
-got_within (y ∷ xs) (suc k) x is = let rest = got_within xs k x is in omega (arith, rest)
-
 -- ---- whether one passes
 
 pub any_filtered : {X : Type 0} (t p : X → Bool) (xs : List X) → list_any (λ x. t x && p x) xs ≡ list_any t (filter p xs)

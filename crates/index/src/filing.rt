@@ -2,7 +2,6 @@
 //! cannot fail then.
 
 ghost use Rattle.std.specs.Prelude.{◌≡◌, ◌+◌, ◌^◌, ◌<◌, ◌≤◌, ℕ, List, [], None, Some, map, length, slice_index_or, MatchOption, OnErr, OnOk};
-ghost use Rattle.std.specs.Bool.{OnTrue};
 ghost use Rattle.std.specs.List.{All};
 ghost use Rattle.model.specs.Indexed.{value_of};
 ghost use Rattle.index.specs.Shown.{shown};
@@ -23,18 +22,6 @@ pub(crate) fn place_of(places: &Keys, groups: &[Group], name: &[u8]) -> Option<u
         Some(place) => Some(place as usize),
         None => None,
     }
-}
-
-/// Whether each overview has fewer octets than this.
-pub(crate) fn overviews_below(groups: &[Group], limit: u64) -> bool
-    ensures { OnTrue result (EndBelow limit (map shown groups.now)) }
-{
-    for group in groups {
-        if group.overview_size() >= limit {
-            return false;
-        }
-    }
-    true
 }
 
 /// Makes room for lines in the group with this name, if it is here.

@@ -2,7 +2,6 @@
 #![tactic(auto)]
 
 ghost use Rattle.std.specs.Prelude.{◌≡◌, ◌+◌, ◌-◌, ◌^◌, ◌<◌, ◌≤◌, ◌∷◌, ◌++◌, [], false, map, length, option_map, slice_get, Some, IfSome, OnOk, OnErr, bytes_eq, is_some};
-ghost use Rattle.std.specs.Bool.{OnTrue};
 ghost use Rattle.std.specs.List.{All, list_any};
 ghost use Rattle.std.specs.Option.{option_and_then};
 ghost use Rattle.model.specs.Stream.{Octets};
@@ -23,7 +22,7 @@ mod latest;
 mod note;
 mod views;
 
-use filing::{expire_one, overviews_below, place_of, push_lines, reserve_lines};
+use filing::{expire_one, place_of, push_lines, reserve_lines};
 pub use group::Group;
 use keys::Keys;
 use latest::push_latest;
@@ -137,13 +136,6 @@ impl Index {
             Some(group) => group.expired_at(number),
             None => 0,
         }
-    }
-
-    /// Whether each overview is small enough for another article. It passes over all groups.
-    pub fn overviews_fit(&self) -> bool
-        ensures { OnTrue result (EndBelow (2 ^ 32) self.now.groups) }
-    {
-        overviews_below(&self.groups, 1 << 32)
     }
 
     /// Adds a group. An `Err` is out of memory and changes nothing.

@@ -1,12 +1,20 @@
 //! An index, and calls of it whose conditions are tested as they are made.
 
-use index::{Index, Note};
+ghost use Rattle.std.specs.Prelude.{◌^◌, map};
+ghost use Rattle.std.specs.Bool.{OnTrue};
+ghost use Rattle.index.specs.Filing.{EndBelow};
+ghost use Rattle.index.specs.Shown.{shown};
+
+use index::{Group, Index, Note};
 use model::{Names, Text};
 use names::is_wildmat;
 use std::alloc::{AllocError, Global};
 
 /// When all groups and articles of the rows were made.
 const MOMENT: u64 = 1_000_000_000;
+
+/// An overview that has as many octets takes no further line.
+const OVERVIEW_LIMIT: u64 = 1 << 32;
 
 /// A call, and what it is about. Names and ids are texts.
 #[derive(Clone, Copy)]
@@ -90,11 +98,23 @@ fn file(
     let filed = names_of(alloc, groups)?;
     let count = filed.as_slice().len();
     let small = sizes.iter().all(|size| *size < 1 << 32);
-    if count > 16 || count != sizes.len() || !small || !index.overviews_fit() {
+    if count > 16 || count != sizes.len() || !small || !overviews_fit(index.groups()) {
         return Ok(None);
     }
     index.push_article(id, size, filed, MOMENT, sizes)?;
     Ok(Some(index.len()))
+}
+
+// Whether each overview is small enough for another article, as filing one requires.
+fn overviews_fit(groups: &[Group]) -> bool
+    ensures { OnTrue result (EndBelow (2 ^ 32) (map shown groups.now)) }
+{
+    for group in groups {
+        if group.overview_size() >= OVERVIEW_LIMIT {
+            return false;
+        }
+    }
+    true
 }
 
 fn file_at(
@@ -104,7 +124,7 @@ fn file_at(
     moment: u64,
 ) -> Result<Option<u64>, AllocError> {
     let filed = names_of(alloc, &["x.a"])?;
-    if filed.as_slice().len() != 1 || !index.overviews_fit() {
+    if filed.as_slice().len() != 1 || !overviews_fit(index.groups()) {
         return Ok(None);
     }
     index.push_article(id, 100, filed, moment, &[10])?;
