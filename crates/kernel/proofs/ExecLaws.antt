@@ -33,7 +33,7 @@ use Rattle.seats.specs.Kept.{RiseFrom}
 use Rattle.kernel.specs.Serving.{Grows, answer_in, mark_in}
 use Rattle.kernel.specs.Stored.{kernel_of}
 use Rattle.kernel.proofs.KernelLaws.{grown, mode_found, only_blocks_change}
-use Rattle.seats.proofs.SeatsLaws.{RiseFrom-set, find_at, with_seat_set}
+use Rattle.seats.proofs.SeatsLaws.{RiseFrom-set, find_at, set_get, with_seat_set}
 use Rattle.kernel.proofs.TakingLaws.{among, contained}
 
 -- ---- tests in their order
@@ -151,11 +151,6 @@ executes s s' d f h j seats at seat seat' m t mark rise place grows is =
     }
 
 -- ---- the session after it
-
-set_get : (at : ℕ) (seats : List Seat) (seat new : Seat) → slice_get seats at ≡ Some seat → slice_get (set seats at new) at ≡ Some new
-set_get at [] seat new is = absurd (cc is)
-set_get zero (first ∷ seats) seat new is = refl
-set_get (suc at) (first ∷ seats) seat new is = set_get at seats seat new is
 
 pub set_same : (at : ℕ) (seats : List Seat) (seat new : Seat) → slice_get seats at ≡ Some seat → new ≡ seat → set seats at new ≡ seats
 set_same at [] seat new is same = absurd (cc is)

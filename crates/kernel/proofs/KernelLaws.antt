@@ -1,6 +1,6 @@
 -- Each call keeps what the lock keeps.
-use Rattle.std.proofs.Common.{◌≡◌, ◌≢◌, ◌⊎◌, inl, inr, ℕ, zero, suc, ◌+◌, ◌≤◌, ◌<◌, ◌==◌, Bool, true, false, List, [], ◌∷◌, ◌++◌, length, refl, ap, sym, ◌∙◌, subst, arith, get_or, set, length-append, append-nil, eq-eqb}
-use Rattle.std.specs.Prelude.{find, take, drop, Option, Some, None, is_some, IsSome, IfSome, filter, not, slice_get, All, if◌then◌else◌}
+use Rattle.std.proofs.Common.{◌≡◌, ◌≢◌, ◌⊎◌, inl, inr, ℕ, zero, suc, ◌+◌, ◌-◌, ◌≤◌, ◌<◌, ◌==◌, Bool, true, false, List, [], ◌∷◌, ◌++◌, length, refl, ap, sym, ◌∙◌, subst, arith, get_or, set, length-append, append-nil}
+use Rattle.std.specs.Prelude.{find, Option, Some, None, is_some, IsSome, IfSome, filter, not, slice_get, All, if◌then◌else◌}
 use Rattle.std.specs.Option.{option_to_list}
 use Rattle.std.specs.List.{Contains}
 use Rattle.std.proofs.lemmas.Bool.{cases_lt}
@@ -18,18 +18,18 @@ use Rattle.model.specs.declared.message.Message.TheVariants.{Line, Block, TooLon
 use Rattle.model.specs.declared.message.Mark.{Mark}
 use Rattle.model.specs.declared.message.Mode.{Mode}
 use Rattle.model.specs.declared.session.Session.{Session}
-use Rattle.outbox.specs.Queue.{Held}
+use Rattle.outbox.specs.Queue.{Entry, Held, octets_in}
 use Rattle.spool_files.specs.View.{Dirties, IsSpool, SpoolView}
 use Rattle.volume.specs.Volume.{Differs}
 use Rattle.kernel.specs.Kernel.{KernelView, is_block, mode_at}
-use Rattle.seats.specs.Seats.{Seat, answered_by, new_seat, ready}
+use Rattle.seats.specs.Seats.{Seat, answered_by, given_of, new_seat, ready, ready_by, ready_of, seat_given, with_seat}
 use Rattle.kernel.specs.Kept.{IsKept}
 use Rattle.seats.specs.Kept.{IsSeat, RiseFrom, StillAwaits}
 use Rattle.kernel.specs.Serving.{answer_in, Grows}
 use Rattle.kernel.specs.Stored.{kernel_of}
 use Rattle.seats.proofs.Keeping.{SeatIsKept-answered}
-use Rattle.seats.proofs.Releasing.{ready_seats, ready_rises, ready_few}
-use Rattle.seats.proofs.SeatsLaws.{RiseFrom-filter, RiseFrom-push, RiseFrom-set, below_differs, filter_above, find_at, seats_more}
+use Rattle.seats.proofs.Releasing.{ready_seats, ready_rises, ready_few, seat_gives}
+use Rattle.seats.proofs.SeatsLaws.{RiseFrom-filter, RiseFrom-push, RiseFrom-set, find_at, find_place, seats_more, with_seat_set}
 
 -- what holds of each session holds of the one at a place
 pub all_at : (P : Seat → Type 0) (at : ℕ) (seats : List Seat) (seat : Seat) → All P seats → slice_get seats at ≡ Some seat → P seat
@@ -195,6 +195,33 @@ kept_released s d f halted j seats h =
       rising = ready_rises 0 d 65536 seats h.rising;
     }
 
+-- one session gives
+pub kept_gave : (s : SpoolView) (d : ℕ) (f : Option ℕ) (halted : Bool) (j : ℕ) (seats : List Seat) (entries : List Entry) (number : ℕ) → IsKept (kernel_of s d f halted j seats) → IsKept (kernel_of s d f halted j (ready_of d entries number seats).seats)
+kept_gave s d f halted j seats entries number h = go (find (λ (seat : Seat). seat.number == number) seats) refl
+  where
+    after : (seat : Seat) (at : ℕ) → slice_get seats at ≡ Some seat → (ended : Bool) → (given_of d entries seat).ended ≡ ended
+        → IsKept (kernel_of s d f halted j (if ended then filter (λ (other : Seat). not (other.number == seat.number)) seats else with_seat seats (seat_given seat (given_of d entries seat))))
+    after seat at place true is = kept_left s d f halted j seats (λ (other : Seat). not (other.number == seat.number)) h
+    after seat at place false is =
+        let new : Seat = seat_given seat (given_of d entries seat) in
+        let this : IsSeat s.host s.changes j new = seat_gives s.host s.changes j d (65536 - octets_in entries) seat (all_at (IsSeat s.host s.changes j) at seats seat h.seats place) is in
+        subst (λ (xs : List Seat). IsKept (kernel_of s d f halted j xs)) (with_seat_set 0 at seats seat new h.rising place refl)
+        (record {
+          cache = h.cache;
+          durable = h.durable;
+          flying = h.flying;
+          few_dirty = h.few_dirty;
+          below = h.below;
+          distinct = h.distinct;
+          few_seats = omega (arith, h.few_seats, length-set seats at new);
+          seats = All-set (IsSeat s.host s.changes j) seats at new this h.seats;
+          rising = RiseFrom-set 0 at seats seat new h.rising place refl;
+        })
+
+    go : (o : Option Seat) → find (λ (seat : Seat). seat.number == number) seats ≡ o → IsKept (kernel_of s d f halted j (ready_by d entries seats o).seats)
+    go None is = h
+    go (Some seat) is = let place = find_place number seats seat is in after seat place.0 place.1 (given_of d entries seat).ended refl
+
 -- a read gives the session at a place
 pub same_place : (at : ℕ) (seats : List Seat) (a b : Seat) → slice_get seats at ≡ Some b → a ≡ get_or seats at a → a ≡ b
 same_place at [] a b is read = absurd (cc is)
@@ -212,19 +239,6 @@ mode_found k at seat rise place = ap mode_by (find_at 0 at k.seats seat rise pla
 
 pub mode_missing : (k : KernelView) (sid : ℕ) → find (λ (s : Seat). s.number == sid) k.seats ≡ None → mode_at k sid ≡ None
 mode_missing k sid none = ap mode_by none
-
--- the session at a place dropped
-pub filter_at : (n at : ℕ) (seats : List Seat) (seat : Seat) → RiseFrom n seats → slice_get seats at ≡ Some seat → take at seats ++ drop (suc at) seats ≡ filter (λ (s : Seat). not (s.number == seat.number)) seats
-filter_at n at [] seat rise is = absurd (cc is)
-filter_at n zero (first ∷ seats) seat rise is =
-    let same : first ≡ seat = cc is in
-    let here : (first.number == seat.number) ≡ true = eq-eqb first.number seat.number (ap (λ (s : Seat). s.number) same) in
-    let rest = filter_above first.number seats seat rise.1 (omega (arith, ap (λ (s : Seat). s.number) same)) in
-    sym (ap (λ (b : Bool). if not b then first ∷ filter (λ (s : Seat). not (s.number == seat.number)) seats else filter (λ (s : Seat). not (s.number == seat.number)) seats) here ∙ rest)
-filter_at n (suc at) (first ∷ seats) seat rise is =
-    let other : (first.number == seat.number) ≡ false = below_differs first.number at seats seat rise.1 is in
-    ap (λ (ss : List Seat). first ∷ ss) (filter_at first.number at seats seat rise.1 is)
-    ∙ sym (ap (λ (b : Bool). if not b then first ∷ filter (λ (s : Seat). not (s.number == seat.number)) seats else filter (λ (s : Seat). not (s.number == seat.number)) seats) other)
 
 pub filter_missing : (sid : ℕ) (seats : List Seat) → find (λ (s : Seat). s.number == sid) seats ≡ None → filter (λ (s : Seat). not (s.number == sid)) seats ≡ seats
 filter_missing sid [] none = refl

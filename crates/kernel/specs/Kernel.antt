@@ -18,8 +18,8 @@ use Rattle.model.specs.declared.message.Mode.{Mode}
 use Rattle.model.specs.declared.message.Mode.TheVariants as mode
 use Rattle.model.specs.declared.session.Session.{Session}
 use Rattle.spool_files.specs.Refusals.{has_number}
-use Rattle.outbox.specs.Queue.{buffered as octets_held}
-use Rattle.seats.specs.Seats.{Seat, answered_by, new_seat, ready, with_seat}
+use Rattle.outbox.specs.Queue.{Entry, buffered as octets_held}
+use Rattle.seats.specs.Seats.{Seat, answered_by, new_seat, ready, ready_of, with_seat}
 
 pub record KernelView : Type 0 where
   pub host : Octets
@@ -186,6 +186,10 @@ halted_for_good kernel = record kernel { halted = true }
 
 abbrev pub released : KernelView → KernelView
 released kernel = record kernel { seats = (ready kernel.durable 65536 kernel.seats).seats }
+
+-- one session gives what is ready, behind these entries
+abbrev pub released_of : KernelView → List Entry → ℕ → KernelView
+released_of kernel entries number = record kernel { seats = (ready_of kernel.durable entries number kernel.seats).seats }
 
 -- what exec does to a session that is there: it answers what is read next, and the mark
 pub record Execs (old new : KernelView) (number : ℕ) (m : Message) (t : ℕ) (answered : Option Mode × Mark) : Type 0 where

@@ -3,12 +3,12 @@
 //! `specs/Kept.antt` what it keeps.
 #![tactic(auto)]
 
-ghost use Rattle.std.specs.Prelude.{[], None, ◌&&◌, nat_lt, ◌≡◌, ◌≢◌, ◌⊎◌, ◌↔◌, ◌+◌, ◌*◌, ◌<◌, ◌≤◌, Some, IsSome, IsNone, IsTrue, IfOk, IfSome, OnErr, length, true, false, is_some, option_map, slice_get};
+ghost use Rattle.std.specs.Prelude.{[], None, ◌++◌, ◌&&◌, nat_lt, ◌≡◌, ◌≢◌, ◌⊎◌, ◌↔◌, ◌+◌, ◌*◌, ◌<◌, ◌≤◌, Some, IsSome, IsNone, IsTrue, IfOk, IfSome, OnErr, length, true, false, is_some, option_map, slice_get};
 ghost use Rattle.std.specs.List.{list_all};
 ghost use Rattle.kernel.specs.Errors.{of_join, of_exec, of_admin, of_expire};
 ghost use Rattle.kernel.specs.Kept.{IsKept};
-ghost use Rattle.kernel.specs.Kernel.{Administers, Execs, FitsMode, Takes, Tested, TestedOrMemory, admin_refusal_of, early_refusal, exec_refusal, expire_refusal_of, has_batch, halted_for_good, is_block, join_refusal, joined, left, made_durable, mode_at, only_tested, released, seat_of};
-ghost use Rattle.seats.specs.Seats.{ready, Seat as SeatView};
+ghost use Rattle.kernel.specs.Kernel.{Administers, Execs, FitsMode, Takes, Tested, TestedOrMemory, admin_refusal_of, early_refusal, exec_refusal, expire_refusal_of, has_batch, halted_for_good, is_block, join_refusal, joined, left, made_durable, mode_at, only_tested, released, released_of, seat_of};
+ghost use Rattle.seats.specs.Seats.{holds, ready, ready_of, Seat as SeatView};
 ghost use Rattle.model.specs.Calendar.{moment_limit};
 ghost use Rattle.model.specs.Lawful.{is_description_octet};
 ghost use Rattle.model.specs.Volume.{blocks_from};
@@ -24,7 +24,7 @@ use model::{Mark, Message, Mode};
 use names::GroupName;
 pub use opening::OpenError;
 use outbox::ReadyBuf;
-use seats::{Seat, position, release};
+use seats::{Seat, position, release, release_of};
 use spool_files::AddError;
 pub use spool_files::Spool;
 use std::alloc::Global;
@@ -325,6 +325,18 @@ impl Kernel {
     {
         into.clear();
         release(&mut self.seats, self.durable, into);
+    }
+
+    /// Moves the outputs of one session whose dependency is durable into the buffer, behind what it holds: in order, until
+    /// 65,536 octets are used in all; the last may be cut. A session whose end was handed out is there no more; one that isn't
+    /// there gives nothing. Whether outputs of the session are still held. It takes no memory.
+    pub fn give_ready(&mut self, sid: u64, into: &mut ReadyBuf) -> bool
+        requires room { length into.old < 64 }
+        ensures given { into.new ≡ into.old ++ (ready_of self.old.durable into.old sid self.old.seats).entries }
+        ensures kept { self.new ≡ released_of self.old into.old sid }
+        ensures holds { result ≡ holds (seat_of self.new sid) }
+    {
+        release_of(&mut self.seats, sid, self.durable, into)
     }
 
     /// Drops a session and its held outputs; nothing where it isn't there. It takes no memory.

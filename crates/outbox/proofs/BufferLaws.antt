@@ -1,13 +1,15 @@
 -- An entry more after those of a buffer.
 use Rattle.std.proofs.Common.{◌≡◌, ℕ, zero, suc, ◌+◌, ◌-◌, ◌≤◌, Bool, true, false, not, ◌&&◌, List, [], ◌∷◌, ◌++◌, length, take, drop, refl, sym, ◌∙◌, ap, subst, arith, length-append, length-drop}
-use Rattle.std.specs.Prelude.{◌==◌, slice_range, All, if◌then◌else◌}
+use Rattle.std.specs.List.{concat}
+use Rattle.std.specs.Prelude.{◌==◌, map, slice_range, All, if◌then◌else◌}
 use Rattle.std.proofs.lemmas.Bool.{eqb-true, and_parts}
 use Rattle.std.proofs.lemmas.Bool.Decides.{nat_tests}
-use Rattle.std.proofs.lemmas.List.{map-append, take-append-le, drop-append-le, take_all}
+use Rattle.std.proofs.lemmas.List.{append-nil, map-append, nil_from_length, take-append-le, drop-append-le, take_all}
 use Rattle.std.proofs.Math.Seq.{drop-append_seam}
 use Rattle.std.proofs.lemmas.List.Elements.{All-head, All-tail, All-append}
+use Rattle.std.proofs.lemmas.List.Folds.{concat-append}
 use Rattle.std.proofs.lemmas.List.Sums.{sum_by-append, sum_by-cons}
-use Rattle.outbox.specs.Queue.{Held, Entry, Giving, entry_of, octets_in}
+use Rattle.outbox.specs.Queue.{Held, Entry, Giving, entry_of, octets_along, octets_in}
 use Rattle.outbox.specs.Slots.{LiesWithin, entry_at, entries_in, slots_of}
 use Rattle.outbox.specs.Fields.{IsGiven}
 use Rattle.outbox.specs.declared.ready.Slot.{Slot}
@@ -76,6 +78,17 @@ octets_in-entry_of number g = go (length g.octets == 0 && not g.ended) refl
     go true is = omega (arith, eqb-true (length g.octets) 0 (and_parts (length g.octets == 0) (not g.ended) is).0)
     go false is = sum_by-cons (λ (e : Entry). length e.1) (number, g.octets, g.ended) [] ∙ omega arith
 
+-- all octets
+octets_along-append : (front back : List Entry) → octets_along (front ++ back) ≡ octets_along front ++ octets_along back
+octets_along-append front back = ap concat (map-append (λ (e : Entry). e.1) front back) ∙ concat-append (map (λ (e : Entry). e.1) front) (map (λ (e : Entry). e.1) back)
+
+octets_along-entry_of : (number : ℕ) (g : Giving) → octets_along (entry_of number g) ≡ g.octets
+octets_along-entry_of number g = go (length g.octets == 0 && not g.ended) refl
+  where
+    go : (none : Bool) → (length g.octets == 0 && not g.ended) ≡ none → octets_along (if none then [] else (number, g.octets, g.ended) ∷ []) ≡ g.octets
+    go true is = sym (nil_from_length g.octets (eqb-true (length g.octets) 0 (and_parts (length g.octets == 0) (not g.ended) is).0))
+    go false is = append-nil g.octets
+
 -- the buffer, with what the loop gave and the session's slot
 module _ (before after : List ℕ) (slots after_slots : List Slot) (number start end : ℕ) (g : Giving) (ended : Bool) (given : ℕ) (held : List Held)
     (within : All (LiesWithin (length before)) slots) (gives : IsGiven g ended given held before after) (from : start ≡ length before) (to : end ≡ length after)
@@ -94,6 +107,13 @@ module _ (before after : List ℕ) (slots after_slots : List Slot) (number start
       subst (All (LiesWithin (length after))) (sym noted)
       (All-append (LiesWithin (length after)) slots (slots_of number start end ended) (LiesWithin-more (length before) (length after) slots (omega (arith, size)) within)
       (subst (λ n. All (LiesWithin n) (slots_of number start end ended)) to (slots_of-within number start end ended (omega (arith, size)))))
+
+  pub given-along : octets_along (entries_in before slots) ≡ before → octets_along (entries_in after after_slots) ≡ after
+  given-along along =
+      ap octets_along given-entries
+      ∙ octets_along-append (entries_in before slots) (entry_of number g)
+      ∙ (λ i. along i ++ octets_along-entry_of number g i)
+      ∙ sym gives.octets_are
 
   pub given-counted : octets_in (entries_in before slots) ≡ length before → octets_in (entries_in after after_slots) ≡ length after
   given-counted counted =

@@ -1,7 +1,7 @@
 -- What the fields of a queue and of a buffer stand for.
 use Rattle.std.specs.Prelude.{◌≡◌, ℕ, ◌-◌, ◌≤◌, Bool, List, ◌++◌, length, All, vec_len, vec_capacity}
 use Rattle.std.specs.VecDeque.{deque_len, deque_capacity}
-use Rattle.outbox.specs.Queue.{Held, QueueView, Giving, Entry, buffered, octets_in}
+use Rattle.outbox.specs.Queue.{Held, QueueView, Giving, Entry, buffered, octets_along, octets_in}
 use Rattle.outbox.specs.declared.queue.Queue.TheInside as queue
 use Rattle.outbox.specs.declared.ready.ReadyBuf.TheInside as buffer
 use Rattle.outbox.specs.Slots.{LiesWithin, entries_in}
@@ -16,9 +16,10 @@ IsSoundQueue q = q.buffered ≡ buffered q.outputs.items
 abbrev pub entries_of : buffer.Inside → List Entry
 entries_of b = entries_in b.octets.items b.slots.items
 
--- each octet stands in one entry, and there is room for a release
+-- the entries' octets are those of the buffer, in order, and there is room for a release
 pub record IsSoundBuffer (b : buffer.Inside) : Type 0 where
   pub within : All (LiesWithin (length b.octets.items)) b.slots.items
+  pub along : octets_along (entries_of b) ≡ b.octets.items
   pub counted : octets_in (entries_of b) ≡ length b.octets.items
   pub octets : vec_len b.octets ≤ 65_536
   pub octet_room : 65_536 ≤ vec_capacity b.octets

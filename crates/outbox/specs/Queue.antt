@@ -1,6 +1,7 @@
 -- The outputs of one session that are not handed out whole yet, and what a release hands out of them. All of this is this
 -- project's rule.
-use Rattle.std.specs.Prelude.{◌≡◌, ℕ, ◌-◌, Bool, true, false, not, ◌&&◌, ◌||◌, ◌==◌, nat_lt, if◌then◌else◌, List, [], ◌∷◌, ◌++◌, length, take, drop, sum_by}
+use Rattle.std.specs.Prelude.{◌≡◌, ℕ, ◌-◌, Bool, true, false, not, ◌&&◌, ◌||◌, ◌==◌, nat_lt, if◌then◌else◌, List, [], ◌∷◌, ◌++◌, length, take, drop, map, sum_by}
+use Rattle.std.specs.List.{concat}
 
 -- An output that is not handed out whole yet: the octets that are still to go, the number of changes that have to be durable
 -- before any of them may, and whether the session ends after them.
@@ -70,3 +71,7 @@ entry_of number g = if length g.octets == 0 && not g.ended then [] else (number,
 -- how many octets stand in these entries
 abbrev pub octets_in : List Entry → ℕ
 octets_in entries = sum_by (λ (e : Entry). length e.1) entries
+
+-- their octets, one entry's after the other
+abbrev pub octets_along : List Entry → List ℕ
+octets_along entries = concat (map (λ (e : Entry). e.1) entries)

@@ -1,7 +1,7 @@
 //! The buffer that a release fills: the sessions' octets one after the other, and where each session's stand.
 
 ghost use Rattle.std.specs.Prelude.{◌≡◌, ◌<◌, ◌≤◌, ◌==◌, ◌++◌, [], length, vec_len, vec_capacity, Some, IfOk, slice_get};
-ghost use Rattle.outbox.specs.Queue.{octets_in};
+ghost use Rattle.outbox.specs.Queue.{octets_along, octets_in};
 ghost use Rattle.outbox.specs.Slots.{slots_of};
 
 use crate::{RELEASE_ENTRIES, RELEASE_OCTETS};
@@ -79,6 +79,13 @@ impl ReadyBuf {
     {
         let slot = &self.slots[index];
         (slot.number, &self.octets[slot.start..slot.end], slot.ends)
+    }
+
+    /// The octets of all entries, in order.
+    pub fn octets(&self) -> &[u8]
+        ensures { result.now ≡ octets_along self.now }
+    {
+        self.octets.as_slice()
     }
 }
 

@@ -3,3 +3,4 @@ pub mod Releasing
 pub mod SeatLaws
 pub mod SeatsLaws
 pub mod Rest
+pub mod One

@@ -11,7 +11,7 @@ use Rattle.model.specs.Replies.{greeting}
 use Rattle.model.specs.Service.{mode_of}
 use Rattle.model.specs.declared.session.Session.{Session}
 use Rattle.outbox.specs.Queue.{Held, Giving, give, nothing_more, cut_at, behind}
-use Rattle.seats.specs.Seats.{Seat, ready}
+use Rattle.seats.specs.Seats.{Seat, ready, seat_given}
 use Rattle.seats.specs.Kept.{Origin, answer_at, made_at, IsReply, IsGreeting, AreReplies, SeatIsKept, StillAwaits, IsSeat, RiseFrom}
 
 -- `give` at an output, by its two tests
@@ -123,6 +123,12 @@ module _ (host : Octets) (S : Spool) where
       go tail true cut is = record { outputs = h; awaits = λ _. tt; ends = λ is'. absurd (cc is') }
       go tail false true is = record { outputs = cut_is_kept given room held rest last (ltb-true room (length held.octets) is) h; awaits = λ _. tt; ends = λ is'. absurd (cc is') }
       go tail false false is = whole tail held.ends refl
+
+  -- a session that goes on after what it gave
+  pub seat_gives : (joined p room : ℕ) (seat : Seat) → IsSeat host S joined seat → (give p room seat.given seat.held).ended ≡ false → IsSeat host S joined (seat_given seat (give p room seat.given seat.held))
+  seat_gives joined p room seat h is =
+      let k = give_is_kept p room seat.given seat.held seat.session h.outputs h.awaits in
+      record { outputs = k.outputs; awaits = k.awaits is; lawful = h.lawful; some = h.some; spent = h.spent }
 
   -- ---- all sessions
 

@@ -1,6 +1,6 @@
 -- The sessions of a kernel as a list: one of them found, changed, added or dropped.
 use Rattle.std.proofs.Common.{◌≡◌, ℕ, zero, suc, ◌≤◌, ◌<◌, ◌==◌, Bool, true, false, List, [], ◌∷◌, ◌++◌, refl, ap, sym, ◌∙◌, subst, arith, set, eq-eqb}
-use Rattle.std.specs.Prelude.{Some, find, filter, not, if◌then◌else◌, slice_get, All}
+use Rattle.std.specs.Prelude.{Some, None, find, filter, not, take, drop, if◌then◌else◌, slice_get, All}
 use Rattle.std.proofs.lemmas.Bool.{eqb-true}
 use Rattle.std.proofs.lemmas.List.Elements.{All-weaker}
 use Rattle.model.specs.Stream.{Octets}
@@ -55,7 +55,45 @@ find_at n (suc at) (first ∷ seats) seat rise is =
     let other : (first.number == seat.number) ≡ false = eqb-below first.number seat.number (above first.number at seats seat rise.1 is) in
     ap (λ (b : Bool). if b then Some first else find (λ (s : Seat). s.number == seat.number) seats) other ∙ find_at first.number at seats seat rise.1 is
 
+-- the session at a place dropped
+pub filter_at : (n at : ℕ) (seats : List Seat) (seat : Seat) → RiseFrom n seats → slice_get seats at ≡ Some seat → take at seats ++ drop (suc at) seats ≡ filter (λ (s : Seat). not (s.number == seat.number)) seats
+filter_at n at [] seat rise is = absurd (cc is)
+filter_at n zero (first ∷ seats) seat rise is =
+    let same : first ≡ seat = cc is in
+    let here : (first.number == seat.number) ≡ true = eq-eqb first.number seat.number (ap (λ (s : Seat). s.number) same) in
+    let rest = filter_above first.number seats seat rise.1 (omega (arith, ap (λ (s : Seat). s.number) same)) in
+    sym (ap (λ (b : Bool). if not b then first ∷ filter (λ (s : Seat). not (s.number == seat.number)) seats else filter (λ (s : Seat). not (s.number == seat.number)) seats) here ∙ rest)
+filter_at n (suc at) (first ∷ seats) seat rise is =
+    let other : (first.number == seat.number) ≡ false = below_differs first.number at seats seat rise.1 is in
+    ap (λ (ss : List Seat). first ∷ ss) (filter_at first.number at seats seat rise.1 is)
+    ∙ sym (ap (λ (b : Bool). if not b then first ∷ filter (λ (s : Seat). not (s.number == seat.number)) seats else filter (λ (s : Seat). not (s.number == seat.number)) seats) other)
+
+-- and then none of its number is there
+pub find_dropped : (number : ℕ) (seats : List Seat) → find (λ (s : Seat). s.number == number) (filter (λ (s : Seat). not (s.number == number)) seats) ≡ None
+find_dropped number [] = refl
+find_dropped number (first ∷ seats) = go (first.number == number) refl (find_dropped number seats)
+  where
+    go : (b : Bool) → (first.number == number) ≡ b → find (λ (s : Seat). s.number == number) (filter (λ (s : Seat). not (s.number == number)) seats) ≡ None
+        → find (λ (s : Seat). s.number == number) (if not b then first ∷ filter (λ (s : Seat). not (s.number == number)) seats else filter (λ (s : Seat). not (s.number == number)) seats) ≡ None
+    go true is later = later
+    go false is later = ap (λ (b : Bool). if b then Some first else find (λ (s : Seat). s.number == number) (filter (λ (s : Seat). not (s.number == number)) seats)) is ∙ later
+
+-- a session that is found has a place
+pub find_place : (number : ℕ) (seats : List Seat) (seat : Seat) → find (λ (s : Seat). s.number == number) seats ≡ Some seat → (at : ℕ) × (slice_get seats at ≡ Some seat)
+find_place number [] seat is = absurd (cc is)
+find_place number (first ∷ seats) seat is = go (first.number == number) is (find_place number seats seat)
+  where
+    go : (b : Bool) → (if b then Some first else find (λ (s : Seat). s.number == number) seats) ≡ Some seat → (find (λ (s : Seat). s.number == number) seats ≡ Some seat → (at : ℕ) × (slice_get seats at ≡ Some seat))
+        → (at : ℕ) × (slice_get (first ∷ seats) at ≡ Some seat)
+    go true e later = (0, e)
+    go false e later = let l = later e in (suc l.0, l.1)
+
 -- a write of one session
+pub set_get : (at : ℕ) (seats : List Seat) (seat new : Seat) → slice_get seats at ≡ Some seat → slice_get (set seats at new) at ≡ Some new
+set_get at [] seat new is = absurd (cc is)
+set_get zero (first ∷ seats) seat new is = refl
+set_get (suc at) (first ∷ seats) seat new is = set_get at seats seat new is
+
 unchanged : (n : ℕ) (seats : List Seat) (new : Seat) → RiseFrom n seats → new.number ≤ n → with_seat seats new ≡ seats
 unchanged n [] new rise le = refl
 unchanged n (first ∷ seats) new rise le =

@@ -1,5 +1,5 @@
 -- A session as callers of the kernel see it, and what it holds, gives and is answered.
-use Rattle.std.specs.Prelude.{ℕ, ◌+◌, ◌-◌, max, false, ◌==◌, if◌then◌else◌, List, [], ◌∷◌, ◌++◌, map, is_none}
+use Rattle.std.specs.Prelude.{ℕ, ◌-◌, max, Bool, false, not, ◌==◌, if◌then◌else◌, List, [], ◌∷◌, ◌++◌, map, filter, find, length, Option, Some, None, is_none}
 use Rattle.model.specs.Stream.{Octets}
 use Rattle.model.specs.Spool.{Spool}
 use Rattle.model.specs.Answer.{answer, new_session}
@@ -68,3 +68,19 @@ given_of p entries seat = give p (65536 - octets_in entries) seat.given seat.hel
 abbrev pub ready : ℕ → ℕ → List Seat → Ready
 ready p room [] = record { entries = []; seats = [] }
 ready p room (seat ∷ seats) = given_by seat (give p room seat.given seat.held) (ready p (give p room seat.given seat.held).room seats)
+
+-- what one session gives behind these entries, and the sessions after it; where it isn't there, nothing happens
+abbrev pub ready_by : ℕ → List Entry → List Seat → Option Seat → Ready
+ready_by p entries seats None = record { entries = []; seats = seats }
+ready_by p entries seats (Some seat) = record {
+  entries = entry_of seat.number (given_of p entries seat);
+  seats = if (given_of p entries seat).ended then filter (λ (other : Seat). not (other.number == seat.number)) seats else with_seat seats (seat_given seat (given_of p entries seat));
+}
+
+abbrev pub ready_of : ℕ → List Entry → ℕ → List Seat → Ready
+ready_of p entries number seats = ready_by p entries seats (find (λ (seat : Seat). seat.number == number) seats)
+
+-- whether a session is there and holds outputs
+abbrev pub holds : Option Seat → Bool
+holds None = false
+holds (Some seat) = not (length seat.held == 0)

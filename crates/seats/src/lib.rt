@@ -2,8 +2,9 @@
 //! `specs/Kept.antt` what is kept of it.
 #![tactic(auto)]
 
-ghost use Rattle.std.specs.Prelude.{Some, IfSome, IsNone, None, ℕ, find, slice_get, ◌==◌, ◌≡◌, ◌<◌, ◌≤◌, ◌+◌, ◌^◌, ◌++◌, ◌∷◌, [], max, IfOk, OnErr, OnOk, length};
-ghost use Rattle.seats.specs.Seats.{Seat as SeatView, answered_by, given_of, new_seat, ready, seat_given};
+ghost use Rattle.std.specs.Prelude.{Some, IfSome, IsNone, None, ℕ, find, not, slice_get, ◌==◌, ◌≡◌, ◌<◌, ◌≤◌, ◌+◌, ◌^◌, ◌++◌, ◌∷◌, [], max, IfOk, OnErr, OnOk, length};
+ghost use Rattle.seats.specs.Seats.{Seat as SeatView, answered_by, given_of, holds, new_seat, ready, ready_of, seat_given};
+ghost use Rattle.seats.specs.Kept.{RiseFrom};
 ghost use Rattle.seats.specs.Serving.{SeatServed};
 ghost use Rattle.model.specs.Calendar.{moment_limit};
 ghost use Rattle.model.specs.Lawful.{IsLawfulSession};
@@ -129,6 +130,13 @@ impl Seat {
         self.queue.give(self.number, durable, into)
     }
 
+    /// Whether outputs are held.
+    pub fn holds(&self) -> bool
+        ensures { result ≡ not (length self.now.held == 0) }
+    {
+        !self.queue.is_empty()
+    }
+
     /// Tells the session that the service ends, whatever its message says; it is closed then. Refused where memory is, and then
     /// nothing changes.
     pub fn stop(&mut self, alloc: Global) -> Result<(), AllocError>
@@ -196,4 +204,26 @@ pub fn release(seats: &mut Vec<Seat>, durable: u64, into: &mut ReadyBuf)
             at += 1;
         }
     }
+}
+
+/// One session gives what is ready behind what the buffer holds, and is dropped where it ends; nothing where it isn't there.
+/// Whether outputs of it are still held.
+pub fn release_of(seats: &mut Vec<Seat>, sid: u64, durable: u64, into: &mut ReadyBuf) -> bool
+    requires rising { RiseFrom 0 seats.old.items }
+    requires room { length into.old < 64 }
+    ensures given { into.new ≡ into.old ++ (ready_of durable into.old sid seats.old.items).entries }
+    ensures kept { seats.new.items ≡ (ready_of durable into.old sid seats.old.items).seats }
+    ensures holds { result ≡ holds (find (λ (seat : SeatView). seat.number == sid) seats.new.items) }
+{
+    let Some(place) = position(seats, sid) else {
+        return false;
+    };
+    let seat = &mut seats[place];
+    let ended = seat.give(durable, into);
+    let holds = seat.holds();
+    if ended {
+        seats.remove(place);
+        return false;
+    }
+    holds
 }

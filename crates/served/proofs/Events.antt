@@ -11,10 +11,8 @@ use Rattle.model.specs.declared.message.Message.{Message}
 use Rattle.model.specs.declared.message.Mark.{Mark}
 use Rattle.model.specs.declared.message.Mode.{Mode}
 use Rattle.model.specs.declared.session.Session.{Session}
-use Rattle.outbox.specs.Queue.{Entry as Given}
-use Rattle.kernel.specs.Kernel.{KernelView, seat_of, joined, left, released, answered, Executed}
-use Rattle.seats.specs.Seats.{Seat, new_seat, ready}
-use Rattle.kernel.specs.Kept.{IsKept}
+use Rattle.kernel.specs.Kernel.{KernelView, seat_of, joined, left, answered, Executed}
+use Rattle.seats.specs.Seats.{Ready, Seat, new_seat}
 use Rattle.synchrony.specs.Framing.{next_in}
 use Rattle.synchrony.specs.Server.{Entry, Command, Admin, Connection, opened, updated}
 use Rattle.synchrony.specs.Dependency.{Output, greatest, Account, account_of, account_step}
@@ -23,11 +21,11 @@ use Rattle.synchrony.proofs.Fronts.{same_functions}
 use Rattle.synchrony.proofs.GoingOn.{account_served, arrivals_only_wait, entries_are_steps}
 use Rattle.synchrony.proofs.Filled.{outputs_are_filled}
 use Rattle.served.specs.Served.{Sent, ServedView, Trace, nobody, session_at, sent_at, with_sent, arrived_at, first_spool, account, next_of, IsPresent, IsUnknown, IsKnown, IsSession, IsServed}
-use Rattle.served.specs.Events.{joins, arrives, leaves, releases, with_kernel, with_released, Serves, Makes}
-use Rattle.served.specs.Fields.{given_in}
+use Rattle.served.specs.Events.{joins, arrives, leaves, with_kernel, with_released, Serves, Makes}
+use Rattle.served.specs.Fields.{AreKnown, given_in}
 use Rattle.model.proofs.NewsLaws.{lawful}
-use Rattle.served.proofs.Seats.{seat_in, seat_in-number, seat_in-joined, seat_in-left, seat_in-answered, ready_gives, by_number, updated-same, updated-other, eqb-other, eqb-same}
-use Rattle.served.proofs.Sessions.{session_at-joined, session_at-with, session_at-past, length-with_sent, with_released-at, length-with_released, ready_known, sent_more}
+use Rattle.served.proofs.Seats.{seat_in, seat_in-number, seat_in-joined, seat_in-left, seat_in-answered, Given as GivenTo, by_number, updated-same, updated-other, eqb-other, eqb-same}
+use Rattle.served.proofs.Sessions.{session_at-joined, session_at-with, session_at-past, length-with_sent, with_released-at, length-with_released, sent_more}
 use Rattle.served.proofs.Standing.{IsSession-along, IsSession-raise, IsSession-joins, IsSession-arrives, IsSession-left, IsSession-served, IsSession-releases, there_joined, sent_arrived}
 
 -- ---- what the plain server is asked about
@@ -375,9 +373,14 @@ IsServed-leaves served number h = go (seat_of served.kernel number) refl
 
 -- ---- a release
 
-pub IsServed-releases : (served : ServedView) → IsKept served.kernel → IsServed served → IsServed (releases served) × (account (releases served) ≡ account served)
-IsServed-releases served kept h = (
-  from_stands (releases served) (length-with_released served.sessions entries ∙ h.numbers) h.opening h.durable
+-- sessions gave these entries
+abbrev pub gives : ServedView → Ready → ServedView
+gives served given = record served { kernel = record served.kernel { seats = given.seats }; sessions = with_released served.sessions given.entries; ready = given.entries }
+
+pub IsServed-gives : (served : ServedView) (given : Ready) → AreKnown served.sessions given.entries → ((k : ℕ) → GivenTo served.kernel.durable (seat_of served.kernel k) (seat_in given.seats k) (given_in k given.entries)) → IsServed served
+    → IsServed (gives served given) × (account (gives served given) ≡ account served)
+IsServed-gives served given known gave h = (
+  from_stands (gives served given) (length-with_released served.sessions given.entries ∙ h.numbers) h.opening h.durable
       (Stands-along host served.kernel.durable refl refl inputs refl (same_functions _ _ sent_is) refl
       (record { spool_is = h.spool; finds = h.finds; each = each })),
   ap (λ f. account_in host (first_spool served) f served.trace) inputs,
@@ -386,27 +389,24 @@ IsServed-releases served kept h = (
     host : Octets
     host = served.kernel.host
 
-    entries : List Given
-    entries = (ready served.kernel.durable 65536 served.kernel.seats).entries
-
-    sent_is : (k : ℕ) → session_at (with_released served.sessions entries) k ≡ option_map (sent_more (given_in k entries)) (session_at served.sessions k)
-    sent_is = with_released-at served.sessions entries (ready_known host served.kernel.spool served.kernel.joined served.kernel.durable 65536 served.sessions served.kernel.seats h.numbers kept.seats)
+    sent_is : (k : ℕ) → session_at (with_released served.sessions given.entries) k ≡ option_map (sent_more (given_in k given.entries)) (session_at served.sessions k)
+    sent_is = with_released-at served.sessions given.entries known
 
     same_arrived : (o : Option Sent) (xs : Octets) → (unwrap_or (option_map (sent_more xs) o) nobody).arrived ≡ (unwrap_or o nobody).arrived
     same_arrived None xs = refl
     same_arrived (Some s) xs = refl
 
-    arrived : (k : ℕ) → arrived_at (releases served) k ≡ arrived_at served k
-    arrived k = ap (λ o. (unwrap_or o nobody).arrived) (sent_is k) ∙ same_arrived (session_at served.sessions k) (given_in k entries)
+    arrived : (k : ℕ) → arrived_at (gives served given) k ≡ arrived_at served k
+    arrived k = ap (λ o. (unwrap_or o nobody).arrived) (sent_is k) ∙ same_arrived (session_at served.sessions k) (given_in k given.entries)
 
-    inputs : arrived_at (releases served) ≡ arrived_at served
-    inputs = same_functions (arrived_at (releases served)) (arrived_at served) arrived
+    inputs : arrived_at (gives served given) ≡ arrived_at served
+    inputs = same_functions (arrived_at (gives served given)) (arrived_at served) arrived
 
-    each : (k : ℕ) → IsSession host served.kernel.durable (option_map (sent_more (given_in k entries)) (session_at served.sessions k)) (seat_of (released served.kernel) k) ((account served).server.connections k) ((account served).outputs k)
+    each : (k : ℕ) → IsSession host served.kernel.durable (option_map (sent_more (given_in k given.entries)) (session_at served.sessions k)) (seat_in given.seats k) ((account served).server.connections k) ((account served).outputs k)
     each k =
-        IsSession-releases host served.kernel.durable (session_at served.sessions k) (seat_of served.kernel k) (seat_of (released served.kernel) k) (given_in k entries) _ _
+        IsSession-releases host served.kernel.durable (session_at served.sessions k) (seat_of served.kernel k) (seat_in given.seats k) (given_in k given.entries) _ _
         (outputs_are_filled (service host) (lawful host) (first_spool served) (arrived_at served) served.trace k)
-        (ready_gives 0 served.kernel.durable 65536 served.kernel.seats kept.rising k) (h.each k)
+        (gave k) (h.each k)
 
 -- ---- the kernel alone
 

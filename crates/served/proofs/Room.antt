@@ -5,7 +5,8 @@ use Rattle.std.proofs.Common.{⊎_elim}
 use Rattle.std.proofs.lemmas.Bool.{cases_lt}
 use Rattle.seats.specs.Kept.{RiseFrom}
 use Rattle.std.specs.Option.{IsSome}
-use Rattle.seats.specs.Seats.{Seat, ready}
+use Rattle.seats.specs.Seats.{Ready, Seat, ready, ready_of}
+use Rattle.seats.proofs.SeatsLaws.{find_place}
 use Rattle.outbox.specs.Queue.{Entry}
 use Rattle.synchrony.specs.Server.{updated}
 use Rattle.served.specs.Events.{with_released}
@@ -13,7 +14,7 @@ use Rattle.served.specs.Fields.{AreKnown, HasRoom, HaveRoom, given_in, inputs, s
 use Rattle.served.specs.Served.{Sent, numbered, sent_at, with_numbered, with_sent}
 use Rattle.served.specs.declared.peer.Peer.{Peer}
 use Rattle.served.proofs.Peers.{AtPeer}
-use Rattle.served.proofs.Seats.{Given, by_number, eqb-other, eqb-same, ready_gives, ready_short, seat_in, seat_in-number, updated-other, updated-same}
+use Rattle.served.proofs.Seats.{Given, by_number, eqb-other, eqb-same, one_gives, one_short, ready_gives, ready_short, seat_in, seat_in-number, updated-other, updated-same}
 use Rattle.served.proofs.Sessions.{AreKnown-given, numbered-within}
 use Rattle.served.proofs.Sound.{numbered-with}
 
@@ -155,25 +156,24 @@ room_more seats old now new place number h sent input is here others =
           (cases_lt k place);
     }
 
-seat_place : (seats : List Seat) (number : ℕ) (seat : Seat) → seat_in seats number ≡ Some seat → (k : ℕ) × (slice_get seats k ≡ Some seat)
-seat_place [] number seat is = absurd (cc is)
-seat_place (first ∷ seats) number seat is = go (first.number == number) is (seat_place seats number seat)
-  where
-    go : (b : Bool) → (if b then Some first else seat_in seats number) ≡ Some seat → (seat_in seats number ≡ Some seat → (k : ℕ) × (slice_get seats k ≡ Some seat)) → (k : ℕ) × (slice_get (first ∷ seats) k ≡ Some seat)
-    go true e later = (0, e)
-    go false e later = let l = later e in (suc l.0, l.1)
-
--- the room that was made serves for what is ready
-pub ready_room : (seats : List Seat) (durable : ℕ) (peers : List Peer) → RiseFrom 0 seats → ((k : ℕ) (seat : Seat) → slice_get seats k ≡ Some seat → HasRoom peers seat.number 65536) → HaveRoom peers (λ number. length (given_in number (ready durable 65536 seats).entries))
-ready_room seats durable peers rise room number peer at = go (seat_in seats number) refl (ready_gives 0 durable 65536 seats rise number)
+-- the room that was made serves for what is given
+given_room : (seats : List Seat) (durable : ℕ) (peers : List Peer) (given : Ready) → ((k : ℕ) → Given durable (seat_in seats k) (seat_in given.seats k) (given_in k given.entries)) → ((k : ℕ) → length (given_in k given.entries) ≤ 65536)
+    → ((k : ℕ) (seat : Seat) → slice_get seats k ≡ Some seat → HasRoom peers seat.number 65536) → HaveRoom peers (λ number. length (given_in number given.entries))
+given_room seats durable peers given gives short room number peer at = go (seat_in seats number) refl (gives number)
   where
     octets : List ℕ
-    octets = given_in number (ready durable 65536 seats).entries
+    octets = given_in number given.entries
 
-    go : (o : Option Seat) → seat_in seats number ≡ o → Given durable o (seat_in (ready durable 65536 seats).seats number) octets → vec_len peer.released + length octets ≤ vec_capacity peer.released
+    go : (o : Option Seat) → seat_in seats number ≡ o → Given durable o (seat_in given.seats number) octets → vec_len peer.released + length octets ≤ vec_capacity peer.released
     go None is g = let none : length octets ≡ 0 = ap length g.1 in omega arith
     go (Some seat) is g =
-        let place = seat_place seats number seat is in
+        let place = find_place number seats seat is in
         let has : vec_len peer.released + 65536 ≤ vec_capacity peer.released = room place.0 seat place.1 peer (ap (numbered peers) (seat_in-number seats number seat is) ∙ at) in
-        let few : length octets ≤ 65536 = ready_short durable 65536 seats number in
+        let few : length octets ≤ 65536 = short number in
         omega arith
+
+pub ready_room : (seats : List Seat) (durable : ℕ) (peers : List Peer) → RiseFrom 0 seats → ((k : ℕ) (seat : Seat) → slice_get seats k ≡ Some seat → HasRoom peers seat.number 65536) → HaveRoom peers (λ number. length (given_in number (ready durable 65536 seats).entries))
+ready_room seats durable peers rise = given_room seats durable peers (ready durable 65536 seats) (ready_gives 0 durable 65536 seats rise) (ready_short durable 65536 seats)
+
+pub one_room : (seats : List Seat) (durable : ℕ) (number : ℕ) (peers : List Peer) → ((k : ℕ) (seat : Seat) → slice_get seats k ≡ Some seat → HasRoom peers seat.number 65536) → HaveRoom peers (λ k. length (given_in k (ready_of durable [] number seats).entries))
+one_room seats durable number peers = given_room seats durable peers (ready_of durable [] number seats) (one_gives durable [] number seats) (one_short durable [] number seats)

@@ -1,11 +1,12 @@
 -- The sessions that are there, by their numbers, before and after each call.
-use Rattle.std.proofs.Common.{◌≡◌, ◌≢◌, ℕ, ◌≤◌, ◌==◌, Bool, true, false, List, [], ◌∷◌, ◌++◌, length, Option, Some, None, refl, ap, sym, ◌∙◌, subst, arith, append_assoc, length-append}
+use Rattle.std.proofs.Common.{◌≡◌, ◌≢◌, ℕ, ◌-◌, ◌≤◌, ◌==◌, Bool, true, false, List, [], ◌∷◌, ◌++◌, length, Option, Some, None, refl, ap, sym, ◌∙◌, subst, arith, append_assoc, length-append}
 use Rattle.std.specs.Prelude.{not, ◌&&◌, find, filter, if◌then◌else◌}
 use Rattle.std.proofs.lemmas.Bool.{eqb-true, eqb-false, eq-eqb}
 use Rattle.std.proofs.lemmas.Bool.Decides.{nat_tests}
 use Rattle.std.proofs.lemmas.List.{append-nil}
-use Rattle.outbox.specs.Queue.{Giving, Entry, give, entry_of}
-use Rattle.seats.specs.Seats.{Seat, Ready, ready, with_seat}
+use Rattle.outbox.specs.Queue.{Giving, Entry, give, entry_of, nothing_more, octets_in}
+use Rattle.outbox.proofs.GivingLaws.{give-full}
+use Rattle.seats.specs.Seats.{Seat, Ready, given_of, ready, ready_by, ready_of, seat_given, with_seat}
 use Rattle.seats.specs.Kept.{RiseFrom}
 use Rattle.served.specs.Fields.{given_in}
 use Rattle.served.proofs.Giving.{give_room}
@@ -203,6 +204,39 @@ seat_in-answered seats seat old is =
     (answered-here seats seat old is ∙ sym (updated-same (seat_in seats) seat.number (Some seat)))
     (λ k differs. answered-other seats seat k differs ∙ sym (updated-other (seat_in seats) seat.number k (Some seat) differs))
 
+-- ---- one session gives
+
+given_nothing : (p : ℕ) (o : Option Seat) → Given p o o []
+given_nothing p None = (refl, refl)
+given_nothing p (Some seat) =
+    let none : give p 0 seat.given seat.held ≡ nothing_more 0 seat.given seat.held = give-full p 0 seat.given seat.held refl in
+    (0, ap (seat_after seat) (sym none), ap (λ (g : Giving). g.octets) (sym none))
+
+pub one_gives : (p : ℕ) (entries : List Entry) (number : ℕ) (seats : List Seat) (k : ℕ) → Given p (seat_in seats k) (seat_in (ready_of p entries number seats).seats k) (given_in k (ready_of p entries number seats).entries)
+one_gives p entries number seats k = go (seat_in seats number) refl
+  where
+    found : (seat : Seat) → seat_in seats seat.number ≡ Some seat → Given p (seat_in seats k) (seat_in (ready_by p entries seats (Some seat)).seats k) (given_in k (ready_by p entries seats (Some seat)).entries)
+    found seat is =
+        by_number (λ j. Given p (seat_in seats j) (seat_in (ready_by p entries seats (Some seat)).seats j) (given_in j (ready_by p entries seats (Some seat)).entries)) seat.number
+        (subst (λ o. Given p o (seat_in (ready_by p entries seats (Some seat)).seats seat.number) (given_in seat.number (entry_of seat.number g))) (sym is)
+        (65536 - octets_in entries, after g.ended seat.number ∙ updated-same (seat_in seats) seat.number (seat_after seat g), given_in-own seat.number g))
+        (λ j differs. subst (λ (t : Option Seat × List ℕ). Given p (seat_in seats j) t.0 t.1)
+        (λ i. (sym (after g.ended j ∙ updated-other (seat_in seats) seat.number j (seat_after seat g) differs) i, sym (given_in-other j seat.number g (eqb-other seat.number j (λ e. differs (sym e)))) i))
+        (given_nothing p (seat_in seats j)))
+        k
+      where
+        g : Giving
+        g = given_of p entries seat
+
+        after : (ended : Bool) (j : ℕ) → seat_in (if ended then filter (λ (other : Seat). not (other.number == seat.number)) seats else with_seat seats (seat_given seat (given_of p entries seat))) j
+            ≡ updated (seat_in seats) seat.number (if ended then None else Some (seat_given seat (given_of p entries seat))) j
+        after true j = seat_in-left seat.number seats j
+        after false j = seat_in-answered seats (seat_given seat (given_of p entries seat)) seat is j
+
+    go : (o : Option Seat) → seat_in seats number ≡ o → Given p (seat_in seats k) (seat_in (ready_by p entries seats o).seats k) (given_in k (ready_by p entries seats o).entries)
+    go None is = given_nothing p (seat_in seats k)
+    go (Some seat) is = found seat (ap (seat_in seats) (seat_in-number seats number seat is) ∙ is)
+
 -- ---- no more than the room is given
 
 entry_short : (number other : ℕ) (g : Giving) → length (given_in number (entry_of other g)) ≤ length g.octets
@@ -222,3 +256,10 @@ ready_short p room (seat ∷ seats) number =
     let g : Giving = give p room seat.given seat.held in
     let later : Ready = ready p g.room seats in
     omega (arith, ap length (given_in-append number (entry_of seat.number g) later.entries), length-append (given_in number (entry_of seat.number g)) (given_in number later.entries), entry_short number seat.number g, ready_short p g.room seats number, give_room p room seat.given seat.held)
+
+pub one_short : (p : ℕ) (entries : List Entry) (number : ℕ) (seats : List Seat) (k : ℕ) → length (given_in k (ready_of p entries number seats).entries) ≤ 65536
+one_short p entries number seats k = go (seat_in seats number)
+  where
+    go : (o : Option Seat) → length (given_in k (ready_by p entries seats o).entries) ≤ 65536
+    go None = omega arith
+    go (Some seat) = omega (arith, entry_short k seat.number (given_of p entries seat), give_room p (65536 - octets_in entries) seat.given seat.held)

@@ -6,14 +6,16 @@ use Rattle.std.proofs.lemmas.List.{append-nil, length-set}
 use Rattle.std.proofs.lemmas.Option.{slice_get_past, slice_get_within, slice_get-map}
 use Rattle.std.proofs.lemmas.List.Elements.{All-head, All-tail}
 use Rattle.outbox.specs.Queue.{Entry, Giving, give, entry_of}
-use Rattle.seats.specs.Seats.{Seat, ready}
+use Rattle.seats.specs.Seats.{Seat, given_of, ready, ready_by, ready_of}
 use Rattle.seats.specs.Kept.{IsSeat}
+use Rattle.seats.proofs.SeatsLaws.{find_place}
+use Rattle.kernel.proofs.KernelLaws.{all_at}
 use Rattle.model.specs.declared.change.Change.{Change}
 use Rattle.synchrony.specs.Server.{updated}
 use Rattle.served.specs.Served.{Sent, nobody, numbered, session_at, sent_at, with_sent}
 use Rattle.served.specs.Events.{with_released}
 use Rattle.served.specs.Fields.{AreKnown, given_in}
-use Rattle.served.proofs.Seats.{eqb-same, eqb-other, by_number, updated-same, updated-other}
+use Rattle.served.proofs.Seats.{eqb-same, eqb-other, by_number, seat_in, updated-same, updated-other}
 
 get-set_same : {A : Type 0} (xs : List A) (i : ℕ) (x old : A) → slice_get xs i ≡ Some old → slice_get (set xs i x) i ≡ Some x
 get-set_same [] i x old is = absurd (cc is)
@@ -176,3 +178,13 @@ ready_known host S joined p room sessions (seat ∷ seats) long h =
     AreKnown-append sessions (entry_of seat.number (give p room seat.given seat.held)) _
     (AreKnown-own sessions seat.number (give p room seat.given seat.held) (session_at-some sessions seat.number this.some (omega (arith, this.spent))))
     (ready_known host S joined p (give p room seat.given seat.held).room sessions seats long (All-tail (IsSeat host S joined) seat seats h))
+
+pub one_known : (host : List ℕ) (S : List Change) (joined p : ℕ) (entries : List Entry) (number : ℕ) (sessions : List Sent) (seats : List Seat) → length sessions ≡ joined → All (IsSeat host S joined) seats → AreKnown sessions (ready_of p entries number seats).entries
+one_known host S joined p entries number sessions seats long h = go (seat_in seats number) refl
+  where
+    go : (o : Option Seat) → seat_in seats number ≡ o → AreKnown sessions (ready_by p entries seats o).entries
+    go None is = tt
+    go (Some seat) is =
+        let place = find_place number seats seat is in
+        let this : IsSeat host S joined seat = all_at (IsSeat host S joined) place.0 seats seat h place.1 in
+        AreKnown-own sessions seat.number (given_of p entries seat) (session_at-some sessions seat.number this.some (omega (arith, this.spent)))

@@ -2,8 +2,8 @@
 use Rattle.std.proofs.Common.{◌≡◌, ◌≢◌, ◌⊎◌, inl, inr, ℕ, zero, suc, ◌+◌, ◌≤◌, ◌==◌, Bool, true, false, List, [], ◌∷◌, ◌++◌, length, take, Option, Some, None, refl, ap, sym, ◌∙◌, subst, arith, length-append}
 use Rattle.std.specs.Prelude.{filter, is_err, not, OnOk, IfOk, IfSome, IsNone, MatchOption, OnErr, Result, Ok, Err, unwrap_or, is_some, if◌then◌else◌}
 use Rattle.std.proofs.lemmas.List.{append-nil, length-set, take_all}
-use Rattle.kernel.specs.Kernel.{FitsMode, KernelView, Refusal, Tested, answered, exec_refusal, halted_for_good, joined, made_durable, mode_at, released, seat_of, taken}
-use Rattle.seats.specs.Seats.{Seat, new_seat, ready}
+use Rattle.kernel.specs.Kernel.{FitsMode, KernelView, Refusal, Tested, answered, exec_refusal, halted_for_good, joined, made_durable, mode_at, seat_of, taken}
+use Rattle.seats.specs.Seats.{Ready, Seat, new_seat, ready, ready_of}
 use Rattle.kernel.specs.Errors.{of_exec}
 use Rattle.kernel.specs.declared.errors.ExecError.{ExecError}
 use Rattle.kernel.specs.declared.errors.ExecError.TheVariants as exec
@@ -21,16 +21,16 @@ use Rattle.synchrony.specs.Progress.{HasMore, with_more}
 use Rattle.synchrony.specs.Server.{Connection, updated}
 use Rattle.synchrony.proofs.Fronts.{same_functions}
 use Rattle.synchrony.proofs.GoingOn.{account_served}
-use Rattle.served.specs.Events.{arrives, joins, leaves, opens, releases, with_kernel, DidExec, Makes, Serves}
-use Rattle.served.specs.Fields.{Becomes, InputsStand, IsSound}
+use Rattle.served.specs.Events.{arrives, joins, leaves, opens, releases, releases_of, with_kernel, DidExec, Makes, Serves}
+use Rattle.served.specs.Fields.{AreKnown, Becomes, InputsStand, IsSound, given_in}
 use Rattle.served.specs.Input.{Found, HoldsMessage, MayAsk, Waits}
 use Rattle.served.specs.Served.{IsPresent, IsServed, IsSession, IsThere, IsUnknown, ServedView, account, arrived_at, nobody, sent_at, next_of, numbered, session_at, with_numbered}
 use Rattle.served.specs.declared.input.Input.{Input}
-use Rattle.served.proofs.Events.{account_in, IsServed-arrives, IsServed-joins, IsServed-kernel, IsServed-leaves, IsServed-makes, IsServed-releases, IsServed-serves, more_at}
+use Rattle.served.proofs.Events.{account_in, IsServed-arrives, IsServed-joins, IsServed-kernel, IsServed-leaves, IsServed-makes, IsServed-gives, IsServed-serves, gives, more_at}
 use Rattle.synchrony.specs.Framing.{next_in}
 use Rattle.served.proofs.Inputs.{Found-waits, Waits-may, Waits-served, next_fits}
-use Rattle.served.proofs.Seats.{Given, by_number, eqb-other, eqb-same, ready_gives, seat_in, seat_in-answered, seat_in-number, seat_in-joined, seat_in-left, updated-other, updated-same}
-use Rattle.served.proofs.Sessions.{length-with_released, length-with_sent, numbered-pushed, numbered-set, numbered-within, session_at-past}
+use Rattle.served.proofs.Seats.{Given, by_number, eqb-other, eqb-same, one_gives, ready_gives, seat_in, seat_in-answered, seat_in-number, seat_in-joined, seat_in-left, updated-other, updated-same}
+use Rattle.served.proofs.Sessions.{length-with_released, length-with_sent, numbered-pushed, numbered-set, numbered-within, one_known, ready_known, session_at-past}
 
 pub IsSound-along : {old new : ServedView} {inputs inputs' : List Input} → new ≡ old → inputs' ≡ inputs → IsSound old inputs → IsSound new inputs'
 IsSound-along a b h = subst (λ (t : ServedView × List Input). IsSound t.0 t.1) (λ i. (sym a i, sym b i)) h
@@ -353,21 +353,34 @@ sound_leaves served inputs number h =
 
 -- ---- a release
 
-pub sound_releases : (served : ServedView) (inputs : List Input) → IsKept served.kernel → IsSound served inputs → IsSound (releases served) inputs
-sound_releases served inputs kept h =
-    let next = IsServed-releases served kept h.beside in
+sound_gives : (served : ServedView) (inputs : List Input) (given : Ready) → AreKnown served.sessions given.entries → ((k : ℕ) → Given served.kernel.durable (seat_of served.kernel k) (seat_in given.seats k) (given_in k given.entries)) → IsSound served inputs
+    → IsSound (gives served given) inputs
+sound_gives served inputs given known gave h =
+    let next = IsServed-gives served given known gave h.beside in
     record {
       beside = next.0;
-      many = h.many ∙ sym (length-with_released served.sessions (ready served.kernel.durable 65536 served.kernel.seats).entries);
+      many = h.many ∙ sym (length-with_released served.sessions given.entries);
       stand = Inputs-along (ap (λ (a : Account Session Change). a.server.connections) next.1) refl refl
-          (fewer (account served).server.connections (numbered inputs) (seat_of served.kernel) (seat_of (released served.kernel))
-          (λ k seat is. was (seat_of served.kernel k) (seat_of (released served.kernel) k) _ (ready_gives 0 served.kernel.durable 65536 served.kernel.seats kept.rising k) seat is)
+          (fewer (account served).server.connections (numbered inputs) (seat_of served.kernel) (seat_in given.seats)
+          (λ k seat is. was (seat_of served.kernel k) (seat_in given.seats k) _ (gave k) seat is)
           h.stand);
     }
   where
     was : (o after : Option Seat) (octets : List ℕ) → Given served.kernel.durable o after octets → (seat : Seat) → after ≡ Some seat → (s : Seat) × (o ≡ Some s)
     was None after octets g seat is = absurd (let no : None ≡ Some seat = sym g.0 ∙ is in cc)
     was (Some s) after octets g seat is = (s, refl)
+
+pub sound_releases : (served : ServedView) (inputs : List Input) → IsKept served.kernel → IsSound served inputs → IsSound (releases served) inputs
+sound_releases served inputs kept h =
+    sound_gives served inputs (ready served.kernel.durable 65536 served.kernel.seats)
+    (ready_known served.kernel.host served.kernel.spool served.kernel.joined served.kernel.durable 65536 served.sessions served.kernel.seats h.beside.numbers kept.seats)
+    (ready_gives 0 served.kernel.durable 65536 served.kernel.seats kept.rising) h
+
+pub sound_releases_of : (served : ServedView) (inputs : List Input) (number : ℕ) → IsKept served.kernel → IsSound served inputs → IsSound (releases_of served number) inputs
+sound_releases_of served inputs number kept h =
+    sound_gives served inputs (ready_of served.kernel.durable [] number served.kernel.seats)
+    (one_known served.kernel.host served.kernel.spool served.kernel.joined served.kernel.durable [] number served.sessions served.kernel.seats h.beside.numbers kept.seats)
+    (one_gives served.kernel.durable [] number served.kernel.seats) h
 
 -- ---- the kernel alone
 

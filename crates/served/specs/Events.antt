@@ -6,8 +6,8 @@ use Rattle.model.specs.declared.message.Message.{Message}
 use Rattle.model.specs.declared.message.Mark.{Mark}
 use Rattle.model.specs.declared.message.Mode.{Mode}
 use Rattle.outbox.specs.Queue.{Entry as Given}
-use Rattle.kernel.specs.Kernel.{KernelView, seat_of, mode_at, joined, left, released, exec_refusal, first_failing, Refusal, NoSession, Execs, Administers, TestedOrMemory}
-use Rattle.seats.specs.Seats.{ready}
+use Rattle.kernel.specs.Kernel.{KernelView, seat_of, mode_at, joined, left, released, released_of, exec_refusal, first_failing, Refusal, NoSession, Execs, Administers, TestedOrMemory}
+use Rattle.seats.specs.Seats.{ready, ready_of}
 use Rattle.kernel.specs.Errors.{of_exec}
 use Rattle.kernel.specs.declared.errors.ExecError.{ExecError}
 use Rattle.kernel.specs.declared.errors.ExecError.TheVariants as exec
@@ -48,6 +48,15 @@ releases served =
       kernel = released served.kernel;
       sessions = with_released served.sessions (ready served.kernel.durable 65536 served.kernel.seats).entries;
       ready = (ready served.kernel.durable 65536 served.kernel.seats).entries;
+    }
+
+-- what is ready of one session is handed out
+abbrev pub releases_of : ServedView → ℕ → ServedView
+releases_of served number =
+    record served {
+      kernel = released_of served.kernel [] number;
+      sessions = with_released served.sessions (ready_of served.kernel.durable [] number served.kernel.seats).entries;
+      ready = (ready_of served.kernel.durable [] number served.kernel.seats).entries;
     }
 
 -- the kernel alone changes

@@ -12,7 +12,7 @@ ghost use Rattle.model.specs.Calendar.{moment_limit};
 ghost use Rattle.model.specs.Lawful.{is_description_octet};
 ghost use Rattle.model.specs.Volume.{blocks_from};
 ghost use Rattle.model.specs.declared.change.Change.TheVariants.{Expire, Group};
-ghost use Rattle.served.specs.Events.{DidExec, Makes, arrive_refusal, arrives, joins, leaves, opens, releases, with_kernel};
+ghost use Rattle.served.specs.Events.{DidExec, Makes, arrive_refusal, arrives, joins, leaves, opens, releases, releases_of, with_kernel};
 ghost use Rattle.synchrony.specs.Server.{Admin};
 ghost use Rattle.served.specs.Served.{FollowsPlain, IsServed, ServedView, arrived_at, next_of, released_at};
 
@@ -231,6 +231,21 @@ impl Served {
         peer::make_room(&self.kernel, &mut self.peers)?;
         self.kernel.take_ready(&mut self.ready);
         peer::file(&mut self.peers, &self.ready);
+        Ok(())
+    }
+
+    /// What is ready of one session is handed out, and counts as released: `ready` tells it; nothing where the session isn't
+    /// there. Refused for memory alone, with nothing changed.
+    pub fn release_of(&mut self, number: u64) -> Result<(), AllocError>
+        ensures ok { OnOk result (self.new ≡ releases_of self.old number) }
+        ensures err { OnErr result (self.new ≡ self.old) }
+    {
+        self.kernel.kept();
+        peer::make_room(&self.kernel, &mut self.peers)?;
+        let ready = &mut self.ready;
+        ready.clear();
+        self.kernel.give_ready(number, ready);
+        peer::file(&mut self.peers, ready);
         Ok(())
     }
 

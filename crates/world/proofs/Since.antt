@@ -118,6 +118,7 @@ module _ {D : Type 0} (device : D → Device) (old new : WorldView D) where
   did_left event.Dev r h d = left_dev r h d
   did_left event.Told r h d = same_disk (ap (λ (w : WorldView D). w.journal.disk) d.1)
   did_left event.Release r h d = left_release r _ (λ a done. by_served _ done.1) d
+  did_left (event.ReleaseOf number) r h d = left_release r _ (λ a done. by_served _ done.1) d
 
   -- a crash at some moment of the event leaves what fits the world before it
   pub step_since : (e : Event) (r : Result Answer StepError) → IsWorld device new → Did device old e r new → LeftFits (device old.journal.disk) (device new.journal.disk) (Fits old)

@@ -27,7 +27,7 @@ use Rattle.model.specs.Volume.{laid_over}
 use Rattle.model.specs.declared.message.Mark.{Mark}
 use Rattle.model.specs.declared.message.Message.{Message}
 use Rattle.model.specs.declared.message.Mode.{Mode}
-use Rattle.served.specs.Events.{DidExec as ServedExec, releases, with_kernel}
+use Rattle.served.specs.Events.{DidExec as ServedExec, releases, releases_of, with_kernel}
 use Rattle.served.specs.Served.{ServedView}
 use Rattle.world.specs.Events.{DidExec, Steps, begun, commits, exec_answer, fails, news_of, of_exec_error, of_kernel, told}
 use Rattle.world.specs.Fields.{IsSound, durable_news, failed_news, news_in}
@@ -75,6 +75,11 @@ sound_exec tells old served ticket number moment (Some mode) (Some found) (Err e
 pub sound_release : {D E : Type 0} (tells : Bool) (old : WorldView D) (served : ServedView) (ticket : Option Ticket) (r : Result (Unit {0}) E) → IsKept (kernel_of old) → OnOk r (served ≡ releases old.served) → OnErr r (served ≡ old.served) → IsSound tells old ticket → IsSound tells (with_served old served) ticket
 sound_release tells old served ticket (Ok x) kept ok err h = sound_grows tells old served ticket kept (Grows-seats (kernel_of old) served.kernel (kernel_of old).joined _ (ap (λ (s : ServedView). s.kernel) ok)) h
 sound_release tells old served ticket (Err e) kept ok err h = sound_same tells old served ticket err h
+
+pub sound_release_of : {D E : Type 0} (tells : Bool) (old : WorldView D) (served : ServedView) (number : ℕ) (ticket : Option Ticket) (r : Result (Unit {0}) E) → IsKept (kernel_of old) → OnOk r (served ≡ releases_of old.served number) → OnErr r (served ≡ old.served) → IsSound tells old ticket
+    → IsSound tells (with_served old served) ticket
+sound_release_of tells old served number ticket (Ok x) kept ok err h = sound_grows tells old served ticket kept (Grows-seats (kernel_of old) served.kernel (kernel_of old).joined _ (ap (λ (s : ServedView). s.kernel) ok)) h
+sound_release_of tells old served number ticket (Err e) kept ok err h = sound_same tells old served ticket err h
 
 -- ---- Take
 

@@ -27,7 +27,7 @@ use Rattle.model.specs.declared.change.Change.TheVariants.{Expire, Group}
 use Rattle.model.specs.declared.message.Mark.{Mark}
 use Rattle.model.specs.declared.message.Message.{Message}
 use Rattle.model.specs.declared.message.Mode.{Mode}
-use Rattle.served.specs.Events.{Makes, Serves, arrive_refusal, arrives, joins, leaves, releases, with_kernel}
+use Rattle.served.specs.Events.{Makes, Serves, arrive_refusal, arrives, joins, leaves, releases, releases_of, with_kernel}
 use Rattle.served.specs.Served.{next_of}
 use Rattle.world.specs.World.{HasFailed, IsDurable, News, WorldView, kernel_of, with_served}
 use Rattle.world.specs.declared.events.Answer.{Answer}
@@ -136,6 +136,8 @@ Did device old event.Told result new =
     (result ≡ Ok answer.Done) × (new ≡ record { journal = old.journal; served = with_kernel old.served (told (kernel_of old) old.untold); untold = drop 1 old.untold })
 Did device old event.Release result new =
     MatchResult result (λ a. (a ≡ answer.Done) × (new ≡ with_served old (releases old.served))) (λ e. (e ≡ error.Memory) × (new ≡ old))
+Did device old (event.ReleaseOf number) result new =
+    MatchResult result (λ a. (a ≡ answer.Done) × (new ≡ with_served old (releases_of old.served number))) (λ e. (e ≡ error.Memory) × (new ≡ old))
 
 -- whether a result is a refusal for memory
 abbrev pub for_memory : Result Answer StepError → Bool

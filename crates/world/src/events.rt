@@ -36,6 +36,8 @@ pub enum Event {
     Told,
     /// What is ready is handed out.
     Release,
+    /// What is ready of one session is handed out.
+    ReleaseOf(u64),
 }
 
 /// What an event was answered.

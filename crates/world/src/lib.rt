@@ -267,6 +267,7 @@ impl<D: Disk> World<D> {
             Event::Dev => self.dev(),
             Event::Told => self.told(),
             Event::Release => self.release(),
+            Event::ReleaseOf(number) => self.release_of(*number),
         }
     }
 
@@ -387,6 +388,16 @@ impl<D: Disk> World<D> {
     {
         self.served.kept();
         match self.served.release() {
+            Ok(()) => Ok(Answer::Done),
+            Err(_) => Err(StepError::Memory),
+        }
+    }
+
+    fn release_of(&mut self, number: u64) -> Result<Answer, StepError>
+        ensures { Did D.device self.old (Event.ReleaseOf number) result self.new }
+    {
+        self.served.kept();
+        match self.served.release_of(number) {
             Ok(()) => Ok(Answer::Done),
             Err(_) => Err(StepError::Memory),
         }

@@ -4,7 +4,8 @@ use Rattle.kernel.specs.Kept.{IsKept}
 use Rattle.kernel.specs.Kernel.{KernelView, left}
 use Rattle.seats.specs.Seats.{Seat}
 use Rattle.kernel.specs.Stored.{kernel_of}
-use Rattle.kernel.proofs.KernelLaws.{filter_at, filter_missing, kept_left}
+use Rattle.kernel.proofs.KernelLaws.{filter_missing, kept_left}
+use Rattle.seats.proofs.SeatsLaws.{filter_at}
 use Rattle.kernel.proofs.Kernel.leave.Goals as goal
 
 pub invariant_of-self : goal.invariant_of-self

@@ -18,3 +18,6 @@ returns-in-Told g c = search rules
 
 pub returns-in-Release : goal.returns-in-Release
 returns-in-Release g c = search rules
+
+pub returns-in-ReleaseOf : goal.returns-in-ReleaseOf
+returns-in-ReleaseOf g c = search rules

@@ -3,7 +3,7 @@ use Rattle.std.proofs.lemmas.List.{length-map}
 use Rattle.outbox.specs.Queue.{QueueView, Entry, buffered, give, entry_of, octets_in}
 use Rattle.outbox.specs.Slots.{entry_at, entries_in}
 use Rattle.outbox.proofs.GivingLaws.{give-buffered}
-use Rattle.outbox.proofs.BufferLaws.{given-entries, given-within, given-counted, given-few}
+use Rattle.outbox.proofs.BufferLaws.{given-entries, given-within, given-along, given-counted, given-few}
 use Rattle.outbox.proofs.queue.Queue.give.Goals as goal
 
 pub overflow_sub-self-2 : goal.overflow_sub-self-2
@@ -33,6 +33,8 @@ invariant_of-into c =
     let now : c.end_entry.new.slots.len ≡ length c.end_entry.new.slots.items = c.end_entry.new.slots.ok.0 in
     record {
       within = given-within b.octets.items c.give_front-ended.new.octets.items b.slots.items c.end_entry.new.slots.items c.args.number c.len-start.result c.len-end.result _ _ _ _ c.into.invariant.within gives start end c.end_entry.ensures.items;
+      along = given-along b.octets.items c.give_front-ended.new.octets.items b.slots.items c.end_entry.new.slots.items c.args.number c.len-start.result c.len-end.result _ _ _ _ c.into.invariant.within gives start end c.end_entry.ensures.items
+          c.into.invariant.along;
       counted = given-counted b.octets.items c.give_front-ended.new.octets.items b.slots.items c.end_entry.new.slots.items c.args.number c.len-start.result c.len-end.result _ _ _ _ c.into.invariant.within gives start end c.end_entry.ensures.items
           c.into.invariant.counted;
       octets = c.give_front-ended.ensures.bound;
