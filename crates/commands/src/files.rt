@@ -1,9 +1,14 @@
 //! A volume in a file.
 
-ghost use Rattle.std.specs.Prelude.{IfOk};
+ghost use Rattle.std.specs.Prelude.{IfOk, Ok};
+ghost use Rattle.filedisk.specs.FileDisk.{file_device};
+ghost use Rattle.filedisk.specs.declared.FileDisk.{FileDisk};
+ghost use Rattle.gates.specs.Gates.{WritesBack};
 ghost use Rattle.journal.specs.Journal.{IsReady};
 
+use disk::DiskError;
 use filedisk::FileDisk;
+use gates::write_gates_back;
 use new_volume::{Plan, device_octets, format as format_device};
 use opening::Opened;
 use printing::CommandError;
@@ -37,11 +42,24 @@ pub(crate) fn open<R: Files<File = File>>(
 ) -> Result<Opened<VolumeDisk>, CommandError>
     ensures { IfOk result (λ opened. IsReady opened.journal) }
 {
-    let Ok(disk) = FileDisk::open_existing(rt, path) else {
-        return Err(CommandError::Fault);
-    };
+    let disk = find(rt, alloc, path)?;
     match opening::open(alloc, WCache::new(alloc, disk)) {
         Ok(opened) => Ok(opened),
         Err(refused) => Err(CommandError::NotOpened(refused.error)),
+    }
+}
+
+/// The file of a volume as a device, once its gates are written back: so the first sync of the opening carries what a read gives
+/// of them.
+fn find<R: Files<File = File>>(rt: &R, alloc: Global, path: &str) -> Result<FileDisk, CommandError>
+    ensures { IfOk result (λ disk. (opened : FileDisk) × WritesBack file_device (Ok tt) opened disk) }
+{
+    let Ok(mut disk) = FileDisk::open_existing(rt, path) else {
+        return Err(CommandError::Fault);
+    };
+    match write_gates_back(alloc, &mut disk) {
+        Ok(()) => Ok(disk),
+        Err(DiskError::Fault) => Err(CommandError::Fault),
+        Err(DiskError::Memory) => Err(CommandError::Memory),
     }
 }

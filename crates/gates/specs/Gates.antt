@@ -1,0 +1,87 @@
+-- The gates of a volume, read and written back.
+use Rattle.std.specs.Prelude.{◌≡◌, ◌⊎◌, ◌<◌, ◌≤◌, ℕ, ◌+◌, ◌*◌, IsTrue, List, [], ◌∷◌, length, slice_index, Result, IfErr, IsErr, OnOk}
+use Rattle.disk.specs.Calls.{Call, Makes}
+use Rattle.disk.specs.Calls.Call.{Write}
+use Rattle.disk.specs.Device.{Device, Elapses, HasCause, LeavesNoMore, LeftNoMore}
+use Rattle.disk.specs.declared.DiskError.{DiskError}
+use Rattle.disk.specs.declared.DiskError.TheVariants.{Memory}
+use Rattle.model.specs.Volume.{IsSuperblock, block, gate_place, segment_count}
+
+-- where the gate of a segment stands: one octet
+abbrev pub gate_at : ℕ → ℕ
+gate_at s = 4096 * gate_place s
+
+-- the superblock is one of a volume of this size
+abbrev pub HasSegments : Device → Type 0
+HasSegments device = IsSuperblock (block 0 device.content) device.size
+
+-- the gates of that many segments are within a device of this size
+abbrev pub AreWithin : ℕ → ℕ → Type 0
+AreWithin n size = (s : ℕ) → s < n → gate_at s < size
+
+-- how many segments stand on a device: none where its superblock isn't that of a volume
+abbrev pub IsCount : ℕ → Device → Type 0
+IsCount n device = (HasSegments device × (n ≡ segment_count device.content)) ⊎ ((HasSegments device → ⊥) × (n ≡ 0))
+
+-- these are the octets of the first gates
+abbrev pub AreGates : List ℕ → List ℕ → Type 0
+AreGates octets image = (s : ℕ) → s < length octets → slice_index octets s ≡ slice_index image (gate_at s)
+
+-- an octet written to each gate, from the one of this segment on
+abbrev pub writes_from : ℕ → List ℕ → List Call
+writes_from s [] = []
+writes_from s (octet ∷ octets) = Write (gate_at s) (octet ∷ []) ∷ writes_from (s + 1) octets
+
+-- reads alone: nothing was written, and a crash leaves nothing that it could not have left before
+pub record IsLook (old new : Device) : Type 0 where
+  pub time : Elapses old new
+  pub writes : new.writes ≡ old.writes
+  pub syncs : new.syncs ≡ old.syncs
+  pub crash : IsTrue old.tells → LeavesNoMore old new
+  pub since : IsTrue old.tells → LeftNoMore old new
+
+-- and none of them failed
+pub record IsSeen (old new : Device) : Type 0 where
+  pub content : IsTrue old.tells → new.content ≡ old.content
+  pub failures : new.failures ≡ old.failures
+
+-- The octet of each gate was read, and then each was written where it stood, in rising place, up to the first refusal.
+pub record WritesThem {D : Type 0} (device : D → Device) (result : Result (Unit {0}) DiskError) (old new : D) : Type 0 where
+  pub octets : List ℕ
+  pub few : length octets ≤ 8
+  pub read : D
+  pub look : IsLook (device old) (device read)
+  pub seen : IsSeen (device old) (device read)
+  pub count : IsTrue (device old).tells → IsCount (length octets) (device old)
+  pub gates : IsTrue (device old).tells → AreGates octets (device old).content
+  pub written : Makes device (writes_from 0 octets) result read new
+
+-- or it was refused before the first write
+abbrev pub WritesBack : {D : Type 0} → (D → Device) → Result (Unit {0}) DiskError → D → D → Type 0
+WritesBack device result old new = WritesThem device result old new ⊎ (IsErr result × IsLook (device old) (device new))
+
+-- a place of one of these gates
+abbrev pub IsGate : Device → ℕ → Type 0
+IsGate device k = HasSegments device × ((s : ℕ) × ((s < segment_count device.content) × (k ≡ gate_at s)))
+
+-- the image with any octets at the gates of that device
+pub record IsTornAtGates (device : Device) (old new : List ℕ) : Type 0 where
+  pub size : length new ≡ length old
+  pub others : (k : ℕ) → (IsGate device k → ⊥) → slice_index new k ≡ slice_index old k
+  pub octets : (k : ℕ) → (slice_index new k ≡ slice_index old k) ⊎ (slice_index new k < 256)
+
+-- an image that a device might have left, with any octets at its gates
+abbrev pub MayLeaveTorn : Device → List ℕ → Type 0
+MayLeaveTorn device c = (d : List ℕ) × (device.may_leave d × IsTornAtGates device d c)
+
+-- What is left of the device. Where every call was good, or one was refused for want of memory, a read gives what it gave. Until
+-- a sync a crash leaves an image that it might have left before, with any octets at the gates.
+pub record Leaves (result : Result (Unit {0}) DiskError) (old new : Device) : Type 0 where
+  pub content : IsTrue old.tells → OnOk result (new.content ≡ old.content)
+  pub untaken : IsTrue old.tells → IfErr result (λ error. error ≡ Memory → new.content ≡ old.content)
+  pub crash : IsTrue old.tells → (c : List ℕ) → new.may_leave c → MayLeaveTorn old c
+  pub since : IsTrue old.tells → (t : ℕ) (c : List ℕ) → t ≤ old.clock → new.left_since t c → old.left_since t c ⊎ MayLeaveTorn old c
+  pub time : Elapses old new
+  pub syncs : new.syncs ≡ old.syncs
+  pub cause : HasCause result old new
+  pub uncounted : IfErr result (λ error. error ≡ Memory → new.failures ≡ old.failures)

@@ -1,0 +1,142 @@
+//! The gates of a volume's segments are written back as they were read, so that the first sync of an opening carries them.
+//! `specs/Gates.antt` says which calls that makes. docs/DECISIONS.md says where it is needed: over a file.
+#![tactic(auto)]
+
+ghost use Rattle.std.specs.Prelude.{◌≡◌, ◌≢◌, ◌⊎◌, ◌<◌, ◌≤◌, [], ◌∷◌, IfErr, IfOk, IsTrue, OnOk, length, slice_index};
+ghost use Rattle.disk.specs.Calls.{Makes, Writes};
+ghost use Rattle.disk.specs.Image.{part};
+ghost use Rattle.model.specs.Volume.{IsSuperblock, number_at};
+ghost use Rattle.gates.specs.Gates.{AreGates, AreWithin, IsCount, IsLook, IsSeen, Leaves, WritesBack, gate_at, writes_from};
+
+use disk::{Disk, DiskError};
+use std::alloc::Global;
+use volume_format::layout::{BLOCK, gate_block, start_of};
+use volume_format::{read_superblock, zeros};
+
+/// The most gates that a volume has.
+const MOST_GATES: usize = 8;
+
+/// Reads the first octet of each gate of a volume, one read each, and then writes each back to its place, one write of one octet
+/// each, in rising place. It never syncs. Where the superblock isn't that of a volume, it writes nothing and answers `Ok`.
+///
+/// Refused as `Fault` where the device failed in a call, and as `Memory` where a growth was refused, here or to the device. A
+/// read that is refused leaves nothing written. The first write that is refused is the last one.
+///
+/// What a read gives stays as it was. Until a sync a crash may leave any octets at the gates, as after each write.
+pub fn write_gates_back<D: Disk>(alloc: Global, disk: &mut D) -> Result<(), DiskError>
+    ensures calls { WritesBack D.device result disk.old disk.new }
+    ensures leaves { Leaves result (D.device disk.old) (D.device disk.new) }
+{
+    match zeros(alloc, BLOCK) {
+        Ok(mut superblock) => {
+            let count = count_gates(disk, &mut superblock)?;
+            let mut gates = [0; MOST_GATES];
+            write_back(disk, &mut gates[..count])
+        }
+        Err(_) => Err(DiskError::Memory),
+    }
+}
+
+// Reads the octet of each gate, and then writes each back.
+fn write_back<D: Disk>(disk: &mut D, gates: &mut [u8]) -> Result<(), DiskError>
+    requires few { length gates.old ≤ 8 }
+    requires within { AreWithin (length gates.old) (D.device disk.old).size }
+    requires count { IsTrue (D.device disk.old).tells → IsCount (length gates.old) (D.device disk.old) }
+    ensures calls { WritesBack D.device result disk.old disk.new }
+    ensures leaves { Leaves result (D.device disk.old) (D.device disk.new) }
+{
+    read_gates(disk, gates)?;
+    write_gates(disk, gates)
+}
+
+// How many gates there are: none where no volume stands there.
+fn count_gates<D: Disk>(disk: &mut D, superblock: &mut Vec<u8>) -> Result<usize, DiskError>
+    requires { length superblock.old.items ≡ 4096 }
+    ensures look { IsLook (D.device disk.old) (D.device disk.new) }
+    ensures seen { OnOk result (IsSeen (D.device disk.old) (D.device disk.new)) }
+    ensures few { IfOk result (λ count. count ≤ 8) }
+    ensures within { IfOk result (λ count. AreWithin count (D.device disk.old).size) }
+    ensures count { IsTrue (D.device disk.old).tells → IfOk result (λ count. IsCount count (D.device disk.old)) }
+    ensures fault { IfErr result (λ error. (error ≡ DiskError.Fault) × ((D.device disk.new).failures ≢ (D.device disk.old).failures)) }
+{
+    let size = disk.len();
+    if size < BLOCK as u64 {
+        return Ok(0);
+    }
+    read_first(disk, superblock)?;
+    Ok(count_told(superblock.as_slice(), size))
+}
+
+// Reads the first block.
+fn read_first<D: Disk>(disk: &mut D, block: &mut Vec<u8>) -> Result<(), DiskError>
+    requires room { length block.old.items ≡ 4096 }
+    requires within { 4096 ≤ (D.device disk.old).size }
+    ensures room { length block.new.items ≡ 4096 }
+    ensures look { IsLook (D.device disk.old) (D.device disk.new) }
+    ensures seen { OnOk result (IsSeen (D.device disk.old) (D.device disk.new)) }
+    ensures value { IsTrue (D.device disk.old).tells → OnOk result (block.new.items ≡ part 0 4096 (D.device disk.old).content) }
+    ensures fault { IfErr result (λ error. (error ≡ DiskError.Fault) × ((D.device disk.new).failures ≢ (D.device disk.old).failures)) }
+{
+    disk.read(0, block.as_mut_slice())
+}
+
+// How many segments a superblock tells of, on a device of so many octets.
+fn count_told(superblock: &[u8], size: u64) -> usize
+    requires { length superblock.now ≡ 4096 }
+    ensures count { (IsSuperblock superblock.now size × (result ≡ number_at 16 4 superblock.now)) ⊎ ((IsSuperblock superblock.now size → ⊥) × (result ≡ 0)) }
+    ensures few { result ≤ 8 }
+    ensures within { AreWithin result size }
+{
+    match read_superblock(superblock, size) {
+        Some(sizes) => sizes.segments as usize,
+        None => 0,
+    }
+}
+
+// Reads the octet of each gate, from that of the first segment on.
+fn read_gates<D: Disk>(disk: &mut D, gates: &mut [u8]) -> Result<(), DiskError>
+    requires few { length gates.old ≤ 8 }
+    requires within { AreWithin (length gates.old) (D.device disk.old).size }
+    ensures look { IsLook (D.device disk.old) (D.device disk.new) }
+    ensures seen { OnOk result (IsSeen (D.device disk.old) (D.device disk.new)) }
+    ensures gates { IsTrue (D.device disk.old).tells → OnOk result (AreGates gates.new (D.device disk.old).content) }
+    ensures fault { IfErr result (λ error. (error ≡ DiskError.Fault) × ((D.device disk.new).failures ≢ (D.device disk.old).failures)) }
+{
+    for i in 0..gates.len() {
+        gates[i] = read_gate(disk, i as u32)?;
+    }
+    Ok(())
+}
+
+fn read_gate<D: Disk>(disk: &mut D, segment: u32) -> Result<u8, DiskError>
+    requires low { segment < 8 }
+    requires within { gate_at segment < (D.device disk.old).size }
+    ensures look { IsLook (D.device disk.old) (D.device disk.new) }
+    ensures seen { OnOk result (IsSeen (D.device disk.old) (D.device disk.new)) }
+    ensures value { IsTrue (D.device disk.old).tells → IfOk result (λ octet. octet ≡ slice_index (D.device disk.old).content (gate_at segment)) }
+    ensures fault { IfErr result (λ error. (error ≡ DiskError.Fault) × ((D.device disk.new).failures ≢ (D.device disk.old).failures)) }
+{
+    let mut gate = [0];
+    disk.read(start_of(gate_block(segment)), &mut gate)?;
+    Ok(gate[0])
+}
+
+// Writes an octet to each gate, from that of the first segment on.
+fn write_gates<D: Disk>(disk: &mut D, gates: &[u8]) -> Result<(), DiskError>
+    requires few { length gates.now ≤ 8 }
+    requires within { AreWithin (length gates.now) (D.device disk.old).size }
+    ensures { Makes D.device (writes_from 0 gates.now) result disk.old disk.new }
+{
+    for i in 0..gates.len() {
+        write_gate(disk, i as u32, gates[i])?;
+    }
+    Ok(())
+}
+
+fn write_gate<D: Disk>(disk: &mut D, segment: u32, octet: u8) -> Result<(), DiskError>
+    requires low { segment < 8 }
+    requires within { gate_at segment < (D.device disk.old).size }
+    ensures { Writes (gate_at segment) (octet ∷ []) result (D.device disk.old) (D.device disk.new) }
+{
+    disk.write(start_of(gate_block(segment)), &[octet])
+}
