@@ -8,7 +8,7 @@ use journal::Journal;
 use mark::Mark;
 use opening::Opened;
 use printing::CommandError;
-use server::ServeError;
+use server::{Limits, ServeError, Server};
 use std::alloc::Global;
 use std::fs::File;
 use std::io::{BufRead, Write};
@@ -25,12 +25,13 @@ pub fn serve<
         + Threads
         + Wait
         + Clock
+        + Eprint
         + Copy
         + Send
         + Sync
         + 'static,
     L: BufRead + Send + Drop + 'static,
-    A: Write + Send + Drop,
+    A: Write + Send + Drop + 'static,
 >(rt: &R, alloc: Global, path: &str, port: u16, lines: L, answers: A) -> Result<(), CommandError> {
     let Opened { journal, kernel } = open(rt, alloc, path)?;
     let mut answers = answers;
@@ -55,9 +56,9 @@ fn listen<R: Net<Listener = TcpListener, Stream = TcpStream>, A: Write>(
 
 /// Serves an opened volume.
 fn run<
-    R: Threads + Wait + Clock + Copy + Send + Sync + 'static,
+    R: Threads + Wait + Clock + Eprint + Copy + Send + Sync + 'static,
     L: BufRead + Send + Drop + 'static,
-    A: Write + Send + Drop,
+    A: Write + Send + Drop + 'static,
 >(
     rt: &R,
     alloc: Global,
@@ -72,9 +73,17 @@ fn run<
     let (mark, mut flush_seat, seat) = Mark::new(alloc)?;
     mark.raise(&mut flush_seat, kernel.durable());
     let kern = Locked::new(kernel);
-    match server::serve(
-        rt, alloc, listener, journal, &kern, &mark, flush_seat, seat, &NoGate, lines, answers,
-    ) {
+    let server = Server {
+        listener,
+        journal,
+        kern: &kern,
+        mark: &mark,
+        flush_seat,
+        seat,
+        gate: &NoGate,
+        limits: Limits::standard(),
+    };
+    match server::serve(rt, alloc, server, lines, answers) {
         Ok(()) => Ok(()),
         Err(ServeError::Fault) => Err(CommandError::Fault),
         Err(ServeError::Memory) => Err(CommandError::Memory),

@@ -1,5 +1,5 @@
 -- The calls of a batch up to the one that commits it.
-use Rattle.std.proofs.Common.{◌≡◌, ◌≢◌, ◌≤◌, ◌<◌, ◌+◌, ◌-◌, ℕ, Bool, false, IsTrue, List, length, refl, sym, ◌∙◌, ap, subst, arith, ◌⊎◌, inl, inr, true, Result, Ok, Err, IfErr}
+use Rattle.std.proofs.Common.{◌≡◌, ◌≢◌, ◌≤◌, ◌<◌, ◌+◌, ℕ, Bool, false, IsTrue, List, length, refl, sym, ◌∙◌, ap, subst, arith, ◌⊎◌, inl, inr, true, Result, Ok, Err, IfErr}
 use Rattle.disk.specs.Device.{Device}
 use Rattle.journal.specs.Calls.{IsRetried, MakesCall, OnMade, OnRetried, blocks_after}
 use Rattle.journal.specs.Journal.{JournalView, LeavesAdmitted, calls, sizes, with_batch}

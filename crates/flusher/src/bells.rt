@@ -45,58 +45,18 @@ impl Bell {
     }
 }
 
-/// How far the flusher is, by the numbers of its turns, from 1.
-#[derive(Drop)]
-pub struct Turns {
-    begun: AtomicU64,
-    ended: AtomicU64,
-}
-
-impl Turns {
-    pub fn new() -> Turns {
-        Turns {
-            begun: AtomicU64::new(0),
-            ended: AtomicU64::new(0),
-        }
-    }
-
-    /// The flusher begins a turn.
-    pub fn begin(&self) {
-        self.begun.fetch_add(1, Ordering::SeqCst);
-    }
-
-    /// It has ended the turn that it began.
-    pub fn end(&self) {
-        self.ended
-            .store(self.begun.load(Ordering::SeqCst), Ordering::SeqCst);
-    }
-
-    /// The number of the turn that begins next. Once it has ended, all that was accepted before this call is durable.
-    pub fn next(&self) -> u64 {
-        self.begun.load(Ordering::SeqCst).wrapping_add(1)
-    }
-
-    /// The number of the turn that ended last.
-    pub fn ended(&self) -> u64 {
-        self.ended.load(Ordering::SeqCst)
-    }
-}
-
 /// The bells of the server's threads.
 #[derive(Drop)]
 pub struct Bells {
     /// There may be something to flush.
     pub flusher: Parker,
-    /// There may be something to release, or a caller has come or gone.
+    /// A batch is committed: there may be something to release.
     pub releaser: Parker,
     /// The mark was raised, or the flusher has stopped.
     pub operator: Parker,
-    /// A batch was taken or something was released: what was put off may be asked again.
+    /// A batch was taken, so that fewer blocks are dirty: what was put off for them may be asked again.
     pub later: Bell,
-    pub turns: Turns,
     pub arrivals: Arrivals,
-    /// How many callers are gone whose sessions still stand.
-    pub parting: AtomicU64,
 }
 
 impl Bells {
@@ -106,9 +66,7 @@ impl Bells {
             releaser: Parker::new(),
             operator: Parker::new(),
             later: Bell::new(),
-            turns: Turns::new(),
             arrivals: Arrivals::new(),
-            parting: AtomicU64::new(0),
         }
     }
 
@@ -123,20 +81,6 @@ impl Bells {
     pub fn flush_now(&self) {
         self.arrivals.hurry();
         self.flusher.unpark();
-    }
-
-    /// The flusher begins a turn.
-    pub fn begin_turn(&self) {
-        self.arrivals.begin_turn();
-        self.turns.begin();
-    }
-
-    /// The flusher has ended a turn.
-    pub fn end_turn(&self) {
-        self.turns.end();
-        if self.parting.load(Ordering::SeqCst) != 0 {
-            self.releaser.unpark();
-        }
     }
 }
 

@@ -4,12 +4,13 @@ ghost use Rattle.std.specs.Prelude.{◌≡◌, ◌++◌, ◌∷◌, ◌+◌, ◌
 ghost use Rattle.journal.specs.Journal.{IsDuring, IsIdle, IsReady, LeavesAdmitted, sizes};
 ghost use Rattle.journal.specs.Order.{following};
 ghost use Rattle.journal.specs.declared.Next.{Next};
-ghost use Rattle.flusher.specs.Flush.{Commits, Failed, HasBegun, MayBegin, Turns, has_failed};
+ghost use Rattle.flusher.specs.Flush.{Carries, Commits, Failed, HasBegun, HasNotFailed, MayBegin, Turns, has_failed};
 
 use crate::bells::Bells;
 use crate::{Gate, Kern};
 use disk::Disk;
 use journal::{Journal, JournalError, Progress};
+use kernel::Ticket;
 use mark::{FlushSeat, Mark};
 use std::sync::Wait;
 use std::thread;
@@ -23,13 +24,23 @@ pub enum FlushError {
     /// The device failed in this turn.
     #[error("E1 Fault")]
     Fault,
-    /// The journal was halted before, or the kernel's answers were none that a kernel gives which one flusher calls.
+    /// The device didn't fail in this turn: the journal was halted before, or the kernel's answers were none that a kernel gives
+    /// which one flusher calls.
     #[error("E4 Halted")]
     Halted,
 }
 
+/// What the flusher shares with the threads of the sessions.
+#[derive(Clone, Copy)]
+struct Shared<'a, K: Kern, G: Gate> {
+    kern: &'a K,
+    mark: &'a Mark,
+    gate: &'a G,
+}
+
 /// One turn: what changed is taken as a batch and carried to the device; once it is committed there, the kernel is told, and
-/// then the mark is raised. `None` where nothing was taken. A refusal has halted the kernel and stopped the mark.
+/// then the mark is raised. `None` where nothing was taken. Refused as `Fault` (E1) exactly where the device failed in this turn,
+/// else as `Halted` (E4); a refusal has halted the kernel and stopped the mark.
 pub fn flush_turn<R: Wait, D: Disk, K: Kern, G: Gate>(
     rt: &R,
     journal: &mut Journal<D>,
@@ -47,10 +58,13 @@ pub fn flush_turn<R: Wait, D: Disk, K: Kern, G: Gate>(
     ensures running { OnOk result (seat.new.stopped ≡ seat.old.stopped) }
     ensures stopped { OnErr result (seat.new.stopped ≡ true) }
     ensures fault { IfErr result (λ error. error ≡ FlushError.Fault → Failed D.device journal.old journal.new) }
+    ensures halted { IfErr result (λ error. error ≡ FlushError.Halted → HasNotFailed D.device journal.old journal.new) }
+    ensures good { OnOk result (HasNotFailed D.device journal.old journal.new) }
     ensures idle { OnOk result (IsIdle journal.new) }
     ensures mark { seat.new.mark ≡ seat.old.mark }
 {
-    match carry(rt, journal, kern, mark, seat, batch, gate) {
+    let shared = Shared { kern, mark, gate };
+    match take_and_carry(rt, &shared, journal, seat, batch) {
         Ok(raised) => Ok(raised),
         Err(error) => {
             kern.halt(rt);
@@ -61,42 +75,64 @@ pub fn flush_turn<R: Wait, D: Disk, K: Kern, G: Gate>(
 }
 
 // A turn, without what follows a refusal.
-fn carry<R: Wait, D: Disk, K: Kern, G: Gate>(
+fn take_and_carry<R: Wait, D: Disk, K: Kern, G: Gate>(
     rt: &R,
+    shared: &Shared<'_, K, G>,
     journal: &mut Journal<D>,
-    kern: &K,
-    mark: &Mark,
     seat: &mut FlushSeat,
     batch: &mut BatchBuf,
-    gate: &G,
 ) -> Result<Option<u64>, FlushError>
     requires idle { IsIdle journal.old }
-    requires seat { seat.old.mark ≡ mark.now }
+    requires seat { seat.old.mark ≡ shared.now.mark.now }
     ensures turn { Turns D.device journal.old journal.new seat.old.raised seat.new.raised batch.new }
     ensures some { IfOk result (λ raised. IfSome raised (λ n. seat.new.raised ≡ seat.old.raised ++ n ∷ [])) }
     ensures none { IfOk result (λ raised. IfNone raised (seat.new.raised ≡ seat.old.raised)) }
     ensures fault { IfErr result (λ error. error ≡ FlushError.Fault → Failed D.device journal.old journal.new) }
+    ensures halted { IfErr result (λ error. error ≡ FlushError.Halted → HasNotFailed D.device journal.old journal.new) }
+    ensures good { OnOk result (HasNotFailed D.device journal.old journal.new) }
     ensures stopped { seat.new.stopped ≡ seat.old.stopped }
     ensures idle { OnOk result (IsIdle journal.new) }
     ensures mark { seat.new.mark ≡ seat.old.mark }
 {
-    let Some(ticket) = kern.take_batch(rt, batch) else {
+    let Some(ticket) = shared.kern.take_batch(rt, batch) else {
         return Ok(None);
     };
+    carry(rt, shared, journal, seat, batch, ticket)?;
+    Ok(Some(ticket.last()))
+}
+
+// The batch that the kernel handed out with this ticket is carried to the device, and the ticket's number raised.
+fn carry<R: Wait, D: Disk, K: Kern, G: Gate>(
+    rt: &R,
+    shared: &Shared<'_, K, G>,
+    journal: &mut Journal<D>,
+    seat: &mut FlushSeat,
+    batch: &BatchBuf,
+    ticket: Ticket,
+) -> Result<(), FlushError>
+    requires idle { IsIdle journal.old }
+    requires seat { seat.old.mark ≡ shared.now.mark.now }
+    ensures turn { Carries D.device journal.old journal.new seat.old.raised seat.new.raised batch.now ticket.last }
+    ensures raised { OnOk result (seat.new.raised ≡ seat.old.raised ++ ticket.last ∷ []) }
+    ensures fault { IfErr result (λ error. error ≡ FlushError.Fault → Failed D.device journal.old journal.new) }
+    ensures halted { IfErr result (λ error. error ≡ FlushError.Halted → HasNotFailed D.device journal.old journal.new) }
+    ensures good { OnOk result (HasNotFailed D.device journal.old journal.new) }
+    ensures stopped { seat.new.stopped ≡ seat.old.stopped }
+    ensures idle { OnOk result (IsIdle journal.new) }
+    ensures mark { seat.new.mark ≡ seat.old.mark }
+{
     if !may_begin(journal, batch) {
         return Err(FlushError::Halted);
     }
-    gate.before_flush();
-    let last = ticket.last();
-    journal.begin(last, batch.numbers(), batch.images());
+    shared.gate.before_flush();
+    journal.begin(ticket.last(), batch.numbers(), batch.images());
     commit(rt, journal)?;
-    if kern.committed(rt, ticket).is_err() {
+    if shared.kern.committed(rt, ticket).is_err() {
         return Err(FlushError::Halted);
     }
-    mark.raise(seat, last);
-    gate.after_flush();
-    settle(rt, journal)?;
-    Ok(Some(last))
+    shared.mark.raise(seat, ticket.last());
+    shared.gate.after_flush();
+    settle(rt, journal)
 }
 
 /// Whether the journal can begin this batch.
@@ -138,6 +174,7 @@ fn settle<R: Wait, D: Disk>(rt: &R, journal: &mut Journal<D>) -> Result<(), Flus
     requires now { LeavesAdmitted D.device journal.old }
     ensures during { IsDuring D.device journal.old journal.new }
     ensures ok { OnOk result (IsReady journal.new) }
+    ensures good { OnOk result (HasNotFailed D.device journal.old journal.new) }
     ensures err { IfErr result (λ error. (error ≡ FlushError.Fault) × Failed D.device journal.old journal.new) }
 {
     'calls: for _ in rt.forever() {
@@ -193,16 +230,14 @@ pub fn flush_all<R: Wait, D: Disk + Drop, K: Kern, G: Gate>(
     let mut batch = batch;
     let mut last = None;
     'turns: for _ in rt.forever() {
-        bells.begin_turn();
+        bells.arrivals.begin_turn();
         match flush_turn(rt, &mut journal, kern, mark, &mut seat, &mut batch, gate) {
             Ok(Some(raised)) => {
-                bells.end_turn();
                 let released = released(last, raised);
                 bells.arrivals.gather(rt, &bells.flusher, released);
                 last = Some(raised);
             }
             Ok(None) => {
-                bells.end_turn();
                 bells.flusher.park(rt);
             }
             Err(error) => return error,

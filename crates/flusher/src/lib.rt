@@ -10,10 +10,10 @@ mod kern;
 mod locked;
 
 pub use arrivals::Arrivals;
-pub use bells::{Bell, Bells, Ringing, Turns};
+pub use bells::{Bell, Bells, Ringing};
 pub use flushing::{FlushError, flush_all, flush_turn};
 pub use gate::{Gate, NoGate};
-pub use kern::Kern;
+pub use kern::{Answered, Kern};
 pub use kernel::{
     AdminError, BatchBuf, ExecError, ExpireError, JoinError, Kernel, SESSIONS, Stale, Ticket,
 };

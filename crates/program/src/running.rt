@@ -57,12 +57,13 @@ pub fn serve<
         + Threads
         + Wait
         + Clock
+        + Eprint
         + Copy
         + Send
         + Sync
         + 'static,
     L: BufRead + Send + Drop + 'static,
-    A: Write + Send + Drop,
+    A: Write + Send + Drop + 'static,
     F: Write,
 >(rt: &R, alloc: Global, service: Service<'_>, lines: L, answers: A, faults: &mut F) -> u8 {
     match commands::serve(rt, alloc, service.path, service.port, lines, answers) {

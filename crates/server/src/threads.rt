@@ -4,238 +4,332 @@ ghost use Rattle.std.specs.Prelude.{◌≡◌};
 ghost use Rattle.journal.specs.Journal.{IsIdle};
 
 use crate::accepting::accept_all;
-use crate::answering::{Call, serve_calls};
-use crate::operator::{Order, answer_orders, read_orders};
-use crate::releasing::{Door, release_all};
-use crossbeam_channel::{Receiver, Sender, bounded, unbounded};
+use crate::answering::{Call, SessionThread};
+use crate::lingering::{FAREWELLS, Parting, linger_all};
+use crate::moments::Moments;
+use crate::{ServeError, Server};
+use crossbeam_channel::{Receiver, Sender, bounded};
 use disk::Disk;
 use flusher::{BatchBuf, Bells, FlushError, Gate, Kern, Ringing, SESSIONS, flush_all};
 use journal::Journal;
 use mark::{FlushSeat, Mark, Seat};
-use outbox::ReadyBuf;
+use operator::Operator;
+use releasing::{Closing, ReplyWriter, Shared, release_all};
 use std::alloc::{AllocError, Global};
 use std::io::{BufRead, Write};
 use std::net::TcpListener;
 use std::sync::Wait;
-use std::sync::atomic::Ordering;
-use std::thread::{self, Threads};
+use std::thread::{self, JoinHandle, Scope, Threads};
 use std::time::Clock;
-use thiserror::Error;
-
-/// Why the server ends.
-#[derive(Clone, Copy, Debug, Drop, PartialEq, Eq, Error)]
-pub enum ServeError {
-    /// The device failed.
-    #[error("E1 Fault")]
-    Fault,
-    /// There was no memory to begin with.
-    #[error("E2 Memory")]
-    Memory,
-    /// The journal or the kernel was halted before.
-    #[error("E4 Halted")]
-    Halted,
-}
-
-impl From<AllocError> for ServeError {
-    fn from(_error: AllocError) -> ServeError {
-        ServeError::Memory
-    }
-}
-
-impl From<FlushError> for ServeError {
-    fn from(error: FlushError) -> ServeError {
-        match error {
-            FlushError::Fault => ServeError::Fault,
-            FlushError::Halted => ServeError::Halted,
-        }
-    }
-}
 
 /// Serves the callers of a listener and the operator's lines, until a turn of the flusher is refused. Then the next caller is
 /// told that the service ends, what is durable is released, all threads end, and it is said why.
 pub fn serve<
-    R: Threads + Wait + Clock + Copy + Send + Sync + 'static,
+    R: Threads + Wait + Clock + Eprint + Copy + Send + Sync + 'static,
     D: Disk + Drop,
     K: Kern + Sync,
     G: Gate + Sync,
     L: BufRead + Send + Drop + 'static,
-    A: Write + Send + Drop,
+    A: Write + Send + Drop + 'static,
 >(
     rt: &R,
     alloc: Global,
-    listener: &TcpListener,
-    journal: Journal<D>,
-    kern: &K,
-    mark: &Mark,
-    flush_seat: FlushSeat,
-    seat: Seat,
-    gate: &G,
+    server: Server<'_, D, K, G>,
     lines: L,
     answers: A,
-) -> Result<(), ServeError>
-    requires idle { IsIdle journal }
-    requires flush_seat { flush_seat.mark ≡ mark.now }
-    requires seat { seat.mark ≡ mark.now }
-{
-    let bells = Bells::new();
-    match make_parts(rt, alloc, lines) {
-        Ok(
-            Parts {
-                batch,
-                door,
-                caller,
-                calls,
-                order,
-                orders,
-            },
-        ) => Err(run(
-            rt, alloc, listener, journal, kern, mark, flush_seat, seat, gate, answers, &bells,
-            &door, batch, caller, &calls, order, &orders,
-        )),
-        Err(error) => Err(error),
-    }
+) -> Result<(), ServeError> {
+    let (bells, closing) = (Bells::new(), Closing::new());
+    let Server {
+        listener,
+        journal,
+        kern,
+        mark,
+        flush_seat,
+        seat,
+        gate,
+        limits,
+    } = server;
+    let Parts {
+        batch,
+        writers,
+        channels,
+        caller,
+    } = Parts::make(rt, alloc, lines, answers)?;
+    let shared = Shared {
+        rt,
+        alloc,
+        kern,
+        gate,
+        bells: &bells,
+        writers: writers.as_slice(),
+        closing: &closing,
+        limits,
+    };
+    let flusher = Flusher {
+        journal,
+        mark,
+        seat: flush_seat,
+        batch,
+    };
+    let looker = Looker { mark, seat };
+    let ends = Ends { listener, caller };
+    Err(run(&shared, &channels, flusher, looker, ends))
 }
 
-/// What takes memory before the threads start: their buffers, and the channels between them.
+/// What takes memory before the threads start.
 #[derive(Drop)]
 struct Parts {
     batch: BatchBuf,
-    door: Door,
+    writers: Vec<ReplyWriter>,
+    channels: Channels,
     caller: Sender<Call>,
+}
+
+/// The channels between the threads, and the clock that they read.
+#[derive(Drop)]
+struct Channels {
     calls: Receiver<Call>,
-    order: Sender<Order>,
-    orders: Receiver<Order>,
+    parting: Sender<Parting>,
+    partings: Receiver<Parting>,
+    operator: Operator,
+    moments: Moments,
 }
 
-/// Makes them, and starts the thread that reads the operator's lines.
-fn make_parts<R: Threads + Wait + Copy + Send + 'static, L: BufRead + Send + Drop + 'static>(
-    rt: &R,
-    alloc: Global,
-    lines: L,
-) -> Result<Parts, ServeError> {
-    let batch = BatchBuf::new(alloc)?;
-    let door = Door::new(alloc, ReadyBuf::new(alloc)?);
-    let (caller, calls) = bounded(alloc, SESSIONS)?;
-    let (order, orders) = start_reading(rt, alloc, lines)?;
-    Ok(Parts {
-        batch,
-        door,
-        caller,
-        calls,
-        order,
-        orders,
-    })
+/// What the acceptor has: the callers come in, and go to the sessions' threads.
+#[derive(Drop)]
+struct Ends<'a> {
+    listener: &'a TcpListener,
+    caller: Sender<Call>,
 }
 
-/// All threads but the one that reads the operator's lines. This one flushes.
+/// What the flusher has.
+#[derive(Drop)]
+struct Flusher<'a, D: Disk> {
+    journal: Journal<D>,
+    mark: &'a Mark,
+    seat: FlushSeat,
+    batch: BatchBuf,
+    ghost idle: { IsIdle journal },
+    ghost flushes: { seat.mark ≡ mark.now },
+}
+
+/// What the operator's thread looks at the mark with.
+#[derive(Drop)]
+struct Looker<'a> {
+    mark: &'a Mark,
+    seat: Seat,
+    ghost looks: { seat.mark ≡ mark.now },
+}
+
+impl Parts {
+    /// Makes them, and starts the threads that read the operator's lines and write the answers.
+    fn make<
+        R: Threads + Wait + Copy + Send + 'static,
+        L: BufRead + Send + Drop + 'static,
+        A: Write + Send + Drop + 'static,
+    >(rt: &R, alloc: Global, lines: L, answers: A) -> Result<Parts, ServeError> {
+        let batch = BatchBuf::new(alloc)?;
+        let writers = make_writers(alloc)?;
+        let (caller, calls) = bounded(alloc, SESSIONS)?;
+        let (parting, partings) = bounded(alloc, FAREWELLS)?;
+        let operator = Operator::start(rt, alloc, lines, answers)?;
+        let channels = Channels {
+            calls,
+            parting,
+            partings,
+            operator,
+            moments: Moments::new(),
+        };
+        Ok(Parts {
+            batch,
+            writers,
+            channels,
+            caller,
+        })
+    }
+}
+
+/// One for each session's thread.
+fn make_writers(alloc: Global) -> Result<Vec<ReplyWriter>, AllocError> {
+    let mut writers = Vec::new(alloc);
+    for _ in 0..SESSIONS {
+        writers.push(ReplyWriter::new(alloc)?)?;
+    }
+    Ok(writers)
+}
+
+/// All threads but the two that wait for the operator. This one flushes.
 fn run<
     'a,
-    R: Threads + Wait + Clock + Sync,
+    R: Threads + Wait + Clock + Eprint + Sync,
     D: Disk + Drop,
     K: Kern + Sync,
     G: Gate + Sync,
-    A: Write + Send + Drop,
 >(
-    rt: &'a R,
-    alloc: Global,
-    listener: &'a TcpListener,
-    journal: Journal<D>,
-    kern: &'a K,
-    mark: &'a Mark,
-    flush_seat: FlushSeat,
-    seat: Seat,
-    gate: &'a G,
-    answers: A,
-    bells: &'a Bells,
-    door: &'a Door,
-    batch: BatchBuf,
-    caller: Sender<Call>,
-    calls: &'a Receiver<Call>,
-    order: Sender<Order>,
-    orders: &'a Receiver<Order>,
-) -> ServeError
-    requires idle { IsIdle journal }
-    requires flush_seat { flush_seat.mark ≡ mark.now }
-    requires seat { seat.mark ≡ mark.now }
-{
-    thread::scope(
-        thread::scope_env(),
-        rt,
-        move |scope| -> ServeError
-            requires { IsIdle journal × (flush_seat.mark ≡ mark.now) × (seat.mark ≡ mark.now) }
-        {
-            let mut is_started = true;
-            for _ in 0..SESSIONS {
-                let thread = scope.spawn(move || serve_calls(
-                    rt, alloc, kern, gate, bells, door, calls,
-                ));
-                is_started &= thread.is_ok();
-            }
-            let releaser = scope.spawn(move || release_all(rt, kern, gate, bells, door));
-            let operator = scope.spawn(
-                move || -> ()
-                    requires { seat.mark ≡ mark.now }
-                { answer_orders(rt, alloc, kern, mark, seat, bells, orders, answers) },
-            );
-            is_started &= releaser.is_ok() && operator.is_ok();
-            let acceptor = if is_started {
-                scope
-                    .spawn(move || accept_all(rt, alloc, listener, kern, bells, door, caller))
-                    .ok()
-            } else {
-                None
-            };
-            let Some(acceptor) = acceptor else {
-                give_up(rt, kern, mark, flush_seat);
-                wake(rt, bells, &order);
-                close(bells, door);
-                return ServeError::Memory;
-            };
-            let ringing = Ringing { bells, gate };
-            let error = flush_all(rt, journal, kern, mark, flush_seat, batch, &ringing, bells);
-            wake(rt, bells, &order);
-            acceptor.join(rt);
-            close(bells, door);
-            ServeError::from(error)
-        },
+    shared: &'a Shared<'a, R, K, G>,
+    channels: &'a Channels,
+    flusher: Flusher<'a, D>,
+    looker: Looker<'a>,
+    ends: Ends<'a>,
+) -> ServeError {
+    thread::scope(thread::scope_env(), shared.rt, move |scope| -> ServeError {
+        let has_sessions = start_sessions(scope, shared, channels);
+        let has_others = start_others(scope, shared, channels, looker);
+        let acceptor = if has_sessions && has_others {
+            start_accepting(scope, shared, ends)
+        } else {
+            None
+        };
+        let Some(acceptor) = acceptor else {
+            give_up(shared, flusher);
+            wake(shared, channels);
+            end(shared, channels);
+            return ServeError::Memory;
+        };
+        let error = flush(shared, flusher);
+        wake(shared, channels);
+        acceptor.join(shared.rt);
+        end(shared, channels);
+        ServeError::from(error)
+    })
+}
+
+/// Starts the threads of all sessions. It is false where the system has not all.
+fn start_sessions<'s, E, R: Wait + Clock + Eprint + Sync, K: Kern + Sync, G: Gate + Sync>(
+    scope: &Scope<'s, E>,
+    shared: &'s Shared<'s, R, K, G>,
+    channels: &'s Channels,
+) -> bool {
+    let mut is_started = true;
+    for writer in shared.writers {
+        is_started &= start_session(scope, shared, channels, writer);
+    }
+    is_started
+}
+
+/// Starts the releaser, the thread that lingers and the operator's. It is false where the system has not all.
+fn start_others<'s, E, R: Wait + Clock + Eprint + Sync, K: Kern + Sync, G: Gate + Sync>(
+    scope: &Scope<'s, E>,
+    shared: &'s Shared<'s, R, K, G>,
+    channels: &'s Channels,
+    looker: Looker<'s>,
+) -> bool {
+    let releaser = scope.spawn(move || release_all(shared));
+    let lingerer = scope.spawn(move || linger(shared, channels));
+    let operator = scope.spawn(move || answer_lines(shared, channels, looker));
+    releaser.is_ok() && lingerer.is_ok() && operator.is_ok()
+}
+
+/// Starts the acceptor; `None` where the system has no thread.
+fn start_accepting<'s, E, R: Wait + Clock + Sync, K: Kern + Sync, G: Sync>(
+    scope: &Scope<'s, E>,
+    shared: &'s Shared<'s, R, K, G>,
+    ends: Ends<'s>,
+) -> Option<JoinHandle<()>> {
+    scope.spawn(move || accept_calls(shared, ends)).ok()
+}
+
+/// Accepts callers until the kernel is halted.
+fn accept_calls<R: Wait + Clock, K: Kern, G>(shared: &Shared<'_, R, K, G>, ends: Ends<'_>) {
+    let Ends { listener, caller } = ends;
+    accept_all(shared, listener, caller)
+}
+
+/// Reads the callers whose sessions are closed.
+fn linger<R: Wait + Clock, K, G>(shared: &Shared<'_, R, K, G>, channels: &Channels) {
+    linger_all(
+        shared.rt,
+        shared.closing,
+        shared.limits.linger,
+        &channels.partings,
     )
 }
 
-/// Starts the thread that reads the operator's lines. It is never joined: it may wait for a line for ever.
-fn start_reading<R: Threads + Wait + Copy + Send + 'static, L: BufRead + Send + Drop + 'static>(
-    rt: &R,
-    alloc: Global,
-    lines: L,
-) -> Result<(Sender<Order>, Receiver<Order>), AllocError> {
-    let (order, orders) = unbounded(alloc)?;
-    let theirs = order.clone()?;
-    let own = *rt;
-    let _reader = thread::spawn(rt, move || {
-        let mut lines = lines;
-        read_orders(&own, alloc, &mut lines, &theirs)
-    })?;
-    Ok((order, orders))
+/// Starts a session's thread and the one that finishes its writes. It is false where the system has no thread.
+fn start_session<'s, E, R: Wait + Clock + Eprint + Sync, K: Kern + Sync, G: Gate + Sync>(
+    scope: &Scope<'s, E>,
+    shared: &'s Shared<'s, R, K, G>,
+    channels: &'s Channels,
+    writer: &'s ReplyWriter,
+) -> bool {
+    let rests = scope.spawn(move || writer.write_rests(shared));
+    let session = scope.spawn(move || {
+        let thread = SessionThread {
+            shared,
+            writer,
+            moments: &channels.moments,
+            partings: &channels.parting,
+        };
+        thread.serve_calls(&channels.calls)
+    });
+    rests.is_ok() && session.is_ok()
 }
 
-/// There is no thread to accept callers with: nothing is flushed any more.
-fn give_up<R: Wait, K: Kern>(rt: &R, kern: &K, mark: &Mark, flush_seat: FlushSeat)
-    requires { flush_seat.mark ≡ mark.now }
-{
-    let mut flush_seat = flush_seat;
-    kern.halt(rt);
-    mark.stop(&mut flush_seat);
+/// Makes the changes that the operator's lines ask for, and has them answered.
+fn answer_lines<R: Wait + Clock, K: Kern, G>(
+    shared: &Shared<'_, R, K, G>,
+    channels: &Channels,
+    looker: Looker<'_>,
+) {
+    let Looker { mark, seat } = looker;
+    let service = operator::Service {
+        rt: shared.rt,
+        alloc: shared.alloc,
+        kern: shared.kern,
+        mark,
+        bells: shared.bells,
+    };
+    channels.operator.answer_all(&service, seat)
+}
+
+/// Flushes until a turn is refused.
+fn flush<R: Wait, D: Disk + Drop, K: Kern, G: Gate>(
+    shared: &Shared<'_, R, K, G>,
+    flusher: Flusher<'_, D>,
+) -> FlushError {
+    let Flusher {
+        journal,
+        mark,
+        seat,
+        batch,
+    } = flusher;
+    let ringing = Ringing {
+        bells: shared.bells,
+        gate: shared.gate,
+    };
+    flush_all(
+        shared.rt,
+        journal,
+        shared.kern,
+        mark,
+        seat,
+        batch,
+        &ringing,
+        shared.bells,
+    )
+}
+
+/// There are no threads to serve callers with: nothing is flushed any more.
+fn give_up<R: Wait, D: Disk + Drop, K: Kern, G>(
+    shared: &Shared<'_, R, K, G>,
+    flusher: Flusher<'_, D>,
+) {
+    let Flusher { mark, seat, .. } = flusher;
+    let mut seat = seat;
+    shared.kern.halt(shared.rt);
+    mark.stop(&mut seat);
 }
 
 /// Wakes the threads that wait for the flusher. The acceptor ends once another caller has come.
-fn wake<R: Wait>(rt: &R, bells: &Bells, order: &Sender<Order>) {
-    bells.operator.unpark();
-    bells.releaser.unpark();
-    bells.later.ring();
-    let _ = order.send(rt, Order::Ends);
+fn wake<R: Wait, K, G>(shared: &Shared<'_, R, K, G>, channels: &Channels) {
+    shared.bells.operator.unpark();
+    shared.bells.releaser.unpark();
+    shared.bells.later.ring();
+    channels.operator.end(shared.rt);
 }
 
-/// Nobody comes any more: the releaser ends the sessions, and with them their threads.
-fn close(bells: &Bells, door: &Door) {
-    door.is_closed.store(true, Ordering::SeqCst);
-    bells.releaser.unpark();
+/// Nobody comes any more: the callers are let go, and all threads end.
+fn end<R: Wait, K, G>(shared: &Shared<'_, R, K, G>, channels: &Channels) {
+    shared.close();
+    let _ = channels.parting.send(shared.rt, Parting::End);
 }

@@ -111,12 +111,18 @@ pub(crate) fn call<R: Net<Listener = TcpListener, Stream = TcpStream> + Clock>(
     flags: &Flags,
     holds: Holds,
 ) -> bool {
+    if holds == Holds::Unread {
+        return comes_until_told(rt, alloc, address);
+    }
     let Some(mut caller) = Caller::connect(rt, alloc, address) else {
         return false;
     };
     let is_good = match holds {
         Holds::Nothing => posts_and_reads(&mut caller) && sends_no_more(rt, alloc, address),
-        Holds::Fault => { caller.sends(FIRST) && caller.reads_all(&[GREETING, "340 Send article"]) }
+        Holds::Taken => posts_while_its_line_is_taken(&mut caller),
+        Holds::Fault | Holds::Unread => {
+            caller.sends(FIRST) && caller.reads_all(&[GREETING, "340 Send article"])
+        }
         Holds::Flush => reads_while_a_flush_is_held(rt, alloc, address, flags, &mut caller),
         Holds::Release => posts_while_a_release_is_held(rt, alloc, address, &mut caller),
         Holds::Answer => {
@@ -219,6 +225,13 @@ fn posts_while_a_release_is_held<R: Net<Listener = TcpListener, Stream = TcpStre
         && other.reads_all(&[GREETING, "340 Send article", "240 Article received"])
 }
 
+/// The caller's article commits while the reply to its `POST` is on its way. It is told all without sending more.
+fn posts_while_its_line_is_taken(caller: &mut Caller) -> bool {
+    caller.reads(GREETING)
+        && caller.sends(FIRST)
+        && caller.reads_all(&["340 Send article", "240 Article received"])
+}
+
 /// Has the next commit refused, and waits until a caller is told that the service ends.
 fn end<R: Net<Listener = TcpListener, Stream = TcpStream> + Clock>(
     rt: &R,
@@ -228,9 +241,15 @@ fn end<R: Net<Listener = TcpListener, Stream = TcpStream> + Clock>(
     caller: &Caller,
 ) -> bool {
     flags.over.store(true, Ordering::SeqCst);
-    if !caller.sends(SECOND) {
-        return false;
-    }
+    caller.sends(SECOND) && comes_until_told(rt, alloc, address)
+}
+
+/// Comes again and again until a caller is told that the service ends.
+fn comes_until_told<R: Net<Listener = TcpListener, Stream = TcpStream> + Clock>(
+    rt: &R,
+    alloc: Global,
+    address: SocketAddr,
+) -> bool {
     for _ in 0..TRIES {
         let Some(mut last) = Caller::connect(rt, alloc, address) else {
             return false;

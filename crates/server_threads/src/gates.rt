@@ -1,14 +1,15 @@
 //! Where a test stops the flusher or the releaser, and what its threads tell one another.
 
 use flusher::{Arrivals, Gate};
-use std::sync::Wait;
+use std::alloc::{AllocError, Global};
 use std::sync::atomic::{AtomicBool, AtomicU64, Ordering};
+use std::sync::{Arc, Wait};
 use std::thread::{self, Parker};
 
 /// A test waits for so many turns of one load and one yield, and then fails.
 const TURNS: u32 = 1_000_000;
 
-/// So many turns the operator's batch is held.
+/// So many turns the operator's batch is held, and a session's line once its commit is there.
 const PAUSE: u32 = 1_000;
 
 /// What the threads of a test tell one another.
@@ -25,19 +26,22 @@ pub(crate) struct Flags {
     /// The next commit is refused, so that the server ends.
     pub(crate) over: AtomicBool,
     /// What the operator was answered: its octets, as the digits of a number.
-    pub(crate) answered: AtomicU64,
+    pub(crate) answered: Arc<AtomicU64>,
+    /// How many releases have begun.
+    releases: AtomicU64,
 }
 
 impl Flags {
-    pub(crate) fn new() -> Flags {
-        Flags {
+    pub(crate) fn new(alloc: Global) -> Result<Flags, AllocError> {
+        Ok(Flags {
             flushing: AtomicBool::new(false),
             flushed: AtomicBool::new(false),
             has_read: AtomicBool::new(false),
             failed: AtomicBool::new(false),
             over: AtomicBool::new(false),
-            answered: AtomicU64::new(0),
-        }
+            answered: Arc::new(alloc, AtomicU64::new(0))?,
+            releases: AtomicU64::new(0),
+        })
     }
 
     /// Turns until a flag is set, as a gate does.
@@ -65,12 +69,16 @@ pub(crate) enum Holds {
     Nothing,
     /// Nothing either, and the device fails at its first call.
     Fault,
+    /// The write of the operator's first answer, for ever, and the device fails at its first call.
+    Unread,
     /// A flush, until a caller has read its reply.
     Flush,
     /// Each release to session 1, until a batch is committed.
     Release,
     /// A flush, for a while in which the operator must not be answered.
     Answer,
+    /// The second release, until a batch is committed and who releases what waited for it had time to find the session's line taken.
+    Taken,
 }
 
 /// The gate of a test.
@@ -104,8 +112,15 @@ impl<'a> Gate for TestGate<'a> {
     }
 
     fn before_release(&self, sid: u64) {
+        let before = self.flags.releases.fetch_add(1, Ordering::SeqCst);
         if self.holds == Holds::Release && sid == 1 {
             self.flags.hold_until(&self.flags.flushed);
+        }
+        if self.holds == Holds::Taken && before == 1 {
+            self.flags.hold_until(&self.flags.flushed);
+            for _ in 0..PAUSE {
+                thread::yield_now();
+            }
         }
     }
 

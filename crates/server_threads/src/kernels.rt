@@ -4,10 +4,11 @@ ghost use Rattle.std.specs.Prelude.{◌≡◌};
 
 use crate::gates::Flags;
 use flusher::{
-    AdminError, BatchBuf, ExecError, ExpireError, JoinError, Kern, Kernel, Locked, Stale, Ticket,
+    AdminError, Answered, BatchBuf, ExecError, ExpireError, JoinError, Kern, Kernel, Locked, Stale,
+    Ticket,
 };
 use mark::{Mark, Seat};
-use model::{Mark as Served, Message, Mode};
+use model::{Message, Mode};
 use names::GroupName;
 use outbox::ReadyBuf;
 use std::alloc::Global;
@@ -61,15 +62,20 @@ impl<'a> Kern for Watched<'a> {
         self.inner.mode(rt, sid)
     }
 
-    fn exec<R: Wait>(
+    fn answer<R: Wait>(
         &self,
         rt: &R,
         alloc: Global,
         sid: u64,
         message: &Message,
         moment: u64,
-    ) -> Result<(Option<Mode>, Served), ExecError> {
-        self.inner.exec(rt, alloc, sid, message, moment)
+        into: &mut ReadyBuf,
+    ) -> Result<Answered, ExecError> {
+        self.inner.answer(rt, alloc, sid, message, moment, into)
+    }
+
+    fn give_ready<R: Wait>(&self, rt: &R, sid: u64, into: &mut ReadyBuf) -> bool {
+        self.inner.give_ready(rt, sid, into)
     }
 
     fn admin<R: Wait>(
@@ -111,9 +117,5 @@ impl<'a> Kern for Watched<'a> {
 
     fn halt<R: Wait>(&self, rt: &R) {
         self.inner.halt(rt);
-    }
-
-    fn take_ready<R: Wait>(&self, rt: &R, into: &mut ReadyBuf) {
-        self.inner.take_ready(rt, into);
     }
 }

@@ -13,13 +13,13 @@ use mark::{FlushSeat, Mark, Seat};
 use memdisk::MemDisk;
 use names::{GroupName, is_host};
 use new_volume::{Plan, are_sizes, device_octets, format};
-use server::{ServeError, serve};
+use server::{Limits, ServeError, Server, serve};
 use std::alloc::Global;
 use std::io::{self, Write};
 use std::net::{Ipv4Addr, Net, SocketAddr, TcpListener, TcpStream};
-use std::sync::Wait;
-use std::sync::atomic::Ordering;
-use std::thread::{Threads, join};
+use std::sync::atomic::{AtomicU64, Ordering};
+use std::sync::{Arc, Wait};
+use std::thread::{Parker, Threads, join};
 use std::time::Clock;
 
 /// The host of the volumes, their logical blocks and their inodes.
@@ -42,18 +42,27 @@ pub(crate) struct Outcome {
     pub(crate) answered: u64,
 }
 
-/// Where the operator's answers go.
+/// Where the operator's answers go. Where he doesn't read them, a write never ends.
 #[derive(Drop)]
-struct Answers<'a> {
-    flags: &'a Flags,
+struct Answers<R> {
+    rt: R,
+    answered: Arc<AtomicU64>,
+    is_read: bool,
 }
 
-impl<'a> Write for Answers<'a> {
+impl<R: Wait> Write for Answers<R> {
     fn write(&mut self, octets: &[u8]) -> io::Result<usize> {
+        let never = Parker::new();
+        for _ in self.rt.forever() {
+            if self.is_read {
+                break;
+            }
+            never.park(&self.rt);
+        }
         for octet in octets {
-            let before = self.flags.answered.load(Ordering::SeqCst);
+            let before = self.answered.load(Ordering::SeqCst);
             let after = before.wrapping_mul(256).wrapping_add(u64::from(*octet));
-            self.flags.answered.store(after, Ordering::SeqCst);
+            self.answered.store(after, Ordering::SeqCst);
         }
         Ok(octets.len())
     }
@@ -167,13 +176,13 @@ impl<'a> Stage<'a> {
 
     /// The device fails at its next call, where the play is of a fault.
     fn plan_fault(&mut self, holds: Holds) {
-        if holds == Holds::Fault {
+        if holds == Holds::Fault || holds == Holds::Unread {
             self.journal.fail_at(1);
         }
     }
 
     /// Serves callers until a commit or the device fails.
-    fn serve<R: Threads + Wait + Clock + Copy + Send + Sync + 'static>(
+    fn serve<R: Threads + Wait + Clock + Eprint + Copy + Send + Sync + 'static>(
         self,
         rt: &R,
         alloc: Global,
@@ -189,15 +198,30 @@ impl<'a> Stage<'a> {
             flags,
         } = self;
         let gate = TestGate { flags, holds };
-        let lines: &'static [u8] = if holds == Holds::Answer {
-            b"group x.c y 1000000000 test\n"
-        } else {
-            b""
+        let lines: &'static [u8] = match holds {
+            Holds::Answer => b"group x.c y 1000000000 test\n",
+            Holds::Unread => b"spool\ngroup x.c y 1000000000 test\n",
+            _ => b"",
         };
-        let answers = Answers { flags };
-        let ended = serve(
-            rt, alloc, listener, journal, &kern, mark, flush_seat, seat, &gate, lines, answers,
-        );
+        let Ok(answered) = Arc::try_clone(&flags.answered) else {
+            return ServeError::Memory;
+        };
+        let answers = Answers {
+            rt: *rt,
+            answered,
+            is_read: holds != Holds::Unread,
+        };
+        let server = Server {
+            listener,
+            journal,
+            kern: &kern,
+            mark,
+            flush_seat,
+            seat,
+            gate: &gate,
+            limits: Limits::standard(),
+        };
+        let ended = serve(rt, alloc, server, lines, answers);
         match ended {
             Ok(()) => ServeError::Memory,
             Err(error) => error,
@@ -207,7 +231,9 @@ impl<'a> Stage<'a> {
 
 /// Whether a turn of the flusher raises the mark, and not before its batch is told to be committed.
 pub(crate) fn raises_after_commit<R: Wait>(rt: &R, alloc: Global) -> bool {
-    let flags = Flags::new();
+    let Ok(flags) = Flags::new(alloc) else {
+        return false;
+    };
     let Ok((mark, flush_seat, mut seat)) = Mark::new(alloc) else {
         return false;
     };
@@ -241,12 +267,15 @@ pub(crate) fn play<
         + Threads
         + Wait
         + Clock
+        + Eprint
         + Copy
         + Send
         + Sync
         + 'static,
 >(rt: &R, alloc: Global, holds: Holds) -> Option<Outcome> {
-    let flags = Flags::new();
+    let Ok(flags) = Flags::new(alloc) else {
+        return None;
+    };
     let Ok((mark, flush_seat, seat)) = Mark::new(alloc) else {
         return None;
     };

@@ -32,6 +32,11 @@ fn another_sessions_post_commits_while_a_release_is_held(rt: HostRuntime) {
 }
 
 #[test]
+fn what_commits_while_a_line_is_taken_is_released(rt: HostRuntime) {
+    assert_eq!(rt; play(&rt, rt.alloc(), Holds::Taken), Some(GOOD));
+}
+
+#[test]
 fn the_operators_serial_waits_for_the_mark(rt: HostRuntime) {
     let told = Outcome {
         answered: SERIAL_THREE,
@@ -47,6 +52,15 @@ fn a_fault_ends_the_server(rt: HostRuntime) {
         ..GOOD
     };
     assert_eq!(rt; play(&rt, rt.alloc(), Holds::Fault), Some(ended));
+}
+
+#[test]
+fn a_fault_ends_the_server_though_the_operator_reads_nothing(rt: HostRuntime) {
+    let ended = Outcome {
+        ended: ServeError::Fault,
+        ..GOOD
+    };
+    assert_eq!(rt; play(&rt, rt.alloc(), Holds::Unread), Some(ended));
 }
 
 #[test]

@@ -6,12 +6,3 @@ returns-then-not-may_begin-clause-fault c = search rules
 
 pub returns-in_err-commit-clause-turn : goal.returns-in_err-commit-clause-turn
 returns-in_err-commit-clause-turn c = search rules
-
-pub returns-in_err-settle-clause-turn : goal.returns-in_err-settle-clause-turn
-returns-in_err-settle-clause-turn c = search rules
-
-pub returns-clause-turn : goal.returns-clause-turn
-returns-clause-turn c = search rules
-
-pub returns-clause-some : goal.returns-clause-some
-returns-clause-some c = search rules

@@ -1,0 +1,127 @@
+//! What a line of the operator asks for, and the call of the kernel that makes it.
+
+ghost use Rattle.std.specs.Prelude.{◌≡◌, ◌≢◌, ◌⊎◌, IfOk, IfErr, Some};
+ghost use Rattle.script.specs.Script.{meaning};
+ghost use Rattle.operator.specs.Changes.{IsNone, asked};
+
+use crate::desk::Service;
+use crate::group::NewGroup;
+use crate::writing::Refused;
+use flusher::{AdminError, Bells, ExpireError, Kern};
+use names::GroupName;
+use script::{Line, ParseError, parse};
+use std::alloc::Global;
+use std::sync::Wait;
+
+/// A change that the operator asks for.
+#[derive(Drop)]
+pub(crate) enum Change {
+    Group(NewGroup),
+    /// The articles of a group up to this number are taken out of it.
+    Expiry { name: GroupName, number: u32 },
+}
+
+/// The change that a line asks for. A line that asks for none is `Bad`; `Memory` may come for each line.
+pub(crate) fn change_of(alloc: Global, line: &[u8]) -> Result<Change, Refused>
+    ensures ok { IfOk result (λ change. meaning line.now ≡ Some (asked change)) }
+    ensures err { IfErr result (λ error. (error ≡ Refused.Memory) ⊎ ((error ≡ Refused.Bad) × IsNone (meaning line.now))) }
+{
+    match parse(alloc, line) {
+        Ok(
+            Line::Group {
+                name,
+                status,
+                moment,
+                description,
+            },
+        ) => {
+            // a line that was read names a group
+            let Ok(name) = GroupName::read(name.as_slice()) else {
+                return Err(Refused::Bad);
+            };
+            Ok(Change::Group(NewGroup {
+                name,
+                status,
+                moment,
+                description,
+            }))
+        }
+        Ok(Line::Expire { name, number }) => {
+            let Ok(name) = GroupName::read(name.as_slice()) else {
+                return Err(Refused::Bad);
+            };
+            Ok(Change::Expiry { name, number })
+        }
+        Ok(_) | Err(ParseError::Bad) => Err(Refused::Bad),
+        Err(ParseError::Memory) => Err(Refused::Memory),
+    }
+}
+
+/// Makes a change, and answers its serial. Where the kernel has no room for it now, it is asked again after the next batch.
+pub(crate) fn make<R: Wait, K: Kern>(
+    service: &Service<'_, R, K>,
+    change: &Change,
+) -> Result<u64, Refused>
+    ensures { IfErr result (λ error. error ≢ Refused.Fault) }
+{
+    match change {
+        Change::Group(group) => Ok(make_group(service, group)?),
+        Change::Expiry { name, number } => Ok(expire(service, name, *number)?),
+    }
+}
+
+fn make_group<R: Wait, K: Kern>(
+    service: &Service<'_, R, K>,
+    group: &NewGroup,
+) -> Result<u64, AdminError> {
+    let Service {
+        rt,
+        alloc,
+        kern,
+        bells,
+        ..
+    } = service;
+    for _ in rt.forever() {
+        let noted = bells.later.count();
+        let description = group.description.as_slice();
+        match kern.admin(
+            *rt,
+            *alloc,
+            &group.name,
+            group.status,
+            description,
+            group.moment,
+        ) {
+            Err(AdminError::LaterDirty) => put_off(*rt, *bells, noted),
+            answer => return answer,
+        }
+    }
+    unreachable!()
+}
+
+fn expire<R: Wait, K: Kern>(
+    service: &Service<'_, R, K>,
+    name: &GroupName,
+    number: u32,
+) -> Result<u64, ExpireError> {
+    let Service {
+        rt,
+        kern,
+        bells,
+        ..
+    } = service;
+    for _ in rt.forever() {
+        let noted = bells.later.count();
+        match kern.expire(*rt, name, number) {
+            Err(ExpireError::LaterDirty) => put_off(*rt, *bells, noted),
+            answer => return answer,
+        }
+    }
+    unreachable!()
+}
+
+/// Waits until a batch was taken, or something released, since the count was noted.
+fn put_off<R: Wait>(rt: &R, bells: &Bells, noted: u64) {
+    bells.flush_now();
+    bells.later.wait_past(rt, noted);
+}

@@ -1,0 +1,210 @@
+//! The operator's threads: one reads the lines, one makes the changes and waits until they are durable, and one writes the answers.
+//!
+//! The first and the last may wait for the operator for ever, so neither is joined. The second waits for neither of them: at most
+//! `LINES` lines are under way, and each channel has room for all of them.
+
+ghost use Rattle.std.specs.Prelude.{◌≡◌, ◌≤◌, true, IfOk, IfErr, OnOk};
+
+use crate::changes::{change_of, make};
+use crate::durable::is_durable;
+use crate::lines::{LINE_OCTETS, Next, next_line};
+use crate::writing::{Answer, Refused, write_answer};
+use crossbeam_channel::{Receiver, Sender, bounded};
+use flusher::{Bells, Kern};
+use mark::{Mark, Seat};
+use std::alloc::{AllocError, Global};
+use std::io::{BufRead, Write};
+use std::sync::Wait;
+use std::thread::{self, Threads};
+use std::time::{Clock, Duration};
+
+/// So many lines are under way at most: handed on, and their answers not yet written. One more may be read; the rest stay where they
+/// come from.
+const LINES: usize = 64;
+
+/// At the end the operator has so many seconds to read the answers that are due.
+const ENDING_SECS: u64 = 1;
+
+/// What the thread that makes the changes waits for.
+#[derive(Drop)]
+enum Order {
+    /// A line without its LF, or why it was not kept.
+    Asked(Result<Vec<u8>, Refused>),
+    /// The server ends.
+    Ends,
+}
+
+/// What the thread that writes waits for.
+#[derive(Clone, Copy, Drop)]
+enum Reply {
+    Answer(Answer),
+    /// There is no further answer.
+    Ends,
+}
+
+/// What the changes are made with: the kernel, the mark that says what is durable, and the bells of the server's threads.
+#[derive(Drop)]
+pub struct Service<'a, R, K> {
+    pub rt: &'a R,
+    pub alloc: Global,
+    pub kern: &'a K,
+    pub mark: &'a Mark,
+    pub bells: &'a Bells,
+}
+
+/// The operator's side of a running server.
+#[derive(Drop)]
+pub struct Operator {
+    order: Sender<Order>,
+    orders: Receiver<Order>,
+    replies: Sender<Reply>,
+    /// It is disconnected once the last answer is written.
+    written: Receiver<()>,
+}
+
+/// Where the lines go.
+#[derive(Drop)]
+struct Reading {
+    alloc: Global,
+    /// What the next line is read into.
+    line: Vec<u8>,
+    orders: Sender<Order>,
+    /// One message for each line that is under way.
+    under_way: Sender<()>,
+}
+
+/// Where the answers come from.
+#[derive(Drop)]
+struct Writing {
+    replies: Receiver<Reply>,
+    under_way: Receiver<()>,
+    /// It has no message. It goes with the thread.
+    _written: Sender<()>,
+}
+
+impl Operator {
+    /// Starts the threads that read the lines and write the answers. After an `Err` they end with the next line or answer.
+    pub fn start<
+        R: Threads + Wait + Copy + Send + 'static,
+        L: BufRead + Send + Drop + 'static,
+        A: Write + Send + Drop + 'static,
+    >(rt: &R, alloc: Global, lines: L, answers: A) -> Result<Operator, AllocError> {
+        let (order, orders) = bounded(alloc, LINES + 1)?;
+        let (replies, to_write) = bounded(alloc, LINES + 1)?;
+        let (begun, under_way) = bounded(alloc, LINES)?;
+        let (_written, written) = bounded(alloc, 1)?;
+        let reading = Reading {
+            alloc,
+            line: Vec::with_capacity(alloc, LINE_OCTETS)?,
+            orders: order.clone()?,
+            under_way: begun,
+        };
+        let writing = Writing {
+            replies: to_write,
+            under_way,
+            _written,
+        };
+        let own = *rt;
+        let _writer = thread::spawn(rt, move || writing.write_all(&own, answers))?;
+        let _reader = thread::spawn(rt, move || reading.read_all(&own, lines))?;
+        Ok(Operator {
+            order,
+            orders,
+            replies,
+            written,
+        })
+    }
+
+    /// Makes the changes that the lines ask for and answers each line, until `end` is called. The lines that were handed on before
+    /// are still answered, and the operator has a second to read the answers. Then it returns, whether they are read or not.
+    pub fn answer_all<R: Wait + Clock, K: Kern>(&self, service: &Service<'_, R, K>, seat: Seat)
+        requires { seat.mark ≡ service.now.mark.now }
+    {
+        let mut seat = seat;
+        'orders: for _ in service.rt.forever() {
+            let Ok(Order::Asked(line)) = self.orders.recv(service.rt) else {
+                break;
+            };
+            let answer = answer(service, &mut seat, line);
+            let _ = self.replies.send(service.rt, Reply::Answer(answer));
+        }
+        let _ = self.replies.send(service.rt, Reply::Ends);
+        let _ = self
+            .written
+            .recv_timeout(service.rt, Duration::from_secs(ENDING_SECS));
+    }
+
+    /// Has `answer_all` end. It is called once, after the flusher has stopped and its bells were rung.
+    pub fn end<R: Wait>(&self, rt: &R) {
+        let _ = self.order.send(rt, Order::Ends);
+    }
+}
+
+/// Makes the change of a line, and waits until it is durable. A serial is answered only where the mark was seen to have it, and
+/// `Fault` only where the flusher was seen to have stopped and the mark read after that.
+fn answer<R: Wait, K: Kern>(
+    service: &Service<'_, R, K>,
+    seat: &mut Seat,
+    line: Result<Vec<u8>, Refused>,
+) -> Answer
+    requires { seat.old.mark ≡ service.now.mark.now }
+    ensures told { IfOk result (λ serial. serial ≤ seat.new.seen) }
+    ensures gone { OnOk line (IfErr result (λ error. error ≡ Refused.Fault → (seat.new.told ≡ true) × (seat.new.after_stop ≡ true))) }
+    ensures mark { seat.new.mark ≡ seat.old.mark }
+{
+    let Service {
+        rt,
+        alloc,
+        mark,
+        bells,
+        ..
+    } = service;
+    let line = line?;
+    let change = change_of(*alloc, line.as_slice())?;
+    let serial = make(service, &change)?;
+    bells.flush_now();
+    if is_durable(*rt, *mark, seat, *bells, serial) {
+        Ok(serial)
+    } else {
+        Err(Refused::Fault)
+    }
+}
+
+impl Reading {
+    /// Reads lines and hands them on, until they end or the server does.
+    fn read_all<R: Wait, L: BufRead + Drop>(self, rt: &R, lines: L) {
+        let (mut own, mut lines) = (self, lines);
+        for _ in rt.forever() {
+            let asked = match next_line(rt, &mut lines, &mut own.line) {
+                Ok(Next::Line) => own.kept(),
+                Ok(Next::TooLong) => Err(Refused::Bad),
+                Ok(Next::End) | Err(_) => return,
+            };
+            if own.under_way.send(rt, ()).is_err() {
+                return;
+            }
+            if own.orders.send(rt, Order::Asked(asked)).is_err() {
+                return;
+            }
+        }
+    }
+
+    /// The line that was read, in memory of its own.
+    fn kept(&self) -> Result<Vec<u8>, Refused> {
+        Ok(Vec::from_slice(self.alloc, self.line.as_slice())?)
+    }
+}
+
+impl Writing {
+    /// Writes the answers, until there is none any more. One that can't be written is lost, since nobody reads it.
+    fn write_all<R: Wait, A: Write + Drop>(self, rt: &R, answers: A) {
+        let mut answers = answers;
+        for _ in rt.forever() {
+            let Ok(Reply::Answer(answer)) = self.replies.recv(rt) else {
+                return;
+            };
+            let _ = write_answer(&mut answers, answer);
+            let _ = self.under_way.recv(rt);
+        }
+    }
+}

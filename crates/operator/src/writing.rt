@@ -1,0 +1,65 @@
+//! What a line of the operator is answered.
+
+ghost use Rattle.std.specs.Prelude.{◌≡◌};
+ghost use Rattle.operator.specs.declared.writing.Refused.TheVariants.{Group, Expiry, Memory};
+
+use flusher::{AdminError, ExpireError};
+use std::alloc::AllocError;
+use std::io::{self, Write};
+use thiserror::Error;
+
+/// Why a line is not answered with a serial.
+#[derive(Clone, Copy, Debug, Drop, PartialEq, Eq, Error)]
+pub(crate) enum Refused {
+    /// The group is not made.
+    #[error("{0}")]
+    Group(AdminError),
+    /// The articles are not taken out.
+    #[error("{0}")]
+    Expiry(ExpireError),
+    /// The change was made, but the flusher stopped before it was durable.
+    #[error("E1 Fault")]
+    Fault,
+    /// A growth was refused.
+    #[error("E2 Memory")]
+    Memory,
+    /// The line isn't one of the operator's.
+    #[error("E14 Bad")]
+    Bad,
+}
+
+impl From<AdminError> for Refused {
+    ghost from_gives = { λ error refused. refused ≡ Group error };
+
+    fn from(error: AdminError) -> Refused {
+        Refused::Group(error)
+    }
+}
+
+impl From<ExpireError> for Refused {
+    ghost from_gives = { λ error refused. refused ≡ Expiry error };
+
+    fn from(error: ExpireError) -> Refused {
+        Refused::Expiry(error)
+    }
+}
+
+impl From<AllocError> for Refused {
+    ghost from_gives = { λ _ refused. refused ≡ Memory };
+
+    fn from(_error: AllocError) -> Refused {
+        Refused::Memory
+    }
+}
+
+/// The serial of a change that is durable, or why there is none.
+pub(crate) type Answer = Result<u64, Refused>;
+
+/// Writes an answer and an LF, and flushes.
+pub(crate) fn write_answer<A: Write>(answers: &mut A, answer: Answer) -> io::Result<()> {
+    match answer {
+        Ok(serial) => writeln!(answers, "{serial}")?,
+        Err(refused) => writeln!(answers, "{refused}")?,
+    }
+    answers.flush()
+}

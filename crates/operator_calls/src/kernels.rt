@@ -1,0 +1,92 @@
+//! A kernel that counts the groups that it is asked for, and makes none.
+
+use flusher::{
+    AdminError, Answered, BatchBuf, ExecError, ExpireError, JoinError, Kern, Stale, Ticket,
+};
+use model::{Message, Mode};
+use names::GroupName;
+use outbox::ReadyBuf;
+use std::alloc::Global;
+use std::sync::Wait;
+use std::sync::atomic::{AtomicBool, AtomicU64, Ordering};
+
+/// What was asked of the kernel.
+#[derive(Drop)]
+pub(crate) struct Counting {
+    /// The groups that it was asked for while it was not halted.
+    pub(crate) groups: AtomicU64,
+    is_halted: AtomicBool,
+}
+
+impl Counting {
+    pub(crate) fn new() -> Counting {
+        Counting {
+            groups: AtomicU64::new(0),
+            is_halted: AtomicBool::new(false),
+        }
+    }
+}
+
+impl Kern for Counting {
+    fn join<R: Wait>(&self, _rt: &R, _alloc: Global) -> Result<u64, JoinError> {
+        Err(JoinError::TooManySessions)
+    }
+
+    fn mode<R: Wait>(&self, _rt: &R, _sid: u64) -> Option<Mode> {
+        None
+    }
+
+    fn answer<R: Wait>(
+        &self,
+        _rt: &R,
+        _alloc: Global,
+        _sid: u64,
+        _message: &Message,
+        _moment: u64,
+        _into: &mut ReadyBuf,
+    ) -> Result<Answered, ExecError> {
+        Err(ExecError::NoSession)
+    }
+
+    fn give_ready<R: Wait>(&self, _rt: &R, _sid: u64, _into: &mut ReadyBuf) -> bool {
+        false
+    }
+
+    fn admin<R: Wait>(
+        &self,
+        _rt: &R,
+        _alloc: Global,
+        _name: &GroupName,
+        _status: u8,
+        _description: &[u8],
+        _moment: u64,
+    ) -> Result<u64, AdminError> {
+        if self.is_halted.load(Ordering::SeqCst) {
+            return Err(AdminError::Halted);
+        }
+        Ok(self.groups.fetch_add(1, Ordering::SeqCst).wrapping_add(1))
+    }
+
+    fn expire<R: Wait>(
+        &self,
+        _rt: &R,
+        _name: &GroupName,
+        _number: u32,
+    ) -> Result<u64, ExpireError> {
+        Err(ExpireError::NotFound)
+    }
+
+    fn leave<R: Wait>(&self, _rt: &R, _sid: u64) {}
+
+    fn take_batch<R: Wait>(&self, _rt: &R, _into: &mut BatchBuf) -> Option<Ticket> {
+        None
+    }
+
+    fn committed<R: Wait>(&self, _rt: &R, _ticket: Ticket) -> Result<(), Stale> {
+        Err(Stale)
+    }
+
+    fn halt<R: Wait>(&self, _rt: &R) {
+        self.is_halted.store(true, Ordering::SeqCst);
+    }
+}

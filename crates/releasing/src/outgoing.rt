@@ -1,0 +1,201 @@
+//! The octets of one session that have left the kernel, on their way into its socket.
+
+ghost use Rattle.std.specs.Prelude.{◌≤◌, length};
+
+use crate::Shared;
+use flusher::{Gate, Kern};
+use outbox::{RELEASE_ENTRIES, RELEASE_OCTETS, ReadyBuf};
+use std::alloc::{AllocError, Global};
+use std::io::{self, ErrorKind, Write};
+use std::net::{Shutdown, TcpStream};
+use std::sync::{Arc, Wait};
+use std::time::Duration;
+
+/// A write that may not wait is given so many milliseconds, as few as the system knows. A socket that doesn't block at all would
+/// not block its reads either.
+const SHORT_MILLIS: u64 = 1;
+
+/// The time for which a socket may take nothing is waited for in so many writes. Linux wakes a write that waits only once a third of the
+/// socket's buffer is free, for which a slow caller may need longer; the next write finds whatever is free.
+const WAITS: u32 = 12;
+
+/// Whether a write may wait until its socket takes more.
+#[derive(Clone, Copy, PartialEq, Eq)]
+pub(crate) enum Patience {
+    /// The thread has other sessions to look after. What the socket doesn't take at once is left.
+    None,
+    /// The thread has this session alone, and waits until the socket has taken nothing for `Limits::stall`.
+    Long,
+}
+
+/// How far a write went.
+#[derive(Clone, Copy, PartialEq, Eq)]
+pub(crate) enum Written {
+    All,
+    /// The socket takes no more now.
+    Part,
+    /// The socket failed, or took nothing for too long.
+    Failed,
+}
+
+/// What was taken of the kernel for a session, and how much of it is written.
+#[derive(Drop)]
+pub(crate) struct Outgoing {
+    pub(crate) sid: u64,
+    /// `None` where there is no caller.
+    pub(crate) stream: Option<Arc<TcpStream, Global>>,
+    pub(crate) ready: ReadyBuf,
+    written: usize,
+}
+
+impl Outgoing {
+    pub(crate) fn new(alloc: Global) -> Result<Outgoing, AllocError> {
+        Ok(Outgoing {
+            sid: 0,
+            stream: None,
+            ready: ReadyBuf::new(alloc)?,
+            written: 0,
+        })
+    }
+
+    /// Whether what was taken has to be written before more is.
+    pub(crate) fn is_full(&self) -> bool {
+        self.ready.len() >= RELEASE_ENTRIES || self.ready.octets().len() >= RELEASE_OCTETS
+    }
+
+    /// Forgets what was taken.
+    pub(crate) fn clear(&mut self) {
+        self.ready.clear();
+        self.written = 0;
+    }
+
+    /// Writes what was taken, and forgets it, unless the socket takes no more and the patience ends. Where the socket fails the
+    /// session ends. After the last reply of a session nothing more is written into its socket.
+    pub(crate) fn write<R: Wait, K: Kern, G: Gate>(
+        &mut self,
+        shared: &Shared<'_, R, K, G>,
+        patience: Patience,
+    ) {
+        if self.ready.is_empty() {
+            return;
+        }
+        shared.gate.before_release(self.sid);
+        let written = self.write_rest(shared.rt, shared.limits.stall, patience);
+        shared.gate.after_release(self.sid);
+        match written {
+            Written::Part => return,
+            Written::All if !self.ends() => {}
+            Written::All => self.shut_down(Shutdown::Write),
+            Written::Failed => {
+                self.shut_down(Shutdown::Both);
+                shared.kern.leave(shared.rt, self.sid);
+            }
+        }
+        self.clear();
+    }
+
+    /// Whether the session ends with what was taken.
+    fn ends(&self) -> bool {
+        let count = self.ready.len();
+        if count == 0 {
+            return false;
+        }
+        let (_, _, ends) = self.ready.entry(count - 1);
+        ends
+    }
+
+    fn shut_down(&self, how: Shutdown) {
+        if let Some(stream) = &self.stream {
+            let _ = stream.shutdown(how);
+        }
+    }
+
+    /// Writes what isn't written yet, as far as the patience goes.
+    fn write_rest<R: Wait>(&mut self, rt: &R, stall: Duration, patience: Patience) -> Written {
+        let Outgoing {
+            stream,
+            ready,
+            written,
+            ..
+        } = self;
+        let Some(stream) = stream else {
+            return Written::Failed;
+        };
+        let at_once = write_on(rt, stream, ready.octets(), written);
+        if at_once != Written::Part || patience == Patience::None {
+            return at_once;
+        }
+        if stream.set_write_timeout(Some(stall / WAITS)).is_err() {
+            return Written::Failed;
+        }
+        match write_patiently(rt, stream, ready.octets(), written) {
+            Written::All if give_short_writes(stream).is_ok() => Written::All,
+            _ => Written::Failed,
+        }
+    }
+}
+
+/// Sets a socket so that a write waits for next to nothing.
+pub fn give_short_writes(stream: &TcpStream) -> io::Result<()> {
+    stream.set_write_timeout(Some(Duration::from_millis(SHORT_MILLIS)))
+}
+
+/// Writes the octets from the place `written` on, and moves that place, until the socket has taken none in all waits of a limit.
+fn write_patiently<R: Wait>(
+    rt: &R,
+    stream: &TcpStream,
+    octets: &[u8],
+    written: &mut usize,
+) -> Written {
+    let mut idle: u32 = 0;
+    for _ in rt.forever() {
+        let before = *written;
+        let step = write_on(rt, stream, octets, written);
+        if step != Written::Part {
+            return step;
+        }
+        idle = if *written == before {
+            idle.saturating_add(1)
+        } else {
+            1
+        };
+        if idle >= WAITS {
+            return Written::Part;
+        }
+    }
+    unreachable!()
+}
+
+/// Writes the octets from the place `written` on, and moves that place, until the socket takes none within its limit.
+fn write_on<R: Wait>(rt: &R, stream: &TcpStream, octets: &[u8], written: &mut usize) -> Written {
+    for _ in rt.forever() {
+        if *written > octets.len() {
+            return Written::Failed;
+        }
+        let (step, count) = write_once(rt, stream, &octets[*written..]);
+        *written += count;
+        if step != Written::Part || count == 0 {
+            return step;
+        }
+    }
+    unreachable!()
+}
+
+/// Writes what a socket takes in one call, and says how many octets that was.
+fn write_once<R: Wait>(rt: &R, stream: &TcpStream, octets: &[u8]) -> (Written, usize)
+    ensures { result.1 ≤ length octets.now }
+{
+    let mut stream = stream;
+    for _ in rt.forever() {
+        match stream.write(octets) {
+            Ok(count) if count == octets.len() => return (Written::All, count),
+            Ok(count) => return (Written::Part, count),
+            Err(error) => match error.kind() {
+                ErrorKind::Interrupted => {}
+                ErrorKind::WouldBlock | ErrorKind::TimedOut => return (Written::Part, 0),
+                _ => return (Written::Failed, 0),
+            },
+        }
+    }
+    unreachable!()
+}

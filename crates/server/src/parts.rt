@@ -1,0 +1,59 @@
+//! What a server is made of, and why it ends.
+
+ghost use Rattle.std.specs.Prelude.{◌≡◌};
+ghost use Rattle.journal.specs.Journal.{IsIdle};
+
+use disk::Disk;
+use flusher::FlushError;
+use journal::Journal;
+use mark::{FlushSeat, Mark, Seat};
+use releasing::Limits;
+use std::alloc::AllocError;
+use std::net::TcpListener;
+use thiserror::Error;
+
+/// An opened volume and its kernel, the mark of what is durable with two of its seats, and the listener for the callers. `gate` is
+/// called before and after each flush and each write of replies.
+#[derive(Drop)]
+pub struct Server<'a, D: Disk, K, G> {
+    pub listener: &'a TcpListener,
+    pub journal: Journal<D>,
+    pub kern: &'a K,
+    pub mark: &'a Mark,
+    pub flush_seat: FlushSeat,
+    pub seat: Seat,
+    pub gate: &'a G,
+    pub limits: Limits,
+    ghost idle: { IsIdle journal },
+    ghost flushes: { flush_seat.mark ≡ mark.now },
+    ghost looks: { seat.mark ≡ mark.now },
+}
+
+/// Why the server ends.
+#[derive(Clone, Copy, Debug, Drop, PartialEq, Eq, Error)]
+pub enum ServeError {
+    /// The device failed.
+    #[error("E1 Fault")]
+    Fault,
+    /// There was no memory to begin with.
+    #[error("E2 Memory")]
+    Memory,
+    /// The journal or the kernel was halted before.
+    #[error("E4 Halted")]
+    Halted,
+}
+
+impl From<AllocError> for ServeError {
+    fn from(_error: AllocError) -> ServeError {
+        ServeError::Memory
+    }
+}
+
+impl From<FlushError> for ServeError {
+    fn from(error: FlushError) -> ServeError {
+        match error {
+            FlushError::Fault => ServeError::Fault,
+            FlushError::Halted => ServeError::Halted,
+        }
+    }
+}
