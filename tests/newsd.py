@@ -1,13 +1,21 @@
 """A server, and its callers, for the system tests and the load program."""
+import ctypes
 import os
 import resource
 import signal
 import socket
 import subprocess
+import time
 
 HOST = "news.example"
 GROUP = "x.a"
+GREETING = "200 %s ready, posting permitted" % HOST
 SECONDS = 30
+SERVICE_ENDS = "400 Service ends"
+ESTABLISHED = 1
+LIBC = ctypes.CDLL(None)
+SET_PARENT_DEATH_SIGNAL = 1
+LINE_OCTETS = 72
 
 
 def article(number, subject="one", body="hi"):
@@ -24,6 +32,14 @@ def article(number, subject="one", body="hi"):
         ".",
         "",
     ]).encode()
+
+
+def long_article(number, size):
+    """An article of so many octets as it is stored."""
+    left = size - len(article(number, body="")) + len(b".\r\n")
+    lines, rest = divmod(left, LINE_OCTETS)
+    body = ["%070d" % line for line in range(lines)] + ["x" * rest]
+    return article(number, body="\r\n".join(body))
 
 
 def message_id(number):
@@ -44,6 +60,12 @@ class Volume:
         self.program = os.path.abspath(program)
         self.path = os.path.join(directory, "volume")
         self.run("format", self.path, "--host", HOST, "--blocks", str(blocks), "--inodes", str(inodes)).check_returncode()
+
+    def another(self, name):
+        """Another volume, of the same test."""
+        directory = os.path.join(os.path.dirname(self.path), name)
+        os.mkdir(directory)
+        return Volume(self.program, directory)
 
     def run(self, *words, most_memory=resource.RLIM_INFINITY):
         """The program on these words, to its end, with so many octets of memory at most."""
@@ -68,21 +90,25 @@ class Volume:
         done.check_returncode()
         return done.stdout.decode().splitlines()
 
-    def serve(self):
-        return Server(self)
+    def serve(self, by=()):
+        """A server of it, which the program of these words runs where there are any."""
+        return Server(self, by)
 
 
 class Server:
     """A running server. It is ended by its own process number. What reads its pipes waits as long as the caller lets it."""
 
-    def __init__(self, volume):
+    def __init__(self, volume, by=()):
         for _ in range(5):
             self.port = free_port()
             self.process = subprocess.Popen(
-                [volume.program, "serve", volume.path, "--port", str(self.port)],
+                [*by, volume.program, "serve", volume.path, "--port", str(self.port)],
                 stdin=subprocess.PIPE, stdout=subprocess.PIPE, stderr=subprocess.PIPE,
                 # python ignores the signal of a file that grows past its limit, and so does the server then
                 restore_signals=False,
+                # Linux shares the processors between sessions first: what loads the server then takes none of its share
+                start_new_session=True,
+                preexec_fn=end_with_parent,
             )
             try:
                 line = self.process.stdout.readline().decode()
@@ -112,9 +138,17 @@ class Server:
         """From now on each write of the device fails but those to its first block."""
         resource.prlimit(self.process.pid, resource.RLIMIT_FSIZE, (4096, 4096))
 
-    def end(self):
+    def limit_descriptors(self, most):
+        """From now on it gets no descriptor more than these."""
+        _, hard = resource.prlimit(self.process.pid, resource.RLIMIT_NOFILE)
+        resource.prlimit(self.process.pid, resource.RLIMIT_NOFILE, (most, hard))
+
+    def descriptors(self):
+        return len(os.listdir("/proc/%d/fd" % self.process.pid))
+
+    def end(self, seconds=SECONDS):
         """The status and the faults of a server that ends by itself."""
-        status = self.process.wait(SECONDS)
+        status = self.process.wait(seconds)
         return status, self.process.stderr.read().decode()
 
     def order(self, line):
@@ -126,6 +160,31 @@ class Server:
     def call(self):
         return Caller(self.port)
 
+    def greet(self, seconds):
+        """A caller that is greeted. Others, who come too early, are told that the service ends."""
+        end = time.monotonic() + seconds
+        while True:
+            caller = Caller(self.port, seconds=seconds)
+            if caller.greeting == GREETING:
+                return caller
+            assert caller.greeting == SERVICE_ENDS, caller.greeting
+            caller.close()
+            assert time.monotonic() < end, "nobody is greeted in %s seconds" % seconds
+            time.sleep(0.005)
+
+    def memory(self, name="VmRSS"):
+        """The octets of memory that it has, or by VmHWM those that it had at most."""
+        with open("/proc/%d/status" % self.process.pid) as status:
+            kilobytes = next(line.split()[1] for line in status if line.startswith(name + ":"))
+        return 1024 * int(kilobytes)
+
+    def has_established(self, caller):
+        """Whether the server's end of this caller's connection is as it was, which the other end may learn late."""
+        ends = ":%04X" % self.port, ":%04X" % caller.socket.getsockname()[1]
+        with open("/proc/%d/net/tcp" % self.process.pid) as connections:
+            rows = [line.split() for line in connections]
+        return any(row[1].endswith(ends[0]) and row[2].endswith(ends[1]) and int(row[3], 16) == ESTABLISHED for row in rows[1:])
+
     def processor_seconds(self):
         with open("/proc/%d/stat" % self.process.pid) as stat:
             fields = stat.read().rsplit(")", 1)[1].split()
@@ -135,11 +194,11 @@ class Server:
 class Caller:
     """A client that reads its greeting when it comes."""
 
-    def __init__(self, port, receive_octets=None):
+    def __init__(self, port, receive_octets=None, seconds=SECONDS):
         self.socket = socket.socket()
         if receive_octets:
             self.socket.setsockopt(socket.SOL_SOCKET, socket.SO_RCVBUF, receive_octets)
-        self.socket.settimeout(SECONDS)
+        self.socket.settimeout(seconds)
         self.socket.connect(("127.0.0.1", port))
         self.socket.setsockopt(socket.IPPROTO_TCP, socket.TCP_NODELAY, 1)
         self.file = self.socket.makefile("rb")
@@ -176,8 +235,70 @@ class Caller:
     def has_ended(self):
         return self.file.read() == b""
 
+    def read_whole(self, octets, rate=None):
+        """Whether the next octets are these. They are read so fast at most, in octets for each second."""
+        pace, at = Pace(rate), 0
+        while at < len(octets):
+            # one read of the socket, since what `read` would wait for may not come at once
+            piece = self.file.read1(pace.wait(len(octets) - at))
+            if not piece or piece != octets[at:at + len(piece)]:
+                return False
+            at += len(piece)
+            pace.note(len(piece))
+        return True
+
+
+class Pace:
+    """How fast somebody reads. What was not read in time is not read faster later."""
+
+    def __init__(self, rate):
+        self.rate = rate
+        self.next = time.monotonic()
+
+    def wait(self, count):
+        """Waits until more may be read, and says how many of so many octets."""
+        if self.rate is None:
+            return min(count, 65536)
+        now = time.monotonic()
+        if now < self.next:
+            time.sleep(self.next - now)
+        self.next = max(self.next, now)
+        return min(count, max(1, self.rate // 20))
+
+    def note(self, count):
+        if self.rate is not None:
+            self.next += count / self.rate
+
+
+def end_with_parent():
+    """What runs here is killed once the thread that started it has ended, however that was."""
+    LIBC.prctl(SET_PARENT_DEATH_SIGNAL, signal.SIGKILL)
+
+
+def wait_until(is_so, seconds=10):
+    end = time.monotonic() + seconds
+    while not is_so():
+        assert time.monotonic() < end, "not so after %s seconds" % seconds
+        time.sleep(0.01)
+
 
 def free_port():
     with socket.socket() as probe:
         probe.bind(("127.0.0.1", 0))
         return probe.getsockname()[1]
+
+
+def octets(path):
+    with open(path, "rb") as file:
+        return file.read()
+
+
+def settled_octets(path):
+    """A file's octets once the batch that was acknowledged has ended."""
+    seen = octets(path)
+    for _ in range(50):
+        time.sleep(0.1)
+        before, seen = seen, octets(path)
+        if before == seen:
+            return seen
+    raise AssertionError("the file does not come to rest")

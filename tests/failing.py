@@ -1,0 +1,178 @@
+#!/usr/bin/env python3
+"""System tests of a server whose device fails, or to which the system gives nothing more. failing.py NEWSD [NAME..]"""
+import fcntl
+import os
+import signal
+import struct
+import subprocess
+import sys
+import termios
+import threading
+import time
+
+from newsd import GREETING, SERVICE_ENDS, Caller, article, settled_octets, wait_until
+from playing import Skipped, TooSlow, main, measured
+from syncs import can_trace
+
+FAULT = (1, "newsd: E1 Fault\n")
+SYNCS = os.path.join(os.path.dirname(os.path.abspath(__file__)), "syncs.py")
+# the smallest pipe that the system knows
+PIPE_OCTETS = 4096
+SECONDS_OF_AN_END = 3
+
+
+def call_until_the_end(server):
+    """Callers come until one is told that the service ends, which is the server's last."""
+    greetings = []
+    while SERVICE_ENDS not in greetings and len(greetings) < 500:
+        with Caller(server.port) as late:
+            greetings.append(late.greeting)
+        time.sleep(0.01)
+    assert greetings[-1] == SERVICE_ENDS, greetings[-5:]
+
+
+def see_that_it_serves_again(volume, number):
+    """What was acknowledged is there, and more is taken."""
+    with volume.serve() as server, server.call() as caller:
+        assert caller.ask("STAT <1@a.example>") == "223 0 <1@a.example>"
+        assert caller.post(article(number)) == "240 Article received"
+
+
+def a_failing_device_ends_the_server(volume):
+    volume.make_group()
+    with volume.serve() as server, server.call() as caller, server.call() as other:
+        assert caller.post(article(1)) == "240 Article received"
+        settled_octets(volume.path)
+        server.have_writes_fail()
+        other.send(b"POST\r\n" + article(2))
+        call_until_the_end(server)
+        assert other.line() == "340 Send article" and other.has_ended()
+        assert server.end() == FAULT
+    see_that_it_serves_again(volume, 3)
+
+
+def a_failed_sync_ends_the_server(volume):
+    """One sync fails, and all after it would be good: after a sync that failed, nobody knows what the device has."""
+    if not can_trace():
+        raise Skipped("no program can be traced")
+    volume.make_group()
+    with volume.serve(by=[sys.executable, "-B", SYNCS]) as server, server.call() as caller, server.call() as other:
+        assert caller.post(article(1)) == "240 Article received"
+        settled_octets(volume.path)
+        os.kill(server.process.pid, signal.SIGUSR1)
+        other.send(b"POST\r\n" + article(2))
+        call_until_the_end(server)
+        assert other.line() == "340 Send article" and other.has_ended()
+        assert server.end() == FAULT
+    see_that_it_serves_again(volume, 3)
+
+
+def without_descriptors_a_caller_is_told(volume):
+    """Wherever the descriptors end: at the caller's own, or at a further one of the same caller."""
+    volume.make_group()
+    with volume.serve() as server:
+        at_rest = server.descriptors()
+        for more in range(3, 7):
+            server.limit_descriptors(at_rest + more)
+            served = call_until_refused(server, more)
+            for _ in range(2):
+                assert not call_until_refused(server, 0)
+            assert served, more
+            served.pop(0).close()
+            with server.greet(5) as again:
+                assert again.post(article(more)) == "240 Article received"
+            for caller in served:
+                assert caller.ask("QUIT") == "205 Bye"
+                caller.close()
+            wait_until(lambda: server.descriptors() == at_rest)
+        end_without_descriptors(server, at_rest + 3)
+
+
+def call_until_refused(server, most):
+    """Callers, so many at most, until one is told that the service ends. The others are served meanwhile."""
+    served = []
+    while True:
+        caller = Caller(server.port, seconds=5)
+        if caller.greeting != GREETING:
+            assert caller.greeting == SERVICE_ENDS and caller.has_ended(), caller.greeting
+            caller.close()
+            return served
+        served.append(caller)
+        assert len(served) <= most
+        assert all(other.ask("STAT <9@a.example>") == "430 No such article" for other in served)
+
+
+def end_without_descriptors(server, descriptors):
+    """Where no descriptor is left, the next caller is still told that the service ends, and it does."""
+    server.limit_descriptors(descriptors)
+    poster, *others = call_until_refused(server, 3)
+    server.have_writes_fail()
+    poster.send(b"POST\r\n" + article("last"))
+    wait_until(lambda: has_ended_for_a_caller(server))
+    assert server.end() == FAULT
+    for caller in (poster, *others):
+        caller.close()
+
+
+def has_ended_for_a_caller(server):
+    """Whether the server has ended. If not, one more caller comes, who is refused, be it for want of a descriptor or as its last."""
+    try:
+        with Caller(server.port, seconds=5) as late:
+            assert late.greeting == SERVICE_ENDS, late.greeting
+    except ConnectionError:
+        pass
+    return server.process.poll() is not None
+
+
+def an_operator_that_reads_nothing_holds_nobody(volume):
+    volume.make_group()
+
+    def measure():
+        with volume.serve() as server, server.call() as caller:
+            fcntl.fcntl(server.process.stdout, fcntl.F_SETPIPE_SZ, PIPE_OCTETS)
+            asking = threading.Thread(target=ask_the_impossible, args=(server.process.stdin,), daemon=True)
+            asking.start()
+            wait_until_full(server.process.stdout)
+            assert caller.ask("STAT <9@a.example>") == "430 No such article"
+            server.have_writes_fail()
+            caller.send(b"POST\r\n" + article(1))
+            call_until_the_end(server)
+            try:
+                assert server.end(SECONDS_OF_AN_END) == FAULT
+            except subprocess.TimeoutExpired:
+                raise TooSlow("it has not ended after %d s" % SECONDS_OF_AN_END) from None
+            asking.join()
+
+    measured(measure)
+
+
+def ask_the_impossible(pipe):
+    """Sends lines that are answered at once, for as long as they are taken."""
+    try:
+        for _ in range(2000):
+            os.write(pipe.fileno(), b"spool\n" * 50)
+    except (OSError, ValueError):
+        pass
+
+
+def wait_until_full(pipe):
+    """Waits until a pipe has octets, and gets no more."""
+    held = [-2, -1]
+
+    def is_at_rest():
+        time.sleep(0.1)
+        held[:] = held[1], struct.unpack("i", fcntl.ioctl(pipe, termios.FIONREAD, bytes(4)))[0]
+        return 0 < held[1] == held[0]
+
+    wait_until(is_at_rest)
+
+
+TESTS = [
+    a_failing_device_ends_the_server,
+    a_failed_sync_ends_the_server,
+    without_descriptors_a_caller_is_told,
+    an_operator_that_reads_nothing_holds_nobody,
+]
+
+if __name__ == "__main__":
+    sys.exit(main(TESTS))

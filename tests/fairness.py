@@ -1,0 +1,275 @@
+#!/usr/bin/env python3
+"""System tests of what callers do to one another, in time and in memory. fairness.py NEWSD [NAME..]
+
+Others who work on the machine may make a measure too slow, so it is taken three times at most. That each reply is right has to hold each
+time."""
+import itertools
+import statistics
+import sys
+import threading
+import time
+
+from flooding import Flood
+from newsd import GREETING, Caller, article, long_article, message_id, wait_until
+from playing import TooSlow, main, measured, side_by_side
+
+SESSIONS = 64
+LONG = 250_000
+ASKED = b"ARTICLE <long@a.example>\r\n"
+SMALL_BUFFER = 8192
+
+DATES = 100
+WORST_DATE = 0.1
+MEDIAN_DATE = 0.01
+WORST_POST = 0.5
+WORST_GREETING = 0.5
+
+# for each session: the message that is read and what doubles it, the replies that are held and one more, and what is ready
+MOST_MEMORY = 2 * 262_144 + 1_048_576 + 262_144 + 65_536
+MOST_OF_A_LINE = 800_000
+
+
+def with_long_article(volume):
+    """The article that the heavy callers ask for, and the whole reply."""
+    volume.make_group()
+    text = long_article("long", LONG)
+    with volume.serve() as server, server.call() as caller:
+        assert caller.post(text) == "240 Article received"
+    return b"220 0 <long@a.example>\r\n" + text
+
+
+def pair(server, is_first):
+    """A heavy caller that joined first, or last, and another one."""
+    calls = [server.call(), server.call()]
+    return calls if is_first else calls[::-1]
+
+
+def a_flood_starves_nobody(volume):
+    reply = with_long_article(volume)
+    posted = itertools.count()
+    with volume.serve() as server:
+        for is_first in (True, False):
+            for rate in (None, 400_000, 20_000, 0):
+                heavy, other = pair(server, is_first)
+                with heavy, other, Flood(heavy, ASKED, reply, rate) as flood:
+                    wait_until_it_gets_more(flood, rate)
+                    time.sleep(0.3)
+                    dates = measured(lambda: measure_dates(other))
+                    measured(lambda: measure_post(other, next(posted)))
+                    wait_until_it_gets_more(flood, rate)
+                    assert not flood.has_failed()
+                speed = "at once" if rate is None else "%d octets a second" % rate
+                print("  beside %s, which joined %s: %s" % (speed, "first" if is_first else "last", dates), flush=True)
+
+
+def wait_until_it_gets_more(flood, rate):
+    before = flood.count.value
+    wait_until(lambda: rate == 0 or flood.has_failed() or flood.count.value > before)
+
+
+def measure_dates(caller):
+    times = []
+    for _ in range(DATES):
+        times.append(timed(lambda: caller.ask("DATE"), lambda reply: reply.startswith("111 ")))
+        time.sleep(0.005)
+    said = "DATE median %.1f ms, worst %.1f ms" % (1000 * statistics.median(times), 1000 * max(times))
+    if max(times) > WORST_DATE or statistics.median(times) >= MEDIAN_DATE:
+        raise TooSlow(said)
+    return said
+
+
+def measure_post(caller, number):
+    seconds = timed(lambda: caller.post(article(number)), lambda reply: reply == "240 Article received")
+    if seconds > WORST_POST:
+        raise TooSlow("POST %.0f ms" % (1000 * seconds))
+
+
+def timed(call, is_right):
+    start = time.monotonic()
+    answer = call()
+    seconds = time.monotonic() - start
+    assert is_right(answer), answer
+    return seconds
+
+
+def sixty_three_deaf_callers(volume):
+    """The one who is served joined first, or last. The rate is compared with that of a server that has no other caller."""
+    reply = with_long_article(volume)
+    alone = volume.another("alone")
+    last = volume.another("last")
+    alone.make_group()
+    with_long_article(last)
+    with volume.serve() as one, last.serve() as two, alone.serve() as three:
+        before = {server: server.memory() for server in (one, two)}
+        posters = [one.call()]
+        deaf = {server: [ask_and_read_nothing(server) for _ in range(SESSIONS - 1)] for server in (one, two)}
+        posters += [two.call(), three.call()]
+        assert all(poster.greeting == GREETING for poster in posters)
+        wait_until(lambda: is_at_rest(one) and is_at_rest(two))
+        rounds = itertools.count()
+        best = [0, 0, 0]
+
+        def measure():
+            for number in itertools.islice(rounds, 3):
+                for at, poster in enumerate(posters):
+                    best[at] = max(best[at], rate_of(poster, number))
+            said = "joined first %.0f, last %.0f, alone %.0f articles in a second" % tuple(best)
+            if min(best[:2]) < best[2] / 2:
+                raise TooSlow(said)
+            return said
+
+        print("  " + measured(measure), flush=True)
+        for server, callers in deaf.items():
+            grown = server.memory("VmHWM") - before[server]
+            print("  memory grows by %.1f MB" % (grown / 1e6), flush=True)
+            assert grown < SESSIONS * MOST_MEMORY, grown
+            assert all(server.has_established(caller) for caller in callers)
+            assert all(caller.read_whole(reply) for caller in callers[::16])
+            for caller in callers:
+                caller.close()
+        for poster in posters:
+            poster.close()
+
+
+def ask_and_read_nothing(server):
+    caller = Caller(server.port, receive_octets=SMALL_BUFFER)
+    assert caller.greeting == GREETING
+    caller.send(ASKED * 60)
+    return caller
+
+
+def is_at_rest(server):
+    before = server.processor_seconds()
+    time.sleep(0.2)
+    return server.processor_seconds() == before
+
+
+def rate_of(caller, number):
+    """Posts articles one after the other and reads them back, and says how many of both it did in a second."""
+    texts = {"%d.%d" % (number, at): article("%d.%d" % (number, at)) for at in range(100)}
+    start = time.monotonic()
+    for text in texts.values():
+        assert caller.post(text) == "240 Article received"
+    for name, text in texts.items():
+        assert caller.ask("ARTICLE " + message_id(name)) == "220 0 " + message_id(name)
+        assert caller.read_whole(text)
+    return 2 * len(texts) / (time.monotonic() - start)
+
+
+def a_caller_that_quits_and_stays_holds_nobody(volume):
+    """Callers who quit neither read the end nor close: one more is served at once, and so is who was there before. Some send on."""
+    volume.make_group()
+    for more in (b"", b"STAT <9@a.example>\r\n" * 100):
+        measured(lambda: measure_greeting(volume, SESSIONS, more))
+        measured(lambda: measure_greeting(volume, SESSIONS - 1, more))
+
+
+def measure_greeting(volume, count, more):
+    """So many callers quit. Where they leave a session free, who has it joined before them."""
+    with volume.serve() as server:
+        first = [server.call() for _ in range(SESSIONS - count)]
+        quitters = [server.call() for _ in range(count)]
+        assert all(caller.greeting == GREETING for caller in first + quitters)
+        for _ in range(2):
+            for caller in quitters:
+                caller.send(b"QUIT\r\n" + more)
+            served = [timed(lambda: caller.ask("DATE"), lambda reply: reply.startswith("111 ")) for caller in first]
+            start = time.monotonic()
+            late = server.greet(10)
+            assert late.ask("DATE").startswith("111 ")
+            served.append(time.monotonic() - start)
+            if max(served) > WORST_GREETING:
+                raise TooSlow("served after %.0f ms" % (1000 * max(served)))
+            late.close()
+            quitters = [server.greet(10) for _ in range(count)]
+
+
+def callers_that_misbehave_hold_up_nobody(volume):
+    volume.make_group()
+    numbers = itertools.count()
+    with volume.serve() as server, server.call() as good:
+        deaf = Caller(server.port, receive_octets=2048)
+        deaf.socket.settimeout(0.2)
+        asking = threading.Thread(target=ask_short_ones, args=(deaf,))
+        asking.start()
+        endless, cut = server.call(), server.call()
+        endless.send(b"A" * 100_000)
+        cut.send(b"POST\r\n" + article("cut")[:60])
+        cut.close()
+        for _ in range(100):
+            measured(lambda: measure_post(good, next(numbers)))
+            time.sleep(0.01)
+        deaf.close()
+        asking.join()
+        endless.close()
+
+
+def ask_short_ones(caller):
+    """Asks as much as goes, and reads nothing."""
+    try:
+        for _ in range(2000):
+            try:
+                caller.send(b"STAT <9@a.example>\r\n" * 500)
+            except TimeoutError:
+                pass
+    except OSError:
+        pass
+
+
+def endless_lines_cost_little(volume):
+    """As a command, or behind POST. Who joined before them or after them is served meanwhile, and they are served on."""
+    volume.make_group()
+    with volume.serve() as server:
+        first = server.call()
+        before = server.memory()
+        callers = [server.call() for _ in range(16)]
+        last = server.call()
+        side_by_side(
+            *[lambda caller=caller: send_endless_line(caller, False) for caller in callers[:8]],
+            *[lambda caller=caller: send_endless_line(caller, True) for caller in callers[8:]],
+            *[lambda caller=caller: ask_often(caller) for caller in (first, last)],
+        )
+        grown = server.memory("VmHWM") - before
+        print("  memory grows by %.2f MB" % (grown / 1e6))
+        assert grown < len(callers) * MOST_OF_A_LINE, grown
+        for caller in (first, last, *callers):
+            assert caller.ask("QUIT") == "205 Bye" and caller.has_ended()
+            caller.close()
+
+
+def send_endless_line(caller, is_posted):
+    if is_posted:
+        assert caller.ask("POST") == "340 Send article"
+    for _ in range(100):
+        caller.send(b"A" * 100_000)
+    caller.send(b"\r\n.\r\n" if is_posted else b"\r\n")
+    reply = caller.line()
+    assert reply.startswith("441 " if is_posted else "501 "), reply
+    assert caller.ask("DATE").startswith("111 ")
+
+
+def ask_often(caller):
+    for _ in range(50):
+        assert caller.ask("STAT <9@a.example>") == "430 No such article"
+        time.sleep(0.01)
+
+
+def a_server_at_rest_takes_no_processor(volume):
+    with volume.serve() as server, server.call():
+        time.sleep(0.3)
+        before = server.processor_seconds()
+        time.sleep(1.5)
+        assert server.processor_seconds() - before <= 0.02
+
+
+TESTS = [
+    a_flood_starves_nobody,
+    sixty_three_deaf_callers,
+    a_caller_that_quits_and_stays_holds_nobody,
+    callers_that_misbehave_hold_up_nobody,
+    endless_lines_cost_little,
+    a_server_at_rest_takes_no_processor,
+]
+
+if __name__ == "__main__":
+    sys.exit(main(TESTS, is_timed=True))

@@ -1,0 +1,155 @@
+#!/usr/bin/env python3
+"""System tests of callers who read slowly, or send no more: each is told all. slow_readers.py NEWSD [NAME..]"""
+import socket
+import sys
+import threading
+import time
+
+from newsd import Caller, article, long_article, message_id
+from playing import main, side_by_side
+
+LARGEST = 262144
+SMALL_BUFFER = 8192
+WINDOW = 60
+LONG_WINDOW = 240
+
+
+def a_slow_reader_gets_all(volume):
+    """Slow callers join before one who is served meanwhile, and after it. It takes a minute, in which nobody is busy."""
+    volume.make_group()
+    largest, long = long_article("largest", LARGEST), long_article("long", 250_000)
+    assert len(largest) == LARGEST + len(b".\r\n")
+    with volume.serve() as server, server.call() as first:
+        for text in (largest, long):
+            assert first.post(text) == "240 Article received"
+        ends = threading.Event()
+
+        def slow():
+            caller = Caller(server.port, receive_octets=SMALL_BUFFER)
+            return caller, lambda: read_one_at(caller, largest, 10_000)
+
+        def pipelining(receive_octets):
+            caller = Caller(server.port, receive_octets=receive_octets, seconds=2 * WINDOW)
+            return caller, lambda: read_sixty_at(server, caller, long, 20_000, WINDOW)
+
+        slow_ones = [slow(), pipelining(SMALL_BUFFER), pipelining(None)]
+        other = server.call()
+        slow_ones += [slow(), pipelining(SMALL_BUFFER), pipelining(None)]
+
+        def read_all():
+            try:
+                side_by_side(*[read for _, read in slow_ones])
+            finally:
+                ends.set()
+
+        side_by_side(read_all, lambda: ask_until(other, ends))
+        for caller in (other, *[caller for caller, _ in slow_ones]):
+            caller.close()
+
+
+def who_takes_little_is_not_let_go(volume):
+    """A server may let go who takes nothing for three minutes (RFC 3977, 3.1). It may not take for that a caller so slow that the system
+    reports nothing of it for as long: its buffer of what is sent may have room only once a third of it is free."""
+    volume.make_group()
+    long = long_article("long", 250_000)
+    with volume.serve() as server:
+        with server.call() as caller:
+            assert caller.post(long) == "240 Article received"
+        callers = [Caller(server.port, receive_octets, 2 * LONG_WINDOW) for receive_octets in (SMALL_BUFFER, None)]
+        side_by_side(*[lambda caller=caller: read_sixty_at(server, caller, long, 2_000, LONG_WINDOW) for caller in callers])
+        for caller in callers:
+            caller.close()
+
+
+def read_one_at(caller, text, rate):
+    """Asks for an article, and reads it so fast."""
+    start = time.monotonic()
+    caller.send(b"ARTICLE <largest@a.example>\r\n")
+    assert caller.line() == "220 0 <largest@a.example>"
+    assert caller.read_whole(text, rate)
+    seconds = time.monotonic() - start
+    assert seconds > len(text) / rate / 2, seconds
+    assert caller.ask("QUIT") == "205 Bye"
+
+
+def read_sixty_at(server, caller, text, rate, seconds):
+    """Asks for sixty articles, reads what it gets of them for a while, and is still there then."""
+    whole = (b"220 0 <long@a.example>\r\n" + text) * 60
+    caller.send(b"ARTICLE <long@a.example>\r\n" * 60)
+    assert caller.read_whole(whole[:seconds * rate], rate)
+    assert server.has_established(caller)
+
+
+def ask_until(caller, ends):
+    while not ends.wait(0.5):
+        assert caller.ask("STAT <9@a.example>") == "430 No such article"
+
+
+def a_half_closed_caller_gets_all(volume):
+    """It has sent its last, in one piece, and joined before or after another who waits for replies that are as long."""
+    volume.make_group()
+    text = long_article("long", 250_000)
+    reply = b"220 0 <long@a.example>\r\n" + text
+    with volume.serve() as server:
+        with server.call() as caller:
+            assert caller.post(text) == "240 Article received"
+        for is_first in (True, False):
+            for receive_octets, rate in ((None, None), (SMALL_BUFFER, 1_000_000)):
+                calls = [Caller(server.port, receive_octets), Caller(server.port, receive_octets)]
+                closed, other = calls if is_first else reversed(calls)
+                other.send(b"ARTICLE <long@a.example>\r\n" * 40)
+                closed.send(b"ARTICLE <long@a.example>\r\n" * 4)
+                closed.socket.shutdown(socket.SHUT_WR)
+                assert closed.read_whole(reply * 4, rate) and closed.has_ended()
+                assert other.read_whole(reply)
+                for caller in calls:
+                    caller.close()
+        for number in range(20):
+            post_and_read_and_close(server, number)
+
+
+def post_and_read_and_close(server, number):
+    """The reply to the post waits for a commit, and those behind it wait with it."""
+    text = long_article(number, 20_000)
+    with server.call() as caller:
+        named = message_id(number).encode()
+        caller.send(b"POST\r\n" + text + b"STAT " + named + b"\r\nARTICLE " + named + b"\r\n")
+        caller.socket.shutdown(socket.SHUT_WR)
+        replies = b"340 Send article\r\n240 Article received\r\n223 0 " + named + b"\r\n220 0 " + named + b"\r\n"
+        assert caller.read_whole(replies + text) and caller.has_ended()
+
+
+def who_reads_slowly_is_told_all(volume):
+    """More than any buffer holds, and then the end, also where the caller has sent its last."""
+    volume.make_group()
+    text = article("long", body="\r\n".join(["x" * 70] * 3400))
+    with volume.serve() as server:
+        with server.call() as caller:
+            assert caller.post(text) == "240 Article received"
+        side_by_side(*[lambda closes=closes: read_thirty(server, text, closes) for closes in (True, False)])
+
+
+def read_thirty(server, text, closes):
+    with Caller(server.port, receive_octets=SMALL_BUFFER) as caller:
+        caller.send(b"ARTICLE <long@a.example>\r\n" * 30 + (b"" if closes else b"QUIT\r\n"))
+        if closes:
+            caller.socket.shutdown(socket.SHUT_WR)
+        time.sleep(3)
+        for _ in range(30):
+            assert caller.line() == "220 0 <long@a.example>"
+            assert caller.read_whole(text, 5_000_000)
+        assert closes or caller.line() == "205 Bye"
+        assert caller.has_ended()
+
+
+TESTS = [
+    a_half_closed_caller_gets_all,
+    who_reads_slowly_is_told_all,
+    a_slow_reader_gets_all,
+]
+
+# played where it is named: it takes four minutes
+LONG_ONES = [who_takes_little_is_not_let_go]
+
+if __name__ == "__main__":
+    sys.exit(main(TESTS, LONG_ONES))

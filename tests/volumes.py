@@ -1,0 +1,160 @@
+#!/usr/bin/env python3
+"""System tests of the commands over a volume in a file, and of its largest sizes. volumes.py NEWSD [NAME..]"""
+import struct
+import sys
+
+from newsd import GROUP, HOST, article, octets, simulate
+from playing import Skipped, main
+from syncs import count_calls
+
+MOMENT = 1000000000
+
+
+def what_can_not_be_served_is_refused(volume):
+    directory = volume.path.rsplit("/", 1)[0]
+    with open(directory + "/text", "w") as text:
+        text.write("no volume")
+    for words, status, said in (
+        (["serve", directory, "--port", "1"], 1, "E1 Fault"),
+        (["dump", directory + "/none"], 1, "E1 Fault"),
+        (["dump", directory + "/text"], 1, "E3 NotAVolume"),
+        (["group", volume.path, "x..a", "y", "1000000000", "test"], 1, "E14 Bad"),
+        (["group", volume.path, "x.a", "m", "1000000000", "test"], 1, "E14 Bad"),
+        (["group", volume.path, "x.a y", "y", "1000000000", "test"], 1, "E14 Bad"),
+        (["expire", volume.path, "x..a", "1"], 1, "E14 Bad"),
+        (["expire", volume.path, "x.a", "0"], 1, "E14 Bad"),
+        (["expire", volume.path, "x.a", "one"], 1, "E14 Bad"),
+        (["expire", volume.path, "x.a", "1"], 1, "E12 NotFound"),
+        (["expire", volume.path, "x.a"], 2, None),
+        (["format", volume.path, "--host", "a..b"], 1, "E14 Bad"),
+        (["format", volume.path, "--host", HOST, "--inodes", "96"], 1, "E14 Bad"),
+        (["serve", volume.path, "--port", "0"], 2, None),
+        (["serve", volume.path, "--port", "65536"], 2, None),
+        (["serve", volume.path], 2, None),
+        (["dump"], 2, None),
+    ):
+        done = volume.run(*words)
+        assert done.returncode == status and done.stdout == b"", (words, done)
+        assert said is None or done.stderr.decode() == "newsd: %s\n" % said, (words, done)
+    for words in (["--help"], ["help", "serve"], ["serve", "--help"]):
+        done = volume.run(*words)
+        assert done.returncode == 0 and done.stdout and not done.stderr, (words, done)
+    assert volume.make_group() == 1
+    again = volume.run("group", volume.path, GROUP, "y", "1000000000", "test")
+    assert (again.returncode, again.stderr) == (1, b"newsd: E11 Exists\n")
+    assert volume.dump() == ["spool 1", "1 group %s y" % GROUP]
+
+
+def a_damaged_volume_is_not_opened(volume):
+    volume.make_group()
+    with volume.serve() as server, server.call() as caller:
+        assert caller.post(article(1)) == "240 Article received"
+    volume.dump()
+    good = octets(volume.path)
+    blocks, segments, files = struct.unpack_from("<III", good, 12)
+    home = (1 + 514 * segments) * 4096
+    inodes = home + 2 * 4096
+    names = inodes + 64 * files
+    assert len(good) == home + 4096 * blocks and good[inodes] == 1 and good[names] == 5
+    for place, changed, said in (
+        (0, b"Y", "E3 NotAVolume"),
+        (8, b"\0", "E3 NotAVolume"),
+        (16, b"\2", "E3 NotAVolume"),
+        (20, b"\1", "E3 NotAVolume"),
+        (home, b"\0", "E5 Damaged"),
+        (inodes + 3 * 64 + 12, good[inodes + 12:inodes + 16], "E5 Damaged"),
+        (inodes + 4, b"\1", "E5 Damaged"),
+        (names + 64, good[names:names + 64], "E5 Damaged"),
+    ):
+        write(volume.path, good[:place] + changed + good[place + len(changed):])
+        refused = volume.run("dump", volume.path)
+        assert (refused.returncode, refused.stdout) == (1, b""), place
+        assert refused.stderr.decode() == "newsd: %s\n" % said, (place, refused)
+    write(volume.path, good[:-4096])
+    assert volume.run("dump", volume.path).stderr == b"newsd: E3 NotAVolume\n"
+    write(volume.path, good)
+    assert volume.dump() == ["spool 2", "1 group x.a y", "2 article <1@a.example> x.a"]
+
+
+def a_commit_syncs_the_device(volume):
+    """An opening syncs once, and where a segment is open twice more, as it carries that home: so the first one does, since the
+    batch that makes a volume stands in one. Adding a group then syncs at the seal and at the gate of its batch. The next opening
+    carries it home, and the one after that writes the eight gates back, and nothing else."""
+    counted = count_calls([volume.program, "group", volume.path, GROUP, "y", "1000000000", "test"])
+    if counted is None:
+        raise Skipped("the program can't be traced")
+    assert counted["fdatasync"] == 5, counted
+    opened = count_calls([volume.program, "dump", volume.path])
+    assert opened["fdatasync"] == 3 and opened["pwrite64"] > 0, opened
+    again = count_calls([volume.program, "dump", volume.path])
+    assert again["fdatasync"] == 1 and again["pwrite64"] == 8, again
+
+
+def without_memory_no_volume_is_made(volume):
+    format_words = ["format", volume.path, "--host", HOST]
+    for megabytes in (8, 16, 24, 32):
+        done = volume.run(*format_words, most_memory=megabytes << 20)
+        assert (done.returncode, done.stderr) == (1, b"newsd: E2 Memory\n"), (megabytes, done)
+        done = volume.run("dump", volume.path)
+        assert (done.returncode, done.stderr) == (1, b"newsd: E3 NotAVolume\n"), (megabytes, done)
+    volume.run(*format_words).check_returncode()
+    assert volume.dump() == ["spool 0"]
+
+
+def a_server_has_4096_groups_at_most(volume):
+    making = "group %%s y %d test" % MOMENT
+    lines = []
+    for number in range(1, 4097):
+        lines.append(making % ("g.%d" % number))
+        if number % 20 == 0:
+            lines += ["commit", "settle"]
+    lines += ["commit", "settle", making % "x.a", making % "g.1", "crash old", making % "x.a"]
+    said = simulate(volume.program, lines, 32768, 16384)
+    refused = [line for line in said if not line.startswith("durable")]
+    assert "durable 4096" in said and refused == ["E6 Full", "E11 Exists", "opened 4096", "E6 Full"], refused
+
+
+def a_group_takes_no_article_that_its_overview_has_no_room_for(volume):
+    """The last one that it takes begins at most 4,222,976 octets behind the start of its overview."""
+    references = " ".join("<%s@a.example>" % (letter * 200) for letter in "abcdefghijklmnopqrstuvwxyzABCDEFGHIJ")
+    lines = ["group %s y %d test" % (name, MOMENT) for name in (GROUP, "x.b")] + ["commit", "settle", "join"]
+
+    def post(number, group):
+        text = article(number).decode().replace(GROUP, group).replace("\r\n\r\n", "\r\nReferences: %s\r\n\r\n" % references, 1)
+        return ["line 1 POST", "exec 1 %d" % MOMENT, *[("line 1 " + it).rstrip() for it in text.splitlines()], "exec 1 %d" % MOMENT]
+
+    for number in range(1, 601):
+        lines += post(number, GROUP)
+        if number % 10 == 0:
+            lines += ["commit", "settle", "release"]
+    lines += [*post(601, "x.b"), "commit", "settle", "release"]
+    for asked in ("GROUP " + GROUP, "OVER 1"):
+        lines += ["line 1 " + asked, "exec 1 %d" % MOMENT, "release"]
+    said = "".join(line[len("out 1 "):] for line in simulate(volume.program, lines, 32768, 1024) if line.startswith("out 1 "))
+    said = said.replace("\\x09", "\t").split("\\r\\n")
+    replies = [line[:3] for line in said if line[:4] in ("240 ", "441 ")]
+    taken = replies.index("441")
+    assert replies == ["240"] * taken + ["441"] * (600 - taken) + ["240"], replies
+    first = next(len(line) + 2 for line in said if line.startswith("1\t"))
+    # the line of each names its number twice
+    sizes = [first + 2 * len(str(number)) - 2 for number in range(1, taken + 1)]
+    assert sum(sizes[:-1]) <= 4222976 < sum(sizes), (taken, first)
+
+
+def write(path, content):
+    with open(path, "wb") as file:
+        file.write(content)
+
+
+TESTS = [
+    what_can_not_be_served_is_refused,
+    a_damaged_volume_is_not_opened,
+    a_commit_syncs_the_device,
+    without_memory_no_volume_is_made,
+    a_server_has_4096_groups_at_most,
+    a_group_takes_no_article_that_its_overview_has_no_room_for,
+]
+
+
+if __name__ == "__main__":
+    sys.exit(main(TESTS))
