@@ -101,7 +101,8 @@ static void post(struct session *s) {
 static void ask(struct session *s) {
     send_all(s, request, strlen(request));
     send_all(s, "\r\n", 2);
-    read_to(s, is_block ? "\r\n.\r\n" : "\r\n", "2");
+    /* DATE is answered by 111 */
+    read_to(s, is_block ? "\r\n.\r\n" : "\r\n", strcmp(request, "DATE") ? "2" : "1");
 }
 
 /* Whether a session has another request. A post that it may make is taken from those that are left. */
