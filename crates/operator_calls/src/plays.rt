@@ -5,7 +5,7 @@ ghost use Rattle.std.specs.Prelude.{◌≡◌};
 use crate::kernels::Counting;
 use crate::streams::{Answers, Lines};
 use flusher::{Bells, Kern};
-use mark::{FlushSeat, Mark};
+use mark::{FlushSeat, Mark, Seat};
 use operator::{Operator, Service};
 use std::alloc::Global;
 use std::sync::atomic::{AtomicU64, Ordering};
@@ -58,36 +58,91 @@ fn reaches<R: Clock>(rt: &R, count: &AtomicU64, least: u64) -> bool {
 
 /// What the flusher and the operator share.
 #[derive(Drop)]
-struct Stage<'a> {
-    kern: &'a Counting,
-    mark: &'a Mark,
-    bells: &'a Bells,
-    operator: &'a Operator,
+struct Stage {
+    kern: Counting,
+    mark: Mark,
+    bells: Bells,
+    operator: Operator,
     /// How many octets of the lines were read.
-    read: &'a AtomicU64,
+    read: Arc<AtomicU64>,
 }
 
-/// The flusher stops once it is time, as the server's does. Answers whether it was in time, and what was done then.
-fn stop<R: Wait + Clock>(
+impl Stage {
+    /// Answers the operator's lines, as a thread of the server does.
+    fn answer_lines<R: Wait + Clock>(&self, rt: &R, alloc: Global, seat: Seat)
+        requires { seat.mark ≡ self.now.mark }
+    {
+        let service = Service {
+            rt,
+            alloc,
+            kern: &self.kern,
+            mark: &self.mark,
+            bells: &self.bells,
+        };
+        self.operator.answer_all(&service, seat)
+    }
+
+    /// Stops, as the flusher does, once so many groups were asked for and so many octets read. Answers whether that was in time,
+    /// and what was asked for and read a while later.
+    fn stop<R: Wait + Clock>(
+        &self,
+        rt: &R,
+        flush_seat: FlushSeat,
+        groups: u64,
+        octets: u64,
+    ) -> (bool, u64, u64)
+        requires { flush_seat.mark ≡ self.now.mark }
+    {
+        let mut flush_seat = flush_seat;
+        let is_in_time = reaches(rt, &self.kern.groups, groups) && reaches(rt, &self.read, octets);
+        thread::sleep(rt, Duration::from_millis(PAUSE_MILLIS));
+        let asked = self.kern.groups.load(Ordering::SeqCst);
+        let read = self.read.load(Ordering::SeqCst);
+        self.kern.halt(rt);
+        self.mark.stop(&mut flush_seat);
+        self.bells.operator.unpark();
+        self.bells.later.ring();
+        self.operator.end(rt);
+        (is_in_time, asked, read)
+    }
+}
+
+/// The operator of a play, the count of what was read of its lines, and where its answers go.
+#[derive(Drop)]
+struct Begun {
+    operator: Operator,
+    read: Arc<AtomicU64>,
+    text: Arc<Mutex<Vec<u8>>>,
+}
+
+/// Starts the operator's threads.
+fn begin<R: Threads + Wait + Copy + Send + 'static>(
     rt: &R,
-    stage: &Stage<'_>,
-    flush_seat: FlushSeat,
-    groups: u64,
-    octets: u64,
-) -> (bool, u64, u64)
-    requires { flush_seat.mark ≡ stage.now.mark.now }
-{
-    let mut flush_seat = flush_seat;
-    let is_in_time = reaches(rt, &stage.kern.groups, groups) && reaches(rt, stage.read, octets);
-    thread::sleep(rt, Duration::from_millis(PAUSE_MILLIS));
-    let asked = stage.kern.groups.load(Ordering::SeqCst);
-    let read = stage.read.load(Ordering::SeqCst);
-    stage.kern.halt(rt);
-    stage.mark.stop(&mut flush_seat);
-    stage.bells.operator.unpark();
-    stage.bells.later.ring();
-    stage.operator.end(rt);
-    (is_in_time, asked, read)
+    alloc: Global,
+    lines: Vec<u8>,
+    is_endless: bool,
+    is_read: bool,
+) -> Option<Begun> {
+    let read = Arc::new(alloc, AtomicU64::new(0)).ok()?;
+    let text = Arc::new(alloc, Mutex::new(Vec::new(alloc))).ok()?;
+    let lines = Lines {
+        octets: lines,
+        is_endless,
+        read: Arc::try_clone(&read).ok()?,
+    };
+    let answers = Answers {
+        rt: *rt,
+        text: Arc::try_clone(&text).ok()?,
+        is_read,
+    };
+    match Operator::start(rt, alloc, lines, answers) {
+        Ok(operator) => Some(Begun {
+            operator,
+            read,
+            text,
+        }),
+        Err(_) => None,
+    }
 }
 
 /// Runs a play to its end.
@@ -96,50 +151,39 @@ pub(crate) fn run<R: Threads + Wait + Clock + Copy + Send + Sync + 'static>(
     alloc: Global,
     play: Play,
 ) -> Option<Outcome> {
+    let Play {
+        lines,
+        is_endless,
+        is_read,
+        durable,
+        groups,
+    } = play;
     let Ok((mark, flush_seat, seat)) = Mark::new(alloc) else {
         return None;
     };
     let mut flush_seat = flush_seat;
-    mark.raise(&mut flush_seat, play.durable);
-    let (kern, bells) = (Counting::new(), Bells::new());
-    let read = Arc::new(alloc, AtomicU64::new(0)).ok()?;
-    let text = Arc::new(alloc, Mutex::new(Vec::new(alloc))).ok()?;
-    let octets = if play.is_endless {
+    mark.raise(&mut flush_seat, durable);
+    let octets = if is_endless {
         0
     } else {
-        (play.lines.len() as u64).saturating_add(1)
+        (lines.len() as u64).saturating_add(1)
     };
-    let lines = Lines {
-        octets: play.lines,
-        is_endless: play.is_endless,
-        read: Arc::try_clone(&read).ok()?,
-    };
-    let answers = Answers {
-        rt: *rt,
-        text: Arc::try_clone(&text).ok()?,
-        is_read: play.is_read,
-    };
-    let Ok(operator) = Operator::start(rt, alloc, lines, answers) else {
-        return None;
-    };
-    let service = Service {
-        rt,
-        alloc,
-        kern: &kern,
-        mark: &mark,
-        bells: &bells,
-    };
+    let Begun {
+        operator,
+        read,
+        text,
+    } = begin(rt, alloc, lines, is_endless, is_read)?;
     let stage = Stage {
-        kern: &kern,
-        mark: &mark,
-        bells: &bells,
-        operator: &operator,
-        read: &read,
+        kern: Counting::new(),
+        mark,
+        bells: Bells::new(),
+        operator,
+        read,
     };
     let ((), (is_in_time, groups, octets)) = join(
         rt,
-        || operator.answer_all(&service, seat),
-        || stop(rt, &stage, flush_seat, play.groups, octets),
+        || stage.answer_lines(rt, alloc, seat),
+        || stage.stop(rt, flush_seat, groups, octets),
     );
     let text = Vec::from_slice(alloc, text.lock(rt).as_slice()).ok()?;
     Some(Outcome {
