@@ -124,6 +124,28 @@ def has_ended_for_a_caller(server):
     return server.process.poll() is not None
 
 
+def without_memory_a_caller_is_told(volume):
+    """The system gives no more memory: each further caller is served or told that the service ends, and none waits in vain. Whoever
+    is served goes on, and so does everybody once there is memory again."""
+    volume.make_group()
+    with volume.serve() as server:
+        first = server.greet(5)
+        server.limit_memory(server.address_space())
+        callers = [Caller(server.port, seconds=5) for _ in range(70)]
+        served = [caller for caller in callers if caller.greeting == GREETING]
+        refused = [caller for caller in callers if caller.greeting == SERVICE_ENDS]
+        assert len(served) + len(refused) == len(callers) and refused
+        assert all(caller.has_ended() for caller in refused)
+        server.limit_memory(-1)
+        for number, caller in enumerate([first, *served], 1):
+            assert caller.ask("STAT <x@a.example>") == "430 No such article"
+        assert first.post(article(number)) == "240 Article received"
+        for caller in [first, *callers]:
+            caller.close()
+        with server.greet(5) as again:
+            assert again.ask("GROUP x.a") == "211 1 1 1 x.a"
+
+
 def an_operator_that_reads_nothing_holds_nobody(volume):
     volume.make_group()
 
@@ -171,6 +193,7 @@ TESTS = [
     a_failing_device_ends_the_server,
     a_failed_sync_ends_the_server,
     without_descriptors_a_caller_is_told,
+    without_memory_a_caller_is_told,
     an_operator_that_reads_nothing_holds_nobody,
 ]
 

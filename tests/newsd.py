@@ -138,6 +138,15 @@ class Server:
         """From now on each write of the device fails but those to its first block."""
         resource.prlimit(self.process.pid, resource.RLIMIT_FSIZE, (4096, 4096))
 
+    def limit_memory(self, octets):
+        """From now on the server's address space has at most so many octets; -1 for any number."""
+        resource.prlimit(self.process.pid, resource.RLIMIT_AS, (octets, -1))
+
+    def address_space(self):
+        """The octets of it that are in use."""
+        with open("/proc/%d/statm" % self.process.pid) as sizes:
+            return int(sizes.read().split()[0]) * resource.getpagesize()
+
     def limit_descriptors(self, most):
         """From now on it gets no descriptor more than these."""
         _, hard = resource.prlimit(self.process.pid, resource.RLIMIT_NOFILE)
