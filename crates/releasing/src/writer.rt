@@ -97,14 +97,19 @@ impl ReplyWriter {
             return Err(ExecError::NoSession);
         }
         self.note_taking();
-        let answered = shared.kern.answer(
+        let answer = shared.kern.answer(
             shared.rt,
             shared.alloc,
             outgoing.sid,
             message,
             moment,
             &mut outgoing.ready,
-        )?;
+        );
+        if answer.is_err() {
+            // nothing was taken, whatever a commit has found before
+            self.is_missed.store(true, Ordering::SeqCst);
+        }
+        let answered = answer?;
         self.is_waiting.store(answered.is_held, Ordering::SeqCst);
         if outgoing.is_full() {
             self.release_ready(shared, outgoing, Patience::Long);
