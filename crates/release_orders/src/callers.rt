@@ -1,0 +1,87 @@
+//! The caller of a play, whose reads end in time, and the octets that fill a socket.
+
+use std::alloc::Global;
+use std::io::{BufRead, BufReader, Read, Write};
+use std::net::{Ipv4Addr, Net, SocketAddr, TcpListener, TcpStream};
+use std::time::Duration;
+
+/// A read of a test ends after so many seconds.
+const READ_SECS: u64 = 10;
+
+/// What fills a socket, and how many writes of it do at most.
+const FILLING: [u8; 4096] = [b'x'; 4096];
+
+const FILLINGS: u32 = 100_000;
+
+/// So many writes in turn of which a socket took nothing show that it is full. After fewer its two buffers may still be settling.
+const REFUSALS: u32 = 30;
+
+/// A caller.
+#[derive(Drop)]
+pub(crate) struct Caller {
+    pub(crate) replies: BufReader<TcpStream>,
+    alloc: Global,
+}
+
+impl Caller {
+    /// Both ends of a new connection: the server's, and a caller with the other one.
+    pub(crate) fn connect<R: Net<Listener = TcpListener, Stream = TcpStream>>(
+        rt: &R,
+        alloc: Global,
+    ) -> Option<(TcpStream, Caller)> {
+        let listener = TcpListener::bind(rt, SocketAddr::from((Ipv4Addr::LOCALHOST, 0))).ok()?;
+        let stream = TcpStream::connect(rt, listener.local_addr().ok()?).ok()?;
+        stream
+            .set_read_timeout(Some(Duration::from_secs(READ_SECS)))
+            .ok()?;
+        let replies = BufReader::new(alloc, stream).ok()?;
+        let (near, _) = listener.accept().ok()?;
+        near.set_nodelay(true).ok()?;
+        Some((near, Caller { replies, alloc }))
+    }
+
+    /// Whether the next line is this one, behind what a socket was filled with.
+    pub(crate) fn reads(&mut self, text: &[u8]) -> bool {
+        let mut line = Vec::new(self.alloc);
+        if self.replies.read_until(b'\n', &mut line).is_err() {
+            return false;
+        }
+        let filled = line.iter().take_while(|octet| **octet == b'x').count();
+        line.iter().skip(filled).eq(text.iter())
+    }
+
+    /// Whether these lines come next.
+    pub(crate) fn reads_all(&mut self, lines: &[&[u8]]) -> bool {
+        for line in lines {
+            if !self.reads(line) {
+                return false;
+            }
+        }
+        true
+    }
+
+    /// Takes a little. How many octets that was, 0 at the end.
+    pub(crate) fn takes(&mut self, piece: &mut [u8]) -> Option<u64> {
+        let count = self.replies.read(piece).ok()?;
+        Some(count as u64)
+    }
+}
+
+/// Fills a socket, whose writes wait for little, until it takes no more. How many octets that were; `None` where it never was full.
+pub(crate) fn fill(stream: &TcpStream) -> Option<u64> {
+    let mut stream = stream;
+    let (mut filled, mut refusals) = (0u64, 0u32);
+    for _ in 0..FILLINGS {
+        match stream.write(&FILLING) {
+            Ok(count) => {
+                filled = filled.checked_add(count as u64)?;
+                refusals = 0;
+            }
+            Err(_) => refusals = refusals.saturating_add(1),
+        }
+        if refusals >= REFUSALS {
+            return Some(filled);
+        }
+    }
+    None
+}

@@ -1,0 +1,203 @@
+//! The plays of two threads, the session's and the one that commits and releases, in chosen orders and in any.
+
+use crate::callers::{Caller, fill};
+use crate::sides::Side;
+use crate::stages::{Session, Stage};
+use crate::stops::{PAUSE_MILLIS, Point, Stop, StopGate, pause, wait_for};
+use flusher::{BatchBuf, Gate, Kern, Locked};
+use releasing::Limits;
+use std::alloc::Global;
+use std::net::{Net, TcpListener, TcpStream};
+use std::sync::Wait;
+use std::sync::atomic::Ordering;
+use std::thread::{Threads, join};
+
+/// How often a session waits for a release at most.
+const WAITS: u32 = 100;
+
+pub(crate) const GREETING: &[u8] = b"200 news.example ready, posting permitted\r\n";
+
+pub(crate) const ASKED: &[u8] = b"340 Send article\r\n";
+
+pub(crate) const RECEIVED: &[u8] = b"240 Article received\r\n";
+
+const DATED: &[u8] = b"111 20010909014640\r\n";
+
+/// What the session's thread does after its caller's article.
+#[derive(Clone, Copy, Debug, PartialEq, Eq)]
+pub(crate) enum Then {
+    Send,
+    Release,
+    /// It waits until nothing is held, as for a caller who sends nothing more.
+    Finish,
+    /// It sends, and has `DATE` answered while the other thread releases.
+    Date,
+    /// It sends, and then its socket is full.
+    Fill,
+}
+
+/// Where a thread stops, and what the session's does.
+#[derive(Clone, Copy, Debug)]
+pub(crate) struct Order {
+    pub(crate) point: Point,
+    pub(crate) then: Then,
+    /// The number of its article.
+    pub(crate) number: u64,
+}
+
+/// The session's thread.
+fn serve<R: Wait, K: Kern, G: Gate>(
+    session: &Session<'_, R, K, G>,
+    stop: &Stop,
+    order: Order,
+) -> Option<()> {
+    let Order { then, .. } = order;
+    session.writer().release(session.shared);
+    session.asks(b"POST")?;
+    if then != Then::Date {
+        stop.arm();
+    }
+    session.posts(order.number, 1)?;
+    stop.pass(session.rt(), Point::BeforeThen);
+    match then {
+        Then::Release => {
+            session.writer().release(session.shared);
+        }
+        Then::Finish => finish(session, stop)?,
+        _ => session.writer().send(session.shared),
+    }
+    if then == Then::Fill {
+        fill(&session.stage.near)?;
+    }
+    if then == Then::Date {
+        stop.arm();
+    }
+    stop.is_let_go.store(true, Ordering::SeqCst);
+    if then == Then::Date {
+        ask_for_date(session, stop)?;
+    }
+    stop.has_ended.store(true, Ordering::SeqCst);
+    Some(())
+}
+
+/// Waits until nothing is held.
+fn finish<R: Wait, K: Kern, G: Gate>(session: &Session<'_, R, K, G>, stop: &Stop) -> Option<()> {
+    for _ in 0..WAITS {
+        if !session.writer().release(session.shared).is_held {
+            return Some(());
+        }
+        stop.pass(session.rt(), Point::BeforeWait);
+        stop.is_let_go.store(true, Ordering::SeqCst);
+        session.writer().wait_for_release(session.rt());
+    }
+    None
+}
+
+/// Has the next message answered, while the other thread has stopped in a release.
+fn ask_for_date<R: Wait, K: Kern, G: Gate>(
+    session: &Session<'_, R, K, G>,
+    stop: &Stop,
+) -> Option<()> {
+    if !wait_for(session.rt(), &stop.is_reached) {
+        return None;
+    }
+    stop.is_done.store(true, Ordering::SeqCst);
+    session.asks(b"DATE")?;
+    session.writer().send(session.shared);
+    Some(())
+}
+
+/// The other thread.
+fn commit<R: Wait, K: Kern, G: Gate>(
+    session: &Session<'_, R, K, G>,
+    stop: &Stop,
+    order: Order,
+) -> Option<()> {
+    let is_after = order.point == Point::Nowhere || order.then == Then::Date;
+    let begins = if is_after {
+        &stop.is_let_go
+    } else {
+        &stop.is_reached
+    };
+    if !wait_for(session.rt(), begins) {
+        return None;
+    }
+    if is_after {
+        pause(session.rt(), PAUSE_MILLIS);
+    }
+    let mut batch = BatchBuf::new(session.shared.alloc).ok()?;
+    let ticket = session.takes(&mut batch)?;
+    session.commits(ticket)?;
+    stop.is_done.store(true, Ordering::SeqCst);
+    Some(())
+}
+
+/// The caller, who reads once the other thread has done its steps, and sends nothing more. At the end the session's thread has ended
+/// before the server does.
+fn call<R: Wait, K: Kern, G: Gate>(
+    session: &Session<'_, R, K, G>,
+    caller: Caller,
+    stop: &Stop,
+    then: Then,
+) -> bool {
+    let mut caller = caller;
+    let is_read = wait_for(session.rt(), &stop.is_done)
+        && caller.reads_all(&[GREETING, ASKED, RECEIVED])
+        && (then != Then::Date || caller.reads(DATED));
+    let has_ended = wait_for(session.rt(), &stop.has_ended);
+    session.shared.close();
+    is_read && has_ended
+}
+
+/// Plays an order. Whether the caller read its replies.
+pub(crate) fn play<'a, R: Net<Listener = TcpListener, Stream = TcpStream> + Threads + Wait + Sync>(
+    rt: &'a R,
+    alloc: Global,
+    kernel: &'a Locked,
+    order: Order,
+) -> bool {
+    let stop = Stop::new(order.point);
+    let kern = Side {
+        inner: kernel,
+        stop: &stop,
+    };
+    let gate = StopGate { rt, stop: &stop };
+    let Some((stage, caller)) = Stage::new(rt, alloc, kernel, Limits::standard()) else {
+        return false;
+    };
+    let shared = stage.shared(rt, &kern, &gate);
+    let session = Session {
+        shared: &shared,
+        stage: &stage,
+    };
+    run(&session, caller, &stop, order)
+}
+
+/// The threads of a play. The fourth one finishes what the releaser could not write.
+fn run<'a, R: Threads + Wait + Sync, K: Kern + Sync, G: Gate + Sync>(
+    session: &'a Session<'a, R, K, G>,
+    caller: Caller,
+    stop: &'a Stop,
+    order: Order,
+) -> bool {
+    let rt = session.rt();
+    let ((is_served, is_committed), (is_read, ())) = join(
+        rt,
+        || {
+            join(
+                rt,
+                || serve(session, stop, order),
+                || commit(session, stop, order),
+            )
+        },
+        || {
+            join(
+                rt,
+                || call(session, caller, stop, order.then),
+                || session.writer().write_rests(session.shared),
+            )
+        },
+    );
+    session.writer().end(rt, session.shared.kern);
+    is_served.is_some() && is_committed.is_some() && is_read
+}

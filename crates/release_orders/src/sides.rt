@@ -1,0 +1,82 @@
+//! A kernel under its lock, before and after whose calls a thread stops.
+
+use crate::stops::{Point, Stop};
+use flusher::{
+    AdminError, Answered, BatchBuf, ExecError, ExpireError, JoinError, Kern, Locked, Stale, Ticket,
+};
+use model::{Message, Mode};
+use names::GroupName;
+use outbox::ReadyBuf;
+use std::alloc::Global;
+use std::sync::Wait;
+
+/// The kernel of a play.
+#[derive(Drop)]
+pub(crate) struct Side<'a> {
+    pub(crate) inner: &'a Locked,
+    pub(crate) stop: &'a Stop,
+}
+
+impl<'a> Kern for Side<'a> {
+    fn join<R: Wait>(&self, rt: &R, alloc: Global) -> Result<u64, JoinError> {
+        self.inner.join(rt, alloc)
+    }
+
+    fn mode<R: Wait>(&self, rt: &R, sid: u64) -> Option<Mode> {
+        self.inner.mode(rt, sid)
+    }
+
+    fn answer<R: Wait>(
+        &self,
+        rt: &R,
+        alloc: Global,
+        sid: u64,
+        message: &Message,
+        moment: u64,
+        into: &mut ReadyBuf,
+    ) -> Result<Answered, ExecError> {
+        let answered = self.inner.answer(rt, alloc, sid, message, moment, into);
+        self.stop.pass(rt, Point::AfterAnswer);
+        answered
+    }
+
+    fn give_ready<R: Wait>(&self, rt: &R, sid: u64, into: &mut ReadyBuf) -> bool {
+        self.stop.pass(rt, Point::BeforeGive);
+        let is_held = self.inner.give_ready(rt, sid, into);
+        self.stop.pass(rt, Point::AfterGive);
+        is_held
+    }
+
+    fn admin<R: Wait>(
+        &self,
+        rt: &R,
+        alloc: Global,
+        name: &GroupName,
+        status: u8,
+        description: &[u8],
+        moment: u64,
+    ) -> Result<u64, AdminError> {
+        self.inner
+            .admin(rt, alloc, name, status, description, moment)
+    }
+
+    fn expire<R: Wait>(&self, rt: &R, name: &GroupName, number: u32) -> Result<u64, ExpireError> {
+        self.inner.expire(rt, name, number)
+    }
+
+    fn leave<R: Wait>(&self, rt: &R, sid: u64) {
+        self.inner.leave(rt, sid);
+    }
+
+    fn take_batch<R: Wait>(&self, rt: &R, into: &mut BatchBuf) -> Option<Ticket> {
+        self.inner.take_batch(rt, into)
+    }
+
+    fn committed<R: Wait>(&self, rt: &R, ticket: Ticket) -> Result<(), Stale> {
+        self.inner.committed(rt, ticket)
+    }
+
+    fn halt<R: Wait>(&self, rt: &R) {
+        self.inner.halt(rt);
+    }
+}

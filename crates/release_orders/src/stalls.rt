@@ -1,0 +1,173 @@
+//! Callers that take nothing, or little, of their replies.
+
+use crate::callers::{Caller, fill};
+use crate::plays::{ASKED, GREETING, RECEIVED};
+use crate::stages::{MOMENT, Session, Stage, make_kernel};
+use crate::stops::{Point, Stop, pause, wait_for};
+use flusher::{BatchBuf, Gate, Kern, NoGate};
+use model::{Message, Text};
+use outbox::ReadyBuf;
+use releasing::Limits;
+use std::alloc::Global;
+use std::net::{Net, TcpListener, TcpStream};
+use std::sync::Wait;
+use std::sync::atomic::Ordering;
+use std::thread::{Threads, join};
+use std::time::{Clock, Duration, Instant};
+
+/// The limit for a caller that takes nothing, and what it may be exceeded by on a busy machine, in milliseconds.
+const STALL_MILLIS: u64 = 50;
+
+const LATE_MILLIS: u64 = 5_000;
+
+/// The limit for one that takes so little, again and again: a half of what lets the system wake a write.
+const SLOW_MILLIS: u64 = 300;
+
+const LITTLE: usize = 16_384;
+
+const LITTLE_MILLIS: u64 = 5;
+
+/// How often at most it takes that.
+const TAKES: u32 = 100_000;
+
+/// The lines of an article's body, and how often it is asked for.
+const LINES: u32 = 600;
+
+const ASKS: u64 = 40;
+
+const BYE: &[u8] = b"205 Bye\r\n";
+
+/// Limits with this one for a socket that takes nothing.
+fn limits(stall: u64) -> Limits {
+    Limits {
+        stall: Duration::from_millis(stall),
+        ..Limits::standard()
+    }
+}
+
+/// Whether a caller that takes nothing is let go, and not before its limit.
+pub(crate) fn lets_go<R: Net<Listener = TcpListener, Stream = TcpStream> + Wait + Clock>(
+    rt: &R,
+    alloc: Global,
+) -> Option<bool> {
+    let kernel = make_kernel(rt, alloc)?;
+    let (stage, caller) = Stage::new(rt, alloc, &kernel, limits(STALL_MILLIS))?;
+    let shared = stage.shared(rt, &kernel, &NoGate);
+    let session = Session {
+        shared: &shared,
+        stage: &stage,
+    };
+    session.writer().release(&shared);
+    fill(&stage.near)?;
+    session.asks(b"DATE")?;
+    let since = Instant::now(rt).ok()?;
+    session.writer().send(&shared);
+    let waited = since.elapsed(rt).ok()?;
+    let is_gone = shared.kern.mode(rt, stage.sid).is_none();
+    let mut caller = caller;
+    let is_cut = !caller.reads(BYE) && !caller.reads(BYE);
+    Some(is_gone && is_cut && is_between(waited, STALL_MILLIS, LATE_MILLIS))
+}
+
+fn is_between(waited: Duration, least: u64, most: u64) -> bool {
+    Duration::from_millis(least) <= waited && waited < Duration::from_millis(most)
+}
+
+/// Whether a caller that takes a little again and again is told all, and is there to the end.
+pub(crate) fn keeps<R: Net<Listener = TcpListener, Stream = TcpStream> + Threads + Wait + Sync>(
+    rt: &R,
+    alloc: Global,
+) -> Option<bool> {
+    let stop = Stop::new(Point::Nowhere);
+    let kernel = make_kernel(rt, alloc)?;
+    let (stage, caller) = Stage::new(rt, alloc, &kernel, limits(SLOW_MILLIS))?;
+    let shared = stage.shared(rt, &kernel, &NoGate);
+    let session = Session {
+        shared: &shared,
+        stage: &stage,
+    };
+    run(&session, caller, &stop)
+}
+
+/// The two threads of that.
+fn run<'a, R: Threads + Wait + Sync, K: Kern + Sync, G: Gate + Sync>(
+    session: &'a Session<'a, R, K, G>,
+    caller: Caller,
+    stop: &'a Stop,
+) -> Option<bool> {
+    let rt = session.rt();
+    let (sent, taken) = join(
+        rt,
+        || send_much(session, stop),
+        || take_slowly(rt, caller, stop),
+    );
+    Some(sent.is_some() && sent == taken)
+}
+
+/// Has an article asked for again and again, once the socket is full. How many octets the caller has to take.
+fn send_much<R: Wait, K: Kern, G: Gate>(
+    session: &Session<'_, R, K, G>,
+    stop: &Stop,
+) -> Option<u64> {
+    let writer = session.writer();
+    writer.release(session.shared);
+    session.asks(b"POST")?;
+    session.posts(1, LINES)?;
+    let mut batch = BatchBuf::new(session.shared.alloc).ok()?;
+    let ticket = session.takes(&mut batch)?;
+    session.commits(ticket)?;
+    let filled = fill(&session.stage.near)?;
+    stop.is_let_go.store(true, Ordering::SeqCst);
+    let reply = reply_octets(session)?;
+    for _ in 0..ASKS {
+        session.asks(b"ARTICLE <1@a.example>")?;
+    }
+    session.asks(b"QUIT")?;
+    writer.send(session.shared);
+    stop.has_ended.store(true, Ordering::SeqCst);
+    let others = (GREETING.len() + ASKED.len() + RECEIVED.len() + BYE.len()) as u64;
+    reply
+        .checked_mul(ASKS)?
+        .checked_add(filled)?
+        .checked_add(others)
+}
+
+/// How many octets the reply with the article has.
+fn reply_octets<R: Wait, K: Kern, G: Gate>(session: &Session<'_, R, K, G>) -> Option<u64> {
+    let alloc = session.shared.alloc;
+    let line = Text::new(b"ARTICLE <1@a.example>".to_vec(alloc).ok()?);
+    let mut ready = ReadyBuf::new(alloc).ok()?;
+    let message = Message::Line(line);
+    let kern = session.shared.kern;
+    kern.answer(
+        session.rt(),
+        alloc,
+        session.stage.sid,
+        &message,
+        MOMENT,
+        &mut ready,
+    )
+    .ok()?;
+    Some(ready.octets().len() as u64)
+}
+
+/// Once the socket is full, takes a little again and again, until the socket ends, and then all that is left. How many octets that were.
+fn take_slowly<R: Wait>(rt: &R, caller: Caller, stop: &Stop) -> Option<u64> {
+    if !wait_for(rt, &stop.is_let_go) {
+        return None;
+    }
+    let mut caller = caller;
+    let mut piece = [0; LITTLE];
+    let mut taken = 0u64;
+    for _ in 0..TAKES {
+        let count = caller.takes(&mut piece)?;
+        if count == 0 {
+            return Some(taken);
+        }
+        taken = taken.checked_add(count)?;
+        if !stop.has_ended.load(Ordering::SeqCst) {
+            pause(rt, LITTLE_MILLIS);
+        }
+    }
+    None
+}

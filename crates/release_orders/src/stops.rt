@@ -1,0 +1,116 @@
+//! Where a thread stops for another one.
+
+use flusher::Gate;
+use std::sync::Wait;
+use std::sync::atomic::{AtomicBool, Ordering};
+use std::thread::Parker;
+use std::time::Duration;
+
+/// A wait of a test ends after so many looks, of a millisecond each.
+const LOOKS: u32 = 10_000;
+
+/// A thread that was let go on has so many milliseconds to come to the lock.
+pub(crate) const PAUSE_MILLIS: u64 = 20;
+
+/// Waits until a flag is set. It is false at the limit.
+pub(crate) fn wait_for<R: Wait>(rt: &R, flag: &AtomicBool) -> bool {
+    for _ in 0..LOOKS {
+        if flag.load(Ordering::SeqCst) {
+            return true;
+        }
+        pause(rt, 1);
+    }
+    false
+}
+
+/// Waits so many milliseconds.
+pub(crate) fn pause<R: Wait>(rt: &R, millis: u64) {
+    Parker::new().park_timeout(rt, Duration::from_millis(millis));
+}
+
+/// Where a thread stops.
+#[derive(Clone, Copy, Debug, PartialEq, Eq)]
+pub(crate) enum Point {
+    /// Nowhere.
+    Nowhere,
+    /// Before and after a write.
+    BeforeWrite,
+    AfterWrite,
+    /// The kernel has answered a message.
+    AfterAnswer,
+    /// Before and after the kernel gives what is ready.
+    BeforeGive,
+    AfterGive,
+    /// Nobody has the lock: the session's thread is about to send, or to wait.
+    BeforeThen,
+    BeforeWait,
+}
+
+/// The stop of a play: the first thread that comes to its point waits there until the other one has done its steps.
+#[derive(Drop)]
+pub(crate) struct Stop {
+    point: Point,
+    is_armed: AtomicBool,
+    /// A thread has come to the point.
+    pub(crate) is_reached: AtomicBool,
+    /// The other one has done its steps.
+    pub(crate) is_done: AtomicBool,
+    /// The session's thread has let go of the lock, or waits.
+    pub(crate) is_let_go: AtomicBool,
+    /// The session's thread has ended.
+    pub(crate) has_ended: AtomicBool,
+}
+
+impl Stop {
+    pub(crate) fn new(point: Point) -> Stop {
+        Stop {
+            point,
+            is_armed: AtomicBool::new(false),
+            is_reached: AtomicBool::new(false),
+            is_done: AtomicBool::new(false),
+            is_let_go: AtomicBool::new(false),
+            has_ended: AtomicBool::new(false),
+        }
+    }
+
+    /// From here on a thread stops at the point.
+    pub(crate) fn arm(&self) {
+        self.is_armed.store(true, Ordering::SeqCst);
+    }
+
+    /// A thread comes to a point.
+    pub(crate) fn pass<R: Wait>(&self, rt: &R, point: Point) {
+        if point != self.point || !self.is_armed.swap(false, Ordering::SeqCst) {
+            return;
+        }
+        self.is_reached.store(true, Ordering::SeqCst);
+        wait_for(rt, &self.is_done);
+        pause(rt, PAUSE_MILLIS);
+    }
+}
+
+/// A gate with that stop.
+pub(crate) struct StopGate<'a, R> {
+    pub(crate) rt: &'a R,
+    pub(crate) stop: &'a Stop,
+}
+
+impl<'a, R> Drop for StopGate<'a, R> {
+    fn drop(self) {
+        let StopGate { rt: _, stop: _ } = self;
+    }
+}
+
+impl<'a, R: Wait> Gate for StopGate<'a, R> {
+    fn before_flush(&self) {}
+
+    fn after_flush(&self) {}
+
+    fn before_release(&self, _sid: u64) {
+        self.stop.pass(self.rt, Point::BeforeWrite);
+    }
+
+    fn after_release(&self, _sid: u64) {
+        self.stop.pass(self.rt, Point::AfterWrite);
+    }
+}

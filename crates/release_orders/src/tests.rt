@@ -1,0 +1,59 @@
+use crate::plays::{Order, Then, play};
+use crate::races::race;
+use crate::stages::make_kernel;
+use crate::stalls::{keeps, lets_go};
+use crate::stops::Point;
+
+/// Where the commit and the release that follows it fall.
+const ORDERS: [(Point, Then); 16] = [
+    // while the session's thread has the lock
+    (Point::AfterAnswer, Then::Send),
+    (Point::AfterAnswer, Then::Release),
+    (Point::BeforeWrite, Then::Send),
+    (Point::AfterWrite, Then::Send),
+    (Point::BeforeWrite, Then::Release),
+    (Point::BeforeGive, Then::Release),
+    (Point::AfterGive, Then::Release),
+    (Point::AfterGive, Then::Finish),
+    // while nobody has it
+    (Point::BeforeThen, Then::Send),
+    (Point::BeforeWait, Then::Finish),
+    (Point::Nowhere, Then::Finish),
+    (Point::Nowhere, Then::Send),
+    // the next message comes while the releaser has it
+    (Point::BeforeGive, Then::Date),
+    (Point::AfterGive, Then::Date),
+    (Point::BeforeWrite, Then::Date),
+    // the socket takes nothing
+    (Point::Nowhere, Then::Fill),
+];
+
+#[test]
+fn no_order_loses_a_release(rt: HostRuntime) {
+    let kernel = make_kernel(&rt, rt.alloc()).expect(&rt, "a kernel");
+    let mut number = 0u64;
+    for (point, then) in ORDERS {
+        number = number.saturating_add(1);
+        let order = Order {
+            point,
+            then,
+            number,
+        };
+        assert!(rt; play(&rt, rt.alloc(), &kernel, order), "{point:?} {then:?}");
+    }
+}
+
+#[test]
+fn no_race_loses_a_release(rt: HostRuntime) {
+    assert_eq!(rt; race(&rt, rt.alloc()), Some(()));
+}
+
+#[test]
+fn a_caller_that_takes_nothing_is_let_go(rt: HostRuntime) {
+    assert_eq!(rt; lets_go(&rt, rt.alloc()), Some(true));
+}
+
+#[test]
+fn a_caller_that_takes_little_is_not(rt: HostRuntime) {
+    assert_eq!(rt; keeps(&rt, rt.alloc()), Some(true));
+}
