@@ -8,20 +8,33 @@ ghost use Rattle.world.specs.Events.{MayHappen};
 use crate::errors::SimError;
 use model::Mark;
 use names::GroupName;
-use script::{Line, parse};
+use script::{Line, number, parse};
 use std::alloc::{AllocError, Global};
 use world::{Answer, Event, StepError};
 
-/// A line of a script, and its answer.
+/// A line of a script, or `release S` for what is ready of one session, and its answer.
 pub type Row = (&'static str, &'static str);
 
 /// What a line asks.
 pub(crate) fn event(alloc: Global, line: &str) -> Result<Event, SimError>
     ensures { IfOk result MayHappen }
 {
+    if let Some(session) = line.strip_prefix("release ") {
+        return release_of(session);
+    }
     match parse(alloc, line.as_bytes()) {
         Ok(line) => event_of(line),
         Err(_) => Err(SimError::NoEvent),
+    }
+}
+
+// A script has no line for it.
+fn release_of(session: &str) -> Result<Event, SimError>
+    ensures { IfOk result MayHappen }
+{
+    match number(session.as_bytes()) {
+        Some(session) => Ok(Event::ReleaseOf(session)),
+        None => Err(SimError::NoEvent),
     }
 }
 

@@ -259,8 +259,13 @@ fn groups() -> &'static [&'static str] {
 }
 
 /// Does what a line asks, and carries it to its commit.
-fn commit(alloc: Global, sim: &mut Sim, line: &str) -> Result<(), Fail> {
+pub(crate) fn commit(alloc: Global, sim: &mut Sim, line: &str) -> Result<(), Fail> {
     sim.tell(alloc, line)?;
+    carry(alloc, sim)
+}
+
+/// Carries what changed to its commit.
+pub(crate) fn carry(alloc: Global, sim: &mut Sim) -> Result<(), Fail> {
     sim.tell(alloc, "take")?;
     for _ in 0..600 {
         if sim.tell(alloc, "dev")?.as_str() != "Working" {

@@ -7,3 +7,5 @@ mod event_answers;
 mod faults;
 #[cfg(test)]
 mod first_script;
+#[cfg(test)]
+mod releases_of_one;
