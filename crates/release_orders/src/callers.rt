@@ -19,7 +19,7 @@ const REFUSALS: u32 = 30;
 /// A caller.
 #[derive(Drop)]
 pub(crate) struct Caller {
-    pub(crate) replies: BufReader<TcpStream>,
+    replies: BufReader<TcpStream>,
     alloc: Global,
 }
 

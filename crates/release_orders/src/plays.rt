@@ -17,9 +17,7 @@ const WAITS: u32 = 100;
 
 pub(crate) const GREETING: &[u8] = b"200 news.example ready, posting permitted\r\n";
 
-pub(crate) const ASKED: &[u8] = b"340 Send article\r\n";
-
-pub(crate) const RECEIVED: &[u8] = b"240 Article received\r\n";
+pub(crate) const REPLIES: [&[u8]; 2] = [b"340 Send article\r\n", b"240 Article received\r\n"];
 
 const DATED: &[u8] = b"111 20010909014640\r\n";
 
@@ -57,25 +55,23 @@ fn serve<R: Wait, K: Kern, G: Gate>(
     if then != Then::Date {
         stop.arm();
     }
-    session.posts(order.number, 1)?;
+    session.posts(order.number)?;
     stop.pass(session.rt(), Point::BeforeThen);
     match then {
+        Then::Finish => finish(session, stop)?,
         Then::Release => {
             session.writer().release(session.shared);
         }
-        Then::Finish => finish(session, stop)?,
         _ => session.writer().send(session.shared),
     }
-    if then == Then::Fill {
-        fill(&session.stage.near)?;
-    }
-    if then == Then::Date {
-        stop.arm();
+    match then {
+        Then::Date => ask_for_date(session, stop)?,
+        Then::Fill => {
+            fill(&session.stage.near)?;
+        }
+        _ => {}
     }
     stop.is_let_go.store(true, Ordering::SeqCst);
-    if then == Then::Date {
-        ask_for_date(session, stop)?;
-    }
     stop.has_ended.store(true, Ordering::SeqCst);
     Some(())
 }
@@ -98,32 +94,26 @@ fn ask_for_date<R: Wait, K: Kern, G: Gate>(
     session: &Session<'_, R, K, G>,
     stop: &Stop,
 ) -> Option<()> {
-    if !wait_for(session.rt(), &stop.is_reached) {
-        return None;
-    }
+    stop.arm();
+    stop.is_let_go.store(true, Ordering::SeqCst);
+    wait_for(session.rt(), &stop.is_reached)?;
     stop.is_done.store(true, Ordering::SeqCst);
     session.asks(b"DATE")?;
     session.writer().send(session.shared);
     Some(())
 }
 
-/// The other thread.
+/// The other thread commits and releases.
 fn commit<R: Wait, K: Kern, G: Gate>(
     session: &Session<'_, R, K, G>,
     stop: &Stop,
     order: Order,
 ) -> Option<()> {
-    let is_after = order.point == Point::Nowhere || order.then == Then::Date;
-    let begins = if is_after {
-        &stop.is_let_go
-    } else {
-        &stop.is_reached
-    };
-    if !wait_for(session.rt(), begins) {
-        return None;
-    }
-    if is_after {
+    if order.point == Point::Nowhere || order.then == Then::Date {
+        wait_for(session.rt(), &stop.is_let_go)?;
         pause(session.rt(), PAUSE_MILLIS);
+    } else {
+        wait_for(session.rt(), &stop.is_reached)?;
     }
     let mut batch = BatchBuf::new(session.shared.alloc).ok()?;
     let ticket = session.takes(&mut batch)?;
@@ -132,19 +122,19 @@ fn commit<R: Wait, K: Kern, G: Gate>(
     Some(())
 }
 
-/// The caller, who reads once the other thread has done its steps, and sends nothing more. At the end the session's thread has ended
-/// before the server does.
-fn call<R: Wait, K: Kern, G: Gate>(
+/// Then it reads what the caller does, who sends nothing more. The session's thread has to end before the server does.
+fn commit_and_read<R: Wait, K: Kern, G: Gate>(
     session: &Session<'_, R, K, G>,
     caller: Caller,
     stop: &Stop,
-    then: Then,
+    order: Order,
 ) -> bool {
     let mut caller = caller;
-    let is_read = wait_for(session.rt(), &stop.is_done)
-        && caller.reads_all(&[GREETING, ASKED, RECEIVED])
-        && (then != Then::Date || caller.reads(DATED));
-    let has_ended = wait_for(session.rt(), &stop.has_ended);
+    let is_read = commit(session, stop, order).is_some()
+        && caller.reads(GREETING)
+        && caller.reads_all(&REPLIES)
+        && (order.then != Then::Date || caller.reads(DATED));
+    let has_ended = wait_for(session.rt(), &stop.has_ended).is_some();
     session.shared.close();
     is_read && has_ended
 }
@@ -173,7 +163,7 @@ pub(crate) fn play<'a, R: Net<Listener = TcpListener, Stream = TcpStream> + Thre
     run(&session, caller, &stop, order)
 }
 
-/// The threads of a play. The fourth one finishes what the releaser could not write.
+/// The threads of a play. The third one finishes what the releaser could not write.
 fn run<'a, R: Threads + Wait + Sync, K: Kern + Sync, G: Gate + Sync>(
     session: &'a Session<'a, R, K, G>,
     caller: Caller,
@@ -181,23 +171,17 @@ fn run<'a, R: Threads + Wait + Sync, K: Kern + Sync, G: Gate + Sync>(
     order: Order,
 ) -> bool {
     let rt = session.rt();
-    let ((is_served, is_committed), (is_read, ())) = join(
+    let (is_served, (is_read, ())) = join(
         rt,
+        || serve(session, stop, order),
         || {
             join(
                 rt,
-                || serve(session, stop, order),
-                || commit(session, stop, order),
-            )
-        },
-        || {
-            join(
-                rt,
-                || call(session, caller, stop, order.then),
+                || commit_and_read(session, caller, stop, order),
                 || session.writer().write_rests(session.shared),
             )
         },
     );
     session.writer().end(rt, session.shared.kern);
-    is_served.is_some() && is_committed.is_some() && is_read
+    is_served.is_some() && is_read
 }

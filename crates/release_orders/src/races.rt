@@ -1,26 +1,25 @@
 //! Many articles, each of which is committed and released while its session's thread goes on, with no stop.
 
 use crate::callers::Caller;
-use crate::plays::{ASKED, GREETING, RECEIVED};
+use crate::plays::{GREETING, REPLIES};
 use crate::stages::{Session, Stage, make_kernel};
 use flusher::{BatchBuf, Gate, Kern, NoGate, Ticket};
 use releasing::Limits;
 use std::alloc::Global;
 use std::net::{Net, TcpListener, TcpStream};
 use std::sync::Wait;
-use std::sync::atomic::{AtomicU64, Ordering};
 use std::thread::{self, Threads, join};
 
 /// How many articles.
 const ROUNDS: u64 = 200;
 
-/// A thread waits for so many turns of one look and one yield.
+/// A change is waited for in so many turns of one look and one yield.
 const TURNS: u32 = 10_000_000;
 
 /// The turns that a commit is late by differ from round to round, up to these.
 const DELAYS: u64 = 40;
 
-/// Whether the caller is told of each of its articles, without sending anything.
+/// Whether the caller is told of each of its articles before it sends the next.
 pub(crate) fn race<R: Net<Listener = TcpListener, Stream = TcpStream> + Threads + Wait + Sync>(
     rt: &R,
     alloc: Global,
@@ -35,52 +34,46 @@ pub(crate) fn race<R: Net<Listener = TcpListener, Stream = TcpStream> + Threads 
     run(&session, caller)
 }
 
-/// The threads of the race.
+/// The two threads of the race.
 fn run<'a, R: Threads + Wait + Sync, K: Kern + Sync, G: Gate + Sync>(
     session: &'a Session<'a, R, K, G>,
     caller: Caller,
 ) -> Option<()> {
-    let rt = session.rt();
-    let read = AtomicU64::new(0);
-    let ((posted, committed), told) = join(
-        rt,
-        || { join(rt, || post_all(session, &read), || commit_all(session)) },
-        || read_all(caller, &read),
+    let (posted, committed) = join(
+        session.rt(),
+        || post_all(session, caller),
+        || commit_all(session),
     );
     posted?;
-    committed?;
-    told
+    committed
 }
 
+/// The session's thread. It reads what its caller does, before that one sends the next article.
 fn post_all<R: Wait, K: Kern, G: Gate>(
     session: &Session<'_, R, K, G>,
-    read: &AtomicU64,
+    caller: Caller,
 ) -> Option<()> {
+    let mut caller = caller;
     session.writer().release(session.shared);
+    if !caller.reads(GREETING) {
+        return None;
+    }
     for round in 0..ROUNDS {
         session.asks(b"POST")?;
-        session.posts(round, 1)?;
+        session.posts(round)?;
         if round % 2 == 0 {
             session.writer().send(session.shared);
         } else {
             session.writer().release(session.shared);
         }
-        wait_past(read, round)?;
+        if !caller.reads_all(&REPLIES) {
+            return None;
+        }
     }
     Some(())
 }
 
-/// Waits until the caller was told of more articles.
-fn wait_past(read: &AtomicU64, count: u64) -> Option<()> {
-    for _ in 0..TURNS {
-        if read.load(Ordering::SeqCst) > count {
-            return Some(());
-        }
-        thread::yield_now();
-    }
-    None
-}
-
+/// The other thread.
 fn commit_all<R: Wait, K: Kern, G: Gate>(session: &Session<'_, R, K, G>) -> Option<()> {
     let mut batch = BatchBuf::new(session.shared.alloc).ok()?;
     for round in 0..ROUNDS {
@@ -93,6 +86,7 @@ fn commit_all<R: Wait, K: Kern, G: Gate>(session: &Session<'_, R, K, G>) -> Opti
     Some(())
 }
 
+/// Takes a change as soon as there is one.
 fn next_ticket<R: Wait, K: Kern, G: Gate>(
     session: &Session<'_, R, K, G>,
     batch: &mut BatchBuf,
@@ -104,18 +98,4 @@ fn next_ticket<R: Wait, K: Kern, G: Gate>(
         thread::yield_now();
     }
     None
-}
-
-fn read_all(caller: Caller, read: &AtomicU64) -> Option<()> {
-    let mut caller = caller;
-    if !caller.reads(GREETING) {
-        return None;
-    }
-    for _ in 0..ROUNDS {
-        if !caller.reads_all(&[ASKED, RECEIVED]) {
-            return None;
-        }
-        read.fetch_add(1, Ordering::SeqCst);
-    }
-    Some(())
 }

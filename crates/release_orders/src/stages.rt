@@ -8,7 +8,7 @@ use model::{Message, Text};
 use names::{GroupName, is_host};
 use new_volume::{Plan, are_sizes, device_octets, format};
 use releasing::{Closing, Limits, ReplyWriter, Shared, give_short_writes};
-use std::alloc::Global;
+use std::alloc::{AllocError, Global};
 use std::net::{Net, TcpListener, TcpStream};
 use std::slice::from_ref;
 use std::sync::{Arc, Wait};
@@ -17,9 +17,6 @@ use std::sync::{Arc, Wait};
 const HOST: &[u8] = b"news.example";
 
 pub(crate) const MOMENT: u64 = 1_000_000_000;
-
-/// A line of an article's body.
-const LINE: &[u8] = b"what waits for a commit is released after it, whoever comes first\r\n";
 
 /// One session, whose caller has come, and its writer.
 #[derive(Drop)]
@@ -145,9 +142,9 @@ impl<'a, R: Wait, K: Kern, G: Gate> Session<'a, R, K, G> {
         self.has_answered(&Message::Line(line))
     }
 
-    /// Has an article answered, whose message-id has this number, and whose body has so many lines.
-    pub(crate) fn posts(&self, number: u64, lines: u32) -> Option<()> {
-        let text = text(self.shared.alloc, number, lines)?;
+    /// Has an article answered, whose message-id has this number.
+    pub(crate) fn posts(&self, number: u64) -> Option<()> {
+        let text = text(self.shared.alloc, number).ok()?;
         self.has_answered(&Message::Block(Text::new(text)))
     }
 
@@ -170,16 +167,10 @@ impl<'a, R: Wait, K: Kern, G: Gate> Session<'a, R, K, G> {
 }
 
 /// An article as it is posted.
-fn text(alloc: Global, number: u64, lines: u32) -> Option<Vec<u8>> {
-    let id = format!(in alloc; "Message-ID: <{number}@a.example>\r\n").ok()?;
-    let mut text = Vec::new(alloc);
-    text.extend_from_slice(b"Path: p!not-for-mail\r\nDate: Sun, 09 Sep 2001 01:46:40 +0000\r\n")
-        .ok()?;
-    text.extend_from_slice(id.as_bytes()).ok()?;
-    text.extend_from_slice(b"From: a@example.org\r\nNewsgroups: x.a\r\nSubject: one\r\n\r\n")
-        .ok()?;
-    for _ in 0..lines {
-        text.extend_from_slice(LINE).ok()?;
-    }
-    Some(text)
+fn text(alloc: Global, number: u64) -> Result<Vec<u8>, AllocError> {
+    let text = format!(in alloc;
+        "Path: p!not-for-mail\r\nDate: Sun, 09 Sep 2001 01:46:40 +0000\r\nMessage-ID: <{number}@a.example>\r\n\
+        From: a@example.org\r\nNewsgroups: x.a\r\nSubject: one\r\n\r\nhi\r\n"
+    )?;
+    text.as_bytes().to_vec(alloc)
 }

@@ -1,13 +1,13 @@
 //! Callers that take nothing, or little, of their replies.
 
 use crate::callers::{Caller, fill};
-use crate::plays::{ASKED, GREETING, RECEIVED};
+use crate::plays::GREETING;
 use crate::stages::{MOMENT, Session, Stage, make_kernel};
 use crate::stops::{Point, Stop, pause, wait_for};
-use flusher::{BatchBuf, Gate, Kern, NoGate};
+use flusher::{Gate, Kern, NoGate};
 use model::{Message, Text};
 use outbox::ReadyBuf;
-use releasing::Limits;
+use releasing::{Limits, Shared};
 use std::alloc::Global;
 use std::net::{Net, TcpListener, TcpStream};
 use std::sync::Wait;
@@ -20,20 +20,20 @@ const STALL_MILLIS: u64 = 50;
 
 const LATE_MILLIS: u64 = 5_000;
 
-/// The limit for one that takes so little, again and again: a half of what lets the system wake a write.
-const SLOW_MILLIS: u64 = 300;
+/// The limit for one that takes so little, again and again: about a half of what the system wakes a waiting write for.
+const SLOW_MILLIS: u64 = 500;
 
-const LITTLE: usize = 16_384;
+const LITTLE: usize = 8_192;
 
 const LITTLE_MILLIS: u64 = 5;
 
 /// How often at most it takes that.
 const TAKES: u32 = 100_000;
 
-/// The lines of an article's body, and how often it is asked for.
-const LINES: u32 = 600;
+/// What it asks for, and how often.
+const ASKED: &[u8] = b"HELP";
 
-const ASKS: u64 = 40;
+const ASKS: u64 = 12_000;
 
 const BYE: &[u8] = b"205 Bye\r\n";
 
@@ -104,58 +104,47 @@ fn run<'a, R: Threads + Wait + Sync, K: Kern + Sync, G: Gate + Sync>(
     Some(sent.is_some() && sent == taken)
 }
 
-/// Has an article asked for again and again, once the socket is full. How many octets the caller has to take.
+/// Has the same asked for again and again, once the socket is full. How many octets the caller has to take.
 fn send_much<R: Wait, K: Kern, G: Gate>(
     session: &Session<'_, R, K, G>,
     stop: &Stop,
 ) -> Option<u64> {
-    let writer = session.writer();
-    writer.release(session.shared);
-    session.asks(b"POST")?;
-    session.posts(1, LINES)?;
-    let mut batch = BatchBuf::new(session.shared.alloc).ok()?;
-    let ticket = session.takes(&mut batch)?;
-    session.commits(ticket)?;
+    session.writer().release(session.shared);
     let filled = fill(&session.stage.near)?;
     stop.is_let_go.store(true, Ordering::SeqCst);
     let reply = reply_octets(session)?;
     for _ in 0..ASKS {
-        session.asks(b"ARTICLE <1@a.example>")?;
+        session.asks(ASKED)?;
     }
     session.asks(b"QUIT")?;
-    writer.send(session.shared);
+    session.writer().send(session.shared);
     stop.has_ended.store(true, Ordering::SeqCst);
-    let others = (GREETING.len() + ASKED.len() + RECEIVED.len() + BYE.len()) as u64;
+    let others = (GREETING.len() + BYE.len()) as u64;
     reply
         .checked_mul(ASKS)?
         .checked_add(filled)?
         .checked_add(others)
 }
 
-/// How many octets the reply with the article has.
+/// How many octets the reply to that has.
 fn reply_octets<R: Wait, K: Kern, G: Gate>(session: &Session<'_, R, K, G>) -> Option<u64> {
-    let alloc = session.shared.alloc;
-    let line = Text::new(b"ARTICLE <1@a.example>".to_vec(alloc).ok()?);
-    let mut ready = ReadyBuf::new(alloc).ok()?;
-    let message = Message::Line(line);
-    let kern = session.shared.kern;
-    kern.answer(
-        session.rt(),
+    let Shared {
+        rt,
         alloc,
-        session.stage.sid,
-        &message,
-        MOMENT,
-        &mut ready,
-    )
-    .ok()?;
+        kern,
+        ..
+    } = session.shared;
+    let message = Message::Line(Text::new(ASKED.to_vec(*alloc).ok()?));
+    let mut ready = ReadyBuf::new(*alloc).ok()?;
+    let sid = session.stage.sid;
+    kern.answer(*rt, *alloc, sid, &message, MOMENT, &mut ready)
+        .ok()?;
     Some(ready.octets().len() as u64)
 }
 
 /// Once the socket is full, takes a little again and again, until the socket ends, and then all that is left. How many octets that were.
 fn take_slowly<R: Wait>(rt: &R, caller: Caller, stop: &Stop) -> Option<u64> {
-    if !wait_for(rt, &stop.is_let_go) {
-        return None;
-    }
+    wait_for(rt, &stop.is_let_go)?;
     let mut caller = caller;
     let mut piece = [0; LITTLE];
     let mut taken = 0u64;

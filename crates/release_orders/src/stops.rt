@@ -12,15 +12,15 @@ const LOOKS: u32 = 10_000;
 /// A thread that was let go on has so many milliseconds to come to the lock.
 pub(crate) const PAUSE_MILLIS: u64 = 20;
 
-/// Waits until a flag is set. It is false at the limit.
-pub(crate) fn wait_for<R: Wait>(rt: &R, flag: &AtomicBool) -> bool {
+/// Waits until a flag is set. `None` at the limit.
+pub(crate) fn wait_for<R: Wait>(rt: &R, flag: &AtomicBool) -> Option<()> {
     for _ in 0..LOOKS {
         if flag.load(Ordering::SeqCst) {
-            return true;
+            return Some(());
         }
         pause(rt, 1);
     }
-    false
+    None
 }
 
 /// Waits so many milliseconds.
@@ -84,7 +84,7 @@ impl Stop {
             return;
         }
         self.is_reached.store(true, Ordering::SeqCst);
-        wait_for(rt, &self.is_done);
+        let _ = wait_for(rt, &self.is_done);
         pause(rt, PAUSE_MILLIS);
     }
 }
