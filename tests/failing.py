@@ -38,17 +38,24 @@ def see_that_it_serves_again(volume, number):
         assert caller.post(article(number)) == "240 Article received"
 
 
-def a_failing_device_ends_the_server(volume):
-    volume.make_group()
-    with volume.serve() as server, server.call() as caller, server.call() as other:
+def fault_ends(volume, server, fail):
+    """The device fails by this call. The next caller is told that the service ends, and what was not acknowledged is not; the volume
+    serves again afterwards."""
+    with server, server.call() as caller, server.call() as other:
         assert caller.post(article(1)) == "240 Article received"
         settled_octets(volume.path)
-        server.have_writes_fail()
+        fail()
         other.send(b"POST\r\n" + article(2))
         call_until_the_end(server)
         assert other.line() == "340 Send article" and other.has_ended()
         assert server.end() == FAULT
     see_that_it_serves_again(volume, 3)
+
+
+def a_failing_device_ends_the_server(volume):
+    volume.make_group()
+    server = volume.serve()
+    fault_ends(volume, server, server.have_writes_fail)
 
 
 def a_failed_sync_ends_the_server(volume):
@@ -56,15 +63,8 @@ def a_failed_sync_ends_the_server(volume):
     if not can_trace():
         raise Skipped("no program can be traced")
     volume.make_group()
-    with volume.serve(by=[sys.executable, "-B", SYNCS]) as server, server.call() as caller, server.call() as other:
-        assert caller.post(article(1)) == "240 Article received"
-        settled_octets(volume.path)
-        os.kill(server.process.pid, signal.SIGUSR1)
-        other.send(b"POST\r\n" + article(2))
-        call_until_the_end(server)
-        assert other.line() == "340 Send article" and other.has_ended()
-        assert server.end() == FAULT
-    see_that_it_serves_again(volume, 3)
+    server = volume.serve(by=[sys.executable, "-B", SYNCS])
+    fault_ends(volume, server, lambda: os.kill(server.process.pid, signal.SIGUSR1))
 
 
 def without_descriptors_a_caller_is_told(volume):
