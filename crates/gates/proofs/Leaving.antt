@@ -24,7 +24,8 @@ same_octet at octet image low is = ext_get_or 0 (overwritten at (octet ∷ []) i
     each k within = elim (cases_order k at) [
       | inl here ↦
           let none : k - at ≡ 0 = omega (arith, here) in
-          overwritten_inside at (octet ∷ []) image fits k 0 (omega (arith, here)) (omega (arith, here)) ∙ ap (λ (n : ℕ). get_or (octet ∷ []) n 0) none ∙ is ∙ ap (λ (n : ℕ). get_or image n 0) (sym here)
+          overwritten_inside at (octet ∷ []) image fits k 0 (omega (arith, here)) (omega (arith, here))
+          ∙ ap (λ (n : ℕ). get_or (octet ∷ []) n 0) none ∙ is ∙ ap (λ (n : ℕ). get_or image n 0) (sym here)
       | inr ordered ↦ elim ordered [
         | inl below ↦ overwritten_below at (octet ∷ []) image fits k 0 below
         | inr above ↦ overwritten_above at (octet ∷ []) image fits k 0 (omega (arith, above))
@@ -103,7 +104,8 @@ module _ (first now next : Device) (at octet : ℕ) (its : IsItsGate first at oc
       let under = partly.crash t torn.0 torn.1 in
       (under.0, (under.1.0, torn_once_more first at under.0 torn.0 c (its.gate t) under.1.1 torn.2))
 
-  since_then : (result : Result (Unit {0}) DiskError) → Writes at (octet ∷ []) result now next → IsTrue first.tells → (t : ℕ) (c : List ℕ) → t ≤ first.clock → next.left_since t c → first.left_since t c ⊎ MayLeaveTorn first c
+  since_then : (result : Result (Unit {0}) DiskError) → Writes at (octet ∷ []) result now next → IsTrue first.tells → (t : ℕ) (c : List ℕ)
+      → t ≤ first.clock → next.left_since t c → first.left_since t c ⊎ MayLeaveTorn first c
   since_then result did t time c before left =
       ⊎_elim (λ earlier. partly.since t time c before earlier) (λ torn. inr (torn_then t c torn))
       (did.since (now_tells first now partly t) time c (omega (arith, before, partly.time.later)) left)
@@ -237,7 +239,9 @@ module _ (D : Type 0) (device : D → Device) (sized : (d : D) → IsTrue (devic
       (λ k low. let place : s + suc k ≡ s + 1 + k = omega arith in subst (λ (n : ℕ). IsItsGate (device first) (gate_at n) (get_or octets k 0)) place (its (suc k) (omega (arith, low))))
       (one_more_write (device first) (device now) (device did.0) (gate_at s) octet (here s octet octets its) partly did.1.0) did.1.1
     where
-      here : (s octet : ℕ) (octets : List ℕ) → ((k : ℕ) → k < length (octet ∷ octets) → IsItsGate (device first) (gate_at (s + k)) (get_or (octet ∷ octets) k 0)) → IsItsGate (device first) (gate_at s) octet
+      here : (s octet : ℕ) (octets : List ℕ)
+          → ((k : ℕ) → k < length (octet ∷ octets) → IsItsGate (device first) (gate_at (s + k)) (get_or (octet ∷ octets) k 0))
+          → IsItsGate (device first) (gate_at s) octet
       here s octet octets its = let none : s + 0 ≡ s = omega arith in subst (λ (n : ℕ). IsItsGate (device first) (gate_at n) octet) none (its 0 (omega arith))
   go first (octet ∷ octets) s (Ok x) now new its partly (inr refused) = absurd (no_err x refused.0)
     where

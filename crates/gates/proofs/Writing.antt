@@ -23,15 +23,20 @@ module _ {D : Type 0} (device : D → Device) where
   starts octets d = record { continues = λ result last made. made; size = refl }
 
   -- one more good write
-  pub goes_on : (octets : List ℕ) (i : ℕ) (first now next : D) → i < length octets → IsWriting octets i first now → Writes (gate_at i) (get_or octets i 0 ∷ []) (Ok tt) (device now) (device next) → IsWriting octets (i + 1) first next
+  pub goes_on : (octets : List ℕ) (i : ℕ) (first now next : D) → i < length octets → IsWriting octets i first now
+      → Writes (gate_at i) (get_or octets i 0 ∷ []) (Ok tt) (device now) (device next) → IsWriting octets (i + 1) first next
   goes_on octets i first now next low so_far did = record {
     continues = λ result last made. so_far.continues result last (subst (λ (calls : List Call). Makes device calls result now last) (sym (writes_at octets i low)) (inl (next, (did, made))));
     size = did.time.size ∙ so_far.size;
   }
 
   -- a write that was refused
-  pub ends_early : (octets : List ℕ) (i : ℕ) (first now next : D) (e : DiskError) → i < length octets → IsWriting octets i first now → Writes (gate_at i) (get_or octets i 0 ∷ []) (Err e) (device now) (device next) → Makes device (writes_from 0 octets) (Err e) first next
-  ends_early octets i first now next e low so_far did = so_far.continues (Err e) next (subst (λ (calls : List Call). Makes device calls (Err e) now next) (sym (writes_at octets i low)) (inr (refl, did)))
+  pub ends_early : (octets : List ℕ) (i : ℕ) (first now next : D) (e : DiskError) → i < length octets → IsWriting octets i first now
+      → Writes (gate_at i) (get_or octets i 0 ∷ []) (Err e) (device now) (device next)
+      → Makes device (writes_from 0 octets) (Err e) first next
+  ends_early octets i first now next e low so_far did =
+      so_far.continues (Err e) next
+      (subst (λ (calls : List Call). Makes device calls (Err e) now next) (sym (writes_at octets i low)) (inr (refl, did)))
 
   -- all of them
   pub ends : (octets : List ℕ) (i : ℕ) (first now : D) → length octets ≤ i → IsWriting octets i first now → Makes device (writes_from 0 octets) (Ok tt) first now

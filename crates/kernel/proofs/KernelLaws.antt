@@ -1,5 +1,6 @@
 -- Each call keeps what the lock keeps.
-use Rattle.std.proofs.Common.{◌≡◌, ◌≢◌, ◌⊎◌, inl, inr, ℕ, zero, suc, ◌+◌, ◌-◌, ◌≤◌, ◌<◌, ◌==◌, Bool, true, false, List, [], ◌∷◌, ◌++◌, length, refl, ap, sym, ◌∙◌, subst, arith, get_or, set, length-append, append-nil}
+use Rattle.std.proofs.Common.{◌≡◌, ◌≢◌, ◌⊎◌, inl, inr, ℕ, zero, suc, ◌+◌, ◌-◌, ◌≤◌, ◌<◌, ◌==◌, Bool, true, false, List, [], ◌∷◌, ◌++◌}
+use Rattle.std.proofs.Common.{length, refl, ap, sym, ◌∙◌, subst, arith, get_or, set, length-append, append-nil}
 use Rattle.std.specs.Prelude.{find, Option, Some, None, is_some, IsSome, IfSome, filter, not, slice_get, All, if◌then◌else◌}
 use Rattle.std.specs.Option.{option_to_list}
 use Rattle.std.specs.List.{Contains}
@@ -196,7 +197,8 @@ kept_released s d f halted j seats h =
     }
 
 -- one session gives
-pub kept_gave : (s : SpoolView) (d : ℕ) (f : Option ℕ) (halted : Bool) (j : ℕ) (seats : List Seat) (entries : List Entry) (number : ℕ) → IsKept (kernel_of s d f halted j seats) → IsKept (kernel_of s d f halted j (ready_of d entries number seats).seats)
+pub kept_gave : (s : SpoolView) (d : ℕ) (f : Option ℕ) (halted : Bool) (j : ℕ) (seats : List Seat) (entries : List Entry) (number : ℕ)
+    → IsKept (kernel_of s d f halted j seats) → IsKept (kernel_of s d f halted j (ready_of d entries number seats).seats)
 kept_gave s d f halted j seats entries number h = go (find (λ (seat : Seat). seat.number == number) seats) refl
   where
     after : (seat : Seat) (at : ℕ) → slice_get seats at ≡ Some seat → (ended : Bool) → (given_of d entries seat).ended ≡ ended

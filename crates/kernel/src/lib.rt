@@ -3,11 +3,14 @@
 //! `specs/Kept.antt` what it keeps.
 #![tactic(auto)]
 
-ghost use Rattle.std.specs.Prelude.{[], None, ◌++◌, ◌&&◌, nat_lt, ◌≡◌, ◌≢◌, ◌⊎◌, ◌↔◌, ◌+◌, ◌*◌, ◌<◌, ◌≤◌, Some, IsSome, IsNone, IsTrue, IfOk, IfSome, OnErr, length, true, false, is_some, option_map, slice_get};
+ghost use Rattle.std.specs.Prelude.{[], None, ◌++◌, ◌&&◌, nat_lt, ◌≡◌, ◌≢◌, ◌⊎◌, ◌↔◌, ◌+◌, ◌*◌, ◌<◌, ◌≤◌, Some, IsSome, IsNone, IsTrue};
+ghost use Rattle.std.specs.Prelude.{IfOk, IfSome, OnErr, length, true, false, is_some, option_map, slice_get};
 ghost use Rattle.std.specs.List.{list_all};
 ghost use Rattle.kernel.specs.Errors.{of_join, of_exec, of_admin, of_expire};
 ghost use Rattle.kernel.specs.Kept.{IsKept};
-ghost use Rattle.kernel.specs.Kernel.{Administers, Execs, FitsMode, Takes, Tested, TestedOrMemory, admin_refusal_of, early_refusal, exec_refusal, expire_refusal_of, has_batch, halted_for_good, is_block, join_refusal, joined, left, made_durable, mode_at, only_tested, released, released_of, seat_of};
+ghost use Rattle.kernel.specs.Kernel.{Administers, Execs, FitsMode, Takes, Tested, TestedOrMemory, admin_refusal_of, early_refusal};
+ghost use Rattle.kernel.specs.Kernel.{exec_refusal, expire_refusal_of, has_batch, halted_for_good, is_block, join_refusal, joined, left};
+ghost use Rattle.kernel.specs.Kernel.{made_durable, mode_at, only_tested, released, released_of, seat_of};
 ghost use Rattle.seats.specs.Seats.{holds, ready, ready_of, Seat as SeatView};
 ghost use Rattle.model.specs.Calendar.{moment_limit};
 ghost use Rattle.model.specs.Lawful.{is_description_octet};

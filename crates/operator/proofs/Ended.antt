@@ -1,5 +1,7 @@
 -- A line of known octets, by those that were read of it.
-use Rattle.std.proofs.Common.{◌≡◌, ◌≢◌, ℕ, ◌<◌, ◌≤◌, Bool, true, false, cond, List, [], ◌∷◌, ◌++◌, All, None, Some, IfSome, length, take, refl, sym, ap, ◌∙◌, arith, append_assoc, append-nil, take_all, ne_eqb, length-append, length-take, min, subst, if◌then◌else◌}
+use Rattle.std.proofs.Common.{◌≡◌, ◌≢◌, ℕ, ◌<◌, ◌≤◌, Bool, true, false, cond, List, [], ◌∷◌, ◌++◌, All, None, Some, IfSome, length, take}
+use Rattle.std.proofs.Common.{refl, sym, ap, ◌∙◌, arith, append_assoc, append-nil, take_all, ne_eqb, length-append, length-take, min}
+use Rattle.std.proofs.Common.{subst, if◌then◌else◌}
 use Rattle.std.proofs.lemmas.List.{take-append-le}
 use Rattle.std.proofs.lemmas.List.Elements.{All-head, All-nil, All-push, All-tail, All-take}
 use Rattle.std.proofs.BufReadLemmas.{drop_through-append}

@@ -1,6 +1,6 @@
 //! The octets of one session that have left the kernel, on their way into its socket.
 
-ghost use Rattle.std.specs.Prelude.{◌≤◌, length};
+ghost use Rattle.std.specs.Prelude.{◌≡◌, ◌≤◌, length};
 
 use crate::Shared;
 use flusher::{Gate, Kern};
@@ -181,9 +181,12 @@ fn write_on<R: Wait>(rt: &R, stream: &TcpStream, octets: &[u8], written: &mut us
     unreachable!()
 }
 
-/// Writes what a socket takes in one call, and says how many octets that was.
+/// Writes what a socket takes in one call, and says how many octets that was: all of them where it says `All`, none where it says
+/// `Failed`.
 fn write_once<R: Wait>(rt: &R, stream: &TcpStream, octets: &[u8]) -> (Written, usize)
-    ensures { result.1 ≤ length octets.now }
+    ensures within { result.1 ≤ length octets.now }
+    ensures whole { result.0 ≡ Written.All → result.1 ≡ length octets.now }
+    ensures none { result.0 ≡ Written.Failed → result.1 ≡ 0 }
 {
     let mut stream = stream;
     for _ in rt.forever() {

@@ -7,7 +7,8 @@ use Rattle.seats.specs.Seats.{Seat, given_of, holds, ready_by, ready_of, seat_gi
 use Rattle.seats.specs.Kept.{RiseFrom}
 use Rattle.seats.proofs.SeatsLaws.{RiseFrom-set, filter_at, find_at, find_dropped, set_get, with_seat_set}
 
-module _ (p : ℕ) (entries : List Entry) (seats : List Seat) (at sid : ℕ) (seat : Seat) (rise : RiseFrom 0 seats) (found : (s : Seat) × (slice_get seats at ≡ Some s) × (s.number ≡ sid)) (read : seat ≡ get_or seats at seat) where
+module _ (p : ℕ) (entries : List Entry) (seats : List Seat) (at sid : ℕ) (seat : Seat) (rise : RiseFrom 0 seats) (found : (s : Seat)
+    × (slice_get seats at ≡ Some s) × (s.number ≡ sid)) (read : seat ≡ get_or seats at seat) where
   same : seat ≡ found.0
   same = read ∙ get_or_from_slice_get seats at found.0 seat found.1
 

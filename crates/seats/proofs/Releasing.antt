@@ -125,7 +125,8 @@ module _ (host : Octets) (S : Spool) where
       go tail false false is = whole tail held.ends refl
 
   -- a session that goes on after what it gave
-  pub seat_gives : (joined p room : ℕ) (seat : Seat) → IsSeat host S joined seat → (give p room seat.given seat.held).ended ≡ false → IsSeat host S joined (seat_given seat (give p room seat.given seat.held))
+  pub seat_gives : (joined p room : ℕ) (seat : Seat) → IsSeat host S joined seat → (give p room seat.given seat.held).ended ≡ false
+      → IsSeat host S joined (seat_given seat (give p room seat.given seat.held))
   seat_gives joined p room seat h is =
       let k = give_is_kept p room seat.given seat.held seat.session h.outputs h.awaits in
       record { outputs = k.outputs; awaits = k.awaits is; lawful = h.lawful; some = h.some; spent = h.spent }

@@ -56,7 +56,8 @@ find_at n (suc at) (first ∷ seats) seat rise is =
     ap (λ (b : Bool). if b then Some first else find (λ (s : Seat). s.number == seat.number) seats) other ∙ find_at first.number at seats seat rise.1 is
 
 -- the session at a place dropped
-pub filter_at : (n at : ℕ) (seats : List Seat) (seat : Seat) → RiseFrom n seats → slice_get seats at ≡ Some seat → take at seats ++ drop (suc at) seats ≡ filter (λ (s : Seat). not (s.number == seat.number)) seats
+pub filter_at : (n at : ℕ) (seats : List Seat) (seat : Seat) → RiseFrom n seats → slice_get seats at ≡ Some seat
+    → take at seats ++ drop (suc at) seats ≡ filter (λ (s : Seat). not (s.number == seat.number)) seats
 filter_at n at [] seat rise is = absurd (cc is)
 filter_at n zero (first ∷ seats) seat rise is =
     let same : first ≡ seat = cc is in
@@ -83,7 +84,8 @@ pub find_place : (number : ℕ) (seats : List Seat) (seat : Seat) → find (λ (
 find_place number [] seat is = absurd (cc is)
 find_place number (first ∷ seats) seat is = go (first.number == number) is (find_place number seats seat)
   where
-    go : (b : Bool) → (if b then Some first else find (λ (s : Seat). s.number == number) seats) ≡ Some seat → (find (λ (s : Seat). s.number == number) seats ≡ Some seat → (at : ℕ) × (slice_get seats at ≡ Some seat))
+    go : (b : Bool) → (if b then Some first else find (λ (s : Seat). s.number == number) seats) ≡ Some seat
+        → (find (λ (s : Seat). s.number == number) seats ≡ Some seat → (at : ℕ) × (slice_get seats at ≡ Some seat))
         → (at : ℕ) × (slice_get (first ∷ seats) at ≡ Some seat)
     go true e later = (0, e)
     go false e later = let l = later e in (suc l.0, l.1)

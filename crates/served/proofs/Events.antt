@@ -377,7 +377,9 @@ IsServed-leaves served number h = go (seat_of served.kernel number) refl
 abbrev pub gives : ServedView → Ready → ServedView
 gives served given = record served { kernel = record served.kernel { seats = given.seats }; sessions = with_released served.sessions given.entries; ready = given.entries }
 
-pub IsServed-gives : (served : ServedView) (given : Ready) → AreKnown served.sessions given.entries → ((k : ℕ) → GivenTo served.kernel.durable (seat_of served.kernel k) (seat_in given.seats k) (given_in k given.entries)) → IsServed served
+pub IsServed-gives : (served : ServedView) (given : Ready) → AreKnown served.sessions given.entries
+    → ((k : ℕ) → GivenTo served.kernel.durable (seat_of served.kernel k) (seat_in given.seats k) (given_in k given.entries))
+    → IsServed served
     → IsServed (gives served given) × (account (gives served given) ≡ account served)
 IsServed-gives served given known gave h = (
   from_stands (gives served given) (length-with_released served.sessions given.entries ∙ h.numbers) h.opening h.durable
@@ -402,7 +404,9 @@ IsServed-gives served given known gave h = (
     inputs : arrived_at (gives served given) ≡ arrived_at served
     inputs = same_functions (arrived_at (gives served given)) (arrived_at served) arrived
 
-    each : (k : ℕ) → IsSession host served.kernel.durable (option_map (sent_more (given_in k given.entries)) (session_at served.sessions k)) (seat_in given.seats k) ((account served).server.connections k) ((account served).outputs k)
+    each : (k : ℕ) → IsSession host served.kernel.durable
+        (option_map (sent_more (given_in k given.entries)) (session_at served.sessions k)) (seat_in given.seats k)
+        ((account served).server.connections k) ((account served).outputs k)
     each k =
         IsSession-releases host served.kernel.durable (session_at served.sessions k) (seat_of served.kernel k) (seat_in given.seats k) (given_in k given.entries) _ _
         (outputs_are_filled (service host) (lawful host) (first_spool served) (arrived_at served) served.trace k)

@@ -157,7 +157,9 @@ room_more seats old now new place number h sent input is here others =
     }
 
 -- the room that was made serves for what is given
-given_room : (seats : List Seat) (durable : ℕ) (peers : List Peer) (given : Ready) → ((k : ℕ) → Given durable (seat_in seats k) (seat_in given.seats k) (given_in k given.entries)) → ((k : ℕ) → length (given_in k given.entries) ≤ 65536)
+given_room : (seats : List Seat) (durable : ℕ) (peers : List Peer) (given : Ready)
+    → ((k : ℕ) → Given durable (seat_in seats k) (seat_in given.seats k) (given_in k given.entries))
+    → ((k : ℕ) → length (given_in k given.entries) ≤ 65536)
     → ((k : ℕ) (seat : Seat) → slice_get seats k ≡ Some seat → HasRoom peers seat.number 65536) → HaveRoom peers (λ number. length (given_in number given.entries))
 given_room seats durable peers given gives short room number peer at = go (seat_in seats number) refl (gives number)
   where
@@ -172,8 +174,12 @@ given_room seats durable peers given gives short room number peer at = go (seat_
         let few : length octets ≤ 65536 = short number in
         omega arith
 
-pub ready_room : (seats : List Seat) (durable : ℕ) (peers : List Peer) → RiseFrom 0 seats → ((k : ℕ) (seat : Seat) → slice_get seats k ≡ Some seat → HasRoom peers seat.number 65536) → HaveRoom peers (λ number. length (given_in number (ready durable 65536 seats).entries))
+pub ready_room : (seats : List Seat) (durable : ℕ) (peers : List Peer) → RiseFrom 0 seats
+    → ((k : ℕ) (seat : Seat) → slice_get seats k ≡ Some seat → HasRoom peers seat.number 65536)
+    → HaveRoom peers (λ number. length (given_in number (ready durable 65536 seats).entries))
 ready_room seats durable peers rise = given_room seats durable peers (ready durable 65536 seats) (ready_gives 0 durable 65536 seats rise) (ready_short durable 65536 seats)
 
-pub one_room : (seats : List Seat) (durable : ℕ) (number : ℕ) (peers : List Peer) → ((k : ℕ) (seat : Seat) → slice_get seats k ≡ Some seat → HasRoom peers seat.number 65536) → HaveRoom peers (λ k. length (given_in k (ready_of durable [] number seats).entries))
+pub one_room : (seats : List Seat) (durable : ℕ) (number : ℕ) (peers : List Peer)
+    → ((k : ℕ) (seat : Seat) → slice_get seats k ≡ Some seat → HasRoom peers seat.number 65536)
+    → HaveRoom peers (λ k. length (given_in k (ready_of durable [] number seats).entries))
 one_room seats durable number peers = given_room seats durable peers (ready_of durable [] number seats) (one_gives durable [] number seats) (one_short durable [] number seats)

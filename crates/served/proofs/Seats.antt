@@ -212,16 +212,24 @@ given_nothing p (Some seat) =
     let none : give p 0 seat.given seat.held ≡ nothing_more 0 seat.given seat.held = give-full p 0 seat.given seat.held refl in
     (0, ap (seat_after seat) (sym none), ap (λ (g : Giving). g.octets) (sym none))
 
-pub one_gives : (p : ℕ) (entries : List Entry) (number : ℕ) (seats : List Seat) (k : ℕ) → Given p (seat_in seats k) (seat_in (ready_of p entries number seats).seats k) (given_in k (ready_of p entries number seats).entries)
+pub one_gives : (p : ℕ) (entries : List Entry) (number : ℕ) (seats : List Seat) (k : ℕ)
+    → Given p (seat_in seats k) (seat_in (ready_of p entries number seats).seats k) (given_in k (ready_of p entries number seats).entries)
 one_gives p entries number seats k = go (seat_in seats number) refl
   where
-    found : (seat : Seat) → seat_in seats seat.number ≡ Some seat → Given p (seat_in seats k) (seat_in (ready_by p entries seats (Some seat)).seats k) (given_in k (ready_by p entries seats (Some seat)).entries)
+    found : (seat : Seat) → seat_in seats seat.number ≡ Some seat
+        → Given p (seat_in seats k) (seat_in (ready_by p entries seats (Some seat)).seats k)
+        (given_in k (ready_by p entries seats (Some seat)).entries)
     found seat is =
         by_number (λ j. Given p (seat_in seats j) (seat_in (ready_by p entries seats (Some seat)).seats j) (given_in j (ready_by p entries seats (Some seat)).entries)) seat.number
         (subst (λ o. Given p o (seat_in (ready_by p entries seats (Some seat)).seats seat.number) (given_in seat.number (entry_of seat.number g))) (sym is)
         (65536 - octets_in entries, after g.ended seat.number ∙ updated-same (seat_in seats) seat.number (seat_after seat g), given_in-own seat.number g))
         (λ j differs. subst (λ (t : Option Seat × List ℕ). Given p (seat_in seats j) t.0 t.1)
-        (λ i. (sym (after g.ended j ∙ updated-other (seat_in seats) seat.number j (seat_after seat g) differs) i, sym (given_in-other j seat.number g (eqb-other seat.number j (λ e. differs (sym e)))) i))
+        (λ i. (
+          sym (after g.ended j
+              ∙ updated-other (seat_in seats) seat.number j (seat_after seat g) differs) i,
+          sym
+              (given_in-other j seat.number g (eqb-other seat.number j (λ e. differs (sym e)))) i,
+        ))
         (given_nothing p (seat_in seats j)))
         k
       where

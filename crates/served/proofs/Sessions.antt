@@ -179,7 +179,9 @@ ready_known host S joined p room sessions (seat ∷ seats) long h =
     (AreKnown-own sessions seat.number (give p room seat.given seat.held) (session_at-some sessions seat.number this.some (omega (arith, this.spent))))
     (ready_known host S joined p (give p room seat.given seat.held).room sessions seats long (All-tail (IsSeat host S joined) seat seats h))
 
-pub one_known : (host : List ℕ) (S : List Change) (joined p : ℕ) (entries : List Entry) (number : ℕ) (sessions : List Sent) (seats : List Seat) → length sessions ≡ joined → All (IsSeat host S joined) seats → AreKnown sessions (ready_of p entries number seats).entries
+pub one_known : (host : List ℕ) (S : List Change) (joined p : ℕ) (entries : List Entry) (number : ℕ) (sessions : List Sent)
+    (seats : List Seat) → length sessions ≡ joined → All (IsSeat host S joined) seats
+    → AreKnown sessions (ready_of p entries number seats).entries
 one_known host S joined p entries number sessions seats long h = go (seat_in seats number) refl
   where
     go : (o : Option Seat) → seat_in seats number ≡ o → AreKnown sessions (ready_by p entries seats o).entries

@@ -353,7 +353,9 @@ sound_leaves served inputs number h =
 
 -- ---- a release
 
-sound_gives : (served : ServedView) (inputs : List Input) (given : Ready) → AreKnown served.sessions given.entries → ((k : ℕ) → Given served.kernel.durable (seat_of served.kernel k) (seat_in given.seats k) (given_in k given.entries)) → IsSound served inputs
+sound_gives : (served : ServedView) (inputs : List Input) (given : Ready) → AreKnown served.sessions given.entries
+    → ((k : ℕ) → Given served.kernel.durable (seat_of served.kernel k) (seat_in given.seats k) (given_in k given.entries))
+    → IsSound served inputs
     → IsSound (gives served given) inputs
 sound_gives served inputs given known gave h =
     let next = IsServed-gives served given known gave h.beside in

@@ -76,9 +76,13 @@ pub sound_release : {D E : Type 0} (tells : Bool) (old : WorldView D) (served : 
 sound_release tells old served ticket (Ok x) kept ok err h = sound_grows tells old served ticket kept (Grows-seats (kernel_of old) served.kernel (kernel_of old).joined _ (ap (λ (s : ServedView). s.kernel) ok)) h
 sound_release tells old served ticket (Err e) kept ok err h = sound_same tells old served ticket err h
 
-pub sound_release_of : {D E : Type 0} (tells : Bool) (old : WorldView D) (served : ServedView) (number : ℕ) (ticket : Option Ticket) (r : Result (Unit {0}) E) → IsKept (kernel_of old) → OnOk r (served ≡ releases_of old.served number) → OnErr r (served ≡ old.served) → IsSound tells old ticket
+pub sound_release_of : {D E : Type 0} (tells : Bool) (old : WorldView D) (served : ServedView) (number : ℕ) (ticket : Option Ticket)
+    (r : Result (Unit {0}) E) → IsKept (kernel_of old) → OnOk r (served ≡ releases_of old.served number) → OnErr r (served ≡ old.served)
+    → IsSound tells old ticket
     → IsSound tells (with_served old served) ticket
-sound_release_of tells old served number ticket (Ok x) kept ok err h = sound_grows tells old served ticket kept (Grows-seats (kernel_of old) served.kernel (kernel_of old).joined _ (ap (λ (s : ServedView). s.kernel) ok)) h
+sound_release_of tells old served number ticket (Ok x) kept ok err h =
+    sound_grows tells old served ticket kept
+    (Grows-seats (kernel_of old) served.kernel (kernel_of old).joined _ (ap (λ (s : ServedView). s.kernel) ok)) h
 sound_release_of tells old served number ticket (Err e) kept ok err h = sound_same tells old served ticket err h
 
 -- ---- Take

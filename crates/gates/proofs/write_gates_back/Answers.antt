@@ -8,4 +8,5 @@ returns-in_ok-count-in-Ok-clause-calls g c =
 
 pub returns-in_ok-count-in-Ok-clause-leaves : goal.returns-in_ok-count-in-Ok-clause-leaves
 returns-in_ok-count-in-Ok-clause-leaves g c =
-    leaves_then (g.D.Disk.device c.args.disk.now) (g.D.Disk.device c.count_gates.new.disk) (g.D.Disk.device c.write_back.new.disk) c.count_gates.ensures.look c.in_ok-count-in-Ok.ensures.seen c.write_back.result c.write_back.ensures.leaves
+    leaves_then (g.D.Disk.device c.args.disk.now) (g.D.Disk.device c.count_gates.new.disk) (g.D.Disk.device c.write_back.new.disk)
+    c.count_gates.ensures.look c.in_ok-count-in-Ok.ensures.seen c.write_back.result c.write_back.ensures.leaves

@@ -11,7 +11,16 @@ sized : (D : Type 0) (device : D → Device) → ((d : D) (image : List ℕ) →
 sized D device law now d t = law d (device d).content t (now d t)
 
 pub invariant_of-self : goal.invariant_of-self
-invariant_of-self g c = record { size = (sync_given g.row.D.Denot g.D.Disk.device (sized g.row.D.Denot g.D.Disk.device g.met.D.Disk.image_size g.met.D.Disk.counts_content) c.self.inside.disk c.give_and_sync.new.disk (places (taken c.self.inside.collected) c.self.inside.len) (let n = length-places (taken c.self.inside.collected) c.self.inside.len in omega (arith, n, c.self.invariant.size)) (Ok tt) (c.in-Ok.ensures c.self.inside.len c.self.invariant.past)).time.size ∙ c.self.invariant.size; past = λ k past. c.clear.ensures.none k }
+invariant_of-self g c =
+    record {
+      size = (sync_given g.row.D.Denot g.D.Disk.device
+          (sized g.row.D.Denot g.D.Disk.device g.met.D.Disk.image_size g.met.D.Disk.counts_content) c.self.inside.disk c.give_and_sync.new.disk
+          (places (taken c.self.inside.collected) c.self.inside.len)
+          (let n = length-places (taken c.self.inside.collected) c.self.inside.len in omega (arith, n, c.self.invariant.size)) (Ok tt)
+          (c.in-Ok.ensures c.self.inside.len c.self.invariant.past)).time.size
+          ∙ c.self.invariant.size;
+      past = λ k past. c.clear.ensures.none k;
+    }
 
 pub returns-in-Ok-clause-calls : goal.returns-in-Ok-clause-calls
 returns-in-Ok-clause-calls g c = rw (← c.self.view_is) (c.in-Ok.ensures c.self.inside.len c.self.invariant.past)
@@ -19,19 +28,45 @@ returns-in-Ok-clause-calls g c = rw (← c.self.view_is) (c.in-Ok.ensures c.self
 pub returns-in-Ok-clause-forgets : goal.returns-in-Ok-clause-forgets
 returns-in-Ok-clause-forgets g c =
     rw (← c.self.view_is)
-    (places_none (taken c.clear.new.self) c.self.inside.len c.clear.ensures.none ∙ ap (λ (n : ℕ). replicate n (let none : Option ℕ = None in none)) (sym (length-places (taken c.self.inside.collected) c.self.inside.len)))
+    (places_none (taken c.clear.new.self) c.self.inside.len c.clear.ensures.none
+    ∙ ap (λ (n : ℕ). replicate n (let none : Option ℕ = None in none))
+    (sym (length-places (taken c.self.inside.collected) c.self.inside.len)))
 
 pub returns-in-Ok-clause-durable : goal.returns-in-Ok-clause-durable
-returns-in-Ok-clause-durable g c = rw (← c.self.view_is) (ok_durable g.row.D.Denot g.D.Disk.device (sized g.row.D.Denot g.D.Disk.device g.met.D.Disk.image_size g.met.D.Disk.counts_content) c.self.inside.disk c.give_and_sync.new.disk (places (taken c.self.inside.collected) c.self.inside.len) (let n = length-places (taken c.self.inside.collected) c.self.inside.len in omega (arith, n, c.self.invariant.size)) (c.in-Ok.ensures c.self.inside.len c.self.invariant.past) (places (taken c.clear.new.self) c.self.inside.len) (get_or-places_none (taken c.clear.new.self) c.self.inside.len c.clear.ensures.none))
+returns-in-Ok-clause-durable g c =
+    rw (← c.self.view_is)
+    (ok_durable g.row.D.Denot g.D.Disk.device (sized g.row.D.Denot g.D.Disk.device g.met.D.Disk.image_size g.met.D.Disk.counts_content)
+    c.self.inside.disk c.give_and_sync.new.disk (places (taken c.self.inside.collected) c.self.inside.len)
+    (let n = length-places (taken c.self.inside.collected) c.self.inside.len in omega (arith, n, c.self.invariant.size))
+    (c.in-Ok.ensures c.self.inside.len c.self.invariant.past) (places (taken c.clear.new.self) c.self.inside.len)
+    (get_or-places_none (taken c.clear.new.self) c.self.inside.len c.clear.ensures.none))
 
 pub returns-in-Ok-clause-content : goal.returns-in-Ok-clause-content
-returns-in-Ok-clause-content g c = rw (← c.self.view_is) (ok_content g.row.D.Denot g.D.Disk.device (sized g.row.D.Denot g.D.Disk.device g.met.D.Disk.image_size g.met.D.Disk.counts_content) c.self.inside.disk c.give_and_sync.new.disk (places (taken c.self.inside.collected) c.self.inside.len) (let n = length-places (taken c.self.inside.collected) c.self.inside.len in omega (arith, n, c.self.invariant.size)) (c.in-Ok.ensures c.self.inside.len c.self.invariant.past) (places (taken c.clear.new.self) c.self.inside.len) (get_or-places_none (taken c.clear.new.self) c.self.inside.len c.clear.ensures.none))
+returns-in-Ok-clause-content g c =
+    rw (← c.self.view_is)
+    (ok_content g.row.D.Denot g.D.Disk.device (sized g.row.D.Denot g.D.Disk.device g.met.D.Disk.image_size g.met.D.Disk.counts_content)
+    c.self.inside.disk c.give_and_sync.new.disk (places (taken c.self.inside.collected) c.self.inside.len)
+    (let n = length-places (taken c.self.inside.collected) c.self.inside.len in omega (arith, n, c.self.invariant.size))
+    (c.in-Ok.ensures c.self.inside.len c.self.invariant.past) (places (taken c.clear.new.self) c.self.inside.len)
+    (get_or-places_none (taken c.clear.new.self) c.self.inside.len c.clear.ensures.none))
 
 pub returns-in-Ok-clause-crash : goal.returns-in-Ok-clause-crash
-returns-in-Ok-clause-crash g c = rw (← c.self.view_is) (ok_crash g.row.D.Denot g.D.Disk.device (sized g.row.D.Denot g.D.Disk.device g.met.D.Disk.image_size g.met.D.Disk.counts_content) c.self.inside.disk c.give_and_sync.new.disk (places (taken c.self.inside.collected) c.self.inside.len) (let n = length-places (taken c.self.inside.collected) c.self.inside.len in omega (arith, n, c.self.invariant.size)) (c.in-Ok.ensures c.self.inside.len c.self.invariant.past) (places (taken c.clear.new.self) c.self.inside.len) (get_or-places_none (taken c.clear.new.self) c.self.inside.len c.clear.ensures.none))
+returns-in-Ok-clause-crash g c =
+    rw (← c.self.view_is)
+    (ok_crash g.row.D.Denot g.D.Disk.device (sized g.row.D.Denot g.D.Disk.device g.met.D.Disk.image_size g.met.D.Disk.counts_content)
+    c.self.inside.disk c.give_and_sync.new.disk (places (taken c.self.inside.collected) c.self.inside.len)
+    (let n = length-places (taken c.self.inside.collected) c.self.inside.len in omega (arith, n, c.self.invariant.size))
+    (c.in-Ok.ensures c.self.inside.len c.self.invariant.past) (places (taken c.clear.new.self) c.self.inside.len)
+    (get_or-places_none (taken c.clear.new.self) c.self.inside.len c.clear.ensures.none))
 
 pub returns-in-Ok-clause-since : goal.returns-in-Ok-clause-since
-returns-in-Ok-clause-since g c = rw (← c.self.view_is) (ok_since g.row.D.Denot g.D.Disk.device (sized g.row.D.Denot g.D.Disk.device g.met.D.Disk.image_size g.met.D.Disk.counts_content) c.self.inside.disk c.give_and_sync.new.disk (places (taken c.self.inside.collected) c.self.inside.len) (let n = length-places (taken c.self.inside.collected) c.self.inside.len in omega (arith, n, c.self.invariant.size)) (c.in-Ok.ensures c.self.inside.len c.self.invariant.past) (places (taken c.clear.new.self) c.self.inside.len) (get_or-places_none (taken c.clear.new.self) c.self.inside.len c.clear.ensures.none))
+returns-in-Ok-clause-since g c =
+    rw (← c.self.view_is)
+    (ok_since g.row.D.Denot g.D.Disk.device (sized g.row.D.Denot g.D.Disk.device g.met.D.Disk.image_size g.met.D.Disk.counts_content)
+    c.self.inside.disk c.give_and_sync.new.disk (places (taken c.self.inside.collected) c.self.inside.len)
+    (let n = length-places (taken c.self.inside.collected) c.self.inside.len in omega (arith, n, c.self.invariant.size))
+    (c.in-Ok.ensures c.self.inside.len c.self.invariant.past) (places (taken c.clear.new.self) c.self.inside.len)
+    (get_or-places_none (taken c.clear.new.self) c.self.inside.len c.clear.ensures.none))
 
 pub returns-in-Ok-clause-time : goal.returns-in-Ok-clause-time
 returns-in-Ok-clause-time g c = rw (← c.self.view_is) (let time = (sync_given g.row.D.Denot g.D.Disk.device (sized g.row.D.Denot g.D.Disk.device g.met.D.Disk.image_size g.met.D.Disk.counts_content) c.self.inside.disk c.give_and_sync.new.disk (places (taken c.self.inside.collected) c.self.inside.len) (let n = length-places (taken c.self.inside.collected) c.self.inside.len in omega (arith, n, c.self.invariant.size)) (Ok tt) (c.in-Ok.ensures c.self.inside.len c.self.invariant.past)).time in record { size = time.size; tells = time.tells; later = time.later })

@@ -33,7 +33,8 @@ invariant_of-into c =
     let now : c.end_entry.new.slots.len ≡ length c.end_entry.new.slots.items = c.end_entry.new.slots.ok.0 in
     record {
       within = given-within b.octets.items c.give_front-ended.new.octets.items b.slots.items c.end_entry.new.slots.items c.args.number c.len-start.result c.len-end.result _ _ _ _ c.into.invariant.within gives start end c.end_entry.ensures.items;
-      along = given-along b.octets.items c.give_front-ended.new.octets.items b.slots.items c.end_entry.new.slots.items c.args.number c.len-start.result c.len-end.result _ _ _ _ c.into.invariant.within gives start end c.end_entry.ensures.items
+      along = given-along b.octets.items c.give_front-ended.new.octets.items b.slots.items c.end_entry.new.slots.items c.args.number
+          c.len-start.result c.len-end.result _ _ _ _ c.into.invariant.within gives start end c.end_entry.ensures.items
           c.into.invariant.along;
       counted = given-counted b.octets.items c.give_front-ended.new.octets.items b.slots.items c.end_entry.new.slots.items c.args.number c.len-start.result c.len-end.result _ _ _ _ c.into.invariant.within gives start end c.end_entry.ensures.items
           c.into.invariant.counted;
