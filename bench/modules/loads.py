@@ -8,7 +8,7 @@ import sys
 import tempfile
 
 HERE = os.path.dirname(os.path.abspath(__file__))
-sys.path.insert(0, os.path.join(HERE, "..", "tests"))
+sys.path.insert(0, os.path.join(HERE, "..", "..", "tests"))
 from newsd import Volume  # noqa: E402
 
 # a volume has room for 32,762 articles: a group takes three inodes, an article one
@@ -56,12 +56,12 @@ class Bench:
     def __init__(self, program, directory, seconds):
         self.program, self.directory, self.seconds = program, directory, seconds
         self.load = self.build("load", ["-pthread"])
-        self.counter = self.build("count", ["-shared", "-fPIC", "-ldl"])
+        self.counter = self.build("device_calls", ["-shared", "-fPIC", "-ldl"])
         self.counts_path = os.path.join(directory, "counts")
 
     def build(self, name, flags):
         made = os.path.join(self.directory, name)
-        source = os.path.join(HERE, "loopback", name + ".c")
+        source = os.path.join(HERE, "..", "c", name + ".c")
         subprocess.run([os.environ.get("CC", "cc"), "-O2", "-o", made, source, *flags], check=True)
         return made
 
