@@ -1,5 +1,5 @@
-/* Counts of a program that this is preloaded into, in the file that NEWSD_COUNTS names: COUNTS numbers, each a uint64_t. Without the file they are
- * lost. A file that includes this defines COUNTS and _GNU_SOURCE first. */
+/* Counts of a program that this is preloaded into, in the file that NEWSD_COUNTS names: COUNTS numbers, each a uint64_t. Without the
+ * file they are lost. A file that includes this defines COUNTS and _GNU_SOURCE first. */
 #include <fcntl.h>
 #include <stdint.h>
 #include <stdlib.h>

@@ -1,5 +1,5 @@
 /* Counts the device calls of the program that it is preloaded into, in the file that NEWSD_COUNTS names: syncs, writes and the
- * octets written, and the nanoseconds that all of these took, each a uint64_t. With NEWSD_NO_SYNC a sync answers at once and does nothing. */
+ * octets written, and the nanoseconds that all of these took. With NEWSD_NO_SYNC a sync answers at once and does nothing. */
 #define _GNU_SOURCE
 #define COUNTS 4
 #include "counts.h"

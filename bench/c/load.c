@@ -179,6 +179,7 @@ int main(int count, char **words) {
         for (long k = 0; k < all[i].count; k++) sum += micros[at++] = all[i].micros[k];
     qsort(micros, (size_t)total, sizeof(double), compare);
     if (!total) fail("no reply in time");
-    printf("%ld %.1f %.1f %.1f %.1f %.1f\n", total, total / seconds, sum / total, micros[total / 2], micros[total * 99 / 100], micros[total - 1]);
+    printf("%ld %.1f %.1f %.1f %.1f %.1f\n", total, total / seconds, sum / total, micros[total / 2], micros[total * 99 / 100],
+        micros[total - 1]);
     return 0;
 }

@@ -18,15 +18,19 @@ def rect(x, y, width, height, fill="#ffffff", stroke="none", round_by=0, dashes=
         x, y, width, height, round_by, fill, stroke, ' stroke-dasharray="%s"' % dashes if dashes else "")
 
 
+def ends(dashes, ends_in_arrow):
+    return ' stroke-dasharray="%s"' % dashes if dashes else "", ' marker-end="url(#arrow)"' if ends_in_arrow else ""
+
+
 def line(x1, y1, x2, y2, stroke=LINE, width=1, dashes="", ends_in_arrow=False):
     return '<line x1="%g" y1="%g" x2="%g" y2="%g" stroke="%s" stroke-width="%g"%s%s/>' % (
-        x1, y1, x2, y2, stroke, width, ' stroke-dasharray="%s"' % dashes if dashes else "", ' marker-end="url(#arrow)"' if ends_in_arrow else "")
+        x1, y1, x2, y2, stroke, width, *ends(dashes, ends_in_arrow))
 
 
 def path(points, stroke=LINE, width=2, dashes="", ends_in_arrow=False):
     joined = " ".join("%g,%g" % point for point in points)
     return '<polyline points="%s" fill="none" stroke="%s" stroke-width="%g"%s%s/>' % (
-        joined, stroke, width, ' stroke-dasharray="%s"' % dashes if dashes else "", ' marker-end="url(#arrow)"' if ends_in_arrow else "")
+        joined, stroke, width, *ends(dashes, ends_in_arrow))
 
 
 def circle(x, y, radius, fill):
