@@ -64,7 +64,7 @@ def each_link_leads_somewhere():
 
 
 def is_there(path):
-    """Whether a path is there, or is none of the repository's. It is said from the top, from the crates, or, of a file, within its crate."""
+    """Whether a path is there, or is none of the repository's. It begins at the top, at the crates or, of a file, within its crate."""
     first, *others = path.split("/")
     if "out" in others or any(STAND_IN.fullmatch(it) for it in others):
         return True
