@@ -22,7 +22,7 @@ SECONDS_OF_AN_END = 3
 
 
 def call_until_the_end(server):
-    """Callers come until one is told that the service ends, which is the server's last."""
+    """Callers come until one learns that the service ends, which is the server's last."""
     greetings = []
     while SERVICE_ENDS not in greetings and len(greetings) < 500:
         with Caller(server.port) as late:
@@ -39,7 +39,7 @@ def see_that_it_serves_again(volume, number):
 
 
 def fault_ends(volume, server, fail):
-    """The device fails by this call. The next caller is told that the service ends, and what was not acknowledged is not; the volume
+    """The device fails by this call. The next caller learns that the service ends, and what was not acknowledged is not; the volume
     serves again afterwards."""
     with server, server.call() as caller, server.call() as other:
         assert caller.post(article(1)) == "240 Article received"
@@ -89,7 +89,7 @@ def without_descriptors_a_caller_is_told(volume):
 
 
 def call_until_refused(server, most):
-    """Callers, so many at most, until one is told that the service ends. The others are served meanwhile."""
+    """Callers come, up to a number, until one learns that the service ends. The others are served meanwhile."""
     served = []
     while True:
         caller = Caller(server.port, seconds=5)
@@ -103,7 +103,7 @@ def call_until_refused(server, most):
 
 
 def end_without_descriptors(server, descriptors):
-    """Where no descriptor is left, the next caller is still told that the service ends, and it does."""
+    """Where no descriptor is left, the next caller still learns that the service ends, and it does."""
     server.limit_descriptors(descriptors)
     poster, *others = call_until_refused(server, 3)
     server.have_writes_fail()
@@ -115,7 +115,7 @@ def end_without_descriptors(server, descriptors):
 
 
 def has_ended_for_a_caller(server):
-    """Whether the server has ended. If not, one more caller comes, who is refused, be it for want of a descriptor or as its last."""
+    """Whether the server has ended. If not, one more caller comes and is refused, for want of a descriptor or as its last."""
     try:
         with Caller(server.port, seconds=5) as late:
             assert late.greeting == SERVICE_ENDS, late.greeting
@@ -125,7 +125,7 @@ def has_ended_for_a_caller(server):
 
 
 def without_memory_a_caller_is_told(volume):
-    """The system gives no more memory: each further caller is served or told that the service ends, and none waits in vain. Whoever
+    """The system gives no more memory: each further caller is served or learns that the service ends, and none waits in vain. Whoever
     is served goes on, and so does everybody once there is memory again."""
     volume.make_group()
     with volume.serve() as server:

@@ -93,7 +93,7 @@ def timed(call, is_right):
 
 
 def sixty_three_deaf_callers(volume):
-    """The one who is served joined first, or last. The rate is compared with that of a server that has no other caller."""
+    """The caller that is served joined first, or last. The rate is compared with that of a server that has no other caller."""
     reply = with_long_article(volume)
     alone = volume.another("alone")
     last = volume.another("last")
@@ -165,7 +165,7 @@ def a_caller_that_quits_and_stays_holds_nobody(volume):
 
 
 def measure_greeting(volume, count, more):
-    """So many callers quit. Where they leave a session free, who has it joined before them."""
+    """Callers quit. Where they leave a session free, the caller that has it joined before them."""
     with volume.serve() as server:
         first = [server.call() for _ in range(SESSIONS - count)]
         quitters = [server.call() for _ in range(count)]
@@ -217,7 +217,7 @@ def ask_short_ones(caller):
 
 
 def endless_lines_cost_little(volume):
-    """As a command, or behind POST. Who joined before them or after them is served meanwhile, and they are served on."""
+    """As a command, or after POST. Callers that joined before or after them are served meanwhile, and they are served on."""
     volume.make_group()
     with volume.serve() as server:
         first = server.call()

@@ -1,4 +1,4 @@
-"""A caller that asks for articles without end, as a process in a session of its own, so that it takes no time of the one who measures."""
+"""A caller that asks for articles without end. It is a process in a session of its own, so it takes no time of the process that measures."""
 import multiprocessing
 import os
 import threading

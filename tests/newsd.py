@@ -35,7 +35,7 @@ def article(number, subject="one", body="hi"):
 
 
 def long_article(number, size):
-    """An article of so many octets as it is stored."""
+    """An article that has this size as it is stored."""
     left = size - len(article(number, body="")) + len(b".\r\n")
     lines, rest = divmod(left, LINE_OCTETS)
     body = ["%070d" % line for line in range(lines)] + ["x" * rest]
@@ -68,7 +68,7 @@ class Volume:
         return Volume(self.program, directory)
 
     def run(self, *words, most_memory=resource.RLIM_INFINITY):
-        """The program on these words, to its end, with so many octets of memory at most."""
+        """Runs the program on these words to its end, with at most this much memory."""
         def limit():
             resource.setrlimit(resource.RLIMIT_AS, (most_memory, most_memory))
         return subprocess.run([self.program, *words], stdin=subprocess.DEVNULL, capture_output=True, timeout=SECONDS, preexec_fn=limit)
@@ -139,7 +139,7 @@ class Server:
         resource.prlimit(self.process.pid, resource.RLIMIT_FSIZE, (4096, 4096))
 
     def limit_memory(self, octets):
-        """From now on the server's address space has at most so many octets; -1 for any number."""
+        """Limits the server's address space from now on; -1 is no limit."""
         resource.prlimit(self.process.pid, resource.RLIMIT_AS, (octets, -1))
 
     def address_space(self):
@@ -170,7 +170,7 @@ class Server:
         return Caller(self.port)
 
     def greet(self, seconds):
-        """A caller that is greeted. Others, who come too early, are told that the service ends."""
+        """A caller that is greeted. Callers that come too early learn that the service ends."""
         end = time.monotonic() + seconds
         while True:
             caller = Caller(self.port, seconds=seconds)
@@ -265,7 +265,7 @@ class Pace:
         self.next = time.monotonic()
 
     def wait(self, count):
-        """Waits until more may be read, and says how many of so many octets."""
+        """Waits until more may be read, and says how many of the octets that were asked for."""
         if self.rate is None:
             return min(count, 65536)
         now = time.monotonic()

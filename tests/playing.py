@@ -88,7 +88,7 @@ def too_long(*_):
 
 
 def play(program, test, place, seconds):
-    """How a test ends, in so many seconds at most: the word by which it counts, and why it was skipped."""
+    """How a test ends within its seconds: the word by which it counts, and why it was skipped."""
     try:
         with tempfile.TemporaryDirectory(prefix="newsd-", dir=place) as directory:
             signal.alarm(seconds)

@@ -1,5 +1,5 @@
 #!/usr/bin/env python3
-"""System tests of `newsd serve`: what callers and the operator are told. serving.py NEWSD [NAME..]"""
+"""System tests of `newsd serve`: what callers and the operator learn. serving.py NEWSD [NAME..]"""
 import datetime
 import random
 import socket
@@ -58,7 +58,7 @@ def a_caller_that_sends_no_more_is_told_all(volume):
 
 
 def long_replies_come_whole_beside_posts(volume):
-    """Each reply is longer than a release, and those that one caller asks for at once are more than a session may hold."""
+    """Each reply is longer than a release, and one caller asks for more at once than a session may hold."""
     volume.make_group()
     text = article("long", body="\r\n".join(["x" * 70] * 2800))
     whole, posted = [], []

@@ -1,5 +1,5 @@
 #!/usr/bin/env python3
-"""System tests of callers who read slowly, or send no more: each is told all. slow_readers.py NEWSD [NAME..]"""
+"""System tests of callers that read slowly or send no more: each gets every reply. slow_readers.py NEWSD [NAME..]"""
 import socket
 import sys
 import threading
@@ -15,7 +15,7 @@ LONG_WINDOW = 240
 
 
 def a_slow_reader_gets_all(volume):
-    """Slow callers join before one who is served meanwhile, and after it. It takes a minute, in which nobody is busy."""
+    """Slow callers join before one that is served meanwhile, and after it. It takes a minute, in which nobody is busy."""
     volume.make_group()
     largest, long = long_article("largest", LARGEST), long_article("long", 250_000)
     assert len(largest) == LARGEST + len(b".\r\n")
@@ -48,8 +48,8 @@ def a_slow_reader_gets_all(volume):
 
 
 def who_takes_little_is_not_let_go(volume):
-    """A server may let go who takes nothing for three minutes (RFC 3977, 3.1). It may not take for that a caller so slow that the system
-    reports nothing of it for as long: its buffer of what is sent may have room only once a third of it is free."""
+    """A server may let a caller go that takes nothing for three minutes (RFC 3977, 3.1). It may not let a slow one go for which the system
+    reports nothing for as long: its buffer of what is sent may have room only once a third of it is free."""
     volume.make_group()
     long = long_article("long", 250_000)
     with volume.serve() as server:
@@ -109,7 +109,7 @@ def a_half_closed_caller_gets_all(volume):
 
 
 def post_and_read_and_close(server, number):
-    """The reply to the post waits for a commit, and those behind it wait with it."""
+    """The reply to the post waits for a commit, and those after it wait with it."""
     text = long_article(number, 20_000)
     with server.call() as caller:
         named = message_id(number).encode()

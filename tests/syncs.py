@@ -1,6 +1,6 @@
 """Counts the writes and syncs of a program by tracing it, or has one sync fail, with python3 alone. x86-64 and arm64 of Linux.
 
-syncs.py PROGRAM [WORD..] runs a program to its end. Of the first sync that ends after the signal SIGUSR1 the program is told that it
+syncs.py PROGRAM [WORD..] runs a program to its end. Of the first sync that ends after the signal SIGUSR1 the program learns that it
 failed."""
 import ctypes
 import errno
@@ -131,7 +131,7 @@ def have_failed(pid):
 
 
 def registers_of(pid):
-    """The registers of a stopped thread, and how the system is told where they are."""
+    """The registers of a stopped thread, and how the system learns where they are."""
     registers = (ctypes.c_ulonglong * 40)()
     part = Part(ctypes.cast(registers, ctypes.c_void_p), ctypes.sizeof(registers))
     LIBC.ptrace(GETREGSET, pid, REGISTERS, ctypes.byref(part))

@@ -115,7 +115,7 @@ def a_server_has_4096_groups_at_most(volume):
 
 
 def a_group_takes_no_article_that_its_overview_has_no_room_for(volume):
-    """The last one that it takes begins at most 4,222,976 octets behind the start of its overview."""
+    """The last one that it takes begins at most 4,222,976 octets after the start of its overview."""
     references = " ".join("<%s@a.example>" % (letter * 200) for letter in "abcdefghijklmnopqrstuvwxyzABCDEFGHIJ")
     lines = ["group %s y %d test" % (name, MOMENT) for name in (GROUP, "x.b")] + ["commit", "settle", "join"]
 

@@ -1,4 +1,4 @@
-"""Writes pictures as SVG, and checks that those that stand are what their script draws."""
+"""Writes pictures as SVG, and checks that the files are what their script draws."""
 import os
 import sys
 from html import escape
@@ -38,7 +38,7 @@ def circle(x, y, radius, fill):
 
 
 def picture(width, height, title, parts):
-    """The octets of a picture. The title is read out where it can't be seen."""
+    """The text of a picture. The title is read out where the picture can't be seen."""
     arrow = ('<defs><marker id="arrow" viewBox="0 0 10 10" refX="9" refY="5" markerWidth="7" markerHeight="7" orient="auto-start-reverse">'
              '<path d="M 0 0 L 10 5 L 0 10 z" fill="%s"/></marker></defs>' % FAINT)
     head = '<svg xmlns="http://www.w3.org/2000/svg" width="%g" height="%g" viewBox="0 0 %g %g" role="img" font-family="%s">' % (
@@ -48,8 +48,8 @@ def picture(width, height, title, parts):
 
 
 def draw_or_check(folder, pictures):
-    """Writes the pictures, which are pairs of a file's name and its octets; with the word --check, says which of them stand otherwise.
-    The status of the script."""
+    """Writes the pictures, which are pairs of a file's name and its text. With the word --check it writes none, and says which files have
+    another text. Returns the status of the script."""
     if sys.argv[1:] not in ([], ["--check"]):
         print("%s [--check]" % sys.argv[0], file=sys.stderr)
         return 2
