@@ -1,4 +1,4 @@
-"""A caller that asks for articles without end. It is a process in a session of its own, so it takes no time of the process that measures."""
+"""A caller that asks for articles without end. Its process has a session of its own, so it takes no time of the one that measures."""
 import multiprocessing
 import os
 import threading
