@@ -24,8 +24,7 @@ use Rattle.fs_layout.specs.Table.{Makes}
 use Rattle.fs_layout.proofs.Entries.{zero_at}
 use Rattle.fs.proofs.Emptying.{makes_empty}
 use Rattle.new_volume.specs.Laws.{AnImageStands, EachHostHasAnImage}
-use Rattle.new_volume.proofs.Emptied.{IsZero, all_zero, is_zero_block, part_zero, zero_block_size, zero_block_zero}
-use Rattle.new_volume.proofs.Formed.{Sized, sized}
+use Rattle.new_volume.proofs.Emptied.{IsZero, Sized, is_zero_block, makes, many, part_zero, sized, zero_block_size, zero_block_zero}
 
 -- ---- the first block is written at home, while no segment is open
 
@@ -122,22 +121,6 @@ module _ (segments : ℕ) (counts : (segments ≡ 1) ⊎ (segments ≡ 8)) (bloc
 -- ---- the first block is the bitmap of the empty file system
 
 module _ (blocks inodes : ℕ) (its : Sized blocks inodes) (bitmap : Octets) (whole : length bitmap ≡ 4096) (front : IsFront (first_data inodes) bitmap) (host : Octets) (named : IsTrue (is_host host)) where
-  many : length (zeroed blocks) ≡ blocks
-  many = length-replicate blocks zero_block
-
-  room : HasRoom inodes (zeroed blocks)
-  room = record {
-    some = its.some;
-    few = its.few;
-    whole = its.whole;
-    room = omega (arith, its.room, its.whole, many);
-    count_few = omega (arith, its.high, many);
-    blocks_whole = All-replicate (λ b. length b ≡ 4096) blocks zero_block zero_block_size;
-  }
-
-  makes : Makes inodes (replicate inodes None) (set (zeroed blocks) 0 bitmap)
-  makes = makes_empty inodes (zeroed blocks) bitmap room (all_zero blocks) whole front
-
   short : length host ≤ 64
   short = leb-true (length host) 64 (and_parts (nat_le (length host) 64) _ named).0
 
@@ -145,12 +128,13 @@ module _ (blocks inodes : ℕ) (its : Sized blocks inodes) (bitmap : Octets) (wh
   label_whole = omega (arith, short, length-append host (replicate (123 - length host) 0), length-replicate {A = ℕ} (123 - length host) 0)
 
   labelled : IsLabel (label_octets inodes host) (length (set (zeroed blocks) 0 bitmap)) inodes host
-  labelled = record { octets = refl; host_is = named; some = its.some; few = its.few; whole = its.whole; room = omega (arith, its.room, length-set (zeroed blocks) 0 bitmap, many) }
+  labelled = record { octets = refl; host_is = named; some = its.some; few = its.few; whole = its.whole; room = omega (arith, its.room, length-set (zeroed blocks) 0 bitmap, many blocks inodes its bitmap whole front) }
 
   pub new_image : (image : Octets) × Stands host image []
   new_image =
+      let made = makes blocks inodes its bitmap whole front in
       let volume = volume_with 8 (inr refl) blocks (label_octets inodes host) bitmap its.low its.high label_whole whole in
-      (volume.0, empty_stands host volume.0 (label_octets inodes host) inodes (set (zeroed blocks) 0 bitmap) volume.1 labelled makes.rule makes.files_are)
+      (volume.0, empty_stands host volume.0 (label_octets inodes host) inodes (set (zeroed blocks) 0 bitmap) volume.1 labelled made.rule made.files_are)
 
 -- ---- a bitmap whose first four bits are set
 

@@ -1,6 +1,7 @@
 -- The calls of a batch, from the first to the last.
-use Rattle.std.proofs.Common.{◌≡◌, ◌≢◌, ◌⊎◌, inl, inr, ◌<◌, ◌+◌, ◌-◌, ℕ, Bool, true, false, eqb, if◌then◌else◌, IsTrue, List, length, refl, sym, ◌∙◌, ap, subst, arith, Ok, Err}
+use Rattle.std.proofs.Common.{◌≡◌, ◌≢◌, ◌⊎◌, inl, inr, ◌<◌, ◌+◌, ◌-◌, ℕ, Bool, true, false, eqb, if◌then◌else◌, IsTrue, List, [], ◌∷◌, length, set, refl, sym, ◌∙◌, ap, subst, arith, Ok, Err}
 use Rattle.std.proofs.lemmas.Bool.{cond_both}
+use Rattle.std.proofs.lemmas.List.{take_all}
 use Rattle.disk.specs.Device.{Device, Elapses, LeavesOnly}
 use Rattle.segments.specs.Held.{Held}
 use Rattle.journal.specs.Calls.{Call, Does, IsRetried, MakesCall, OnMade, OnRetried, Syncs, blocks_after, call_at}
@@ -16,8 +17,8 @@ use Rattle.journal.specs.declared.JournalError.{JournalError}
 use Rattle.journal.specs.declared.JournalError.TheVariants.{Fault, Memory}
 use Rattle.journal.proofs.During.{same_itself, same_sizes, same_then}
 use Rattle.journal.proofs.Flights.{after_commit, after_gate, after_home, after_image}
-use Rattle.model.specs.Volume.{StandsFor, descriptor_of, laid_over}
-use Rattle.new_volume.specs.Formatting.{HasCarried, Spoils}
+use Rattle.model.specs.Volume.{StandsFor, block, blocks_from, descriptor_of, laid_over}
+use Rattle.new_volume.specs.Formatting.{HasCarried, IsLeft, Spoils}
 
 -- time goes on
 pub elapsed : (a b c : Device) → Elapses a b → Elapses b c → Elapses a c
@@ -170,3 +171,12 @@ carried device old now so_far is admitted content = record {
       };
   failures = so_far.failures;
 }
+
+-- ---- a batch of the first block
+
+-- a block of as many octets as a block has
+pub whole_block : (first : List ℕ) → length first ≡ 4096 → block 0 first ≡ first
+whole_block first whole = take_all 4096 first (omega (arith, whole))
+
+pub first_laid : (label first : List ℕ) (blocks : List (List ℕ)) (device : Device) → length first ≡ 4096 → IsLeft label (laid_over blocks (0 ∷ []) (blocks_from 0 1 first)) device → IsLeft label (set blocks 0 first) device
+first_laid label first blocks device whole left = subst (λ (octets : List ℕ). IsLeft label (set blocks 0 octets) device) (whole_block first whole) left

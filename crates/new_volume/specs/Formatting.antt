@@ -1,5 +1,5 @@
 -- What a new volume holds, and what a refusal leaves.
-use Rattle.std.specs.Prelude.{◌≡◌, ◌≢◌, ℕ, IsTrue, List, []}
+use Rattle.std.specs.Prelude.{◌≡◌, ◌≢◌, ℕ, IsTrue, List, [], slice_set}
 use Rattle.disk.specs.Device.{Device, Elapses, LeavesOnly}
 use Rattle.journal.specs.Journal.{IsReady, JournalView, with_batch}
 use Rattle.journal.specs.declared.JournalError.{JournalError}
@@ -7,9 +7,7 @@ use Rattle.journal.specs.declared.JournalError.TheVariants.{Fault, Halted, Memor
 use Rattle.model.specs.Layout.{Stands, label_octets}
 use Rattle.model.specs.Stream.{Octets}
 use Rattle.model.specs.Volume.{StandsFor, label_of}
-use Rattle.volume.specs.Volume.{BatchView}
 use Rattle.volume_format.specs.Formatting.{zeroed}
-use Rattle.new_volume.specs.Emptying.{laid}
 
 -- the image of the device stands for the spool without changes, and a crash leaves it
 pub record IsNew (host : Octets) (inodes : ℕ) (device : Device) : Type 0 where
@@ -51,8 +49,8 @@ pub record HasCarried {D : Type 0} (device : D → Device) (old new : JournalVie
   pub left : IsTrue (device old.disk).tells → IsLeft old.label (with_batch old) (device new.disk)
   pub failures : (device new.disk).failures ≡ (device old.disk).failures
 
--- a batch was laid over the blocks of a journal, which gave its device back
-pub record HasLaid {D : Type 0} (device : D → Device) (batch : BatchView) (journal : JournalView D) (last : D) : Type 0 where
-  pub left : IsTrue (device journal.disk).tells → IsLeft journal.label (laid journal.blocks batch) (device last)
+-- the first of a journal's blocks was replaced, and the journal gave its device back
+pub record HasLaid {D : Type 0} (device : D → Device) (first : Octets) (journal : JournalView D) (last : D) : Type 0 where
+  pub left : IsTrue (device journal.disk).tells → IsLeft journal.label (slice_set journal.blocks 0 first) (device last)
   pub time : Elapses (device journal.disk) (device last)
   pub failures : (device last).failures ≡ (device journal.disk).failures

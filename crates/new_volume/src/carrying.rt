@@ -1,18 +1,19 @@
 //! A batch that is carried to its end.
 
-ghost use Rattle.std.specs.Prelude.{◌≡◌, ◌<◌, false, IfErr, IfOk, OnOk};
+ghost use Rattle.std.specs.Prelude.{◌≡◌, false, length, IfErr, IfOk, OnOk};
 ghost use Rattle.disk.specs.Device.{Elapses};
 ghost use Rattle.journal.specs.Journal.{IsCaused, IsReady};
 ghost use Rattle.journal.specs.declared.Next.{Next};
-ghost use Rattle.new_volume.specs.Emptying.{IsSmall};
 ghost use Rattle.new_volume.specs.Formatting.{HasCarried, HasLaid, Spoils};
 
 use disk::Disk;
 use journal::{Journal, JournalError, Refused};
-use volume::BatchBuf;
 
 /// The last serial of a batch that holds no change.
 const NO_SERIAL: u64 = 0;
+
+/// The first of the logical blocks.
+const FIRST: u32 = 0;
 
 /// Makes the device calls of the batch that has begun, to its end. An `Err` is a call that the device refused.
 fn carry<D: Disk>(journal: &mut Journal<D>) -> Result<(), JournalError>
@@ -28,17 +29,17 @@ fn carry<D: Disk>(journal: &mut Journal<D>) -> Result<(), JournalError>
     Ok(())
 }
 
-/// Lays a batch over the blocks of a journal, and gives its device back. Refused as `Fault` where the device failed, and as
-/// `Memory` where a growth of it was refused; the batch may be there or not then.
-pub(crate) fn lay<D: Disk>(mut journal: Journal<D>, batch: &BatchBuf) -> Result<D, Refused<D>>
+/// Replaces the first of a journal's blocks, as a batch, and gives its device back. Refused as `Fault` where the device failed, and
+/// as `Memory` where a growth of it was refused; the batch may be there or not then.
+pub(crate) fn lay<D: Disk>(mut journal: Journal<D>, first: &[u8]) -> Result<D, Refused<D>>
     requires ready { IsReady journal }
-    requires small { IsSmall batch.now }
-    ensures ok { IfOk result (λ disk. HasLaid D.device batch.now journal disk) }
+    requires whole { length first.now ≡ 4096 }
+    ensures ok { IfOk result (λ disk. HasLaid D.device first.now journal disk) }
     ensures err { IfErr result (λ refused. Spoils refused.error (D.device journal.disk) (D.device refused.disk)) }
 {
     // it tells how many blocks there are at least
     let _blocks = journal.blocks();
-    journal.begin(NO_SERIAL, batch.numbers(), batch.images());
+    journal.begin(NO_SERIAL, &[FIRST], first);
     match carry(&mut journal) {
         Ok(()) => Ok(journal.into_disk()),
         Err(error) => Err(Refused {

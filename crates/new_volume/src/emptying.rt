@@ -1,26 +1,19 @@
-//! The batch that makes the empty file system.
+//! The block that makes the empty file system.
 
-ghost use Rattle.std.specs.Prelude.{IfOk, IsTrue};
-ghost use Rattle.new_volume.specs.Emptying.{IsEmptying};
-ghost use Rattle.new_volume.specs.Sizes.{are_sizes};
+ghost use Rattle.std.specs.Prelude.{◌≡◌, ◌≤◌, length};
+ghost use Rattle.fs_layout.specs.Bits.{IsFront};
+ghost use Rattle.model.specs.Files.{first_data};
 
-use fs::make_empty;
-use std::alloc::{AllocError, Global};
-use volume::{BLOCK_SIZE, BatchBuf, Volume};
-use volume_format::zeros;
+use fs_layout::bits::set_front;
+use volume::BLOCK_SIZE;
 
-/// The batch that makes the empty file system on so many zeroed blocks. Refused for memory alone.
-pub(crate) fn empty_batch(alloc: Global, blocks: u32, inodes: u32) -> Result<BatchBuf, AllocError>
-    requires { IsTrue (are_sizes blocks inodes) }
-    ensures { IfOk result (λ batch. IsEmptying blocks inodes batch) }
+/// The first block of the empty file system, whose other blocks are zeros: in the bitmap all before the first block of data are used.
+pub(crate) fn first_block(inodes: u32) -> [u8; BLOCK_SIZE]
+    requires { inodes ≤ 32768 }
+    ensures front { IsFront (first_data inodes) result }
+    ensures whole { length result ≡ 4096 }
 {
-    let mut batch = BatchBuf::new(alloc)?;
-    let octets = zeros(alloc, blocks as usize * BLOCK_SIZE)?;
-    let mut volume = Volume::of(alloc, octets, blocks)?;
-    let Ok(()) = make_empty(&mut volume, inodes) else {
-        return Err(AllocError);
-    };
-    volume.apply();
-    volume.copy_dirty(&mut batch);
-    Ok(batch)
+    let mut bitmap = [0; BLOCK_SIZE];
+    set_front(&mut bitmap, 2 + 2 * (inodes as usize / 64));
+    bitmap
 }

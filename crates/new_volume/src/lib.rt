@@ -11,7 +11,7 @@ ghost use Rattle.model.specs.Layout.{label_octets};
 ghost use Rattle.model.specs.Names.{is_host};
 ghost use Rattle.new_volume.specs.Sizes.{are_sizes, device_size};
 
-pub use formatting::{format, format_or_give_back};
+pub use formatting::format;
 pub use laws::an_image_stands;
 use std::alloc::{AllocError, Global};
 use volume_format::layout::{SEGMENTS, home_block, start_of};

@@ -1,5 +1,5 @@
 -- What each line of a script means (this project's rule).
-use Rattle.std.specs.Prelude.{◌≡◌, ℕ, ◌<◌, ◌≤◌, Bool, ◌||◌, ◌&&◌, ◌==◌, ◌⊎◌, nat_le, if◌then◌else◌, [], ◌∷◌, ◌++◌, length, IsTrue, Option, Some, None, option_map, option_and_then, bytes_eq, codes}
+use Rattle.std.specs.Prelude.{◌≡◌, ℕ, ◌<◌, Bool, ◌||◌, ◌&&◌, ◌==◌, ◌⊎◌, nat_le, if◌then◌else◌, [], ◌∷◌, ◌++◌, length, IsTrue, Option, Some, None, option_map, option_and_then, bytes_eq, codes}
 use Rattle.std.specs.List.{list_all}
 use Rattle.model.specs.Stream.{Octets}
 use Rattle.model.specs.Names.{is_group_name}
@@ -9,7 +9,7 @@ use Rattle.disk.specs.declared.DiskCall.{DiskCall}
 use Rattle.disk.specs.declared.DiskCall.TheVariants.{Read, Write, Sync}
 use Rattle.memdisk.specs.declared.Pick.{Pick}
 use Rattle.memdisk.specs.declared.Pick.TheVariants.{Old, New, Fill}
-use Rattle.script.specs.Words.{article_number_of, hex_octet, hex_octets, moment_of, number_of, split_word}
+use Rattle.script.specs.Words.{expiry_number_of, hex_octet, hex_octets, moment_of, number_of, split_word}
 use Rattle.script.specs.declared.lines.Line.{Line}
 use Rattle.script.specs.declared.lines.Line.TheVariants.{Group, Expire, Join, Leave, Arrive, Exec, Take, Dev, Told, Release, Commit, Settle, FailAt, FailKind, Crash, Spool}
 
@@ -47,7 +47,7 @@ is_description text = nat_le (length text) 200 && list_all is_description_octet 
 abbrev pub IsLawful : Line → Type 0
 IsLawful (Group name status moment description) =
     IsTrue (is_group_name name.items) × ((status ≡ 121) ⊎ (status ≡ 110)) × IsTrue (is_description description.items) × (moment < moment_limit)
-IsLawful (Expire name number) = IsTrue (is_group_name name.items) × (1 ≤ number)
+IsLawful (Expire name number) = IsTrue (is_group_name name.items)
 IsLawful (Exec session moment) = moment < moment_limit
 IsLawful (Arrive session octets) = Unit {0}
 IsLawful Join = Unit {0}
@@ -132,7 +132,7 @@ group_of words = do
 unfoldable pub expiry_of : Octets → Option Said
 expiry_of words = do
   parts ← split_word words
-  number ← article_number_of parts.1
+  number ← expiry_number_of parts.1
   if is_group_name parts.0 then Some (Expired parts.0 number) else None
 
 -- S TEXT, or S alone: the text and CRLF

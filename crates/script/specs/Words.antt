@@ -1,11 +1,12 @@
 -- Words of a script's line (this project's rule).
-use Rattle.std.specs.Prelude.{ℕ, ◌+◌, ◌^◌, ◌==◌, ◌&&◌, nat_le, nat_lt, if◌then◌else◌, take, drop, get_or, Option, Some, None, option_map, option_and_then}
+use Rattle.std.specs.Prelude.{ℕ, ◌+◌, ◌^◌, ◌==◌, nat_lt, if◌then◌else◌, take, drop, get_or, Option, Some, None, option_map, option_and_then}
 use Rattle.std.specs.List.{position}
 use Rattle.std.specs.Result.{result_ok}
 use Rattle.std.specs.Char.{is_ascii_digit}
 use Rattle.std.specs.Str.Parse.{digits_value}
 use Rattle.hex.specs.Hex.{decode_of, decode_sized}
 use Rattle.model.specs.Stream.{Octets}
+use Rattle.model.specs.Names as article
 use Rattle.model.specs.Names.{is_run_of}
 use Rattle.model.specs.Calendar.{moment_limit}
 
@@ -25,9 +26,9 @@ number_of word = if is_run_of is_ascii_digit word then within_u64 word else None
 abbrev pub moment_of : Octets → Option ℕ
 moment_of word = option_and_then (λ n. if nat_lt n moment_limit then Some n else None) (number_of word)
 
--- the number of an article that digits write: from 1, below 2^32
-abbrev pub article_number_of : Octets → Option ℕ
-article_number_of word = option_and_then (λ n. if nat_le 1 n && nat_lt n (2 ^ 32) then Some n else None) (number_of word)
+-- up to which number an expiry takes articles, by 1 to 16 digits: no article has 0, nor a number of 2^32 or more, for which 0 stands
+abbrev pub expiry_number_of : Octets → Option ℕ
+expiry_number_of word = option_map (λ n. if nat_lt n (2 ^ 32) then n else 0) (article.number_of word)
 
 -- the octet that two hexadecimal digits write, in either case
 abbrev pub hex_octet : Octets → Option ℕ

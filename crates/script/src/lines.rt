@@ -7,7 +7,7 @@ ghost use Rattle.script.specs.Words.{hex_octets, hex_octet};
 ghost use Rattle.script.specs.Script.{IsLawful, Made, Expired, alone_of, arrival_of, expiry_of, fail_of, group_of, hex_of, is_description, kind_of, meaning, numbered_of, pick_of, said, status_of};
 ghost use Rattle.script.specs.declared.lines.ParseError.TheVariants.{Memory};
 
-use crate::words::{article_number, moment, number, split_word};
+use crate::words::{expiry_number, moment, number, split_word};
 use disk::DiskCall;
 use hex::FromHexError;
 use memdisk::Pick;
@@ -29,7 +29,7 @@ pub enum Line {
         moment: u64,
         description: Vec<u8>,
     },
-    /// The operator takes the articles of a group up to this number, which is at least 1, out of it.
+    /// The operator takes the articles of a group up to this number out of it. 0 stands for each number that no article can have.
     Expire {
         name: Vec<u8>,
         number: u32,
@@ -321,10 +321,9 @@ fn group(alloc: Global, words: &[u8]) -> Result<Line, ParseError>
 fn expiry_words(words: &[u8]) -> Option<(&[u8], u32)>
     ensures value { option_map (λ read. Expired read.0.now read.1) result ≡ expiry_of words.now }
     ensures name { IfSome result (λ read. IsTrue (is_group_name read.0.now)) }
-    ensures from_one { IfSome result (λ read. 1 ≤ read.1) }
 {
     let (name, number) = split_word(words)?;
-    let number = article_number(number)?;
+    let number = expiry_number(number)?;
     if is_group_name(name) {
         Some((name, number))
     } else {

@@ -1,11 +1,13 @@
 //! The words of a line: where they are parted, and the numbers that they write.
 
-ghost use Rattle.std.specs.Prelude.{◌≡◌, ◌<◌, ◌≤◌, IfSome, option_map, true};
+ghost use Rattle.std.specs.Prelude.{◌≡◌, ◌<◌, IfSome, option_map, true};
 ghost use Rattle.std.specs.Char.{is_ascii_digit};
 ghost use Rattle.std.specs.List.{list_all};
 ghost use Rattle.model.specs.Calendar.{moment_limit};
 ghost use Rattle.model.specs.Names.{is_run_of};
-ghost use Rattle.script.specs.Words.{article_number_of, moment_of, number_of, split_word, within_u64};
+ghost use Rattle.script.specs.Words.{expiry_number_of, moment_of, number_of, split_word, within_u64};
+
+use names::number_of;
 
 /// The first moment of the year 10000, before which each moment lies, in seconds since 1970.
 pub const MOMENT_LIMIT: u64 = 253_402_300_800;
@@ -62,15 +64,15 @@ pub(crate) fn moment(word: &[u8]) -> Option<u64>
     }
 }
 
-/// The number of an article that digits write: from 1, below 2^32.
-pub(crate) fn article_number(word: &[u8]) -> Option<u32>
-    ensures value { result ≡ article_number_of word.now }
-    ensures from_one { IfSome result (λ number. 1 ≤ number) }
+/// Up to which number an expiry takes articles, by 1 to 16 digits. No article has the number 0, nor one above 4,294,967,295, for
+/// which 0 stands.
+pub(crate) fn expiry_number(word: &[u8]) -> Option<u32>
+    ensures { result ≡ expiry_number_of word.now }
 {
-    let value = number(word)?;
-    if 1 <= value && value <= u64::from(u32::MAX) {
+    let value = number_of(word)?;
+    if value <= u64::from(u32::MAX) {
         Some(value as u32)
     } else {
-        None
+        Some(0)
     }
 }

@@ -1,7 +1,7 @@
 use Rattle.std.proofs.Common.{◌∙◌}
 use Rattle.new_volume.proofs.Formed.{formatted}
 use Rattle.new_volume.proofs.Made.{ok_map}
-use Rattle.new_volume.proofs.formatting.format_or_give_back.Goals as goal
+use Rattle.new_volume.proofs.formatting.format.Goals as goal
 
 pub returns-in-Ok-open_zeroed-clause-ok : goal.returns-in-Ok-open_zeroed-clause-ok
 returns-in-Ok-open_zeroed-clause-ok g c =
@@ -9,5 +9,5 @@ returns-in-Ok-open_zeroed-clause-ok g c =
     let journal = c.in-Ok-open_zeroed in
     ok_map c.lay.result
     (λ made lays.
-    formatted g.D.Disk.device plan.blocks c.deref.result.now c.args.disk journal.journal journal.ensures.ok plan.host.now plan.inodes c.in-Ok-empty_batch.batch made plan.named plan.sized (c.deref.ensures.value ∙ c.in-Ok.ensures.octets) c.in-Ok-empty_batch.ensures lays)
+    formatted g.D.Disk.device plan.blocks c.deref.result.now c.args.disk journal.journal journal.ensures.ok plan.host.now plan.inodes c.first_block.result made plan.named plan.sized (c.deref.ensures.value ∙ c.in-Ok.ensures.octets) c.first_block.ensures.whole c.first_block.ensures.front lays)
     c.lay.ensures.ok
