@@ -30,8 +30,10 @@ pub fn format<R: Files<File = File>>(
     let Ok(disk) = FileDisk::open(rt, path, device_octets(plan.blocks)) else {
         return Err(CommandError::Fault);
     };
-    let _disk = format_device(alloc, disk, plan)?;
-    Ok(())
+    match format_device(alloc, disk, plan) {
+        Ok(_) => Ok(()),
+        Err(refused) => Err(CommandError::from(refused.error)),
+    }
 }
 
 /// Opens the volume in a file, whose length is the device's.

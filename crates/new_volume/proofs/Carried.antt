@@ -18,7 +18,7 @@ use Rattle.journal.specs.declared.JournalError.TheVariants.{Fault, Memory}
 use Rattle.journal.proofs.During.{same_itself, same_sizes, same_then}
 use Rattle.journal.proofs.Flights.{after_commit, after_gate, after_home, after_image}
 use Rattle.model.specs.Volume.{StandsFor, block, blocks_from, descriptor_of, laid_over}
-use Rattle.new_volume.specs.Formatting.{HasCarried, IsLeft, Spoils}
+use Rattle.new_volume.specs.Formatting.{HasCarried, HasLaid, IsLeft, Spoils}
 
 -- time goes on
 pub elapsed : (a b c : Device) → Elapses a b → Elapses b c → Elapses a c
@@ -178,5 +178,16 @@ carried device old now so_far is admitted content = record {
 pub whole_block : (first : List ℕ) → length first ≡ 4096 → block 0 first ≡ first
 whole_block first whole = take_all 4096 first (omega (arith, whole))
 
-pub first_laid : (label first : List ℕ) (blocks : List (List ℕ)) (device : Device) → length first ≡ 4096 → IsLeft label (laid_over blocks (0 ∷ []) (blocks_from 0 1 first)) device → IsLeft label (set blocks 0 first) device
-first_laid label first blocks device whole left = subst (λ (octets : List ℕ). IsLeft label (set blocks 0 octets) device) (whole_block first whole) left
+-- the first block alone was in the batch, which was carried to its end
+pub lays : {D : Type 0} (device : D → Device) (first : List ℕ) (journal begun last : JournalView D) (disk : D) → length first ≡ 4096 → begun.disk ≡ journal.disk → begun.label ≡ journal.label → begun.blocks ≡ journal.blocks → begun.numbers ≡ 0 ∷ []
+    → begun.images ≡ blocks_from 0 1 first → HasCarried device begun last → Elapses (device begun.disk) (device last.disk) → disk ≡ last.disk → HasLaid device first journal disk
+lays {D = D} device first journal begun last disk whole same label blocks numbers images carries time gives = record {
+  left = λ t.
+      let told : IsTrue (device begun.disk).tells = subst (λ (d : D). IsTrue (device d).tells) (sym same) t in
+      let laid : with_batch begun ≡ set journal.blocks 0 first = (λ i. laid_over (blocks i) (numbers i) (images i)) ∙ ap (λ (octets : List ℕ). set journal.blocks 0 octets) (whole_block first whole) in
+      subst (λ (d : D). IsLeft journal.label (set journal.blocks 0 first) (device d)) (sym gives)
+      (subst (λ (l : List ℕ). IsLeft l (set journal.blocks 0 first) (device last.disk)) label
+      (subst (λ (bs : List (List ℕ)). IsLeft begun.label bs (device last.disk)) laid (carries.left told)));
+  time = subst (λ (d : D). Elapses (device journal.disk) (device d)) (sym gives) (subst (λ (d : D). Elapses (device d) (device last.disk)) same time);
+  failures = ap (λ (d : D). (device d).failures) gives ∙ carries.failures ∙ ap (λ (d : D). (device d).failures) same;
+}

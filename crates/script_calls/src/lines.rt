@@ -128,6 +128,11 @@ fn lines_with_an_expiry(rt: HostRuntime) {
         ("expire x.a 1", 1),
         ("expire x.a 0042", 42),
         ("expire x.a 4294967295", u32::MAX),
+        ("expire x.a 0000004294967295", u32::MAX),
+        ("expire x.a 0", 0),
+        ("expire x.a 4294967296", 0),
+        ("expire x.a 4294967297", 0),
+        ("expire x.a 9999999999999999", 0),
     ] {
         assert!(rt; is_expiry(rt.alloc(), line, number), "{line}");
     }
@@ -189,8 +194,10 @@ fn bad() -> &'static [&'static [u8]] {
         b"expire x.a",
         b"expire x.a ",
         b"expire x.a one",
-        b"expire x.a 0",
-        b"expire x.a 4294967296",
+        b"expire x.a 00000004294967295",
+        b"expire x.a 10000000000000000",
+        b"expire x.a -1",
+        b"expire x.a +1",
         b"expire x.a 1 2",
         b"expire x..a 1",
         b"expire  1",

@@ -10,6 +10,6 @@ pub(crate) fn formatted(alloc: Global, plan: &Plan<'_>) -> Result<MemDisk, Failu
     let disk = MemDisk::new(alloc, device_octets(plan.blocks))?;
     match format(alloc, disk, plan) {
         Ok(disk) => Ok(disk),
-        Err(error) => Err(Failure::Command(CommandError::from(error))),
+        Err(refused) => Err(Failure::Command(CommandError::from(refused.error))),
     }
 }

@@ -4,7 +4,7 @@ use disk::{DiskCall, Faults};
 use journal::{Journal, JournalError, Refused};
 use memdisk::MemDisk;
 use names::is_host;
-use new_volume::{Plan, are_sizes, device_octets, format, format_or_give_back};
+use new_volume::{Plan, are_sizes, device_octets, format};
 use std::alloc::Global;
 use std::test::Fail;
 use volume::BLOCK_SIZE;
@@ -87,7 +87,7 @@ fn asked(alloc: Global, kind: DiskCall, n: u64) -> Result<Result<MemDisk, Refuse
     };
     let mut disk = MemDisk::new(alloc, device_octets(plan.blocks))?;
     disk.fail_kind(kind, n);
-    Ok(format_or_give_back(alloc, disk, &plan))
+    Ok(format(alloc, disk, &plan))
 }
 
 /// The first row whose call is not refused as a fault, or after which something else is found.
