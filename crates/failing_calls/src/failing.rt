@@ -1,7 +1,7 @@
 //! Each single call of a kind fails, and the device is opened again: by each pick of a crash, and without one.
 
-use crate::batches::{Calls, batches, claims_all, claims_no_more, play, settling, shows};
 use disk::DiskCall;
+use eight_batches::{Calls, batches, claims_all, claims_no_more, play, settling, shows};
 use memdisk::Pick;
 use sim_world::{Device, NotOpened, Sim, SimError};
 use std::alloc::Global;

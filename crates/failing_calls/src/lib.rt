@@ -1,12 +1,10 @@
-//! A world whose device fails in one call, each in turn, and devices of which one octet was changed: what is opened again shows
-//! each change that a reply which was released depended on, and what isn't opened is told as such.
+//! A world whose device fails in one call, or crashes after it, each in turn: what is opened again shows each change that a released
+//! reply depended on.
 #![tactic(auto)]
 
-#[cfg(test)]
-mod batches;
-#[cfg(test)]
-mod changed_octets;
 #[cfg(test)]
 mod failing;
 #[cfg(test)]
 mod openings;
+#[cfg(test)]
+mod stops;

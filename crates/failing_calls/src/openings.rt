@@ -1,8 +1,8 @@
 //! Each read of an opening fails. The calls of the script read nothing else.
 
-use crate::batches::{batches, shows, with_open_segments};
 use crate::failing::{crashed, way};
 use disk::DiskCall;
+use eight_batches::{batches, shows, with_open_segments};
 use sim_world::{Device, NotOpened, Sim, SimError};
 use std::alloc::Global;
 use std::test::Fail;

@@ -3,7 +3,7 @@
 //! Of a device the superblock is block 0. A segment has 514 blocks: its gate, the first one's in block 1, its descriptor, and its
 //! images. The logical blocks begin at 4113.
 
-use crate::batches::{Part, batches, shows, with_open_segments};
+use eight_batches::{Part, batches, shows, with_open_segments};
 use sim_world::{Device, NotOpened, Row, Sim, SimError};
 use std::alloc::Global;
 use std::test::Fail;
@@ -11,7 +11,7 @@ use world::OpenError;
 
 /// What is to become of a device of which a bit was changed.
 #[derive(Clone, Copy, PartialEq)]
-enum Wanted {
+pub(crate) enum Wanted {
     /// It isn't opened, as no volume stands there.
     NotAVolume,
     /// It isn't opened, as its blocks hold no spool.
@@ -139,7 +139,7 @@ fn flip(device: &mut Device, at: u64, bits: u8) -> Result<(), SimError> {
 }
 
 /// Opens a device. Does it become what is wanted? Where it is to be whole, it has so many changes.
-fn becomes(
+pub(crate) fn becomes(
     alloc: Global,
     device: Device,
     changes: u64,
@@ -217,7 +217,8 @@ fn first_wrong_of(
     Ok(None)
 }
 
-fn with_closed_segments(alloc: Global) -> Result<Device, SimError> {
+/// The eight batches, carried home.
+pub(crate) fn with_closed_segments(alloc: Global) -> Result<Device, SimError> {
     Ok(Sim::over(alloc, with_open_segments(alloc, batches())?)?.into_device())
 }
 

@@ -1,12 +1,13 @@
-//! Eight batches: a group, and then seven articles that are posted and committed one by one, so that the serial of each change
-//! is the number of its batch. The last batch leaves no closed segment.
+//! A script of eight batches for tests: a group, and then seven articles that are posted and committed one by one, so that the serial
+//! of each change is the number of its batch. The last batch leaves no closed segment. It promises nothing, as `sim_world` doesn't.
+#![tactic(auto)]
 
 use sim_world::{Device, Sim, SimError};
 use std::alloc::{AllocError, Global};
 
 /// A part of the script.
 #[derive(Clone, Copy)]
-pub(crate) enum Part {
+pub enum Part {
     Line(&'static str),
     /// The article with this serial is posted, and what is ready is released.
     Post(u64),
@@ -38,14 +39,14 @@ const BATCHES: &[Part] = &[
 ];
 
 /// The eight batches, each to its commit. A function, so that no proof of a test reads them; and so below.
-pub(crate) fn batches() -> &'static [Part] {
+pub fn batches() -> &'static [Part] {
     BATCHES
 }
 
 const SETTLING: &[Part] = &[Part::Settle];
 
 /// The images of all batches are carried home after them, and the gates are closed.
-pub(crate) fn settling() -> &'static [Part] {
+pub fn settling() -> &'static [Part] {
     SETTLING
 }
 
@@ -81,22 +82,37 @@ fn article(alloc: Global, serial: u64) -> Result<String, AllocError> {
 
 /// What the calls of the device came to.
 #[derive(Clone, Copy, Debug, Drop, PartialEq)]
-pub(crate) struct Calls {
+pub struct Calls {
     /// How many batches were committed.
-    pub(crate) commits: u64,
+    pub commits: u64,
     /// How many calls failed.
-    pub(crate) faults: u64,
+    pub faults: u64,
+    /// How many steps the journal made: the device calls, and one step where none was to be made.
+    pub steps: u64,
+    /// The script stops after so many steps.
+    most: u64,
 }
 
 impl Calls {
-    pub(crate) fn none() -> Calls {
+    pub fn none() -> Calls {
+        Calls::up_to(u64::MAX)
+    }
+
+    pub fn up_to(most: u64) -> Calls {
         Calls {
             commits: 0,
             faults: 0,
+            steps: 0,
+            most,
         }
     }
 
+    pub fn is_stopped(&self) -> bool {
+        self.steps >= self.most
+    }
+
     fn note(&mut self, answer: &str) {
+        self.steps = self.steps.wrapping_add(1);
         if answer == "E1 Fault" {
             self.faults = self.faults.wrapping_add(1);
         }
@@ -109,14 +125,17 @@ impl Calls {
 /// More calls than a batch has with all that are carried home.
 const MANY_CALLS: u64 = 100;
 
-/// Plays parts of the script, whatever is answered.
-pub(crate) fn play(
+/// Plays parts of the script, whatever is answered, until it stops.
+pub fn play(
     alloc: Global,
     sim: &mut Sim,
     parts: &[Part],
     calls: &mut Calls,
 ) -> Result<(), SimError> {
     for part in parts {
+        if calls.is_stopped() {
+            break;
+        }
         play_part(alloc, sim, *part, calls)?;
     }
     Ok(())
@@ -154,16 +173,19 @@ fn post(alloc: Global, sim: &mut Sim, serial: u64) -> Result<(), SimError> {
 fn commit(alloc: Global, sim: &mut Sim, calls: &mut Calls) -> Result<(), SimError> {
     tell(alloc, sim, "take")?;
     carry(alloc, sim, calls)?;
+    if calls.is_stopped() {
+        return Ok(());
+    }
     tell(alloc, sim, "told")?;
     tell(alloc, sim, "release")
 }
 
-/// Calls the device until a call isn't answered as one that goes on.
+/// Calls the device until a call isn't answered as one that goes on, or the script stops.
 fn carry(alloc: Global, sim: &mut Sim, calls: &mut Calls) -> Result<(), SimError> {
     for _ in 0..MANY_CALLS {
         let answer = sim.tell(alloc, "dev")?;
-        if answer.as_str() != "Working" {
-            calls.note(answer.as_str());
+        calls.note(answer.as_str());
+        if calls.is_stopped() || answer.as_str() != "Working" {
             return Ok(());
         }
     }
@@ -171,7 +193,7 @@ fn carry(alloc: Global, sim: &mut Sim, calls: &mut Calls) -> Result<(), SimError
 }
 
 /// A device with a new volume over which these parts were played: each batch stands in an open segment.
-pub(crate) fn with_open_segments(alloc: Global, parts: &[Part]) -> Result<Device, SimError> {
+pub fn with_open_segments(alloc: Global, parts: &[Part]) -> Result<Device, SimError> {
     let mut sim = Sim::new(alloc)?;
     play(alloc, &mut sim, parts, &mut Calls::none())?;
     Ok(sim.into_device())
@@ -190,18 +212,23 @@ fn claimed(sim: &Sim) -> u64 {
 }
 
 /// Whether exactly the changes that were committed are durable, and no released reply depends on another.
-pub(crate) fn claims_no_more(sim: &Sim, calls: Calls) -> bool {
+pub fn claims_no_more(sim: &Sim, calls: Calls) -> bool {
     let (opened, durable, _) = sim.counts();
     opened == 0 && durable == calls.commits && claimed(sim) <= calls.commits
 }
 
+/// Whether no released reply depends on a change that wasn't committed.
+pub fn claims_committed(sim: &Sim, calls: Calls) -> bool {
+    claimed(sim) <= calls.commits
+}
+
 /// Whether all seven articles were told as durable.
-pub(crate) fn claims_all(sim: &Sim) -> bool {
+pub fn claims_all(sim: &Sim) -> bool {
     claimed(sim) == 8
 }
 
 /// Whether what was opened, and is durable, is the first changes of the script: those that were committed and at most one more.
-pub(crate) fn shows(alloc: Global, sim: &Sim, commits: u64) -> Result<bool, SimError> {
+pub fn shows(alloc: Global, sim: &Sim, commits: u64) -> Result<bool, SimError> {
     let (opened, durable, accepted) = sim.counts();
     if opened < commits || opened.saturating_sub(commits) > 1 {
         return Ok(false);
