@@ -6,7 +6,7 @@ ghost use Rattle.journal.specs.Journal.{IsIdle, IsReady};
 use crate::callers::call;
 use crate::gates::{Flags, Holds, TestGate};
 use crate::kernels::{Watch, Watched};
-use disk::Faults;
+use disk::{DiskCall, Faults};
 use flusher::{BatchBuf, FlushError, Kern, Kernel, Locked, Stale, flush_turn};
 use journal::Journal;
 use mark::{FlushSeat, Mark, Seat};
@@ -18,7 +18,7 @@ use std::alloc::Global;
 use std::io::{self, Write};
 use std::net::{Ipv4Addr, Net, SocketAddr, TcpListener, TcpStream};
 use std::sync::atomic::{AtomicU64, Ordering};
-use std::sync::{Arc, Wait};
+use std::sync::{Arc, Mutex, Wait};
 use std::thread::{Parker, Threads, join};
 use std::time::Clock;
 
@@ -113,41 +113,45 @@ fn add_group<K: Kern, R: Wait>(rt: &R, alloc: Global, kern: &K, name: &[u8]) -> 
 
 /// A server that is about to serve a volume with the groups `x.a` and `x.b`, which are durable.
 #[derive(Drop)]
-struct Stage<'a> {
+struct Stage<'a, 'm> {
     journal: Journal<MemDisk>,
     kern: Watched<'a>,
     mark: &'a Mark,
     flush_seat: FlushSeat,
     seat: Seat,
     flags: &'a Flags,
+    /// What the gate sees the mark by.
+    watch: &'a Mutex<Watch<'m>>,
     ghost idle: { IsIdle journal },
     ghost flushes: { flush_seat.mark ≡ mark.now },
     ghost looks: { seat.mark ≡ mark.now },
 }
 
-impl<'a> Stage<'a> {
+impl<'a, 'm> Stage<'a, 'm> {
     fn new<R: Wait>(
         rt: &R,
         alloc: Global,
         mark: &'a Mark,
         flush_seat: FlushSeat,
         seat: Seat,
-        flags: &'a Flags,
-    ) -> Option<Stage<'a>>
+        watched: (&'a Flags, &'a Mutex<Watch<'m>>),
+    ) -> Option<Stage<'a, 'm>>
         requires flushes { flush_seat.mark ≡ mark.now }
         requires looks { seat.mark ≡ mark.now }
     {
+        let (flags, watch) = watched;
         let mut flush_seat = flush_seat;
         let mut seat = seat;
         let (mut journal, kernel) = open_volume(alloc, &plan()?)?;
-        let watch = Watch::new(mark, mark.another(&mut seat));
-        let kern = Watched::new(kernel, watch, flags);
+        let own = Watch::new(mark, mark.another(&mut seat));
+        let kern = Watched::new(kernel, own, flags);
         let Ok(mut batch) = BatchBuf::new(alloc) else {
             return None;
         };
         let gate = TestGate {
             flags,
             holds: Holds::Nothing,
+            watch,
         };
         add_group(rt, alloc, &kern, b"x.a")?;
         add_group(rt, alloc, &kern, b"x.b")?;
@@ -171,13 +175,16 @@ impl<'a> Stage<'a> {
             flush_seat,
             seat,
             flags,
+            watch,
         })
     }
 
-    /// The device fails at its next call, where the play is of a fault.
+    /// The device fails at its next sync or its next write, where the play is of a fault.
     fn plan_fault(&mut self, holds: Holds) {
-        if holds == Holds::Fault || holds == Holds::Unread {
-            self.journal.fail_at(1);
+        match holds {
+            Holds::Fault => self.journal.fail_kind(DiskCall::Sync, 1),
+            Holds::Unread => self.journal.fail_kind(DiskCall::Write, 1),
+            _ => {}
         }
     }
 
@@ -196,8 +203,13 @@ impl<'a> Stage<'a> {
             flush_seat,
             seat,
             flags,
+            watch,
         } = self;
-        let gate = TestGate { flags, holds };
+        let gate = TestGate {
+            flags,
+            holds,
+            watch,
+        };
         let lines: &'static [u8] = match holds {
             Holds::Answer => b"group x.c y 1000000000 test\n",
             Holds::Unread => b"spool\ngroup x.c y 1000000000 test\n",
@@ -238,7 +250,8 @@ pub(crate) fn raises_after_commit<R: Wait>(rt: &R, alloc: Global) -> bool {
         return false;
     };
     let own = mark.another(&mut seat);
-    if Stage::new(rt, alloc, &mark, flush_seat, own, &flags).is_none() {
+    let watch = Mutex::new(Watch::new(&mark, mark.another(&mut seat)));
+    if Stage::new(rt, alloc, &mark, flush_seat, own, (&flags, &watch)).is_none() {
         return false;
     }
     mark.durable(&mut seat) == 2 && !flags.failed.load(Ordering::SeqCst)
@@ -276,10 +289,11 @@ pub(crate) fn play<
     let Ok(flags) = Flags::new(alloc) else {
         return None;
     };
-    let Ok((mark, flush_seat, seat)) = Mark::new(alloc) else {
+    let Ok((mark, flush_seat, mut seat)) = Mark::new(alloc) else {
         return None;
     };
-    let mut stage = Stage::new(rt, alloc, &mark, flush_seat, seat, &flags)?;
+    let watch = Mutex::new(Watch::new(&mark, mark.another(&mut seat)));
+    let mut stage = Stage::new(rt, alloc, &mark, flush_seat, seat, (&flags, &watch))?;
     stage.plan_fault(holds);
     let Ok(listener) = TcpListener::bind(rt, SocketAddr::from((Ipv4Addr::LOCALHOST, 0))) else {
         return None;

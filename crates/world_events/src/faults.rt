@@ -226,14 +226,16 @@ fn refused(
 fn a_device_without_a_spool(rt: HostRuntime) -> Result<(), Fail> {
     let alloc = rt.alloc();
     let mut device = Sim::new(alloc)?.into_device();
-    // the superblock's first octet, version, blocks and segments, the host's length in the label, and the first octet of the
-    // file system's bitmap
+    // of the superblock the first octet, the version, the blocks and the segments; of its label the inodes, which are no multiple of 64
+    // then, the host's length, and its first octet, a space; and the first octet of the file system's bitmap
     for (at, octet, error) in [
         (0, b'x', OpenError::NotAVolume),
         (8, 9, OpenError::NotAVolume),
         (13, 5, OpenError::NotAVolume),
         (16, 2, OpenError::NotAVolume),
+        (20, 65, OpenError::NotAVolume),
         (24, 65, OpenError::NotAVolume),
+        (25, b' ', OpenError::NotAVolume),
         (4113 * 4096, 0, OpenError::Damaged),
     ] {
         let (left, why) = refused(alloc, device, at, octet)?;
