@@ -1,5 +1,6 @@
 #!/usr/bin/env python3
 """System tests of the commands over a volume in a file, and of its largest sizes. volumes.py NEWSD [NAME..]"""
+import os
 import struct
 import sys
 
@@ -22,9 +23,12 @@ def what_can_not_be_served_is_refused(volume):
         (["group", volume.path, "x.a", "m", "1000000000", "test"], 1, "E14 Bad"),
         (["group", volume.path, "x.a y", "y", "1000000000", "test"], 1, "E14 Bad"),
         (["expire", volume.path, "x..a", "1"], 1, "E14 Bad"),
-        (["expire", volume.path, "x.a", "0"], 1, "E14 Bad"),
         (["expire", volume.path, "x.a", "one"], 1, "E14 Bad"),
+        (["expire", volume.path, "x.a", "10000000000000000"], 1, "E14 Bad"),
+        (["expire", volume.path, "x.a", "9999999999999999"], 1, "E12 NotFound"),
+        (["expire", volume.path, "x.a", "4294967297"], 1, "E12 NotFound"),
         (["expire", volume.path, "x.a", "1"], 1, "E12 NotFound"),
+        (["expire", volume.path, "x.a", "0"], 1, "E12 NotFound"),
         (["expire", volume.path, "x.a"], 2, None),
         (["format", volume.path, "--host", "a..b"], 1, "E14 Bad"),
         (["format", volume.path, "--host", HOST, "--inodes", "96"], 1, "E14 Bad"),
@@ -101,6 +105,17 @@ def without_memory_no_volume_is_made(volume):
     assert volume.dump() == ["spool 0"]
 
 
+def the_largest_volume_is_made_in_little_memory(volume):
+    """65,536 blocks of 4,096 octets: none of them is held in memory to make them."""
+    words = [volume.program, "format", volume.path, "--host", HOST, "--blocks", "65536", "--inodes", "32768"]
+    process = os.posix_spawn(volume.program, words, os.environ)
+    _, status, usage = os.wait4(process, 0)
+    megabytes = usage.ru_maxrss * 1024 / 1e6
+    print("  the largest format takes %.1f MB of memory" % megabytes, flush=True)
+    assert status == 0 and megabytes < 50, (status, megabytes)
+    assert volume.dump() == ["spool 0"]
+
+
 def a_server_has_4096_groups_at_most(volume):
     making = "group %%s y %d test" % MOMENT
     lines = []
@@ -151,6 +166,7 @@ TESTS = [
     a_damaged_volume_is_not_opened,
     a_commit_syncs_the_device,
     without_memory_no_volume_is_made,
+    the_largest_volume_is_made_in_little_memory,
     a_server_has_4096_groups_at_most,
     a_group_takes_no_article_that_its_overview_has_no_room_for,
 ]
