@@ -1,0 +1,62 @@
+-- A batch of articles: what it is, and what is read of its octets.
+use Rattle.std.specs.Prelude.{◌≡◌, ℕ, ◌+◌, ◌-◌, ◌≤◌, ◌==◌, nat_eq, nat_le, nat_lt, if◌then◌else◌, List, [], ◌∷◌, ◌++◌, length, take, drop, flat_map, codes, decimal, Option, Some, None, Result, Ok, Err}
+use Rattle.std.specs.List.{position_or_len, starts_with}
+use Rattle.model.specs.Stream.{Octets, block_limit}
+use Rattle.model.specs.Names.{number_of}
+use Rattle.rnews.specs.declared.batches.Cause.{Cause}
+use Rattle.rnews.specs.declared.batches.Cause.TheVariants.{NoHeader, NoNumber, TooLong}
+
+-- what each header line begins with
+abbrev pub keyword : Octets
+keyword = codes "#! rnews "
+
+-- the line that says how many octets the text behind it has
+abbrev pub header : ℕ → Octets
+header size = keyword ++ decimal size ++ 10 ∷ []
+
+-- a text as it stands in a batch
+abbrev pub entry : Octets → Octets
+entry text = header (length text) ++ text
+
+-- the batch of these texts, one behind the other
+abbrev pub batch : List Octets → Octets
+batch texts = flat_map entry texts
+
+-- the size that a number names, up to the limit of an article
+abbrev pub size_in_limit : Option ℕ → Result ℕ Cause
+size_in_limit None = Err NoNumber
+size_in_limit (Some size) = if nat_le size block_limit then Ok size else Err TooLong
+
+-- the size that a header line names, without its LF: the number of 1 to 16 digits that follows the keyword
+abbrev pub size_of : Octets → Result ℕ Cause
+size_of line = if starts_with nat_eq line keyword then size_in_limit (number_of (drop 9 line)) else Err NoHeader
+
+-- what is found at the front of a batch: a text and what follows it; `None` where more octets are wanted; or why no batch goes on so
+abbrev pub Found : Type 0
+Found = Result (Option (Octets × Octets)) Cause
+
+-- a text of this size and what follows it, if all of it is there
+abbrev pub split : Octets → Result ℕ Cause → Found
+split octets (Ok size) = if nat_le size (length octets) then Ok (Some (take size octets, drop size octets)) else Ok None
+split octets (Err cause) = Err cause
+
+-- how many octets stand before the first LF; of 26 octets without one it is 26, and too many for a header line
+abbrev pub line_length : Octets → ℕ
+line_length octets = position_or_len (λ octet. octet == 10) (take 26 octets)
+
+-- the first text, and what follows it
+unfoldable pub next : Octets → Found
+next octets =
+    let end = line_length octets in
+    if nat_lt end (length octets) then split (drop (end + 1) octets) (size_of (take end octets)) else Ok None
+
+-- the first text stands from this place to that one
+abbrev pub IsFirstText : Octets → ℕ × ℕ → Type 0
+IsFirstText octets place =
+    (place.0 ≤ place.1) × (place.1 ≤ length octets)
+    × (next octets ≡ Ok (Some (take (place.1 - place.0) (drop place.0 octets), drop place.1 octets)))
+
+-- octets that are read as these texts, to their end
+abbrev pub IsReadAs : List Octets → Octets → Type 0
+IsReadAs [] octets = octets ≡ []
+IsReadAs (text ∷ texts) octets = (rest : Octets) × (next octets ≡ Ok (Some (text, rest))) × IsReadAs texts rest

@@ -1,0 +1,13 @@
+//! Batches of articles, as `rnews` reads them: each text follows a line `#! rnews LENGTH`, which says how many octets it has.
+//! Lines of a batch end in LF, those of a stored article in CRLF.
+#![tactic(auto)]
+
+mod batches;
+mod laws;
+mod line_ends;
+mod reader;
+
+pub use batches::{Cause, TEXT_LIMIT, entry, find_text};
+pub use laws::{batches_are_read_back, line_ends_are_kept};
+pub use line_ends::{with_crlf, with_lf};
+pub use reader::{ReadError, Reader, Refusal};

@@ -1,0 +1,148 @@
+//! A batch that comes in pieces.
+
+ghost use Rattle.std.specs.Prelude.{◌≡◌, ◌-◌, ◌≤◌, ◌++◌, [], drop, vec_len, length, ◌↔◌};
+ghost use Rattle.std.specs.Prelude.{Some, None, Ok, Err, IfOk, IfErr, IfSome, IfNone, OnSome, OnOk, OnErr, IsOk};
+ghost use Rattle.rnews.specs.Batch.{next};
+ghost use Rattle.rnews.specs.Held.{counted};
+ghost use Rattle.rnews.specs.Refusals.{IsDue};
+ghost use Rattle.rnews.specs.declared.batches.Cause.TheVariants.{CutShort};
+ghost use Rattle.rnews.specs.declared.reader.ReadError.TheVariants.{Memory};
+
+use crate::batches::{Cause, find_text};
+use std::alloc::{AllocError, Global};
+use std::marker::Model;
+use thiserror::Error;
+
+/// Why the octets are no batch, and how many octets of it come before the header line where it ends to be one.
+#[derive(Clone, Copy, Debug, PartialEq, Eq, Error)]
+#[error("octet {place}: {cause}")]
+pub struct Refusal {
+    pub cause: Cause,
+    pub place: u64,
+}
+
+/// Why no text is handed out.
+#[derive(Clone, Copy, Debug, PartialEq, Eq, Error)]
+pub enum ReadError {
+    /// A growth was refused.
+    #[error("E2 Memory")]
+    Memory,
+    /// No batch goes on so.
+    #[error("{0}")]
+    Refused(Refusal),
+}
+
+impl From<AllocError> for ReadError {
+    ghost from_gives = { λ _ error. error ≡ Memory };
+
+    fn from(_error: AllocError) -> ReadError {
+        ReadError::Memory
+    }
+}
+
+/// A batch that comes in pieces.
+#[derive(Drop)]
+pub struct Reader {
+    octets: Vec<u8>,
+    alloc: Global,
+    /// How many of the octets are handed out.
+    start: usize,
+    /// How many octets of the batch come before what is not handed out, up to 2^64 - 1.
+    place: u64,
+}
+
+impl Model for Reader {
+    ghost use Rattle.std.specs.Prelude.{◌≤◌, drop, vec_len};
+    ghost use Rattle.rnews.specs.Held.{Held};
+
+    ghost Value = { Held };
+
+    ghost view = { λ r. record { rest = drop r.start r.octets.items; place = r.place } };
+
+    ghost invariant = { λ r. r.start ≤ vec_len r.octets };
+}
+
+impl Reader {
+    /// A reader of an empty batch.
+    pub fn new(alloc: Global) -> Reader
+        ensures rest { result.rest ≡ [] }
+        ensures place { result.place ≡ 0 }
+    {
+        Reader {
+            octets: Vec::new(alloc),
+            alloc,
+            start: 0,
+            place: 0,
+        }
+    }
+
+    /// Takes the next piece of the batch. An `Err` takes nothing.
+    pub fn feed(&mut self, piece: &[u8]) -> Result<(), AllocError>
+        ensures ok { OnOk result (self.new.rest ≡ self.old.rest ++ piece.now) }
+        ensures place { self.new.place ≡ self.old.place }
+        ensures err { OnErr result (self.new ≡ self.old) }
+    {
+        forget_front(&mut self.octets, self.start);
+        self.start = 0;
+        self.octets.extend_from_slice(piece)?;
+        Ok(())
+    }
+
+    /// The next text, or `None` where more octets are wanted: at most those of a header line and of the longest text are there then.
+    /// An `Err` changes nothing.
+    pub fn next(&mut self) -> Result<Option<Vec<u8>>, ReadError>
+        ensures text { IfOk result (λ found. IfSome found (λ text. next self.old.rest ≡ Ok (Some (text.items, self.new.rest)))) }
+        ensures place { IfOk result (λ found. OnSome found (self.new.place ≡ counted self.old.place (length self.old.rest - length self.new.rest))) }
+        ensures wanted { IfOk result (λ found. IfNone found (next self.old.rest ≡ Ok None)) }
+        ensures bound { IfOk result (λ found. IfNone found (length self.old.rest ≤ 262_170)) }
+        ensures same { IfOk result (λ found. IfNone found (self.new ≡ self.old)) }
+        ensures refused { IfErr result (λ error. IsDue self.old error) }
+        ensures err { OnErr result (self.new ≡ self.old) }
+    {
+        let rest = &self.octets[self.start..];
+        match find_text(rest) {
+            Ok(None) => Ok(None),
+            Ok(Some((start, end))) => {
+                let text = Vec::from_slice(self.alloc, &rest[start..end])?;
+                self.start += end;
+                self.place = self.place.saturating_add(end as u64);
+                Ok(Some(text))
+            }
+            Err(cause) => Err(ReadError::Refused(self.refusal(cause))),
+        }
+    }
+
+    /// The batch ends here: refused as cut short where octets are left.
+    pub fn end(&self) -> Result<(), Refusal>
+        ensures ok { IsOk result ↔ (self.now.rest ≡ []) }
+        ensures err { IfErr result (λ refusal. (refusal.cause ≡ CutShort) × (refusal.place ≡ self.now.place)) }
+    {
+        if self.start < self.octets.len() {
+            return Err(self.refusal(Cause::CutShort));
+        }
+        Ok(())
+    }
+
+    /// A refusal of what comes next.
+    fn refusal(&self, cause: Cause) -> Refusal
+        ensures { result ≡ record { cause = cause; place = self.now.place } }
+    {
+        Refusal {
+            cause,
+            place: self.place,
+        }
+    }
+}
+
+/// Takes the first n octets away.
+fn forget_front(octets: &mut Vec<u8>, n: usize)
+    requires { n ≤ vec_len octets.old }
+    ensures { octets.new.items ≡ drop n octets.old.items }
+{
+    if n == 0 {
+        return;
+    }
+    let left = octets.len() - n;
+    octets.copy_within(n.., 0);
+    octets.truncate(left);
+}

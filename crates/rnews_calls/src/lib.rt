@@ -1,0 +1,7 @@
+//! Rows on batches, over the public calls of `rnews`.
+#![tactic(auto)]
+
+#[cfg(test)]
+mod batches;
+#[cfg(test)]
+mod line_ends;
