@@ -28,6 +28,9 @@ pub enum CommandError {
     /// The articles are not taken out of the group.
     #[error("{0}")]
     NotExpired(ExpireError),
+    /// The group isn't here.
+    #[error("E12 NotFound")]
+    NotFound,
     /// A socket or a stream failed.
     #[error("{0}")]
     Stream(io::Error),

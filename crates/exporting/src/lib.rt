@@ -1,0 +1,8 @@
+//! The articles that are in a spool, written as a batch for `rnews`.
+#![tactic(auto)]
+
+mod batches;
+mod serials;
+
+pub use batches::{LineEnds, entry_of, export};
+pub use serials::{all_serials, serials_of};
