@@ -1,5 +1,6 @@
 //! What the program does: each of its commands but the simulation, and the server.
 
+use commands::LineEnds;
 use names::GroupName;
 use printing::{DONE, Failure, NOT_UNDERSTOOD};
 use script::{Line, ParseError, parse};
@@ -13,7 +14,7 @@ use std::rt::Files;
 use std::sync::Wait;
 use std::thread::Threads;
 use std::time::Clock;
-use words::{Asked, Service, read_words};
+use words::{Asked, Export, Service, read_words};
 
 /// Runs the program on its words, the first of which is its name, and answers its status: `DONE`, `REFUSED` with the
 /// refusal on `faults`, or `NOT_UNDERSTOOD`. Help that is asked for goes to `output`. Words that ask for a server are for
@@ -92,7 +93,28 @@ fn carry_out<R: Files<File = File> + Wait, I: BufRead, W: Write>(
             commands::dump(rt, alloc, path, output)?;
             Ok(())
         }
+        Asked::Export(asked) => export(rt, alloc, asked, output),
     }
+}
+
+/// Writes the articles that the words ask for.
+fn export<R: Files<File = File>, W: Write>(
+    rt: &R,
+    alloc: Global,
+    asked: Export<'_>,
+    output: &mut W,
+) -> Result<(), Failure> {
+    let group = match asked.group {
+        Some(name) => Some(group_name(name.as_bytes())?),
+        None => None,
+    };
+    let ends = if asked.has_crlf {
+        LineEnds::Crlf
+    } else {
+        LineEnds::Lf
+    };
+    commands::export(rt, alloc, asked.path, group.as_ref(), ends, output)?;
+    Ok(())
 }
 
 /// Makes the change of a line and prints its serial.
@@ -126,7 +148,7 @@ fn change<R: Files<File = File> + Wait, W: Write>(
     Ok(writeln!(output, "{serial}")?)
 }
 
-/// The group that a line names. A line that was read names one.
+/// The group that a word names. A line that was read names one.
 fn group_name(name: &[u8]) -> Result<GroupName, Failure> {
     GroupName::read(name).map_err(|_| Failure::Bad)
 }

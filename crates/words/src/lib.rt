@@ -4,4 +4,4 @@
 mod reading;
 mod syntax;
 
-pub use reading::{Asked, Service, read_words};
+pub use reading::{Asked, Export, Service, read_words};

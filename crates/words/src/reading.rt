@@ -1,7 +1,8 @@
 //! The program's words are read.
 
 use crate::syntax::{
-    BLOCKS, CACHE, DESCRIPTION, HOST, INODES, MOMENT, NAME, NUMBER, PATH, PORT, STATUS, syntax,
+    BLOCKS, CACHE, CRLF, DESCRIPTION, HOST, INODES, MOMENT, NAME, NUMBER, PATH, PORT, STATUS,
+    syntax,
 };
 use clap::ArgMatches;
 use clap::error::{Error, ErrorKind};
@@ -25,6 +26,7 @@ pub enum Asked<'a> {
     Change(&'a str, Vec<u8>),
     Serve(Service<'a>),
     Dump(&'a str),
+    Export(Export<'a>),
 }
 
 /// The volume that a server serves, and its port.
@@ -32,6 +34,14 @@ pub enum Asked<'a> {
 pub struct Service<'a> {
     pub path: &'a str,
     pub port: u16,
+}
+
+/// The volume whose articles are exported, those of one group or all, and whether their lines end in CRLF.
+#[derive(Clone, Copy)]
+pub struct Export<'a> {
+    pub path: &'a str,
+    pub group: Option<&'a str>,
+    pub has_crlf: bool,
 }
 
 /// Reads the words, the first of which is the program's name. Where they aren't understood, the parser's text goes to `faults`;
@@ -73,6 +83,7 @@ fn read_request<'a>(alloc: Global, matches: &ArgMatches<'a>) -> Result<Asked<'a>
         "expire" => Ok(Asked::Change(word(words, PATH)?, read_expiry(alloc, words)?)),
         "serve" => Ok(Asked::Serve(read_service(words)?)),
         "dump" => Ok(Asked::Dump(word(words, PATH)?)),
+        "export" => Ok(Asked::Export(read_export(words)?)),
         _ => Err(Failure::Bad),
     }
 }
@@ -145,4 +156,13 @@ fn read_service<'a>(words: &ArgMatches<'a>) -> Result<Service<'a>, Failure> {
         Some(port) => Ok(Service { path, port }),
         None => Err(Failure::Bad),
     }
+}
+
+/// The volume and the articles that the words name.
+fn read_export<'a>(words: &ArgMatches<'a>) -> Result<Export<'a>, Failure> {
+    Ok(Export {
+        path: word(words, PATH)?,
+        group: words.get_str(NAME),
+        has_crlf: words.get_flag(CRLF),
+    })
 }

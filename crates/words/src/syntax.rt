@@ -25,6 +25,8 @@ pub(crate) const DESCRIPTION: &str = "description";
 
 pub(crate) const NUMBER: &str = "number";
 
+pub(crate) const CRLF: &str = "crlf";
+
 /// What `serve` does, in short.
 const SERVING: &str = "\
 Listens on 127.0.0.1 and prints `listening 127.0.0.1:P`. One server at a time serves a volume. \
@@ -45,6 +47,7 @@ pub(crate) fn syntax<'a>(alloc: Global) -> Result<Command<'a>, AllocError> {
         .subcommand(expire(alloc)?)?
         .subcommand(serve(alloc)?)?
         .subcommand(dump(alloc)?)?
+        .subcommand(export(alloc)?)?
         .subcommand(sim(alloc)?)
 }
 
@@ -126,6 +129,25 @@ fn dump<'a>(alloc: Global) -> Result<Command<'a>, AllocError> {
     Command::new(alloc, "dump")
         .about("Prints the accepted changes of a volume that no server serves")
         .arg(path(alloc))
+}
+
+fn export<'a>(alloc: Global) -> Result<Command<'a>, AllocError> {
+    let group = operand(
+        alloc,
+        NAME,
+        "GROUP",
+        "The articles of this group alone, in rising number",
+    )
+    .required(false);
+    let crlf = Arg::new(alloc, CRLF)
+        .long(CRLF)
+        .action(ArgAction::SetTrue)
+        .help("Lines end in CRLF, as they are stored, and not in LF");
+    Command::new(alloc, "export")
+        .about("Writes the articles of a volume that no server serves, as a batch for rnews")
+        .arg(path(alloc))?
+        .arg(group)?
+        .arg(crlf)
 }
 
 /// A command with the options of a new volume.

@@ -1,0 +1,25 @@
+//! The articles of a volume are written as a batch.
+
+use crate::files::open;
+use exporting::LineEnds;
+use names::GroupName;
+use printing::CommandError;
+use std::alloc::Global;
+use std::fs::File;
+use std::io::Write;
+use std::rt::Files;
+
+/// Writes the articles that are in a group of a volume, or in any, as `exporting::export` does.
+pub fn export<R: Files<File = File>, W: Write>(
+    rt: &R,
+    alloc: Global,
+    path: &str,
+    group: Option<&GroupName>,
+    ends: LineEnds,
+    output: &mut W,
+) -> Result<(), CommandError> {
+    let opened = open(rt, alloc, path)?;
+    exporting::export(alloc, opened.kernel.spool(), group, ends, output)?;
+    output.flush()?;
+    Ok(())
+}
