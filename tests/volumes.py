@@ -1,13 +1,9 @@
 #!/usr/bin/env python3
 """System tests of the commands over a volume in a file, and of its largest sizes. volumes.py NEWSD [NAME..]"""
-<<<<<<< HEAD
-import os
-=======
 import grp
 import os
 import pwd
 import shutil
->>>>>>> 9634731 (newsd export: the articles of a volume, as a batch for rnews)
 import struct
 import subprocess
 import sys
