@@ -1,26 +1,53 @@
 //! `newsd`, a Usenet server that releases no reply before what it says is on disk.
 #![tactic(auto)]
 
-use program::{asked_service, run, serve};
-use std::io::{self, BufReader, BufWriter};
+use program::{Failure, Outcome, fail, run, serve};
+use std::io::{BufReader, BufWriter, StdinLock, Stdout};
 use std::process::ExitCode;
 
-fn main(rt: HostRuntime) -> io::Result<ExitCode> {
+/// What the program begins with.
+#[derive(Drop)]
+struct Start {
+    words: Vec<String>,
+    input: BufReader<StdinLock<'static>>,
+    output: BufWriter<Stdout>,
+}
+
+impl Start {
+    /// The words that the program was called with, and its streams.
+    fn new(rt: &HostRuntime) -> Result<Start, Failure> {
+        let alloc = rt.alloc();
+        Ok(Start {
+            words: std::env::args(rt)?.collect(alloc)?,
+            input: BufReader::new(alloc, rt.reader())?,
+            output: BufWriter::new(alloc, rt.stdout())?,
+        })
+    }
+}
+
+fn main(rt: HostRuntime) -> ExitCode {
     let alloc = rt.alloc();
-    let words: Vec<String> = std::env::args(&rt)?.collect(alloc)?;
-    let mut input = BufReader::new(alloc, rt.reader())?;
-    let mut output = BufWriter::new(alloc, rt.stdout())?;
     let mut faults = rt.stderr();
-    let status = match asked_service(alloc, words.as_slice()) {
-        Some(service) => serve(&rt, alloc, service, input, output, &mut faults),
-        None => run(
-            &rt,
-            alloc,
-            words.as_slice(),
-            &mut input,
-            &mut output,
-            &mut faults,
-        ),
+    let status = match Start::new(&rt) {
+        Ok(start) => {
+            let Start {
+                words,
+                mut input,
+                mut output,
+            } = start;
+            match run(
+                &rt,
+                alloc,
+                words.as_slice(),
+                &mut input,
+                &mut output,
+                &mut faults,
+            ) {
+                Outcome::Ends(status) => status,
+                Outcome::Serves(service) => serve(&rt, alloc, service, input, output, &mut faults),
+            }
+        }
+        Err(failure) => fail(&mut faults, &failure),
     };
-    Ok(ExitCode::from(status))
+    ExitCode::from(status)
 }

@@ -37,9 +37,7 @@ fn print_change<W: Write>(
             output.write_all(&[b' ', *status, b'\n'])?;
         }
         Change::Article { text, groups, .. } => {
-            write!(output, "{serial} article ")?;
-            print_id(alloc, text.as_slice(), output)?;
-            print_groups(groups.as_slice(), output)?;
+            print_article(alloc, serial, text.as_slice(), groups.as_slice(), output)?;
         }
         Change::Expire { group, number } => {
             write!(output, "{serial} expire ")?;
@@ -50,13 +48,21 @@ fn print_change<W: Write>(
     Ok(())
 }
 
-/// Prints the message-id of a stored text.
-fn print_id<W: Write>(alloc: Global, text: &[u8], output: &mut W) -> Result<(), CommandError> {
-    // a stored text is an article and has an id, so that memory alone may be refused
+/// The line of a stored text.
+fn print_article<W: Write>(
+    alloc: Global,
+    serial: u64,
+    text: &[u8],
+    groups: &[Text],
+    output: &mut W,
+) -> Result<(), CommandError> {
+    // A stored text is an article and has an id, so that memory alone may be refused; then nothing of the line is printed.
     let Ok(article) = Article::read(alloc, text, Origin::Carried) else {
         return Err(CommandError::Memory);
     };
-    Ok(output.write_all(article.id().unwrap_or(b""))?)
+    write!(output, "{serial} article ")?;
+    output.write_all(article.id().unwrap_or(b""))?;
+    Ok(print_groups(groups, output)?)
 }
 
 /// Prints the groups, parted by commas, and ends the line.

@@ -1,7 +1,11 @@
+ghost use Rattle.std.specs.Prelude.{◌≡◌};
+ghost use Rattle.printing.specs.declared.errors.CommandError.TheVariants.{Memory};
+ghost use Rattle.printing.specs.Streams.{command_error_of};
+
 use journal::JournalError;
 use kernel::{AdminError, ExpireError, OpenError};
 use std::alloc::AllocError;
-use std::io;
+use std::io::{self, ErrorKind};
 use thiserror::Error;
 
 /// Why a command over a volume in a file ends without having been done.
@@ -37,14 +41,22 @@ pub enum CommandError {
 }
 
 impl From<AllocError> for CommandError {
+    ghost from_gives = { λ _ refused. refused ≡ Memory };
+
     fn from(_error: AllocError) -> CommandError {
         CommandError::Memory
     }
 }
 
 impl From<io::Error> for CommandError {
+    ghost from_gives = { λ error refused. refused ≡ command_error_of error };
+
+    /// A stream that was refused memory ends as any other refusal of memory.
     fn from(error: io::Error) -> CommandError {
-        CommandError::Stream(error)
+        match error.kind() {
+            ErrorKind::OutOfMemory => CommandError::Memory,
+            _ => CommandError::Stream(error),
+        }
     }
 }
 

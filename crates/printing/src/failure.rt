@@ -1,11 +1,12 @@
 ghost use Rattle.std.specs.Prelude.{◌≡◌};
 ghost use Rattle.printing.specs.declared.failure.Failure.TheVariants.{Memory};
 ghost use Rattle.printing.specs.Status.{status_of};
+ghost use Rattle.printing.specs.Streams.{failure_of};
 
 use crate::{CommandError, NOT_UNDERSTOOD, REFUSED};
 use kernel::OpenError;
 use std::alloc::{AllocError, AllocFailed};
-use std::io;
+use std::io::{self, ErrorKind};
 use thiserror::Error;
 
 /// Why the program ends before its input does.
@@ -66,7 +67,13 @@ impl From<CommandError> for Failure {
 }
 
 impl From<io::Error> for Failure {
+    ghost from_gives = { λ error failure. failure ≡ failure_of error };
+
+    /// A stream that was refused memory ends as any other refusal of memory.
     fn from(error: io::Error) -> Failure {
-        Failure::Stream(error)
+        match error.kind() {
+            ErrorKind::OutOfMemory => Failure::Memory,
+            _ => Failure::Stream(error),
+        }
     }
 }

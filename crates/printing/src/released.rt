@@ -21,8 +21,10 @@ pub fn print_released<W: Write>(
     for index in 0..ready.len() {
         let (session, octets, ends) = ready.entry(index);
         if !octets.is_empty() {
+            // before anything of the line is printed, as it may be refused memory
+            let text = escaped(alloc, octets)?;
             write!(output, "out {session} ")?;
-            output.write_all(escaped(alloc, octets)?.as_slice())?;
+            output.write_all(text.as_slice())?;
             writeln!(output)?;
         }
         if ends {

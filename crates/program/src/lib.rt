@@ -3,5 +3,6 @@
 
 mod running;
 
-pub use running::{asked_service, run, serve};
+pub use printing::Failure;
+pub use running::{Outcome, fail, run, serve};
 pub use words::Service;

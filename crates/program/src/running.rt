@@ -1,14 +1,17 @@
 //! What the program does: each of its commands but the simulation, and the server.
 
+ghost use Rattle.std.specs.Prelude.{◌≡◌};
+ghost use Rattle.printing.specs.Status.{status_of};
+
 use commands::LineEnds;
 use names::GroupName;
-use printing::{DONE, Failure, NOT_UNDERSTOOD};
+use printing::{DONE, Failure};
 use script::{Line, ParseError, parse};
 use simulation::simulate;
 use std::alloc::Global;
 use std::convert::AsStr;
 use std::fs::File;
-use std::io::{self, BufRead, Write};
+use std::io::{BufRead, Write};
 use std::net::{Net, TcpListener, TcpStream};
 use std::rt::Files;
 use std::sync::Wait;
@@ -16,22 +19,31 @@ use std::thread::Threads;
 use std::time::Clock;
 use words::{Asked, Export, Service, read_words};
 
+/// How the program goes on after `run`.
+#[derive(Clone, Copy)]
+pub enum Outcome<'a> {
+    /// It ends with this status.
+    Ends(u8),
+    /// The words ask for a server, which is for `serve`.
+    Serves(Service<'a>),
+}
+
 /// Runs the program on its words, the first of which is its name, and answers its status: `DONE`, `REFUSED` with the
-/// refusal on `faults`, or `NOT_UNDERSTOOD`. Help that is asked for goes to `output`. Words that ask for a server are for
-/// `serve`; here they do nothing.
+/// refusal on `faults`, or `NOT_UNDERSTOOD`. Help and the version, where one is asked for, go to `output`. Words that ask for a
+/// server are read and handed back.
 ///
 /// Faults are found in this order: words not understood; words outside their grammar; opening; the call.
-pub fn run<R: Files<File = File> + Wait, S: AsStr, I: BufRead, W: Write, F: Write>(
+pub fn run<'a, R: Files<File = File> + Wait, S: AsStr, I: BufRead, W: Write, F: Write>(
     rt: &R,
     alloc: Global,
-    words: &[S],
+    words: &'a [S],
     input: &mut I,
     output: &mut W,
     faults: &mut F,
-) -> u8 {
+) -> Outcome<'a> {
     let status = match read_words(alloc, words, output, faults) {
+        Ok(Asked::Serve(service)) => return Outcome::Serves(service),
         Ok(Asked::Nothing(status)) => status,
-        Ok(Asked::Serve(_)) => NOT_UNDERSTOOD,
         Ok(asked) => match carry_out(rt, alloc, asked, input, output) {
             Ok(()) => DONE,
             Err(failure) => fail(faults, &failure),
@@ -40,15 +52,7 @@ pub fn run<R: Files<File = File> + Wait, S: AsStr, I: BufRead, W: Write, F: Writ
     };
     let _ = output.flush();
     let _ = faults.flush();
-    status
-}
-
-/// The volume and the port, where the words ask for a server and are in their grammars; all other words are for `run`.
-pub fn asked_service<'a, S: AsStr>(alloc: Global, words: &'a [S]) -> Option<Service<'a>> {
-    match read_words(alloc, words, &mut io::sink(), &mut io::sink()) {
-        Ok(Asked::Serve(service)) => Some(service),
-        _ => None,
-    }
+    Outcome::Ends(status)
 }
 
 /// Serves a volume until its device fails, and answers the status.
@@ -154,7 +158,9 @@ fn group_name(name: &[u8]) -> Result<GroupName, Failure> {
 }
 
 /// Prints why the program ends, and answers its status.
-fn fail<F: Write>(faults: &mut F, failure: &Failure) -> u8 {
+pub fn fail<F: Write>(faults: &mut F, failure: &Failure) -> u8
+    ensures { result ≡ status_of failure.now }
+{
     let _ = writeln!(faults, "newsd: {failure}");
     failure.status()
 }

@@ -6,8 +6,8 @@
 //! N octets alone, of which it says how many are left, and has the last line end without an LF.
 #![tactic(auto)]
 
-use anyhow::{Result, anyhow};
-use program::run;
+use anyhow::{Result, anyhow, bail};
+use program::{Outcome, run};
 use std::alloc::{AllocError, Global};
 use std::fs::File;
 use std::io::{BufRead, BufReader, BufWriter, Write};
@@ -74,7 +74,7 @@ impl Script {
         writeln!(output, "== {}", self.name)?;
         let mut faults = Vec::new(alloc);
         let status = match self.room {
-            None => self.run(rt, alloc, self.lines.as_bytes(), output, &mut faults),
+            None => self.run(rt, alloc, self.lines.as_bytes(), output, &mut faults)?,
             Some(size) => self.run_into(rt, alloc, size, output, &mut faults)?,
         };
         writeln!(output, "status {status}")?;
@@ -95,7 +95,7 @@ impl Script {
         let mut room = octets.as_mut_slice();
         let lines = self.lines.as_bytes();
         let lines = lines.strip_suffix(b"\n").unwrap_or(lines);
-        let status = self.run(rt, alloc, lines, &mut room, faults);
+        let status = self.run(rt, alloc, lines, &mut room, faults)?;
         let left = room.len();
         output.write_all(octets.as_slice())?;
         writeln!(output)?;
@@ -103,7 +103,7 @@ impl Script {
         Ok(status)
     }
 
-    /// Runs the program on its words and these lines, and answers its status.
+    /// Runs the program on its words and these lines, and answers its status. No server is started here.
     fn run<R: Files<File = File> + Wait, W: Write>(
         &self,
         rt: &R,
@@ -111,12 +111,16 @@ impl Script {
         lines: &[u8],
         output: &mut W,
         faults: &mut Vec<u8>,
-    ) -> u8 {
+    ) -> Result<u8> {
         let mut input = lines;
-        if self.words.is_empty() {
+        let outcome = if self.words.is_empty() {
             run(rt, alloc, WORDS.as_slice(), &mut input, output, faults)
         } else {
             run(rt, alloc, self.words.as_slice(), &mut input, output, faults)
+        };
+        match outcome {
+            Outcome::Ends(status) => Ok(status),
+            Outcome::Serves(service) => bail!("a server on port {}", service.port),
         }
     }
 }

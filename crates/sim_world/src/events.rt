@@ -8,7 +8,7 @@ ghost use Rattle.world.specs.Events.{MayHappen};
 use crate::errors::SimError;
 use model::Mark;
 use names::GroupName;
-use script::{Line, number, parse};
+use script::{Line, ParseError, number, parse};
 use std::alloc::{AllocError, Global};
 use world::{Answer, Event, StepError};
 
@@ -24,7 +24,8 @@ pub(crate) fn event(alloc: Global, line: &str) -> Result<Event, SimError>
     }
     match parse(alloc, line.as_bytes()) {
         Ok(line) => event_of(line),
-        Err(_) => Err(SimError::NoEvent),
+        Err(ParseError::Bad) => Err(SimError::NoEvent),
+        Err(ParseError::Memory) => Err(SimError::Memory),
     }
 }
 
