@@ -5,3 +5,4 @@ mod reading;
 mod syntax;
 
 pub use reading::{Asked, Export, Service, read_words};
+pub use syntax::VERSION;

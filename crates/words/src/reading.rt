@@ -17,7 +17,7 @@ use std::io::Write;
 /// What the words ask for.
 #[derive(Drop)]
 pub enum Asked<'a> {
-    /// Nothing more: help was printed, or words were not understood.
+    /// Nothing more: help or the version was printed, or words were not understood.
     Nothing(u8),
     /// Over a device in memory, with or without a cache that collects writes until a sync.
     Simulation(Plan<'a>, bool),
@@ -45,7 +45,7 @@ pub struct Export<'a> {
 }
 
 /// Reads the words, the first of which is the program's name. Where they aren't understood, the parser's text goes to `faults`;
-/// help goes to `output`. `Bad` where a word is outside its grammar or range, `Memory` where a growth was refused.
+/// help and the version go to `output`. `Bad` where a word is outside its grammar or range, `Memory` where a growth was refused.
 pub fn read_words<'a, S: AsStr, W: Write, F: Write>(
     alloc: Global,
     words: &'a [S],

@@ -27,6 +27,9 @@ pub(crate) const NUMBER: &str = "number";
 
 pub(crate) const CRLF: &str = "crlf";
 
+/// What `newsd --version` says.
+pub const VERSION: &str = "0.9.0";
+
 /// What `serve` does, in short.
 const SERVING: &str = "\
 Listens on 127.0.0.1 and prints `listening 127.0.0.1:P`. One server at a time serves a volume. \
@@ -40,6 +43,7 @@ Serve the volume again then: what was acknowledged is there. The same holds afte
 pub(crate) fn syntax<'a>(alloc: Global) -> Result<Command<'a>, AllocError> {
     Command::new(alloc, "newsd")
         .bin_name("newsd")?
+        .version(VERSION)
         .about("A Usenet server that releases no reply before what it says is on disk")
         .subcommand_required(true)
         .subcommand(format(alloc)?)?
