@@ -1,10 +1,9 @@
 //! Where a test stops the flusher or the releaser, and what its threads tell one another.
 
-use crate::kernels::Watch;
 use flusher::{Arrivals, Gate};
 use std::alloc::{AllocError, Global};
 use std::sync::atomic::{AtomicBool, AtomicU64, Ordering};
-use std::sync::{Arc, Mutex, Wait};
+use std::sync::{Arc, Wait};
 use std::thread::{self, Parker};
 
 /// A test waits for so many turns of one load and one yield, and then fails.
@@ -74,7 +73,7 @@ pub(crate) enum Holds {
     Unread,
     /// A flush, until a caller has read its reply.
     Flush,
-    /// Each release to session 1, until a seat of the mark sees that the post of session 2, the third change, is durable.
+    /// Each release to session 1, until a batch is committed.
     Release,
     /// A flush, for a while in which the operator must not be answered.
     Answer,
@@ -82,34 +81,14 @@ pub(crate) enum Holds {
     Taken,
 }
 
-/// The changes once the other session's post is made.
-const WITH_THE_POST: u64 = 3;
-
 /// The gate of a test.
 #[derive(Clone, Copy)]
-pub(crate) struct TestGate<'a, 'm> {
+pub(crate) struct TestGate<'a> {
     pub(crate) flags: &'a Flags,
     pub(crate) holds: Holds,
-    /// Its own seat of the mark.
-    pub(crate) watch: &'a Mutex<Watch<'m>>,
 }
 
-impl<'a, 'm> TestGate<'a, 'm> {
-    /// Turns until its seat sees so many changes as durable, as a gate does.
-    fn hold_until_durable(&self, changes: u64) {
-        for _ in 0..TURNS {
-            if let Some(mut watch) = self.watch.try_lock() {
-                if watch.durable() >= changes {
-                    return;
-                }
-            }
-            thread::yield_now();
-        }
-        self.flags.failed.store(true, Ordering::SeqCst);
-    }
-}
-
-impl<'a, 'm> Gate for TestGate<'a, 'm> {
+impl<'a> Gate for TestGate<'a> {
     fn before_flush(&self) {
         self.flags.flushing.store(true, Ordering::SeqCst);
         match self.holds {
@@ -135,7 +114,7 @@ impl<'a, 'm> Gate for TestGate<'a, 'm> {
     fn before_release(&self, sid: u64) {
         let before = self.flags.releases.fetch_add(1, Ordering::SeqCst);
         if self.holds == Holds::Release && sid == 1 {
-            self.hold_until_durable(WITH_THE_POST);
+            self.flags.hold_until(&self.flags.flushed);
         }
         if self.holds == Holds::Taken && before == 1 {
             self.flags.hold_until(&self.flags.flushed);

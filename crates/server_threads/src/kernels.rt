@@ -30,8 +30,7 @@ impl<'a> Watch<'a> {
         Watch { mark, seat }
     }
 
-    /// How many changes its seat sees as durable.
-    pub(crate) fn durable(&mut self) -> u64 {
+    fn durable(&mut self) -> u64 {
         self.mark.durable(&mut self.seat)
     }
 }

@@ -18,7 +18,7 @@ use std::alloc::Global;
 use std::io::{self, Write};
 use std::net::{Ipv4Addr, Net, SocketAddr, TcpListener, TcpStream};
 use std::sync::atomic::{AtomicU64, Ordering};
-use std::sync::{Arc, Mutex, Wait};
+use std::sync::{Arc, Wait};
 use std::thread::{Parker, Threads, join};
 use std::time::Clock;
 
@@ -113,45 +113,41 @@ fn add_group<K: Kern, R: Wait>(rt: &R, alloc: Global, kern: &K, name: &[u8]) -> 
 
 /// A server that is about to serve a volume with the groups `x.a` and `x.b`, which are durable.
 #[derive(Drop)]
-struct Stage<'a, 'm> {
+struct Stage<'a> {
     journal: Journal<MemDisk>,
     kern: Watched<'a>,
     mark: &'a Mark,
     flush_seat: FlushSeat,
     seat: Seat,
     flags: &'a Flags,
-    /// What the gate sees the mark by.
-    watch: &'a Mutex<Watch<'m>>,
     ghost idle: { IsIdle journal },
     ghost flushes: { flush_seat.mark ≡ mark.now },
     ghost looks: { seat.mark ≡ mark.now },
 }
 
-impl<'a, 'm> Stage<'a, 'm> {
+impl<'a> Stage<'a> {
     fn new<R: Wait>(
         rt: &R,
         alloc: Global,
         mark: &'a Mark,
         flush_seat: FlushSeat,
         seat: Seat,
-        watched: (&'a Flags, &'a Mutex<Watch<'m>>),
-    ) -> Option<Stage<'a, 'm>>
+        flags: &'a Flags,
+    ) -> Option<Stage<'a>>
         requires flushes { flush_seat.mark ≡ mark.now }
         requires looks { seat.mark ≡ mark.now }
     {
-        let (flags, watch) = watched;
         let mut flush_seat = flush_seat;
         let mut seat = seat;
         let (mut journal, kernel) = open_volume(alloc, &plan()?)?;
-        let own = Watch::new(mark, mark.another(&mut seat));
-        let kern = Watched::new(kernel, own, flags);
+        let watch = Watch::new(mark, mark.another(&mut seat));
+        let kern = Watched::new(kernel, watch, flags);
         let Ok(mut batch) = BatchBuf::new(alloc) else {
             return None;
         };
         let gate = TestGate {
             flags,
             holds: Holds::Nothing,
-            watch,
         };
         add_group(rt, alloc, &kern, b"x.a")?;
         add_group(rt, alloc, &kern, b"x.b")?;
@@ -175,7 +171,6 @@ impl<'a, 'm> Stage<'a, 'm> {
             flush_seat,
             seat,
             flags,
-            watch,
         })
     }
 
@@ -203,13 +198,8 @@ impl<'a, 'm> Stage<'a, 'm> {
             flush_seat,
             seat,
             flags,
-            watch,
         } = self;
-        let gate = TestGate {
-            flags,
-            holds,
-            watch,
-        };
+        let gate = TestGate { flags, holds };
         let lines: &'static [u8] = match holds {
             Holds::Answer => b"group x.c y 1000000000 test\n",
             Holds::Unread => b"spool\ngroup x.c y 1000000000 test\n",
@@ -250,8 +240,7 @@ pub(crate) fn raises_after_commit<R: Wait>(rt: &R, alloc: Global) -> bool {
         return false;
     };
     let own = mark.another(&mut seat);
-    let watch = Mutex::new(Watch::new(&mark, mark.another(&mut seat)));
-    if Stage::new(rt, alloc, &mark, flush_seat, own, (&flags, &watch)).is_none() {
+    if Stage::new(rt, alloc, &mark, flush_seat, own, &flags).is_none() {
         return false;
     }
     mark.durable(&mut seat) == 2 && !flags.failed.load(Ordering::SeqCst)
@@ -289,11 +278,10 @@ pub(crate) fn play<
     let Ok(flags) = Flags::new(alloc) else {
         return None;
     };
-    let Ok((mark, flush_seat, mut seat)) = Mark::new(alloc) else {
+    let Ok((mark, flush_seat, seat)) = Mark::new(alloc) else {
         return None;
     };
-    let watch = Mutex::new(Watch::new(&mark, mark.another(&mut seat)));
-    let mut stage = Stage::new(rt, alloc, &mark, flush_seat, seat, (&flags, &watch))?;
+    let mut stage = Stage::new(rt, alloc, &mark, flush_seat, seat, &flags)?;
     stage.plan_fault(holds);
     let Ok(listener) = TcpListener::bind(rt, SocketAddr::from((Ipv4Addr::LOCALHOST, 0))) else {
         return None;
