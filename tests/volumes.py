@@ -102,12 +102,13 @@ def a_commit_syncs_the_device(volume):
 
 
 def without_memory_no_volume_is_made(volume):
+    """The room of the journal's segments may be refused after the blocks were zeroed: no spool stands there then."""
     format_words = ["format", volume.path, "--host", HOST]
-    for megabytes in (8, 16, 24, 32):
+    for megabytes in (8, 12, 16):
         done = volume.run(*format_words, most_memory=megabytes << 20)
         assert (done.returncode, done.stderr) == (1, b"newsd: E2 Memory\n"), (megabytes, done)
         done = volume.run("dump", volume.path)
-        assert (done.returncode, done.stderr) == (1, b"newsd: E3 NotAVolume\n"), (megabytes, done)
+        assert done.returncode == 1 and done.stderr in (b"newsd: E3 NotAVolume\n", b"newsd: E5 Damaged\n"), (megabytes, done)
     volume.run(*format_words).check_returncode()
     assert volume.dump() == ["spool 0"]
 
