@@ -115,12 +115,11 @@ def without_memory_no_volume_is_made(volume):
 
 def the_largest_volume_is_made_in_little_memory(volume):
     """65,536 blocks of 4,096 octets: none of them is held in memory to make them."""
-    words = [volume.program, "format", volume.path, "--host", HOST, "--blocks", "65536", "--inodes", "32768"]
-    process = os.posix_spawn(volume.program, words, os.environ)
-    _, status, usage = os.wait4(process, 0)
-    megabytes = usage.ru_maxrss * 1024 / 1e6
-    print("  the largest format takes %.1f MB of memory" % megabytes, flush=True)
-    assert status == 0 and megabytes < 50, (status, megabytes)
+    words = ["format", volume.path, "--host", HOST, "--blocks", "65536", "--inodes", "32768"]
+    limits = (it for it in range(18, 50, 2) if volume.run(*words, most_memory=it << 20).returncode == 0)
+    megabytes = next(limits, None)
+    print("  the largest format is made within %s MiB of addresses" % megabytes, flush=True)
+    assert megabytes
     assert volume.dump() == ["spool 0"]
 
 
