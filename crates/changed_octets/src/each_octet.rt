@@ -2,7 +2,7 @@
 //! refused as no volume or as damaged, or what is opened answers a session.
 
 use crate::some_octets::{Wanted, becomes, with_closed_segments};
-use sim_world::{Device, SimError};
+use eight_batches::{Device, SimError};
 use std::alloc::Global;
 use std::test::Fail;
 

@@ -3,11 +3,11 @@
 //! Of a device the superblock is block 0. A segment has 514 blocks: its gate, the first one's in block 1, its descriptor, and its
 //! images. The logical blocks begin at 4113.
 
-use eight_batches::{Part, batches, shows, with_open_segments};
-use sim_world::{Device, NotOpened, Row, Sim, SimError};
+use eight_batches::{
+    Device, NotOpened, OpenError, Part, Row, Sim, SimError, batches, shows, with_open_segments,
+};
 use std::alloc::Global;
 use std::test::Fail;
-use world::OpenError;
 
 /// What is to become of a device of which a bit was changed.
 #[derive(Clone, Copy, PartialEq)]

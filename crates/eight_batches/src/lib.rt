@@ -2,7 +2,7 @@
 //! of each change is the number of its batch. The last batch leaves no closed segment. It promises nothing, as `sim_world` doesn't.
 #![tactic(auto)]
 
-use sim_world::{Device, Sim, SimError};
+pub use sim_world::{Device, DiskCall, NotOpened, OpenError, Pick, Row, Sim, SimError};
 use std::alloc::{AllocError, Global};
 
 /// A part of the script.

@@ -1,12 +1,11 @@
 //! Each single call of a kind fails, and the device is opened again: by each pick of a crash, and without one.
 
-use disk::DiskCall;
-use eight_batches::{Calls, batches, claims_all, claims_no_more, play, settling, shows};
-use memdisk::Pick;
-use sim_world::{Device, NotOpened, Sim, SimError};
+use eight_batches::{
+    Calls, Device, DiskCall, NotOpened, OpenError, Pick, Sim, SimError, batches, claims_all,
+    claims_no_more, play, settling, shows,
+};
 use std::alloc::Global;
 use std::test::Fail;
-use world::OpenError;
 
 /// What a crash makes of the touched octets; none where the device is opened without a crash.
 pub(crate) type Again = Option<Pick>;

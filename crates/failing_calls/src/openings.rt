@@ -1,12 +1,11 @@
 //! Each read of an opening fails. The calls of the script read nothing else.
 
 use crate::failing::{crashed, way};
-use disk::DiskCall;
-use eight_batches::{batches, shows, with_open_segments};
-use sim_world::{Device, NotOpened, Sim, SimError};
+use eight_batches::{
+    Device, DiskCall, NotOpened, OpenError, Sim, SimError, batches, shows, with_open_segments,
+};
 use std::alloc::Global;
 use std::test::Fail;
-use world::OpenError;
 
 /// The device after an opening, and whether that showed the whole script.
 fn reopened(alloc: Global, device: Device) -> Result<(Device, bool), SimError> {

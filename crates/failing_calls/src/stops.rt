@@ -1,9 +1,9 @@
 //! The script is stopped after each step of its journal, and the device crashes by each pick. Which changes are opened is stated for
 //! each stop.
 
-use eight_batches::{Calls, batches, claims_committed, play, settling, shows};
-use memdisk::Pick;
-use sim_world::{Device, Sim, SimError};
+use eight_batches::{
+    Calls, Device, Pick, Sim, SimError, batches, claims_committed, play, settling, shows,
+};
 use std::alloc::Global;
 use std::test::Fail;
 

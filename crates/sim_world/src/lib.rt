@@ -7,6 +7,10 @@ mod errors;
 mod events;
 mod sealed;
 
+pub use disk::DiskCall;
 pub use errors::SimError;
 pub use events::Row;
+pub use memdisk::Pick;
+pub use model::{Change, Mark};
 pub use sealed::{BLOCKS, Device, NotOpened, Sim};
+pub use world::{Entry, Happened, OpenError};

@@ -13,11 +13,10 @@ use memdisk::{MemDisk, Pick};
 use model::Part;
 use names::is_host;
 use new_volume::{Plan, are_sizes, device_octets, format};
-use served::Entry;
 use std::alloc::Global;
 use std::marker::Model;
 use volume_format::layout::BLOCK;
-use world::{Answer, Event, OpenError, Refused, StepError, World};
+use world::{Answer, Entry, Event, OpenError, Refused, StepError, World};
 
 /// The logical blocks of the device.
 pub const BLOCKS: u64 = 1024;

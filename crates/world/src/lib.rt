@@ -36,7 +36,8 @@ use names::GroupName;
 use opening::Opened;
 pub use opening::{OpenError, Refused};
 use outbox::ReadyBuf;
-use served::{ArriveError, Entry, Served};
+use served::{ArriveError, Served};
+pub use served::{Entry, Happened};
 use std::alloc::Global;
 use std::marker::Model;
 

@@ -1,11 +1,9 @@
 //! Device calls counted, and a fault at each of them.
 
 use crate::first_script::{committed, first_wrong, held, is_opened, made, posted, released};
-use memdisk::Pick;
-use sim_world::{BLOCKS, Device, NotOpened, Row, Sim};
+use sim_world::{BLOCKS, Device, NotOpened, OpenError, Pick, Row, Sim};
 use std::alloc::Global;
 use std::test::Fail;
-use world::OpenError;
 
 /// The answer to the device call that is so many from the one that fails, which itself is the last.
 fn answer_of<'a>(left: u64, good: &'a str) -> &'a str {

@@ -1,10 +1,7 @@
 //! The first script: a group is made and committed, an article is posted, and its reply waits for its commit. Its parts are
 //! functions, so that no proof reads them.
 
-use memdisk::Pick;
-use model::{Change, Mark};
-use served::{Entry, Happened};
-use sim_world::{Row, Sim};
+use sim_world::{Change, Entry, Happened, Mark, Pick, Row, Sim};
 use std::alloc::Global;
 use std::test::Fail;
 
