@@ -3,6 +3,7 @@
 
 mod reading;
 mod syntax;
+mod table;
 
 pub use reading::{Asked, Export, Service, read_words};
 pub use syntax::VERSION;

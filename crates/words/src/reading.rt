@@ -1,8 +1,8 @@
 //! The program's words are read.
 
-use crate::syntax::{
+use crate::syntax::syntax;
+use crate::table::{
     BLOCKS, CACHE, CRLF, DESCRIPTION, HOST, INODES, MOMENT, NAME, NUMBER, PATH, PORT, STATUS,
-    syntax,
 };
 use clap::ArgMatches;
 use clap::error::{Error, ErrorKind};

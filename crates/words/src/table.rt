@@ -1,0 +1,228 @@
+//! The program's words as a table: each subcommand with the words that it takes, and what help says of them.
+
+pub(crate) const HOST: &str = "host";
+
+pub(crate) const BLOCKS: &str = "blocks";
+
+pub(crate) const INODES: &str = "inodes";
+
+pub(crate) const CACHE: &str = "cache";
+
+pub(crate) const PATH: &str = "path";
+
+pub(crate) const PORT: &str = "port";
+
+pub(crate) const NAME: &str = "name";
+
+pub(crate) const STATUS: &str = "status";
+
+pub(crate) const MOMENT: &str = "moment";
+
+pub(crate) const DESCRIPTION: &str = "description";
+
+pub(crate) const NUMBER: &str = "number";
+
+pub(crate) const CRLF: &str = "crlf";
+
+/// A word of a subcommand, as it is read and as help shows it.
+#[derive(Clone, Copy)]
+pub(crate) struct Word {
+    /// Its name among what was read. An option is written so, after two hyphens.
+    pub(crate) id: &'static str,
+    /// What help shows in place of its value; empty for a flag.
+    pub(crate) value: &'static str,
+    pub(crate) help: &'static str,
+    pub(crate) kind: Kind,
+}
+
+/// How a word is given.
+#[derive(Clone, Copy)]
+pub(crate) enum Kind {
+    /// By its place.
+    Operand,
+    /// By its place. It may be left out.
+    LastOperand,
+    /// As an option that has to be given.
+    Required,
+    /// As an option, with the value that it has where it isn't given.
+    Default(&'static str),
+    /// As an option that has to be given: a number from 1 to 65535.
+    Port,
+    /// As an option without a value.
+    Flag,
+}
+
+/// A subcommand.
+#[derive(Clone, Copy)]
+pub(crate) struct Subcommand {
+    pub(crate) name: &'static str,
+    pub(crate) about: &'static str,
+    /// What its help says at the end, if it says anything there.
+    pub(crate) after_help: Option<&'static str>,
+    pub(crate) words: &'static [Word],
+}
+
+const VOLUME: Word = Word {
+    id: PATH,
+    value: "PATH",
+    help: "The file that holds the volume",
+    kind: Kind::Operand,
+};
+
+const SERVER: Word = Word {
+    id: HOST,
+    value: "HOST",
+    help: "The server's name",
+    kind: Kind::Required,
+};
+
+const BLOCKS_OF_FILE: Word = Word {
+    id: BLOCKS,
+    value: "N",
+    help: "Logical blocks of 4096 octets",
+    kind: Kind::Default("16384"),
+};
+
+const BLOCKS_OF_MEMORY: Word = Word {
+    kind: Kind::Default("1024"),
+    ..BLOCKS_OF_FILE
+};
+
+const INODES_OF_FILE: Word = Word {
+    id: INODES,
+    value: "I",
+    help: "Files on the volume",
+    kind: Kind::Default("8192"),
+};
+
+const INODES_OF_MEMORY: Word = Word {
+    kind: Kind::Default("64"),
+    ..INODES_OF_FILE
+};
+
+/// What `serve` does, in short.
+const SERVING: &str = "\
+Listens on 127.0.0.1 and prints `listening 127.0.0.1:P`. One server at a time serves a volume. \
+At most 64 sessions are served at one time; the next caller is told `400 Service ends`. Copy the volume for a backup while the server is stopped.
+
+Each line `group NAME STATUS MOMENT DESCRIPTION` of standard input makes a group, and each line `expire NAME N` takes the \
+articles of a group up to that number out of it; the serial is printed once it is durable, or the refusal. Where the device fails, the next caller is told `400 Service ends` and the server ends with `E1 Fault`, status 1. \
+Serve the volume again then: what was acknowledged is there. The same holds after the process was killed.";
+
+/// The subcommands, in the order of the help.
+pub(crate) const SUBCOMMANDS: &[Subcommand] = &[
+    Subcommand {
+        name: "format",
+        about: "Makes an empty volume in a file, in place of any file there",
+        after_help: None,
+        words: &[VOLUME, SERVER, BLOCKS_OF_FILE, INODES_OF_FILE],
+    },
+    Subcommand {
+        name: "group",
+        about: "Adds a group to a volume that no server serves, and prints its serial",
+        after_help: None,
+        words: &[
+            VOLUME,
+            Word {
+                id: NAME,
+                value: "NAME",
+                help: "The group, as in x.announce; at most 40 octets",
+                kind: Kind::Operand,
+            },
+            Word {
+                id: STATUS,
+                value: "STATUS",
+                help: "y where posting is permitted, else n",
+                kind: Kind::Operand,
+            },
+            Word {
+                id: MOMENT,
+                value: "MOMENT",
+                help: "When it is made, in seconds since 1970",
+                kind: Kind::Operand,
+            },
+            Word {
+                id: DESCRIPTION,
+                value: "DESCRIPTION",
+                help: "What it is about, at most 200 octets of ASCII",
+                kind: Kind::Operand,
+            },
+        ],
+    },
+    Subcommand {
+        name: "expire",
+        about: "Takes articles out of a group of a volume that no server serves, and prints the serial of that change",
+        after_help: None,
+        words: &[
+            VOLUME,
+            Word {
+                id: NAME,
+                value: "NAME",
+                help: "The group",
+                kind: Kind::Operand,
+            },
+            Word {
+                id: NUMBER,
+                value: "N",
+                help: "The articles up to this number are taken out",
+                kind: Kind::Operand,
+            },
+        ],
+    },
+    Subcommand {
+        name: "serve",
+        about: "Serves a volume to news readers on this machine",
+        after_help: Some(SERVING),
+        words: &[
+            VOLUME,
+            Word {
+                id: PORT,
+                value: "P",
+                help: "The port, 1 to 65535",
+                kind: Kind::Port,
+            },
+        ],
+    },
+    Subcommand {
+        name: "dump",
+        about: "Prints the accepted changes of a volume that no server serves",
+        after_help: None,
+        words: &[VOLUME],
+    },
+    Subcommand {
+        name: "export",
+        about: "Writes the articles of a volume that no server serves, as a batch for rnews",
+        after_help: None,
+        words: &[
+            VOLUME,
+            Word {
+                id: NAME,
+                value: "GROUP",
+                help: "The articles of this group alone, in rising number",
+                kind: Kind::LastOperand,
+            },
+            Word {
+                id: CRLF,
+                value: "",
+                help: "Lines end in CRLF, as they are stored, and not in LF",
+                kind: Kind::Flag,
+            },
+        ],
+    },
+    Subcommand {
+        name: "sim",
+        about: "Plays a script of events from standard input over a device in memory",
+        after_help: None,
+        words: &[
+            SERVER,
+            BLOCKS_OF_MEMORY,
+            INODES_OF_MEMORY,
+            Word {
+                id: CACHE,
+                value: "",
+                help: "Collects writes in memory until a sync",
+                kind: Kind::Flag,
+            },
+        ],
+    },
+];
