@@ -1,16 +1,20 @@
 //! Where a test stops the flusher or the releaser, and what its threads tell one another.
 
+use crate::kernels::Watch;
 use flusher::{Arrivals, Gate};
 use std::alloc::{AllocError, Global};
 use std::sync::atomic::{AtomicBool, AtomicU64, Ordering};
-use std::sync::{Arc, Wait};
+use std::sync::{Arc, Mutex, Wait};
 use std::thread::{self, Parker};
 
-/// A test waits for so many turns of one load and one yield, and then fails.
+/// A test waits for this many turns of one look and one yield, and then fails.
 const TURNS: u32 = 1_000_000;
 
 /// So many turns the operator's batch is held, and a session's line once its commit is there.
 const PAUSE: u32 = 1_000;
+
+/// The first post is change 3: the two groups come before it.
+const FIRST_POST: u64 = 3;
 
 /// What the threads of a test tell one another.
 #[derive(Drop)]
@@ -73,7 +77,7 @@ pub(crate) enum Holds {
     Unread,
     /// A flush, until a caller has read its reply.
     Flush,
-    /// Each release to session 1, until a batch is committed.
+    /// Each release to session 1, until a seat of the mark sees that the first post, which is session 2's, is durable.
     Release,
     /// A flush, for a while in which the operator must not be answered.
     Answer,
@@ -81,11 +85,41 @@ pub(crate) enum Holds {
     Taken,
 }
 
-/// The gate of a test.
-#[derive(Clone, Copy)]
+/// The gate of a test, with a seat of its own.
+#[derive(Drop)]
 pub(crate) struct TestGate<'a> {
-    pub(crate) flags: &'a Flags,
-    pub(crate) holds: Holds,
+    flags: &'a Flags,
+    holds: Holds,
+    watch: Mutex<Watch<'a>>,
+}
+
+impl<'a> TestGate<'a> {
+    pub(crate) fn new(flags: &'a Flags, holds: Holds, watch: Watch<'a>) -> TestGate<'a> {
+        TestGate {
+            flags,
+            holds,
+            watch: Mutex::new(watch),
+        }
+    }
+
+    /// Turns until the seat sees the first post. The test fails at the limit.
+    fn hold_until_posted(&self) {
+        for _ in 0..TURNS {
+            if self.sees_post() {
+                return;
+            }
+            thread::yield_now();
+        }
+        self.flags.failed.store(true, Ordering::SeqCst);
+    }
+
+    /// Whether the seat sees that the first post is durable. It is false while another thread has the seat.
+    fn sees_post(&self) -> bool {
+        match self.watch.try_lock() {
+            Some(mut watch) => watch.durable() >= FIRST_POST,
+            None => false,
+        }
+    }
 }
 
 impl<'a> Gate for TestGate<'a> {
@@ -114,7 +148,7 @@ impl<'a> Gate for TestGate<'a> {
     fn before_release(&self, sid: u64) {
         let before = self.flags.releases.fetch_add(1, Ordering::SeqCst);
         if self.holds == Holds::Release && sid == 1 {
-            self.flags.hold_until(&self.flags.flushed);
+            self.hold_until_posted();
         }
         if self.holds == Holds::Taken && before == 1 {
             self.flags.hold_until(&self.flags.flushed);

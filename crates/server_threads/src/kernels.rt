@@ -30,7 +30,8 @@ impl<'a> Watch<'a> {
         Watch { mark, seat }
     }
 
-    fn durable(&mut self) -> u64 {
+    /// How many changes its seat sees as durable.
+    pub(crate) fn durable(&mut self) -> u64 {
         self.mark.durable(&mut self.seat)
     }
 }

@@ -7,7 +7,7 @@ use crate::callers::call;
 use crate::gates::{Flags, Holds, TestGate};
 use crate::kernels::{Watch, Watched};
 use disk::{DiskCall, Faults};
-use flusher::{BatchBuf, FlushError, Kern, Kernel, Locked, Stale, flush_turn};
+use flusher::{BatchBuf, FlushError, Kern, Kernel, Locked, NoGate, Stale, flush_turn};
 use journal::Journal;
 use mark::{FlushSeat, Mark, Seat};
 use memdisk::MemDisk;
@@ -145,10 +145,6 @@ impl<'a> Stage<'a> {
         let Ok(mut batch) = BatchBuf::new(alloc) else {
             return None;
         };
-        let gate = TestGate {
-            flags,
-            holds: Holds::Nothing,
-        };
         add_group(rt, alloc, &kern, b"x.a")?;
         add_group(rt, alloc, &kern, b"x.b")?;
         let Ok(_) = flush_turn(
@@ -158,12 +154,10 @@ impl<'a> Stage<'a> {
             mark,
             &mut flush_seat,
             &mut batch,
-            &gate,
+            &NoGate,
         ) else {
             return None;
         };
-        flags.flushing.store(false, Ordering::SeqCst);
-        flags.flushed.store(false, Ordering::SeqCst);
         Some(Stage {
             journal,
             kern,
@@ -199,7 +193,9 @@ impl<'a> Stage<'a> {
             seat,
             flags,
         } = self;
-        let gate = TestGate { flags, holds };
+        let mut seat = seat;
+        let watch = Watch::new(mark, mark.another(&mut seat));
+        let gate = TestGate::new(flags, holds, watch);
         let lines: &'static [u8] = match holds {
             Holds::Answer => b"group x.c y 1000000000 test\n",
             Holds::Unread => b"spool\ngroup x.c y 1000000000 test\n",
