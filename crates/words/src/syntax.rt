@@ -27,7 +27,7 @@ pub(crate) const NUMBER: &str = "number";
 
 pub(crate) const CRLF: &str = "crlf";
 
-/// What `newsd --version` says.
+/// The version that `newsd --version` prints.
 pub const VERSION: &str = "0.9.0";
 
 /// What `serve` does, in short.
