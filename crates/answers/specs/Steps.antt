@@ -14,7 +14,7 @@ use Rattle.posting_commands.specs.declared.posts.Posted.{Posted}
 use Rattle.replies.specs.declared.sessions.Answered.{Answered}
 use Rattle.answers.specs.declared.messages.Step.{Step}
 
--- an article that is too long as it would be stored is refused, and so marked; all else is served
+-- an article that would be too long as it is stored is refused, and marked so; everything else is served
 abbrev pub step_of : Octets → Spool → Session → ℕ → Awaits → Message → Step
 step_of host S x t what m =
     if is_long_by host S what m then record { answer = says (awaiting x awaits.Line) not_accepted; mark = mark.Long; reads = 0 }

@@ -1,5 +1,5 @@
-//! The step of a session: what one message is answered, how it is marked, and what it reads. `specs/Answer.antt` and
-//! `specs/Reads.antt` of the crate `model` say what each step is. An error is that memory is refused.
+//! The step of a session: the answer to one message, its mark, and what it reads. `specs/Answer.antt` and
+//! `specs/Reads.antt` of the crate `model` say what each step is. Each call is refused only for want of memory.
 #![tactic(auto)]
 
 ghost use Rattle.std.specs.Prelude.{◌≡◌, ◌<◌, IfOk, if◌then◌else◌};
@@ -18,10 +18,10 @@ use messages::{at_ihave, at_line, at_nothing, at_post};
 use model::{Awaits, Message, Session};
 use std::alloc::{AllocError, Global};
 
-/// Answers a message at a moment in seconds since 1970, below 253,402,300,800. A line is a command (RFC 3977, section 3.1),
-/// and a block the article that POST or IHAVE asked for; a message of another kind than the session awaits is a bad line. The
-/// answer is that of `specs/Answer.antt` for this mark, and tests for no room. Nothing is changed: what the answer accepts is
-/// the caller's to file.
+/// Answers a message at a moment in seconds since 1970, below 253,402,300,800. A line is a command (RFC 3977, section
+/// 3.1), and a block is the article that POST or IHAVE asked for; a message of another kind than the session awaits is
+/// a bad line. The answer is that of `specs/Answer.antt` for this mark. It does not check for room and changes nothing:
+/// the caller files the change that it accepts.
 pub fn step<L: LookUps>(
     alloc: Global,
     spool: &L,

@@ -20,13 +20,13 @@ use posting_commands::{Posted, ihave_block, post_block};
 use replies::{Answered, Reply, says_line};
 use std::alloc::{AllocError, Global};
 
-/// What comes of a message.
+/// The outcome of a message.
 #[derive(Drop)]
 pub struct Step {
     pub answer: Answer,
-    /// `Long` where a posted article is refused since it would be too long as it is stored, else `Served`
+    /// `Long` if a posted article is refused because it would be too long as it is stored, else `Served`
     pub mark: Mark,
-    /// the serial up to which the answer reads the spool, its own change among them
+    /// the greatest serial that the answer reads, counting its own change
     pub reads: u64,
 }
 
@@ -54,7 +54,7 @@ fn posted(post: Posted) -> Step
     }
 }
 
-/// What is no line where one is awaited (RFC 3977, section 3.2.1).
+/// The answer to a message that is not a line where one is awaited (RFC 3977, section 3.2.1).
 fn bad(alloc: Global, session: &Session) -> Result<Step, AllocError>
     ensures { IfOk result (λ step. step ≡ served_step (answered (says session.now syntax_error) 0)) }
 {
@@ -80,7 +80,7 @@ fn line<L: LookUps>(
     }
 }
 
-/// Where a line is awaited.
+/// The answer where a line is awaited.
 #[tactic(auto, unfolding(model::specs::Answer::served, model::specs::Reads::served_reads))]
 pub(crate) fn at_line<L: LookUps>(
     alloc: Global,
@@ -102,7 +102,7 @@ pub(crate) fn at_line<L: LookUps>(
     }
 }
 
-/// Where the article behind POST is awaited.
+/// The answer where the article after POST is awaited.
 #[tactic(auto, unfolding(model::specs::Answer::served, model::specs::Reads::served_reads))]
 pub(crate) fn at_post<L: LookUps>(
     alloc: Global,
@@ -124,7 +124,7 @@ pub(crate) fn at_post<L: LookUps>(
     }
 }
 
-/// Where the article behind IHAVE with this message-id is awaited.
+/// The answer where the article after IHAVE with this message-id is awaited.
 #[tactic(auto, unfolding(model::specs::Answer::served, model::specs::Reads::served_reads))]
 pub(crate) fn at_ihave<L: LookUps>(
     alloc: Global,
@@ -153,7 +153,7 @@ fn refused(alloc: Global, session: &Session, which: Reply) -> Result<Step, Alloc
     Ok(served(ends(alloc, session, which, Awaits::Line)?))
 }
 
-/// Where nothing more is awaited.
+/// The answer where nothing more is awaited.
 #[tactic(auto, unfolding(model::specs::Answer::served, model::specs::Reads::served_reads))]
 pub(crate) fn at_nothing<L: LookUps>(
     alloc: Global,

@@ -1,4 +1,4 @@
--- The causes of refusal over the fields of a text.
+-- The causes of refusal, stated over the fields of a text.
 use Rattle.std.specs.Prelude.{ℕ, ◌+◌, Bool, not, ◌||◌, ◌&&◌, ◌==◌, nat_le, nat_lt, List, [], ◌∷◌, ◌++◌, length, find, map, count_by, codes, Option, option_map, unwrap_or}
 use Rattle.std.specs.List.{list_all, list_any}
 use Rattle.model.specs.Stream.{Octets}
@@ -6,15 +6,15 @@ use Rattle.article.specs.Stored.{front}
 use Rattle.model.specs.Names.{is_blank, is_group_name, parts}
 use Rattle.model.specs.Article.{Origin, Posted, Carried, Cause, WrongOctets, NoEnd, Field, Twice, Missing, Id, Groups, Long, added_fields, allows_id, are_distinct, content_of, first_cause, has_empty_line, has_fields_alone, has_lines_alone, header_lines, id_in_field, is_named, needed_fields, single_fields, trimmed, written_fields}
 
--- one of the fields has this name and nothing but SP and TAB
+-- one of the fields has this name and holds only SP and TAB
 abbrev pub is_blank_in : List Octets → Octets → Bool
 is_blank_in fields name = list_any (λ field. is_named name field && list_all is_blank (content_of field)) fields
 
--- one that stands once at most stands twice
+-- a field occurs twice that may occur at most once
 abbrev pub has_twice : List Octets → Bool
 has_twice fields = list_any (λ name. nat_lt 1 (count_by (is_named name) fields)) single_fields
 
--- one is missing, or a mandatory one is blank
+-- a required field is missing, or a mandatory one is blank
 abbrev pub lacks_field : Origin → List Octets → Bool
 lacks_field origin fields =
     list_any (λ name. count_by (is_named name) fields == 0) (needed_fields origin)
@@ -32,20 +32,20 @@ has_good_groups content =
     let groups = map trimmed (parts 44 content) in
     (nat_le (length groups) 16 && list_all is_group_name groups) && are_distinct groups
 
--- the content of a field, nothing where it is missing
+-- the content of a field, empty where it is missing
 abbrev pub content_in : Octets → List Octets → Octets
 content_in name fields = unwrap_or (option_map content_of (find (is_named name) fields)) []
 
--- the fields that are put in front of a text; dates have one size
+-- the fields that are put before a text; dates have a fixed size
 abbrev pub front_for : Origin → List Octets → Octets
 front_for (Posted host serial) fields = front host serial 0 fields
 front_for Carried fields = []
 
--- whether a text with such a header and so many octets is not too long with so many octets in front
+-- whether header and text stay within their limits when this many octets are put before them
 abbrev pub is_short : ℕ → ℕ → ℕ → Bool
 is_short header text added = nat_le (added + header) 8_192 && nat_le (added + text) 262_144
 
--- the causes that lines have
+-- the causes in the lines
 abbrev pub shape_cause : Octets → Option Cause
 shape_cause text = first_cause (
     (not (has_lines_alone text), WrongOctets)
@@ -53,7 +53,7 @@ shape_cause text = first_cause (
     ∷ (not (has_fields_alone (header_lines text)), Field)
     ∷ [])
 
--- the causes that fields have, of a text that is short or not
+-- the causes in the fields of a text, given whether it is short enough
 abbrev pub field_cause : Origin → List Octets → Octets → Bool → Option Cause
 field_cause origin fields newsgroups short = first_cause (
     (has_twice fields, Twice)

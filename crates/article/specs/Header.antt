@@ -3,7 +3,7 @@ use Rattle.std.specs.Prelude.{◌≡◌, ℕ, Bool, not, ◌||◌, ◌==◌, ◌
 use Rattle.model.specs.Stream.{Octets}
 use Rattle.model.specs.Article.{body, fields, fields_of_lines, has_empty_line, header, header_lines}
 
--- an octet that may stand in a line before its CRLF: none of NUL, LF and CR (RFC 3977, section 3.6)
+-- an octet that may occur in a line before its CRLF: any but NUL, LF and CR (RFC 3977, section 3.6)
 abbrev pub is_plain : ℕ → Bool
 is_plain x = not (x == 0 || (x == 10 || x == 13))
 

@@ -4,7 +4,7 @@ use Rattle.model.specs.Article.{content, fields}
 use Rattle.article.specs.Header.{IsHeader}
 use Rattle.article.specs.declared.Article.TheInside.{Inside}
 
--- where the header ends, the fields, and what Newsgroups says
+-- where the header ends, the fields, and the content of Newsgroups
 pub record IsKept (a : Inside) : Type 0 where
   pub header : IsHeader a.text.now a.header
   pub room : a.header + 2 ≤ length a.text.now

@@ -8,17 +8,17 @@ use Rattle.article.specs.declared.origin.Origin.TheVariants as given
 use Rattle.article.specs.declared.origin.Cause.{Cause as Told}
 use Rattle.article.specs.declared.origin.Cause.TheVariants as told
 
--- the origin, without where the host lies in memory
+-- the origin, without the host's place in memory
 abbrev pub origin_of : Given → Origin
 origin_of (given.Posted host serial) = Posted host.now serial
 origin_of given.Carried = Carried
 
--- whether the host of an origin is one
+-- whether the host of an origin is valid
 abbrev pub names_host : Origin → Bool
 names_host (Posted host serial) = is_host host
 names_host Carried = true
 
--- the serial of an origin is one of 64 bits
+-- the serial of an origin fits into 64 bits
 abbrev pub HasSmallSerial : Origin → Type 0
 HasSmallSerial (Posted host serial) = serial < 2 ^ 64
 HasSmallSerial Carried = Unit {0}

@@ -1,4 +1,4 @@
--- What is put in front of a posted text, over its fields.
+-- What is put before a posted text, stated over its fields.
 use Rattle.std.specs.Prelude.{ℕ, ◌==◌, if◌then◌else◌, List, [], ◌++◌, codes, count_by}
 use Rattle.model.specs.Stream.{Octets, crlf}
 use Rattle.model.specs.Calendar.{date_header}
@@ -9,11 +9,11 @@ pub use Rattle.model.specs.Article.{made_id}
 abbrev pub field_line : Octets → Octets → Octets
 field_line name content = name ++ codes ": " ++ content ++ crlf
 
--- a field, if none of its name is there
+-- a field, if none of its name exists
 abbrev pub added_to : List Octets → Octets → Octets → Octets
 added_to fields name content = if count_by (is_named name) fields == 0 then field_line name content else []
 
--- what Path says
+-- the content of Path
 abbrev pub path_of : Octets → Octets
 path_of host = host ++ codes "!not-for-mail"
 

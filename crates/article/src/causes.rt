@@ -1,3 +1,5 @@
+//! The causes for which a text is not an article.
+
 ghost use Rattle.std.specs.Prelude.{◌≡◌, ◌==◌, nat_lt, length, map, codes, count_by, bytes_eq, option_map, IfOk, OnOk};
 ghost use Rattle.std.specs.List.{list_all, list_any};
 ghost use Rattle.model.specs.Article as article;
@@ -24,7 +26,7 @@ pub const TEXT_LIMIT: usize = 262_144;
 /// The most groups of an article (this project's rule).
 const GROUP_LIMIT: usize = 16;
 
-/// The fields that stand once at most (RFC 5536, 3.1 and 3.2).
+/// The fields that may occur at most once (RFC 5536, 3.1 and 3.2).
 const SINGLE_FIELDS: [&[u8]; 7] = [
     b"Date",
     b"From",
@@ -38,7 +40,7 @@ const SINGLE_FIELDS: [&[u8]; 7] = [
 /// The fields that a client writes.
 const WRITTEN_FIELDS: [&[u8]; 3] = [b"From", b"Newsgroups", b"Subject"];
 
-/// The fields that each article has (RFC 5536, 3.1).
+/// The fields that each article must have (RFC 5536, 3.1).
 const MANDATORY_FIELDS: [&[u8]; 6] = [
     b"From",
     b"Newsgroups",
@@ -48,35 +50,35 @@ const MANDATORY_FIELDS: [&[u8]; 6] = [
     b"Path",
 ];
 
-/// Whether one of the names stands on two fields.
+/// Whether two fields have one of the names.
 fn any_twice(fields: &[&[u8]], names: &[&[u8]]) -> bool
     ensures { result ≡ list_any (λ name. nat_lt 1 (count_by (article.is_named name) (map (λ field. field.now) fields.now))) (map (λ name. name.now) names.now) }
 {
     names.iter().any(|name| count(fields, name) > 1)
 }
 
-/// Whether one of the names stands on no field.
+/// Whether no field has one of the names.
 fn any_missing(fields: &[&[u8]], names: &[&[u8]]) -> bool
     ensures { result ≡ list_any (λ name. count_by (article.is_named name) (map (λ field. field.now) fields.now) == 0) (map (λ name. name.now) names.now) }
 {
     names.iter().any(|name| count(fields, name) == 0)
 }
 
-/// Whether one of the names stands on a field with nothing in it.
+/// Whether a field with one of the names is blank.
 fn any_blank(fields: &[&[u8]], names: &[&[u8]]) -> bool
     ensures { result ≡ list_any (causes.is_blank_in (map (λ field. field.now) fields.now)) (map (λ name. name.now) names.now) }
 {
     names.iter().any(|name| is_blank_field(fields, name))
 }
 
-/// Whether a field stands twice that stands once at most.
+/// Whether a field occurs twice that may occur at most once.
 fn has_twice(fields: &[&[u8]]) -> bool
     ensures { result ≡ causes.has_twice (map (λ field. field.now) fields.now) }
 {
     any_twice(fields, &SINGLE_FIELDS)
 }
 
-/// Whether a field is missing that has to be there, or a mandatory one has nothing in it.
+/// Whether a required field is missing, or a mandatory one is blank.
 fn lacks_field(origin: Origin<'_>, fields: &[&[u8]]) -> bool
     ensures { result ≡ causes.lacks_field (origin_of origin.entry) (map (λ field. field.now) fields.now) }
 {
@@ -87,7 +89,7 @@ fn lacks_field(origin: Origin<'_>, fields: &[&[u8]]) -> bool
     missing || any_blank(fields, &MANDATORY_FIELDS)
 }
 
-/// Whether the text is a message-id that may come from there.
+/// Whether the text is a message-id that this origin allows.
 fn allows_id(origin: Origin<'_>, id: &[u8]) -> bool
     ensures { result ≡ article.allows_id (origin_of origin.entry) id.now }
 {
@@ -97,7 +99,7 @@ fn allows_id(origin: Origin<'_>, id: &[u8]) -> bool
     }
 }
 
-/// Whether there is no message-id, or one that may come from there.
+/// Whether there is no message-id, or one that this origin allows.
 fn has_good_id(origin: Origin<'_>, fields: &[&[u8]]) -> bool
     ensures { result ≡ causes.has_good_id (origin_of origin.entry) (map (λ field. field.now) fields.now) }
 {
@@ -107,7 +109,7 @@ fn has_good_id(origin: Origin<'_>, fields: &[&[u8]]) -> bool
     }
 }
 
-/// The groups that a content lists, which commas part.
+/// The groups that a content lists, separated by commas.
 pub(crate) fn groups_in(alloc: Global, content: &[u8]) -> Result<Vec<&[u8]>, AllocError>
     ensures { IfOk result (λ groups. map (λ group. group.now) groups.items ≡ map article.trimmed (model_names.parts 44 content.now)) }
 {
@@ -158,7 +160,7 @@ fn has_good_groups(alloc: Global, content: &[u8]) -> Result<bool, AllocError>
     Ok(groups.len() <= GROUP_LIMIT && are_group_names(&groups) && are_distinct(&groups))
 }
 
-/// What Newsgroups says, nothing where it is missing.
+/// The content of Newsgroups, empty where the field is missing.
 pub(crate) fn newsgroups_in(alloc: Global, fields: &[&[u8]]) -> Result<Vec<u8>, AllocError>
     ensures { IfOk result (λ content. content.items ≡ causes.content_in (codes "Newsgroups") (map (λ field. field.now) fields.now)) }
 {
@@ -168,7 +170,7 @@ pub(crate) fn newsgroups_in(alloc: Global, fields: &[&[u8]]) -> Result<Vec<u8>, 
     }
 }
 
-/// How many octets would be put in front of a text.
+/// The number of octets that would be put before a text.
 pub(crate) fn front_length(
     alloc: Global,
     origin: Origin<'_>,
@@ -183,7 +185,7 @@ pub(crate) fn front_length(
     }
 }
 
-/// Whether a text with such a header and so many octets is not too long with so many octets in front.
+/// Whether header and text stay within their limits when `added` octets are put before them.
 pub(crate) fn is_short(header: usize, text: usize, added: usize) -> bool
     ensures { result ≡ causes.is_short header text added }
 {
@@ -193,7 +195,7 @@ pub(crate) fn is_short(header: usize, text: usize, added: usize) -> bool
         && added <= TEXT_LIMIT - text
 }
 
-/// The first cause that the lines of a text have, whose header ends at `header`.
+/// The first cause in the lines of a text, whose header ends at `header`.
 pub(crate) fn shape_cause(text: &[u8], header: usize) -> Option<Cause>
     requires { IsHeader text.now header }
     ensures { option_map cause_of result ≡ causes.shape_cause text.now }
@@ -210,7 +212,7 @@ pub(crate) fn shape_cause(text: &[u8], header: usize) -> Option<Cause>
     None
 }
 
-/// The first cause that the fields of a text have, which is short or not.
+/// The first cause in the fields of a text, given whether the text is short enough.
 pub(crate) fn field_cause(
     alloc: Global,
     origin: Origin<'_>,

@@ -1,3 +1,5 @@
+//! The contents of header fields.
+
 ghost use Rattle.std.specs.Prelude.{◌≡◌, ◌+◌, length, drop, map, find, count_by, option_map, reverse, IfOk};
 ghost use Rattle.std.specs.List.{list_all};
 ghost use Rattle.model.specs.Article as article;
@@ -12,28 +14,28 @@ use std::alloc::{AllocError, Global};
 /// SP and TAB (RFC 5322, 2.2.2).
 const BLANKS: &[u8] = b" \t";
 
-/// Whether the field has this name, in capitals or small letters (RFC 5536, 2.2).
+/// Whether the field has this name, regardless of case (RFC 5536, 2.2).
 fn is_named(name: &[u8], field: &[u8]) -> bool
     ensures { result ≡ article.is_named name.now field.now }
 {
     name_of(field).eq_ignore_ascii_case(name)
 }
 
-/// How many of the fields have this name.
+/// The number of fields with this name.
 pub(crate) fn count(fields: &[&[u8]], name: &[u8]) -> usize
     ensures { result ≡ count_by (article.is_named name.now) (map (λ field. field.now) fields.now) }
 {
     fields.iter().filter(|field| is_named(name, field)).count()
 }
 
-/// The first of the fields that has this name.
+/// The first field with this name.
 pub(crate) fn find_field<'t>(fields: &[&'t [u8]], name: &[u8]) -> Option<&'t [u8]>
     ensures { option_map (λ field. field.now) result ≡ find (article.is_named name.now) (map (λ field. field.now) fields.now) }
 {
     fields.iter().find(|field| is_named(name, field)).copied()
 }
 
-/// What stands after name, colon and one SP.
+/// The part after name, colon and one SP.
 pub(crate) fn value_of(field: &[u8]) -> &[u8]
     ensures { result.now ≡ drop (length (article.name_of field.now) + 2) field.now }
 {
@@ -63,7 +65,7 @@ fn are_blank(octets: &[u8]) -> bool
     octets.find_not_byteset(BLANKS).is_none()
 }
 
-/// Whether nothing but SP, TAB and line ends stands in a text.
+/// Whether a text holds only SP, TAB and line ends.
 fn is_blank_text(text: &[u8]) -> bool
     ensures { result ≡ list_all names.is_blank (article.unfolded text.now) }
 {
@@ -78,7 +80,7 @@ fn is_blank_text(text: &[u8]) -> bool
     true
 }
 
-/// Whether one of the fields has this name and nothing but SP, TAB and line ends in it.
+/// Whether one of the fields has this name and holds only SP, TAB and line ends.
 pub(crate) fn is_blank_field(fields: &[&[u8]], name: &[u8]) -> bool
     ensures { result ≡ is_blank_in (map (λ field. field.now) fields.now) name.now }
 {
@@ -92,7 +94,7 @@ pub(crate) fn unfold(alloc: Global, text: &[u8]) -> Result<Vec<u8>, AllocError>
     text.replace(alloc, b"\r\n", b"")
 }
 
-/// A text less the octets in front that are SP or TAB.
+/// A text without its leading SP and TAB.
 fn trim_start(text: &[u8]) -> &[u8]
     ensures { result.now ≡ article.trimmed_start text.now }
 {
@@ -102,7 +104,7 @@ fn trim_start(text: &[u8]) -> &[u8]
     }
 }
 
-/// A text less the octets at its end that are SP or TAB.
+/// A text without its trailing SP and TAB.
 fn trim_end(text: &[u8]) -> &[u8]
     ensures { result.now ≡ reverse (article.trimmed_start (reverse text.now)) }
 {
@@ -112,14 +114,14 @@ fn trim_end(text: &[u8]) -> &[u8]
     }
 }
 
-/// A text without the SP and TAB round it.
+/// A text without leading and trailing SP and TAB.
 pub(crate) fn trim(text: &[u8]) -> &[u8]
     ensures { result.now ≡ article.trimmed text.now }
 {
     trim_end(trim_start(text))
 }
 
-/// The message-id that a field says. It is never folded (RFC 5536, 3.1.3), so no line end in it is taken out.
+/// The message-id that a field holds. It is never folded (RFC 5536, 3.1.3), so no line end is removed from it.
 pub(crate) fn id_in_field(field: &[u8]) -> &[u8]
     ensures { result.now ≡ article.id_in_field field.now }
 {

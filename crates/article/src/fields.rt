@@ -1,3 +1,5 @@
+//! The fields of a header.
+
 ghost use Rattle.std.specs.Prelude.{◌≡◌, ◌≤◌, ◌||◌, length, map, IfOk};
 ghost use Rattle.std.specs.List.{list_all};
 ghost use Rattle.model.specs.Article as article;
@@ -17,7 +19,7 @@ fn is_blank(octet: u8) -> bool
     octet == b' ' || octet == b'\t'
 }
 
-/// Whether a line goes on with the field of the line before it.
+/// Whether a line continues the field of the line before it.
 fn begins_blank(line: &[u8]) -> bool
     ensures { result ≡ names.begins names.is_blank line.now }
 {
@@ -27,7 +29,7 @@ fn begins_blank(line: &[u8]) -> bool
     }
 }
 
-/// What stands before the colon, or all where there is none.
+/// The part before the colon, or the whole field if there is none.
 pub(crate) fn name_of(field: &[u8]) -> &[u8]
     ensures { result.now ≡ article.name_of field.now }
 {
@@ -57,14 +59,14 @@ fn is_visible_run(name: &[u8]) -> bool
     !name.is_empty() && are_visible(name)
 }
 
-/// Whether a header line after the first is one of fields.
+/// Whether a header line after the first begins a field or continues one.
 fn is_field_line(line: &[u8]) -> bool
     ensures { result ≡ (names.begins names.is_blank line.now || article.begins_field line.now) }
 {
     begins_blank(line) || begins_field(line)
 }
 
-/// Whether each header line of a text begins a field or goes on with one.
+/// Whether each header line of a text begins a field or continues one.
 fn are_fields_or_go_on(text: &[u8]) -> bool
     ensures { result ≡ list_all (λ line. names.begins names.is_blank line || article.begins_field line) (article.header_lines text.now) }
 {
@@ -82,7 +84,8 @@ fn are_fields_or_go_on(text: &[u8]) -> bool
     true
 }
 
-/// Whether the header of a text is fields: the first line begins one, each other begins one or goes on with one.
+/// Whether the header of a text consists of fields: the first line begins one, each other line begins one or continues
+/// one.
 pub(crate) fn has_fields_alone(text: &[u8]) -> bool
     ensures { result ≡ article.has_fields_alone (article.header_lines text.now) }
 {
@@ -96,7 +99,7 @@ pub(crate) fn has_fields_alone(text: &[u8]) -> bool
     begins_field(first) && are_fields_or_go_on(later)
 }
 
-/// How far the lines reach that go on with the field of the first line, which ends at `first`.
+/// Where the field of the first line ends, with the lines that continue it; the first line ends at `first`.
 fn field_end(text: &[u8], first: usize) -> usize
     requires { first ≤ length text.now }
     ensures low { first ≤ result }
@@ -113,7 +116,7 @@ fn field_end(text: &[u8], first: usize) -> usize
     end
 }
 
-/// The fields of a text's header, each with the lines that go on with it.
+/// The fields of a text's header, each with the lines that continue it.
 pub(crate) fn fields_of<'t>(alloc: Global, text: &'t [u8]) -> Result<Vec<&'t [u8]>, AllocError>
     ensures { IfOk result (λ fields. map (λ field. field.now) fields.items ≡ article.fields text.now) }
 {

@@ -1,4 +1,4 @@
-//! What a text says, whether or not it is an article.
+//! The header of any text, whether or not it is an article.
 
 ghost use Rattle.std.specs.Prelude.{◌≡◌, [], codes, find, length, option_map, unwrap_or, IfOk};
 ghost use Rattle.model.specs.Article as article;
@@ -25,8 +25,8 @@ impl<'t> Model for Header<'t> {
 }
 
 impl<'t> Header<'t> {
-    /// The fields of the header of a text, of which no more than the header and the empty line behind it is read. An `Err` is
-    /// out of memory.
+    /// Reads the fields of a text's header. Nothing after the header and its empty line is read. Refused only for want
+    /// of memory.
     pub fn read(alloc: Global, text: &'t [u8]) -> Result<Header<'t>, AllocError>
         ensures { IfOk result (λ header. header ≡ article.fields text.now) }
     {
@@ -35,7 +35,7 @@ impl<'t> Header<'t> {
         })
     }
 
-    /// The content of the first field of this name, in capitals or small letters; no octet where there is none. An `Err` is out
+    /// The content of the first field of this name, regardless of case; empty if there is none. Refused only for want
     /// of memory.
     pub fn content(&self, alloc: Global, name: &[u8]) -> Result<Vec<u8>, AllocError>
         ensures { IfOk result (λ content. content.items ≡ content_in name.now self.now) }
@@ -46,7 +46,7 @@ impl<'t> Header<'t> {
         }
     }
 
-    /// The message-id; no octet where there is none.
+    /// The message-id; empty if there is none.
     pub fn id(&self) -> &[u8]
         ensures { result.now ≡ unwrap_or (option_map article.id_in_field (find (article.is_named (codes "Message-ID")) self.now)) [] }
     {
@@ -57,7 +57,7 @@ impl<'t> Header<'t> {
     }
 }
 
-/// How many lines the body of a text has; none where no empty line ends its header.
+/// The number of lines in the body of a text; 0 if no empty line ends its header.
 pub fn body_line_count(text: &[u8]) -> usize
     ensures { result ≡ length (article.body_lines text.now) }
 {

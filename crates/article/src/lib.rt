@@ -1,5 +1,5 @@
-//! News articles (RFC 5536): reading a text as an article, what its fields say, and the text that is stored of a posted
-//! one. What each word means stands in `specs/Article.antt` of the crate `model`.
+//! News articles (RFC 5536): reading a text as an article, the contents of its fields, and the text that is stored of a
+//! posted one. `specs/Article.antt` of the crate `model` defines each word.
 #![tactic(auto)]
 
 ghost use Rattle.std.specs.Prelude.{◌≡◌, ◌<◌, IfOk, IfErr, OnOk, IsTrue, Some, None, length, map, option_map};
@@ -51,8 +51,8 @@ impl<'t> Model for Article<'t> {
 }
 
 impl<'t> Article<'t> {
-    /// Reads a text as an article from there. `Bad` comes exactly where the text has a cause, and has the first one;
-    /// `Memory` may come for each text. The host of a posted text is a host, which is the caller's condition.
+    /// Reads a text as an article of this origin. `Bad` comes exactly if the text has a cause, and names the first one;
+    /// `Memory` may come for any text. The host of a posted text must be a valid host.
     pub fn read(alloc: Global, text: &'t [u8], origin: Origin<'_>) -> Result<Article<'t>, ReadError>
         requires { IsTrue (names_host (origin_of origin)) }
         ensures ok { IfOk result (λ article. article ≡ text.now) }
@@ -93,22 +93,22 @@ impl<'t> Article<'t> {
         &self.text[..self.header]
     }
 
-    /// What follows the empty line.
+    /// The part after the empty line.
     pub fn body(&self) -> &[u8]
         ensures { result.now ≡ model_article.body self.now }
     {
         &self.text[self.header + 2..]
     }
 
-    /// How many lines the body has.
+    /// The number of lines of the body.
     pub fn line_count(&self) -> usize
         ensures { result ≡ length (model_article.body_lines self.now) }
     {
         line_count(self.body())
     }
 
-    /// The content of the first field of this name, in capitals or small letters: what stands after name, colon and one
-    /// SP, with the lines that go on with it, and each CRLF taken out. An `Err` is out of memory.
+    /// The content of the first field of this name, regardless of case: the part after name, colon and one SP, with the
+    /// lines that continue it and without each CRLF. Refused only for want of memory.
     pub fn field(&self, alloc: Global, name: &[u8]) -> Result<Option<Vec<u8>>, AllocError>
         ensures { IfOk result (λ content. option_map (λ octets. octets.items) content ≡ model_article.field name.now self.now) }
     {
@@ -128,7 +128,7 @@ impl<'t> Article<'t> {
         }
     }
 
-    /// The names of its groups, in the order of Newsgroups. An `Err` is out of memory.
+    /// The names of its groups, in the order of Newsgroups. Refused only for want of memory.
     pub fn groups(&self, alloc: Global) -> Result<Vec<Text>, AllocError>
         ensures { IfOk result (λ groups. groups.items ≡ model_article.groups_of self.now) }
     {
@@ -136,9 +136,9 @@ impl<'t> Article<'t> {
         copies(alloc, &groups)
     }
 
-    /// The text that is stored of it where it is posted to this host at this moment and gets this serial: Path, Date and
-    /// Message-ID stand in front, where they are missing. A moment is whole seconds since 1970, below 253,402,300,800,
-    /// which is the caller's condition. An `Err` is out of memory.
+    /// The text that is stored of it when it is posted to this host at this moment and gets this serial. Path, Date and
+    /// Message-ID are put at its start where they are missing. The moment is whole seconds since 1970 and must be below
+    /// 253,402,300,800. Refused only for want of memory.
     pub fn inject(
         &self,
         alloc: Global,
@@ -155,7 +155,7 @@ impl<'t> Article<'t> {
     }
 }
 
-/// The texts in memory of their own.
+/// Copies of the texts on the heap.
 fn copies(alloc: Global, texts: &[&[u8]]) -> Result<Vec<Text>, AllocError>
     ensures { IfOk result (λ copies. copies.items ≡ map (λ text. text.now) texts.now) }
 {

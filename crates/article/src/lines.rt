@@ -1,3 +1,5 @@
+//! The lines of a text, and where its header ends.
+
 ghost use Rattle.std.specs.Prelude.{◌≡◌, ◌<◌, ◌≤◌, ◌∷◌, length, take, drop, bytes_eq};
 ghost use Rattle.std.specs.List.{list_all};
 ghost use Rattle.model.specs.Stream.{crlf, lines};
@@ -7,7 +9,7 @@ ghost use Rattle.article.specs.Header.{IsHeader, is_plain};
 use bstr::ByteSlice;
 use memchr::memchr3;
 
-/// The length of a text's first line, with its CRLF where it has one.
+/// The length of a text's first line, with its CRLF if it has one.
 pub(crate) fn line_length(text: &[u8]) -> usize
     requires { 0 < length text.now }
     ensures some { 0 < result }
@@ -20,7 +22,7 @@ pub(crate) fn line_length(text: &[u8]) -> usize
     }
 }
 
-/// Whether a line is the empty one.
+/// Whether a line is empty.
 pub(crate) fn is_empty_line(line: &[u8]) -> bool
     ensures { result ≡ bytes_eq line.now crlf }
 {
@@ -41,7 +43,7 @@ fn is_whole_line(line: &[u8]) -> bool
     line.ends_with(b"\r\n") && are_plain(&line[..line.len() - 2])
 }
 
-/// Whether a text is whole lines, at least one.
+/// Whether a text consists of whole lines, at least one.
 pub(crate) fn has_lines_alone(text: &[u8]) -> bool
     ensures { result ≡ article.has_lines_alone text.now }
 {
@@ -56,7 +58,7 @@ pub(crate) fn has_lines_alone(text: &[u8]) -> bool
     !text.is_empty()
 }
 
-/// How many octets the header of a text has: the lines before the first empty one, or all where there is none.
+/// The number of octets of a text's header: the lines before the first empty one, or all lines if none is empty.
 pub fn header_length(text: &[u8]) -> usize
     ensures { IsHeader text.now result }
 {
@@ -73,7 +75,7 @@ pub fn header_length(text: &[u8]) -> usize
     at
 }
 
-/// How many lines a text has.
+/// The number of lines of a text.
 pub(crate) fn line_count(text: &[u8]) -> usize
     ensures { result ≡ length (lines text.now) }
 {

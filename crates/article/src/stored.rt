@@ -1,3 +1,5 @@
+//! The fields that the server adds to a posted text.
+
 ghost use Rattle.std.specs.Prelude.{◌≡◌, ◌++◌, ◌<◌, map, IfOk, OnOk};
 ghost use Rattle.model.specs.Calendar.{moment_limit};
 ghost use Rattle.article.specs.Stored as stored;
@@ -6,7 +8,7 @@ use crate::contents::count;
 use stamp::date_header;
 use std::alloc::{AllocError, Global};
 
-/// Adds a field.
+/// Appends a field.
 fn push_field(text: &mut Vec<u8>, name: &[u8], content: &[u8]) -> Result<(), AllocError>
     ensures { OnOk result (text.new.items ≡ text.old.items ++ stored.field_line name.now content.now) }
 {
@@ -16,7 +18,7 @@ fn push_field(text: &mut Vec<u8>, name: &[u8], content: &[u8]) -> Result<(), All
     text.extend_from_slice(b"\r\n")
 }
 
-/// Adds a field where none of the fields has its name.
+/// Appends a field if none of the fields has its name.
 fn push_missing(
     text: &mut Vec<u8>,
     fields: &[&[u8]],
@@ -31,7 +33,7 @@ fn push_missing(
     Ok(())
 }
 
-/// What Path says of an article that this host injects.
+/// The content of Path for an article that this host injects.
 fn path(alloc: Global, host: &[u8]) -> Result<Vec<u8>, AllocError>
     ensures { IfOk result (λ path. path.items ≡ stored.path_of host.now) }
 {
@@ -55,7 +57,7 @@ fn made_id(alloc: Global, host: &[u8], serial: u64) -> Result<Vec<u8>, AllocErro
     Ok(id)
 }
 
-/// The fields that are put in front of a posted text: Path, Date and Message-ID, where they are missing.
+/// The fields that are put before a posted text: Path, Date and Message-ID, where they are missing.
 pub(crate) fn front(
     alloc: Global,
     fields: &[&[u8]],

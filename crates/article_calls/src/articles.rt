@@ -1,4 +1,4 @@
-//! Articles: why a text is none, what is said of one, what is stored of it, and its overview line.
+//! Articles: why a text is not one, its parts, what is stored of it, and its overview line.
 
 use article::{Article, Cause, Origin, ReadError};
 use names::is_host;
@@ -41,11 +41,11 @@ const WRITTEN: &[u8] = b"From: a@example.org\r\nNewsgroups: x.a\r\nSubject: one\
 /// What a client writes, 58 octets.
 const SHORT: &[u8] = b"From: a@example.org\r\nNewsgroups: x.a\r\nSubject: one\r\n\r\nhi\r\n";
 
-/// What is stored of it where it gets serial 2, 160 octets.
+/// What is stored of it when it gets serial 2, 160 octets.
 const STORED: &[u8] =
     b"Path: news.example!not-for-mail\r\nDate: Sun, 09 Sep 2001 01:46:40 +0000\r\nMessage-ID: <2@news.example>\r\nFrom: a@example.org\r\nNewsgroups: x.a\r\nSubject: one\r\n\r\nhi\r\n";
 
-/// The fields in front of those of a row.
+/// The fields before those of a row.
 const OTHERS: &[u8] =
     b"Path: p!not-for-mail\r\nDate: Sun, 09 Sep 2001 01:46:40 +0000\r\nFrom: a@example.org\r\nSubject: one\r\n";
 
@@ -76,8 +76,8 @@ fn cause(alloc: Global, text: &[u8], origin: Origin<'_>) -> Result<Option<Cause>
     }
 }
 
-/// A text, with so many `x` in its middle, and the names of its causes where it is posted with serial 2 and where it is
-/// carried, empty where it has none.
+/// A text with a run of `x` in its middle, and the names of its causes when it is posted with serial 2 and when it is
+/// carried; the name is empty if it has no cause.
 type Judged = (
     &'static [u8],
     u32,
@@ -453,7 +453,7 @@ const ANSWERS: &[(
     ),
 ];
 
-/// The place of the first question that an article answers in another way.
+/// The index of the first question that an article answers in another way.
 fn first_wrong(
     alloc: Global,
     text: &[u8],
@@ -470,8 +470,8 @@ fn first_wrong(
     Ok(None)
 }
 
-/// The places of the first text, and of its first question, that are answered in another way. The rows come from outside, so
-/// that no proof reads them.
+/// The indexes of the first text, and of its first question, with another answer. The rows come from outside, so that
+/// no proof reads them.
 fn first_misanswered(
     alloc: Global,
     rows: &[(Octets<'_>, Origin<'_>, &[(Ask<'_>, Option<&[u8]>)])],

@@ -1,4 +1,4 @@
-//! Tables of what the crates of articles are asked, with what they are to answer: names, patterns, dates, articles and overview
+//! Tables of calls to the crates of articles, with the expected answers: names, patterns, dates, articles and overview
 //! lines.
 #![tactic(auto)]
 

@@ -18,7 +18,7 @@ enum Kind {
     Wildmat,
 }
 
-/// A text with so many `a` in its middle.
+/// A text with a run of `a` in its middle.
 type Text = (&'static [u8], u32, &'static [u8]);
 
 /// Texts of a kind.
@@ -42,7 +42,7 @@ fn good(kind: Kind) -> &'static [Text] {
     }
 }
 
-/// Texts that are none of it.
+/// Texts that are not of the kind.
 fn bad(kind: Kind) -> &'static [Text] {
     match kind {
         Kind::Group => &[
@@ -103,7 +103,7 @@ fn read_back(alloc: Global, kind: Kind, text: &[u8]) -> Result<Vec<u8>, NameErro
     read.map_err(|_| NameError::Memory)
 }
 
-/// Whether the test alone says that the text is of the kind.
+/// Whether the plain check says that the text is of the kind.
 fn is_of_kind(kind: Kind, text: &[u8]) -> bool {
     match kind {
         Kind::Group => is_group_name(text),
@@ -113,7 +113,7 @@ fn is_of_kind(kind: Kind, text: &[u8]) -> bool {
     }
 }
 
-/// The place of the first text that isn't read, or is read as another.
+/// The index of the first text that is not read, or is read as another.
 fn first_refused(alloc: Global, kind: Kind, texts: &[Text]) -> Result<Option<usize>, AllocError> {
     for (place, (front, count, end)) in texts.iter().enumerate() {
         let text = Octets::Long(front, b'a', *count, end).in_memory(alloc)?;
@@ -128,7 +128,7 @@ fn first_refused(alloc: Global, kind: Kind, texts: &[Text]) -> Result<Option<usi
     Ok(None)
 }
 
-/// The place of the first text that is read.
+/// The index of the first text that is read.
 fn first_read(alloc: Global, kind: Kind, texts: &[Text]) -> Result<Option<usize>, AllocError> {
     for (place, (front, count, end)) in texts.iter().enumerate() {
         let text = Octets::Long(front, b'a', *count, end).in_memory(alloc)?;
@@ -202,7 +202,7 @@ fn ranges(rt: HostRuntime) {
     }
 }
 
-/// Each row: a wildmat, a name, and whether the one takes the other.
+/// Each row: a wildmat, a name, and whether the wildmat matches the name.
 fn taken() -> &'static [(&'static str, &'static str, bool)] {
     &[
         ("x.*,!x.b*,x.bc", "x.a", true),
@@ -227,7 +227,7 @@ fn taken() -> &'static [(&'static str, &'static str, bool)] {
     ]
 }
 
-/// Whether a wildmat takes a name.
+/// Whether a wildmat matches a name.
 fn takes(alloc: Global, wildmat: &str, name: &str) -> Result<bool, NameError> {
     let name = GroupName::read(name.as_bytes())?;
     Ok(Wildmat::read(alloc, wildmat.as_bytes())?.matches(&name))

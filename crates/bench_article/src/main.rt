@@ -16,7 +16,7 @@ const READS: u32 = 100;
 /// The octets of the longest text that is stored.
 const TEXT: usize = 262_144;
 
-/// The fields of each text but its short ones.
+/// The fields of each text, except its short ones.
 const FIELDS: &[u8] =
     b"Path: p!not-for-mail\r\nDate: Sun, 09 Sep 2001 01:46:40 +0000\r\nMessage-ID: <1@a.example>\r\nFrom: a@example.org\r\nNewsgroups: x.a\r\nSubject: one\r\n";
 
@@ -41,7 +41,7 @@ fn main(rt: HostRuntime) -> Result<()> {
     Ok(())
 }
 
-/// A text of about so many octets, and so many of them in its header, in lines of 6 octets.
+/// A text of about `size` octets, about `header` of them in its header, in lines of 6 octets.
 fn text_of(alloc: Global, header: usize, size: usize) -> Result<Vec<u8>, AllocError> {
     let mut text = FIELDS.to_vec(alloc)?;
     for _ in 0..header.saturating_sub(text.len()) / 6 {
@@ -67,7 +67,7 @@ fn reading_time(rt: &impl Clock, alloc: Global, text: &[u8]) -> Result<u128> {
     Ok(fastest)
 }
 
-/// Prints the times of two texts, each by the octets of its header and of all, and their ratio.
+/// Prints the times of two texts, each with the octets of its header and of the whole text, and their ratio.
 fn measure<R: Clock + Print>(
     rt: &R,
     alloc: Global,

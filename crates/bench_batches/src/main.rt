@@ -1,5 +1,5 @@
-//! Carries 200 batches of 6 images over a device in memory, of 1,024 and of 16,384 blocks, and prints the device calls
-//! and, where `--time` is given, the time of a batch. The time is to follow the images, not the volume.
+//! Carries 200 batches of 6 images over a device in memory, of 1,024 and of 16,384 blocks. It prints the device calls
+//! and, with `--time`, the time of a batch. The time must depend on the images, not on the volume.
 #![tactic(auto)]
 
 ghost use Rattle.std.specs.Prelude.{◌≤◌};
@@ -32,7 +32,7 @@ fn carry<D: Disk>(journal: &mut Journal<D>, last: u64, images: &[u8]) -> Result<
     Ok(CALLS + 1)
 }
 
-/// Carries all batches over a volume of so many blocks.
+/// Carries all batches over a volume of this many blocks.
 fn measure(rt: &(impl Print + Clock + AllocGlobal), blocks: u64, timed: bool) -> Result<()>
     requires low { 1024 ≤ blocks }
     requires high { blocks ≤ 65536 }

@@ -1,7 +1,7 @@
-//! Counts what 64 batches of 6 images ask of a device, with one segment and with eight, with and without a cache over it, and
-//! prints it. Where `--time` is given, it also prints the time of a write of 64 octets to a cache, of 1,000, of 10,000 and of
-//! 100,000 before a sync: in a new cache, which takes memory for them, and in one that has kept that room over a sync. There
-//! the last is to be at most twice the first.
+//! Counts what 64 batches of 6 images ask of a device, with one segment and with eight, with and without a cache over
+//! it, and prints it. With `--time` it also prints the time of a write of 64 octets to a cache, for 1,000, 10,000 and
+//! 100,000 writes before a sync: in a new cache, which takes memory for them, and in one that has kept that memory over
+//! a sync. In the second the time for the most writes must be at most twice that for the fewest.
 #![tactic(auto)]
 
 use anyhow::{Result, bail, ensure};
@@ -43,7 +43,7 @@ fn carry<D: Disk>(journal: &mut Journal<D>, last: u64, images: &[u8]) -> Result<
     bail!("a batch does not end")
 }
 
-/// Carries all batches, and hands the device back.
+/// Carries all batches, and returns the device.
 fn carry_all<D: Disk + Drop>(alloc: Global, disk: D) -> Result<D> {
     let Ok(mut journal) = Journal::open(alloc, disk) else {
         bail!("not opened");
@@ -55,7 +55,7 @@ fn carry_all<D: Disk + Drop>(alloc: Global, disk: D) -> Result<D> {
     Ok(journal.into_disk())
 }
 
-/// A device with an empty volume of 1 or 8 segments, and how many writes and syncs that took.
+/// A device with an empty volume of 1 or 8 segments, and the numbers of writes and syncs that it took.
 fn formatted(alloc: Global, segments: u32) -> Result<(MemDisk, (u64, u64))> {
     ensure!(segments == 1 || segments == 8, "another number of segments");
     let octets = BLOCK as u64 * (1 + SEGMENT_BLOCKS * u64::from(segments) + BLOCKS);
@@ -81,7 +81,7 @@ fn show_counts(
     Ok(())
 }
 
-/// Counts the calls of all batches on a volume with so many segments, without a cache and with one.
+/// Counts the calls of all batches on a volume with this many segments, without a cache and with one.
 fn count(rt: &impl Print, alloc: Global, segments: u32) -> Result<()> {
     let (disk, before) = formatted(alloc, segments)?;
     let after = carry_all(alloc, disk)?.counts();
@@ -93,7 +93,7 @@ fn count(rt: &impl Print, alloc: Global, segments: u32) -> Result<()> {
     show_counts(rt, segments, "with", before, after)
 }
 
-/// The nanoseconds of one of so many writes, side by side, before a sync.
+/// The nanoseconds of one of this many adjacent writes before a sync.
 fn time_of_writes(rt: &impl Clock, cache: &mut WCache<MemDisk>, writes: u64) -> Result<u128> {
     ensure!(0 < writes && writes <= 1_000_000, "too many writes");
     let start = Instant::now(rt)?;
@@ -107,7 +107,7 @@ fn time_of_writes(rt: &impl Clock, cache: &mut WCache<MemDisk>, writes: u64) -> 
     Ok(spent / u128::from(writes))
 }
 
-/// Prints it for a new cache, and for one that has had as many writes and a sync.
+/// Prints this time for a new cache, and for one that has had as many writes and a sync.
 fn show_time(rt: &(impl Clock + Print), alloc: Global, writes: u64) -> Result<()> {
     ensure!(writes <= 1_000_000, "too many writes");
     let mut cache = WCache::new(alloc, MemDisk::new(alloc, PIECE * writes)?);

@@ -1,6 +1,6 @@
-//! Measures files over a volume in memory beside a map in memory: a file that grows piece by piece and is read back, of
-//! 1 MiB and of 4 MiB, and 250 and 1,000 new files. `bench_files measure` prints microseconds and ratios; without a word it
-//! does nothing.
+//! Measures files over a volume in memory and compares them with a map in memory: a file that grows piece by piece and
+//! is read back, of 1 MiB and of 4 MiB, and 250 and 1,000 new files. `bench_files measure` prints microseconds and
+//! ratios; without a word it does nothing.
 #![tactic(auto)]
 
 ghost use Rattle.std.specs.Prelude.{◌≤◌, IfOk};
@@ -54,12 +54,12 @@ fn show<R: Print>(rt: &R, name: &str, less: (u128, u128), more: (u128, u128)) ->
     Ok(())
 }
 
-/// How many hundredths of one time another is.
+/// One time in hundredths of another.
 fn ratio(of: u128, time: u128) -> u128 {
     time.saturating_mul(100) / of.max(1)
 }
 
-/// A volume of so many blocks without files.
+/// A volume of this many blocks without files.
 fn empty(alloc: Global, count: u32) -> Result<Volume>
     requires some { 1024 ≤ count }
     requires few { count ≤ 65536 }
@@ -72,7 +72,7 @@ fn empty(alloc: Global, count: u32) -> Result<Volume>
     Ok(volume)
 }
 
-/// The microseconds that a file of so many pieces takes, in a volume and in a map.
+/// The microseconds that a file of this many pieces takes, in a volume and in a map.
 fn filling(rt: &impl Clock, alloc: Global, pieces: u32) -> Result<(u128, u128)> {
     let piece = vec![in alloc; 97; PIECE]?;
     let (mut of_volume, mut of_map) = (u128::MAX, u128::MAX);
@@ -88,7 +88,7 @@ fn filling(rt: &impl Clock, alloc: Global, pieces: u32) -> Result<(u128, u128)> 
     Ok((of_volume, of_map))
 }
 
-/// Makes a file of so many pieces, each applied for itself, and reads it back.
+/// Makes a file of this many pieces, applies each piece separately, and reads the file back.
 fn fill(alloc: Global, volume: &mut Volume, pieces: u32, piece: &[u8]) -> Result<()>
     requires { HasFiles volume.old.seen }
 {
@@ -117,7 +117,7 @@ fn fill_map(alloc: Global, pieces: u32, piece: &[u8]) -> Result<()> {
     Ok(())
 }
 
-/// The microseconds that so many new files take, in a volume and in a map.
+/// The microseconds that this many new files take, in a volume and in a map.
 fn making(rt: &impl Clock, alloc: Global, count: u32) -> Result<(u128, u128)> {
     let (mut of_volume, mut of_map) = (u128::MAX, u128::MAX);
     for _ in 0..TIMES {
@@ -132,7 +132,7 @@ fn making(rt: &impl Clock, alloc: Global, count: u32) -> Result<(u128, u128)> {
     Ok((of_volume, of_map))
 }
 
-/// Makes so many files, each applied for itself.
+/// Makes this many files, and applies each separately.
 fn make(volume: &mut Volume, count: u32) -> Result<()>
     requires { HasFiles volume.old.seen }
 {

@@ -26,7 +26,7 @@ fn main(rt: HostRuntime) -> Result<()> {
     Ok(())
 }
 
-/// The largest block but for its last octets, as it is sent.
+/// The largest block without its last octets, as it is sent.
 fn block(alloc: Global) -> Result<Vec<u8>, AllocError> {
     let mut text = Vec::new(alloc);
     for _ in 0..LINES {
@@ -35,7 +35,7 @@ fn block(alloc: Global) -> Result<Vec<u8>, AllocError> {
     stuff(alloc, text.as_slice())
 }
 
-/// Reads one message that comes in pieces of so many octets.
+/// Reads one message that arrives in pieces of this many octets.
 fn read(reader: &mut Reader, octets: &[u8], size: usize) -> Result<Message>
     requires awaits { reader.old.awaits ≡ None }
     requires size { 0 < size }
@@ -49,7 +49,7 @@ fn read(reader: &mut Reader, octets: &[u8], size: usize) -> Result<Message>
     Err(anyhow!("no message"))
 }
 
-/// The microseconds that a block takes in pieces of so many octets.
+/// The microseconds that a block takes in pieces of this many octets.
 fn framing_time(rt: &impl Clock, alloc: Global, sent: &[u8], size: usize) -> Result<u128>
     requires { 0 < size }
 {

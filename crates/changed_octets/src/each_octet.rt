@@ -1,5 +1,5 @@
-//! Each octet of the superblock, the bitmap, the inodes and the directory is changed, where all segments are closed: the device is
-//! refused as no volume or as damaged, or what is opened answers a session.
+//! Each octet of the superblock, the bitmap, the inodes and the directory is changed while all segments are closed: the
+//! device is refused as no volume or as damaged, or what is opened answers a session.
 
 use crate::some_octets::{Wanted, becomes, with_closed_segments};
 use eight_batches::{Device, SimError};
@@ -9,14 +9,14 @@ use std::test::Fail;
 /// The octets of a block.
 const BLOCK: u64 = 4096;
 
-/// The first of the logical blocks, which are the two of the bitmap, one of inodes and one of slots.
+/// The first logical block. The first ones are the two of the bitmap, one of inodes and one of slots.
 const HOME: u64 = 4113;
 
 /// Octets of a block: the block, the first one, the first after them, and in how many ways each is changed.
 type Octets = (u64, u64, u64, u64);
 
-/// Octets that are in use are changed in all four ways: those of the superblock that aren't zeros, those of the bitmap for the blocks
-/// of files, and those of the inodes and slots of files, with some after each.
+/// Octets in use are changed in all four ways: those of the superblock that are not zero, those of the bitmap for the
+/// blocks of files, and those of the inodes and slots of files, with some after each.
 const WAYS: u64 = 4;
 
 const SUPERBLOCK: &[Octets] = &[(0, 0, 160, WAYS), (0, 160, 4096, 1)];
@@ -41,7 +41,8 @@ const MORE_SLOTS: &[Octets] = &[(HOME + 3, 512, 768, WAYS), (HOME + 3, 768, 2048
 
 const REST_OF_SLOTS: &[Octets] = &[(HOME + 3, 2048, 4096, 1)];
 
-/// Another octet, in one of the ways: one more, its highest bit turned, zero or 255, and a bit turned where it is that already.
+/// Another octet, in one of the ways: one more; its highest bit flipped; zero or 255; or a bit flipped if it is that
+/// already.
 fn changed(octet: u8, way: u64) -> u8 {
     match (way % WAYS, octet) {
         (0, _) => octet.wrapping_add(1),
@@ -52,8 +53,8 @@ fn changed(octet: u8, way: u64) -> u8 {
     }
 }
 
-/// Changes an octet of a device in so many ways, the first of which follows from its place, and changes it back. Was the device each
-/// time refused as no volume or as damaged, or opened as a spool that answers?
+/// Changes an octet of a device in this many ways, the first of which depends on its place, and changes it back. It
+/// answers whether the device was each time refused as no volume or as damaged, or opened as a spool that answers.
 fn is_right(alloc: Global, device: Device, at: u64, ways: u64) -> Result<(Device, bool), SimError> {
     let mut device = device;
     for k in 0..ways {
@@ -88,7 +89,7 @@ fn first_wrong(
     Ok((device, None))
 }
 
-/// The first of all these octets that is wrong, and whether the device is opened whole after all changes were taken back.
+/// The first of all these octets that is wrong, and whether the device is opened whole after all changes were undone.
 fn first_wrong_of(alloc: Global, rows: &[Octets]) -> Result<(Option<u64>, bool), SimError> {
     let mut device = with_closed_segments(alloc)?;
     for octets in rows {

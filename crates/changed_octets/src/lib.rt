@@ -1,4 +1,5 @@
-//! Devices of which one octet was changed: each is refused as no volume or as damaged, or opened as a spool that answers.
+//! Devices in which one octet was changed: each is refused as no volume or as damaged, or opened as a spool that
+//! answers.
 #![tactic(auto)]
 
 #[cfg(test)]

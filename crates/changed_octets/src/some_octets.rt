@@ -1,7 +1,7 @@
-//! Devices of which one bit was changed: a known error, or a spool that answers.
+//! Devices in which one bit was changed: a known error, or a spool that answers.
 //!
-//! Of a device the superblock is block 0. A segment has 514 blocks: its gate, the first one's in block 1, its descriptor, and its
-//! images. The logical blocks begin at 4113.
+//! Block 0 of a device is the superblock. A segment has 514 blocks: its gate, which for the first segment is block 1,
+//! its descriptor, and its images. The logical blocks begin at 4113.
 
 use eight_batches::{
     Device, NotOpened, OpenError, Part, Row, Sim, SimError, batches, shows, with_open_segments,
@@ -9,27 +9,27 @@ use eight_batches::{
 use std::alloc::Global;
 use std::test::Fail;
 
-/// What is to become of a device of which a bit was changed.
+/// The expected outcome for a device in which a bit was changed.
 #[derive(Clone, Copy, PartialEq)]
 pub(crate) enum Wanted {
-    /// It isn't opened, as no volume stands there.
+    /// It is not opened, because it holds no volume.
     NotAVolume,
-    /// It isn't opened, as its blocks hold no spool.
+    /// It is not opened, because its blocks hold no spool.
     Damaged,
     /// It is opened with all changes.
     Whole,
-    /// It isn't opened, or it is with some changes.
+    /// It is not opened, or it is opened with some changes.
     Any,
 }
 
-/// Octets of which each in turn is changed: what they are, a block, the place of the first one in it, how many, and how far
-/// they stand apart.
+/// Octets each of which is changed in turn: their name, a block, the place of the first one in it, their number, and
+/// the distance between them.
 type Octets = (&'static str, u64, u64, u64, u64, Wanted);
 
 /// The octets of a segment.
 const SEGMENT: u64 = 514 * 4096;
 
-/// Where all eight segments are closed, each of which had a batch.
+/// All eight segments are closed, and each of them had a batch.
 const CLOSED: &[Octets] = &[
     ("up to the segments", 0, 0, 20, 1, Wanted::NotAVolume),
     ("inodes and host", 0, 20, 17, 1, Wanted::Any),
@@ -44,7 +44,7 @@ const CLOSED: &[Octets] = &[
     ("files", 4117, 0, 120, 341, Wanted::Any),
 ];
 
-/// Where the first four segments are open, with the batches of a group and three articles, and the others never had a batch.
+/// The first four segments are open, with the batches of a group and three articles, and the others never had a batch.
 const OPEN: &[Octets] = &[
     ("open gates", 1, 0, 4, SEGMENT, Wanted::Any),
     ("closed gates", 2057, 0, 4, SEGMENT, Wanted::NotAVolume),
@@ -98,7 +98,7 @@ fn four() -> &'static [Part] {
     FOUR
 }
 
-/// What is asked of a spool that is opened, whatever it holds, and what is answered.
+/// Questions to a spool that is opened, whatever it holds, and the answers.
 fn questions() -> &'static [Row] {
     &[
         ("join", "joined 1"),
@@ -138,7 +138,7 @@ fn flip(device: &mut Device, at: u64, bits: u8) -> Result<(), SimError> {
     Ok(())
 }
 
-/// Opens a device. Does it become what is wanted? Where it is to be whole, it has so many changes.
+/// Opens a device, and answers whether it has the expected outcome. If it must be whole, it has this many changes.
 pub(crate) fn becomes(
     alloc: Global,
     device: Device,
@@ -171,8 +171,8 @@ fn is_told(error: OpenError, wanted: Wanted) -> bool {
 /// The bits that are changed, in turn, in one octet after the other.
 const BITS: [u8; 8] = [1, 2, 4, 8, 16, 32, 64, 128];
 
-/// Changes each of the octets in turn in a device that otherwise is as another one, and answers the first place in the block
-/// where it becomes something else.
+/// Changes each of the octets in turn in a device that otherwise equals another one. It answers the first place in the
+/// block with an unexpected outcome.
 fn first_wrong(
     alloc: Global,
     device: Device,

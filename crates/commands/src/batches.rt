@@ -1,4 +1,4 @@
-//! The articles of a volume are written as a batch.
+//! Writes the articles of a volume as a batch.
 
 use crate::files::open;
 use exporting::LineEnds;

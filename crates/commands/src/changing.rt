@@ -1,4 +1,4 @@
-//! A group is added, or articles are taken out of one, while no server runs.
+//! Adds a group, or removes articles from one, while no server runs.
 
 ghost use Rattle.std.specs.Prelude.{◌≡◌, ◌⊎◌, ◌<◌, ◌≤◌, IsTrue, length};
 ghost use Rattle.std.specs.List.{list_all};
@@ -47,7 +47,7 @@ pub fn group<R: Files<File = File> + Wait>(
     Ok(serial)
 }
 
-/// Takes the articles of a group up to a number out of it, and makes that durable. Answers the serial of the change.
+/// Removes the articles of a group up to a number, and makes that durable. Answers the serial of the change.
 pub fn expire<R: Files<File = File> + Wait>(
     rt: &R,
     alloc: Global,
@@ -69,7 +69,7 @@ pub fn expire<R: Files<File = File> + Wait>(
     Ok(serial)
 }
 
-/// Makes durable what was accepted.
+/// Makes the accepted changes durable.
 fn flush<R: Wait>(
     rt: &R,
     alloc: Global,

@@ -17,10 +17,10 @@ use std::fs::File;
 use std::rt::Files;
 use wcache::WCache;
 
-/// What a volume in a file is used through: what is written to it is collected until a sync.
+/// The device of a volume in a file: it collects writes until a sync.
 pub(crate) type VolumeDisk = WCache<FileDisk>;
 
-/// Makes an empty volume in place of any file there.
+/// Makes an empty volume in place of any file with this path.
 pub fn format<R: Files<File = File>>(
     rt: &R,
     alloc: Global,
@@ -51,8 +51,8 @@ pub(crate) fn open<R: Files<File = File>>(
     }
 }
 
-/// The file of a volume as a device, once its gates are written back: so the first sync of the opening carries what a read gives
-/// of them.
+/// The file of a volume as a device, after its gates are written back. So the first sync of the opening makes durable
+/// what a read gives of them.
 fn find<R: Files<File = File>>(rt: &R, alloc: Global, path: &str) -> Result<FileDisk, CommandError>
     ensures { IfOk result (λ disk. (opened : FileDisk) × WritesBack file_device (Ok tt) opened disk) }
 {

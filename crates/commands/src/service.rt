@@ -1,4 +1,4 @@
-//! A volume is served.
+//! Serves a volume.
 
 ghost use Rattle.journal.specs.Journal.{IsReady};
 
@@ -41,7 +41,7 @@ pub fn serve<
     }
 }
 
-/// Takes a port of the loopback interface, and says so.
+/// Listens on a port of the loopback interface, and prints which one.
 fn listen<R: Net<Listener = TcpListener, Stream = TcpStream>, A: Write>(
     rt: &R,
     port: u16,

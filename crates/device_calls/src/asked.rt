@@ -1,5 +1,5 @@
-//! A device in memory, with or without a cache over it, that promises nothing, so that a test carries no fact of it: each
-//! call tests anew what it wants.
+//! A device in memory, with or without a cache over it. It promises nothing, so that a test carries no fact about it:
+//! each call checks its own preconditions.
 
 use disk::{Disk, DiskCall, DiskError, Faults};
 use memdisk::{MemDisk, Pick};
@@ -11,14 +11,14 @@ use wcache::WCache;
 pub enum Ask<'a> {
     Len,
     Write(u64, &'a [u8]),
-    /// Octets from a place on: 0 where they are these.
+    /// Reads from a place on. The answer is 0 if the octets are these.
     Read(u64, &'a [u8]),
     Sync,
     FailAt(u64),
     FailKind(DiskCall, u64),
-    /// The device crashes; what a cache had collected is lost.
+    /// Crashes the device; what a cache had collected is lost.
     Crash(&'a [Pick]),
-    /// How many writes and syncs the device in memory was asked: 0 where they are these.
+    /// The numbers of writes and syncs asked of the device in memory. The answer is 0 if they are these.
     Counts(u64, u64),
 }
 
@@ -30,18 +30,18 @@ pub enum Said {
     Refused(DiskError),
     /// Other octets or counts than those asked for.
     Other,
-    /// What is asked isn't what the call may be asked.
+    /// The call's preconditions do not hold, so it was not made.
     NotAsked,
 }
 
-/// A device.
+/// A device in memory, with or without a cache.
 #[derive(Drop)]
 pub enum Device {
     Plain(MemDisk),
     Cached(WCache<MemDisk>),
 }
 
-/// A new one of so many octets.
+/// A new device of this many octets. Refused only for want of memory.
 pub fn new_device(alloc: Global, len: u64, is_cached: bool) -> Result<Device, AllocError> {
     let disk = MemDisk::new(alloc, len)?;
     if is_cached {
@@ -50,7 +50,7 @@ pub fn new_device(alloc: Global, len: u64, is_cached: bool) -> Result<Device, Al
     Ok(Device::Plain(disk))
 }
 
-/// Asks a device, and hands back what it is then.
+/// Asks a device, and returns it with the answer.
 pub fn answered(alloc: Global, device: Device, asked: Ask<'_>) -> (Device, Said) {
     match device {
         Device::Plain(disk) => asked_plain(disk, asked),

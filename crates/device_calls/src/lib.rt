@@ -1,4 +1,4 @@
-//! Tests of the devices: tables of calls, with what each is to answer.
+//! Tests of the devices: tables of calls, with the expected answer to each.
 #![tactic(auto)]
 
 #[cfg(test)]

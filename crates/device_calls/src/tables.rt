@@ -10,7 +10,7 @@ use std::test::Fail;
 
 const FAULT: Said = Said::Refused(DiskError::Fault);
 
-/// A name, the octets of the device, whether a cache is over it, and the calls with their answers.
+/// A name, the number of octets of the device, whether it has a cache, and the calls with their answers.
 type Case<'a> = (&'a str, u64, bool, &'a [(Ask<'a>, Said)]);
 
 const CASES: &[Case<'static>] = &[
@@ -247,7 +247,7 @@ fn write_both_ends(alloc: Global, len: u64, rounds: u64) -> Result<Said, Fail>
     Ok(said)
 }
 
-// It ends in time only if a sync copies what was touched and not the whole device.
+// It ends in time only if a sync copies what was touched, not the whole device.
 #[test]
 fn a_sync_costs_what_was_touched(rt: HostRuntime) -> Result<(), Fail> {
     assert_eq!(rt; write_both_ends(rt.alloc(), 21_041_152, 2000)?, Said::Done);

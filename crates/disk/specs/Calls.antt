@@ -34,7 +34,8 @@ abbrev pub Does : Call → Result (Unit {0}) DiskError → Device → Device →
 Does (Write at octets) result old new = Writes at octets result old new
 Does Sync result old new = Syncs result old new
 
--- These calls in their order, each once, up to the first that is refused. Its refusal is the answer, or Ok where none is.
+-- These calls in their order, each once, up to the first that is refused. That refusal is the answer; without one the
+-- answer is Ok.
 abbrev pub Makes : {D : Type 0} → (D → Device) → List Call → Result (Unit {0}) DiskError → D → D → Type 0
 Makes {D} device [] result old new = (result ≡ Ok tt) × (new ≡ old)
 Makes {D} device (call ∷ calls) result old new =

@@ -6,9 +6,9 @@ use Rattle.disk.specs.declared.DiskError.TheVariants.{Fault, Memory}
 
 -- a device at one moment
 pub record Device : Type 1 where
-  -- how many octets it has
+  -- the number of its octets
   pub size : ℕ
-  -- whether it tells its octets; where it doesn't, nothing is said of its content and images
+  -- whether it tells its octets; if it does not, nothing is said of its content and images
   pub tells : Bool
   -- the octets that a read gives
   pub content : List ℕ
@@ -18,7 +18,7 @@ pub record Device : Type 1 where
   pub clock : ℕ
   -- the images that a crash at some moment since that time might have left
   pub left_since : ℕ → List ℕ → Type 0
-  -- how many reads, writes and syncs were asked and how many calls have failed, each as a u64 that wraps
+  -- the numbers of reads, writes and syncs that were asked and of calls that failed, each as a u64 that wraps
   pub reads : ℕ
   pub writes : ℕ
   pub syncs : ℕ
@@ -36,7 +36,7 @@ LeavesOnly device image = (c : List ℕ) → device.may_leave c → c ≡ image
 abbrev pub LeavesNoMore : Device → Device → Type 0
 LeavesNoMore old new = (c : List ℕ) → new.may_leave c → old.may_leave c
 
--- an image that might have been left has any octets in the n from that place on
+-- an image that might have been left, with any octets in the n from that place on
 abbrev pub IsTornImage : ℕ → ℕ → Device → List ℕ → Type 0
 IsTornImage at n old c = (d : List ℕ) × old.may_leave d × Torn at n d c
 
@@ -44,17 +44,17 @@ IsTornImage at n old c = (d : List ℕ) × old.may_leave d × Torn at n d c
 abbrev pub TearsAt : ℕ → ℕ → Device → Device → Type 0
 TearsAt at n old new = (c : List ℕ) → new.may_leave c → IsTornImage at n old c
 
--- what no call changes, and that time goes on
+-- no call changes the size or whether the octets are told, and the time does not fall
 pub record Elapses (old new : Device) : Type 0 where
   pub size : new.size ≡ old.size
   pub tells : new.tells ≡ old.tells
   pub later : old.clock ≤ new.clock
 
--- a crash since an earlier time might have left what it might have left before
+-- a crash since an earlier time might have left only what it might have left before
 abbrev pub LeftNoMore : Device → Device → Type 0
 LeftNoMore old new = (t : ℕ) (c : List ℕ) → t ≤ old.clock → new.left_since t c → old.left_since t c
 
--- or, within or after a write, an image torn where that wrote
+-- or, during or after a write, an image torn where the write went
 abbrev pub LeftTornAt : ℕ → ℕ → Device → Device → Type 0
 LeftTornAt at n old new = (t : ℕ) (c : List ℕ) → t ≤ old.clock → new.left_since t c → old.left_since t c ⊎ IsTornImage at n old c
 
@@ -83,7 +83,7 @@ pub record IsSync (old new : Device) : Type 0 where
   pub writes : new.writes ≡ old.writes
   pub syncs : new.syncs ≡ one_more old.syncs
 
--- A call that was refused for want of memory took nothing: the content and the counts are as before, and a crash
+-- A call that was refused for want of memory had no effect: the content and the counts are as before, and a crash
 -- leaves nothing that it could not have left before.
 pub record IsRefused (old new : Device) : Type 0 where
   pub time : Elapses old new

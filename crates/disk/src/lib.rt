@@ -11,7 +11,7 @@ ghost use Rattle.disk.specs.Image.{part, overwritten};
 pub enum DiskError {
     /// The device failed in this call.
     Fault,
-    /// A growth was refused in this call, and nothing was taken.
+    /// A growth was refused in this call, and the call had no effect.
     Memory,
 }
 
@@ -23,22 +23,22 @@ pub enum DiskCall {
     Sync,
 }
 
-/// A block device, at each moment what `device` says; the clauses hold for every call, refused ones among them.
+/// A block device. `device` says what it is at each moment; the clauses hold for every call, refused ones included.
 ///
-/// A read takes no memory. A write or a sync that is refused for want of memory takes nothing and may be asked again.
+/// A read takes no memory. A write or a sync that is refused for want of memory has no effect and may be asked again.
 pub trait Disk {
     /// What the device is at this moment.
     ghost device: { Self → Device };
 
-    /// Whether its calls take memory. Where they don't, none is refused for want of it.
+    /// Whether its calls take memory. If they do not, none is refused for want of it.
     ghost grows: { Bool };
 
-    /// How many octets there are.
+    /// The number of octets of the device.
     fn len(&self) -> u64
         ensures { result ≡ (device self.now).size };
 
-    /// Reads the octets from `at` on, as many as there is room for. A fault leaves the room with any octets. It is the
-    /// only refusal.
+    /// Fills `into` with the octets from `at` on. The range must lie within the device. The only refusal is `Fault`,
+    /// which leaves any octets in `into`.
     fn read(&mut self, at: u64, into: &mut [u8]) -> Result<(), DiskError>
         requires { at + length into.old ≤ (device self.old).size }
         ensures value { IsTrue (device self.old).tells → OnOk result (into.new ≡ part at (length into.old) (device self.old).content) }
@@ -50,7 +50,8 @@ pub trait Disk {
         ensures cause { HasCause result (device self.old) (device self.new) }
         ensures no_memory { IfErr result (λ error. error ≡ DiskError.Fault) };
 
-    /// Writes octets from `at` on. Until a good sync, a crash may leave any octets there, also after a fault.
+    /// Writes the octets from `at` on. The range must lie within the device. Until a good sync, a crash may leave any
+    /// octets there, even after a fault. `Memory` comes only from a device that grows, and has no effect.
     fn write(&mut self, at: u64, from: &[u8]) -> Result<(), DiskError>
         requires { at + length from.now ≤ (device self.old).size }
         ensures content { IsTrue (device self.old).tells → OnOk result ((device self.new).content ≡ overwritten at from.now (device self.old).content) }
@@ -62,7 +63,8 @@ pub trait Disk {
         ensures refused { OnRefused result (device self.old) (device self.new) }
         ensures memory { IfErr result (λ error. error ≡ DiskError.Memory → IsTrue grows) };
 
-    /// After a good one, a crash leaves exactly what a read gives. A fault makes nothing durable.
+    /// Makes the content durable: after `Ok` a crash leaves exactly what a read gives. `Fault` makes nothing durable.
+    /// `Memory` comes only from a device that grows, and has no effect.
     fn sync(&mut self) -> Result<(), DiskError>
         ensures durable { IsTrue (device self.old).tells → OnOk result (LeavesOnly (device self.new) (device self.old).content) }
         ensures content { IsTrue (device self.old).tells → OnOk result ((device self.new).content ≡ (device self.old).content) }
@@ -80,31 +82,32 @@ pub trait Disk {
     /// What a read gives is one of the images that a crash may leave.
     ghost counts_content: { (d : Self) → IsTrue (device d).tells → (device d).may_leave (device d).content };
 
-    /// This moment is one of those since an earlier one.
+    /// An image that a crash may leave now is one that a crash since any earlier moment might have left.
     ghost counts_now: { (d : Self) (t : ℕ) (c : List ℕ) → IsTrue (device d).tells → t ≤ (device d).clock → (device d).may_leave c → (device d).left_since t c };
 
-    /// Since this moment there is no other.
+    /// A crash since this very moment might have left only what a crash may leave now.
     ghost only_now: { (d : Self) (c : List ℕ) → IsTrue (device d).tells → (device d).left_since (device d).clock c → (device d).may_leave c };
 }
 
-/// A device that can be told to fail.
+/// A device whose calls can be made to fail.
 pub trait Faults: Disk {
     ghost use Rattle.disk.specs.declared.DiskCall.{DiskCall};
 
-    /// Between two values: the second is the first with that call told to fail, counted from 1, and 0 for none.
+    /// Relates two values: the second is the first with its n-th call from now on planned to fail, counted from 1; 0
+    /// plans none.
     ghost plans: { ℕ → Self → Self → Type 0 };
 
-    /// The same for calls of one kind.
+    /// The same relation for calls of one kind.
     ghost plans_kind: { DiskCall → ℕ → Self → Self → Type 0 };
 
-    /// The n-th call of the device from now on, counted from 1, answers `Fault`; 0 takes an earlier plan back.
-    /// All that the device means stays as it was.
+    /// Makes the n-th call of the device from now on, counted from 1, answer `Fault`; 0 cancels an earlier plan. All
+    /// that the device means stays as it was.
     fn fail_at(&mut self, n: u64)
         ensures unchanged { IsUnchanged (Self.device self.old) (Self.device self.new) }
         ensures plan { plans n self.old self.new };
 
-    /// The n-th call of that kind from now on, counted from 1, answers `Fault`; 0 takes an earlier plan back. It replaces
-    /// an earlier plan. All that the device means stays as it was.
+    /// Makes the n-th call of that kind from now on, counted from 1, answer `Fault`; 0 cancels an earlier plan. It
+    /// replaces an earlier plan. All that the device means stays as it was.
     fn fail_kind(&mut self, kind: DiskCall, n: u64)
         ensures unchanged { IsUnchanged (Self.device self.old) (Self.device self.new) }
         ensures plan { plans_kind kind n self.old self.new };

@@ -1,5 +1,6 @@
-//! A script of eight batches for tests: a group, and then seven articles that are posted and committed one by one, so that the serial
-//! of each change is the number of its batch. The last batch leaves no closed segment. It promises nothing, as `sim_world` doesn't.
+//! A script of eight batches for tests: a group, and then seven articles that are posted and committed one by one, so
+//! that the serial of each change is the number of its batch. The last batch leaves no closed segment. Like
+//! `sim_world`, it has no contracts.
 #![tactic(auto)]
 
 pub use sim_world::{Device, DiskCall, NotOpened, OpenError, Pick, Row, Sim, SimError};
@@ -11,7 +12,7 @@ pub enum Part {
     Line(&'static str),
     /// The article with this serial is posted, and what is ready is released.
     Post(u64),
-    /// A batch is carried to its commit, the kernel is told, and what is ready is released.
+    /// A batch is written up to its commit, the kernel learns of it, and what is ready is released.
     Commit,
     /// The device is called until the journal is idle.
     Settle,
@@ -38,7 +39,8 @@ const BATCHES: &[Part] = &[
     Part::Commit,
 ];
 
-/// The eight batches, each to its commit. A function, so that no proof of a test reads them; and so below.
+/// The eight batches, each up to its commit. This and the next ones are functions, so that no proof of a test reads
+/// them.
 pub fn batches() -> &'static [Part] {
     BATCHES
 }
@@ -68,7 +70,7 @@ const REST: &[&str] = &[
     "release",
 ];
 
-/// The lines of a post on both sides of that with its id.
+/// The lines of a post before and after the line with its id.
 fn lines() -> (&'static [&'static str], &'static [&'static str]) {
     (HEAD, REST)
 }
@@ -80,16 +82,16 @@ fn article(alloc: Global, serial: u64) -> Result<String, AllocError> {
     )
 }
 
-/// What the calls of the device came to.
+/// Counts of the device calls.
 #[derive(Clone, Copy, Debug, Drop, PartialEq)]
 pub struct Calls {
-    /// How many batches were committed.
+    /// The number of batches that were committed.
     pub commits: u64,
-    /// How many calls failed.
+    /// The number of calls that failed.
     pub faults: u64,
-    /// How many steps the journal made: the device calls, and one step where none was to be made.
+    /// The number of steps of the journal: the device calls, and one step that made none.
     pub steps: u64,
-    /// The script stops after so many steps.
+    /// The script stops after this many steps.
     most: u64,
 }
 
@@ -122,10 +124,10 @@ impl Calls {
     }
 }
 
-/// More calls than a batch has with all that are carried home.
+/// More calls than a batch has, including those that carry all images home.
 const MANY_CALLS: u64 = 100;
 
-/// Plays parts of the script, whatever is answered, until it stops.
+/// Plays parts of the script, whatever the answers are, until it stops.
 pub fn play(
     alloc: Global,
     sim: &mut Sim,
@@ -180,7 +182,7 @@ fn commit(alloc: Global, sim: &mut Sim, calls: &mut Calls) -> Result<(), SimErro
     tell(alloc, sim, "release")
 }
 
-/// Calls the device until a call isn't answered as one that goes on, or the script stops.
+/// Calls the device until a call does not answer that the batch continues, or the script stops.
 fn carry(alloc: Global, sim: &mut Sim, calls: &mut Calls) -> Result<(), SimError> {
     for _ in 0..MANY_CALLS {
         let answer = sim.tell(alloc, "dev")?;
@@ -192,14 +194,14 @@ fn carry(alloc: Global, sim: &mut Sim, calls: &mut Calls) -> Result<(), SimError
     Err(SimError::NoEvent)
 }
 
-/// A device with a new volume over which these parts were played: each batch stands in an open segment.
+/// A device with a new volume over which these parts were played: each batch is in an open segment.
 pub fn with_open_segments(alloc: Global, parts: &[Part]) -> Result<Device, SimError> {
     let mut sim = Sim::new(alloc)?;
     play(alloc, &mut sim, parts, &mut Calls::none())?;
     Ok(sim.into_device())
 }
 
-/// The last change that a released reply depends on: each article's reply is `240`. With none that did, 0.
+/// The last change that a released reply depends on, or 0 if no reply depends on any. Each article's reply is `240`.
 fn claimed(sim: &Sim) -> u64 {
     let released = sim.released(1);
     let mut last = 0u64;
@@ -211,23 +213,24 @@ fn claimed(sim: &Sim) -> u64 {
     last
 }
 
-/// Whether exactly the changes that were committed are durable, and no released reply depends on another.
+/// Whether exactly the committed changes are durable, and no released reply depends on any other change.
 pub fn claims_no_more(sim: &Sim, calls: Calls) -> bool {
     let (opened, durable, _) = sim.counts();
     opened == 0 && durable == calls.commits && claimed(sim) <= calls.commits
 }
 
-/// Whether no released reply depends on a change that wasn't committed.
+/// Whether no released reply depends on a change that was not committed.
 pub fn claims_committed(sim: &Sim, calls: Calls) -> bool {
     claimed(sim) <= calls.commits
 }
 
-/// Whether all seven articles were told as durable.
+/// Whether the replies report all seven articles as durable.
 pub fn claims_all(sim: &Sim) -> bool {
     claimed(sim) == 8
 }
 
-/// Whether what was opened, and is durable, is the first changes of the script: those that were committed and at most one more.
+/// Whether the opened and durable changes are the first ones of the script: those that were committed and at most one
+/// more.
 pub fn shows(alloc: Global, sim: &Sim, commits: u64) -> Result<bool, SimError> {
     let (opened, durable, accepted) = sim.counts();
     if opened < commits || opened.saturating_sub(commits) > 1 {

@@ -11,7 +11,7 @@ use Rattle.model.specs.declared.change.Change.TheVariants.{Group, Article, Expir
 abbrev pub picked : (ℕ → Option ℕ) → ℕ → List ℕ
 picked pick n = filter_map pick (range_with_len 1 n)
 
--- the serial, where its change filed an article that is in a group
+-- the serial, if its change filed an article that is in a group
 abbrev pub serial_if_in : Spool → ℕ → Option ℕ
 serial_if_in S n = if is_some (article_with S n) && not (is_some (gone_with S n)) then Some n else None
 
@@ -19,7 +19,7 @@ serial_if_in S n = if is_some (article_with S n) && not (is_some (gone_with S n)
 abbrev pub all_serials : Spool → List ℕ
 all_serials S = picked (serial_if_in S) (length S)
 
--- the serial of the article with this number in a group, where it is in it
+-- the serial of the article with this number in a group, if there is one
 abbrev pub serial_at : Spool → Octets → ℕ → Option ℕ
 serial_at S g n = option_map (λ a. a.serial) (by_number S g n)
 
@@ -27,11 +27,11 @@ serial_at S g n = option_map (λ a. a.serial) (by_number S g n)
 abbrev pub serials_of : Spool → Octets → List ℕ
 serials_of S g = picked (serial_at S g) (high S g)
 
--- those of the group with this name, where it is here
+-- the serials of the group with this name, if it exists
 abbrev pub serials_in : Spool → Octets → Option (List ℕ)
 serials_in S g = option_map (λ group. serials_of S group.name) (group_named S g)
 
--- the text that a change files, if it files one
+-- the text that a change files, if any
 abbrev pub text_filed : Change → Option Octets
 text_filed (Group name status description moment) = None
 text_filed (Article text groups moment) = Some text

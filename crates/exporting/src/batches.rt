@@ -1,4 +1,4 @@
-//! Articles are written as a batch.
+//! Writes articles as a batch.
 
 ghost use Rattle.std.specs.Prelude.{◌≡◌, IfOk, option_map};
 ghost use Rattle.exporting.specs.Exported.{text_with};
@@ -22,8 +22,8 @@ pub enum LineEnds {
     Crlf,
 }
 
-/// Writes the articles that are in this group, or all that are in one, as a batch. Refused as `NotFound` where the group isn't here,
-/// with nothing written.
+/// Writes the articles that are in this group, or all that are in any group, as a batch. `NotFound` if the group does
+/// not exist; then nothing is written.
 pub fn export<W: Write>(
     alloc: Global,
     spool: &Spool,
@@ -43,7 +43,7 @@ pub fn export<W: Write>(
     Ok(())
 }
 
-/// The article with this serial as it stands in a batch. None where no article has it.
+/// The article with this serial in the form of a batch. `None` if no article has the serial.
 pub fn entry_of(
     alloc: Global,
     spool: &Spool,
@@ -64,7 +64,7 @@ pub fn entry_of(
     }
 }
 
-/// The text that the change with this serial files, if it files one.
+/// The text that the change with this serial files, if any.
 fn stored_text(spool: &Spool, serial: u64) -> Result<Option<Text>, AllocError>
     ensures { IfOk result (λ text. text ≡ text_with spool.now.changes serial) }
 {

@@ -1,4 +1,4 @@
-//! The articles that are in a spool, written as a batch for `rnews`.
+//! Writes the articles that are in a spool's groups as a batch for `rnews`.
 #![tactic(auto)]
 
 mod batches;

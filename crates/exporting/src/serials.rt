@@ -8,7 +8,7 @@ ghost use Rattle.exporting.specs.Exported as exported;
 use lookups::LookUps;
 use std::alloc::{AllocError, Global};
 
-/// The serials of the articles that are in a group, in rising serial.
+/// The serials of the articles that are in any group, in rising serial. Refused only for want of memory.
 pub fn all_serials<L: LookUps>(alloc: Global, spool: &L) -> Result<Vec<u64>, AllocError>
     ensures { IfOk result (λ serials. serials.items ≡ exported.all_serials (L.changes spool.now)) }
 {
@@ -19,7 +19,7 @@ pub fn all_serials<L: LookUps>(alloc: Global, spool: &L) -> Result<Vec<u64>, All
     Ok(serials)
 }
 
-/// Adds the serial where its change filed an article that is in a group.
+/// Appends the serial if its change filed an article that is in a group.
 fn push_if_in<L: LookUps>(spool: &L, serial: u64, serials: &mut Vec<u64>) -> Result<(), AllocError>
     ensures { OnOk result (serials.new.items ≡ serials.old.items ++ option_to_list (exported.serial_if_in (L.changes spool.now) serial)) }
 {
@@ -29,7 +29,7 @@ fn push_if_in<L: LookUps>(spool: &L, serial: u64, serials: &mut Vec<u64>) -> Res
     Ok(())
 }
 
-/// The serials of the articles that are in this group, in rising number. None where the group isn't here.
+/// The serials of the articles that are in this group, in rising number. `None` if the group does not exist.
 pub fn serials_of<L: LookUps>(
     alloc: Global,
     spool: &L,
@@ -59,7 +59,7 @@ fn numbered<L: LookUps>(
     Ok(serials)
 }
 
-/// Adds the serial of the article with this number in the group, where it is in it.
+/// Appends the serial of the article with this number in the group, if there is one.
 fn push_numbered<L: LookUps>(
     spool: &L,
     group: &[u8],

@@ -1,4 +1,4 @@
-//! Each single call of a kind fails, and the device is opened again: by each pick of a crash, and without one.
+//! Each single call of a kind fails, and the device is opened again: by each pick of a crash, and without a crash.
 
 use eight_batches::{
     Calls, Device, DiskCall, NotOpened, OpenError, Pick, Sim, SimError, batches, claims_all,
@@ -7,7 +7,7 @@ use eight_batches::{
 use std::alloc::Global;
 use std::test::Fail;
 
-/// What a crash makes of the touched octets; none where the device is opened without a crash.
+/// What a crash makes of the touched octets; `None` if the device is opened without a crash.
 pub(crate) type Again = Option<Pick>;
 
 const WAYS: [Again; 5] = [
@@ -18,12 +18,12 @@ const WAYS: [Again; 5] = [
     None,
 ];
 
-/// The k-th way to open a device again, over and over.
+/// The k-th way to open a device again; the ways repeat.
 pub(crate) fn way(k: u64) -> Again {
     WAYS[(k % 5) as usize]
 }
 
-/// From where on calls are counted. The opening at the end is among them.
+/// From where on calls are counted, up to the opening at the end.
 #[derive(Clone, Copy)]
 enum Counted {
     /// From the first batch on. All images are carried home.
@@ -41,12 +41,12 @@ struct Case {
     again: Again,
 }
 
-/// What a case came to.
+/// The outcome of a case.
 #[derive(Clone, Copy, Debug, PartialEq)]
 enum Outcome {
-    /// The call failed, and nothing that was told is lost.
+    /// The call failed, and nothing that was reported as durable is lost.
     Survived,
-    /// So many calls aren't made, and nothing is lost.
+    /// There are fewer calls than this, and nothing is lost.
     NotMade,
     Lost,
 }
@@ -59,7 +59,7 @@ pub(crate) fn crashed(device: Device, again: Again) -> Device {
     device
 }
 
-/// Opens a device, and once more where its first opening meets the call that fails.
+/// Opens a device, and opens it again if the first opening meets the call that fails.
 fn reopened(
     alloc: Global,
     device: Device,
@@ -95,8 +95,8 @@ fn play_case(alloc: Global, sim: &mut Sim, case: &Case, calls: &mut Calls) -> Re
     }
 }
 
-/// Plays the script over a device with a new volume. Does no released reply claim more than was committed? Without a fault they
-/// claim all.
+/// Plays the script over a device with a new volume, and answers whether no released reply claims more than was
+/// committed. Without a fault the replies must claim everything.
 fn played(
     alloc: Global,
     device: Device,
@@ -109,14 +109,15 @@ fn played(
     Ok((sim.into_device(), is_held))
 }
 
-/// Whether a world shows what was committed, and goes on.
+/// Whether a world shows what was committed, and continues.
 fn is_right(alloc: Global, sim: &mut Sim, commits: u64) -> Result<bool, SimError> {
     let is_shown = shows(alloc, sim, commits)?;
     let joined = sim.tell(alloc, "join")?;
     Ok(is_shown && joined.as_str() == "joined 1")
 }
 
-/// Opens the device again. Does it show what was committed? An opening shows as much again after a crash: it syncs first.
+/// Opens the device again, and answers whether it shows what was committed. After another crash an opening shows the
+/// same: it syncs first.
 fn opened(
     alloc: Global,
     device: Device,
@@ -151,8 +152,8 @@ fn came_to(alloc: Global, device: Device, case: &Case) -> Result<(Device, Outcom
 /// More calls of a kind than are made.
 const MANY: u64 = 1000;
 
-/// Fails the first call of a kind, then the second, and so on, and answers the first case that came to something else than being
-/// survived: how many calls were made before it, and what it came to.
+/// Fails the first call of a kind, then the second, and so on. It answers the first case with another outcome than
+/// survival: how many calls came before it, and the outcome.
 fn first_other(
     alloc: Global,
     counted: Counted,
@@ -178,7 +179,8 @@ fn first_other(
     Ok((MANY, Outcome::Survived))
 }
 
-/// Whether each of exactly so many calls of a kind is survived, in each way to open the device again. Answers the first other.
+/// Whether each of exactly this many calls of a kind is survived, in each way to open the device again. Answers the
+/// first other case.
 fn first_lost(
     alloc: Global,
     counted: Counted,
@@ -202,7 +204,7 @@ fn a_fault_at_each_write(rt: HostRuntime) -> Result<(), Fail> {
     Ok(())
 }
 
-// two for each batch, one for the images at home, one for each gate, and that of the opening
+// two for each batch, one for the images at home, one for each gate, and the one of the opening
 #[test]
 fn a_fault_at_each_sync(rt: HostRuntime) -> Result<(), Fail> {
     let lost = first_lost(rt.alloc(), Counted::Batches, DiskCall::Sync, 26)?;

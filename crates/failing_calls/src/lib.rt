@@ -1,5 +1,5 @@
-//! A world whose device fails in one call, or crashes after it, each in turn: what is opened again shows each change that a released
-//! reply depended on.
+//! A world whose device fails in one call, or crashes after it, each call in turn: the device that is opened again
+//! shows each change that a released reply depended on.
 #![tactic(auto)]
 
 #[cfg(test)]

@@ -14,7 +14,8 @@ fn reopened(alloc: Global, device: Device) -> Result<(Device, bool), SimError> {
     Ok((sim.into_device(), is_shown))
 }
 
-/// The device after an opening of which this read fails, and whether it was refused so. It is opened where it has fewer reads.
+/// The device after an opening in which this read fails, and whether it was refused for that. It is opened if it has
+/// fewer reads.
 fn refused(alloc: Global, device: Device, call: u64) -> Result<(Device, bool), SimError> {
     let mut device = crashed(device, way(call));
     device.fail_kind(DiskCall::Read, call);
@@ -30,7 +31,8 @@ fn refused(alloc: Global, device: Device, call: u64) -> Result<(Device, bool), S
     }
 }
 
-/// Opens a device with the first read failing, then with the second, and so on, up to so many. Answers how many there are.
+/// Opens a device with the first read failing, then with the second, and so on, up to `most`. Answers how many reads
+/// there are.
 fn refused_at_each(alloc: Global, device: Device, most: u64) -> Result<(Device, u64), SimError> {
     let mut device = device;
     for before in 0..most {
@@ -44,10 +46,10 @@ fn refused_at_each(alloc: Global, device: Device, most: u64) -> Result<(Device, 
     Ok((device, most))
 }
 
-/// The superblock, the eight gates, and the descriptors and images of the segments, which are open up to here.
+/// The reads while segments are open: the superblock, the eight gates, and the descriptors and images of the segments.
 const OF_OPEN_SEGMENTS: u64 = 63;
 
-/// The superblock, the eight gates and the logical blocks, where no segment is open.
+/// The reads while no segment is open: the superblock, the eight gates and the logical blocks.
 const OF_CLOSED_SEGMENTS: u64 = 1033;
 
 #[test]
@@ -70,7 +72,7 @@ fn a_fault_at_each_read_of_an_opening(rt: HostRuntime) -> Result<(), Fail> {
     Ok(())
 }
 
-// all is carried home before the first logical block is read
+// everything is carried home before the first logical block is read
 #[test]
 fn a_fault_at_a_logical_block(rt: HostRuntime) -> Result<(), Fail> {
     let alloc = rt.alloc();

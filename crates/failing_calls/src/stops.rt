@@ -1,5 +1,5 @@
-//! The script is stopped after each step of its journal, and the device crashes by each pick. Which changes are opened is stated for
-//! each stop.
+//! The script is stopped after each step of its journal, and the device crashes by each pick. For each stop it is
+//! stated which changes are opened.
 
 use eight_batches::{
     Calls, Device, Pick, Sim, SimError, batches, claims_committed, play, settling, shows,
@@ -13,15 +13,15 @@ const COMMITS: [u64; 8] = [8, 19, 29, 39, 49, 59, 69, 79];
 /// All steps of the script: 141 device calls, and one step that finds nothing to do, after the first batch.
 const STEPS: u64 = 142;
 
-/// What a crash makes of a gate whose opening isn't synced.
+/// What a crash makes of a gate whose opening is not synced.
 #[derive(Clone, Copy, PartialEq)]
 enum Gate {
     Closed,
     Open,
 }
 
-/// How many changes are opened after a stop and a crash: those that were committed, and where the crash leaves the gate open, also
-/// the one whose gate was opened last.
+/// The number of changes that are opened after a stop and a crash: those that were committed, and also the one whose
+/// gate was opened last if the crash leaves that gate open.
 fn changes_after(steps: u64, gate: Gate) -> u64 {
     let last = match gate {
         Gate::Closed => steps,
@@ -30,8 +30,8 @@ fn changes_after(steps: u64, gate: Gate) -> u64 {
     COMMITS.iter().filter(|commit| **commit <= last).count() as u64
 }
 
-/// Plays the script over a device with a new volume, and stops it after so many steps. Then the device crashes. Does it show exactly
-/// what it has to, and claimed no reply more than was committed?
+/// Plays the script over a device with a new volume, stops it after this many steps, and crashes the device. It answers
+/// whether the device shows exactly what it must, and no reply claimed more than was committed.
 fn stopped(
     alloc: Global,
     device: Device,
@@ -50,7 +50,7 @@ fn stopped(
     Ok((sim.into_device(), is_held && is_shown))
 }
 
-/// The first step after which something else is opened than has to be.
+/// The first step after which the opened changes are not the expected ones.
 fn first_wrong(alloc: Global, pick: Pick, gate: Gate) -> Result<Option<u64>, SimError> {
     let mut fresh = Device::new(alloc)?;
     let mut device = Device::new(alloc)?;

@@ -14,7 +14,7 @@ use std::os::unix::fs::FileExt;
 use std::path::Path;
 use std::rt::Files;
 
-/// A file whose octets are a device's. It counts the calls that are asked and those that fail.
+/// A file used as a device. It counts the calls that are asked and those that fail.
 #[derive(Drop)]
 pub struct FileDisk {
     file: File,
@@ -28,8 +28,9 @@ pub struct FileDisk {
 impl FileDisk {
     ghost use Rattle.filedisk.specs.FileDisk.{file_device};
 
-    /// The file at `path` as a device of `len` octets: it is made where there is none, its length is set to `len`, and the file
-    /// and its entry in its directory are made durable. It is locked as in `open_existing`. `Fault` where one of these fails.
+    /// Opens the file at `path` as a device of `len` octets, and makes the file if there is none. Sets its length to
+    /// `len`, and makes the file and its directory entry durable. The file is locked as in `open_existing`. `Fault` if
+    /// one of these fails.
     pub fn open<R: Files<File = File>>(rt: &R, path: &str, len: u64) -> Result<FileDisk, DiskError>
         ensures size { IfOk result (λ f. (file_device f).size ≡ len) }
         ensures calls { IfOk result (λ f. ((file_device f).reads ≡ 0) × ((file_device f).writes ≡ 0) × ((file_device f).syncs ≡ 0)) }
@@ -42,8 +43,9 @@ impl FileDisk {
         }
     }
 
-    /// The file that stands at `path` as a device of its own length. It is locked until the device is dropped, so that two
-    /// servers never share it. `Fault` where it can't be had for reading and writing, or is locked; then it is as it was.
+    /// Opens the existing file at `path` as a device of the file's own length. It is locked until the device is
+    /// dropped, so that two servers never share it. `Fault` if it cannot be opened for reading and writing, or is
+    /// locked; then it is as it was.
     pub fn open_existing<R: Files<File = File>>(rt: &R, path: &str) -> Result<FileDisk, DiskError>
         ensures calls { IfOk result (λ f. ((file_device f).reads ≡ 0) × ((file_device f).writes ≡ 0) × ((file_device f).syncs ≡ 0)) }
         ensures failures { IfOk result (λ f. (file_device f).failures ≡ 0) }
@@ -55,7 +57,7 @@ impl FileDisk {
         }
     }
 
-    // A device of `len` octets over an open file, of which no call was asked.
+    // A device of `len` octets over an open file, with no call asked yet.
     fn over(file: File, len: u64) -> FileDisk
         ensures size { (file_device result).size ≡ len }
         ensures calls { ((file_device result).reads ≡ 0) × ((file_device result).writes ≡ 0) × ((file_device result).syncs ≡ 0) }
@@ -83,7 +85,7 @@ fn make_file<R: Files<File = File>>(rt: &R, path: &str, len: u64) -> io::Result<
     Ok(file)
 }
 
-// Its length is asked under the lock: no other process changes it from then on.
+// Its length is read under the lock: from then on no other process changes it.
 fn find_file<R: Files<File = File>>(rt: &R, path: &str) -> io::Result<(File, u64)> {
     let mut options = OpenOptions::new();
     let file = options.read(true).write(true).open(rt, path)?;
@@ -101,7 +103,7 @@ fn sync_directory<R: Files<File = File>>(rt: &R, path: &str) -> io::Result<()> {
     directory.sync_all()
 }
 
-// The answer of a call to the file, where a failure is counted.
+// The answer to a call to the file. A failure is counted.
 fn answer(outcome: io::Result<()>, failures: &mut u64) -> Result<(), DiskError>
     ensures fails { IsErr result ↔ IsErr outcome }
     ensures counted { IfErr result (λ e. failures.new ≡ one_more failures.old) }

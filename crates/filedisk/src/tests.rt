@@ -1,3 +1,5 @@
+//! Tests of devices over files of the system.
+
 use super::*;
 use std::fs;
 use std::test::Fail;
@@ -37,7 +39,7 @@ fn what_can_not_be_had_is_a_fault(rt: HostRuntime) {
     assert!(rt; !matches!(fs::exists(&rt, "filedisk_missing"), Ok(true)));
 }
 
-// The file was made shorter behind the device's back.
+// The file is made shorter while the device is open.
 #[test]
 fn a_read_past_the_files_end_is_a_fault(rt: HostRuntime) -> Result<(), Fail> {
     let path = "filedisk_shorter";

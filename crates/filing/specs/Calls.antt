@@ -1,4 +1,4 @@
--- Calls on the files of blocks, whatever the order of their inodes.
+-- Calls on the files of blocks, in any order of their inodes.
 use Rattle.std.specs.Prelude.{◌≡◌, ◌≢◌, ℕ, ◌+◌, ◌/◌, ◌<◌, ◌≤◌, List, [], ◌∷◌, ◌++◌, length, map, take, slice_get, slice_index_or, unwrap_or, Option, Some, None, IsPermutation}
 use Rattle.std.specs.List.{sum_by}
 use Rattle.model.specs.Stream.{Octets}
@@ -20,29 +20,29 @@ pub record Calls (inodes : ℕ) (calls : List FileCall) (old new : List Octets) 
   pub files : (files : List File) → IsPermutation (files_in (table inodes old)) files → IsPermutation (files_in (table inodes new)) (after_calls files calls)
   pub names : KeepsNames (table inodes old) (table inodes new)
   pub marks : KeepsMarks old new
-  -- they took no more blocks than these
+  -- they took at most this many blocks
   pub free : free_blocks old ≤ free_blocks new + sum_by blocks_taken calls
 
 -- no other file changes
 abbrev pub SameFilesBut : ℕ → ℕ → List Octets → List Octets → Type 0
 SameFilesBut inodes at old new = (k : ℕ) → k ≢ at → slice_index_or (table inodes new) k None ≡ slice_index_or (table inodes old) k None
 
--- the blocks that a file takes for so many octets more, at most
+-- the most blocks that a file takes for this many more octets
 abbrev pub blocks_for_more : ℕ → ℕ
 blocks_for_more more = (more + 4095) / 4096 + 1
 
--- the file of this inode has room for so many octets more
+-- the file of this inode has room for this many more octets
 pub record MayGrow (inodes at more : ℕ) (blocks : List Octets) : Type 0 where
   pub name : Octets
   pub content : Octets
   pub there : IsFileAt (table inodes blocks) at name content
   pub small : length content + more ≤ 4235264
 
--- none of the first so many inodes is free
+-- none of the first inodes is free, for this number of inodes
 abbrev pub AreUsed : ℕ → List (Option File) → Type 0
 AreUsed n inodes = (k : ℕ) → k < n → slice_index_or inodes k None ≢ None
 
--- no inode and no block below these is free, and so many blocks are
+-- no inode and no block below these is free, and this many blocks are free
 pub record IsKnown (inodes : ℕ) (free : Free) (blocks : List Octets) : Type 0 where
   pub used : AreUsed free.inode (table inodes blocks)
   pub none : NoneFreeBelow free.block blocks
@@ -55,7 +55,7 @@ pub record CreatesAt (inodes at : ℕ) (name : Octets) (old new : List Octets) :
   pub others : SameFilesBut inodes at old new
   pub used : AreUsed at (table inodes new)
 
--- the file of this inode got these octets at its end
+-- these octets were appended to the file of this inode
 pub record AppendsAt (inodes at : ℕ) (octets : Octets) (old new : List Octets) : Type 0 where
   pub name : Octets
   pub content : Octets
@@ -77,17 +77,17 @@ pub record MakesAt (inodes at : ℕ) (name octets : Octets) (old new : List Octe
 abbrev pub most_octets : ℕ
 most_octets = 8_191
 
--- with each of the pieces the file of its inode grows, and no two go to one file
+-- each of the pieces has room in the file of its inode, and no two go to one file
 pub record MayAllGrow (inodes : ℕ) (pieces : List Piece) (blocks : List Octets) : Type 0 where
   pub each : (k : ℕ) (p : Piece) → slice_get pieces k ≡ Some p → MayGrow inodes p.at (length p.octets.items) blocks
   pub small : (k : ℕ) (p : Piece) → slice_get pieces k ≡ Some p → length p.octets.items ≤ most_octets
   pub apart : (j k : ℕ) (p q : Piece) → j < k → slice_get pieces j ≡ Some p → slice_get pieces k ≡ Some q → p.at ≢ q.at
 
--- the call that puts a piece at the end of its file
+-- the call that appends a piece to its file
 abbrev pub append_call : List (Option File) → Piece → FileCall
 append_call inodes p = Append (unwrap_or (name_of inodes p.at) []) p.octets.items
 
--- the first so many of these pieces were put at the ends of their files, and no other file changed
+-- the first of these pieces were appended to their files, for this number of pieces, and no other file changed
 pub record AppendsFirst (inodes : ℕ) (pieces : List Piece) (n : ℕ) (old new : List Octets) : Type 0 where
   pub calls : Calls inodes (map (append_call (table inodes old)) (take n pieces)) old new
   pub others : (i : ℕ) → ((k : ℕ) (p : Piece) → k < n → slice_get pieces k ≡ Some p → i ≢ p.at) → slice_index_or (table inodes new) i None ≡ slice_index_or (table inodes old) i None

@@ -1,4 +1,5 @@
-//! The calls on files that a change of the spool makes, by inode: each is one call on the list of the files, whatever their order.
+//! The calls on files that a change of the spool makes, by inode. Each is one call on the list of files, in any order
+//! of inodes.
 #![tactic(auto)]
 
 ghost use Rattle.std.specs.Prelude.{◌≡◌, ◌+◌, ◌*◌, ◌/◌, ◌<◌, ◌≤◌, ℕ, List, length, IfOk, OnOk};
@@ -15,16 +16,16 @@ use volume::Blocks;
 /// What is known of the free blocks and inodes.
 #[derive(Clone, Copy)]
 pub struct Free {
-    /// No inode below is free.
+    /// No inode below this one is free.
     pub inode: u32,
-    /// No block below is free.
+    /// No block below this one is free.
     pub block: u32,
-    /// So many blocks are free.
+    /// The number of free blocks.
     pub blocks: u32,
 }
 
-/// Makes an empty file of a new name, for which an inode is free, and answers its inode, the lowest free one. An `Err` is out of
-/// memory; the caller then drops what it staged.
+/// Makes an empty file of a new name in the lowest free inode, and answers that inode. An inode must be free. Refused
+/// only for want of memory; then the caller must drop the stage.
 pub fn create_file<B: Blocks>(
     blocks: &mut B,
     inodes: u32,
@@ -52,8 +53,8 @@ pub fn create_file<B: Blocks>(
     }
 }
 
-/// Puts octets after those of the file of an inode, for which there is room. An `Err` is out of memory; the caller then drops what it
-/// staged.
+/// Appends octets to the file of an inode, which must have room for them. Refused only for want of memory; then the
+/// caller must drop the stage.
 pub fn append_to<B: Blocks>(
     blocks: &mut B,
     inodes: u32,
@@ -77,8 +78,9 @@ pub fn append_to<B: Blocks>(
     Ok(())
 }
 
-/// Makes a file of a new name with these octets, for which there is room, and answers its inode, the lowest free one. An `Err` is out
-/// of memory; the caller then drops what it staged. The file has the form that docs/FORMATS.md gives under "Files".
+/// Makes a file of a new name with these octets in the lowest free inode, and answers that inode. There must be room
+/// for it. Refused only for want of memory; then the caller must drop the stage. docs/FORMATS.md gives the form of the
+/// file under "Files".
 pub fn make_file<B: Blocks>(
     blocks: &mut B,
     inodes: u32,
@@ -104,7 +106,7 @@ pub fn make_file<B: Blocks>(
     Ok(at)
 }
 
-/// Octets that go to the end of a file, at most 8,191.
+/// Octets to append to a file, at most 8,191.
 #[derive(Drop)]
 pub struct Piece {
     /// the inode of the file
@@ -112,8 +114,8 @@ pub struct Piece {
     pub octets: Vec<u8>,
 }
 
-/// Puts pieces at the ends of their files, one after the other, where there is room for all. No two go to one file. An `Err` is out
-/// of memory; the caller then drops what it staged.
+/// Appends pieces to their files, one after the other. There must be room for all, and no two may go to one file.
+/// Refused only for want of memory; then the caller must drop the stage.
 pub fn append_all<B: Blocks>(
     blocks: &mut B,
     inodes: u32,

@@ -1,4 +1,4 @@
--- What a call does to the kernel under the lock, and to the buffer of who calls.
+-- What a call does to the kernel under the lock, and to the caller's buffer.
 use Rattle.std.specs.Prelude.{◌≡◌, ℕ, Bool, List, ◌++◌}
 use Rattle.flusher.specs.declared.kern.Answered.{Answered}
 use Rattle.kernel.specs.Kernel.{Execs, KernelView, released_of, seat_of}
@@ -6,7 +6,7 @@ use Rattle.model.specs.declared.message.Message.{Message}
 use Rattle.outbox.specs.Queue.{Entry}
 use Rattle.seats.specs.Seats.{holds, ready_of}
 
--- what is ready of a session is given behind the entries of a buffer; and whether outputs of it are still held
+-- what is ready of a session is given after the entries of a buffer; and whether the session still holds outputs
 pub record Gives (old new : KernelView) (number : ℕ) (before after : List Entry) (is_held : Bool) : Type 0 where
   pub entries : after ≡ before ++ (ready_of old.durable before number old.seats).entries
   pub kernel : new ≡ released_of old before number

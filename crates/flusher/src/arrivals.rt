@@ -1,29 +1,29 @@
-//! How the flusher gathers a batch. Callers whose replies it has just released often send again at once. It waits a little for
-//! them, so that the changes of all share the syncs of one batch.
+//! How the flusher gathers a batch. Callers whose replies it has just released often send again at once. It waits a
+//! little for them, so that the changes of all share the syncs of one batch.
 
 use std::sync::Wait;
 use std::sync::atomic::{AtomicBool, AtomicU64, Ordering};
 use std::thread::Parker;
 use std::time::Duration;
 
-/// The wait ends once nothing of a post was served for so many microseconds.
+/// The wait ends once no part of a post was served for this many microseconds.
 const PAUSE_MICROS: u64 = 1000;
 
-/// And it takes at most so many pauses.
+/// The wait takes at most this many pauses.
 const PAUSES: u32 = 20;
 
-/// What the sessions have served of posts and transfers, as far as the flusher goes by it.
+/// Counts of what the sessions have served of posts and transfers, as the flusher needs them.
 #[derive(Drop)]
 pub struct Arrivals {
     /// The commands that ask for a block, and the blocks.
     served: AtomicU64,
-    /// The blocks alone. Each may have brought a change.
+    /// Only the blocks. Each may have brought a change.
     blocks: AtomicU64,
     /// The blocks that were served before the last commit.
     before_commit: AtomicU64,
-    /// The flusher waits for this block, and needs no ring for one before it. 0 where it waits for none.
+    /// The flusher waits for this block, and needs no ring for an earlier one. 0 if it waits for none.
     awaited: AtomicU64,
-    /// Somebody can't go on before a batch is taken.
+    /// Some thread cannot continue before a batch is taken.
     is_hurried: AtomicBool,
 }
 
@@ -38,7 +38,7 @@ impl Arrivals {
         }
     }
 
-    /// A command that asks for a block was served, or a block. Answers whether the flusher is to be woken.
+    /// Notes that a command that asks for a block was served, or a block. Answers whether the flusher must be woken.
     pub fn note(&self, is_block: bool) -> bool {
         self.served.fetch_add(1, Ordering::SeqCst);
         if !is_block {
@@ -48,25 +48,25 @@ impl Arrivals {
         number >= self.awaited.load(Ordering::SeqCst)
     }
 
-    /// The flusher has committed a batch, and releases what waited for it.
+    /// Notes that the flusher has committed a batch and is about to release what waited for it.
     pub fn note_commit(&self) {
         self.before_commit
             .store(self.blocks.load(Ordering::SeqCst), Ordering::SeqCst);
     }
 
-    /// No batch is to be waited for until the next turn begins.
+    /// Makes the flusher take the next batch without waiting, until the next turn begins.
     pub fn hurry(&self) {
         self.is_hurried.store(true, Ordering::SeqCst);
     }
 
-    /// A turn begins.
+    /// Begins a turn.
     pub fn begin_turn(&self) {
         self.is_hurried.store(false, Ordering::SeqCst);
     }
 
-    /// Waits until as many blocks were served after the last commit as that batch had changes, in pauses of the flusher's bell.
-    /// It ends early once nothing of a post was served for a pause, once somebody is in a hurry, and after the last pause. For one
-    /// change it doesn't wait: the next block wakes the flusher as well.
+    /// Waits until as many blocks were served after the last commit as that batch had changes, in pauses of the
+    /// flusher's bell. It ends early if no part of a post was served during a pause, if a thread is in a hurry, and
+    /// after the last pause. For a batch of one change it does not wait, since the next block wakes the flusher anyway.
     pub fn gather<R: Wait>(&self, rt: &R, flusher: &Parker, released: u64) {
         if released < 2 {
             return;
@@ -84,7 +84,7 @@ impl Arrivals {
                 break;
             }
             flusher.park_timeout(rt, Duration::from_micros(PAUSE_MICROS));
-            // the first pause may be cut short by a ring from before it
+            // an earlier ring may cut the first pause short
             if pause > 0 && self.served.load(Ordering::SeqCst) == served {
                 break;
             }

@@ -6,8 +6,8 @@ use std::sync::Wait;
 use std::sync::atomic::{AtomicU64, Ordering};
 use std::thread::Parker;
 
-/// A bell on which any number of threads wait. Who waits notes the count first, looks whether there is something to do,
-/// and then sleeps for as long as the count is the one that it noted.
+/// A bell on which any number of threads wait. A waiter first notes the count, then looks for work, and then sleeps as
+/// long as the count is the one that it noted.
 #[derive(Drop)]
 pub struct Bell {
     rings: AtomicU64,
@@ -54,7 +54,7 @@ pub struct Bells {
     pub releaser: Parker,
     /// The mark was raised, or the flusher has stopped.
     pub operator: Parker,
-    /// A batch was taken, so that fewer blocks are dirty: what was put off for them may be asked again.
+    /// A batch was taken, so fewer blocks are dirty: a message that was refused for them may be asked again.
     pub later: Bell,
     pub arrivals: Arrivals,
 }
@@ -70,21 +70,21 @@ impl Bells {
         }
     }
 
-    /// A command that asks for a block was served, or a block, which may have brought a change.
+    /// Notes that a command that asks for a block was served, or a block, which may have brought a change.
     pub fn note_post(&self, is_block: bool) {
         if self.arrivals.note(is_block) {
             self.flusher.unpark();
         }
     }
 
-    /// What changed is to be flushed without waiting for more.
+    /// Has the dirty blocks flushed without waiting for more.
     pub fn flush_now(&self) {
         self.arrivals.hurry();
         self.flusher.unpark();
     }
 }
 
-/// A gate that rings the bells of a flush before it calls the other one.
+/// A gate that rings the bells of a flush before it calls the other gate.
 #[derive(Clone, Copy)]
 pub struct Ringing<'a, 'b, G: Gate> {
     pub bells: &'a Bells,

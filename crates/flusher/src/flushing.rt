@@ -1,4 +1,4 @@
-//! The flusher: it takes what changed, carries it to the device without the lock, and tells what is durable.
+//! The flusher: it takes the dirty blocks, writes them to the device without the lock, and reports what is durable.
 
 ghost use Rattle.std.specs.Prelude.{◌≡◌, ◌++◌, ◌∷◌, ◌+◌, ◌*◌, ◌<◌, [], length, true, false, OnOk, OnErr, IfOk, IfErr, IfSome, IfNone, IsTrue};
 ghost use Rattle.journal.specs.Journal.{IsDuring, IsIdle, IsReady, LeavesAdmitted, sizes};
@@ -18,14 +18,14 @@ use thiserror::Error;
 use volume::{BATCH_BLOCKS, BLOCK_SIZE, BatchBuf};
 use volume_format::{are_below, are_distinct};
 
-/// Why a turn of the flusher was refused. The kernel is halted then, and the mark stopped.
+/// Why a turn of the flusher was refused. Then the kernel is halted, and the mark stopped.
 #[derive(Clone, Copy, Debug, Drop, PartialEq, Eq, Error)]
 pub enum FlushError {
     /// The device failed in this turn.
     #[error("E1 Fault")]
     Fault,
-    /// The device didn't fail in this turn: the journal was halted before, or the kernel's answers were none that a kernel gives
-    /// which one flusher calls.
+    /// The device did not fail in this turn: the journal was halted before, or the kernel gave answers that no kernel
+    /// gives to its only flusher.
     #[error("E4 Halted")]
     Halted,
 }
@@ -38,9 +38,9 @@ struct Shared<'a, K: Kern, G: Gate> {
     gate: &'a G,
 }
 
-/// One turn: what changed is taken as a batch and carried to the device; once it is committed there, the kernel is told, and
-/// then the mark is raised. `None` where nothing was taken. Refused as `Fault` (E1) exactly where the device failed in this turn,
-/// else as `Halted` (E4); a refusal has halted the kernel and stopped the mark.
+/// Makes one turn: takes the dirty blocks as a batch and writes them to the device. Once the batch is committed, the
+/// kernel learns of it, and then the mark is raised. `None` if nothing was taken. `Fault` (E1) exactly if the device
+/// failed in this turn, otherwise `Halted` (E4); a refusal has halted the kernel and stopped the mark.
 pub fn flush_turn<R: Wait, D: Disk, K: Kern, G: Gate>(
     rt: &R,
     journal: &mut Journal<D>,
@@ -74,7 +74,7 @@ pub fn flush_turn<R: Wait, D: Disk, K: Kern, G: Gate>(
     }
 }
 
-// A turn, without what follows a refusal.
+// A turn without what follows a refusal.
 fn take_and_carry<R: Wait, D: Disk, K: Kern, G: Gate>(
     rt: &R,
     shared: &Shared<'_, K, G>,
@@ -101,7 +101,7 @@ fn take_and_carry<R: Wait, D: Disk, K: Kern, G: Gate>(
     Ok(Some(ticket.last()))
 }
 
-// The batch that the kernel handed out with this ticket is carried to the device, and the ticket's number raised.
+// Writes the batch that the kernel handed out with this ticket to the device, and raises the ticket's number.
 fn carry<R: Wait, D: Disk, K: Kern, G: Gate>(
     rt: &R,
     shared: &Shared<'_, K, G>,
@@ -149,7 +149,7 @@ fn may_begin<D: Disk>(journal: &Journal<D>, batch: &BatchBuf) -> bool
         && are_distinct(numbers)
 }
 
-/// The device calls of a batch up to the one that commits it. One that is refused for memory is asked again.
+/// Makes the device calls of a batch up to the one that commits it. A call that is refused for memory is asked again.
 fn commit<R: Wait, D: Disk>(rt: &R, journal: &mut Journal<D>) -> Result<(), FlushError>
     requires begun { HasBegun D.device journal.old }
     requires now { LeavesAdmitted D.device journal.old }
@@ -167,7 +167,7 @@ fn commit<R: Wait, D: Disk>(rt: &R, journal: &mut Journal<D>) -> Result<(), Flus
     unreachable!()
 }
 
-/// Those behind it, to the batch's end.
+/// Makes the device calls after the commit, to the end of the batch.
 fn settle<R: Wait, D: Disk>(rt: &R, journal: &mut Journal<D>) -> Result<(), FlushError>
     requires next { journal.old.next ≡ following (length journal.old.numbers) (sizes journal.old) Next.Commit }
     requires running { journal.old.halted ≡ false }
@@ -188,7 +188,8 @@ fn settle<R: Wait, D: Disk>(rt: &R, journal: &mut Journal<D>) -> Result<(), Flus
     unreachable!()
 }
 
-/// Whether a call failed. One that was refused for memory did not: it is asked again, once other threads had their turn.
+/// Whether a call failed. One that was refused for memory did not: it is asked again, after other threads had their
+/// turn.
 fn has_failed(answer: Result<Progress, JournalError>) -> bool
     ensures { result ≡ has_failed answer }
 {
@@ -202,7 +203,7 @@ fn has_failed(answer: Result<Progress, JournalError>) -> bool
     }
 }
 
-/// How many changes a batch had that raised the mark to this number; none where the one before it isn't known.
+/// The number of changes of the batch that raised the mark to this number; 0 if the number before it is not known.
 fn released(last: Option<u64>, raised: u64) -> u64 {
     match last {
         Some(last) => raised.saturating_sub(last),
@@ -210,8 +211,8 @@ fn released(last: Option<u64>, raised: u64) -> u64 {
     }
 }
 
-/// Flushes whenever there is something, until a turn is refused. After a batch it waits a little for those whose replies that
-/// batch has released.
+/// Flushes whenever there is something to flush, until a turn is refused. After a batch it waits a little for the
+/// callers whose replies that batch has released.
 pub fn flush_all<R: Wait, D: Disk + Drop, K: Kern, G: Gate>(
     rt: &R,
     journal: Journal<D>,

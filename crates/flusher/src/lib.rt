@@ -1,5 +1,6 @@
-//! The flusher of a server, over any kernel that threads share and any gate: it takes what changed, carries it to the device
-//! without the lock, tells the kernel, and raises the mark. `specs/Flush.antt` says what a turn of it does.
+//! The flusher of a server, over any kernel that threads share and any gate. It takes the dirty blocks, writes them to
+//! the device without the lock, reports the commit to the kernel, and raises the mark. `specs/Flush.antt` says what a
+//! turn of it does.
 #![tactic(auto)]
 
 mod arrivals;

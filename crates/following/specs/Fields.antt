@@ -1,4 +1,4 @@
--- What is tested of a change before it follows the others.
+-- What is checked of a change before it follows the others.
 use Rattle.std.specs.Prelude.{◌≡◌, ℕ, true, Bool, ◌==◌, ◌||◌, ◌&&◌, nat_le, nat_lt, length, None}
 use Rattle.std.specs.List.{list_all}
 use Rattle.model.specs.Stream.{Octets}
@@ -8,7 +8,7 @@ use Rattle.model.specs.Article.{made_id}
 use Rattle.model.specs.Lawful.{is_description_octet}
 use Rattle.model.specs.Spool.{Spool, by_id}
 
--- a group with these may be made where none has its name
+-- a group with these fields may be made if no other has its name
 abbrev pub are_group_fields : Octets → ℕ → Octets → ℕ → Bool
 are_group_fields name status description moment =
     is_group_name name

@@ -1,4 +1,4 @@
-//! Articles: whether one may be filed.
+//! Whether an article may be filed.
 
 ghost use Rattle.std.specs.Prelude.{◌≡◌, ◌+◌, ◌↔◌, IsTrue, None, filter, length, map, IfOk};
 ghost use Rattle.model.specs.Article as model_article;
@@ -16,7 +16,7 @@ use model::Text;
 use names::is_of_host;
 use std::alloc::{AllocError, Global};
 
-/// The message-id of an article, nothing where it has none.
+/// The message-id of an article, empty if it has none.
 pub fn id_of<'a>(article: &'a Article<'_>) -> &'a [u8]
     ensures { result.now ≡ model_article.id article.now }
 {
@@ -75,7 +75,8 @@ fn are_same(names: &[Text], others: &[&[u8]]) -> bool
     true
 }
 
-/// Whether a carried article without a cause may be filed in these groups, where `here` are those of its own that are here.
+/// Whether a carried article without a cause may be filed in these groups; `here` are those of its own groups that
+/// exist.
 pub fn may_file(
     alloc: Global,
     index: &Index,

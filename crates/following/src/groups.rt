@@ -1,4 +1,4 @@
-//! Groups: which one a name finds, whether one may be made, and whether articles may be taken out of one.
+//! Groups: finding one by name, whether one may be made, and whether articles may be removed from one.
 
 ghost use Rattle.std.specs.Prelude.{◌≡◌, ◌↔◌, IsTrue, filter, length, option_map, IfOk};
 ghost use Rattle.std.specs.List.{list_all};
@@ -28,14 +28,14 @@ pub fn find_group<'i>(index: &'i Index, name: &[u8]) -> Option<&'i Group>
     index.group(name)
 }
 
-/// Whether a group with this name is here.
+/// Whether a group with this name exists.
 fn is_here(index: &Index, name: &[u8]) -> bool
     ensures { (S : Spool) → Indexes S index.now → result ≡ spool.is_here S name.now }
 {
     find_group(index, name).is_some()
 }
 
-/// Whether a group with these may be made where none has its name.
+/// Whether a group with these fields may be made if no other has its name.
 fn are_group_fields(name: &[u8], status: u8, description: &[u8], moment: u64) -> bool
     ensures { result ≡ are_group_fields name.now status description.now moment }
 {
@@ -52,7 +52,7 @@ fn is_printable(description: &[u8]) -> bool
     description.iter().all(|x| 32 <= *x && *x <= 126)
 }
 
-/// Whether a group with these may be made.
+/// Whether a group with these fields may be made.
 pub fn may_make(index: &Index, name: &[u8], status: u8, description: &[u8], moment: u64) -> bool
     ensures { (S : Spool) → Indexes S index.now → (IsTrue result ↔ MayMake S name.now status description.now moment) }
 {
@@ -62,7 +62,7 @@ pub fn may_make(index: &Index, name: &[u8], status: u8, description: &[u8], mome
     !is_here(index, name)
 }
 
-/// Whether the articles of a group up to a number may be taken out of it.
+/// Whether the articles of a group up to a number may be removed from it.
 pub fn may_expire(index: &Index, group: &[u8], number: u64) -> bool
     ensures { (S : Spool) → Indexes S index.now → (IsTrue result ↔ MayExpire S group.now number) }
 {
@@ -76,7 +76,7 @@ pub fn may_expire(index: &Index, group: &[u8], number: u64) -> bool
     number <= found.high()
 }
 
-/// Those of the names whose groups are here.
+/// Those of the names whose groups exist. Refused only for want of memory.
 pub fn groups_here(alloc: Global, index: &Index, names: &[Text]) -> Result<Vec<Text>, AllocError>
     ensures { IfOk result (λ here. (S : Spool) → Indexes S index.now → here.items ≡ filter (spool.is_here S) names.now) }
 {

@@ -1,4 +1,4 @@
-//! Whether a change may follow those before it, by the index of these. `model/specs/Lawful.antt` has the rule.
+//! Whether a change may follow the changes before it, decided by their index. `model/specs/Lawful.antt` has the rule.
 #![tactic(auto)]
 
 mod articles;

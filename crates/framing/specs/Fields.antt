@@ -16,13 +16,13 @@ held_of r = record {
   size = vec_len r.octets;
 }
 
--- a message was asked for, and no front of what was searched ends it
+-- a message was asked for, and no prefix of what was searched ends it
 abbrev pub IsSearched : Option Mode → Inside → Type 0
 IsSearched None r = (r.searched ≡ 0) × (r.dropped ≡ 0)
 IsSearched (Some mode) r =
     NoneEnds mode (replicate r.dropped 0 ++ unread r) 0 (r.dropped + r.searched)
 
--- dropped octets are so many that the message is too long, and more follow them than an end takes
+-- octets are dropped only if the message is too long, and more octets follow them than an end takes
 pub record IsSound (r : Inside) : Type 0 where
   pub start : r.start + r.searched ≤ vec_len r.octets
   pub half : 2 * r.start ≤ vec_len r.octets

@@ -14,25 +14,25 @@ use std::alloc::{AllocError, Global};
 use std::cmp::max;
 use std::marker::Model;
 
-/// The octets with CRLF of the longest command line.
+/// The octets of the longest command line, including CRLF.
 pub const LINE_LIMIT: usize = 512;
 
 /// The octets of the longest text of a block.
 pub const BLOCK_LIMIT: usize = 262_144;
 
-/// A message with more octets than this is too long, whatever dots are taken from it.
+/// A message with more octets than this is too long, however many dots are removed from it.
 const HOLD_LIMIT: usize = 350_000;
 
-/// A stream of octets that comes in pieces.
+/// A stream of octets that arrives in pieces.
 #[derive(Drop)]
 pub struct Reader {
     octets: Vec<u8>,
     alloc: Global,
-    /// How many of the octets are handed out.
+    /// The number of octets that were handed out.
     start: usize,
-    /// How many of the octets after `start` were searched for the end of a message in vain.
+    /// The number of octets after `start` that were searched in vain for the end of a message.
     searched: usize,
-    /// How many octets before these belong to the next message, which is too long, and were dropped.
+    /// The number of octets before these that belong to the next message and were dropped because it is too long.
     dropped: usize,
     awaits: Option<Mode>,
 }
@@ -67,7 +67,7 @@ impl Reader {
         }
     }
 
-    /// How many octets of the stream are in memory: at most twice those that are still to be handed out.
+    /// The number of octets of the stream that are in memory: at most twice those still to be handed out.
     pub fn held(&self) -> usize
         ensures size { result ≡ self.now.size }
         ensures bound { result ≤ 2 * length self.now.rest }
@@ -75,7 +75,7 @@ impl Reader {
         self.octets.len()
     }
 
-    /// Takes the next piece of the stream. An `Err` takes nothing.
+    /// Takes the next piece of the stream. Refused only for want of memory; then nothing is taken.
     pub fn feed(&mut self, piece: &[u8]) -> Result<(), AllocError>
         ensures rest { OnOk result (self.new.rest ≡ self.old.rest ++ piece.now) }
         ensures awaits { OnOk result (self.new.awaits ≡ self.old.awaits) }
@@ -86,13 +86,14 @@ impl Reader {
         Ok(())
     }
 
-    /// The next message, if its end has come. After a None the next call is in the same mode. An `Err` changes nothing.
+    /// The next message, if its end has arrived. After `None` the next call must be in the same mode. It is refused
+    /// only for want of memory; then nothing changes.
     pub fn next(&mut self, mode: Mode) -> Result<Option<Message>, AllocError>
         requires { IfSome self.old.awaits (λ awaited. awaited ≡ mode) }
         ensures message { IfOk result (λ found. IfSome found (λ message. next mode self.old.rest ≡ Some (message, self.new.rest))) }
         ensures done { IfOk result (λ found. IfSome found (λ message. self.new.awaits ≡ None)) }
 
-        // There is no whole message yet, and however the stream goes on, what comes is the same.
+        // There is no whole message yet, and however the stream continues, the next messages are the same.
         ensures none { IfOk result (λ found. IfNone found (next mode self.old.rest ≡ None)) }
         ensures alike { IfOk result (λ found. IfNone found (ReadsAlike mode self.old.rest self.new.rest)) }
         ensures awaits { IfOk result (λ found. IfNone found (self.new.awaits ≡ Some mode)) }
@@ -129,7 +130,7 @@ pub fn stands_for_the_stream()
     ensures none { StandsWhenNone }
 {}
 
-/// Whether a front of the stream ends a message.
+/// Whether a prefix of the stream ends a message.
 fn ends(mode: Mode, front: &[u8]) -> bool
     ensures { result ≡ ends_message mode front.now }
 {
@@ -139,7 +140,7 @@ fn ends(mode: Mode, front: &[u8]) -> bool
     }
 }
 
-/// The length of the shortest front with more than `searched` octets that ends a message.
+/// The length of the shortest prefix with more than `searched` octets that ends a message.
 fn find_end(mode: Mode, stream: &[u8], searched: usize) -> Option<usize>
     requires { searched ≤ length stream.now }
     ensures { MatchOption result (NoneEnds mode stream.now searched (length stream.now)) (EndsFirst mode stream.now searched) }
@@ -154,7 +155,7 @@ fn find_end(mode: Mode, stream: &[u8], searched: usize) -> Option<usize>
     None
 }
 
-/// The length of a text's first line, with its CRLF where it has one.
+/// The length of a text's first line, with its CRLF if it has one.
 pub fn line_length(text: &[u8]) -> usize
     requires { 0 < length text.now }
     ensures some { 0 < result }
@@ -167,7 +168,7 @@ pub fn line_length(text: &[u8]) -> usize
     }
 }
 
-/// Adds a line with the dot taken from it that it begins with.
+/// Appends a line without its leading dot, if it has one.
 fn push_unstuffed(text: &mut Vec<u8>, line: &[u8]) -> Result<(), AllocError>
     ensures { OnOk result (text.new.items ≡ text.old.items ++ unstuffed_line line.now) }
 {
@@ -177,7 +178,7 @@ fn push_unstuffed(text: &mut Vec<u8>, line: &[u8]) -> Result<(), AllocError>
     }
 }
 
-/// Adds a line with a dot in front where it begins with one.
+/// Appends a line, with another dot before it if it begins with one.
 fn push_stuffed(block: &mut Vec<u8>, line: &[u8]) -> Result<(), AllocError>
     ensures { OnOk result (block.new.items ≡ block.old.items ++ stuffed_line line.now) }
 {
@@ -216,7 +217,7 @@ pub fn stuff(alloc: Global, text: &[u8]) -> Result<Vec<u8>, AllocError>
     Ok(block)
 }
 
-/// The octets in memory of their own.
+/// A copy of the octets on the heap.
 fn copied(alloc: Global, octets: &[u8]) -> Result<Vec<u8>, AllocError>
     ensures { IfOk result (λ copy. copy.items ≡ octets.now) }
 {
@@ -258,8 +259,8 @@ fn block_message(alloc: Global, front: &[u8]) -> Result<Message, AllocError>
     Ok(Message::Block(Text::new(text)))
 }
 
-/// Takes the octets that were handed out away once they are more than half of all, so that each octet is moved at
-/// most once in the mean, and says how many of them are still there.
+/// Removes the octets that were handed out once they are more than half of all, so that each octet is moved at most
+/// once on average. It answers how many of the octets handed out are still there.
 fn forget_read(octets: &mut Vec<u8>, read: usize) -> usize
     requires { read ≤ vec_len octets.old }
     ensures rest { drop result octets.new.items ≡ drop read octets.old.items }
@@ -272,7 +273,7 @@ fn forget_read(octets: &mut Vec<u8>, read: usize) -> usize
     0
 }
 
-/// Takes the first n octets away.
+/// Removes the first n octets.
 fn forget_front(octets: &mut Vec<u8>, n: usize)
     requires { n ≤ vec_len octets.old }
     ensures { octets.new.items ≡ drop n octets.old.items }
@@ -285,8 +286,8 @@ fn forget_front(octets: &mut Vec<u8>, n: usize)
     octets.truncate(left);
 }
 
-/// Drops all but the last four octets of a message that is too long by now, and says how many octets stand for those
-/// that were dropped.
+/// Drops all but the last four octets of a message that is already too long, and answers how many octets stand for
+/// those that were dropped.
 fn shed(octets: &mut Vec<u8>, dropped: usize) -> usize
     ensures { Sheds dropped octets.old.items result octets.new.items }
 {
@@ -298,7 +299,7 @@ fn shed(octets: &mut Vec<u8>, dropped: usize) -> usize
     max(dropped, excess)
 }
 
-/// The message whose octets end here, of which some were dropped where it is too long.
+/// The message whose octets end here. Some of them were dropped if it is too long.
 fn found_message(
     alloc: Global,
     mode: Mode,

@@ -1,4 +1,4 @@
-//! Tables of what the reader of a stream is fed, with the messages that it is to hand out.
+//! Tables of octets that the reader of a stream is fed, with the messages that it must hand out.
 #![tactic(auto)]
 
 #[cfg(test)]

@@ -1,4 +1,4 @@
-//! Messages of streams, however these are cut into pieces.
+//! Messages of streams, however the streams are cut into pieces.
 
 ghost use Rattle.std.specs.Prelude.{◌≡◌};
 
@@ -17,7 +17,7 @@ const MEANT: Octets<'static> = Octets::Are(
     b"Path: p!not-for-mail\r\nDate: Sun, 09 Sep 2001 01:46:40 +0000\r\nMessage-ID: <1@a.example>\r\nFrom: a@example.org\r\nNewsgroups: x.a\r\nSubject: one\r\n\r\nhi\r\n.x\r\n",
 );
 
-/// The reader of a stream, which is asked in one mode until a message is there.
+/// The reader of a stream, which is asked in one mode until a message is complete.
 #[derive(Drop)]
 struct Stream {
     reader: Reader,
@@ -58,7 +58,7 @@ impl Stream {
     }
 }
 
-/// The message that is wanted.
+/// The expected message.
 #[derive(Clone, Copy)]
 enum Want<'a> {
     Line(Octets<'a>),
@@ -67,10 +67,10 @@ enum Want<'a> {
     Nothing,
 }
 
-/// How many octets are held at most after each arrival.
+/// The most octets that may be held after each arrival.
 const HELD_LIMIT: usize = 4_096;
 
-/// The mode, what comes, in pieces of so many octets until a message is there, and this message.
+/// The mode, the octets, the size of the pieces in which they arrive, and the message that they complete.
 type Arrival<'a> = (Mode, Octets<'a>, usize, Want<'a>);
 
 const STREAMS: &[(&str, &[Arrival<'static>])] = &[
@@ -191,7 +191,7 @@ fn streams() -> &'static [(&'static str, &'static [Arrival<'static>])] {
     STREAMS
 }
 
-/// The first message that is there, where octets come in pieces of so many.
+/// The first message that is complete when octets arrive in pieces of this size.
 fn message(
     stream: &mut Stream,
     mode: Mode,
@@ -213,7 +213,7 @@ fn message(
     Ok(None)
 }
 
-/// Whether the message is the wanted one.
+/// Whether the message is the expected one.
 fn is_wanted(alloc: Global, message: &Option<Message>, want: Want<'_>) -> Result<bool, AllocError> {
     match (message, want) {
         (Some(Message::Line(line)), Want::Line(octets)) => {
@@ -228,7 +228,7 @@ fn is_wanted(alloc: Global, message: &Option<Message>, want: Want<'_>) -> Result
     }
 }
 
-/// The place of the first arrival that is answered in another way.
+/// The index of the first arrival with another answer.
 fn first_wrong(alloc: Global, arrivals: &[Arrival<'_>]) -> Result<Option<usize>, Fail> {
     let mut stream = Stream::new(alloc);
     for (place, (mode, octets, size, want)) in arrivals.iter().enumerate() {
@@ -241,7 +241,7 @@ fn first_wrong(alloc: Global, arrivals: &[Arrival<'_>]) -> Result<Option<usize>,
     Ok(None)
 }
 
-/// The name of the first stream that has another message, and the place of that.
+/// The name of the first stream with another message, and the index of that message.
 fn first_misread<'a>(
     alloc: Global,
     rows: &[(&'a str, &[Arrival<'_>])],

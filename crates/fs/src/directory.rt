@@ -14,7 +14,7 @@ use fs_layout::slots::{name_of, slot_for};
 use std::alloc::{AllocError, Global};
 use volume::Blocks;
 
-/// The size of a file in octets. `NotFound` exactly where the name isn't there.
+/// The size of a file in octets. `NotFound` exactly if no file has the name.
 pub fn size<B: Blocks>(blocks: &B, inodes: u32, name: &[u8]) -> Result<u64, FsError>
     requires room { HasRoom inodes (B.blocks blocks.now) }
     requires name { IsName name.now }
@@ -29,8 +29,8 @@ pub fn size<B: Blocks>(blocks: &B, inodes: u32, name: &[u8]) -> Result<u64, FsEr
     Ok(size_of(blocks, inodes, at))
 }
 
-/// Makes an empty file in the lowest free inode, and answers that. `Exists` exactly where the name is there, else `Full` exactly
-/// where no inode is free; both change nothing. After `Memory` the caller drops the stage.
+/// Makes an empty file in the lowest free inode, and answers that inode. `Exists` exactly if a file has the name, else
+/// `Full` exactly if no inode is free; both change nothing. After `Memory` the caller must drop the stage.
 pub fn create<B: Blocks>(blocks: &mut B, inodes: u32, name: &[u8]) -> Result<u32, FsError>
     requires room { HasRoom inodes (B.blocks blocks.old) }
     requires name { IsName name.now }
@@ -52,9 +52,9 @@ pub fn create<B: Blocks>(blocks: &mut B, inodes: u32, name: &[u8]) -> Result<u32
     create_absent(blocks, inodes, name, 0)
 }
 
-/// Makes an empty file of a new name in the lowest free inode, and answers that, where no inode below `from` is free: it looks for
-/// a free one from there on alone, and for the name nowhere. `Full` exactly where no inode is free; it changes nothing. After
-/// `Memory` the caller drops the stage.
+/// Makes an empty file of a new name in the lowest free inode, and answers that inode. The caller knows that no file
+/// has the name and no inode below `from` is free: the search for a free inode starts at `from`, and none is made for
+/// the name. `Full` exactly if no inode is free; it changes nothing. After `Memory` the caller must drop the stage.
 pub fn create_absent<B: Blocks>(
     blocks: &mut B,
     inodes: u32,
@@ -84,8 +84,8 @@ pub fn create_absent<B: Blocks>(
     Ok(at)
 }
 
-/// Removes a file and gives up its blocks. `NotFound` exactly where the name isn't there; it changes nothing.
-/// After `Memory` the caller drops the stage.
+/// Removes a file and frees its blocks. `NotFound` exactly if no file has the name; it changes nothing. After `Memory`
+/// the caller must drop the stage.
 pub fn unlink<B: Blocks>(blocks: &mut B, inodes: u32, name: &[u8]) -> Result<(), FsError>
     requires room { HasRoom inodes (B.blocks blocks.old) }
     requires name { IsName name.now }

@@ -1,6 +1,6 @@
-//! A map of names to octets, in files over numbered blocks: bitmap, inodes, directory, data.
-//! Each call is lent the blocks and told the number of inodes. Who knows the inode of a file, as `create` answers it,
-//! reads and changes the file by the calls of `by_inode`, without a search for its name.
+//! A map of names to octets, in files over numbered blocks: bitmap, inodes, directory, data. Each call borrows the
+//! blocks and is given the number of inodes. A caller that knows the inode of a file, as `create` answers it, reads and
+//! changes the file by the calls of `by_inode`, without a search for its name.
 #![tactic(auto)]
 
 mod directory;

@@ -16,7 +16,7 @@ use fs_layout::slots::slot_for;
 use std::alloc::Global;
 use volume::Blocks;
 
-/// The octets of a file from a place up to its size, at most `count`. `NotFound` exactly where the name isn't there.
+/// The octets of a file from a place up to its size, at most `count`. `NotFound` exactly if no file has the name.
 pub fn read_at<B: Blocks>(
     alloc: Global,
     blocks: &B,
@@ -40,9 +40,8 @@ pub fn read_at<B: Blocks>(
     Ok(octets)
 }
 
-/// Puts octets after those of a file. `NotFound` exactly where the name isn't there, else `Full` exactly where the
-/// file would be too large or need more blocks than are free; both change nothing. After `Memory` the caller drops
-/// the stage.
+/// Appends octets to a file. `NotFound` exactly if no file has the name, else `Full` exactly if the file would be too
+/// large or need more blocks than are free; both change nothing. After `Memory` the caller must drop the stage.
 pub fn append<B: Blocks>(
     blocks: &mut B,
     inodes: u32,
@@ -73,9 +72,9 @@ pub fn append<B: Blocks>(
     Ok(())
 }
 
-/// Puts octets into a file from a place on, which is not after its end: over those that stand there, and after them.
-/// `NotFound` exactly where the name isn't there, else `Full` exactly where the file would be too large or blocks are
-/// too few; both change nothing. After `Memory` the caller drops the stage.
+/// Writes octets into a file from a place on, which must not be after its end: over those already there, and past the
+/// end. `NotFound` exactly if no file has the name, else `Full` exactly if the file would be too large or too few
+/// blocks are free; both change nothing. After `Memory` the caller must drop the stage.
 pub fn write_at<B: Blocks>(
     blocks: &mut B,
     inodes: u32,
@@ -115,9 +114,9 @@ pub fn write_at<B: Blocks>(
     Ok(())
 }
 
-/// Gives a file a size: it loses what lies after, or zeros follow. `NotFound` exactly where the name isn't there, else
-/// `Full` exactly where the file would be too large or blocks are too few; both change nothing. After `Memory` the
-/// caller drops the stage.
+/// Gives a file a size: it is cut off there, or extended with zeros. `NotFound` exactly if no file has the name, else
+/// `Full` exactly if the file would be too large or too few blocks are free; both change nothing. After `Memory` the
+/// caller must drop the stage.
 pub fn truncate<B: Blocks>(
     blocks: &mut B,
     inodes: u32,

@@ -10,7 +10,7 @@ use fs_layout::FsError;
 use fs_layout::bits::set_front;
 use volume::{BLOCK_SIZE, Blocks};
 
-/// Makes the empty file system on zeroed blocks. After `Memory` the caller drops the stage.
+/// Makes the empty file system on zeroed blocks. After `Memory` the caller must drop the stage.
 pub fn make_empty<B: Blocks>(blocks: &mut B, inodes: u32) -> Result<(), FsError>
     requires room { HasRoom inodes (B.blocks blocks.old) }
     requires zeros { All (λ block. All (λ octet. octet ≡ 0) block) (B.blocks blocks.old) }

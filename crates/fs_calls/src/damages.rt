@@ -1,5 +1,5 @@
-//! What the check says of blocks of any content: three empty files, and then octets replaced.
-//! Of 64 inodes the inodes stand in block 2, the slots in block 3, and the data begins at block 4.
+//! What the check finds in blocks of any content: three empty files, and then octets replaced. There are 64 inodes:
+//! they are in block 2, the slots in block 3, and the data begins at block 4.
 
 use crate::volumes::{Call, Change, answer, empty, is_sound, replace};
 use fs::FsError;
@@ -33,7 +33,7 @@ const LARGE: &[Change] = &[
     (14, 4095, 0),
 ];
 
-/// What is replaced, its octets and then others, and whether the blocks keep the rule after it.
+/// What is replaced, the first octets and then the others, and whether the blocks keep the rule afterwards.
 type Row<'a> = (&'a str, &'a [Change], &'a [Change], bool);
 
 const ROWS: &[Row<'static>] = &[

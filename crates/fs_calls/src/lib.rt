@@ -1,5 +1,5 @@
-//! What the calls of the file system answer: scripts of calls, damaged blocks, and long sequences beside a plain list.
-//! All of it is played over a volume in memory, and each row is data.
+//! What the calls of the file system answer: scripts of calls, damaged blocks, and long sequences compared with a plain
+//! list. All of them run over a volume in memory, and each row is data.
 #![tactic(auto)]
 
 #[cfg(test)]

@@ -5,7 +5,7 @@ use fs::FsError;
 use std::alloc::Global;
 use std::test::Fail;
 
-/// Calls of a new volume, each with the name that it is about, and what each is to answer.
+/// Calls of a new volume, each with the name that it concerns and the expected answer.
 type Script<'a> = &'a [(&'a str, Call, Result<u64, FsError>)];
 
 /// The scripts, by what they show.
@@ -156,7 +156,7 @@ const SCRIPTS: &[(&str, Script<'static>)] = &[
     ),
 ];
 
-// Plays a script, and answers the number of the first call whose answer is another.
+// Plays a script, and answers the number of the first call with another answer.
 fn first_wrong(alloc: Global, script: Script<'_>) -> Result<Option<usize>, FsError> {
     let mut volume = empty(alloc)?;
     for (number, (name, call, want)) in script.iter().enumerate() {

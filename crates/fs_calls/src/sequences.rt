@@ -1,4 +1,4 @@
-//! Long sequences of calls, beside a plain list of contents.
+//! Long sequences of calls, compared with a plain list of contents.
 
 use crate::volumes::{Call, answer, contents, empty, name_at};
 use fs::FsError;
@@ -41,7 +41,7 @@ impl Numbers {
     }
 }
 
-// Puts octets over those of a content, from a place on that is not after its end, and after them.
+// Writes octets into a content, from a place on that is not after its end.
 fn put(content: &mut Vec<u8>, place: usize, octet: u8, count: usize) -> Result<(), Fail> {
     let start = place.min(content.len());
     for at in start..start.saturating_add(count) {

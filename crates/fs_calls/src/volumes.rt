@@ -1,4 +1,4 @@
-//! A volume in memory, and calls of it whose conditions are tested as they are made.
+//! A volume in memory, and calls of it whose preconditions are checked as they are made.
 
 ghost use Rattle.std.specs.Prelude.{◌≤◌, IsTrue, IfOk};
 ghost use Rattle.model.specs.Files.{HasRoom, IsFileSystem};
@@ -17,25 +17,25 @@ const INODES: u32 = 64;
 /// The blocks of the volumes that are tested.
 const COUNT: u32 = 1024;
 
-/// A call about the file of a name, or about the volume.
+/// A call on the file of a name, or on the volume.
 #[derive(Clone, Copy)]
 pub enum Call {
     /// Creates a file, and answers its inode.
     Create,
     Unlink,
-    /// Appends so many octets of one value.
+    /// Appends this many octets of one value.
     Append(u8, usize),
-    /// Writes so many octets of one value over the first.
+    /// Writes this many octets of one value over the first ones.
     Begin(u8, usize),
-    /// Writes so many octets of one value at a place, or at the end where the file is shorter.
+    /// Writes this many octets of one value at a place, or at the end if the file is shorter.
     Write(u64, u8, usize),
     Truncate(u64),
     Size,
-    /// Reads from a place on, at most so many octets, which all are to have this value.
+    /// Reads from a place on, at most this many octets, which must all have this value.
     Read(u64, u64, u8),
     FreeBlocks,
     FreeInodes,
-    /// Counts the names, of which this one is to be the first.
+    /// Counts the names. This one must be the first.
     Names,
     /// Creates files with other names, until that is refused.
     CreateMany,
@@ -43,11 +43,11 @@ pub enum Call {
     Apply,
     /// Copies the dirty blocks, and counts those that are left.
     Clean,
-    /// Counts the octets of a block, which all are to have this value.
+    /// Counts the octets of a block, which must all have this value.
     Block(u32, u8),
 }
 
-/// A volume with no file.
+/// A volume without files.
 pub fn empty(alloc: Global) -> Result<Volume, FsError> {
     empty_of(alloc, COUNT)
 }
@@ -91,7 +91,7 @@ fn is_name(name: &[u8]) -> bool
     1 <= name.len() && name.len() <= 63
 }
 
-/// Makes a call, and answers what it counts or finds, or 0. `Damaged` where the volume isn't sound before it.
+/// Makes a call, and answers what it counts or finds, or 0. `Damaged` if the volume is not sound before it.
 pub fn answer(alloc: Global, volume: &mut Volume, name: &[u8], call: Call) -> Result<u64, FsError> {
     if !is_name(name) || !is_sound(alloc, volume)? {
         return Err(FsError::Damaged);
@@ -141,7 +141,7 @@ fn write(volume: &mut Volume, name: &[u8], place: u64, octets: &[u8]) -> Result<
     write_at(volume, INODES, name, place.min(end), octets)
 }
 
-// How many octets there are, where all have this value.
+// The number of octets, if all have this value.
 fn count_same(octets: &[u8], octet: u8) -> u64 {
     if octets.iter().all(|it| *it == octet) {
         octets.len() as u64
@@ -205,8 +205,8 @@ pub fn name_at(place: usize) -> [u8; 1] {
     [b'a' + (place % 26) as u8]
 }
 
-/// The octets of the first so many files by name, none where there is no file. `Damaged` where the volume isn't sound,
-/// or has other files.
+/// The octets of the first files by name, `None` where a file does not exist. `Damaged` if the volume is not sound, or
+/// has other files.
 pub fn contents(
     alloc: Global,
     volume: &Volume,
@@ -233,10 +233,10 @@ pub fn contents(
     Ok(contents)
 }
 
-/// An octet to replace: its block, its place there, and the octet in its stead.
+/// An octet to replace: its block, its place there, and the new octet.
 pub type Change = (u32, usize, u8);
 
-/// Replaces an octet of a block. `NotFound` where it isn't there.
+/// Replaces an octet of a block. `NotFound` if there is no such octet.
 pub fn replace(volume: &mut Volume, change: Change) -> Result<(), FsError> {
     let (number, place, octet) = change;
     if number >= volume.len() || place >= BLOCK_SIZE {

@@ -11,7 +11,7 @@ pub record IsSlot (slot : Octets) : Type 0 where
   pub name_few : length (name_in slot) ≤ 63
   pub slot_is : slot ≡ slot_octets (name_in slot)
 
--- the indirect block, where there is one, lies within the data
+-- the indirect block, if there is one, lies within the data
 abbrev pub HasIndirectWithin : ℕ → ℕ → Entry → Type 0
 HasIndirectWithin first count e = indirect_pointer e ≢ 0 → (first ≤ indirect_pointer e) × (indirect_pointer e < count)
 
@@ -32,7 +32,7 @@ HasEntry inodes blocks k = IsEntry (first_data inodes) (length blocks) (entry in
 
 -- ---- owners
 
--- blocks that exist, are not marked, and stand once
+-- blocks that exist, are not marked, and occur once
 pub record CanMark (count : ℕ) (numbers : List ℕ) (old : Octets) : Type 0 where
   pub distinct : AreDistinct numbers
   pub within : (b : ℕ) → Contains numbers b → b < count

@@ -1,4 +1,4 @@
-//! Whether an entry is free, or a file.
+//! Checks whether an entry is free, or a file.
 
 ghost use Rattle.std.specs.Prelude.{◌≡◌, ◌≢◌, ℕ, ◌+◌, ◌*◌, ◌/◌, ◌<◌, ◌≤◌, ◌↔◌, [], length, IsTrue};
 ghost use Rattle.std.specs.List.{All};
@@ -47,7 +47,7 @@ pub fn data_start(inodes: u32) -> u32
     INODES_AT + 2 * (inodes / 64)
 }
 
-// How many blocks so many octets take.
+// The number of blocks that content of this many octets takes.
 pub fn block_count(size: u64) -> usize
     requires { size ≤ 4235264 }
     ensures { result ≡ (size + 4095) / 4096 }

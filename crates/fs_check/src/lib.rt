@@ -1,4 +1,4 @@
-//! Whether blocks of any content keep the rule of blocks.
+//! Checks whether blocks with any content keep the rule of blocks.
 #![tactic(auto)]
 
 ghost use Rattle.std.specs.Prelude.{◌≡◌, ◌⊎◌, ℕ, ◌<◌, ◌↔◌, IfErr, IfOk, IsTrue};
@@ -21,8 +21,8 @@ mod marks;
 /// The octets of the bitmap.
 const BITMAP_SIZE: usize = 8192;
 
-/// Tests the rule of blocks for every content of the blocks. `Damaged` exactly where it is broken; changes nothing.
-/// `Memory` where there is no room to gather the names.
+/// Checks the rule of blocks, whatever the blocks contain, and changes nothing. `Damaged` exactly if the rule is
+/// broken. `Memory` if there is no room to gather the names.
 pub fn check<B: Blocks>(alloc: Global, blocks: &B, inodes: u32) -> Result<(), FsError>
     requires room { HasRoom inodes (B.blocks blocks.now) }
     ensures sound { IfOk result (λ _. IsFileSystem inodes (B.blocks blocks.now)) }

@@ -15,7 +15,7 @@ use fs_layout::numbers::{number32, number64};
 use fs_layout::records::{RECORD_SIZE, get_record};
 use volume::{BLOCK_SIZE, Blocks};
 
-// Marks the blocks that entries own. Refuses where one lies outside the data, or is owned twice.
+// Marks the blocks that entries own. False if one lies outside the data, or is owned twice.
 pub fn mark_owners<B: Blocks>(blocks: &B, inodes: u32, marks: &mut [u8]) -> bool
     requires room { HasRoom inodes (B.blocks blocks.now) }
     requires entries { (k : ℕ) → k < inodes → HasEntry inodes (B.blocks blocks.now) k }
@@ -32,7 +32,7 @@ pub fn mark_owners<B: Blocks>(blocks: &B, inodes: u32, marks: &mut [u8]) -> bool
     true
 }
 
-// Marks the blocks that an entry owns. Refuses where one doesn't exist, is marked, or stands twice.
+// Marks the blocks that an entry owns. False if one does not exist, is marked, or occurs twice.
 fn mark_owned<B: Blocks>(blocks: &B, inodes: u32, at: u32, marks: &mut [u8]) -> bool
     requires room { HasRoom inodes (B.blocks blocks.now) }
     requires below { at < inodes }
@@ -56,7 +56,7 @@ fn mark_owned<B: Blocks>(blocks: &B, inodes: u32, at: u32, marks: &mut [u8]) -> 
     )
 }
 
-// Marks the blocks of the first so many pointers.
+// Marks the blocks of the first `some` pointers.
 fn mark_all(marks: &mut [u8], count: u32, pointers: &[u8], some: usize) -> bool
     requires whole { length marks.old ≡ 8192 }
     requires few { count ≤ 65536 }
@@ -72,7 +72,7 @@ fn mark_all(marks: &mut [u8], count: u32, pointers: &[u8], some: usize) -> bool
     true
 }
 
-// Marks a block. Refuses where it doesn't exist or is marked.
+// Marks a block. False if it does not exist or is marked.
 fn mark(marks: &mut [u8], count: u32, number: u32) -> bool
     requires whole { length marks.old ≡ 8192 }
     requires few { count ≤ 65536 }

@@ -8,19 +8,19 @@ use Rattle.fs_layout.specs.Table.{IsFileAt, Makes}
 
 -- ---- room
 
--- the blocks that a file of so many octets owns, its indirect block among them
+-- the number of blocks that a file of this many octets owns, including its indirect block
 abbrev pub blocks_for : ℕ → ℕ
 blocks_for size = (size + 4095) / 4096 + (if nat_lt 40960 size then 1 else 0)
 
--- a file that had so many octets and is to have that many would be too large, or need more blocks than are free
+-- a file that grows from the first size to the second would be too large, or need more blocks than are free
 abbrev pub HasNoRoomFor : List Octets → ℕ → ℕ → Type 0
 HasNoRoomFor blocks was size = (4235264 < size) ⊎ (free_blocks blocks + blocks_for was < blocks_for size)
 
--- a file that had so many octets can have that many
+-- a file of the first size can have the second
 abbrev pub HasRoomFor : List Octets → ℕ → ℕ → Type 0
 HasRoomFor blocks was size = (size ≤ 4235264) × (blocks_for size ≤ free_blocks blocks + blocks_for was)
 
--- ---- one block more
+-- ---- one more block
 
 -- what an inode says of its blocks
 abbrev pub inode_entry : List Octets → Octets → Entry
@@ -38,16 +38,16 @@ pub record PutsPointer (i number : ℕ) (inode inode' : Octets) (old new : List 
   pub marks : (b : ℕ) → b < 2 → slice_index_or new b [] ≡ slice_index_or old b []
   pub blocks : (b : ℕ) → b ≢ number_at 52 4 inode → slice_index_or new b [] ≡ slice_index_or old b []
 
--- how many blocks are taken with the i-th: the first that stands in an indirect block takes that block too
+-- the number of blocks taken with the i-th: the first in an indirect block takes that block too
 abbrev pub taken_with : ℕ → ℕ
 taken_with i = if i == 10 then 2 else 1
 
--- each block that is taken lies below each that stays free
+-- each block that is taken is below each that stays free
 abbrev pub TakesLowest : List Octets → List Octets → Type 0
 TakesLowest old new =
     (b c : ℕ) → b < length new → c < length new → is_marked_used old b ≡ false → is_marked_used new b ≡ true → is_marked_used new c ≡ false → b < c
 
--- these free blocks, the lowest ones, are marked, and no mark changes but theirs
+-- these free blocks, the lowest ones, are marked, and no other mark changes
 pub record TakesBlocks (fresh : List ℕ) (old new : List Octets) : Type 0 where
   pub free : (b : ℕ) → Contains fresh b → (b < length old) × (is_marked_used old b ≡ false)
   pub marked : (b : ℕ) → Contains fresh b → is_marked_used new b ≡ true
@@ -56,7 +56,7 @@ pub record TakesBlocks (fresh : List ℕ) (old new : List Octets) : Type 0 where
   pub distinct : AreDistinct fresh
   pub fewer : free_blocks new + length fresh ≡ free_blocks old
 
--- a file gets its i-th block, and an indirect block where that is the first to stand there
+-- a file gets its i-th block, and an indirect block if the i-th is the first one there
 pub record AddsBlock (i number : ℕ) (inode inode' : Octets) (old new : List Octets) : Type 0 where
   pub count : length new ≡ length old
   pub whole : All (λ b. length b ≡ 4096) old → All (λ b. length b ≡ 4096) new
@@ -70,17 +70,17 @@ pub record AddsBlock (i number : ℕ) (inode inode' : Octets) (old new : List Oc
   pub takes : TakesBlocks (indirect ++ number ∷ []) old new
   pub blocks : (b : ℕ) → 2 ≤ b → b ≢ number_at 52 4 inode' → slice_index_or new b [] ≡ slice_index_or old b []
 
--- the blocks of a file whose octets take so many
+-- the number of blocks of a file whose octets take this many
 abbrev pub with_indirect : ℕ → ℕ
 with_indirect count = count + (if nat_lt 10 count then 1 else 0)
 
 -- ---- the file grows
 
--- no block is given up
+-- no block is freed
 abbrev pub KeepsMarks : List Octets → List Octets → Type 0
 KeepsMarks old new = (b : ℕ) → b < 65536 → is_marked_used old b ≡ true → is_marked_used new b ≡ true
 
--- these octets follow what the file of inode k had, and no other file changes
+-- these octets are appended to the file of inode k, and no other file changes
 pub record GrowsBy (inodes k : ℕ) (octets : Octets) (old new : List Octets) : Type 0 where
   pub count : length new ≡ length old
   pub name : Octets
@@ -91,12 +91,12 @@ pub record GrowsBy (inodes k : ℕ) (octets : Octets) (old new : List Octets) : 
   pub kept : KeepsMarks old new
   pub free : free_blocks new + blocks_for (length was + length octets) ≡ free_blocks old + blocks_for (length was)
 
--- the file of this name has these octets after its own
+-- these octets are appended to the file of this name
 abbrev pub Appends : ℕ → Octets → Octets → List Octets → List Octets → Type 0
 Appends inodes name octets old new =
     (k : ℕ) × (content : Octets) × IsFileAt (table inodes old) k name content × GrowsBy inodes k octets old new
 
--- the file of this name can't have so many octets more
+-- the file of this name cannot grow by this many octets
 abbrev pub CannotGrow : ℕ → Octets → ℕ → List Octets → Type 0
 CannotGrow inodes name more blocks =
     (k : ℕ) × (content : Octets) × IsFileAt (table inodes blocks) k name content × HasNoRoomFor blocks (length content) (length content + more)

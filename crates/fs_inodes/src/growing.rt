@@ -41,7 +41,8 @@ fn put_pointer<B: Blocks>(
     blocks.put(indirect, &pointers)
 }
 
-// Gives a file its i-th block, and with the first that does not fit into its inode an indirect block. No block below `from` is free.
+// Gives a file its i-th block. The first block that does not fit into its inode also brings an indirect block. No block
+// below `from` is free.
 fn add_block<B: Blocks>(
     blocks: &mut B,
     from: u32,
@@ -70,7 +71,7 @@ fn add_block<B: Blocks>(
     Ok(number)
 }
 
-// Puts octets after those of a file, all of them in its last block or all in a new one. No block below `from` is free.
+// Appends octets to a file, all of them in its last block or all in a new one. No block below `from` is free.
 fn add_piece<B: Blocks>(
     blocks: &mut B,
     inodes: u32,
@@ -110,8 +111,8 @@ fn add_piece<B: Blocks>(
     put_record(blocks, INODES_AT, at, &inode)
 }
 
-/// Puts octets after those of the file of an inode, for which there is room, and answers how many blocks that took. They are looked for
-/// from `from` on: none below is free.
+/// Appends octets to the file of an inode, which must have room for them, and answers how many blocks that took. The
+/// search for blocks starts at `from`; no block below it may be free.
 pub fn extend<B: Blocks>(
     blocks: &mut B,
     inodes: u32,
@@ -142,7 +143,7 @@ pub fn extend<B: Blocks>(
     Ok(blocks_more(size as u64, (size + octets.len()) as u64))
 }
 
-/// Puts so many zeros after the octets of the file of an inode, for which there is room.
+/// Appends this many zeros to the file of an inode, which must have room for them.
 pub fn extend_zeros<B: Blocks>(
     blocks: &mut B,
     inodes: u32,

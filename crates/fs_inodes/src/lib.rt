@@ -1,4 +1,4 @@
-//! The octets of files, by inode: read, replaced, added after the last, and cut off.
+//! The octets of files, by inode: read, replaced, appended and cut off.
 #![tactic(auto)]
 
 mod growing;

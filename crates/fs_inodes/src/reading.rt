@@ -9,8 +9,8 @@ use fs_layout::records::{RECORD_SIZE, get_record};
 use std::alloc::{AllocError, Global};
 use volume::{BLOCK_SIZE, Blocks};
 
-/// The octets of the file of an inode from a place on, lent: at most `count`, and no further than the end of the block that they
-/// stand in. There are none from the file's size on.
+/// Borrows the octets of the file of an inode from a place on: at most `count`, and no further than the end of the
+/// block that contains the place. From the file's size on the result is empty.
 pub fn piece<B: Blocks>(blocks: &B, inodes: u32, at: u32, place: u64, count: u64) -> &[u8]
     requires room { HasRoom inodes (B.blocks blocks.now) }
     requires rule { IsFileSystem inodes (B.blocks blocks.now) }
@@ -30,8 +30,8 @@ pub fn piece<B: Blocks>(blocks: &B, inodes: u32, at: u32, place: u64, count: u64
     &blocks.block(number)[within..within + some]
 }
 
-/// Appends the octets of the file of an inode from a place up to its size, at most `count`. Where memory is refused, some of them
-/// may be appended.
+/// Appends the octets of the file of an inode from a place up to its size, at most `count`. If memory is refused, some
+/// of them may have been appended.
 pub fn read_into<B: Blocks>(
     blocks: &B,
     inodes: u32,

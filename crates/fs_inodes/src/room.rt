@@ -10,7 +10,7 @@ use fs_layout::inodes::{DIRECT_POINTERS, MOST_OCTETS, content_blocks};
 use fs_layout::marks::free_block_count;
 use volume::{BLOCK_SIZE, Blocks};
 
-// How many blocks a file of so many octets owns, its indirect block among them.
+// The number of blocks that a file of this many octets owns, including its indirect block.
 fn owned_blocks(size: u64) -> u64
     requires { size ≤ 4235264 }
     ensures { result ≡ blocks_for size }
@@ -23,7 +23,7 @@ fn owned_blocks(size: u64) -> u64
     }
 }
 
-// How many blocks more a file owns when it grows from `was` to `size` octets.
+// The number of additional blocks that a file owns when it grows from `was` to `size` octets.
 pub(crate) fn blocks_more(was: u64, size: u64) -> u32
     requires order { was ≤ size }
     requires small { size ≤ 4235264 }
@@ -32,7 +32,7 @@ pub(crate) fn blocks_more(was: u64, size: u64) -> u32
     (owned_blocks(size) - owned_blocks(was)) as u32
 }
 
-/// Whether a file that has `was` octets can have `size`. Free blocks are counted only where some are needed.
+/// Whether a file of `was` octets can have `size`. Free blocks are counted only if some are needed.
 pub fn has_room_for<B: Blocks>(blocks: &B, inodes: u32, was: u64, size: u64) -> bool
     requires room { HasRoom inodes (B.blocks blocks.now) }
     requires small { was ≤ 4235264 }

@@ -1,4 +1,4 @@
-//! Files that lose octets, and files that go.
+//! Files that lose octets, and files that are removed.
 
 ghost use Rattle.std.specs.Prelude.{◌≡◌, ◌+◌, ◌*◌, ◌/◌, ◌<◌, ◌≤◌, [], ◌∷◌, None, take, OnOk, slice_set};
 ghost use Rattle.model.specs.Files.{HasRoom, IsFileSystem, IsFile, entry, size, block_count, content_of, table};
@@ -15,7 +15,7 @@ use fs_layout::records::{RECORD_SIZE, get_record, put_record};
 use std::alloc::AllocError;
 use volume::{BLOCK_SIZE, Blocks};
 
-/// Cuts the file of an inode to an end that isn't after its own.
+/// Cuts the file of an inode to `end` octets, which must not exceed its size.
 pub fn shrink_to<B: Blocks>(
     blocks: &mut B,
     inodes: u32,
@@ -45,7 +45,7 @@ pub fn shrink_to<B: Blocks>(
     cut(blocks, inodes, at, end)
 }
 
-// Drops the last block of the file of an inode, and the indirect block where ten are left.
+// Drops the last block of the file of an inode, and the indirect block if ten blocks are left.
 fn drop_block<B: Blocks>(blocks: &mut B, inodes: u32, at: u32, last: u32) -> Result<(), AllocError>
     requires room { HasRoom inodes (B.blocks blocks.old) }
     requires rule { IsFileSystem inodes (B.blocks blocks.old) }
@@ -153,7 +153,7 @@ fn drop_indirect<B: Blocks>(
     put_record(blocks, INODES_AT, at, &inode)
 }
 
-// Cuts the file of an inode to an end in its last block.
+// Cuts the file of an inode at an end within its last block.
 fn cut<B: Blocks>(blocks: &mut B, inodes: u32, at: u32, end: u64) -> Result<(), AllocError>
     requires room { HasRoom inodes (B.blocks blocks.old) }
     requires rule { IsFileSystem inodes (B.blocks blocks.old) }
@@ -174,7 +174,7 @@ fn cut<B: Blocks>(blocks: &mut B, inodes: u32, at: u32, end: u64) -> Result<(), 
     put_record(blocks, INODES_AT, at, &inode)
 }
 
-/// Removes the file of an inode, which has no octets.
+/// Removes the file of an inode. The file must be empty.
 pub fn remove_empty<B: Blocks>(blocks: &mut B, inodes: u32, at: u32) -> Result<(), AllocError>
     requires room { HasRoom inodes (B.blocks blocks.old) }
     requires rule { IsFileSystem inodes (B.blocks blocks.old) }

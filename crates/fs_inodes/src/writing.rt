@@ -1,4 +1,4 @@
-//! Octets over those of a file.
+//! Overwrites the octets of files.
 
 ghost use Rattle.std.specs.Prelude.{◌≡◌, ℕ, ◌+◌, ◌%◌, ◌<◌, ◌≤◌, [], ◌∷◌, length, OnOk};
 ghost use Rattle.disk.specs.Image.{overwritten};

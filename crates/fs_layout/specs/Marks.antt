@@ -5,7 +5,7 @@ use Rattle.model.specs.Stream.{Octets}
 use Rattle.model.specs.Files.{is_marked_used}
 use Rattle.fs_layout.specs.Bits.{bit_of}
 
--- the lowest of the first so many bits that is clear
+-- the lowest clear bit among the first `count`
 pub record IsLowestClear (octets : Octets) (count bit : ℕ) : Type 0 where
   pub below : bit < count
   pub clear : bit_of octets bit ≡ false
@@ -25,7 +25,7 @@ NoneFreeBelow n blocks = (b : ℕ) → b < n → b < length blocks → is_marked
 abbrev pub HasNoFreeBlock : List Octets → Type 0
 HasNoFreeBlock blocks = (b : ℕ) → b < length blocks → is_marked_used blocks b ≡ true
 
--- the mark of this block becomes that, and nothing else changes
+-- the mark of this block gets that value, and nothing else changes
 pub record SetsMark (block : ℕ) (value : Bool) (old new : List Octets) : Type 0 where
   pub count : length new ≡ length old
   pub whole : All (λ b. length b ≡ 4096) old → All (λ b. length b ≡ 4096) new

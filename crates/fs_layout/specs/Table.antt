@@ -13,7 +13,7 @@ IsFileAt files k name content = slice_index_or files k None ≡ Some (record { n
 abbrev pub IsThere : List (Option File) → Octets → Type 0
 IsThere files name = (k : ℕ) × (content : Octets) × IsFileAt files k name content
 
--- the names of the files that are there, by inode
+-- the names of the existing files, by inode
 abbrev pub file_names : List (Option File) → List Octets
 file_names [] = []
 file_names (None ∷ files) = file_names files

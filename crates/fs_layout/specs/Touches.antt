@@ -5,21 +5,21 @@ use Rattle.model.specs.Stream.{Octets}
 use Rattle.model.specs.Volume.{number_at}
 use Rattle.model.specs.Files.{inode_of}
 
--- no block changes but the two of the bitmap and these
+-- no block changes except the two of the bitmap and these
 abbrev pub SameBut : List ℕ → List Octets → List Octets → Type 0
 SameBut others old new = (b : ℕ) → 2 ≤ b → ¬ (Contains others b) → slice_index_or new b [] ≡ slice_index_or old b []
 
--- no block changes but the two of the bitmap and at most so many others
+-- no block changes except the two of the bitmap and at most this many others
 pub record Touches (n : ℕ) (old new : List Octets) : Type 0 where
   pub others : List ℕ
   pub few : length others ≤ n
   pub same : SameBut others old new
 
--- the block in which inode k stands
+-- the block that contains inode k
 abbrev pub inode_block : ℕ → ℕ
 inode_block k = 2 + k / 64
 
--- the block in which the slot of inode k stands
+-- the block that contains the slot of inode k
 abbrev pub slot_block : ℕ → ℕ → ℕ
 slot_block inodes k = 2 + inodes / 64 + k / 64
 
@@ -27,24 +27,26 @@ slot_block inodes k = 2 + inodes / 64 + k / 64
 abbrev pub indirect_block : List Octets → ℕ → ℕ
 indirect_block blocks k = number_at 52 4 (inode_of blocks k)
 
--- how many blocks of a file so many octets reach from a place on
+-- the number of a file's blocks that this many octets touch from a place on
 abbrev pub blocks_reached : ℕ → ℕ → ℕ
 blocks_reached place count = (place % 4096 + count + 4095) / 4096
 
--- how many blocks change where a file of so many octets gets so many more: those that they reach, its inode's and its indirect one
+-- the number of blocks that change when a file grows by this many octets: those that the octets touch, its inode's and
+-- its indirect one
 abbrev pub touched_by_growth : ℕ → ℕ → ℕ
 touched_by_growth size more = 2 + blocks_reached size more
 
--- how many blocks change where a file of so many octets gets a size: one that isn't longer leaves those of its octets
+-- the number of blocks that change when a file of this many octets gets a new size; a size that is not larger leaves
+-- the blocks of its octets as they are
 abbrev pub touched_by_truncation : ℕ → ℕ → ℕ
 touched_by_truncation was size = if nat_lt was size then touched_by_growth was (size - was) else 2
 
--- no block changes but the bitmap, the inode's, and its indirect one, which stays or goes
+-- no block changes except the bitmap, the inode's, and its indirect one, which stays or is freed
 pub record TouchesInode (k : ℕ) (old new : List Octets) : Type 0 where
   pub same : (b : ℕ) → 2 ≤ b → b ≢ inode_block k → b ≢ indirect_block old k → slice_index_or new b [] ≡ slice_index_or old b []
   pub indirect : (indirect_block new k ≡ indirect_block old k) ⊎ (indirect_block new k ≡ 0)
 
--- no block changes but the bitmap, the inode's, its indirect one, which stays or comes, and these of its octets
+-- no block changes except the bitmap, the inode's, its indirect one, which stays or is new, and these of its octets
 pub record TouchesData (k : ℕ) (blocks : List ℕ) (old new : List Octets) : Type 0 where
   pub same : (b : ℕ) → 2 ≤ b → b ≢ inode_block k → b ≢ indirect_block new k → ¬ (Contains blocks b) → slice_index_or new b [] ≡ slice_index_or old b []
   pub indirect : (indirect_block old k ≡ 0) ⊎ (indirect_block new k ≡ indirect_block old k)

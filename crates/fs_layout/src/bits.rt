@@ -21,7 +21,7 @@ pub fn set(octets: &mut [u8], bit: usize)
     octets[bit / 8] |= 1 << (bit % 8);
 }
 
-/// Sets the first so many bits of octets of which none is set.
+/// Sets the first `count` bits of octets in which no bit is set.
 pub fn set_front(octets: &mut [u8], count: usize)
     requires room { count ≤ 8 * length octets.old }
     requires clear { All (λ octet. octet ≡ 0) octets.old }
@@ -32,7 +32,7 @@ pub fn set_front(octets: &mut [u8], count: usize)
     }
 }
 
-/// How many of the first bits are clear.
+/// The number of clear bits among the first `count`.
 pub fn count_clear(octets: &[u8], count: usize) -> u32
     requires room { count ≤ 8 * length octets.now }
     requires few { count ≤ 65536 }
@@ -47,7 +47,7 @@ pub fn count_clear(octets: &[u8], count: usize) -> u32
     clear + clear_between(octets, 8 * whole, count)
 }
 
-/// How many bits of an octet are clear.
+/// The number of clear bits in an octet.
 fn clear_bits(octet: u8) -> u32
     ensures clear { result ≡ count_by (λ bit. not (octet / 2 ^ bit % 2 == 1)) (range_with_len 0 8) }
     ensures few { result ≤ 8 }
@@ -55,7 +55,7 @@ fn clear_bits(octet: u8) -> u32
     u8::BITS - octet.count_ones()
 }
 
-/// How many bits are clear from one up to another.
+/// The number of clear bits from one place up to another.
 fn clear_between(octets: &[u8], from: usize, to: usize) -> u32
     requires order { from ≤ to }
     requires room { to ≤ 8 * length octets.now }
@@ -72,10 +72,10 @@ fn clear_between(octets: &[u8], from: usize, to: usize) -> u32
     clear
 }
 
-/// Octets that a search passes over in one step where each of their bits is set.
+/// Octets that a search skips in one step if all their bits are set.
 const FULL: [u8; 64] = [u8::MAX; 64];
 
-/// The octet up to which a search gets in such steps. Each bit of the octets before `from` is set.
+/// The octet that a search reaches in steps of this size. Each bit of the octets before `from` is set.
 fn full_front(octets: &[u8], from: usize) -> usize
     requires few { length octets.now ≤ 4096 }
     requires within { from ≤ length octets.now }
@@ -94,7 +94,7 @@ fn full_front(octets: &[u8], from: usize) -> usize
     from + steps * FULL.len()
 }
 
-/// The lowest of the first bits that is clear. Each below `from` is set.
+/// The lowest clear bit among the first `count`. Each bit below `from` must be set.
 pub fn lowest_clear(octets: &[u8], from: usize, count: usize) -> Option<usize>
     requires room { count ≤ 8 * length octets.now }
     requires few { length octets.now ≤ 4096 }

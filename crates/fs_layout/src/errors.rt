@@ -1,10 +1,12 @@
+//! The refusals of the file system.
+
 ghost use Rattle.std.specs.Prelude.{◌≡◌};
 ghost use Rattle.fs_layout.specs.declared.errors.FsError.TheVariants.{Memory};
 
 use std::alloc::AllocError;
 use thiserror::Error;
 
-/// What a call refuses.
+/// Why a call is refused.
 #[derive(Clone, Copy, Debug, PartialEq, Eq, Error)]
 pub enum FsError {
     /// A growth was refused.
@@ -16,10 +18,10 @@ pub enum FsError {
     /// Blocks or inodes are used up, or the file would be too large.
     #[error("E6 Full")]
     Full,
-    /// The name is there.
+    /// A file with this name exists already.
     #[error("E11 Exists")]
     Exists,
-    /// The name isn't there.
+    /// No file has this name.
     #[error("E12 NotFound")]
     NotFound,
 }

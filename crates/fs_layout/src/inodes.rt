@@ -19,28 +19,28 @@ pub const FREE_KIND: u8 = 0;
 /// The kind of a file.
 pub const FILE_KIND: u8 = 1;
 
-/// Where the size stands in an inode.
+/// Where the size is in an inode.
 pub const SIZE_AT: usize = 4;
 
 /// Where the pointers of an inode begin.
 pub const POINTERS_AT: usize = 12;
 
-/// How many pointers stand in an inode.
+/// The number of pointers in an inode.
 pub const DIRECT_POINTERS: u32 = 10;
 
-/// Where the pointer to the indirect block stands in an inode.
+/// Where the pointer to the indirect block is in an inode.
 pub const INDIRECT_AT: usize = 52;
 
-/// Where the octets begin that an inode leaves zero.
+/// Where the octets that an inode leaves zero begin.
 pub const SPARE_AT: usize = 56;
 
-/// How many blocks the octets of the largest file take: those of an inode's pointers, and of a block of pointers.
+/// The number of blocks for the octets of the largest file: those of an inode's pointers, and of a block of pointers.
 pub const MOST_BLOCKS: u32 = 1034;
 
 /// The octets of the largest file.
 pub const MOST_OCTETS: u64 = MOST_BLOCKS as u64 * BLOCK_SIZE as u64;
 
-/// How many records stand in a block.
+/// The number of records in a block.
 const RECORDS: usize = 64;
 
 /// The size of the file of an inode.
@@ -68,7 +68,7 @@ pub fn pointer_at<B: Blocks>(blocks: &B, inode: &[u8], i: u32) -> u32
     number32(pointers, 4 * (i - DIRECT_POINTERS) as usize)
 }
 
-/// How many blocks the content of so many octets takes.
+/// The number of blocks that content of this many octets takes.
 pub fn content_blocks(octets: u64) -> u32
     requires { octets ≤ 4235264 }
     ensures { result ≡ (octets + 4095) / 4096 }
@@ -76,7 +76,7 @@ pub fn content_blocks(octets: u64) -> u32
     ((octets + BLOCK_SIZE as u64 - 1) / BLOCK_SIZE as u64) as u32
 }
 
-/// How many inodes are free.
+/// The number of free inodes.
 pub fn free_inode_count<B: Blocks>(blocks: &B, inodes: u32) -> u32
     requires { HasRoom inodes (B.blocks blocks.now) }
     ensures { result ≡ free_inodes inodes (B.blocks blocks.now) }
@@ -88,7 +88,7 @@ pub fn free_inode_count<B: Blocks>(blocks: &B, inodes: u32) -> u32
     free
 }
 
-// How many of the first inodes in a block are free.
+// The number of free inodes among the first `count` of a block.
 fn count_free(block: &[u8], count: usize) -> u32
     requires whole { length block.now ≡ 4096 }
     requires few { count ≤ 64 }

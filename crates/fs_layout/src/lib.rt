@@ -1,4 +1,4 @@
-//! Where the parts of a file system stand in its blocks: the bitmap, the inodes, the directory, and pointers to data.
+//! The parts of a file system in its blocks: the bitmap, the inodes, the directory, and pointers to data.
 #![tactic(auto)]
 
 pub mod bits;

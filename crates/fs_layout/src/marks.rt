@@ -1,4 +1,4 @@
-//! The marks of the bitmap, which say what blocks are used.
+//! The marks of the bitmap, which say which blocks are used.
 
 ghost use Rattle.std.specs.Prelude.{◌≡◌, ◌<◌, ◌≤◌, true, false, length, MatchOption, IfOk, OnOk};
 ghost use Rattle.model.specs.Files.{HasRoom, free_blocks};
@@ -11,7 +11,7 @@ use volume::{BLOCK_SIZE, Blocks};
 /// The bits of a block.
 pub const BLOCK_BITS: usize = 8 * BLOCK_SIZE;
 
-/// The lowest free block. It is looked for from `from` on, below which none is free.
+/// The lowest free block. The search starts at `from`; no block below it may be free.
 pub fn lowest_free<B: Blocks>(blocks: &B, from: u32) -> Option<u32>
     requires some { 2 ≤ length (B.blocks blocks.now) }
     requires few { length (B.blocks blocks.now) ≤ 65536 }
@@ -49,7 +49,7 @@ fn mark<B: Blocks>(blocks: &mut B, number: u32) -> Result<(), AllocError>
     blocks.put(table, &bitmap)
 }
 
-/// Marks the lowest free block, and answers it. No block below `from` is free.
+/// Marks the lowest free block, and answers it. No block below `from` may be free.
 pub fn take_block<B: Blocks>(blocks: &mut B, from: u32) -> Result<u32, AllocError>
     requires some { 2 ≤ length (B.blocks blocks.old) }
     requires few { length (B.blocks blocks.old) ≤ 65536 }
@@ -65,7 +65,7 @@ pub fn take_block<B: Blocks>(blocks: &mut B, from: u32) -> Result<u32, AllocErro
     Ok(number)
 }
 
-/// Takes a block's mark away.
+/// Removes a block's mark.
 pub fn unmark<B: Blocks>(blocks: &mut B, number: u32) -> Result<(), AllocError>
     requires there { number < length (B.blocks blocks.old) }
     requires some { 2 ≤ length (B.blocks blocks.old) }
@@ -80,7 +80,7 @@ pub fn unmark<B: Blocks>(blocks: &mut B, number: u32) -> Result<(), AllocError>
     blocks.put(table, &bitmap)
 }
 
-/// How many blocks no file uses.
+/// The number of free blocks.
 pub fn free_block_count<B: Blocks>(blocks: &B, inodes: u32) -> u32
     requires { HasRoom inodes (B.blocks blocks.now) }
     ensures { result ≡ free_blocks (B.blocks blocks.now) }

@@ -62,7 +62,7 @@ pub fn find<B: Blocks>(blocks: &B, inodes: u32, slot: &[u8]) -> Option<u32>
     find_from(blocks, inodes, 0, slot)
 }
 
-/// The lowest inode whose slot has these octets, where none below `from` has them. It passes over the slots from there on.
+/// The lowest inode whose slot has these octets. The search starts at `from`; no slot below it may have them.
 pub fn find_from<B: Blocks>(blocks: &B, inodes: u32, from: u32, slot: &[u8]) -> Option<u32>
     requires room { HasRoom inodes (B.blocks blocks.now) }
     requires whole { length slot.now ≡ 64 }

@@ -7,7 +7,7 @@ ghost use Rattle.fs_layout.specs.Table.{IsName};
 use crate::records::{RECORD_SIZE, put_part};
 use std::alloc::{AllocError, Global};
 
-/// The octets of a name at most.
+/// The most octets of a name.
 pub const NAME_MAX: usize = 63;
 
 /// The slot of a name: its length, the name, and zeros.

@@ -7,7 +7,7 @@ use Rattle.disk.specs.declared.DiskError.{DiskError}
 use Rattle.disk.specs.declared.DiskError.TheVariants.{Memory}
 use Rattle.model.specs.Volume.{IsSuperblock, block, gate_place, segment_count}
 
--- where the gate of a segment stands: one octet
+-- the place of a segment's gate: one octet
 abbrev pub gate_at : ℕ → ℕ
 gate_at s = 4096 * gate_place s
 
@@ -19,7 +19,7 @@ HasSegments device = IsSuperblock (block 0 device.content) device.size
 abbrev pub AreWithin : ℕ → ℕ → Type 0
 AreWithin n size = (s : ℕ) → s < n → gate_at s < size
 
--- how many segments stand on a device: none where its superblock isn't that of a volume
+-- the number of segments on a device: 0 where its superblock is not that of a volume
 abbrev pub IsCount : ℕ → Device → Type 0
 IsCount n device = (HasSegments device × (n ≡ segment_count device.content)) ⊎ ((HasSegments device → ⊥) × (n ≡ 0))
 
@@ -27,12 +27,12 @@ IsCount n device = (HasSegments device × (n ≡ segment_count device.content)) 
 abbrev pub AreGates : List ℕ → List ℕ → Type 0
 AreGates octets image = (s : ℕ) → s < length octets → slice_index octets s ≡ slice_index image (gate_at s)
 
--- an octet written to each gate, from the one of this segment on
+-- an octet written to each gate, starting with this segment
 abbrev pub writes_from : ℕ → List ℕ → List Call
 writes_from s [] = []
 writes_from s (octet ∷ octets) = Write (gate_at s) (octet ∷ []) ∷ writes_from (s + 1) octets
 
--- reads alone: nothing was written, and a crash leaves nothing that it could not have left before
+-- only reads: nothing was written, and a crash leaves nothing that it could not have left before
 pub record IsLook (old new : Device) : Type 0 where
   pub time : Elapses old new
   pub writes : new.writes ≡ old.writes
@@ -45,7 +45,7 @@ pub record IsSeen (old new : Device) : Type 0 where
   pub content : IsTrue old.tells → new.content ≡ old.content
   pub failures : new.failures ≡ old.failures
 
--- The octet of each gate was read, and then each was written where it stood, in rising place, up to the first refusal.
+-- The octet of each gate was read, and then each was written to its place, in rising place, up to the first refusal.
 pub record WritesThem {D : Type 0} (device : D → Device) (result : Result (Unit {0}) DiskError) (old new : D) : Type 0 where
   pub octets : List ℕ
   pub few : length octets ≤ 8
@@ -56,7 +56,7 @@ pub record WritesThem {D : Type 0} (device : D → Device) (result : Result (Uni
   pub gates : IsTrue (device old).tells → AreGates octets (device old).content
   pub written : Makes device (writes_from 0 octets) result read new
 
--- or it was refused before the first write
+-- or the call was refused before the first write
 abbrev pub WritesBack : {D : Type 0} → (D → Device) → Result (Unit {0}) DiskError → D → D → Type 0
 WritesBack device result old new = WritesThem device result old new ⊎ (IsErr result × IsLook (device old) (device new))
 
@@ -74,8 +74,8 @@ pub record IsTornAtGates (device : Device) (old new : List ℕ) : Type 0 where
 abbrev pub MayLeaveTorn : Device → List ℕ → Type 0
 MayLeaveTorn device c = (d : List ℕ) × (device.may_leave d × IsTornAtGates device d c)
 
--- What is left of the device. Where every call was good, or one was refused for want of memory, a read gives what it gave. Until
--- a sync a crash leaves an image that it might have left before, with any octets at the gates.
+-- What remains of the device. If every call was good, or one was refused for want of memory, a read gives what it gave
+-- before. Until a sync a crash leaves an image that it might have left before, with any octets at the gates.
 pub record Leaves (result : Result (Unit {0}) DiskError) (old new : Device) : Type 0 where
   pub content : IsTrue old.tells → OnOk result (new.content ≡ old.content)
   pub untaken : IsTrue old.tells → IfErr result (λ error. error ≡ Memory → new.content ≡ old.content)

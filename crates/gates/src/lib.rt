@@ -1,5 +1,5 @@
-//! The gates of a volume's segments are written back as they were read, so that the first sync of an opening carries them.
-//! `specs/Gates.antt` says which calls that makes. docs/DECISIONS.md says where it is needed: over a file.
+//! Writes the gates of a volume's segments back as they were read, so that the first sync of an opening makes them
+//! durable. `specs/Gates.antt` says which calls that makes. docs/DECISIONS.md says where it is needed: over a file.
 #![tactic(auto)]
 
 ghost use Rattle.std.specs.Prelude.{◌≡◌, ◌≢◌, ◌⊎◌, ◌<◌, ◌≤◌, [], ◌∷◌, IfErr, IfOk, IsTrue, OnOk, length, slice_index};
@@ -16,11 +16,12 @@ use volume_format::{read_superblock, zeros};
 /// The most gates that a volume has.
 const MOST_GATES: usize = 8;
 
-/// Reads the first octet of each gate of a volume, one read each, and then writes each back to its place, one write of one octet
-/// each, in rising place. It never syncs. Where the superblock isn't that of a volume, it writes nothing and answers `Ok`.
+/// Reads the first octet of each gate of a volume, with one read each. Then it writes each octet back to its place,
+/// with one write each, in rising place. It never syncs. If the superblock is not that of a volume, it writes nothing
+/// and answers `Ok`.
 ///
-/// Refused as `Fault` where the device failed in a call, and as `Memory` where a growth was refused, here or to the device. A
-/// read that is refused leaves nothing written. The first write that is refused is the last one.
+/// `Fault` if the device failed in a call, `Memory` if a growth was refused, here or to the device. A refused read
+/// leaves nothing written. No write follows a refused one.
 ///
 /// What a read gives stays as it was. Until a sync a crash may leave any octets at the gates, as after each write.
 pub fn write_gates_back<D: Disk>(alloc: Global, disk: &mut D) -> Result<(), DiskError>
@@ -49,7 +50,7 @@ fn write_back<D: Disk>(disk: &mut D, gates: &mut [u8]) -> Result<(), DiskError>
     write_gates(disk, gates)
 }
 
-// How many gates there are: none where no volume stands there.
+// The number of gates: 0 if the device holds no volume.
 fn count_gates<D: Disk>(disk: &mut D, superblock: &mut Vec<u8>) -> Result<usize, DiskError>
     requires { length superblock.old.items ≡ 4096 }
     ensures look { IsLook (D.device disk.old) (D.device disk.new) }
@@ -80,7 +81,7 @@ fn read_first<D: Disk>(disk: &mut D, block: &mut Vec<u8>) -> Result<(), DiskErro
     disk.read(0, block.as_mut_slice())
 }
 
-// How many segments a superblock tells of, on a device of so many octets.
+// The number of segments that a superblock states, on a device of `size` octets.
 fn count_told(superblock: &[u8], size: u64) -> usize
     requires { length superblock.now ≡ 4096 }
     ensures count { (IsSuperblock superblock.now size × (result ≡ number_at 16 4 superblock.now)) ⊎ ((IsSuperblock superblock.now size → ⊥) × (result ≡ 0)) }
@@ -93,7 +94,7 @@ fn count_told(superblock: &[u8], size: u64) -> usize
     }
 }
 
-// Reads the octet of each gate, from that of the first segment on.
+// Reads the octet of each gate, starting with the first segment.
 fn read_gates<D: Disk>(disk: &mut D, gates: &mut [u8]) -> Result<(), DiskError>
     requires few { length gates.old ≤ 8 }
     requires within { AreWithin (length gates.old) (D.device disk.old).size }
@@ -121,7 +122,7 @@ fn read_gate<D: Disk>(disk: &mut D, segment: u32) -> Result<u8, DiskError>
     Ok(gate[0])
 }
 
-// Writes an octet to each gate, from that of the first segment on.
+// Writes an octet to each gate, starting with the first segment.
 fn write_gates<D: Disk>(disk: &mut D, gates: &[u8]) -> Result<(), DiskError>
     requires few { length gates.now ≤ 8 }
     requires within { AreWithin (length gates.now) (D.device disk.old).size }

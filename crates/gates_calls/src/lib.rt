@@ -1,4 +1,4 @@
-//! Tables of what is asked of a device whose gates are written back, one call after the other, with what each is to answer.
+//! Tables of calls to a device whose gates are written back, with the expected answer to each.
 #![tactic(auto)]
 
 #[cfg(test)]

@@ -1,4 +1,4 @@
-//! A device in memory that can be told to refuse a write for want of memory.
+//! A device in memory that can be made to refuse a write for want of memory.
 
 use disk::{Disk, DiskError};
 use memdisk::MemDisk;

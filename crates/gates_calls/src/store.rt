@@ -1,4 +1,5 @@
-//! A device in memory that promises nothing, so that a test carries no fact of it: each call tests anew what it wants.
+//! A device in memory that promises nothing, so that a test carries no fact about it: each call checks its own
+//! preconditions.
 
 ghost use Rattle.std.specs.Prelude.{◌≡◌, ◌⊎◌};
 
@@ -30,12 +31,12 @@ pub enum Ask<'a> {
     Put(&'a [(u64, u8)]),
     /// Each of these places has this octet.
     Hold(&'a [u64], u8),
-    /// So many octets of the device are this one.
+    /// This many octets of the device have this value.
     Count(u8, u64),
-    /// The device was asked so many writes and syncs since the last such row or `Put`, or the start.
+    /// The device was asked this many writes and syncs since the last row of this kind, the last `Put`, or the start.
     Asked(u64, u64),
     FailKind(DiskCall, u64),
-    /// The device crashes, each touched octet by this pick.
+    /// The device crashes, and each touched octet becomes what this pick says.
     Crash(Pick),
 }
 
@@ -46,7 +47,7 @@ pub enum Said {
     Refused(DiskError),
     /// Other octets or counts than those asked for.
     Other,
-    /// What is asked isn't what the call may be asked.
+    /// The call's preconditions do not hold, so it was not made.
     NotAsked,
     /// A growth of the test's own was refused.
     NoMemory,
@@ -77,16 +78,16 @@ impl Store {
     }
 }
 
-/// What stands on a new device.
+/// What a new device holds.
 #[derive(Clone, Copy)]
 pub enum New {
     /// A volume with 1 or 8 segments.
     Volume(u32),
-    /// So many zeros.
+    /// This many zeros.
     Zeros(u64),
 }
 
-/// A new one, or none where there is no room.
+/// A new store, or `None` if memory is refused.
 pub fn new_store(alloc: Global, new: New) -> Option<Store> {
     let disk = match new {
         New::Volume(segments) if segments == 1 || segments == 8 => formatted(alloc, segments)?,
@@ -113,7 +114,7 @@ fn formatted(alloc: Global, segments: u32) -> Option<MemDisk>
     }
 }
 
-/// Asks a store, and hands back what it is then.
+/// Asks a store, and returns it with the answer.
 pub fn answered(alloc: Global, store: Store, asked: Ask<'_>) -> (Store, Said) {
     let (mut disk, mut counts) = store.into_parts();
     let said = match asked {
@@ -205,7 +206,7 @@ fn has(disk: &mut MemDisk, at: u64, octet: u8) -> bool {
     at < disk.len() && disk.read(at, &mut room) == Ok(()) && room[0] == octet
 }
 
-// How many octets of the device are this one, read block by block.
+// How many octets of the device have this value, read block by block.
 fn count(alloc: Global, disk: &mut MemDisk, octet: u8, wanted: u64) -> Said {
     let Ok(mut room) = zeros(alloc, BLOCK) else {
         return Said::NoMemory;

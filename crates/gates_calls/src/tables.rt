@@ -10,7 +10,7 @@ const FAULT: Said = Said::Refused(DiskError::Fault);
 
 const MEMORY: Said = Said::Refused(DiskError::Memory);
 
-// Where the gates of eight segments stand: each is followed by a descriptor and 512 images.
+// The gates of eight segments: each is followed by a descriptor and 512 images.
 const GATE_1: u64 = 4096;
 
 const GATE_2: u64 = 515 * 4096;
@@ -32,10 +32,10 @@ const ALL: &[u64] = &[
 
 const OTHERS: &[u64] = &[GATE_2, 1543 * 4096, 2057 * 4096, 2571 * 4096, 3085 * 4096];
 
-/// An octet that stands nowhere on a new volume.
+/// An octet that occurs nowhere on a new volume.
 const NOWHERE: u8 = 119;
 
-/// A name, what stands on the device, and the calls with their answers.
+/// A name, what the device holds, and the calls with their answers.
 type Case<'a> = (&'a str, New, &'a [(Ask<'a>, Said)]);
 
 const VOLUMES: &[Case<'static>] = &[
@@ -147,7 +147,7 @@ const NOTHING: &[(Ask<'static>, Said)] = &[
     (Ask::Asked(0, 1), Said::Done),
 ];
 
-/// Plays rows, and answers the place of the first with another answer. Where there is none, the store is handed back.
+/// Plays rows. It answers the index of the first row with another answer; if there is none, it returns the store.
 fn played(alloc: Global, mut store: Store, rows: &[(Ask<'_>, Said)]) -> Result<Store, usize> {
     for (place, (asked, wanted)) in rows.iter().enumerate() {
         let (next, said) = answered(alloc, store, *asked);
@@ -159,7 +159,7 @@ fn played(alloc: Global, mut store: Store, rows: &[(Ask<'_>, Said)]) -> Result<S
     Ok(store)
 }
 
-/// The place of the first row with another answer.
+/// The index of the first row with another answer.
 fn first_wrong(alloc: Global, new: New, rows: &[(Ask<'_>, Said)]) -> Result<Option<usize>, Fail> {
     match new_store(alloc, new) {
         Some(store) => match played(alloc, store, rows) {
@@ -170,7 +170,7 @@ fn first_wrong(alloc: Global, new: New, rows: &[(Ask<'_>, Said)]) -> Result<Opti
     }
 }
 
-/// The name of the first case with another answer, and the place of its row.
+/// The name of the first case with another answer, and the index of its row.
 fn first_wrong_of(
     alloc: Global,
     cases: &[Case<'static>],
@@ -195,8 +195,8 @@ fn where_no_volume_stands(rt: HostRuntime) -> Result<(), Fail> {
     Ok(())
 }
 
-/// The number of the first read, of the superblock and of eight gates, whose fault is not answered as it is to be: nothing was
-/// written. The tenth isn't asked.
+/// The number of the first read whose fault has an unexpected answer, among those of the superblock and of eight gates.
+/// Expected is that nothing was written. A tenth read is not made.
 fn first_read(alloc: Global, mut store: Store) -> Option<u64> {
     for n in 1..=9 {
         let rows = [
@@ -221,8 +221,8 @@ fn first_read(alloc: Global, mut store: Store) -> Option<u64> {
     }
 }
 
-/// The number of the first write whose fault is not answered as it is to be: it was the last one, and the gates up to its own are
-/// touched.
+/// The number of the first write whose fault has an unexpected answer. Expected is that it was the last write, and that
+/// the gates up to its own are touched.
 fn first_write(alloc: Global, mut store: Store) -> Option<u64> {
     for n in 1..=8 {
         let rows = [
@@ -241,7 +241,8 @@ fn first_write(alloc: Global, mut store: Store) -> Option<u64> {
     None
 }
 
-/// The number of the first write whose refusal for want of memory is not answered as it is to be: what stood there stands there.
+/// The number of the first write whose refusal for want of memory has an unexpected answer. Expected is an unchanged
+/// content.
 fn first_growth(alloc: Global, mut store: Store) -> Option<u64> {
     for n in 1..=8 {
         let rows = [

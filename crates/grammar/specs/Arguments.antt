@@ -1,4 +1,4 @@
--- What a command holds is in the grammar of its arguments.
+-- The arguments of a command follow their grammar.
 use Rattle.std.specs.Prelude.{ℕ, List, Option, IfSome, IsTrue}
 use Rattle.model.specs.Commands.{parsed_line, is_date_word, is_time_word}
 use Rattle.model.specs.Names.{is_group_name, is_message_id, is_wildmat}
@@ -36,6 +36,6 @@ abbrev pub IsParsed : Parsed → Type 0
 IsParsed (parsed.Command c) = IsInGrammar c
 IsParsed other = Unit {0}
 
--- each line
+-- the arguments in each line follow their grammar
 abbrev pub LinesAreInGrammar : Type 0
 LinesAreInGrammar = (line : List ℕ) → IsParsed (parsed_line line)

@@ -3,7 +3,7 @@ use Rattle.std.specs.Prelude.{◌≡◌, ℕ, List, [], ◌∷◌}
 use Rattle.grammar.specs.declared.lines.Arguments.{Arguments}
 use Rattle.grammar.specs.declared.lines.Arguments.TheVariants as arguments
 
--- five words at least
+-- at least five words
 pub record HasFive (words : List (List ℕ)) : Type 0 where
   pub first : List ℕ
   pub second : List ℕ
@@ -22,7 +22,7 @@ Says (arguments.Three a b c) words = words ≡ a.now ∷ b.now ∷ c.now ∷ []
 Says (arguments.Four a b c d) words = words ≡ a.now ∷ b.now ∷ c.now ∷ d.now ∷ []
 Says arguments.More words = HasFive words
 
--- words that the arguments stand for; too many are as good as five
+-- words that the arguments stand for; too many count as five
 abbrev pub words_of : Arguments → List (List ℕ)
 words_of arguments.None = []
 words_of (arguments.One a) = a.now ∷ []

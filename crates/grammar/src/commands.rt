@@ -1,3 +1,5 @@
+//! The command of a keyword and its arguments.
+
 ghost use Rattle.std.specs.Prelude.{◌≡◌, IfOk, ◌&&◌};
 ghost use Rattle.model.specs.Commands as commands;
 ghost use Rattle.model.specs.Calendar as calendar;
@@ -11,14 +13,14 @@ use model::{Command, Part, Selector, Text};
 use names::{is_group_name, is_message_id, is_wildmat, number_of, range_of};
 use std::alloc::{AllocError, Global};
 
-/// The digits of a date without its century, of one with it, and of a time.
+/// The numbers of digits of a date without its century, of one with it, and of a time.
 const SHORT_DATE: usize = 6;
 
 const LONG_DATE: usize = 8;
 
 const TIME: usize = 6;
 
-/// The command of a keyword and its arguments, if they are in its grammar.
+/// The command of a keyword and its arguments, if they follow its grammar.
 pub fn command(
     alloc: Global,
     keyword: Keyword,
@@ -49,14 +51,14 @@ pub fn command(
     }
 }
 
-/// A word in memory of its own.
+/// A copy of a word on the heap.
 fn text(alloc: Global, word: &[u8]) -> Result<Text, AllocError>
     ensures { IfOk result (λ text. text ≡ word.now) }
 {
     Ok(Text::new(word.to_vec(alloc)?))
 }
 
-/// A command that has no arguments.
+/// A command without arguments.
 fn alone(arguments: Arguments, command: Command) -> Option<Command>
     ensures { result ≡ alone_of command (words_of arguments.entry) }
 {
@@ -185,14 +187,14 @@ fn listed(word: &[u8], wildmat: Option<Text>) -> Option<Command>
     None
 }
 
-/// Whether the word is so many digits.
+/// Whether the word consists of this many digits.
 fn are_digits(count: usize, word: &[u8]) -> bool
     ensures { result ≡ calendar.are_digits count word.now }
 {
     word.len() == count && word.iter().all(|octet| octet.is_ascii_digit())
 }
 
-/// Whether the words are a date and a time by their digits.
+/// Whether the words have the digits of a date and a time.
 fn is_moment(date: &[u8], time: &[u8]) -> bool
     ensures { result ≡ (commands.is_date_word date.now && commands.is_time_word time.now) }
 {

@@ -1,3 +1,5 @@
+//! The keywords of the commands.
+
 ghost use Rattle.std.specs.Prelude.{◌≡◌, option_map};
 ghost use Rattle.std.specs.Str.{str_eq_ignore_ascii_case};
 ghost use Rattle.model.specs.Commands as commands;

@@ -15,10 +15,10 @@ use lines::{arguments_of, begins_blank, is_clean, next_word};
 use model::Parsed;
 use std::alloc::{AllocError, Global};
 
-/// What a command line is, without its CRLF: a command, `Unknown` where its keyword is none, or `Bad` where what
-/// stands after the keyword isn't in its grammar. An empty line and one that begins with a blank are `Unknown`, and a
-/// line with an octet other than SP, TAB and 33 to 126 is `Bad` where its keyword is known (both this project's rule).
-/// Dates and times are read as digits, whatever they say.
+/// Reads a command line without its CRLF: a command, `Unknown` if its keyword is not one, or `Bad` if the rest of the
+/// line does not follow the keyword's grammar. An empty line and one that begins with a blank are `Unknown`. A line
+/// with an octet other than SP, TAB and 33 to 126 is `Bad` if its keyword is known (both this project's rule). Dates
+/// and times are read as digits; the calendar is not asked. Refused only for want of memory.
 pub fn read(alloc: Global, line: &[u8]) -> Result<Parsed, AllocError>
     ensures { IfOk result (λ parsed. parsed ≡ parsed_line line.now) }
 {
@@ -40,7 +40,7 @@ pub fn read(alloc: Global, line: &[u8]) -> Result<Parsed, AllocError>
     }
 }
 
-/// What the command of a line holds is in the grammar of its arguments: group names, message-ids, wildmats, dates and
+/// The arguments of each command that is read follow their grammar: group names, message-ids, wildmats, dates and
 /// times.
 pub fn arguments_are_in_grammar()
     ensures { LinesAreInGrammar }

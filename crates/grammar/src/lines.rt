@@ -1,3 +1,5 @@
+//! The words of a command line.
+
 ghost use Rattle.std.specs.Prelude.{◌≡◌, [], ◌∷◌, MatchOption, ◌||◌, false};
 ghost use Rattle.std.specs.List.{list_all};
 ghost use Rattle.model.specs.Commands.{words};
@@ -8,7 +10,7 @@ use bstr::ByteSlice;
 use memchr::memchr2;
 use names::is_visible;
 
-/// SP and TAB, which part words (RFC 3977, 3.1).
+/// SP and TAB, which separate words (RFC 3977, 3.1).
 const BLANKS: &[u8] = b" \t";
 
 /// The words after a keyword.
@@ -19,7 +21,7 @@ pub enum Arguments<'a> {
     Two(&'a [u8], &'a [u8]),
     Three(&'a [u8], &'a [u8], &'a [u8]),
     Four(&'a [u8], &'a [u8], &'a [u8], &'a [u8]),
-    /// more than a command has
+    /// more words than any command has
     More,
 }
 
@@ -30,7 +32,7 @@ pub fn begins_blank(line: &[u8]) -> bool
     matches!(line, [b' ' | b'\t', ..])
 }
 
-/// Whether each octet may stand in a command line: SP, TAB and 33 to 126.
+/// Whether each octet may occur in a command line: SP, TAB and 33 to 126.
 pub fn is_clean(line: &[u8]) -> bool
     ensures { result ≡ list_all (λ c. definitions.is_blank c || definitions.is_visible c) line.now }
 {
@@ -45,7 +47,7 @@ fn is_blank(octet: u8) -> bool
     octet == b' ' || octet == b'\t'
 }
 
-/// The line from its first octet on that is no blank.
+/// The line without its leading blanks.
 fn skip_blanks(line: &[u8]) -> &[u8]
     ensures same { words result.now ≡ words line.now }
     ensures begins { definitions.begins definitions.is_blank result.now ≡ false }
@@ -68,7 +70,7 @@ pub fn next_word(line: &[u8]) -> Option<(&[u8], &[u8])>
     Some(rest.split_at(end))
 }
 
-/// The words of what stands after a keyword.
+/// The words after a keyword.
 pub fn arguments_of(rest: &[u8]) -> Arguments<'_>
     ensures { Says result (words rest.now) }
 {

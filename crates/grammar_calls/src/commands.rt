@@ -18,7 +18,7 @@ fn joined(alloc: Global, words: &[&[u8]]) -> Result<Vec<u8>, AllocError> {
     Ok(text)
 }
 
-/// A listing's name, and its wildmat where it has one.
+/// A listing's name, and its wildmat if it has one.
 fn listing(alloc: Global, name: &[u8], wildmat: &Option<Text>) -> Result<Vec<u8>, AllocError> {
     match wildmat {
         Some(wildmat) => joined(alloc, &[name, wildmat.as_slice()]),
@@ -216,7 +216,7 @@ fn lines() -> &'static [(&'static str, &'static str)] {
     ]
 }
 
-/// The same with octets that are no text.
+/// The same with octets that are not text.
 fn octet_lines() -> &'static [(&'static [u8], &'static str)] {
     &[(b"\xff", "unknown"), (b"GROUP x.\xff", "bad")]
 }

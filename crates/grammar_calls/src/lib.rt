@@ -1,4 +1,4 @@
-//! Tables of command lines, with what they are to be read as.
+//! Tables of command lines, with what they must be read as.
 #![tactic(auto)]
 
 #[cfg(test)]

@@ -26,7 +26,7 @@ abbrev pub entry_with : Spool → ℕ → Option Entry
 entry_with S zero = None
 entry_with S (suc k) = slice_get (entries S) k
 
--- how many articles up to this serial were filed in the group, which is the number of the last of them
+-- the number of articles up to this serial that were filed in the group, which is the number of the last of them
 abbrev pub number_upto : Spool → Octets → ℕ → ℕ
 number_upto S g serial = length (filter (λ b. nat_le b.serial serial) (filed_in S g))
 

@@ -3,7 +3,7 @@ use Rattle.std.specs.Prelude.{◌≡◌, ◌⊎◌, ℕ, ◌<◌, ◌≤◌, Lis
 use Rattle.index.specs.Notes.{moment_in}
 use Rattle.index.specs.declared.note.Note.{Note}
 
--- of each change the latest moment of an article up to it, 0 where there is none
+-- for each change the latest moment of an article up to it, or 0 if there is none
 pub record AreLatest (moments : List ℕ) (notes : List Note) : Type 0 where
   pub each : length moments ≡ length notes
   pub rise : (i j : ℕ) → i ≤ j → j < length moments → slice_index moments i ≤ slice_index moments j

@@ -9,7 +9,7 @@ heads groups = map (λ i. i.group.name) groups
 abbrev pub name_at : List Octets → ℕ → Octets
 name_at names k = slice_index_or names k []
 
--- the name with this place
+-- the name at this place
 pub record IsNamed (names : List Octets) (place : ℕ) (name : Octets) : Type 0 where
   pub there : place < length names
   pub its : name_at names place ≡ name

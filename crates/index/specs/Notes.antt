@@ -1,10 +1,10 @@
--- What the note of an article says.
+-- The note of an article.
 use Rattle.std.specs.Prelude.{ℕ, List, Option, Some, None}
 use Rattle.model.specs.Stream.{Octets}
 use Rattle.index.specs.declared.note.Note.{Note}
 use Rattle.index.specs.declared.note.Note.TheVariants as note
 
--- the octets of its text
+-- the number of octets in its text
 abbrev pub size_in : Note → Option ℕ
 size_in note.Group = None
 size_in (note.Article size groups moment) = Some size

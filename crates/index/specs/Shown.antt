@@ -1,4 +1,4 @@
--- What the index keeps, in the words of the spool.
+-- What the index keeps, stated in terms of the spool.
 use Rattle.std.specs.Prelude.{map}
 use Rattle.model.specs.Indexed as indexed
 use Rattle.model.specs.Indexed.{GroupIndex}
@@ -17,7 +17,7 @@ shown g = record {
   last = g.last;
 }
 
--- what is kept of a change; what it says of a group is kept with the group
+-- what is kept of a change; the fields of a group are kept with the group
 abbrev pub kept : indexed.Note → Note
 kept (indexed.GroupNote g) = note.Group
 kept (indexed.ArticleNote size groups moment) = note.Article size groups moment

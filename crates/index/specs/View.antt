@@ -6,7 +6,7 @@ use Rattle.model.specs.Spool.{Spool, by_id, entries, groups}
 use Rattle.index.specs.Shown.{kept}
 use Rattle.index.specs.declared.note.Note.{Note}
 
--- of each change a note, by serial; the groups, in rising serial; the serials of articles by their ids
+-- for each change a note, by serial; the groups, in rising serial; the serials of articles by their ids
 pub record IndexView : Type 0 where
   pub notes : List Note
   pub groups : List GroupIndex

@@ -30,7 +30,7 @@ impl Index {
         note_in(&self.notes, serial)
     }
 
-    /// The octets of the text of the article with this serial, if there is one.
+    /// The number of octets in the text of the article with this serial, if there is one.
     pub fn size(&self, serial: u64) -> Option<u64>
         ensures { (S : Spool) → Indexes S self.now → result ≡ option_map (λ a. length a.text) (article_with S serial) }
     {
@@ -40,7 +40,8 @@ impl Index {
         }
     }
 
-    /// The groups that the article with this serial was filed in, if there is one, also those that it was taken out of.
+    /// The groups that the article with this serial was filed in, if there is one, including those that it was removed
+    /// from.
     pub fn groups_of(&self, serial: u64) -> Option<&[Text]>
         ensures { (S : Spool) → Indexes S self.now → option_map (λ names. names.now) result ≡ option_map (λ a. a.groups) (article_with S serial) }
     {
@@ -60,8 +61,8 @@ impl Index {
         }
     }
 
-    /// How many changes stand before the first article of this moment or a later one, in seconds since 1970; all, where there is
-    /// none. None before 1970, and at its first second. It takes the logarithm of their number.
+    /// The number of changes before the first article filed at `from` or later, in seconds since 1970; all changes if
+    /// there is no such article. If `from` is 0 or negative, the answer is 0. It takes logarithmic time.
     pub fn older_than(&self, from: i64) -> u64
         ensures few { (S : Spool) → Indexes S self.now → result ≤ length S }
         ensures older { (S : Spool) → Indexes S self.now → (serial : ℕ) → serial ≤ result → IfSome (article_with S serial) (λ a. is_since from a.moment ≡ false) }
@@ -74,7 +75,7 @@ impl Index {
         }
     }
 
-    /// How many articles up to this serial were filed in the group, which is the number of the last of them.
+    /// The number of articles up to this serial that were filed in the group, which is the number of the last of them.
     pub fn number_in(&self, group: &[u8], serial: u64) -> u64
         ensures { (host : Octets) (S : Spool) → IsLawful host S → Indexes S self.now → result ≡ number_upto S group.now serial }
     {
@@ -94,15 +95,16 @@ impl Index {
         }
     }
 
-    /// The serial of the expiry that took the article with this serial out of the group that it was filed in, 0 where none did.
+    /// The serial of the expiry that removed the article with this serial from the group that it was filed in, or 0 if
+    /// none did.
     pub fn taken_at(&self, group: &[u8], serial: u64) -> u64
         ensures { (host : Octets) (S : Spool) → IsLawful host S → Indexes S self.now → result ≡ expired_at S group.now (number_upto S group.now serial) }
     {
         self.expired_at(group, self.number_in(group, serial))
     }
 
-    /// The serial of the expiry that took the article with this serial out of its last group. None where it is in a group, or
-    /// where no article has this serial.
+    /// The serial of the expiry that removed the article with this serial from its last group. `None` if it is in a
+    /// group, or if no article has this serial.
     pub fn gone_at(&self, serial: u64) -> Option<u64>
         ensures { (host : Octets) (S : Spool) → IsLawful host S → Indexes S self.now → result ≡ gone_with S serial }
     {
@@ -117,7 +119,7 @@ impl Index {
         }
     }
 
-    /// Whether the article with this serial is in a group whose name the wildmat takes.
+    /// Whether the article with this serial is in a group whose name the wildmat matches.
     pub fn is_in_one(&self, serial: u64, wildmat: &[u8]) -> bool
         requires { IsTrue (model.is_wildmat wildmat.now) }
         ensures { (host : Octets) (S : Spool) → IsLawful host S → Indexes S self.now → result ≡ list_any (model.wildmat_matches wildmat.now) (groups_now S serial) }
@@ -140,7 +142,8 @@ impl Index {
         false
     }
 
-    /// The greatest serial of the expiries that took the article with this serial out of the groups that it was filed in.
+    /// The greatest serial of the expiries that removed the article with this serial from the groups that it was filed
+    /// in.
     fn last_taken(&self, groups: &[Text], serial: u64) -> u64
         ensures { (host : Octets) (S : Spool) → IsLawful host S → Indexes S self.now → result ≡ greatest (map (λ g. expired_at S g (number_upto S g serial)) groups.now) }
     {
@@ -151,7 +154,8 @@ impl Index {
         last
     }
 
-    /// Whether the article with this serial is still in one of the groups that it was filed in whose names the wildmat takes.
+    /// Whether the article with this serial is still in one of the groups that it was filed in and whose names the
+    /// wildmat matches.
     fn is_in_taken(&self, groups: &[Text], serial: u64, wildmat: &[u8]) -> bool
         requires { IsTrue (model.is_wildmat wildmat.now) }
         ensures { (host : Octets) (S : Spool) → IsLawful host S → Indexes S self.now → result ≡ list_any (λ g. model.wildmat_matches wildmat.now g && is_still_in S serial g) groups.now }
@@ -164,7 +168,7 @@ impl Index {
         false
     }
 
-    /// Whether the wildmat takes the group's name, and the article with this serial is still in it.
+    /// Whether the wildmat matches the group's name, and the article with this serial is still in the group.
     fn is_in_if_taken(&self, group: &[u8], serial: u64, wildmat: &[u8]) -> bool
         requires { IsTrue (model.is_wildmat wildmat.now) }
         ensures { (host : Octets) (S : Spool) → IsLawful host S → Indexes S self.now → result ≡ (model.wildmat_matches wildmat.now group.now && is_still_in S serial group.now) }

@@ -1,5 +1,5 @@
-//! Changes go into the index of groups. An article goes into each of its groups: first the room for it, then the lines, which
-//! cannot fail then.
+//! Files changes in the index of groups. For an article, room is made in each of its groups first. Then the lines are
+//! added, which cannot fail any more.
 
 ghost use Rattle.std.specs.Prelude.{◌≡◌, ◌+◌, ◌^◌, ◌<◌, ◌≤◌, ℕ, List, [], None, Some, map, length, slice_index_or, MatchOption, OnErr, OnOk};
 ghost use Rattle.std.specs.List.{All};
@@ -24,7 +24,7 @@ pub(crate) fn place_of(places: &Keys, groups: &[Group], name: &[u8]) -> Option<u
     }
 }
 
-/// Makes room for lines in the group with this name, if it is here.
+/// Makes room for lines in the group with this name, if it exists.
 fn reserve_one(
     groups: &mut [Group],
     places: &Keys,
@@ -42,7 +42,7 @@ fn reserve_one(
     }
 }
 
-/// Files an article in the group with this name, if it is here.
+/// Files an article in the group with this name, if it exists.
 fn push_one(groups: &mut [Group], places: &Keys, name: &[u8], serial: u64, size: u64)
     requires named { AreNamed places.now (heads (map shown groups.old)) }
     requires small { size < 2 ^ 32 }
@@ -56,8 +56,8 @@ fn push_one(groups: &mut [Group], places: &Keys, name: &[u8], serial: u64, size:
     }
 }
 
-/// Takes the articles up to a number out of the group with this name, if it is here. An `Err` is out of memory, and leaves the
-/// groups as they were.
+/// Removes the articles up to a number from the group with this name, if it exists. Refused only for want of memory;
+/// then the groups are as they were.
 pub(crate) fn expire_one(
     groups: &mut [Group],
     places: &Keys,
@@ -76,7 +76,7 @@ pub(crate) fn expire_one(
     }
 }
 
-/// Makes room for a line in each of the groups. An `Err` is out of memory; the groups are the same either way.
+/// Makes room for a line in each of the groups. Refused only for want of memory; the groups stay the same either way.
 pub(crate) fn reserve_lines(
     groups: &mut [Group],
     places: &Keys,

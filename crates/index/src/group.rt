@@ -1,4 +1,4 @@
-//! What is kept of a group.
+//! What the index keeps of a group.
 
 ghost use Rattle.std.specs.Prelude.{◌≡◌, ◌+◌, ◌-◌, ◌^◌, ◌<◌, ◌≤◌, ◌∷◌, ◌++◌, [], true, false, map, filter, find, length, nat_le, nat_lt, slice_index, IfOk, OnOk, OnErr, vec_len, vec_capacity};
 ghost use Rattle.std.specs.List.Sorted.{IsPartitionPoint, IsPartitionedBy};
@@ -11,7 +11,7 @@ ghost use Rattle.index.specs.Finding.{Rise, filed_at};
 use model::Text;
 use std::alloc::{AllocError, Global};
 
-/// Of an article that is filed in a group: its serial, and where its overview line ends.
+/// What is kept of an article filed in a group: its serial, and where its overview line ends.
 #[derive(Clone, Copy)]
 pub(crate) struct Line {
     pub(crate) serial: u64,
@@ -25,7 +25,7 @@ pub(crate) struct Expired {
     pub(crate) number: u64,
 }
 
-/// A group that is here, with its articles by number.
+/// A group that exists, with its articles by number.
 #[derive(Drop)]
 pub struct Group {
     pub(crate) serial: u64,
@@ -83,7 +83,7 @@ impl Group {
         self.name.as_slice()
     }
 
-    /// `y`, or `n` where it takes no articles.
+    /// `y`, or `n` if it takes no articles.
     pub fn status(&self) -> u8
         ensures { result ≡ (shown self.now).group.status }
     {
@@ -110,7 +110,7 @@ impl Group {
         self.low
     }
 
-    /// The highest number, which is how many articles were filed in it.
+    /// The highest number, which is the number of articles filed in it.
     pub fn high(&self) -> u64
         ensures { result ≡ length (shown self.now).filed }
     {
@@ -124,7 +124,7 @@ impl Group {
         self.last
     }
 
-    /// The octets of its overview.
+    /// The number of octets in its overview.
     pub fn overview_size(&self) -> u64
         ensures { result ≡ end_of (shown self.now) }
     {
@@ -161,14 +161,14 @@ impl Group {
         (start, end)
     }
 
-    /// How many articles up to this serial were filed in it, which is the number of the last of them.
+    /// The number of articles up to this serial that were filed in it, which is the number of the last of them.
     pub fn number_of(&self, serial: u64) -> u64
         ensures { Rise (shown self.now).filed → result ≡ length (filter (λ n. nat_le n serial) (shown self.now).filed) }
     {
         lines_up_to(&self.lines, serial) as u64
     }
 
-    /// The serial of the expiry that took this number out of it, 0 where none did.
+    /// The serial of the expiry that removed this number from it, or 0 if none did.
     pub fn expired_at(&self, number: u64) -> u64
         ensures { Rise (map (λ e. e.number) (shown self.now).expired) → result ≡ serial_of (find (λ e. nat_le number e.number) (shown self.now).expired) }
     {
@@ -179,7 +179,7 @@ impl Group {
         self.expired[place].serial
     }
 
-    /// Makes room for lines. An `Err` is out of memory; the group is the same either way.
+    /// Makes room for lines. Refused only for want of memory; the group stays the same either way.
     pub(crate) fn reserve(&mut self, lines: usize) -> Result<(), AllocError>
         ensures same { shown self.new ≡ shown self.old }
         ensures room { OnOk result (vec_len self.new.lines + lines ≤ vec_capacity self.new.lines) }
@@ -187,7 +187,7 @@ impl Group {
         self.lines.reserve(lines)
     }
 
-    /// Files an article, whose line stands behind the others. There is room for it.
+    /// Files an article, whose line follows the others. There must be room for it.
     pub(crate) fn file(&mut self, serial: u64, size: u64)
         requires room { vec_len self.old.lines < vec_capacity self.old.lines }
         requires fits { end_of (shown self.old) + size < 2 ^ 64 }
@@ -202,7 +202,7 @@ impl Group {
         self.last = serial;
     }
 
-    /// Takes the articles up to a number out of it. An `Err` is out of memory and changes nothing.
+    /// Removes the articles up to a number from it. Refused only for want of memory, and then nothing changes.
     pub(crate) fn expire(&mut self, serial: u64, number: u64) -> Result<(), AllocError>
         requires { number < 2 ^ 63 }
         ensures ok { OnOk result (shown self.new ≡ record (shown self.old) {
@@ -221,7 +221,7 @@ impl Group {
     }
 }
 
-/// How many lines in front are of articles up to this serial.
+/// The number of lines at the start that belong to articles up to this serial.
 fn lines_up_to(lines: &[Line], serial: u64) -> usize
     ensures bound { result ≤ length lines.now }
     ensures partitioned { IsPartitionedBy (λ l. nat_le l.serial serial) lines.now → IsPartitionPoint (λ l. nat_le l.serial serial ≡ true) (λ l. nat_le l.serial serial ≡ false) lines.now result }
@@ -229,7 +229,7 @@ fn lines_up_to(lines: &[Line], serial: u64) -> usize
     lines.partition_point(|line| line.serial <= serial)
 }
 
-/// How many expiries in front don't reach this number.
+/// The number of expiries at the start that do not reach this number.
 fn expiries_below(expired: &[Expired], number: u64) -> usize
     ensures bound { result ≤ length expired.now }
     ensures partitioned { IsPartitionedBy (λ e. nat_lt e.number number) expired.now → IsPartitionPoint (λ e. nat_lt e.number number ≡ true) (λ e. nat_lt e.number number ≡ false) expired.now result }

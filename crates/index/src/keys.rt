@@ -1,3 +1,5 @@
+//! A map of keys to numbers.
+
 ghost use Rattle.std.specs.Prelude.{◌≡◌, [], ℕ, List, if◌then◌else◌, bytes_eq, Some, OnOk, OnErr};
 ghost use Rattle.model.specs.Indexed.{value_of};
 
@@ -36,7 +38,7 @@ impl Keys {
         self.numbers.get(key).copied()
     }
 
-    /// Gives a key its number. An `Err` changes nothing.
+    /// Gives a key its number. Refused only for want of memory, and then nothing changes.
     pub(crate) fn insert(&mut self, key: &[u8], number: u64) -> Result<(), AllocError>
         ensures ok { OnOk result ((q : List ℕ) → value_of self.new q ≡ (if bytes_eq q key.now then Some number else value_of self.old q)) }
         ensures err { OnErr result (self.new ≡ self.old) }

@@ -1,4 +1,4 @@
-//! The index of a spool in memory: what its look-ups need beside the files, equal to the list of changes.
+//! The index of a spool in memory: what its look-ups need besides the files, always equal to the list of changes.
 #![tactic(auto)]
 
 ghost use Rattle.std.specs.Prelude.{◌≡◌, ◌+◌, ◌-◌, ◌^◌, ◌<◌, ◌≤◌, ◌∷◌, ◌++◌, [], false, map, length, option_map, slice_get, Some, IfSome, OnOk, OnErr, bytes_eq, is_some};
@@ -31,12 +31,12 @@ pub use note::Note;
 use std::alloc::{AllocError, Global};
 use std::marker::Model;
 
-/// What is kept in memory beside the files of a spool.
+/// What is kept in memory besides the files of a spool.
 #[derive(Drop)]
 pub struct Index {
     alloc: Global,
     notes: Vec<Note>,
-    /// of each change the latest moment of an article up to it
+    /// for each change, the latest moment of an article up to it
     latest: Vec<u64>,
     groups: Vec<Group>,
     /// the places of the groups by their names
@@ -62,7 +62,7 @@ impl Model for Index {
 impl Index {
     ghost use Rattle.index.specs.View.{Indexes};
 
-    /// The index of no change.
+    /// The index of an empty spool. It takes no memory.
     pub fn new(alloc: Global) -> Index
         ensures { Indexes [] result }
     {
@@ -76,7 +76,7 @@ impl Index {
         }
     }
 
-    /// How many changes there are.
+    /// The number of changes.
     pub fn len(&self) -> u64
         ensures { (S : Spool) → Indexes S self.now → result ≡ length S }
     {
@@ -111,7 +111,7 @@ impl Index {
         }
     }
 
-    /// The serial of the article that is in the group under this number; none in a group that isn't here.
+    /// The serial of the article that is in the group under this number; `None` if the group does not exist.
     pub fn by_number(&self, group: &[u8], number: u64) -> Option<u64>
         ensures { (host : Octets) (S : Spool) → IsLawful host S → Indexes S self.now → result ≡ option_map (λ a. a.serial) (by_number S group.now number) }
     {
@@ -121,14 +121,14 @@ impl Index {
         }
     }
 
-    /// The serial of the article with this message-id, also of one that was taken out of its groups.
+    /// The serial of the article with this message-id, even if it was removed from its groups.
     pub fn by_id(&self, wanted: &[u8]) -> Option<u64>
         ensures { (S : Spool) → Indexes S self.now → result ≡ option_map (λ a. a.serial) (by_id S wanted.now) }
     {
         self.ids.get(wanted)
     }
 
-    /// The serial of the expiry that took this number out of the group, 0 where none did.
+    /// The serial of the expiry that removed this number from the group, or 0 if none did.
     pub fn expired_at(&self, group: &[u8], number: u64) -> u64
         ensures { (host : Octets) (S : Spool) → IsLawful host S → Indexes S self.now → result ≡ expired_at S group.now number }
     {
@@ -138,7 +138,7 @@ impl Index {
         }
     }
 
-    /// Adds a group. An `Err` is out of memory and changes nothing.
+    /// Adds a group. Refused only for want of memory, and then nothing changes.
     pub fn push_group(
         &mut self,
         name: &[u8],
@@ -167,7 +167,8 @@ impl Index {
         Ok(())
     }
 
-    /// Adds an article, with the sizes of its overview lines in its groups. An `Err` is out of memory and changes nothing.
+    /// Adds an article, with the sizes of its overview lines in its groups. Refused only for want of memory, and then
+    /// nothing changes.
     pub fn push_article(
         &mut self,
         id: &[u8],
@@ -209,7 +210,7 @@ impl Index {
         Ok(())
     }
 
-    /// Adds an expiry of a group that is here. An `Err` is out of memory and changes nothing.
+    /// Adds an expiry of an existing group. Refused only for want of memory, and then nothing changes.
     pub fn push_expiry(&mut self, name: &[u8], number: u64) -> Result<(), AllocError>
         requires { number < 2 ^ 63 }
         ensures ok { OnOk result ((host : Octets) (S : Spool) → MayExpire S name.now number → Indexes S self.old

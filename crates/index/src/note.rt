@@ -1,4 +1,4 @@
-//! What is kept of a change.
+//! What the index keeps of a change.
 
 ghost use Rattle.std.specs.Prelude.{◌≡◌, option_map};
 
@@ -7,17 +7,17 @@ use model::{Names, Text};
 /// What is kept of a change, by its serial.
 #[derive(Drop)]
 pub enum Note {
-    /// A group was made. What is said of it is kept with the group.
+    /// A group was made. Its fields are kept with the group.
     Group,
     /// An article was filed. Its text stays in its file.
     Article {
-        /// the octets of its text
+        /// the number of octets in its text
         size: u64,
         groups: Names,
         /// seconds since 1970
         moment: u64,
     },
-    /// Articles were taken out of a group.
+    /// Articles were removed from a group.
     Expiry {
         group: Text,
         number: u64,
@@ -27,7 +27,7 @@ pub enum Note {
 impl Note {
     ghost use Rattle.index.specs.Notes.{groups_in, moment_in, size_in};
 
-    /// The octets of the text, of an article.
+    /// For an article, the number of octets in its text.
     pub fn size(&self) -> Option<u64>
         ensures { result ≡ size_in self.now }
     {
@@ -38,7 +38,7 @@ impl Note {
         }
     }
 
-    /// The groups that it was filed in, of an article.
+    /// For an article, the groups that it was filed in.
     pub fn groups(&self) -> Option<&[Text]>
         ensures { option_map (λ names. names.now) result ≡ groups_in self.now }
     {
@@ -49,7 +49,7 @@ impl Note {
         }
     }
 
-    /// When it was filed, of an article, in seconds since 1970.
+    /// For an article, when it was filed, in seconds since 1970.
     pub fn moment(&self) -> Option<u64>
         ensures { result ≡ moment_in self.now }
     {

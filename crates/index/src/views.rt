@@ -43,7 +43,7 @@ impl Index {
         }
     }
 
-    /// How many groups there are.
+    /// The number of groups.
     pub fn group_count(&self) -> usize
         ensures count { result ≡ length self.now.groups }
         ensures spool { (S : Spool) → Indexes S self.now → result ≡ length (groups S) }
@@ -51,7 +51,7 @@ impl Index {
         self.groups().len()
     }
 
-    /// The group with this place, from 0, in rising serial, as the commands see it.
+    /// The group at this place, from 0, in rising serial, as the commands see it.
     pub fn view_at(&self, place: usize) -> GroupView<'_>
         requires { place < length self.now.groups }
         ensures { (S : Spool) → Indexes S self.now → slice_get (all_known S) place ≡ Some (held.shown result) }

@@ -1,4 +1,4 @@
-//! An index, and calls of it whose conditions are tested as they are made.
+//! An index, and calls of it whose preconditions are checked as they are made.
 
 ghost use Rattle.std.specs.Prelude.{◌^◌, map};
 ghost use Rattle.std.specs.Bool.{OnTrue};
@@ -13,30 +13,31 @@ use std::alloc::{AllocError, Global};
 /// When all groups and articles of the rows were made.
 const MOMENT: u64 = 1_000_000_000;
 
-/// An overview that has as many octets takes no further line.
+/// An overview with this many octets takes no further line.
 const OVERVIEW_LIMIT: u64 = 1 << 32;
 
-/// A call, and what it is about. Names and ids are texts.
+/// A call with its arguments. Names and ids are texts.
 #[derive(Clone, Copy)]
 pub enum Call {
-    /// Makes a group, and answers how many changes there are.
+    /// Makes a group, and answers the number of changes.
     Make(&'static str),
-    /// Files an article with this id, this size, these groups and the sizes of its lines there, and answers how many changes there are.
+    /// Files an article with this id, this size, these groups and the sizes of its lines there, and answers the number
+    /// of changes.
     File(&'static str, u64, &'static [&'static str], &'static [u64]),
-    /// Files an article with this id and this moment in the group `x.a`, and answers how many changes there are.
+    /// Files an article with this id and this moment in the group `x.a`, and answers the number of changes.
     FileAt(&'static str, u64),
-    /// Takes the articles up to a number out of a group, and answers how many changes there are.
+    /// Removes the articles up to a number from a group, and answers the number of changes.
     Expire(&'static str, u64),
     Len,
     /// The kind of a change: 0 a group, 1 an article, 2 an expiry.
     Kind(u64),
     Size(u64),
     Moment(u64),
-    /// How many groups an article was filed in.
+    /// The number of groups that an article was filed in.
     Groups(u64),
     GroupCount,
     Place(&'static str),
-    /// The serial of the group with a place.
+    /// The serial of the group at a place.
     At(usize),
     Serial(&'static str),
     Status(&'static str),
@@ -55,13 +56,13 @@ pub enum Call {
     IsIn(&'static str, u64),
     TakenAt(&'static str, u64),
     GoneAt(u64),
-    /// Whether an article is in a group whose name the wildmat takes.
+    /// Whether an article is in a group whose name the wildmat matches.
     IsInOne(u64, &'static str),
-    /// How many changes in front are older than a moment.
+    /// The number of changes at the start that are older than a moment.
     OlderThan(i64),
 }
 
-/// Makes a call, and answers what it finds: none where there is nothing, or where what the call asks for doesn't hold.
+/// Makes a call, and answers what it finds. `None` if it finds nothing, or if the call's preconditions do not hold.
 pub fn answer(alloc: Global, index: &mut Index, call: Call) -> Result<Option<u64>, AllocError> {
     match call {
         Call::Make(name) => make(index, name.as_bytes()),
@@ -105,7 +106,7 @@ fn file(
     Ok(Some(index.len()))
 }
 
-// Whether each overview is small enough for another article, as filing one requires.
+// Whether each overview is small enough for another article, as the filing of one requires.
 fn overviews_fit(groups: &[Group]) -> bool
     ensures { OnTrue result (EndBelow (2 ^ 32) (map shown groups.now)) }
 {

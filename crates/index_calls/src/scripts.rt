@@ -5,7 +5,7 @@ use index::Index;
 use std::alloc::{AllocError, Global};
 use std::test::Fail;
 
-/// Calls of a new index, and what each is to answer.
+/// Calls of a new index, and the expected answer to each.
 type Script = &'static [(Call, Option<u64>)];
 
 /// The scripts, by what they show.
@@ -215,7 +215,7 @@ const SCRIPTS: &[(&str, Script)] = &[
     ),
 ];
 
-/// Plays a script, and answers the number of the first call whose answer is another.
+/// Plays a script, and answers the number of the first call with another answer.
 fn first_wrong(alloc: Global, script: Script) -> Result<Option<usize>, AllocError> {
     let mut index = Index::new(alloc);
     for (number, (call, want)) in script.iter().enumerate() {

@@ -20,8 +20,8 @@ pub data Call : Type 0 where
   Write : ℕ → List ℕ → Call
   Sync : Call
 
--- The call that comes next: among so many segments, by those that are open once the batch is committed, the place of its
--- segment, its descriptor block and its images. At `Idle` there is none.
+-- The next call. It depends on the number of segments, on those that are open once the batch is committed, on the place
+-- of its segment, and on its descriptor block and images. At `Idle` there is none.
 abbrev pub call_at : Next → ℕ → List Held → ℕ → List ℕ → List (List ℕ) → Call
 call_at Descriptor segments held place descriptor images = Write (4096 * descriptor_place place) descriptor
 call_at (Image i) segments held place descriptor images = Write (4096 * image_place place i) (slice_index_or images i [])
@@ -53,14 +53,14 @@ abbrev pub Does : {T E : Type 0} → Call → Result T E → Device → Device �
 Does (Write at octets) result old new = Writes at octets result old new
 Does Sync result old new = Syncs result old new
 
--- and by a device that may refuse it for want of memory
+-- the call was asked once, of a device that may refuse it for want of memory
 pub record IsAsked {T : Type 0} (call : Call) (result : Result T DiskError) (old new : Device) : Type 0 where
   pub does : OnAsked result (Does call result old new)
   pub time : Elapses old new
   pub cause : HasCause result old new
   pub refused : OnRefused result old new
 
--- what a good call leaves of the logical blocks: the sync that commits lays the batch over
+-- the logical blocks after a good call: the sync that commits lays the batch over
 abbrev pub blocks_after : {D : Type 0} → JournalView D → Progress → List (List ℕ)
 blocks_after journal (Committed last) = with_batch journal
 blocks_after journal progress = journal.blocks
@@ -73,7 +73,7 @@ pub record MakesCall {D : Type 0} (device : D → Device) (old new : JournalView
   pub same : IsSameBatch old new
   pub answers : IfOk result (λ progress. progress ≡ answer old.last (sizes old) old.next)
   pub next : OnOk result ((new.next ≡ following (length old.numbers) (sizes old) old.next) × (new.halted ≡ false))
-  -- of all calls of the batch one more was made
+  -- one more of the batch's calls was made
   pub counts : OnOk result ((calls new ≡ calls old + 1) × (calls new ≤ all_calls (length old.numbers) (sizes old)))
   pub no_other : IfErr result (λ error. error ≡ Fault)
   pub halts : IfErr result (λ error. error ≡ Fault → (new.halted ≡ true) × (new.next ≡ at_fault (length old.numbers) (sizes old) old.next))
@@ -82,7 +82,7 @@ pub record MakesCall {D : Type 0} (device : D → Device) (old new : JournalView
   pub now : LeavesAdmitted device new
   pub since : LeftAdmitted device old new
 
--- a call that the device refused for want of memory: it wasn't made, and is the next one still
+-- a call that the device refused for want of memory: it was not made, and is still the next one
 pub record IsRetried {D : Type 0} (device : D → Device) (old new : JournalView D) : Type 0 where
   pub refused : IsRefused (device old.disk) (device new.disk)
   pub same : IsSameBatch old new

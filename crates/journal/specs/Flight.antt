@@ -9,8 +9,8 @@ none_held = record { place = 0; batch = record { number = 0; last = 0; numbers =
 abbrev pub held_at : List Held → ℕ → Held
 held_at held j = slice_index_or held j none_held
 
--- what stays as it is during the calls of a batch: how many segments the volume has, those that were open before in rising
--- number, the one that the batch is written into, and whether no closed one is left besides
+-- what stays as it is during the calls of a batch: the number of segments of the volume; the segments that were open
+-- before, in rising number; the segment that the batch is written into; and whether no other closed segment is left
 pub record Flight : Type 0 where
   pub segments : ℕ
   pub held : List Held
@@ -21,17 +21,18 @@ pub record Flight : Type 0 where
 abbrev pub all_of : Flight → List Held
 all_of flight = flight.held ++ held_as flight.batch ∷ []
 
--- those that are open once it has ended: where no closed one was left, all were carried home
+-- the segments that are open once the batch has ended: none if no other closed one was left, since all were carried
+-- home
 abbrev pub left_of : Flight → List Held
 left_of flight = if flight.is_last then [] else all_of flight
 
--- how many images each of those has that are to be carried home: none where a closed one is left
+-- the number of images of each segment that is to be carried home; empty if another closed segment is left
 abbrev pub counts_of : List Held → List ℕ
 counts_of held = map (λ h. length h.batch.numbers) held
 
 abbrev pub sizes_of : Flight → List ℕ
 sizes_of flight = if flight.is_last then counts_of (all_of flight) else []
 
--- the batch in the segment with this index, where those before it are open
+-- the batch in the segment with this index, while the segments before it are open
 abbrev pub flight_in : List Staged → ℕ → Bool → Flight
 flight_in room filled is_last = record { segments = length room; held = map held_as (take filled room); batch = staged_at room filled; is_last = is_last }

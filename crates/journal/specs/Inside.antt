@@ -11,7 +11,7 @@ use Rattle.journal.specs.Flight.{Flight, all_of, flight_in, held_at, left_of, si
 use Rattle.journal.specs.declared.Next.{Next}
 use Rattle.journal.specs.declared.Next.TheVariants.{Idle, Descriptor, Image, Seal, OpenGate, Commit, Home, Settle, CloseGate, Finish}
 
--- the logical blocks of an image, without the batch in that segment whose commit is being asked
+-- the logical blocks of an image, without the batch in that segment while its commit is being asked
 abbrev pub blocks_without : ℕ → Next → List ℕ → List (List ℕ)
 blocks_without place Commit image = logical_blocks (gate_closed place image)
 blocks_without place next image = logical_blocks image
@@ -51,7 +51,7 @@ Touched flight Settle k = IsHomeOfHeld flight.segments (all_of flight) k
 Touched flight (Finish j) k = k ≡ gate_place (held_at (all_of flight) j).place
 Touched flight next k = ⊥
 
--- what comes next is one of the n images, or of those that are carried home
+-- the next call is for one of the n images, or for one of those that are carried home
 abbrev pub IsWithin : ℕ → List ℕ → Next → Type 0
 IsWithin n sizes (Image i) = i < n
 IsWithin n sizes (Home j i) = (j < length sizes) × (i < slice_index sizes j)
@@ -60,7 +60,7 @@ IsWithin n sizes (CloseGate j) = j < length sizes
 IsWithin n sizes (Finish j) = j < length sizes
 IsWithin n sizes next = Unit {0}
 
--- the batch is still to be committed, or it lies in an open segment, to be carried home with a later one
+-- the batch is still to be committed, or it is in an open segment and a later batch will carry it home
 abbrev pub IsOrdered : Bool → Next → Type 0
 IsOrdered is_last Idle = is_last ≡ false
 IsOrdered is_last Descriptor = Unit {0}
@@ -85,8 +85,8 @@ pub record IsTold (device : Device) (blocks : ℕ) (its_label : List ℕ) (next 
   pub holds : halted ≡ false → Holds flight next device.content
   pub same : halted ≡ false → (c : List ℕ) → device.may_leave c → SameBut (Touched flight next) device.content c
 
--- What the journal keeps. Of its segments in memory the one with the index `filled` is that of the batch in flight, and
--- those before it are the open ones.
+-- What the journal keeps. Among its segments in memory, the one with the index `filled` belongs to the batch in flight,
+-- and those before it are the open ones.
 pub record IsKept (device : Device) (blocks : ℕ) (superblock : List ℕ) (next : Next) (halted : Bool) (room : List Staged) (filled : ℕ) (is_last : Bool) : Type 0 where
   pub size : device.size ≡ 4096 * home_place (length room) blocks
   pub low : 1024 ≤ blocks
@@ -101,12 +101,12 @@ pub record IsKept (device : Device) (blocks : ℕ) (superblock : List ℕ) (next
   pub staged : IsLive is_last next → (t : ℕ) → t ≤ filled → IsStaged blocks (staged_at room t)
   -- until all are carried home the open segments are the first ones, with the batch numbers from 1 on
   pub order : IsOrdered is_last next → (t : ℕ) → t ≤ filled → ((staged_at room t).place ≡ t) × (number_at 0 8 (staged_at room t).descriptor ≡ t + 1)
-  -- a descriptor that is still to be written has zeros behind its numbers
+  -- a descriptor that is still to be written has zeros after its numbers
   pub described : next ≡ Descriptor
       → (staged_at room filled).descriptor ≡ descriptor_of (number_at 0 8 (staged_at room filled).descriptor) (number_at 8 8 (staged_at room filled).descriptor) (staged_at room filled).numbers
   pub told : IsTrue device.tells → IsTold device blocks (part 20 128 superblock) next halted (flight_in room filled is_last)
 
--- or a good sync alone was asked
+-- or only a good sync was asked
 pub record IsSynced (old new : Device) : Type 0 where
   pub content : IsTrue old.tells → new.content ≡ old.content
   pub failures : new.failures ≡ old.failures

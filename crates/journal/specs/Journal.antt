@@ -1,4 +1,4 @@
--- The journal as those who use it see it, and what a crash leaves of it.
+-- The journal as its callers see it, and what a crash leaves of it.
 use Rattle.std.specs.Prelude.{◌≡◌, ◌≢◌, ◌⊎◌, ℕ, ◌+◌, ◌≤◌, ◌==◌, Bool, false, if◌then◌else◌, IsTrue, List, [], ◌∷◌, ◌++◌, length, Result, OnOk, IfErr}
 use Rattle.std.specs.List.{All}
 use Rattle.disk.specs.Device.{Device}
@@ -16,12 +16,12 @@ use Rattle.journal.specs.declared.Next.TheVariants.{Descriptor, Idle}
 pub record JournalView (D : Type 0) : Type 0 where
   pub disk : D
   pub label : List ℕ
-  -- how many logical blocks there are, and how many segments
+  -- the number of logical blocks, and the number of segments
   pub size : ℕ
   pub segments : ℕ
   -- the logical blocks, without the batch in flight until it is committed
   pub blocks : List (List ℕ)
-  -- the device call that comes next
+  -- the next device call
   pub next : Next
   -- a device call has failed
   pub halted : Bool
@@ -33,7 +33,7 @@ pub record JournalView (D : Type 0) : Type 0 where
   pub last : ℕ
   pub numbers : List ℕ
   pub images : List (List ℕ)
-  -- whether no closed segment is left besides
+  -- whether no other closed segment is left
   pub is_last : Bool
 
 -- no batch is in flight, and a batch may begin
@@ -51,12 +51,13 @@ all_held journal = journal.held ++ record { place = journal.place; batch = recor
 abbrev pub still_open : {D : Type 0} → JournalView D → List Held
 still_open journal = if journal.is_last then [] else all_held journal
 
--- how many images of each open segment are to be carried home after the commit: none where a closed one is left
+-- the number of images of each open segment that are carried home after the commit; empty if another closed segment is
+-- left
 abbrev pub sizes : {D : Type 0} → JournalView D → List ℕ
 sizes journal = if journal.is_last then counts_of (all_held journal) else []
 
--- A journal that takes a batch, into the lowest closed segment. Those that are open are the first ones, and have the
--- batch numbers from 1 on.
+-- A journal that takes a batch into the lowest closed segment. The open segments are the first ones, and have the batch
+-- numbers from 1 on.
 abbrev pub begins : {D : Type 0} → JournalView D → ℕ → List ℕ → List (List ℕ) → JournalView D
 begins journal last numbers images = record journal {
   next = Descriptor;
@@ -69,7 +70,7 @@ begins journal last numbers images = record journal {
   is_last = length (still_open journal) + 1 == journal.segments;
 }
 
--- how many device calls of the batch in flight were made
+-- the number of device calls of the batch in flight that were made
 abbrev pub calls : {D : Type 0} → JournalView D → ℕ
 calls journal = calls_made (length journal.numbers) (sizes journal) journal.next
 
@@ -77,8 +78,8 @@ calls journal = calls_made (length journal.numbers) (sizes journal) journal.next
 abbrev pub with_batch : {D : Type 0} → JournalView D → List (List ℕ)
 with_batch journal = laid_over journal.blocks journal.numbers journal.images
 
--- an image that a crash may leave: it stands for the blocks or, once the gate's opening was asked and
--- until it is committed, for those with the batch
+-- an image that a crash may leave. It stands for the blocks or, from the moment the gate's opening is asked until the
+-- batch is committed, for the blocks with the batch
 abbrev pub Admits : {D : Type 0} → JournalView D → List ℕ → Type 0
 Admits journal image = IsAdmitted journal.next journal.label journal.blocks (with_batch journal) image
 
@@ -92,7 +93,7 @@ LeftAdmitted device old new =
     IsTrue (device old.disk).tells → (t : ℕ) (c : List ℕ) → t ≤ (device old.disk).clock → (device new.disk).left_since t c
     → (device old.disk).left_since t c ⊎ Admits new c
 
--- the logical blocks of a device that tells are as many as the journal says, of 4,096 octets each
+-- the logical blocks of a device that tells its octets are as many as the journal says, of 4,096 octets each
 pub record AreWhole (size : ℕ) (blocks : List (List ℕ)) : Type 0 where
   pub count : length blocks ≡ size
   pub whole : All (λ block. length block ≡ 4096) blocks

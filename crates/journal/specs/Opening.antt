@@ -16,7 +16,7 @@ abbrev pub LeftKept : Device → Device → Type 0
 LeftKept old new =
     IsTrue old.tells → (t : ℕ) (c : List ℕ) → t ≤ old.clock → new.left_since t c → old.left_since t c ⊎ AreSameVolume old.content c
 
--- a journal that was opened over what stood there
+-- a journal opened over the volume on the device
 pub record Opens {D : Type 0} (device : D → Device) (first : D) (journal : JournalView D) : Type 0 where
   pub ready : IsReady journal
   pub stands : IsTrue (device first).tells → StandsFor (device first).content journal.label journal.blocks
@@ -26,7 +26,7 @@ pub record Opens {D : Type 0} (device : D → Device) (first : D) (journal : Jou
   pub time : Elapses (device first) (device journal.disk)
   pub failures : (device journal.disk).failures ≡ (device first).failures
 
--- a refused opening doesn't give up by itself, and hands the device back
+-- a refused opening has a cause in the device or its content, and returns the device
 pub record Refuses {D : Type 0} (device : D → Device) (first last : D) (error : JournalError) : Type 0 where
   pub since : LeftKept (device first) (device last)
   pub time : Elapses (device first) (device last)
@@ -35,8 +35,8 @@ pub record Refuses {D : Type 0} (device : D → Device) (first last : D) (error 
   pub memory : error ≡ Memory → (device last).failures ≡ (device first).failures
   pub not_halted : error ≢ Halted
 
--- The first good sync comes before every write. Until it a crash leaves what it might have left at the start,
--- at that moment it leaves what a read gives, and from then on the same volume as that.
+-- The first good sync comes before every write. Until that sync a crash leaves what it might have left at the start. At
+-- that moment it leaves what a read gives, and from then on the same volume as that.
 pub record SyncsFirst {D : Type 0} (device : D → Device) (first last : D) : Type 0 where
   pub synced : D
   pub no_write : (device synced).writes ≡ (device first).writes
@@ -66,7 +66,7 @@ abbrev pub home_syncs : List ℕ → ℕ
 home_syncs [] = 0
 home_syncs (s ∷ segments) = 2 + length segments
 
--- the writes and syncs that were asked since a device had that content, with so many syncs first
+-- the writes and syncs asked since a device had that content, with this many syncs first
 pub record Costs (first : ℕ) (content : List ℕ) (old new : Device) : Type 0 where
   pub writes : IsMore (home_writes content (open_segments content)) old.writes new.writes
   pub syncs : IsMore (first + home_syncs (open_segments content)) old.syncs new.syncs

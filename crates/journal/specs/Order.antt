@@ -1,7 +1,7 @@
--- The order of the device calls of a batch: descriptor, n images, sync, gate 1, and the sync that commits. Where a closed
--- segment is left the batch has ended. Else each open segment is carried home: its home blocks, segment after segment in
--- rising number, one sync, and then gate 0 and a sync for each. `sizes` is how many images each of these has, and
--- is empty where a closed segment is left.
+-- The order of the device calls of a batch: descriptor, n images, sync, gate 1, and the sync that commits. If another
+-- closed segment is left, the batch has ended. Otherwise each open segment is carried home: its home blocks, segment
+-- after segment in rising number, one sync, and then gate 0 and a sync for each. `sizes` is the number of images of
+-- each of these segments, and is empty if another closed segment is left.
 use Rattle.std.specs.Prelude.{◌==◌, ℕ, ◌+◌, ◌*◌, Bool, true, false, if◌then◌else◌, List, length, slice_index, sum, take}
 use Rattle.journal.specs.declared.Progress.{Progress}
 use Rattle.journal.specs.declared.Progress.TheVariants.{Working, Committed, Idle as Ended}
@@ -21,7 +21,7 @@ following n sizes Settle = CloseGate 0
 following n sizes (CloseGate j) = Finish j
 following n sizes (Finish j) = if j + 1 == length sizes then Idle else CloseGate (j + 1)
 
--- whether the next call is a sync; each other one is a write
+-- whether the next call is a sync; any other one is a write
 abbrev pub is_sync : Next → Bool
 is_sync Seal = true
 is_sync Commit = true
@@ -29,11 +29,11 @@ is_sync Settle = true
 is_sync (Finish j) = true
 is_sync next = false
 
--- where a fault leaves the batch: what a failed write was to put there may be there, a failed sync did nothing
+-- the next call after a fault: what a failed write should have put there may be there, a failed sync did nothing
 abbrev pub at_fault : ℕ → List ℕ → Next → Next
 at_fault n sizes next = if is_sync next then next else following n sizes next
 
--- whether the batch whose call this is still has to be committed
+-- whether the batch that makes this call is still to be committed
 abbrev pub is_to_commit : Next → Bool
 is_to_commit Descriptor = true
 is_to_commit (Image i) = true
@@ -42,7 +42,7 @@ is_to_commit OpenGate = true
 is_to_commit Commit = true
 is_to_commit next = false
 
--- how many calls a batch has
+-- the number of calls of a batch
 abbrev pub all_calls : ℕ → List ℕ → ℕ
 all_calls n sizes = if length sizes == 0 then n + 4 else n + 5 + sum sizes + 2 * length sizes
 
@@ -59,7 +59,7 @@ calls_made n sizes Settle = n + 4 + sum sizes
 calls_made n sizes (CloseGate j) = n + 5 + sum sizes + 2 * j
 calls_made n sizes (Finish j) = n + 6 + sum sizes + 2 * j
 
--- how many of these were writes, and how many syncs
+-- the numbers of writes and of syncs among these
 abbrev pub writes_made : ℕ → List ℕ → Next → ℕ
 writes_made n sizes Idle = n + 2 + sum sizes + length sizes
 writes_made n sizes Descriptor = 0

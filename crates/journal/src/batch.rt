@@ -1,4 +1,4 @@
-//! A batch goes into memory: its descriptor block, its numbers and its images.
+//! Takes a batch into memory: its descriptor block, its numbers and its images.
 
 ghost use Rattle.std.specs.Prelude.{◌≡◌, ◌≢◌, ◌≤◌, ◌<◌, ◌+◌, ◌*◌, ◌==◌, if◌then◌else◌, ℕ, length, false};
 ghost use Rattle.std.specs.List.{All};
@@ -15,11 +15,11 @@ impl<D: Disk> Journal<D> {
     ghost use Rattle.journal.specs.Journal.{IsIdle, LeavesAdmitted, still_open};
 
     /// Takes a batch into the room that `open` made: images of the logical blocks with these numbers, in this order.
-    /// Each later `step` makes one device call for it. `last` is what the step that commits will answer. There are 1 to 512
-    /// distinct numbers, and 4,096 octets for each image. It takes no memory and makes no device call.
+    /// Each later `step` makes one device call for it. `last` is what the step that commits will answer. A batch has 1
+    /// to 512 distinct numbers, and 4,096 octets for each image. The call takes no memory and makes no device call.
     ///
-    /// The batch is for the lowest closed segment, and its number is one more than the greatest of an open one, or 1: those
-    /// that are open are always the first ones, with the numbers from 1 on.
+    /// The batch goes into the lowest closed segment. Its number is one more than the greatest of an open segment; it is
+    /// 1 if none is open. The open segments are always the first ones, with the numbers from 1 on.
     pub fn begin(&mut self, last: u64, numbers: &[u32], images: &[u8])
         requires running { self.old.halted ≡ false }
         requires idle { IsIdle self.old }
@@ -56,8 +56,8 @@ impl<D: Disk> Journal<D> {
     }
 }
 
-// How many segments are open where no batch is in flight, which is the index of the lowest closed one: none after a checkpoint, else
-// those up to the one that was filled.
+// The number of segments that are open while no batch is in flight, which is the index of the lowest closed one. After
+// a checkpoint it is 0; otherwise it counts the segments up to the one that was filled.
 pub(crate) fn lowest_closed(was_last: bool, filled: usize) -> usize
     requires { filled < 8 }
     ensures { result ≡ (if was_last then 0 else filled + 1) }
@@ -72,7 +72,8 @@ fn is_last_of(room: &Vec<Segment>, filled: usize) -> bool
     filled + 1 == room.len()
 }
 
-// Puts a batch into the segment with this index: that is its place, and its number is one more.
+// Puts a batch into the segment with this index, which becomes its place. The batch's number is one more than the
+// index.
 fn fill(room: &mut Vec<Segment>, at: usize, last: u64, numbers: &[u32], images: &[u8])
     requires there { at < length room.old.items }
     requires low { at < 8 }

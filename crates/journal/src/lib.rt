@@ -1,5 +1,5 @@
-//! A journal on a block device: a batch of block images becomes durable as a whole or not at all.
-//! `specs/Journal.antt` says what a journal is to those who use it, `specs/Calls.antt` what each step does.
+//! A journal on a block device: a batch of block images becomes durable as a whole or not at all. `specs/Journal.antt`
+//! says what a journal is to its callers, `specs/Calls.antt` what each step does.
 #![tactic(auto)]
 
 mod batch;
@@ -17,7 +17,7 @@ use thiserror::Error;
 use volume_format::layout::{LABEL_AT, SUPERBLOCK_USED, home_block, start_of};
 pub use volume_format::{FormatError, format, format_with};
 
-/// The device call that comes next.
+/// The next device call.
 #[derive(Clone, Copy, Debug, PartialEq, Eq)]
 pub enum Next {
     /// None: no batch is in flight.
@@ -27,7 +27,7 @@ pub enum Next {
     /// The sync after descriptor and images.
     Seal,
     OpenGate,
-    /// The sync that commits. Where a closed segment is left, the batch ends with it.
+    /// The sync that commits. If a closed segment is left, the batch ends with it.
     Commit,
     /// An image of one of the open segments, which are counted from 0 in rising batch number.
     Home(usize, usize),
@@ -35,7 +35,7 @@ pub enum Next {
     Settle,
     /// The gate of one of the open segments.
     CloseGate(usize),
-    /// The sync after it. The last one ends the batch.
+    /// The sync after that gate. The last one ends the batch.
     Finish(usize),
 }
 
@@ -43,7 +43,7 @@ pub enum Next {
 #[derive(Clone, Copy, Debug, PartialEq, Eq)]
 pub enum Progress {
     Working,
-    /// The batch is durable. This is the last serial that its `begin` was given.
+    /// The batch is durable. The value is the last serial that its `begin` was given.
     Committed(u64),
     /// No batch is in flight.
     Idle,
@@ -52,13 +52,14 @@ pub enum Progress {
 /// Why the journal refused a call.
 #[derive(Clone, Copy, Debug, PartialEq, Eq, Error)]
 pub enum JournalError {
-    /// The device failed in this call. A journal is halted by it for good.
+    /// The device failed in this call. This halts the journal for good.
     #[error("E1 Fault")]
     Fault,
     /// A growth was refused in this call, and nothing changed.
     #[error("E2 Memory")]
     Memory,
-    /// The length, the superblock or an open segment's descriptor isn't valid.
+    /// The length, the superblock or an open segment's descriptor is not valid, or two open segments share a batch
+    /// number.
     #[error("E3 NotAVolume")]
     NotAVolume,
     /// An earlier fault of the device has halted the journal.
@@ -86,11 +87,11 @@ pub struct Journal<D: Disk> {
     blocks: u64,
     next: Next,
     halted: bool,
-    // one for each of the volume's; those that are open come first, in rising batch number
+    // one for each segment of the volume; the open ones come first, in rising batch number
     room: Vec<Segment>,
-    // the index of the one that the batch in flight is written into
+    // the index of the segment that the batch in flight is written into
     filled: usize,
-    // whether no closed one is left besides
+    // whether no other closed segment is left
     is_last: bool,
 }
 
@@ -124,7 +125,7 @@ impl<D: Disk> Model for Journal<D> {
     ghost invariant = { λ j. IsKept (D.device j.disk) j.blocks j.superblock.items j.next j.halted j.room.items j.filled j.is_last };
 }
 
-/// A refused opening, with the device as it was left.
+/// A refused opening, with the device as the opening left it.
 #[derive(Drop)]
 pub struct Refused<D> {
     pub disk: D,
@@ -145,7 +146,7 @@ impl<D: Disk> Journal<D> {
         &self.superblock[LABEL_AT..SUPERBLOCK_USED]
     }
 
-    /// How many logical blocks there are, 1,024 to 65,536.
+    /// The number of logical blocks, 1,024 to 65,536.
     pub fn blocks(&self) -> u64
         ensures size { result ≡ self.now.size }
         ensures low { 1024 ≤ result }
@@ -155,7 +156,8 @@ impl<D: Disk> Journal<D> {
         self.blocks
     }
 
-    /// Whether a batch may begin. It also tells what the journal keeps.
+    /// Whether a batch may begin: none is in flight and the journal is not halted. Its clauses also state what the
+    /// journal keeps.
     pub fn is_idle(&self) -> bool
         ensures idle { IsTrue result ↔ IsReady self.now }
         ensures now { LeavesAdmitted D.device self.now }
@@ -166,9 +168,9 @@ impl<D: Disk> Journal<D> {
         !self.halted && stepping::is_idle(self.next)
     }
 
-    /// Reads a logical block of 4,096 octets while no batch is in flight, by one read of the device.
+    /// Reads a logical block of 4,096 octets while no batch is in flight, with one read of the device.
     ///
-    /// A fault leaves the room with any octets and halts the journal for good.
+    /// The only refusal is `Fault`, which leaves any octets in `into` and halts the journal for good.
     pub fn load(&mut self, block: u64, into: &mut [u8]) -> Result<(), JournalError>
         requires idle { IsIdle self.old }
         requires running { self.old.halted ≡ false }
@@ -216,8 +218,8 @@ impl<D: Disk> Journal<D> {
 impl<D: Faults> Journal<D> {
     ghost use Rattle.disk.specs.Device.{IsUnchanged};
 
-    /// The n-th call of the device from now on, counted from 1, answers `Fault`; 0 takes an earlier plan back.
-    /// All else stays as it was.
+    /// Makes the n-th call of the device from now on, counted from 1, answer `Fault`; 0 cancels an earlier plan. All
+    /// else stays as it was.
     pub fn fail_at(&mut self, n: u64)
         ensures view { self.new ≡ record self.old { disk = self.new.disk } }
         ensures device { IsUnchanged (D.device self.old.disk) (D.device self.new.disk) }
@@ -226,7 +228,7 @@ impl<D: Faults> Journal<D> {
         self.disk.fail_at(n);
     }
 
-    /// The n-th call of that kind of the device from now on fails likewise.
+    /// Does the same for the n-th call of that kind.
     pub fn fail_kind(&mut self, kind: DiskCall, n: u64)
         ensures view { self.new ≡ record self.old { disk = self.new.disk } }
         ensures device { IsUnchanged (D.device self.old.disk) (D.device self.new.disk) }

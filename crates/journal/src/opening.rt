@@ -1,4 +1,4 @@
-//! Opening what stands on a device.
+//! Opens the volume on a device.
 
 ghost use Rattle.std.specs.Prelude.{MatchResult, ◌≤◌, ◌⊎◌, OnOk, IfOk, IfErr, IsTrue, ◌≡◌, ◌+◌, ◌<◌, [], true, false, length, slice_index, sum};
 ghost use Rattle.disk.specs.Device.{Elapses, LeavesOnly};
@@ -18,15 +18,15 @@ use volume_format::layout::{BLOCK, SEGMENTS};
 use volume_format::zeros;
 
 impl<D: Disk> Journal<D> {
-    /// Opens what stands on the device: one sync, then the reads; the images of the open segments are carried home in rising batch
-    /// number and their gates are closed, as in the second half of a batch. All the room that the journal needs is taken here, before
-    /// the first call.
+    /// Opens the volume on the device: one sync, then the reads. The images of the open segments are carried home in
+    /// rising batch number and their gates are closed, as in the second half of a batch. All the memory that the
+    /// journal needs is taken here, before the first call.
     ///
-    /// Answers `Fault` where the device failed in this call, `Memory` where the room or a growth of the device was refused,
-    /// and `NotAVolume` where the length, the superblock or an open segment's descriptor isn't valid, or two open segments have one
-    /// batch number. The device
-    /// comes back with each refusal and may be opened again as it is. A crash at any moment leaves the logical blocks of an
-    /// image that a crash at the start might have left; from the first sync on they are those that a read gives.
+    /// `Fault` if the device failed in this call; `Memory` if this memory or a growth of the device was refused.
+    /// `NotAVolume` if the length, the superblock or an open segment's descriptor is not valid, or two open segments
+    /// share a batch number. Each refusal returns the device, which may be opened again as it is. A crash at any moment
+    /// leaves the logical blocks of an image that a crash at the start might have left. From the first good sync on
+    /// they are those that a read gives.
     pub fn open(alloc: Global, disk: D) -> Result<Journal<D>, Refused<D>>
         ensures ok { IfOk result (Opens D.device disk) }
         ensures err { IfErr result (λ refused. Refuses D.device disk refused.disk refused.error) }
@@ -76,7 +76,7 @@ fn room_for_all(alloc: Global) -> Result<Vec<Segment>, AllocError>
     Ok(room)
 }
 
-// Leaves the room of the first n.
+// Truncates the room to the first n.
 fn leave_first(room: &mut Vec<Segment>, n: usize)
     requires some { 0 < n }
     requires few { n ≤ length room.old.items }
@@ -99,7 +99,7 @@ fn open_in<D: Disk>(room: Room, mut disk: D) -> Result<Journal<D>, Refused<D>>
     }
 }
 
-// Opens what stands on a device that was synced.
+// Opens the volume on a device that was synced.
 fn open_synced<D: Disk>(room: Room, mut disk: D) -> Result<Journal<D>, Refused<D>>
     requires { IsTrue (D.device disk).tells → LeavesOnly (D.device disk) (D.device disk).content }
     ensures cost { IsTrue (D.device disk).tells → IfOk result (λ journal. Costs 0 (D.device disk).content (D.device disk) (D.device journal.disk)) }
@@ -138,7 +138,7 @@ fn replay<D: Disk>(mut journal: Journal<D>) -> Result<Journal<D>, Refused<D>>
     }
 }
 
-// A journal whose segments are closed.
+// A journal whose segments are all closed.
 fn at_rest<D: Disk>(disk: D, superblock: Vec<u8>, blocks: u64, room: Vec<Segment>) -> Journal<D>
     requires found { IsFound (D.device disk) superblock.items blocks room.items 0 }
     ensures disk { result.disk ≡ disk }
@@ -161,7 +161,7 @@ fn at_rest<D: Disk>(disk: D, superblock: Vec<u8>, blocks: u64, room: Vec<Segment
     }
 }
 
-// A journal over open segments: their images are to be carried home.
+// A journal with open segments, whose images are still to be carried home.
 fn to_be_replayed<D: Disk>(
     disk: D,
     superblock: Vec<u8>,
@@ -193,7 +193,7 @@ fn to_be_replayed<D: Disk>(
     }
 }
 
-// Reads what is to be known of the volume: how many logical blocks it has, and how many segments are open.
+// Reads the number of logical blocks and the open segments of the volume.
 fn load<D: Disk>(
     disk: &mut D,
     superblock: &mut Vec<u8>,

@@ -1,4 +1,4 @@
-//! One device call after another.
+//! Makes the device calls of a batch, one per step.
 
 ghost use Rattle.std.specs.Prelude.{◌≡◌, ◌≢◌, ◌≤◌, ◌<◌, ◌+◌, ◌*◌, ◌⊎◌, ◌==◌, ◌^◌, ℕ, List, length, [], ◌∷◌, slice_index, slice_index_or, sum, true, false, OnOk, IfErr, IsTrue, if◌then◌else◌};
 ghost use Rattle.model.specs.Volume.{descriptor_place, gate_place, home_place, image_place};
@@ -20,10 +20,10 @@ impl<D: Disk> Journal<D> {
     ghost use Rattle.journal.specs.Journal.{IsCaused, IsDuring, IsIdle, LeavesAdmitted, LeftAdmitted, sizes};
     ghost use Rattle.journal.specs.Calls.{IsRetried, MakesCall, OnMade, OnRetried};
 
-    /// Makes the next device call of the batch in flight, and no other. None is made when idle or halted.
+    /// Makes the next device call of the batch in flight, and no other. An idle or halted journal makes none.
     ///
-    /// A fault of the device halts the journal: it answers `Fault` then, and `Halted` from then on. A call that the device
-    /// refuses for want of memory isn't made: the answer is `Memory`, and the next step is that call again.
+    /// A fault of the device halts the journal: this step answers `Fault`, and each later one `Halted`. A call that the
+    /// device refuses for want of memory is not made: the answer is `Memory`, and the next step asks that call again.
     pub fn step(&mut self) -> Result<Progress, JournalError>
         ensures halted { self.old.halted ≡ true → (result ≡ Err JournalError.Halted) × (self.new ≡ self.old) }
         ensures idle { self.old.halted ≡ false → IsIdle self.old → (result ≡ Ok Progress.Idle) × (self.new ≡ self.old) }
@@ -76,9 +76,9 @@ impl<D: Disk> Journal<D> {
     }
 }
 
-/// Where the calls of a batch of n images stand: each is the next one, and the sync that commits is call n + 4. Where a closed
-/// segment is left that one ends the batch, after n + 2 writes and 2 syncs. Else, where the open segments have so many images
-/// to be carried home, it ends at call n + 5 with one more for each image and two more for each gate.
+/// Counts the calls of a batch of n images. Each good call leads to the next one. Call n + 4 is the sync that commits.
+/// If a closed segment is left, that sync ends the batch, after n + 2 writes and 2 syncs. Otherwise the batch ends at
+/// call n + 5, plus one for each image that the open segments carry home and two for each gate.
 pub fn each_call_is_the_next()
     ensures next { (n : ℕ) (sizes : List ℕ) (next : Next) → next ≢ Next.Idle → calls_made n sizes (following n sizes next) ≡ calls_made n sizes next + 1 }
     ensures writes { (n : ℕ) (sizes : List ℕ) (next : Next) → next ≢ Next.Idle → writes_made n sizes (following n sizes next) ≡ (if is_sync next then writes_made n sizes next else writes_made n sizes next + 1) }
@@ -98,7 +98,7 @@ pub(crate) fn is_idle(next: Next) -> bool
     }
 }
 
-// Makes the call that comes next. Every device call of a batch is made here.
+// Makes the next call. Every device call of a batch is made here.
 fn ask<D: Disk>(
     disk: &mut D,
     next: Next,
@@ -233,7 +233,7 @@ fn after_image(i: usize, count: usize) -> Next
     }
 }
 
-// After an image of the j-th segment, of so many, where the one with the index `last` is the last.
+// The call after an image of the j-th segment, which has `count` images; `last` is the index of the last segment.
 fn after_home(j: usize, i: usize, count: usize, last: usize) -> Next
     requires within { i < count }
     requires there { j ≤ last }
@@ -261,7 +261,7 @@ fn after_gate(j: usize, last: usize) -> Next
     }
 }
 
-// Where a fault leaves the batch: what a failed write was to put there may be there, and a failed sync did nothing.
+// The next call after a fault. What a failed write should have put there may be there; a failed sync did nothing.
 fn call_at_fault(next: Next, room: &Vec<Segment>, filled: usize, is_last: bool) -> Next
     requires there { filled < length room.now.items }
     requires few { length room.now.items ≤ 8 }
@@ -274,8 +274,8 @@ fn call_at_fault(next: Next, room: &Vec<Segment>, filled: usize, is_last: bool) 
     }
 }
 
-// What a good call answers, in a batch with this last serial; where all are carried home, the segment with the index `filled`
-// is the last one.
+// The answer to a good call, in a batch with this last serial. If all segments are carried home, the one with the index
+// `filled` is the last.
 fn answer_to(next: Next, last: u64, filled: usize) -> Progress
     requires few { filled < 8 }
     ensures { (sizes : List ℕ) → ((j : ℕ) → next ≡ Next.Finish j → length sizes ≡ filled + 1) → result ≡ answer last sizes next }

@@ -33,7 +33,7 @@ fn failed_at(alloc: Global, mut store: Store, call: u64) -> Option<Store> {
     played(alloc, store, &rows).ok()
 }
 
-/// Commits so many batches that fill six blocks with an octet.
+/// Commits this many batches that fill six blocks with an octet.
 fn with_batches(alloc: Global, mut store: Store, count: u8, octet: u8) -> Option<Store> {
     for _ in 0..count {
         let rows = [
@@ -61,8 +61,9 @@ fn are_filled(alloc: Global, store: Store, octet: u8) -> (Store, bool) {
     (store, are)
 }
 
-/// Commits so many batches of one octet; of the next one, of another octet, this device call fails. Then the device is opened
-/// again. It counts from the sync that commits on, and not before its gate.
+/// Commits `before` batches of one octet. Then it begins a batch of another octet, of which this device call fails, and
+/// opens the device again. The old octet may be left up to the sync that commits, call 10. The new one may be there from
+/// the gate's write, call 9, on.
 fn survived(alloc: Global, store: Store, before: u8, call: u64, again: Ask<'_>) -> Option<Store> {
     let store = with_batches(alloc, store, before, 1)?;
     let rows = [
@@ -80,7 +81,7 @@ fn survived(alloc: Global, store: Store, before: u8, call: u64, again: Ask<'_>) 
     None
 }
 
-/// Fails each of so many calls of the batch after so many others, and answers the first that was not survived.
+/// Fails each of the first `calls` calls of a batch after `before` others, and answers the first that was not survived.
 fn first_lost(alloc: Global, segments: u32, before: u8, calls: u64) -> Result<Option<u64>, Fail> {
     let Some(store) = new_store(alloc, segments) else {
         return Err("no room")?;

@@ -1,4 +1,4 @@
-//! Tables of what is asked of a journal over a device in memory, one call after the other, with what each is to answer.
+//! Tables of calls to a journal over a device in memory, with the expected answer to each.
 #![tactic(auto)]
 
 #[cfg(test)]

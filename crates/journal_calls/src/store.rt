@@ -1,5 +1,5 @@
-//! A journal over a device in memory, which promises nothing, so that a test carries no fact of it: each call tests anew what
-//! it wants.
+//! A journal over a device in memory. It promises nothing, so that a test carries no fact about it: each call checks
+//! its own preconditions.
 
 ghost use Rattle.std.specs.Prelude.{◌≡◌, ◌⊎◌, ◌≤◌, ◌*◌, IfOk, length};
 
@@ -22,7 +22,7 @@ pub enum Ask<'a> {
     /// Begins a batch with this last serial: blocks by their numbers, each filled with an octet.
     Begin(u64, &'a [u32], u8),
     Step,
-    /// So many steps, each of which answers `Working`.
+    /// This many steps, each of which answers `Working`.
     Work(u64),
     /// Each octet of a logical block is this one.
     Filled(u64, u8),
@@ -30,11 +30,11 @@ pub enum Ask<'a> {
     Starts(u64, u8),
     FailAt(u64),
     FailKind(DiskCall, u64),
-    /// The device crashes, each touched octet by this pick, and is opened again.
+    /// The device crashes, each touched octet becomes what this pick says, and the device is opened again.
     Crash(Pick),
     /// The device is opened again as it is.
     Reopen,
-    /// Closes the journal: its device was asked so many writes and syncs since before it was opened.
+    /// Closes the journal: its device was asked this many writes and syncs since before it was opened.
     Close(u64, u64),
     /// Writes octets to the device of a closed journal, each by its place.
     Put(&'a [(u64, u8)]),
@@ -50,7 +50,7 @@ pub enum Said {
     Refused(JournalError),
     /// Another answer, or other octets or counts, than those asked for.
     Other,
-    /// What is asked isn't what the call may be asked.
+    /// The call's preconditions do not hold, so it was not made.
     NotAsked,
     /// A growth of the test's own was refused.
     NoMemory,
@@ -96,7 +96,7 @@ impl Store {
     }
 }
 
-/// One over a new volume with 1 or 8 segments, or none where there is no room.
+/// A journal over a new volume with 1 or 8 segments, or `None` if memory is refused.
 pub fn new_store(alloc: Global, segments: u32) -> Option<Store> {
     if segments != 1 && segments != 8 {
         return None;
@@ -136,7 +136,7 @@ fn opened(alloc: Global, disk: MemDisk) -> (Store, Said) {
     (store, said)
 }
 
-/// Asks a store, and hands back what it is then.
+/// Asks a store, and returns it with the answer.
 pub fn answered(alloc: Global, store: Store, asked: Ask<'_>) -> (Store, Said) {
     let (state, writes, syncs) = store.into_parts();
     match state {

@@ -17,7 +17,7 @@ const FOUR: &[u32] = &[5, 6, 7, 1023];
 
 const SIX: &[u32] = &[5, 700, 21, 0, 23, 24];
 
-// Where the first two segments stand: gate, descriptor, first image.
+// The places of the first two segments: gate, descriptor, first image.
 const GATE: u64 = 4096;
 
 const DESCRIPTOR: u64 = 2 * 4096;
@@ -341,7 +341,7 @@ const OPENINGS: &[Case<'static>] = &[
     ),
 ];
 
-/// Plays rows, and answers the place of the first with another answer. Where there is none, the store is handed back.
+/// Plays rows. It answers the index of the first row with another answer; if there is none, it returns the store.
 pub fn played(alloc: Global, mut store: Store, rows: &[(Ask<'_>, Said)]) -> Result<Store, usize> {
     for (place, (asked, wanted)) in rows.iter().enumerate() {
         let (next, said) = answered(alloc, store, *asked);
@@ -353,7 +353,7 @@ pub fn played(alloc: Global, mut store: Store, rows: &[(Ask<'_>, Said)]) -> Resu
     Ok(store)
 }
 
-/// The place of the first row with another answer.
+/// The index of the first row with another answer.
 fn first_wrong(
     alloc: Global,
     segments: u32,
@@ -368,7 +368,7 @@ fn first_wrong(
     }
 }
 
-/// The name of the first case with another answer, and the place of its row.
+/// The name of the first case with another answer, and the index of its row.
 fn first_wrong_of(
     alloc: Global,
     cases: &[Case<'static>],

@@ -1,4 +1,4 @@
--- What is read of the segments on a device.
+-- What is read from the segments on a device.
 use Rattle.std.specs.Prelude.{◌≡◌, ◌≢◌, ◌<◌, ◌≤◌, ℕ, ◌+◌, true, IsTrue, List, length, map, take}
 use Rattle.std.specs.List.{filter, range_with_len}
 use Rattle.disk.specs.Device.{Device}
@@ -47,13 +47,13 @@ pub record IsTaken (place number last : ℕ) (numbers octets : List ℕ) (s : St
 abbrev pub AreLoaded : ℕ → ℕ → List ℕ → List ℕ → Type 0
 AreLoaded place n image octets = (k : ℕ) → k < n → block (image_place place k) image ≡ block k octets
 
--- a segment in memory is the one in that place
+-- a segment in memory is the one at that place on the device
 pub record IsReadFrom (device : Device) (blocks : ℕ) (s : Staged) : Type 0 where
   pub staged : IsStaged blocks s
   pub descriptor : IsDescriptor blocks s.descriptor
   pub written : IsTrue device.tells → IsWrittenIn s.place s.descriptor s.images device.content
 
--- a segment in memory is an open one, from a place on
+-- a segment in memory is an open one, at a given place or after it
 pub record IsOpened (device : Device) (blocks segments from : ℕ) (s : Staged) : Type 0 where
   pub read : IsReadFrom device blocks s
   pub below : s.place < segments
@@ -69,11 +69,11 @@ pub record AreFound (device : Device) (blocks from : ℕ) (room : List Staged) (
   pub are : IsTrue device.tells → (k : ℕ) → from + k ≡ length room
       → map held_as (take n room) ≡ sorted_held (held_at device.content (filter (λ s. is_open s device.content) (range_with_len from k)))
 
--- no volume stands there
+-- the image is not a volume
 abbrev pub IsNoVolume : List ℕ → Type 0
 IsNoVolume image = (its_label : List ℕ) (blocks : List (List ℕ)) → StandsFor image its_label blocks → ⊥
 
--- why the reads of an opening refuse
+-- why the reads of an opening are refused
 pub record Rejects (error : SegmentError) (old new : Device) : Type 0 where
   pub fault : error ≡ Fault → new.failures ≢ old.failures
   pub no_volume : error ≡ NotAVolume → IsTrue old.tells → IsNoVolume old.content

@@ -4,7 +4,7 @@ use Rattle.std.specs.List.{All}
 use Rattle.model.specs.Volume.{AreDistinct, Batch, listed, number_at}
 use Rattle.segments.specs.Held.{Held}
 
--- a segment in memory: where it stands, its descriptor block, and the numbers and images of its batch
+-- a segment in memory: its place, its descriptor block, and the numbers and images of its batch
 pub record Staged : Type 0 where
   pub place : ℕ
   pub descriptor : List ℕ
@@ -19,7 +19,7 @@ held_as s = record { place = s.place; batch = record { number = number_at 0 8 s.
 abbrev pub number_of : Staged → ℕ
 number_of s = number_at 0 8 s.descriptor
 
--- one more is put into some with rising numbers
+-- a segment inserted among some with rising numbers
 abbrev pub put_staged : Staged → List Staged → List Staged
 put_staged s [] = s ∷ []
 put_staged s (other ∷ others) = if nat_lt (number_of s) (number_of other) then s ∷ put_staged other others else other ∷ put_staged s others
@@ -39,7 +39,7 @@ pub record IsSound (blocks : ℕ) (batch : Batch) : Type 0 where
   pub images : length batch.images ≡ length batch.numbers
   pub whole : (i : ℕ) → i < length batch.images → length (slice_index_or batch.images i []) ≡ 4096
 
--- and its descriptor block says it
+-- and its descriptor block describes it
 pub record IsStaged (blocks : ℕ) (s : Staged) : Type 0 where
   pub size : length s.descriptor ≡ 4096
   pub count : number_at 16 4 s.descriptor ≡ length s.numbers
@@ -48,6 +48,6 @@ pub record IsStaged (blocks : ℕ) (s : Staged) : Type 0 where
   pub distinct : AreDistinct s.numbers
   pub sound : IsSound blocks (held_as s).batch
 
--- the first i of them, and then the one behind the n, put into the others
+-- the first i of them, followed by the one after the first n inserted among the rest of these n
 abbrev pub put_from : List Staged → ℕ → ℕ → List Staged
 put_from room n i = take i room ++ put_staged (staged_at room n) (drop i (take n room))

@@ -1,4 +1,4 @@
-//! What open segments hold of a logical block.
+//! The images that open segments hold of a logical block.
 
 ghost use Rattle.std.specs.Prelude.{◌≡◌, ◌≤◌, ◌<◌, ℕ, List, [], length, map, slice_index_or, take};
 ghost use Rattle.model.specs.Volume.{all_laid_over, laid_over};
@@ -20,7 +20,7 @@ pub fn lay_over(room: &Vec<Segment>, n: usize, block: u64, octets: &mut [u8])
     }
 }
 
-// Puts the image of a logical block over these octets, where the segment's batch has one.
+// Puts the image of a logical block over these octets, if the segment's batch has one.
 fn lay_image(segment: &Segment, block: u64, octets: &mut [u8])
     requires whole { length octets.old ≡ 4096 }
     requires full { length segment.now.images ≡ length segment.now.numbers }

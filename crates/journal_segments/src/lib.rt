@@ -1,5 +1,5 @@
-//! The segments of a volume: read from its device into memory, the open ones found by their gates and put into rising batch
-//! number. `specs/Staged.antt` says what a segment in memory is, `specs/Found.antt` what is read.
+//! The segments of a volume, read from its device into memory. The open ones are found by their gates and sorted by
+//! batch number. `specs/Staged.antt` says what a segment in memory is, `specs/Found.antt` what is read.
 #![tactic(auto)]
 
 mod finding;
@@ -19,7 +19,8 @@ pub enum SegmentError {
     /// The device failed in this call.
     #[error("E1 Fault")]
     Fault,
-    /// The length, the superblock or an open segment's descriptor isn't valid, or two open segments have one batch number.
+    /// The length, the superblock or an open segment's descriptor is not valid, or two open segments share a batch
+    /// number.
     #[error("E3 NotAVolume")]
     NotAVolume,
 }

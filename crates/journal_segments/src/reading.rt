@@ -1,4 +1,4 @@
-//! Reads of what stands on a device.
+//! Reads from a device.
 
 ghost use Rattle.std.specs.Prelude.{◌^◌, OnOk, IfOk, IfErr, IsErrOf, take, IsTrue, ◌≡◌, ◌≢◌, ◌+◌, ◌*◌, ◌<◌, ◌≤◌, length};
 ghost use Rattle.disk.specs.Image.{overwritten, part};
@@ -36,10 +36,10 @@ fn read_block<D: Disk>(disk: &mut D, k: u64, into: &mut Vec<u8>) -> Result<(), S
     read_part(disk, start_of(k), into.as_mut_slice())
 }
 
-/// Reads the superblock, and what it tells of the volume's sizes.
+/// Reads the superblock, and the volume's sizes from it.
 ///
-/// `NotAVolume` where the device's length or the superblock isn't valid, `Fault` where the device failed. The room has any octets
-/// then.
+/// `NotAVolume` if the device's length or the superblock is not valid, `Fault` if the device failed. Either leaves any
+/// octets in the room.
 pub fn load_superblock<D: Disk>(
     disk: &mut D,
     superblock: &mut Vec<u8>,
@@ -97,7 +97,7 @@ fn load_image<D: Disk>(
     read_part(disk, start_of(image_block(place, i)), &mut images[at..end])
 }
 
-// The batch of an open segment, into the room for it. How many images it has.
+// Reads the batch of an open segment into the room for it, and answers how many images it has.
 pub(crate) fn load_batch<D: Disk>(
     disk: &mut D,
     place: u32,

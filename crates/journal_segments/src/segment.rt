@@ -13,8 +13,8 @@ use std::marker::Model;
 use volume_format::layout::{BLOCK, SEGMENT_IMAGES, block_at, number64};
 use volume_format::{describe_batch, zeros};
 
-/// A segment: where it stands on the device, and the descriptor block, the numbers and the images of its batch. It has room
-/// for the largest batch, and grows no more.
+/// A segment: its place on the device, and the descriptor block, the numbers and the images of its batch. It has room
+/// for the largest batch, and never grows.
 #[derive(Drop)]
 pub struct Segment {
     place: u32,
@@ -43,7 +43,7 @@ impl Model for Segment {
 }
 
 impl Segment {
-    /// A segment with no batch.
+    /// A segment without a batch. Refused only for want of memory.
     pub fn new(alloc: Global, place: u32) -> Result<Segment, AllocError>
         ensures { IfOk result (λ segment. segment.place ≡ place) }
     {
@@ -63,7 +63,7 @@ impl Segment {
         self.place
     }
 
-    /// How many images its batch has.
+    /// The number of images in its batch.
     pub fn count(&self) -> usize
         ensures count { result ≡ length self.now.numbers }
         ensures few { result ≤ 512 }
@@ -92,7 +92,7 @@ impl Segment {
         self.descriptor.as_slice()
     }
 
-    /// The logical block of which an image of its batch is.
+    /// The number of the logical block whose image is the i-th of its batch.
     pub fn number(&self, i: usize) -> u32
         requires { i < length self.now.numbers }
         ensures { result ≡ slice_index self.now.numbers i }
@@ -108,7 +108,7 @@ impl Segment {
         block_at(self.images.as_slice(), i)
     }
 
-    /// Takes a batch with this number, in this place.
+    /// Replaces its batch with this one, in this place.
     pub fn take_batch(&mut self, place: u32, number: u64, last: u64, numbers: &[u32], images: &[u8])
         requires few { length numbers.now ≤ 512 }
         requires images { length images.now ≡ 4096 * length numbers.now }
@@ -122,7 +122,8 @@ impl Segment {
         self.count = count;
     }
 
-    /// Reads the batch of the open segment in this place. `NotAVolume` where its descriptor isn't valid.
+    /// Reads the batch of the open segment in this place. `NotAVolume` if its descriptor is not valid, `Fault` if the
+    /// device failed.
     pub fn read<D: Disk>(
         &mut self,
         disk: &mut D,
@@ -152,7 +153,7 @@ impl Segment {
     }
 }
 
-// Copies items over the front of a room for them.
+// Copies items to the start of a room that is large enough.
 fn put_front<T: Copy>(room: &mut Vec<T>, items: &[T])
     requires { length items.now ≤ length room.old.items }
     ensures { room.new.items ≡ items.now ++ drop (length items.now) room.old.items }

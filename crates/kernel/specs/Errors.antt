@@ -1,4 +1,4 @@
--- The refusals of each call as its errors. Each list is whole, so a new refusal has to be given its name here.
+-- The refusals of each call as its errors. Each list is complete, so a new refusal needs a name here.
 use Rattle.kernel.specs.Kernel.{Refusal}
 use Rattle.kernel.specs.Kernel as kernel
 use Rattle.kernel.specs.declared.errors.JoinError.{JoinError}

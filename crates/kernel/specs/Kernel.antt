@@ -26,16 +26,16 @@ pub record KernelView : Type 0 where
   pub inodes : ℕ
   -- the accepted changes
   pub spool : Spool
-  -- the cached blocks, and the numbers of those that changed since a batch was taken last
+  -- the cached blocks, and the numbers of those that changed since the last batch was taken
   pub blocks : List Octets
   pub dirty : List ℕ
   -- the last serial that is known to be on disk, and the last serial of the batch in flight
   pub durable : ℕ
   pub in_flight : Option ℕ
   pub halted : Bool
-  -- the number that was given to a session last
+  -- the number that was last given to a session
   pub joined : ℕ
-  -- the sessions that are there, in rising number
+  -- the sessions that exist, in rising number
   pub seats : List Seat
 
 -- ---- which test fails first
@@ -101,11 +101,11 @@ mark_for kernel x m t =
 abbrev pub answered : KernelView → Message → ℕ → Mark → Seat → Seat
 answered kernel m t mark seat = answered_by kernel.host kernel.spool m t mark seat
 
--- whether this block changed since a batch was taken last
+-- whether this block changed since the last batch was taken
 abbrev pub is_dirty : KernelView → ℕ → Bool
 is_dirty kernel k = list_any (λ (n : ℕ). n == k) kernel.dirty
 
--- the dirty blocks are those that were, and those that differ now; one change dirties at most 256
+-- the dirty blocks are those that were dirty, and those that differ now; one change dirties at most 256
 pub record Dirties (old new : KernelView) : Type 0 where
   pub size : length new.blocks ≡ length old.blocks
   pub exactly : (k : ℕ) → k < length new.blocks →
@@ -123,7 +123,7 @@ pub record Executed (old new : KernelView) (seat : Seat) (m : Message) (t : ℕ)
   pub halted : new.halted ≡ old.halted
   pub joined : new.joined ≡ old.joined
   pub blocks : Dirties old new
-  -- an answer without a change leaves each block
+  -- an answer without a change leaves each block as it was
   pub still : (answer old.host old.spool seat.session m t mark).change ≡ None → (new.blocks ≡ old.blocks) × (new.dirty ≡ old.dirty)
 
 -- ---- take_batch
@@ -136,12 +136,13 @@ taken kernel = record kernel { dirty = []; in_flight = Some (length kernel.spool
 
 -- ---- tests in their order
 
--- where a test fails, that refusal, and nothing changes; where none does, the call is done, or memory is refused and nothing changes
+-- if a test fails, that refusal, and nothing changes; if none does, the call is done, or memory is refused and nothing
+-- changes
 abbrev pub Tested : {A E V : Type 0} → (Refusal → E) → E → Option Refusal → V → V → Result A E → (A → Type 0) → Type 0
 Tested as_error memory (Some refusal) old new result done = (result ≡ Err (as_error refusal)) × (new ≡ old)
 Tested as_error memory None old new result done = MatchResult result done (λ error. (error ≡ memory) × (new ≡ old))
 
--- the same, where memory may be refused before a test is reached, but not before one of the early tests
+-- the same, but memory may be refused before a test is reached, though not before one of the early tests
 abbrev pub TestedOrMemory : {A E V : Type 0} → (Refusal → E) → E → Option Refusal → Option Refusal → V → V → Result A E → (A → Type 0) → Type 0
 TestedOrMemory as_error memory early refusal old new result done =
     MatchResult result
@@ -153,12 +154,12 @@ abbrev pub only_tested : {E : Type 0} → (Refusal → E) → Option Refusal →
 only_tested as_error None = Ok tt
 only_tested as_error (Some refusal) = Err (as_error refusal)
 
--- blocks that are the cached ones but for the dirty ones
+-- blocks that are the cached ones except for the dirty ones
 pub record AgreesBehind (kernel : KernelView) (base : List Octets) : Type 0 where
   pub size : length base ≡ length kernel.blocks
   pub clean : (k : ℕ) → k < length kernel.blocks → is_dirty kernel k ≡ false → slice_index_or base k [] ≡ slice_index_or kernel.blocks k []
 
--- what take_batch hands out: the dirty blocks, which, laid over those of the last batch, are the cached ones
+-- what take_batch hands out: the dirty blocks. Laid over those of the last batch, they give the cached blocks
 pub record Takes (old new : KernelView) (numbers : List ℕ) (images : List Octets) (last : ℕ) : Type 0 where
   pub last_is : last ≡ length old.spool
   pub kernel : new ≡ taken old
@@ -187,11 +188,11 @@ halted_for_good kernel = record kernel { halted = true }
 abbrev pub released : KernelView → KernelView
 released kernel = record kernel { seats = (ready kernel.durable 65536 kernel.seats).seats }
 
--- one session gives what is ready, behind these entries
+-- one session gives what is ready, after these entries
 abbrev pub released_of : KernelView → List Entry → ℕ → KernelView
 released_of kernel entries number = record kernel { seats = (ready_of kernel.durable entries number kernel.seats).seats }
 
--- what exec does to a session that is there: it answers what is read next, and the mark
+-- what exec does to a session that exists: it answers what is read next, and the mark
 pub record Execs (old new : KernelView) (number : ℕ) (m : Message) (t : ℕ) (answered : Option Mode × Mark) : Type 0 where
   pub seat : Seat
   pub is_there : seat_of old number ≡ Some seat
@@ -203,33 +204,33 @@ pub record Execs (old new : KernelView) (number : ℕ) (m : Message) (t : ℕ) (
 abbrev pub early_refusal : KernelView → Option Refusal
 early_refusal kernel = first_failing ((kernel.halted, Halted) ∷ (nat_lt 256 (length kernel.dirty), LaterDirty) ∷ [])
 
--- whether a group of the name that the change gives is here
+-- whether a group with the name that the change gives exists already
 abbrev pub makes_again : Spool → Change → Bool
 makes_again S (change.Group name status description moment) = is_here S name
 makes_again S (change.Article text groups moment) = false
 makes_again S (change.Expire group number) = false
 
--- all of its tests: a group of that name is here, or there is no room for the change
+-- all of its tests: a group with that name exists, or there is no room for the change
 abbrev pub admin_refusal_of : KernelView → Change → Option Refusal
 admin_refusal_of kernel c =
     first_failing (
     (kernel.halted, Halted) ∷ (nat_lt 256 (length kernel.dirty), LaterDirty) ∷ (makes_again kernel.spool c, Exists)
     ∷ (is_full (length kernel.blocks) kernel.inodes kernel.spool (Some c), Full) ∷ [])
 
--- whether the change takes out a number that the group doesn't have
+-- whether the change removes a number that the group does not have
 abbrev pub takes_none : Spool → Change → Bool
 takes_none S (change.Group name status description moment) = false
 takes_none S (change.Article text groups moment) = false
 takes_none S (change.Expire group number) = not (has_number S group number)
 
--- all tests of expire: the group isn't here or doesn't have the number, or there is no room for the change
+-- all tests of expire: the group does not exist or does not have the number, or there is no room for the change
 abbrev pub expire_refusal_of : KernelView → Change → Option Refusal
 expire_refusal_of kernel c =
     first_failing (
     (kernel.halted, Halted) ∷ (nat_lt 256 (length kernel.dirty), LaterDirty) ∷ (takes_none kernel.spool c, NotFound)
     ∷ (is_full (length kernel.blocks) kernel.inodes kernel.spool (Some c), Full) ∷ [])
 
--- the operator's change is accepted: a group made, or articles taken out of one
+-- the operator's change is accepted: a group is made, or articles are removed from one
 pub record Administers (old new : KernelView) (change : Change) (serial : ℕ) : Type 0 where
   pub serial_is : serial ≡ length old.spool + 1
   pub spool : new.spool ≡ old.spool ++ change ∷ []

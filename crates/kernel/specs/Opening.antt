@@ -19,7 +19,7 @@ pub record IsFresh (kernel : KernelView) : Type 0 where
   pub joined : kernel.joined ≡ 0
   pub seats : kernel.seats ≡ []
 
--- one that was just opened over these logical blocks, which hold its spool
+-- a kernel that was just opened over these logical blocks, which hold its spool
 pub record OpensOver (host : Octets) (inodes : ℕ) (blocks : List Octets) (kernel : KernelView) : Type 0 where
   pub fresh : IsFresh kernel
   pub host_is : kernel.host ≡ host
@@ -27,7 +27,7 @@ pub record OpensOver (host : Octets) (inodes : ℕ) (blocks : List Octets) (kern
   pub blocks_are : kernel.blocks ≡ blocks
   pub holds : Holds kernel.host kernel.inodes kernel.blocks kernel.spool
 
--- the kernel that stands in the logical blocks of a journal, under its label
+-- the kernel in the logical blocks of a journal, under its label
 pub record IsOpened {D : Type 0} (device : D → Device) (journal : JournalView D) (kernel : KernelView) : Type 0 where
   pub fresh : IsFresh kernel
   pub labelled : IsLabel journal.label journal.size kernel.inodes kernel.host
@@ -35,7 +35,7 @@ pub record IsOpened {D : Type 0} (device : D → Device) (journal : JournalView 
   pub blocks : IsTrue (device journal.disk).tells → kernel.blocks ≡ journal.blocks
   pub holds : Holds kernel.host kernel.inodes kernel.blocks kernel.spool
 
--- the label is one, and the logical blocks of a device that tells hold no spool of its host
+-- the label is valid, and the logical blocks of a device that tells its octets hold no spool of the label's host
 pub record IsDamaged {D : Type 0} (device : D → Device) (journal : JournalView D) : Type 0 where
   pub inodes : ℕ
   pub host : Octets

@@ -1,4 +1,4 @@
--- What serving a message over the spool of the kernel answers, and does to the spool.
+-- What serving a message over the kernel's spool answers, and what it does to the spool.
 use Rattle.std.specs.Prelude.{◌≡◌, ℕ, length, Option, Some}
 use Rattle.model.specs.Answer.{answer}
 use Rattle.model.specs.Room.{is_full}
@@ -18,6 +18,6 @@ answer_in s x m t mark = answer s.host s.changes x m t mark
 abbrev pub mark_in : SpoolView → Session → Message → ℕ → Mark
 mark_in s x m t = served.mark_in s.host s.changes (λ c. is_full (length s.blocks) s.inodes s.changes (Some c)) x m t
 
--- the spool with the change of an answer, where that makes one
+-- the spool with the change of an answer, if the answer makes one
 abbrev pub Grows : SpoolView → SpoolView → Option Change → Type 0
 Grows old new change = served.Grows (Adds old new) (new ≡ old) change

@@ -1,12 +1,14 @@
+//! The refusals of the kernel's calls.
+
 use thiserror::Error;
 
-/// Why a session can't join.
+/// Why a session cannot join.
 #[derive(Clone, Copy, Debug, Drop, PartialEq, Eq, Error)]
 pub enum JoinError {
     /// An earlier device fault has halted the kernel.
     #[error("E4 Halted")]
     Halted,
-    /// 64 sessions are there, or the greatest u64 was given as a session's number.
+    /// 64 sessions exist, or the greatest u64 was used as a session's number.
     #[error("E7 TooManySessions")]
     TooManySessions,
     #[error("E2 Memory")]
@@ -16,29 +18,29 @@ pub enum JoinError {
 /// Why a message is not served now.
 #[derive(Clone, Copy, Debug, Drop, PartialEq, Eq, Error)]
 pub enum ExecError {
-    /// No session of this number is there, or it was closed.
+    /// No session of this number exists, or it was closed.
     #[error("E10 NoSession")]
     NoSession,
     /// The session has 1,048,576 or more buffered octets: ask again after a release.
     #[error("E9 LaterOut")]
     LaterOut,
-    /// More than 256 blocks are dirty: ask again after a take.
+    /// More than 256 blocks are dirty: ask again after a batch is taken.
     #[error("E8 LaterDirty")]
     LaterDirty,
     #[error("E2 Memory")]
     Memory,
 }
 
-/// Why a group is not made.
+/// Why a group was not made.
 #[derive(Clone, Copy, Debug, Drop, PartialEq, Eq, Error)]
 pub enum AdminError {
     /// An earlier device fault has halted the kernel.
     #[error("E4 Halted")]
     Halted,
-    /// More than 256 blocks are dirty: ask again after a take.
+    /// More than 256 blocks are dirty: ask again after a batch is taken.
     #[error("E8 LaterDirty")]
     LaterDirty,
-    /// The name is there.
+    /// A group with this name exists already.
     #[error("E11 Exists")]
     Exists,
     /// There is no room for the group.
@@ -48,16 +50,16 @@ pub enum AdminError {
     Memory,
 }
 
-/// Why articles are not taken out of a group.
+/// Why articles were not removed from a group.
 #[derive(Clone, Copy, Debug, Drop, PartialEq, Eq, Error)]
 pub enum ExpireError {
     /// An earlier device fault has halted the kernel.
     #[error("E4 Halted")]
     Halted,
-    /// More than 256 blocks are dirty: ask again after a take.
+    /// More than 256 blocks are dirty: ask again after a batch is taken.
     #[error("E8 LaterDirty")]
     LaterDirty,
-    /// The group isn't here, or the number is below its lowest or above its highest.
+    /// The group does not exist, or the number is below its lowest or above its highest.
     #[error("E12 NotFound")]
     NotFound,
     /// There is no room for the change.
@@ -67,7 +69,7 @@ pub enum ExpireError {
     Memory,
 }
 
-/// The ticket isn't the batch in flight, or the kernel is halted.
+/// The ticket is not that of the batch in flight, or the kernel is halted.
 #[derive(Clone, Copy, Debug, Drop, PartialEq, Eq, Error)]
 #[error("E13 Stale")]
 pub struct Stale;

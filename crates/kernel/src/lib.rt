@@ -1,6 +1,6 @@
-//! The kernel: the value under the lock. It answers each command at once in memory, and holds each reply until
-//! what it depends on is durable. `specs/Kernel.antt` says what callers see of it and what each call does to that,
-//! `specs/Kept.antt` what it keeps.
+//! The kernel: the value under the lock. It answers each command at once in memory, and holds each reply until what it
+//! depends on is durable. `specs/Kernel.antt` says what callers see of it and what each call does, `specs/Kept.antt`
+//! what it keeps.
 #![tactic(auto)]
 
 ghost use Rattle.std.specs.Prelude.{[], None, ◌++◌, ◌&&◌, nat_lt, ◌≡◌, ◌≢◌, ◌⊎◌, ◌↔◌, ◌+◌, ◌*◌, ◌<◌, ◌≤◌, Some, IsSome, IsNone, IsTrue};
@@ -34,13 +34,13 @@ use std::alloc::Global;
 use std::marker::Model;
 pub use volume::BatchBuf;
 
-/// Sessions at once.
+/// The most sessions at a time.
 pub const SESSIONS: usize = 64;
 
-/// A session with so many buffered octets is served again once some were released.
+/// A session with this many buffered octets is not served again until some are released.
 pub const MOST_BUFFERED: u64 = 1_048_576;
 
-/// With more dirty blocks no article and no group is accepted until a batch was taken.
+/// With more dirty blocks than this, no article, group or expiry is accepted until a batch is taken.
 pub const MOST_DIRTY: usize = 256;
 
 /// Names a batch in flight.
@@ -50,7 +50,7 @@ pub struct Ticket {
 }
 
 impl Ticket {
-    /// How many changes were accepted when the batch was taken.
+    /// The number of changes that were accepted when the batch was taken.
     pub fn last(self) -> u64
         ensures { result ≡ self.last }
     {
@@ -68,7 +68,7 @@ pub struct Kernel {
     seats: Vec<Seat>,
 }
 
-// By hand: who drops one would prove a derived one again, field by field.
+// By hand: a caller that drops one would otherwise prove the derived one again, field by field.
 impl Drop for Kernel {
     fn drop(self) {
         let Kernel {
@@ -96,7 +96,7 @@ impl Model for Kernel {
 }
 
 impl Kernel {
-    /// The kernel of a spool that is on disk: all its changes are durable, and no session is there.
+    /// The kernel of a spool that is on disk: all its changes are durable, and there is no session.
     pub fn new(alloc: Global, spool: Spool) -> Kernel
         requires clean { spool.dirty ≡ [] }
         ensures { result ≡ kernel_of spool (length spool.changes) None false 0 [] }
@@ -111,15 +111,15 @@ impl Kernel {
         }
     }
 
-    /// What the kernel keeps, whoever took the lock: each held output is the plain server's reply on a prefix of the
-    /// spool, with its dependency, and the cached blocks hold the spool.
+    /// States what the kernel keeps, whichever thread took the lock, and does nothing. Each held output is the plain
+    /// server's reply on a prefix of the spool, with its dependency, and the cached blocks hold the spool.
     pub fn kept(&self)
         ensures { IsKept self.now }
     {
         let _ = &self.durable;
     }
 
-    /// What a session sends next; `None` where no session of this number is there, or it was closed.
+    /// What a session sends next; `None` if no session of this number exists, or it was closed.
     pub fn mode(&self, sid: u64) -> Option<Mode>
         ensures { result ≡ mode_at self.now sid }
     {
@@ -127,7 +127,7 @@ impl Kernel {
         self.seats[at].mode()
     }
 
-    /// Whether a session may join now: `Halted` (E4) or `TooManySessions` (E7) where it may not, tested in that order.
+    /// Whether a session may join now: if not, `Halted` (E4) or `TooManySessions` (E7), tested in that order.
     pub fn may_join(&self) -> Result<(), JoinError>
         ensures { result ≡ only_tested of_join (join_refusal self.now) }
     {
@@ -140,8 +140,9 @@ impl Kernel {
         Ok(())
     }
 
-    /// A session begins; its greeting depends on nothing. Sessions are numbered 1, 2, .. and a number isn't used again.
-    /// Refused as `Halted` (E4), `TooManySessions` (E7) or `Memory` (E2), tested in that order; a refusal changes nothing.
+    /// Begins a session and answers its number; its greeting depends on nothing. Sessions are numbered 1, 2, .. and a
+    /// number is never used again. Refused as `Halted` (E4), `TooManySessions` (E7) or `Memory` (E2), tested in that
+    /// order; a refusal changes nothing.
     pub fn join(&mut self, alloc: Global) -> Result<u64, JoinError>
         ensures { Tested of_join JoinError.Memory (join_refusal self.old) self.old self.new result (λ sid. (sid ≡ self.new.joined) × (self.new ≡ joined self.old)) }
     {
@@ -160,10 +161,10 @@ impl Kernel {
         }
     }
 
-    /// Answers a message at once: its reply is held with its dependency, its change is accepted. Says what the session
-    /// sends next, `None` where nothing more, and how the message was served. `moment` is in seconds since 1970.
-    /// Refused as `NoSession` (E10), `LaterOut` (E9), `LaterDirty` (E8, not where the kernel is halted) or `Memory` (E2),
-    /// tested in that order; a refusal changes nothing.
+    /// Answers a message at once: its reply is held with its dependency, and its change is accepted. The result is what
+    /// the session sends next, `None` if nothing more, and the mark of the message. `moment` is in seconds since 1970.
+    /// Refused as `NoSession` (E10), `LaterOut` (E9), `LaterDirty` (E8, only while the kernel is not halted) or
+    /// `Memory` (E2), tested in that order; a refusal changes nothing.
     pub fn exec(
         &mut self,
         alloc: Global,
@@ -201,7 +202,7 @@ impl Kernel {
         Ok(done)
     }
 
-    /// Whether the operator may make a group now: `Halted` (E4) or `LaterDirty` (E8) where not, tested in that order.
+    /// Whether the operator may make a group now: if not, `Halted` (E4) or `LaterDirty` (E8), tested in that order.
     pub fn may_administer(&self) -> Result<(), AdminError>
         ensures { result ≡ only_tested of_admin (early_refusal self.now) }
     {
@@ -214,10 +215,10 @@ impl Kernel {
         Ok(())
     }
 
-    /// The operator makes a group, and is told its serial, which says nothing of durability. `status` is `y` or `n`, the
-    /// description has at most 200 octets of 32 to 126, and `moment` is in seconds since 1970.
-    /// Refused as `Halted` (E4), `LaterDirty` (E8), `Exists` (E11), `Full` (E6) or `Memory` (E2), tested in that order; a
-    /// refusal changes nothing.
+    /// Makes a group for the operator and answers its serial, which says nothing about durability. `status` is `y` or
+    /// `n`, the description has at most 200 octets of 32 to 126, and `moment` is in seconds since 1970. Refused as
+    /// `Halted` (E4), `LaterDirty` (E8), `Exists` (E11), `Full` (E6) or `Memory` (E2), tested in that order; a refusal
+    /// changes nothing.
     pub fn admin(
         &mut self,
         alloc: Global,
@@ -247,8 +248,8 @@ impl Kernel {
         Ok(serial)
     }
 
-    /// Whether the operator may take articles out of a group now: `Halted` (E4) or `LaterDirty` (E8) where not, tested in that
-    /// order.
+    /// Whether the operator may remove articles from a group now: if not, `Halted` (E4) or `LaterDirty` (E8), tested in
+    /// that order.
     pub fn may_expire(&self) -> Result<(), ExpireError>
         ensures { result ≡ only_tested of_expire (early_refusal self.now) }
     {
@@ -261,10 +262,10 @@ impl Kernel {
         Ok(())
     }
 
-    /// The operator takes the articles of a group up to a number out of it, and is told the serial of that change, which says
-    /// nothing of durability. Numbers are not used again.
-    /// Refused as `Halted` (E4), `LaterDirty` (E8), `NotFound` (E12) where the group isn't here or the number is below its
-    /// lowest or above its highest, `Full` (E6) or `Memory` (E2), tested in that order; a refusal changes nothing.
+    /// Removes the articles of a group up to a number for the operator, and answers the serial of that change, which
+    /// says nothing about durability. Numbers are never used again. Refused as `Halted` (E4), `LaterDirty` (E8),
+    /// `NotFound` (E12) if the group does not exist or the number is below its lowest or above its highest, `Full` (E6)
+    /// or `Memory` (E2), tested in that order; a refusal changes nothing.
     pub fn expire(&mut self, name: &GroupName, number: u32) -> Result<u64, ExpireError>
         ensures { let change = Expire name.now number in
             TestedOrMemory of_expire ExpireError.Memory (expire_refusal_of self.old change) (expire_refusal_of self.old change) self.old self.new result (Administers self.old self.new change) }
@@ -280,8 +281,8 @@ impl Kernel {
         Ok(serial)
     }
 
-    /// Copies the dirty blocks as the batch in flight; `None` exactly where nothing is dirty, a batch is in flight, or the
-    /// kernel is halted, and then nothing changes. It takes no memory.
+    /// Copies the dirty blocks as the batch in flight. `None` exactly if nothing is dirty, a batch is in flight, or the
+    /// kernel is halted; then nothing changes. It takes no memory.
     pub fn take_batch(&mut self, into: &mut BatchBuf) -> Option<Ticket>
         ensures when { IsSome result ↔ IsTrue (has_batch self.old) }
         ensures nothing { IsNone result → (self.new ≡ self.old) × (into.new ≡ into.old) }
@@ -298,8 +299,8 @@ impl Kernel {
         Some(Ticket { last })
     }
 
-    /// The batch in flight is on disk: its changes are durable. `Stale` (E13) exactly where the ticket isn't the batch
-    /// in flight or the kernel is halted, and then nothing changes. It takes no memory.
+    /// Notes that the batch in flight is on disk: its changes are durable. `Stale` (E13) exactly if the ticket is not
+    /// that of the batch in flight or the kernel is halted; then nothing changes. It takes no memory.
     pub fn committed(&mut self, ticket: Ticket) -> Result<(), Stale>
         ensures ok { IfOk result (λ done. (self.old.in_flight ≡ Some ticket.last) × (self.old.halted ≡ false) × (self.new ≡ made_durable self.old ticket.last)) }
         ensures stale { OnErr result (((self.old.in_flight ≢ Some ticket.last) ⊎ (self.old.halted ≡ true)) × (self.new ≡ self.old)) }
@@ -319,9 +320,9 @@ impl Kernel {
         self.halted = true;
     }
 
-    /// Moves the outputs whose dependency is durable into the buffer, in place of what was there: through the sessions in
-    /// rising number, each session's in order, until 65,536 octets are used; the last may be cut. A session whose end was
-    /// handed out is there no more. It takes no memory.
+    /// Moves the outputs whose dependency is durable into the buffer, in place of its content: the sessions in rising
+    /// number, each session's outputs in order, until 65,536 octets are used. The last output may be cut. A session is
+    /// dropped once its end was handed out. It takes no memory.
     pub fn take_ready(&mut self, into: &mut ReadyBuf)
         ensures given { into.new ≡ (ready self.old.durable 65536 self.old.seats).entries }
         ensures kept { self.new ≡ released self.old }
@@ -330,9 +331,9 @@ impl Kernel {
         release(&mut self.seats, self.durable, into);
     }
 
-    /// Moves the outputs of one session whose dependency is durable into the buffer, behind what it holds: in order, until
-    /// 65,536 octets are used in all; the last may be cut. A session whose end was handed out is there no more; one that isn't
-    /// there gives nothing. Whether outputs of the session are still held. It takes no memory.
+    /// Moves the outputs of one session whose dependency is durable into the buffer, after its content: in order, until
+    /// 65,536 octets are used in all. The last output may be cut. The session is dropped once its end was handed out;
+    /// one that does not exist gives nothing. Answers whether it still holds outputs. It takes no memory.
     pub fn give_ready(&mut self, sid: u64, into: &mut ReadyBuf) -> bool
         requires room { length into.old < 64 }
         ensures given { into.new ≡ into.old ++ (ready_of self.old.durable into.old sid self.old.seats).entries }
@@ -342,7 +343,7 @@ impl Kernel {
         release_of(&mut self.seats, sid, self.durable, into)
     }
 
-    /// Drops a session and its held outputs; nothing where it isn't there. It takes no memory.
+    /// Drops a session and its held outputs; does nothing if it does not exist. It takes no memory.
     pub fn leave(&mut self, sid: u64)
         ensures { self.new ≡ left self.old sid }
     {
@@ -351,7 +352,7 @@ impl Kernel {
         }
     }
 
-    /// Whether a session is there, closed or not.
+    /// Whether the session exists; it may be closed.
     pub fn has(&self, sid: u64) -> bool
         ensures { result ≡ is_some (seat_of self.now sid) }
     {
@@ -361,7 +362,7 @@ impl Kernel {
         }
     }
 
-    /// The number of the session at this place among those that are there, in rising number; `None` past the last.
+    /// The number of the session at this place, in rising number; `None` after the last one.
     pub fn session(&self, place: usize) -> Option<u64>
         ensures { result ≡ option_map (λ (seat : SeatView). seat.number) (slice_get self.now.seats place) }
     {
@@ -372,21 +373,21 @@ impl Kernel {
         }
     }
 
-    /// How many changes are durable.
+    /// The number of durable changes.
     pub fn durable(&self) -> u64
         ensures { result ≡ self.now.durable }
     {
         self.durable
     }
 
-    /// What is accepted.
+    /// The accepted changes.
     pub fn spool(&self) -> &Spool
         ensures { result.now.changes ≡ self.now.spool }
     {
         &self.spool
     }
 
-    /// How many changes are accepted.
+    /// The number of accepted changes.
     pub fn len(&self) -> u64
         ensures { result ≡ length self.now.spool }
     {
@@ -394,7 +395,7 @@ impl Kernel {
     }
 }
 
-/// Whether a message waits for a batch to be taken: an article, where more than 256 blocks are dirty.
+/// Whether a message must wait until a batch is taken: an article must, while more than 256 blocks are dirty.
 fn is_late(message: &Message, dirty: usize) -> bool
     ensures { result ≡ (is_block message.now && nat_lt 256 dirty) }
 {

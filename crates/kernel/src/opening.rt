@@ -1,4 +1,4 @@
-//! Opening the kernel that stands in the logical blocks of a journal.
+//! Opens the kernel in the logical blocks of a journal.
 
 ghost use Rattle.std.specs.Prelude.{◌≡◌, ◌≢◌, ◌⊎◌, [], false, IfErr, IfOk, IsTrue, MatchResult};
 ghost use Rattle.journal.specs.Journal.{IsIdle};
@@ -19,7 +19,7 @@ use std::alloc::Global;
 use thiserror::Error;
 use volume::{Blocks, Volume};
 
-/// Why a kernel is not opened.
+/// Why a kernel was not opened.
 #[derive(Clone, Copy, Debug, Drop, PartialEq, Eq, Error)]
 pub enum OpenError {
     /// The device failed, and the journal is halted.
@@ -27,7 +27,7 @@ pub enum OpenError {
     Fault,
     #[error("E2 Memory")]
     Memory,
-    /// The volume's label isn't one of a news server's volume of this size.
+    /// The volume's label is not that of a news server's volume of this size.
     #[error("E3 NotAVolume")]
     NotAVolume,
     /// The logical blocks hold no lawful spool of the label's host.
@@ -36,10 +36,10 @@ pub enum OpenError {
 }
 
 impl Kernel {
-    /// Opens what the logical blocks hold: all its changes are durable, and no session is there. The journal is idle and
-    /// not halted, as after its opening; but for reads of the device it stays as it was, and it is halted only at `Fault`.
-    /// Refused as `NotAVolume` (E3) where the label isn't one, as `Fault` (E1) where the device fails, as `Damaged` (E5)
-    /// where the blocks hold no lawful spool of the label's host, and as `Memory` (E2).
+    /// Opens the kernel in the logical blocks: all its changes are durable, and there is no session. The journal must be
+    /// idle and not halted, as after its opening. Apart from reads of the device it stays as it was; only `Fault` halts
+    /// it. `NotAVolume` (E3) if the label is not valid, `Fault` (E1) if the device fails, `Damaged` (E5) if the blocks
+    /// hold no lawful spool of the label's host, and `Memory` (E2) if a growth was refused.
     pub fn open<D: Disk>(alloc: Global, journal: &mut Journal<D>) -> Result<Kernel, OpenError>
         requires idle { IsIdle journal.old }
         requires running { journal.old.halted ≡ false }
@@ -60,11 +60,11 @@ impl Kernel {
             return Err(OpenError::Memory);
         };
         let loaded = Volume::open(alloc, journal);
-        // it tells what the journal keeps
+        // its clauses state what the journal keeps
         let _idle = journal.is_idle();
         match loaded {
             Ok(volume) => {
-                // it tells that each block is whole
+                // its clauses state that each block is whole
                 let _count = volume.len();
                 open_over(alloc, Text::new(host), inodes, volume)
             }

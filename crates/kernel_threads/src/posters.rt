@@ -15,10 +15,10 @@ pub(crate) const ARTICLES: u64 = 100;
 /// The moment of all articles, in seconds since 1970.
 const MOMENT: u64 = 1_000_000_000;
 
-/// How often a message is offered while it is put off.
+/// How often a message is offered while its answer is to ask again later.
 const TRIES: u32 = 1_000_000;
 
-/// The octets of a line of a body, and its lines: each article has three blocks, so that a batch has to be taken on the way.
+/// A line of a body. Each article takes three blocks, so a batch has to be taken along the way.
 const LINE: &[u8] = b"what two threads file under one lock is filed once, whoever comes first\r\n";
 
 const LINES: u32 = 120;
@@ -65,7 +65,7 @@ pub(crate) struct Poster<'a> {
     kernel: &'a Mutex<Kernel>,
     session: u64,
     batch: BatchBuf,
-    /// how many batches it took
+    /// the number of batches that it took
     taken: u64,
 }
 
@@ -86,7 +86,8 @@ impl<'a> Poster<'a> {
         })
     }
 
-    /// Posts its articles, numbered from the first on. How many batches it took; `None` where a post was refused.
+    /// Posts its articles, numbered from the first on. It answers how many batches it took; `None` if a post was
+    /// refused.
     pub(crate) fn post_all<R: Wait>(self, rt: &R, alloc: Global, first: u64) -> Option<u64> {
         let mut poster = self;
         for article in first..first.saturating_add(ARTICLES) {
@@ -101,7 +102,7 @@ impl<'a> Poster<'a> {
         Some(poster.taken)
     }
 
-    /// Whether a message was served; it is offered until it is not put off.
+    /// Whether a message was served. It is offered until the answer is no longer to ask again later.
     fn sends<R: Wait>(&mut self, rt: &R, alloc: Global, message: &Message) -> bool {
         for _ in 0..TRIES {
             match self.exec(rt, alloc, message) {
@@ -123,8 +124,8 @@ impl<'a> Poster<'a> {
         Ok(mark)
     }
 
-    /// Takes a batch, and lets go of the lock before it tells that the batch is committed. While the other poster's is in
-    /// flight, it lets that thread go on.
+    /// Takes a batch, and releases the lock before it reports the batch as committed. While the other poster's batch is
+    /// in flight, it lets that thread run.
     fn commit<R: Wait>(&mut self, rt: &R) {
         let taken = self.kernel.lock(rt).take_batch(&mut self.batch);
         thread::yield_now();

@@ -18,20 +18,20 @@ const BLOCKS: u64 = 4096;
 
 const INODES: u64 = 256;
 
-/// How two posters went.
+/// The outcome for two posters.
 #[derive(Clone, Copy, Debug, PartialEq, Eq)]
 pub(crate) struct Outcome {
-    /// How many changes there are: the group, and the articles.
+    /// The number of changes: the group, and the articles.
     pub(crate) changes: u64,
-    /// Each message-id names one of the changes, and no two the same one.
+    /// Each message-id names one of the changes, and no two name the same one.
     pub(crate) has_each_id: bool,
-    /// So do the numbers of the group.
+    /// The same holds for the numbers of the group.
     pub(crate) has_each_number: bool,
-    /// A post was put off, and passed once a batch was taken.
+    /// A post had to be offered again, and was accepted after a batch was taken.
     pub(crate) was_put_off: bool,
 }
 
-/// What the volume is. The sizes are no constants here, as a proof would count with them.
+/// The plan of the volume. The sizes are not constants here, because a proof would count with them.
 fn plan(blocks: u64, inodes: u64) -> Option<Plan<'static>> {
     if !is_host(HOST) || !are_sizes(blocks, inodes) {
         return None;

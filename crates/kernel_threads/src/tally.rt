@@ -1,11 +1,11 @@
-//! What of two posters is there, and how often.
+//! The articles of two posters that were filed, and how often each.
 
 use crate::posters::{ARTICLES, message_id};
 use kernel::Spool;
 use lookups::LookUps;
 use std::alloc::Global;
 
-/// All articles of both posters. The group is the change in front of them.
+/// All articles of both posters. The group is the change before them.
 const ALL: u64 = 2 * ARTICLES;
 
 /// Which serials of articles were found.
@@ -21,7 +21,7 @@ impl Tally {
         }
     }
 
-    /// Whether a serial is there, is that of an article, and was not found before.
+    /// Whether a serial was found, is that of an article, and was not found before.
     fn takes(&mut self, serial: Option<u64>) -> bool {
         let Some(serial) = serial else {
             return false;

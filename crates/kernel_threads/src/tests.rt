@@ -1,3 +1,5 @@
+//! Tests of threads that share a kernel.
+
 use crate::shared::{Outcome, share};
 
 #[test]

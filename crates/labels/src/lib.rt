@@ -1,4 +1,4 @@
-//! The label of a volume: how many inodes there are, and the host. `model/specs/Layout.antt` has its form.
+//! The label of a volume: the number of inodes, and the host. `model/specs/Layout.antt` has its form.
 #![tactic(auto)]
 
 ghost use Rattle.std.specs.Prelude.{◌≡◌, ◌==◌, ◌↔◌, IsTrue, IsNone, IfSome};
@@ -9,19 +9,19 @@ ghost use Rattle.model.specs.Layout.{IsLabel};
 use byteorder::{ByteOrder, LittleEndian};
 use names::{HOST_LIMIT, is_host};
 
-// The octets of a label, and where its host begins.
+// The number of octets of a label, and where its host begins.
 const LABEL: usize = 128;
 
 const HOST_AT: usize = 5;
 
-/// What a label says.
+/// The contents of a label.
 #[derive(Clone, Copy)]
 pub struct Label<'a> {
     pub inodes: u64,
     pub host: &'a [u8],
 }
 
-/// Reads the label of a volume of so many logical blocks; `None` where it isn't one.
+/// Reads the label of a volume with this many logical blocks; `None` exactly if it is not valid.
 pub fn read_label(octets: &[u8], blocks: u64) -> Option<Label<'_>>
     ensures some { IfSome result (λ label. IsLabel octets.now blocks label.inodes label.host.now) }
     ensures none { IsNone result → IsNoLabel octets.now blocks }
@@ -42,7 +42,7 @@ pub fn read_label(octets: &[u8], blocks: u64) -> Option<Label<'_>>
     Some(Label { inodes, host })
 }
 
-// Whether a volume of so many blocks may have so many inodes.
+// Whether a volume with this many blocks may have this many inodes.
 fn has_room(inodes: u64, blocks: u64) -> bool
     ensures { IsTrue result ↔ HasRoom inodes blocks }
 {

@@ -1,4 +1,4 @@
-//! The groups that a list has, and their lines.
+//! The groups in a list, and their lines.
 
 ghost use Rattle.std.specs.Prelude.{◌≡◌, ◌++◌, ◌∷◌, IfOk, IfSome, IsTrue, OnOk, decimal};
 ghost use Rattle.model.specs.Answer.{is_listed, is_since};
@@ -14,17 +14,17 @@ use names::wildmat_matches;
 use replies::push_number;
 use std::alloc::AllocError;
 
-/// Which groups a list has.
+/// Which groups are in a list.
 #[derive(Clone, Copy)]
 pub enum Pick<'a> {
     All,
-    /// those whose names the wildmat takes
+    /// those whose names the wildmat matches
     Matching(&'a [u8]),
     /// those that were made at this moment or later, in seconds since 1970
     Since(i64),
 }
 
-/// What a list says of a group behind its name.
+/// What a list says of a group after its name.
 #[derive(Clone, Copy)]
 pub enum Show {
     Active,
@@ -39,7 +39,7 @@ pub fn is_since(from: i64, moment: u64) -> bool
     from <= 0 || from as u64 <= moment
 }
 
-/// Those whose names the wildmat takes, or all where there is none.
+/// The groups whose names the wildmat matches, or all without a wildmat.
 pub fn pick_of(wildmat: &Option<Text>) -> Pick<'_>
     requires { IfSome wildmat.now (λ w. IsTrue (is_wildmat w)) }
     ensures same { (g : NewsGroup) → is_picked result g ≡ is_listed wildmat.now g.name }
@@ -62,7 +62,7 @@ fn is_picked(pick: &Pick<'_>, group: &GroupView<'_>) -> bool
     }
 }
 
-/// A number, and a space in front.
+/// Appends a space and a number.
 fn push_spaced(reply: &mut Vec<u8>, number: u64) -> Result<(), AllocError>
     ensures { OnOk result (reply.new.items ≡ reply.old.items ++ 32 ∷ decimal number) }
 {
@@ -70,7 +70,7 @@ fn push_spaced(reply: &mut Vec<u8>, number: u64) -> Result<(), AllocError>
     push_number(reply, number)
 }
 
-/// What stands behind the name of a group, with CRLF.
+/// Appends the rest of a group's line after its name, with CRLF.
 fn push_rest(reply: &mut Vec<u8>, show: Show, group: &GroupView<'_>) -> Result<(), AllocError>
     ensures { OnOk result (reply.new.items ≡ reply.old.items ++ rest_of show (shown group.now).listed) }
 {
@@ -92,7 +92,7 @@ fn push_rest(reply: &mut Vec<u8>, show: Show, group: &GroupView<'_>) -> Result<(
     }
 }
 
-/// The first octets of a line of a block, with a dot in front where they begin with one.
+/// Appends the first octets of a line of a block, with another dot before them if they begin with one.
 fn push_first(reply: &mut Vec<u8>, text: &[u8]) -> Result<(), AllocError>
     ensures { OnOk result (reply.new.items ≡ reply.old.items ++ stuffed_line text.now) }
 {
@@ -102,7 +102,7 @@ fn push_first(reply: &mut Vec<u8>, text: &[u8]) -> Result<(), AllocError>
     reply.extend_from_slice(text)
 }
 
-/// The line of a group.
+/// Appends the line of a group.
 #[tactic(auto, using(crate::proofs::Listing::stuffed_group))]
 fn push_group(reply: &mut Vec<u8>, show: Show, group: &GroupView<'_>) -> Result<(), AllocError>
     ensures { OnOk result (reply.new.items ≡ reply.old.items ++ stuffed_line (line (shown_as show (shown group.now).listed))) }
@@ -111,7 +111,7 @@ fn push_group(reply: &mut Vec<u8>, show: Show, group: &GroupView<'_>) -> Result<
     push_rest(reply, show, group)
 }
 
-/// The line of a group, if it is picked. The last serial that names one of those so far.
+/// Appends the line of a group, if it is picked, and answers the last serial that names a group picked so far.
 fn push_picked(
     reply: &mut Vec<u8>,
     pick: &Pick<'_>,
@@ -130,7 +130,8 @@ fn push_picked(
     Ok(last.max(group.last))
 }
 
-/// A line for each group that is picked, in rising serial. The last serial that names one of them, 0 where there is none.
+/// Appends a line for each picked group, in rising serial. It answers the last serial that names one of them, or 0
+/// without any.
 pub fn push_groups<L: LookUps>(
     spool: &L,
     pick: &Pick<'_>,

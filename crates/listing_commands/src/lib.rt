@@ -1,5 +1,5 @@
-//! The commands that list groups and new articles (RFC 3977, sections 7.3, 7.4 and 7.6). Each answers as `specs/Answer.antt` of
-//! the crate `model` says, with what `specs/Reads.antt` says that it reads. An error is that memory is refused.
+//! The commands that list groups and new articles (RFC 3977, sections 7.3, 7.4 and 7.6). `specs/Answer.antt` of the
+//! crate `model` says what each answers, and `specs/Reads.antt` what it reads. Each is refused only for want of memory.
 #![tactic(auto)]
 
 mod groups;

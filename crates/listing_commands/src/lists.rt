@@ -16,7 +16,7 @@ use replies::{Answered, Heading, Reply, push_end, push_heading, says, says_line}
 use stamp::read_since;
 use std::alloc::{AllocError, Global};
 
-/// LIST ACTIVE (RFC 3977, section 7.6.3), of the groups whose names the wildmat takes, or of all.
+/// LIST ACTIVE (RFC 3977, section 7.6.3), of the groups whose names the wildmat matches, or of all.
 pub fn list_active<L: LookUps>(
     alloc: Global,
     spool: &L,
@@ -29,7 +29,7 @@ pub fn list_active<L: LookUps>(
     list(alloc, spool, session, wildmat, Show::Active)
 }
 
-/// LIST ACTIVE.TIMES (RFC 3977, section 7.6.4), of the groups whose names the wildmat takes, or of all.
+/// LIST ACTIVE.TIMES (RFC 3977, section 7.6.4), of the groups whose names the wildmat matches, or of all.
 pub fn list_times<L: LookUps>(
     alloc: Global,
     spool: &L,
@@ -42,7 +42,7 @@ pub fn list_times<L: LookUps>(
     list(alloc, spool, session, wildmat, Show::Times)
 }
 
-/// LIST NEWSGROUPS (RFC 3977, section 7.6.6), of the groups whose names the wildmat takes, or of all.
+/// LIST NEWSGROUPS (RFC 3977, section 7.6.6), of the groups whose names the wildmat matches, or of all.
 pub fn list_newsgroups<L: LookUps>(
     alloc: Global,
     spool: &L,

@@ -18,9 +18,9 @@ use replies::{Answered, Heading, Reply, push_end, push_heading, says, says_line}
 use stamp::read_since;
 use std::alloc::{AllocError, Global};
 
-/// NEWNEWS (RFC 3977, section 7.4): the message-ids of the articles in a group whose name the wildmat takes, filed since a
-/// date (`yymmdd` or `yyyymmdd`) and a time (`hhmmss`) in UTC. A date that the calendar does not have is a syntax error. The
-/// moment of the command is in seconds since 1970, below 253,402,300,800.
+/// NEWNEWS (RFC 3977, section 7.4): the message-ids of the articles filed since a date (`yymmdd` or `yyyymmdd`) and a
+/// time (`hhmmss`) in UTC that are in a group whose name the wildmat matches. A date that the calendar does not have is
+/// a syntax error. The moment of the command is in seconds since 1970, below 253,402,300,800.
 pub fn newnews<L: LookUps>(
     alloc: Global,
     spool: &L,
@@ -57,7 +57,7 @@ fn articles_since<L: LookUps>(
     says(alloc, session, reply, spool.len())
 }
 
-/// A line for each article that is new, in rising serial. Those that are surely older are passed over.
+/// Appends a line for each new article, in rising serial. Articles that must be older are skipped.
 fn push_articles<L: LookUps>(
     spool: &L,
     wildmat: &[u8],
@@ -73,7 +73,7 @@ fn push_articles<L: LookUps>(
     Ok(())
 }
 
-/// The line of the article with this serial, if there is one and it is new.
+/// Appends the line of the article with this serial, if there is one and it is new.
 fn push_new<L: LookUps>(
     spool: &L,
     wildmat: &[u8],

@@ -36,7 +36,7 @@ shown v = record {
 
 -- ---- articles, by their serials
 
--- the article that the change with this serial filed, if it filed one
+-- the article that the change with this serial filed, if any
 abbrev pub article_with : Spool → ℕ → Option NewsArticle
 article_with S zero = None
 article_with S (suc k) = option_and_then article_filed (slice_get (entries S) k)
@@ -48,11 +48,11 @@ text_of S n = unwrap_or (option_map (λ a. a.text) (article_with S n)) []
 abbrev pub groups_now : Spool → ℕ → List Octets
 groups_now S n = unwrap_or (option_map (λ a. (as_it_is S a).groups) (article_with S n)) []
 
--- the serial of the expiry that took it out of its last group, where it is gone
+-- the serial of the expiry that removed it from its last group, if it is gone
 abbrev pub gone_with : Spool → ℕ → Option ℕ
 gone_with S n = option_and_then (λ a. if is_gone S a then Some (gone_at S a) else None) (article_with S n)
 
--- what is sent of a text, stuffed and with the line that ends it
+-- this part of a text as it is sent, stuffed and with the line that ends it
 abbrev pub sent_part : Part → Octets → Octets
 sent_part part.Whole text = stuffed text
 sent_part part.Head text = stuffed (header text)
@@ -67,7 +67,7 @@ filed_between S g from to = enumerate_from from (take (to + 1 - from) (drop (fro
 abbrev pub overviews_between : Spool → Octets → ℕ → ℕ → Octets
 overviews_between S g from to = flat_map (λ p. line (overview_line p.0 p.1.text)) (filed_between S g from to)
 
--- an article by its serial, where there is one
+-- an article by its serial, if there is one
 abbrev pub article_of : Spool → ℕ → NewsArticle
 article_of S n = record {
   serial = n;

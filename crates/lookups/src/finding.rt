@@ -1,4 +1,4 @@
-//! Look-ups in the words of the commands.
+//! Look-ups as the commands need them.
 
 ghost use Rattle.std.specs.Prelude.{◌≡◌, IfSome, MatchOption, None, Some, false, is_some, option_map, unwrap_or};
 ghost use Rattle.model.specs.Spool.{by_id, by_number, contents, contents_if_here, here_by_id, high, is_here, last_naming, low};
@@ -19,7 +19,7 @@ pub fn find_number<L: LookUps>(spool: &L, group: &[u8], number: u64) -> Option<u
     }
 }
 
-/// The serial of the article with this message-id, also where it is gone.
+/// The serial of the article with this message-id, even if it is gone.
 pub fn find_id<L: LookUps>(spool: &L, wanted: &[u8]) -> Option<u64>
     ensures is { MatchOption result (by_id (L.changes spool.now) wanted.now ≡ None) (λ serial. by_id (L.changes spool.now) wanted.now ≡ Some (article_of (L.changes spool.now) serial)) }
     ensures there { IfSome result (λ serial. article_with (L.changes spool.now) serial ≡ Some (article_of (L.changes spool.now) serial)) }
@@ -38,14 +38,14 @@ pub struct Counts {
     pub last: u64,
 }
 
-/// What a group without an article has, that nothing names.
+/// The counts of a group that has no article and that no change names.
 const NOTHING: Counts = Counts {
     low: 1,
     high: 0,
     last: 0,
 };
 
-/// The numbers of the group with this name. One that isn't here is as one without an article.
+/// The counts of the group with this name. A group that does not exist has those of one without an article.
 pub fn counts_of<L: LookUps>(spool: &L, group: &[u8]) -> Counts
     ensures low { result.low ≡ low (L.changes spool.now) group.now }
     ensures high { result.high ≡ high (L.changes spool.now) group.now }
@@ -61,7 +61,7 @@ pub fn counts_of<L: LookUps>(spool: &L, group: &[u8]) -> Counts
     }
 }
 
-/// A group that is here.
+/// A group that exists.
 #[derive(Clone, Copy)]
 pub struct Found {
     pub counts: Counts,
@@ -69,7 +69,7 @@ pub struct Found {
     pub closed: bool,
 }
 
-/// The group with this name, if it is here.
+/// The group with this name, if it exists.
 pub fn find_group<L: LookUps>(spool: &L, group: &[u8]) -> Option<Found>
     ensures here { is_here (L.changes spool.now) group.now ≡ is_some result }
     ensures has { contents_if_here (L.changes spool.now) group.now ≡ option_map (λ found. contents (L.changes spool.now) group.now) result }
@@ -92,15 +92,15 @@ pub fn find_group<L: LookUps>(spool: &L, group: &[u8]) -> Option<Found>
     }
 }
 
-/// An article that was looked for, and what the search reads.
+/// The result of a search for an article, and what the search reads.
 #[derive(Clone, Copy)]
 pub struct Located {
-    /// its serial, where it is in a group
+    /// its serial, if it is in a group
     pub serial: Option<u64>,
     pub reads: u64,
 }
 
-/// What a number without an article reads.
+/// The serial that a look-up of a number without an article reads.
 pub fn absent_reads<L: LookUps>(spool: &L, group: &[u8], number: u64) -> u64
     ensures { result ≡ absent_reads (L.changes spool.now) group.now number }
 {

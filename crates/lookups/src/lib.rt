@@ -1,5 +1,5 @@
-//! What a command may ask of the accepted changes, whatever keeps them. `specs/Held.antt` and the definitions of the crate
-//! `model` say what each answer is.
+//! The questions that commands ask of the accepted changes, however the changes are kept. `specs/Held.antt` and the
+//! definitions of the crate `model` say what each answer is.
 #![tactic(auto)]
 
 ghost use Rattle.std.specs.Prelude.{◌≡◌, ℕ, ◌+◌, ◌<◌, ◌≤◌, ◌^◌, ◌++◌, IfSome, IsTrue, IsSome, OnOk, Some, true, false, length, option_map, slice_get};
@@ -21,7 +21,7 @@ pub use finding::{
 use model::Part;
 use std::alloc::AllocError;
 
-/// A group that is here.
+/// A group that exists.
 #[derive(Clone, Copy)]
 pub struct GroupView<'s> {
     pub serial: u64,
@@ -31,27 +31,27 @@ pub struct GroupView<'s> {
     pub description: &'s [u8],
     /// when it was made, in seconds since 1970
     pub moment: u64,
-    /// the lowest and the highest number, as they are now
+    /// the lowest and the highest number at present
     pub low: u64,
     pub high: u64,
     /// the last serial that names it
     pub last: u64,
 }
 
-/// The accepted changes of a host, to be asked. No call changes them. A call that appends to a reply is refused for memory
-/// alone; the reply may hold any octets then, and is thrown away.
+/// The accepted changes of a host, as a source of answers. No call changes them. A call that appends to a reply is
+/// refused only for want of memory; then the reply may hold any octets, and the caller discards it.
 pub trait LookUps {
     /// The changes.
     ghost changes: { Self → Spool };
 
-    /// The host that they are of.
+    /// The host whose changes these are.
     ghost host_of: { Self → Octets };
 
     /// The host.
     fn host(&self) -> &[u8]
         ensures { result.now ≡ host_of self.now };
 
-    /// How many changes there are.
+    /// The number of changes.
     fn len(&self) -> u64
         ensures { result ≡ length (changes self.now) };
 
@@ -59,11 +59,11 @@ pub trait LookUps {
     fn group(&self, name: &[u8]) -> Option<GroupView<'_>>
         ensures { option_map shown result ≡ option_map (known (changes self.now)) (group_named (changes self.now) name.now) };
 
-    /// How many groups there are.
+    /// The number of groups.
     fn group_count(&self) -> usize
         ensures { result ≡ length (groups (changes self.now)) };
 
-    /// The group with this place, from 0, in rising serial.
+    /// The group at this place, from 0, in rising serial.
     fn group_at(&self, place: usize) -> GroupView<'_>
         requires { place < length (groups (changes self.now)) }
         ensures { slice_get (all_known (changes self.now)) place ≡ Some (shown result) };
@@ -72,16 +72,16 @@ pub trait LookUps {
     fn by_number(&self, group: &[u8], number: u64) -> Option<u64>
         ensures { result ≡ option_map (λ a. a.serial) (by_number (changes self.now) group.now number) };
 
-    /// The serial of the article with this message-id, also where it is gone.
+    /// The serial of the article with this message-id, even if it is gone.
     fn by_id(&self, wanted: &[u8]) -> Option<u64>
         ensures { result ≡ option_map (λ a. a.serial) (by_id (changes self.now) wanted.now) };
 
-    /// The serial of the expiry that took the article out of its last group. None where it is in a group, or where no article
-    /// has this serial.
+    /// The serial of the expiry that removed the article from its last group. `None` if it is in a group, or if no
+    /// article has this serial.
     fn gone_at(&self, serial: u64) -> Option<u64>
         ensures { result ≡ gone_with (changes self.now) serial };
 
-    /// The serial of the expiry that took this number out of the group, 0 where none did.
+    /// The serial of the expiry that removed this number from the group, or 0 if none did.
     fn expired_at(&self, group: &[u8], number: u64) -> u64
         ensures { result ≡ expired_at (changes self.now) group.now number };
 
@@ -89,15 +89,15 @@ pub trait LookUps {
     fn moment(&self, serial: u64) -> Option<u64>
         ensures { result ≡ option_map (λ a. a.moment) (article_with (changes self.now) serial) };
 
-    /// How many changes stand before the first article of this moment or a later one, in seconds since 1970; all, where there is
-    /// none. None before 1970, and at its first second.
+    /// The number of changes before the first article filed at `from` or later, in seconds since 1970; all changes if
+    /// there is no such article. If `from` is 0 or negative, the answer is 0.
     fn older_than(&self, from: i64) -> u64
         ensures few { result ≤ length (changes self.now) }
         ensures older { (serial : ℕ) → serial ≤ result → IfSome (article_with (changes self.now) serial) (λ a. is_since from a.moment ≡ false) }
         ensures next { is_since from 0 ≡ false → result < length (changes self.now) → option_map (λ a. is_since from a.moment) (article_with (changes self.now) (result + 1)) ≡ Some true }
         ensures none { is_since from 0 ≡ true → result ≡ 0 };
 
-    /// Whether the article with this serial is in a group whose name the wildmat takes.
+    /// Whether the article with this serial is in a group whose name the wildmat matches.
     fn is_in_one(&self, serial: u64, wildmat: &[u8]) -> bool
         requires { IsTrue (is_wildmat wildmat.now) }
         ensures { result ≡ list_any (wildmat_matches wildmat.now) (groups_now (changes self.now) serial) };
@@ -107,7 +107,7 @@ pub trait LookUps {
         requires { IsSome (article_with (changes self.now) serial) }
         ensures { OnOk result (reply.new.items ≡ reply.old.items ++ id (text_of (changes self.now) serial)) };
 
-    /// Appends this part of an article, dot-stuffed and with the line that ends it; no octet for `Nothing`.
+    /// Appends this part of an article, dot-stuffed and with the line that ends it; appends nothing for `Nothing`.
     fn push_part(&self, part: &Part, serial: u64, reply: &mut Vec<u8>) -> Result<(), AllocError>
         requires { IsSome (article_with (changes self.now) serial) }
         ensures { OnOk result (reply.new.items ≡ reply.old.items ++ sent_part part.now (text_of (changes self.now) serial)) };
@@ -130,11 +130,11 @@ pub trait LookUps {
         requires high { to ≤ high (changes self.now) group.now }
         ensures { OnOk result (reply.new.items ≡ reply.old.items ++ overviews_between (changes self.now) group.now from to) };
 
-    /// Each change may follow those before it.
+    /// Each change may follow the changes before it.
     ghost lawful: { (s : Self) → IsLawful (host_of s) (changes s) };
 
     ghost good_host: { (s : Self) → IsTrue (is_host (host_of s)) };
 
-    /// Each serial has room in ten digits.
+    /// Each serial fits into ten digits.
     ghost few: { (s : Self) → length (changes s) + 1 < 10 ^ 10 };
 }

@@ -21,13 +21,13 @@ pub record MemoryView : Type 0 where
   pub touched : List Bool
   -- which call fails
   pub plan : Plan
-  -- how many calls were asked and how many failed
+  -- the numbers of calls that were asked and that failed
   pub reads : ℕ
   pub writes : ℕ
   pub syncs : ℕ
   pub failures : ℕ
 
--- Its meaning as a device. It keeps no record of past calls: for each earlier time it tells the images of now.
+-- Its meaning as a device. It keeps no record of past calls: for each earlier time it gives the images of the present.
 abbrev pub device_of : MemoryView → Device
 device_of m = record {
   size = length m.synced;
@@ -63,7 +63,7 @@ asked call m = record m { plan = plan_after call m.plan; failures = if fails_nex
 abbrev pub after_read : MemoryView → MemoryView
 after_read m = record (asked Read m) { reads = one_more m.reads }
 
--- a write puts its octets in and touches them, also where it fails
+-- a write puts its octets in and touches them, even if it fails
 abbrev pub after_write : ℕ → List ℕ → MemoryView → MemoryView
 after_write at from m = record (asked Write m) {
   present = overwritten at from m.present;
@@ -75,7 +75,7 @@ after_write at from m = record (asked Write m) {
 abbrev pub all_synced : List ℕ → MemoryView → MemoryView
 all_synced image m = record m { synced = image; present = image; touched = replicate (length m.touched) false }
 
--- a sync makes what a read gives durable, and where it fails leaves the octets and which are touched
+-- a sync makes what a read gives durable; if it fails, the octets and the touched ones stay as they are
 abbrev pub after_sync : MemoryView → MemoryView
 after_sync m = if fails_next Sync m.plan then record (asked Sync m) { syncs = one_more m.syncs } else all_synced m.present (record (asked Sync m) { syncs = one_more m.syncs })
 

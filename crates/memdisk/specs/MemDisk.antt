@@ -4,7 +4,7 @@ use Rattle.memdisk.specs.Calls.{MemoryView, device_of}
 use Rattle.memdisk.specs.Memory.{IsCrashImage}
 use Rattle.memdisk.specs.declared.MemDisk.{MemDisk}
 
--- what of its fields the contracts speak of
+-- the fields that the contracts speak of
 abbrev pub view : MemDisk → MemoryView
 view m = record {
   synced = m.synced.items;

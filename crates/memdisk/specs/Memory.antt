@@ -1,8 +1,8 @@
--- The octets of a device in memory: those of the last good sync, those that a read gives, and which were written between.
+-- The octets of a device in memory: those of the last good sync, those that a read gives, and which were written since.
 use Rattle.std.specs.Prelude.{◌≡◌, ◌<◌, ◌≤◌, ℕ, ◌+◌, ◌/◌, Bool, true, false, List, length, slice_index, slice_index_or}
 
--- What was not written since the last good sync is the same in both.
--- A block of 4,096 octets of which some were written is marked.
+-- What was not written since the last good sync is the same in both. A block of 4,096 octets is marked if some of them
+-- were written.
 pub record IsSound (synced present : List ℕ) (touched marked : List Bool) : Type 0 where
   pub size : length present ≡ length synced
   pub flags : length touched ≡ length synced
@@ -12,7 +12,7 @@ pub record IsSound (synced present : List ℕ) (touched marked : List Bool) : Ty
   pub octets : (k : ℕ) → slice_index present k < 256
   pub synced_octets : (k : ℕ) → slice_index synced k < 256
 
--- the marked blocks lie from one place on, before another
+-- the marked blocks lie in a range of places
 pub record IsSpanned (marked : List Bool) (first past : ℕ) : Type 0 where
   pub within : past ≤ length marked
   pub from : (b : ℕ) → slice_index_or marked b false ≡ true → first ≤ b

@@ -9,7 +9,7 @@ octet_of Old old new = old
 octet_of New old new = new
 octet_of (Fill octet) old new = octet
 
--- the pick for the k-th touched octet: they are taken in turn, and where there are none it is Old
+-- the pick for the k-th touched octet: the picks are taken in turn, and without picks it is Old
 abbrev pub pick_for : List Pick → ℕ → Pick
 pick_for [] k = Old
 pick_for (p ∷ ps) k = slice_index_or (p ∷ ps) (k % length (p ∷ ps)) Old

@@ -18,13 +18,13 @@ fails_next call Never = false
 fails_next call (Any n) = eqb n 0
 fails_next call (Kind kind n) = is_kind kind call && eqb n 0
 
--- what is left of the plan after that call; a plan is for one call
+-- the plan after that call; a plan is for one call
 abbrev pub plan_after : DiskCall → Plan → Plan
 plan_after call Never = Never
 plan_after call (Any n) = if eqb n 0 then Never else Any (n - 1)
 plan_after call (Kind kind n) = if is_kind kind call then (if eqb n 0 then Never else Kind kind (n - 1)) else Kind kind n
 
--- the n-th call from now, counted from 1, and none at 0
+-- the plan for the n-th call from now, counted from 1; 0 plans none
 abbrev pub plan_for : ℕ → Plan
 plan_for n = if eqb n 0 then Never else Any (n - 1)
 

@@ -1,4 +1,4 @@
-//! The octets of the marked blocks, so that a sync and a crash cost what was written since the last good sync.
+//! The octets of the marked blocks. A sync and a crash cost only what was written since the last good sync.
 
 ghost use Rattle.std.specs.Prelude.{◌≡◌, ◌+◌, ◌-◌, ◌/◌, ◌<◌, ◌≤◌, ◌⊎◌, ℕ, IfOk, true, false, length, max, min, replicate, slice_index, slice_index_or};
 ghost use Rattle.disk.specs.Image.{overwritten, part};
@@ -24,7 +24,7 @@ pub fn put(present: &mut Vec<u8>, touched: &mut Vec<bool>, at: usize, from: &[u8
     touched[at..end].fill(true);
 }
 
-/// Marks on blocks. The marked ones lie in `first..past`, so that to go over them costs no more than that.
+/// Marks on blocks. The marked blocks lie in `first..past`, so a walk over them costs no more than that range.
 #[derive(Drop)]
 pub struct Marks {
     pub blocks: Vec<bool>,
@@ -34,7 +34,7 @@ pub struct Marks {
 }
 
 impl Marks {
-    /// No block of so many is marked.
+    /// Marks for this many blocks, none of them marked. Refused only for want of memory.
     pub fn new(alloc: Global, blocks: usize) -> Result<Marks, AllocError>
         ensures { IfOk result (λ m. m.blocks.items ≡ replicate blocks false) }
     {
@@ -45,7 +45,7 @@ impl Marks {
         })
     }
 
-    /// Marks the blocks of which the octets from `at` to `end` are part.
+    /// Marks the blocks that the octets from `at` to `end` touch.
     pub fn mark(&mut self, at: usize, end: usize)
         requires { end / 4096 < length self.old.blocks.items }
         ensures size { length self.new.blocks.items ≡ length self.old.blocks.items }
@@ -64,7 +64,7 @@ impl Marks {
         }
     }
 
-    /// Takes all marks away.
+    /// Removes all marks.
     pub fn clear(&mut self)
         ensures size { length self.new.blocks.items ≡ length self.old.blocks.items }
         ensures none { (b : ℕ) → slice_index_or self.new.blocks.items b false ≡ false }
@@ -79,7 +79,7 @@ impl Marks {
     }
 }
 
-// Where the block ends that starts there.
+// Where the block that starts there ends.
 fn block_end(start: usize, len: usize) -> usize
     requires { start ≤ len }
     ensures { result ≡ start + min 4096 (len - start) }
@@ -147,7 +147,7 @@ pub fn settle_marked(
     }
 }
 
-// The same in a range, where so many touched octets lie below it; how many lie below its end.
+// The same for a range. `count` touched octets lie below its start; the result is the number below its end.
 fn settle_range(
     present: &mut Vec<u8>,
     synced: &[u8],

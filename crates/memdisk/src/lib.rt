@@ -1,5 +1,5 @@
-//! A device in memory whose crashes can be picked, and that can be told to fail.
-//! `specs/Calls.antt` says what each call leaves of it.
+//! A device in memory whose crashes can be chosen and whose calls can be made to fail. `specs/Calls.antt` says what
+//! each call leaves of it.
 #![tactic(auto)]
 
 mod blocks;
@@ -18,7 +18,7 @@ use std::alloc::{AllocError, Global};
 /// What a crash makes of a touched octet.
 #[derive(Clone, Copy, Debug, PartialEq, Eq)]
 pub enum Pick {
-    /// The octet of the last good sync.
+    /// The octet as of the last good sync.
     Old,
     /// The octet that was written last.
     New,
@@ -26,13 +26,13 @@ pub enum Pick {
     Fill(u8),
 }
 
-/// Which call fails: reads, writes and syncs are calls.
+/// Which call fails. Reads, writes and syncs are calls.
 #[derive(Clone, Copy, Debug, PartialEq, Eq)]
 pub enum Plan {
     Never,
-    /// A call of any kind, once, after so many others.
+    /// A call of any kind, once, after this many others.
     Any(u64),
-    /// A call of this kind, once, after so many others of it.
+    /// A call of this kind, once, after this many others of it.
     Kind(DiskCall, u64),
 }
 
@@ -60,7 +60,7 @@ impl Plan {
         }
     }
 
-    // The answer of that call, where a failure is counted.
+    // The answer to that call. A failure is counted.
     fn ask(&mut self, call: DiskCall, failures: &mut u64) -> Result<(), DiskError>
         ensures fails { IsErrOf result DiskError.Fault ↔ IsTrue (fails_next call self.old) }
         ensures no_memory { IfErr result (λ error. error ≡ DiskError.Fault) }
@@ -75,7 +75,7 @@ impl Plan {
     }
 }
 
-// The n-th call of this kind, counted from 1, and none at 0.
+// The plan that the n-th call of this kind fails, counted from 1; 0 plans none.
 fn planned(kind: DiskCall, n: u64) -> Plan
     ensures { result ≡ plan_for_kind kind n }
 {
@@ -116,7 +116,8 @@ pub struct MemDisk {
 impl MemDisk {
     ghost use Rattle.memdisk.specs.MemDisk.{memory_device, view};
 
-    /// A device of `len` octets, zeros that count as synced. No failure is pending and the counts are 0.
+    /// A device of `len` zeros that count as synced. No failure is pending and the counts are 0. Refused only for want
+    /// of memory.
     pub fn new(alloc: Global, len: u64) -> Result<MemDisk, AllocError>
         ensures memory { IfOk result (λ m. view m ≡ blank len) }
         ensures synced { IfOk result (λ m. LeavesOnly (memory_device m) (memory_device m).content) }
@@ -135,7 +136,7 @@ impl MemDisk {
         })
     }
 
-    /// How many writes and syncs were asked since `new`, each as a u64 that wraps.
+    /// The numbers of writes and syncs asked since `new`, each as a u64 that wraps.
     pub fn counts(&self) -> (u64, u64)
         ensures writes { result.0 ≡ (view self.now).writes }
         ensures syncs { result.1 ≡ (view self.now).syncs }
@@ -143,8 +144,9 @@ impl MemDisk {
         (self.writes, self.syncs)
     }
 
-    /// The k-th touched octet, counted from 0 in rising place, becomes what `picks[k % picks.len()]` says; where there
-    /// are no picks, `Old`. The result counts as synced. A failure that is pending stays so.
+    /// Crashes the device. The k-th touched octet, counted from 0 in rising place, becomes what `picks[k %
+    /// picks.len()]` says, or `Old` if there are no picks. The result counts as synced. A pending failure stays
+    /// pending.
     pub fn crash(&mut self, picks: &[Pick])
         ensures memory { view self.new ≡ all_synced (picked picks.now (view self.old)) (view self.old) }
         ensures lawful { (memory_device self.old).may_leave (view self.new).present }

@@ -1,5 +1,5 @@
--- What is kept in memory beside the files of a spool, so that no look-up searches them. Each field is an equation with the
--- spool, and one change more changes each by one element at most. All of it is this project's own choice.
+-- What is kept in memory besides the files of a spool, so that no look-up searches the files. Each field is an equation
+-- with the spool, and one more change alters each field by at most one element. All of it is this project's own choice.
 use Rattle.std.specs.Prelude.{◌≡◌, ℕ, zero, suc, ◌+◌, List, [], ◌∷◌, ◌++◌, map, length, slice_index, slice_index_or, Option, Some, None, bytes_eq, option_map}
 use Rattle.std.specs.Map.{lookup}
 use Rattle.model.specs.Stream.{Octets}
@@ -27,7 +27,7 @@ note_of e = by_change e.serial e.change where
 
 -- ---- a group
 
--- where each of some lines ends, if they stand one after the other after so many octets
+-- where each of some lines ends, if they follow one another after this many octets
 abbrev pub ends_from : ℕ → List Octets → List ℕ
 ends_from start [] = []
 ends_from start (line ∷ lines) = (start + length line) ∷ ends_from (start + length line) lines
@@ -59,7 +59,7 @@ abbrev pub line_start : List ℕ → ℕ → ℕ
 line_start ends zero = 0
 line_start ends (suc k) = slice_index ends k
 
--- ---- one change more
+-- ---- one more change
 
 abbrev pub with_article : Spool → Octets → GroupIndex → GroupIndex
 with_article S text i = record i {
@@ -97,7 +97,7 @@ pub record IsIndexOf (S : Spool) (index : SpoolIndex) : Type 0 where
   pub names_are : (name : Octets) → value_of index.names name ≡ option_map (λ g. g.serial) (group_named S name)
   pub ids_are : (wanted : Octets) → value_of index.ids wanted ≡ option_map (λ a. a.serial) (by_id S wanted)
 
--- ---- where the files stand
+-- ---- where the files are
 
 -- the inode of each change's file by serial, and of the numbers and the overview of each group
 pub record FilePlaces : Type 0 where
@@ -105,7 +105,7 @@ pub record FilePlaces : Type 0 where
   pub numbers : List ℕ
   pub overviews : List ℕ
 
--- what these inodes have
+-- the files in these inodes
 abbrev pub files_at : ℕ → List Octets → List ℕ → List (Option File)
 files_at inodes blocks places = map (λ k. slice_index_or (table inodes blocks) k None) places
 

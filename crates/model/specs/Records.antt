@@ -5,7 +5,7 @@ use Rattle.byteorder.specs.Endian.{little_bytes}
 use Rattle.model.specs.Stream.{Octets}
 use Rattle.model.specs.Spool.{NewsGroup, NewsArticle, Expiry}
 
--- the last so many decimal digits of a number
+-- the last decimal digits of a number, this many of them
 abbrev pub last_digits : ℕ → ℕ → Octets
 last_digits zero n = []
 last_digits (suc count) n = last_digits count (n / 10) ++ (48 + n % 10) ∷ []

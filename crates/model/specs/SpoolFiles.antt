@@ -32,11 +32,11 @@ expiry_name serial = codes "x." ++ last_digits 10 serial
 
 -- ---- numbers and overview of a group
 
--- where an overview line stands, and whose it is
+-- where an overview line is, and which article it belongs to
 abbrev pub number_record : ℕ → ℕ → Octets → Octets
 number_record serial offset line = little_bytes 8 serial ++ little_bytes 4 offset ++ little_bytes 4 (length line)
 
--- for each article its serial, and where its line stands after the first so many octets of the overview
+-- for each article its serial, and where its line is after the first octets of the overview, this many
 abbrev pub number_records : ℕ → List (NewsArticle × Octets) → Octets
 number_records offset [] = []
 number_records offset (p ∷ rest) = number_record p.0.serial offset p.1 ++ number_records (offset + length p.1) rest
@@ -51,7 +51,7 @@ overview_of filed = flat_map (λ line. line) (overview_lines filed)
 unfoldable pub numbers_of : List NewsArticle → Octets
 numbers_of filed = number_records 0 (zip filed (overview_lines filed))
 
--- those of a group: of every article that was filed in it. An expiry takes none out
+-- the overview lines of every article that was filed in the group. An expiry removes none
 abbrev pub overview_file : Spool → Octets → Octets
 overview_file S g = overview_of (filed_in S g)
 
@@ -60,7 +60,7 @@ numbers_file S g = numbers_of (filed_in S g)
 
 -- ---- the files of a spool
 
--- the file that says the change
+-- the file that holds the change
 abbrev pub change_file : Entry → File
 change_file e = by_change e.serial e.change where
   by_change : ℕ → Change → File
@@ -107,7 +107,7 @@ files_by_kind S = flat_map (group_files S) (groups S) ++ (map article_file (arti
 abbrev pub is_of_change : File → Bool
 is_of_change file = slice_index file.name 0 == 103 || (slice_index file.name 0 == 97 || slice_index file.name 0 == 120)
 
--- the serial and the numbers of a change have room in its file
+-- the serial and the numbers of a change fit into its file
 abbrev pub HasRoomInFile : ℕ → Change → Type 0
 HasRoomInFile n (Group name status description moment) = (n < 256 ^ 8) × (moment < 256 ^ 8)
 HasRoomInFile n (Article text groups moment) = (n < 256 ^ 8) × (moment < 256 ^ 8) × (length text < 256 ^ 4)
@@ -115,12 +115,12 @@ HasRoomInFile n (Expire group number) = (n < 256 ^ 8) × (number < 256 ^ 4)
 
 -- ---- what a change does to the files
 
--- a call on files: an empty file is made; octets go to the end of a file
+-- a call on files: an empty file is made; octets are appended to a file
 pub data FileCall : Type 0 where
   Create : Octets → FileCall
   Append : Octets → Octets → FileCall
 
--- a file, with these octets at its end where it has this name
+-- a file, with these octets appended if it has this name
 abbrev pub appended : Octets → Octets → File → File
 appended name octets file = if bytes_eq name file.name then record { name = file.name; content = file.content ++ octets } else file
 

@@ -1,9 +1,11 @@
+//! Laws of the spool in files. Each function does nothing, and its contract is the law.
+
 ghost use Rattle.model.specs.Laws.Indexed.{ArticlesGrow, EmptyIndex, ExpiriesGrow, ExpiriesRise, FiledRise, GroupsGrow, LinesStand, NotesGrow, NumbersAreWhole};
 ghost use Rattle.model.specs.Laws.Layout.{EmptyVolumesStand, ImagesStandForOne, VersionIsOne};
 ghost use Rattle.model.specs.Laws.Room.{ChangesAskFew, FilesGrowByBlocks, FreeIsBeside, NotFullHasRoom};
 ghost use Rattle.model.specs.Laws.SpoolFiles.{AppendsToOne, BlocksHoldOne, ChangesAreCounted, ChangesAreFew, ChangesAreRead, CreatesOne, EmptyHoldsNone, FilesAreByKind, FilesAreCounted, FilesGrow, FilesMakeSpool, FrontsAreRead, SpoolsGrow};
 
-/// Blocks hold one spool at most, and it has no more changes than there are inodes.
+/// Blocks hold at most one spool, and it has at most as many changes as there are inodes.
 pub fn blocks_hold_one_spool()
     ensures one { BlocksHoldOne }
     ensures few { ChangesAreFew }
@@ -14,18 +16,18 @@ pub fn empty_blocks_hold_no_change()
     ensures { EmptyHoldsNone }
 {}
 
-/// A spool grows as its files do.
+/// A spool grows as its files grow.
 pub fn spools_grow_by_their_files()
     ensures files { FilesGrow }
     ensures spools { SpoolsGrow }
 {}
 
-/// An empty file in a free inode is one file more.
+/// An empty file in a free inode adds one file and changes no other.
 pub fn creates_add_one_file()
     ensures { CreatesOne }
 {}
 
-/// Octets at the end of a file change no other file.
+/// Octets appended to a file change no other file.
 pub fn appends_reach_one_file()
     ensures { AppendsToOne }
 {}
@@ -35,15 +37,15 @@ pub fn free_is_beside_the_files()
     ensures { FreeIsBeside }
 {}
 
-/// A change asks for few blocks and changes few, and finds them where the spool isn't full.
+/// A change asks for few blocks and changes few, and it finds them where the spool is not full.
 pub fn changes_ask_for_few_blocks()
     ensures grow { FilesGrowByBlocks }
     ensures few { ChangesAskFew }
     ensures room { NotFullHasRoom }
 {}
 
-/// What the files of changes say is the spool that the blocks hold; where each file is one of a lawful spool, and there
-/// are as many, the blocks hold that spool.
+/// The files of the changes determine the spool that the blocks hold. If each file is one of a lawful spool, and there
+/// are as many files as that spool has, the blocks hold that spool.
 pub fn files_say_their_spool()
     ensures read { ChangesAreRead }
     ensures fronts { FrontsAreRead }
@@ -53,14 +55,14 @@ pub fn files_say_their_spool()
     ensures kinds { FilesAreByKind }
 {}
 
-/// An image stands for one spool at most, under one host, and a new one for the spool without changes.
+/// An image stands for at most one spool, under one host. A new image stands for the spool without changes.
 pub fn images_stand_for_one_spool()
     ensures one { ImagesStandForOne }
     ensures version { VersionIsOne }
     ensures empty { EmptyVolumesStand }
 {}
 
-/// What stands in order in the index, and where.
+/// What is sorted in the index, and where it is found.
 pub fn index_rises()
     ensures expiries { ExpiriesRise }
     ensures filed { FiledRise }
@@ -68,7 +70,7 @@ pub fn index_rises()
     ensures lines { LinesStand }
 {}
 
-/// What one change more changes of the index.
+/// How one more change changes the index.
 pub fn index_grows()
     ensures notes { NotesGrow }
     ensures groups { GroupsGrow }

@@ -15,13 +15,13 @@ EmptyGroup =
     told start (new_seat ∷ []) (says 0 (codes "GROUP x.a") ∷ says 0 (codes "STAT") ∷ [])
     ≡ is_told (codes "211 0 1 0 x.a") 1 ∷ is_told (codes "420 No current article") 1 ∷ []
 
--- another group's reply waits for no article that names other groups
+-- a reply about one group does not wait for an article that names only other groups
 abbrev pub OtherGroup : Type 0
 OtherGroup =
     told (with_second takes_articles) (new_seat ∷ new_seat ∷ []) (says 0 (codes "POST") ∷ sends 0 article_one ∷ says 1 (codes "GROUP x.b") ∷ [])
     ≡ is_told (codes "340 Send article") 0 ∷ is_told (codes "240 Article received") 3 ∷ is_told (codes "211 0 1 0 x.b") 2 ∷ []
 
--- of two sessions that were asked for one article, the second one's is rejected
+-- two sessions were asked for the same article, and the second one's is rejected
 abbrev pub OfferedTwice : Type 0
 OfferedTwice =
     told start (new_seat ∷ new_seat ∷ [])
@@ -35,7 +35,7 @@ PostedTwice =
     told start (new_seat ∷ new_seat ∷ []) (says 0 (codes "POST") ∷ sends 0 article_one ∷ says 1 (codes "POST") ∷ sends 1 article_one ∷ [])
     ≡ is_told (codes "340 Send article") 0 ∷ is_told (codes "240 Article received") 2 ∷ is_told (codes "340 Send article") 0 ∷ is_told (codes "441 Article not accepted") 2 ∷ []
 
--- the fields that a posted article lacks are put in front
+-- the fields that a posted article lacks are put at its start
 abbrev pub Injection : Type 0
 Injection =
     (length short_post ≡ 58) × (length short_stored ≡ 160)

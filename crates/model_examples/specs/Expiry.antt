@@ -1,4 +1,4 @@
--- Worked examples of expiry. A group of three articles, of which two are taken out, has serials 1 to 5.
+-- Worked examples of expiry. A group of three articles, two of which are removed, has serials 1 to 5.
 use Rattle.std.specs.Prelude.{◌≡◌, [], ◌∷◌, ◌++◌, codes}
 use Rattle.model.specs.Spool.{Spool, first}
 use Rattle.model.specs.Lawful.{MayExpire}
@@ -7,7 +7,7 @@ use Rattle.model_examples.specs.Run.{new_seat, made, says, sends, is_told, is_to
 use Rattle.model_examples.specs.Texts.{article, article_one, moment, three, takes_articles, with_second}
 use Rattle.model.specs.declared.change.Change.TheVariants.{Article, Expire}
 
--- two of three are taken out
+-- two of three are removed
 abbrev pub expired : Spool
 expired = three ++ Expire (codes "x.a") 2 ∷ []
 
@@ -22,7 +22,7 @@ EachAlone =
     ≡ is_told (codes "211 1 3 3 x.a") 5 ∷ is_told (codes "430 No such article") 5 ∷ is_told (codes "430 No such article") 0
     ∷ is_told (codes "223 0 <3@a.example>") 4 ∷ is_told (codes "435 Article not wanted") 2 ∷ []
 
--- the same number is not taken out twice; a number past the highest, or of a group that is not here, never
+-- the same number is not removed twice; a number above the highest, or of a group that does not exist, never
 pub record MayOnlyOnce : Type 0 where
   pub may : MayExpire three (codes "x.a") 2
   pub twice : MayExpire expired (codes "x.a") 2 → ⊥
@@ -31,13 +31,13 @@ pub record MayOnlyOnce : Type 0 where
   pub nothing : MayExpire three (codes "x.a") 0 → ⊥
   pub elsewhere : MayExpire three (codes "x.b") 1 → ⊥
 
--- where the expiry is lost, the article is there
+-- where the expiry is lost, the article is in its group
 abbrev pub Lost : Type 0
 Lost =
     (first expired 4 ≡ three)
     × (told (first expired 4) (new_seat ∷ []) (says 0 (codes "STAT <1@a.example>") ∷ []) ≡ is_told (codes "223 0 <1@a.example>") 2 ∷ [])
 
--- with all taken out the group is empty, and the next article has the next number
+-- when all articles are removed the group is empty, and the next article has the next number
 abbrev pub NextNumber : Type 0
 NextNumber =
     told all_expired (new_seat ∷ [])
@@ -45,7 +45,7 @@ NextNumber =
     ≡ is_told (codes "211 0 4 3 x.a") 6 ∷ is_told (codes "420 No current article") 6 ∷ is_told (codes "340 Send article") 6 ∷ is_told (codes "240 Article received") 7
     ∷ is_told (codes "211 1 4 4 x.a") 7 ∷ is_told (codes "223 4 <4@a.example>") 7 ∷ []
 
--- and so it has where one is left: numbers go on after the highest
+-- the same holds where one is left: numbers continue after the highest
 abbrev pub NumbersGoOn : Type 0
 NumbersGoOn =
     told expired (new_seat ∷ [])
@@ -53,14 +53,14 @@ NumbersGoOn =
     ≡ is_told (codes "340 Send article") 0 ∷ is_told (codes "240 Article received") 6 ∷ is_told (codes "211 2 3 4 x.a") 6
     ∷ is_told (codes "223 3 <3@a.example>") 6 ∷ is_told (codes "223 4 <4@a.example>") 6 ∷ is_told (codes "223 3 <3@a.example>") 6 ∷ []
 
--- an id that was taken out is never taken again; its refusal waits for the article, not for the expiry
+-- an id that was expired is never accepted again; its refusal waits for the article, not for the expiry
 abbrev pub IdsAreRemembered : Type 0
 IdsAreRemembered =
     told expired (new_seat ∷ new_seat ∷ [])
     (says 0 (codes "POST") ∷ sends 0 article_one ∷ says 1 (codes "IHAVE <1@a.example>") ∷ [])
     ≡ is_told (codes "340 Send article") 0 ∷ is_told (codes "441 Article not accepted") 2 ∷ is_told (codes "435 Article not wanted") 2 ∷ []
 
--- lists, ranges and new articles show what is in
+-- lists, ranges and new articles show what is in the groups
 abbrev pub ShowsWhatIsIn : Type 0
 ShowsWhatIsIn =
     told expired (new_seat ∷ [])
@@ -73,7 +73,7 @@ ShowsWhatIsIn =
     ∷ is_told_lines (codes "230 New articles follow") (codes "<3@a.example>" ∷ []) 5
     ∷ is_told (codes "430 No such article") 5 ∷ []
 
--- a current number below the lowest is none, and LAST stops at the lowest
+-- a current number below the lowest counts as none, and LAST stops at the lowest
 abbrev pub CurrentIsTakenOut : Type 0
 CurrentIsTakenOut =
     told three (new_seat ∷ new_seat ∷ new_seat ∷ [])
@@ -83,8 +83,8 @@ CurrentIsTakenOut =
     ∷ is_told (codes "420 No current article") 5 ∷ is_told (codes "420 No current article") 5 ∷ is_told (codes "420 No current article") 5
     ∷ is_told (codes "223 3 <3@a.example>") 4 ∷ is_told (codes "422 No previous article") 5 ∷ []
 
--- an article of two groups, numbered 1 in each: it is gone once it was taken out of both, by the later expiry. Serials: 3
--- the article, 4 another one of x.b, 5 and 6 the expiries, 7 one more of x.b
+-- an article of two groups, numbered 1 in each: it is gone once it was removed from both, by the later expiry. Serials:
+-- 3 is the article, 4 another one of x.b, 5 and 6 are the expiries, 7 is one more article of x.b
 abbrev pub crossposted : Spool
 crossposted =
     with_second takes_articles

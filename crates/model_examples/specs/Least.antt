@@ -1,5 +1,5 @@
--- No smaller serial would do: whatever a message is said to read, if its answer is to be the same over each front of the
--- spool that has it, is at least this serial.
+-- No smaller serial would do. Take any serial such that the answer is the same over each prefix of the spool that
+-- contains it: that serial is at least the one that the message reads.
 use Rattle.std.specs.Prelude.{◌≡◌, ℕ, ◌≤◌, length, Some, codes}
 use Rattle.model.specs.Stream.{Octets}
 use Rattle.model.specs.Spool.{Spool, first}

@@ -4,8 +4,9 @@ use Rattle.model_examples.specs.Run.{new_seat, made, says, sends, is_told, told}
 use Rattle.model_examples.specs.Texts.{article, one, three}
 use Rattle.model.specs.declared.change.Change.TheVariants.{Expire}
 
--- sessions 1 and 2 have selected the group; session 0 posts a second article, which has serial 3. An article waits for
--- itself alone, and a number that is not given yet for nothing; NEXT waits for the group
+-- sessions 1 and 2 have selected the group; session 0 posts a second article, which has serial 3. A reply about an
+-- article by number waits only for that article. A reply about a number that is not yet given waits for nothing. NEXT
+-- waits for the group
 abbrev pub ByNumber : Type 0
 ByNumber =
     told one (new_seat ∷ new_seat ∷ new_seat ∷ [])
@@ -15,8 +16,8 @@ ByNumber =
     ∷ is_told (codes "223 1 <1@a.example>") 2 ∷ is_told (codes "223 1 <1@a.example>") 2 ∷ is_told (codes "223 2 <2@a.example>") 3
     ∷ is_told (codes "423 No such article number") 2 ∷ is_told (codes "423 No such article number") 2 ∷ is_told (codes "223 2 <2@a.example>") 3 ∷ []
 
--- the group is selected with three articles, and taken out are first number 1, by serial 5, and then number 2, by serial 6: a
--- number below the lowest waits for the expiry that reached it first
+-- the group is selected with three articles. Number 1 is removed first, by serial 5, and then number 2, by serial 6. A
+-- reply about a number below the lowest waits for the expiry that reached it first
 abbrev pub BelowTheLowest : Type 0
 BelowTheLowest =
     told three (new_seat ∷ new_seat ∷ new_seat ∷ new_seat ∷ new_seat ∷ [])

@@ -39,11 +39,11 @@ pub record Told : Type 0 where
 abbrev pub is_told : Octets → ℕ → Told
 is_told text serial = record { reply = line text; depends = serial }
 
--- the reply of several lines: its first line and the others
+-- a multi-line reply: its first line and the others
 abbrev pub is_told_lines : Octets → List Octets → ℕ → Told
 is_told_lines status lines serial = record { reply = joined (status ∷ lines) ++ codes "." ++ crlf; depends = serial }
 
--- what the messages are told
+-- the replies to the messages
 abbrev pub told : Spool → List Seat → List Event → List Told
 told S seats [] = []
 told S seats (made c ∷ events) = told (S ++ c ∷ []) seats events
@@ -56,6 +56,6 @@ told S seats (message_of i m ∷ events) = go (answer news_example S (seat i).se
       record { reply = a.reply; depends = max (seat i).has_read n }
       ∷ rest (S ++ option_to_list a.change) (set seats i (record { session = a.next; has_read = max (seat i).has_read n }))
 
--- words parted by TAB, for which `|` stands
+-- words separated by TAB, which `|` stands for
 abbrev pub tabbed : Octets → Octets
 tabbed text = map (λ c. if c == 124 then 9 else c) text

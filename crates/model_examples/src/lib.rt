@@ -1,4 +1,4 @@
-//! Worked examples of the definitions in `model`, computed: what sessions are told, and what each reply depends on.
+//! Worked examples of the definitions in `model`, computed: what sessions are answered, and what each reply depends on.
 #![tactic(auto)]
 
 ghost use Rattle.model_examples.specs.Commands.{ClosedGroup, EmptyGroup, Injection, NewGroups, OfferedTwice, OtherGroup, Overviews, PostThenGroup, PostedTwice, Walk, Wildmats};
@@ -41,7 +41,7 @@ pub fn numbers()
     ensures below_the_lowest { BelowTheLowest }
 {}
 
-/// Of what must be read at least.
+/// Examples of the least serial that must be read.
 pub fn least()
     ensures gone_by_id { GoneById }
     ensures below_by_number { BelowByNumber }

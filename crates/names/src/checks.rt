@@ -1,3 +1,5 @@
+//! Checks of names, hosts, message-ids and numbers, on plain octets.
+
 ghost use Rattle.std.specs.Prelude.{◌≡◌, ◌-◌, ◌<◌, ◌≤◌, true, ◌==◌, ◌&&◌, length, slice_index, count_by};
 ghost use Rattle.std.specs.List.{list_all};
 ghost use Rattle.std.specs.Char.{is_ascii_digit};
@@ -20,42 +22,43 @@ pub const MESSAGE_ID_LIMIT: usize = 250;
 /// The digits of the longest number (RFC 3977, 9.8).
 pub const NUMBER_LIMIT: usize = 16;
 
-/// Whether the octet is printable ASCII and no space: 33 to 126 (RFC 3977, 9.8).
+/// Whether the octet is printable ASCII but not a space: 33 to 126 (RFC 3977, 9.8).
 pub fn is_visible(octet: u8) -> bool
     ensures { result ≡ model.is_visible octet }
 {
     33 <= octet && octet <= 126
 }
 
-/// Whether the octet may stand in a group name (RFC 5536, 3.1.4).
+/// Whether the octet may occur in a group name (RFC 5536, 3.1.4).
 fn is_group_octet(octet: u8) -> bool
     ensures { result ≡ model.is_group_octet octet }
 {
     octet.is_ascii_alphanumeric() || octet == b'+' || octet == b'-' || octet == b'_'
 }
 
-/// Whether the octet may stand in a host.
+/// Whether the octet may occur in a host.
 fn is_host_octet(octet: u8) -> bool
     ensures { result ≡ model.is_host_octet octet }
 {
     octet.is_ascii_alphanumeric() || octet == b'-'
 }
 
-/// Whether the octets are what stands between two dots of a group name.
+/// Whether the octets are a component of a group name, as between two dots.
 fn is_group_component(part: &[u8]) -> bool
     ensures { result ≡ model.is_run_of model.is_group_octet part.now }
 {
     !part.is_empty() && part.iter().all(|octet| is_group_octet(*octet))
 }
 
-/// Whether the octets are what stands between two dots of a host.
+/// Whether the octets are a component of a host, as between two dots.
 fn is_host_component(part: &[u8]) -> bool
     ensures { result ≡ model.is_run_of model.is_host_octet part.now }
 {
     !part.is_empty() && part.iter().all(|octet| is_host_octet(*octet))
 }
 
-/// Whether the text is a group name: components of letters, digits, `+`, `-` and `_` that dots part, at most 40 octets.
+/// Whether the text is a group name: components of letters, digits, `+`, `-` and `_`, separated by dots, at most 40
+/// octets.
 pub fn is_group_name(text: &[u8]) -> bool
     ensures { result ≡ model.is_group_name text.now }
 {
@@ -65,7 +68,7 @@ pub fn is_group_name(text: &[u8]) -> bool
             .all(|part| is_group_component(part))
 }
 
-/// Whether the text is a host: components of letters, digits and `-` that dots part, at most 64 octets.
+/// Whether the text is a host: components of letters, digits and `-`, separated by dots, at most 64 octets.
 pub fn is_host(text: &[u8]) -> bool
     ensures { result ≡ model.is_host text.now }
 {
@@ -85,7 +88,7 @@ pub fn is_message_id(text: &[u8]) -> bool
     text.iter().all(|octet| is_visible(*octet)) && has_brackets(text)
 }
 
-/// Whether `<` stands in front, `>` at the end, and no other `>` between them.
+/// Whether the text begins with `<`, ends with `>`, and has no other `>` between them.
 fn has_brackets(text: &[u8]) -> bool
     requires { 0 < length text.now }
     ensures { result ≡ ((slice_index text.now 0 == 60 && slice_index text.now (length text.now - 1) == 62) && count_by (λ octet. octet == 62) text.now == 1) }
@@ -97,7 +100,7 @@ fn has_brackets(text: &[u8]) -> bool
     text.iter().filter(|octet| **octet == b'>').count() == 1
 }
 
-/// Whether a message-id is of this host: what stands between its last `@` and its end is the host.
+/// Whether a message-id is of this host: the part between its last `@` and the `>` is the host.
 pub fn is_of_host(host: &[u8], id: &[u8]) -> bool
     ensures { result ≡ model.is_of_host host.now id.now }
 {
@@ -141,7 +144,7 @@ fn value_of(digits: &[u8]) -> u64
     value
 }
 
-/// The range that `n`, `n-` or `n-m` writes (RFC 3977, 9.8); where m is less than n no number is in it.
+/// The range that `n`, `n-` or `n-m` writes (RFC 3977, 9.8). If m is less than n, the range is empty.
 pub fn range_of(text: &[u8]) -> Option<Range>
     ensures { result ≡ model.range_of text.now }
 {
@@ -157,7 +160,7 @@ pub fn range_of(text: &[u8]) -> Option<Range>
     }
 }
 
-/// The range from this number on, up to what stands after the dash.
+/// The range from this number on, up to the number after the dash.
 fn range_from(first: u64, last: &[u8]) -> Option<Range>
     ensures { result ≡ range_from first last.now }
 {

@@ -1,5 +1,5 @@
-//! The names and patterns that stand in commands and header fields: group names, message-ids, hosts, numbers, ranges
-//! and wildmats. What each is stands in `specs/Names.antt` of the crate `model`.
+//! The names and patterns in commands and header fields: group names, message-ids, hosts, numbers, ranges and wildmats.
+//! `specs/Names.antt` of the crate `model` defines each of them.
 #![tactic(auto)]
 
 mod checks;

@@ -1,10 +1,12 @@
+//! Checks of wildmats, and whether a wildmat matches a name.
+
 ghost use Rattle.std.specs.Prelude.{◌≡◌, ◌∷◌, ◌==◌, map, is_some, IsTrue};
 ghost use Rattle.model.specs.Names as model;
 ghost use Rattle.names.specs.Patterns.{fits, verdict_of};
 
 use crate::checks::is_visible;
 
-/// Whether the text is a wildmat: patterns that commas part, none empty, the first without `!` (RFC 3977, 4.1).
+/// Whether the text is a wildmat: patterns separated by commas, none empty, the first without `!` (RFC 3977, 4.1).
 pub fn is_wildmat(text: &[u8]) -> bool
     ensures { result ≡ model.is_wildmat text.now }
 {
@@ -20,7 +22,7 @@ fn begins_negated(text: &[u8]) -> bool
     matches!(text, [b'!', ..])
 }
 
-/// Whether the text is a pattern, which may have `!` in front.
+/// Whether the text is a pattern, which may begin with `!`.
 fn is_pattern(text: &[u8]) -> bool
     ensures { result ≡ is_some (model.later_pattern_of text.now) }
 {
@@ -30,14 +32,14 @@ fn is_pattern(text: &[u8]) -> bool
     }
 }
 
-/// Whether the octets are those of a pattern without `!` in front, at least one.
+/// Whether the octets are those of a pattern without a leading `!`, at least one.
 fn are_items(text: &[u8]) -> bool
     ensures { result ≡ model.is_run_of model.is_pattern_octet text.now }
 {
     !text.is_empty() && text.iter().all(|octet| is_pattern_octet(*octet))
 }
 
-/// Whether the octet may stand in a pattern: `!`, `,`, `[`, `\` and `]` may not (RFC 3977, 4.1).
+/// Whether the octet may occur in a pattern: `!`, `,`, `[`, `\` and `]` may not (RFC 3977, 4.1).
 fn is_pattern_octet(octet: u8) -> bool
     ensures { result ≡ model.is_pattern_octet octet }
 {
@@ -45,8 +47,8 @@ fn is_pattern_octet(octet: u8) -> bool
         && !(octet == b'!' || octet == b',' || octet == b'[' || octet == b'\\' || octet == b']')
 }
 
-/// Whether a wildmat takes a name: the rightmost pattern that takes it decides, and none means no (RFC 3977, 4.2).
-/// At worst it takes as many steps as the wildmat's octets times the name's.
+/// Whether a wildmat matches a name: the rightmost pattern that matches decides; without one the answer is no (RFC
+/// 3977, 4.2). The number of steps is at most the wildmat's octets times the name's.
 pub fn wildmat_matches(wildmat: &[u8], name: &[u8]) -> bool
     requires { IsTrue (model.is_wildmat wildmat.now) }
     ensures { result ≡ model.wildmat_matches wildmat.now name.now }
@@ -57,7 +59,7 @@ pub fn wildmat_matches(wildmat: &[u8], name: &[u8]) -> bool
     })
 }
 
-/// What a pattern says of a name, where it takes it.
+/// What a pattern decides about a name, if it matches it.
 fn verdict(pattern: &[u8], name: &[u8]) -> Option<bool>
     ensures { result ≡ verdict_of name.now pattern.now }
 {
@@ -67,14 +69,14 @@ fn verdict(pattern: &[u8], name: &[u8]) -> Option<bool>
     }
 }
 
-/// Whether an item that is no `*` takes the octet.
+/// Whether an item other than `*` matches the octet.
 fn fits(item: u8, octet: u8) -> bool
     ensures { result ≡ fits item octet }
 {
     item == b'?' || octet == item
 }
 
-/// Whether the items of a pattern take the whole name.
+/// Whether the items of a pattern match the whole name.
 fn takes(items: &[u8], name: &[u8]) -> bool
     ensures { result ≡ model.takes (map model.item_of items.now) name.now }
 {
@@ -91,8 +93,8 @@ fn takes(items: &[u8], name: &[u8]) -> bool
     takes_behind_run(&items[at + 1..], &name[at..])
 }
 
-/// Whether `*` and these items take the whole name. After the last `*` the items are tried at each place of the name
-/// in turn; what an earlier `*` takes no longer matters then.
+/// Whether `*` and these items match the whole name. After the last `*` the items are tried at each place of the name
+/// in turn. What an earlier `*` matches then no longer matters.
 fn takes_behind_run(items: &[u8], name: &[u8]) -> bool
     ensures { result ≡ model.takes (model.AnyRun ∷ map model.item_of items.now) name.now }
 {

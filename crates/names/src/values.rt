@@ -1,3 +1,5 @@
+//! Group names, message-ids and wildmats as types.
+
 ghost use Rattle.std.specs.Prelude.{◌≡◌, false, IfOk, IfErr, IsTrue};
 ghost use Rattle.model.specs.Names as model;
 
@@ -7,18 +9,18 @@ use std::alloc::Global;
 use std::marker::Model;
 use thiserror::Error;
 
-/// Why a text was not read. Nothing has changed then.
+/// Why a text was not read.
 #[derive(Clone, Copy, Debug, PartialEq, Eq, Error)]
 pub enum NameError {
     /// A growth was refused.
     #[error("E2 Memory")]
     Memory,
-    /// The text isn't in its grammar.
+    /// The text does not follow its grammar.
     #[error("E14 Bad")]
     Bad,
 }
 
-/// A group name, which takes no memory of its own.
+/// A group name. It takes no memory on the heap.
 #[derive(Drop)]
 pub struct GroupName {
     octets: [u8; GROUP_NAME_LIMIT],
@@ -37,7 +39,7 @@ impl Model for GroupName {
 }
 
 impl GroupName {
-    /// The group name that the text is, else `Bad`.
+    /// Reads the text as a group name. `Bad` exactly if it is not one.
     pub fn read(text: &[u8]) -> Result<GroupName, NameError>
         ensures ok { IfOk result (λ name. IsTrue (model.is_group_name text.now) × (name ≡ text.now)) }
         ensures err { IfErr result (λ error. (error ≡ NameError.Bad) × (model.is_group_name text.now ≡ false)) }
@@ -80,7 +82,7 @@ impl Model for MessageId {
 }
 
 impl MessageId {
-    /// The message-id that the text is, else `Bad`. `Memory` may come for each message-id.
+    /// Reads the text as a message-id. `Bad` if it is not one; `Memory` may come for any message-id.
     pub fn read(alloc: Global, text: &[u8]) -> Result<MessageId, NameError>
         ensures ok { IfOk result (λ id. IsTrue (model.is_message_id text.now) × (id ≡ text.now)) }
         ensures bad { IfErr result (λ error. error ≡ NameError.Bad → model.is_message_id text.now ≡ false) }
@@ -122,7 +124,7 @@ impl Model for Wildmat {
 }
 
 impl Wildmat {
-    /// The wildmat that the text is, else `Bad`. `Memory` may come for each wildmat.
+    /// Reads the text as a wildmat. `Bad` if it is not one; `Memory` may come for any wildmat.
     pub fn read(alloc: Global, text: &[u8]) -> Result<Wildmat, NameError>
         ensures ok { IfOk result (λ wildmat. IsTrue (model.is_wildmat text.now) × (wildmat ≡ text.now)) }
         ensures bad { IfErr result (λ error. error ≡ NameError.Bad → model.is_wildmat text.now ≡ false) }
@@ -145,15 +147,15 @@ impl Wildmat {
         self.text.as_slice()
     }
 
-    /// Whether the wildmat takes the name: the rightmost pattern that takes it decides, and none means no
-    /// (RFC 3977, 4.2). At worst it takes as many steps as the wildmat's octets times the name's.
+    /// Whether the wildmat matches the name: the rightmost pattern that matches decides; without one the answer is no
+    /// (RFC 3977, 4.2). The number of steps is at most the wildmat's octets times the name's.
     pub fn matches(&self, name: &GroupName) -> bool
         ensures { result ≡ model.wildmat_matches self.now name.now }
     {
         self.matches_octets(name.as_slice())
     }
 
-    /// The same of a name's octets.
+    /// The same for the octets of a name.
     pub fn matches_octets(&self, name: &[u8]) -> bool
         ensures { result ≡ model.wildmat_matches self.now name.now }
     {

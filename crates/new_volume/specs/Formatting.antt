@@ -15,13 +15,13 @@ pub record IsNew (host : Octets) (inodes : ℕ) (device : Device) : Type 0 where
   pub label : label_of device.content ≡ label_octets inodes host
   pub synced : LeavesOnly device device.content
 
--- a new volume was made over whatever was there
+-- a new volume was made over whatever the device held
 pub record Formats (host : Octets) (inodes : ℕ) (old new : Device) : Type 0 where
   pub made : IsTrue old.tells → IsNew host inodes new
   pub time : Elapses old new
   pub failures : new.failures ≡ old.failures
 
--- why none was made
+-- why no volume was made
 pub record Spoils (error : JournalError) (old new : Device) : Type 0 where
   pub time : Elapses old new
   pub fault : error ≡ Fault → new.failures ≢ old.failures
@@ -31,7 +31,7 @@ pub record Spoils (error : JournalError) (old new : Device) : Type 0 where
 
 -- ---- the steps to it
 
--- a journal over zeroed blocks, where nothing else stands on the device
+-- a journal over zeroed blocks, with nothing else on the device
 pub record IsZeroed {D : Type 0} (device : D → Device) (blocks : ℕ) (label : Octets) (first : D) (journal : JournalView D) : Type 0 where
   pub ready : IsReady journal
   pub label_is : IsTrue (device first).tells → journal.label ≡ label
@@ -49,7 +49,7 @@ pub record HasCarried {D : Type 0} (device : D → Device) (old new : JournalVie
   pub left : IsTrue (device old.disk).tells → IsLeft old.label (with_batch old) (device new.disk)
   pub failures : (device new.disk).failures ≡ (device old.disk).failures
 
--- the first of a journal's blocks was replaced, and the journal gave its device back
+-- the first of a journal's blocks was replaced, and the journal returned its device
 pub record HasLaid {D : Type 0} (device : D → Device) (first : Octets) (journal : JournalView D) (last : D) : Type 0 where
   pub left : IsTrue (device journal.disk).tells → IsLeft journal.label (slice_set journal.blocks 0 first) (device last)
   pub time : Elapses (device journal.disk) (device last)

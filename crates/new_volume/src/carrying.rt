@@ -1,4 +1,4 @@
-//! A batch that is carried to its end.
+//! Commits a batch and carries it to its end.
 
 ghost use Rattle.std.specs.Prelude.{◌≡◌, false, length, IfErr, IfOk, OnOk};
 ghost use Rattle.disk.specs.Device.{Elapses};
@@ -29,15 +29,15 @@ fn carry<D: Disk>(journal: &mut Journal<D>) -> Result<(), JournalError>
     Ok(())
 }
 
-/// Replaces the first of a journal's blocks, as a batch, and gives its device back. Refused as `Fault` where the device failed, and
-/// as `Memory` where a growth of it was refused; the batch may be there or not then.
+/// Replaces the first of a journal's blocks, as a batch, and returns the journal's device. `Fault` if the device
+/// failed, `Memory` if a growth of it was refused; after either the batch may be durable or not.
 pub(crate) fn lay<D: Disk>(mut journal: Journal<D>, first: &[u8]) -> Result<D, Refused<D>>
     requires ready { IsReady journal }
     requires whole { length first.now ≡ 4096 }
     ensures ok { IfOk result (λ disk. HasLaid D.device first.now journal disk) }
     ensures err { IfErr result (λ refused. Spoils refused.error (D.device journal.disk) (D.device refused.disk)) }
 {
-    // it tells how many blocks there are at least
+    // its clauses state the least number of blocks
     let _blocks = journal.blocks();
     journal.begin(NO_SERIAL, &[FIRST], first);
     match carry(&mut journal) {

@@ -7,7 +7,8 @@ ghost use Rattle.model.specs.Files.{first_data};
 use fs_layout::bits::set_front;
 use volume::BLOCK_SIZE;
 
-/// The first block of the empty file system, whose other blocks are zeros: in the bitmap all before the first block of data are used.
+/// The first block of the empty file system, whose other blocks are zeros. The bitmap marks all blocks before the data
+/// as used.
 pub(crate) fn first_block(inodes: u32) -> [u8; BLOCK_SIZE]
     requires { inodes ≤ 32768 }
     ensures front { IsFront (first_data inodes) result }

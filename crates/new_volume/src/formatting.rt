@@ -1,4 +1,4 @@
-//! How a volume is made.
+//! Makes a new volume.
 
 ghost use Rattle.std.specs.Prelude.{◌≡◌, ◌≢◌, ◌≤◌, length, IfErr, IfOk};
 ghost use Rattle.new_volume.specs.Formatting.{Formats, IsZeroed, Spoils};
@@ -11,12 +11,13 @@ use disk::Disk;
 use journal::{FormatError, Journal, JournalError, Refused, format as format_journal};
 use std::alloc::Global;
 
-/// Makes an empty volume in place of whatever stands on the device: the journal's, whose blocks are zeros, and then the empty file
-/// system as a batch of one block, carried to its end. The device is synced then, and its image stands for the spool without changes.
+/// Makes an empty volume in place of whatever the device holds: first the journal's volume of zeroed blocks, and then
+/// the empty file system as a batch of one block, carried to its end. Afterwards the device is synced, and its image
+/// stands for the spool without changes.
 ///
-/// Refused as `Fault` where the device failed, as `Memory` where a growth was refused, here or to the device, and as `NotAVolume`
-/// where the device reads back other octets than were written, which one that tells them never does. A refusal gives the device
-/// back, with whatever stands there then.
+/// `Fault` if the device failed, `Memory` if a growth was refused, here or to the device. `NotAVolume` if the device
+/// reads back other octets than were written; a device that tells its octets never does. A refusal returns the device,
+/// with whatever it then holds.
 pub fn format<D: Disk>(alloc: Global, disk: D, plan: &Plan<'_>) -> Result<D, Refused<D>>
     requires { (D.device disk).size ≡ device_size plan.now.blocks }
     ensures ok { IfOk result (λ made. Formats plan.now.host.now plan.now.inodes (D.device disk) (D.device made)) }
@@ -35,7 +36,7 @@ pub fn format<D: Disk>(alloc: Global, disk: D, plan: &Plan<'_>) -> Result<D, Ref
     }
 }
 
-// The journal of a volume of so many zeroed blocks.
+// The journal of a volume with this many zeroed blocks.
 fn open_zeroed<D: Disk>(
     alloc: Global,
     mut disk: D,

@@ -2,7 +2,7 @@
 
 ghost use Rattle.new_volume.specs.Laws.{AnImageStands, EachHostHasAnImage};
 
-/// Some image stands for a spool: under each host that of a new volume, for the spool without changes.
+/// Some image stands for a spool: under each host, that of a new volume stands for the spool without changes.
 pub fn an_image_stands()
     ensures each { EachHostHasAnImage }
     ensures one { AnImageStands }

@@ -16,10 +16,10 @@ pub use laws::an_image_stands;
 use std::alloc::{AllocError, Global};
 use volume_format::layout::{SEGMENTS, home_block, start_of};
 
-/// Octets of a label.
+/// The number of octets of a label.
 const LABEL: usize = 128;
 
-/// What a new volume is. Its words are in their grammars and ranges.
+/// The plan of a new volume. Its words follow their grammars and its numbers are within their ranges.
 #[derive(Drop)]
 pub struct Plan<'a> {
     pub host: &'a [u8],
@@ -30,7 +30,7 @@ pub struct Plan<'a> {
     ghost sized: { IsTrue (are_sizes blocks inodes) },
 }
 
-/// Whether a volume may have so many blocks and inodes.
+/// Whether a volume may have this many blocks and inodes.
 pub fn are_sizes(blocks: u64, inodes: u64) -> bool
     ensures { result ≡ are_sizes blocks inodes }
 {
@@ -40,7 +40,7 @@ pub fn are_sizes(blocks: u64, inodes: u64) -> bool
     inodes % 64 == 0 && 2 + 2 * inodes / 64 + 256 <= blocks
 }
 
-/// The octets of the device of a volume with so many blocks.
+/// The number of octets of the device for a volume with this many blocks.
 pub fn device_octets(blocks: u64) -> u64
     requires { blocks ≤ 65536 }
     ensures { result ≡ device_size blocks }
@@ -48,7 +48,7 @@ pub fn device_octets(blocks: u64) -> u64
     start_of(home_block(SEGMENTS, blocks))
 }
 
-/// The label of a volume: inodes, the host's length, the host, zeros.
+/// The label of a volume: inodes, the length of the host's name, the name, zeros. Refused only for want of memory.
 pub fn label(alloc: Global, host: &[u8], inodes: u32) -> Result<Vec<u8>, AllocError>
     requires { length host.now ≤ 64 }
     ensures octets { IfOk result (λ label. label.items ≡ label_octets inodes host.now) }

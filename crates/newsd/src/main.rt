@@ -1,11 +1,11 @@
-//! `newsd`, a Usenet server that releases no reply before what it says is on disk.
+//! `newsd`, a Usenet server that releases no reply before the changes that it depends on are on disk.
 #![tactic(auto)]
 
 use program::{Failure, Outcome, fail, run, serve};
 use std::io::{BufReader, BufWriter, StdinLock, Stdout};
 use std::process::ExitCode;
 
-/// What the program begins with.
+/// What the program starts with.
 #[derive(Drop)]
 struct Start {
     words: Vec<String>,

@@ -1,9 +1,9 @@
-//! Octets of a row of a table, for tests. It promises nothing.
+//! Octets of a row of a table, for tests. It has no contracts.
 #![tactic(auto)]
 
 use std::alloc::{AllocError, Global};
 
-/// Octets as they are written, or with so many of one kind in the middle.
+/// Octets as they are written, or with a run of one octet in the middle.
 #[derive(Clone, Copy)]
 pub enum Octets<'a> {
     Are(&'a [u8]),
@@ -11,7 +11,7 @@ pub enum Octets<'a> {
 }
 
 impl Octets<'_> {
-    /// They in memory.
+    /// A copy of the octets on the heap.
     pub fn in_memory(&self, alloc: Global) -> Result<Vec<u8>, AllocError> {
         match self {
             Octets::Are(octets) => octets.to_vec(alloc),

@@ -1,4 +1,4 @@
--- What stands on a disk whose opening is refused.
+-- What a disk holds whose opening is refused.
 use Rattle.std.specs.Prelude.{ℕ, List, length}
 use Rattle.model.specs.Stream.{Octets}
 use Rattle.model.specs.Spool.{Spool}
@@ -10,11 +10,11 @@ use Rattle.journal.specs.declared.JournalError.TheVariants as journal
 use Rattle.kernel.specs.declared.opening.OpenError.{OpenError}
 use Rattle.kernel.specs.declared.opening.OpenError.TheVariants.{Fault, Memory, NotAVolume}
 
--- no volume stands there whose label is one of a news server's volume of its size
+-- the image is not a volume with the label of a news server's volume of its size
 abbrev pub IsNoNewsVolume : Octets → Type 0
 IsNoNewsVolume image = (label : Octets) (blocks : List Octets) (inodes : ℕ) (host : Octets) → StandsFor image label blocks → IsLabel label (length blocks) inodes host → ⊥
 
--- a labelled volume stands there, and its blocks hold no lawful spool of the label's host
+-- the image is a labelled volume, and its blocks hold no lawful spool of the label's host
 pub record IsDamagedVolume (image : Octets) : Type 0 where
   pub label : Octets
   pub blocks : List Octets
@@ -24,7 +24,7 @@ pub record IsDamagedVolume (image : Octets) : Type 0 where
   pub labelled : IsLabel label (length blocks) inodes host
   pub holds_none : (S : Spool) → Holds host inodes blocks S → ⊥
 
--- the journal's refusals, as the opening tells them
+-- the journal's refusals, as the opening reports them
 abbrev pub open_error : JournalError → OpenError
 open_error journal.Fault = Fault
 open_error journal.Memory = Memory

@@ -1,5 +1,5 @@
-//! Opening what stands on a device: the journal there, and the kernel in its logical blocks. `specs/Standing.antt` says what stands
-//! where an opening is refused.
+//! Opens a device: the journal on it, and the kernel in the journal's logical blocks. `specs/Standing.antt` says what
+//! the device holds if an opening is refused.
 #![tactic(auto)]
 
 ghost use Rattle.std.specs.Prelude.{◌≡◌, ◌≢◌, ◌⊎◌, IfErr, IfOk, IsTrue, MatchResult};
@@ -16,26 +16,27 @@ use kernel::Kernel;
 pub use kernel::OpenError;
 use std::alloc::Global;
 
-/// What was opened: a journal that is idle, and the kernel that stands in its logical blocks.
+/// An opened device: a journal that is idle, and the kernel in its logical blocks.
 #[derive(Drop)]
 pub struct Opened<D: Disk> {
     pub journal: Journal<D>,
     pub kernel: Kernel,
 }
 
-/// A refused opening, with the device as it was left.
+/// A refused opening, with the device as the opening left it.
 #[derive(Drop)]
 pub struct Refused<D> {
     pub disk: D,
     pub error: OpenError,
 }
 
-/// Opens what stands on a device: all its changes are durable, and no session is there. A crash during it leaves, from the first
-/// good sync on, which comes before every write, the volume that a read gives, with its label and its logical blocks, whatever
-/// these hold; and before that what a crash at its start might have left.
-/// A refusal keeps to this too, so it overwrites no disk, and hands the device back:
-/// `Fault` (E1) where the device failed, `Memory` (E2) where it did not, `NotAVolume` (E3) where no volume with a label of its
-/// size stands there, and `Damaged` (E5) where one does, and holds no lawful spool of the label's host.
+/// Opens the journal and the kernel on a device: all its changes are durable, and there is no session. The first good
+/// sync comes before every write. A crash before that sync leaves what a crash at the start might have left. A crash
+/// after it leaves the volume that a read gives, with its label and its logical blocks, whatever they contain.
+///
+/// A refusal keeps to this too, so it overwrites no disk, and it returns the device. `Fault` (E1) if the device failed.
+/// `Memory` (E2) if it did not, and a growth was refused. `NotAVolume` (E3) if the device holds no volume with a label
+/// of its size. `Damaged` (E5) if it holds one, but no lawful spool of the label's host.
 pub fn open<D: Disk>(alloc: Global, disk: D) -> Result<Opened<D>, Refused<D>>
     ensures opened { IfOk result (λ o. IsOpened D.device o.journal o.kernel) }
     ensures idle { IfOk result (λ o. IsReady o.journal) }

@@ -4,7 +4,7 @@ use Rattle.script.specs.Script.{Said, Made, Expired, Came, Asked}
 use Rattle.operator.specs.declared.changes.Change.{Change}
 use Rattle.operator.specs.declared.changes.Change.TheVariants.{Group, Expiry}
 
--- a change as a line says it
+-- a change as a line states it
 abbrev pub asked : Change → Said
 asked (Group group) = Made group.name group.status group.moment group.description.items
 asked (Expiry name number) = Expired name number

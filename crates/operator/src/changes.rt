@@ -1,4 +1,4 @@
-//! What a line of the operator asks for, and the call of the kernel that makes it.
+//! The change that a line of the operator asks for, and the call of the kernel that makes it.
 
 ghost use Rattle.std.specs.Prelude.{◌≡◌, ◌≢◌, ◌⊎◌, IfOk, IfErr, Some};
 ghost use Rattle.script.specs.Script.{meaning};
@@ -17,11 +17,11 @@ use std::sync::Wait;
 #[derive(Drop)]
 pub(crate) enum Change {
     Group(NewGroup),
-    /// The articles of a group up to this number are taken out of it.
+    /// The articles of a group up to this number are removed from it.
     Expiry { name: GroupName, number: u32 },
 }
 
-/// The change that a line asks for. A line that asks for none is `Bad`; `Memory` may come for each line.
+/// The change that a line asks for. `Bad` if the line asks for none; `Memory` may come for any line.
 pub(crate) fn change_of(alloc: Global, line: &[u8]) -> Result<Change, Refused>
     ensures ok { IfOk result (λ change. meaning line.now ≡ Some (asked change)) }
     ensures err { IfErr result (λ error. (error ≡ Refused.Memory) ⊎ ((error ≡ Refused.Bad) × IsNone (meaning line.now))) }
@@ -57,7 +57,7 @@ pub(crate) fn change_of(alloc: Global, line: &[u8]) -> Result<Change, Refused>
     }
 }
 
-/// Makes a change, and answers its serial. Where the kernel has no room for it now, it is asked again after the next batch.
+/// Makes a change, and answers its serial. If the kernel cannot take it now, it is asked again after the next batch.
 pub(crate) fn make<R: Wait, K: Kern>(
     service: &Service<'_, R, K>,
     change: &Change,
@@ -120,7 +120,7 @@ fn expire<R: Wait, K: Kern>(
     unreachable!()
 }
 
-/// Waits until a batch was taken, or something released, since the count was noted.
+/// Waits until a batch was taken, or something was released, after the count was noted.
 fn put_off<R: Wait>(rt: &R, bells: &Bells, noted: u64) {
     bells.flush_now();
     bells.later.wait_past(rt, noted);

@@ -1,7 +1,8 @@
-//! The operator's threads: one reads the lines, one makes the changes and waits until they are durable, and one writes the answers.
+//! The operator's threads: one reads the lines, one makes the changes and waits until they are durable, and one writes
+//! the answers.
 //!
-//! The first and the last may wait for the operator for ever, so neither is joined. The second waits for neither of them: at most
-//! `LINES` lines are under way, and each channel has room for all of them.
+//! The first and the last may wait for the operator forever, so neither is joined. The second waits for neither of
+//! them: at most `LINES` lines are under way, and each channel has room for all of them.
 
 ghost use Rattle.std.specs.Prelude.{◌≡◌, ◌≤◌, true, IfOk, IfErr, OnOk};
 
@@ -18,11 +19,11 @@ use std::sync::Wait;
 use std::thread::{self, Threads};
 use std::time::{Clock, Duration};
 
-/// So many lines are under way at most: handed on, and their answers not yet written. One more may be read; the rest stay where they
-/// come from.
+/// The most lines that are under way: handed on, with their answers not yet written. One more may be read; the others
+/// stay in the stream.
 const LINES: usize = 64;
 
-/// At the end the operator has so many seconds to read the answers that are due.
+/// At the end the operator has this many seconds to read the answers that are due.
 const ENDING_SECS: u64 = 1;
 
 /// What the thread that makes the changes waits for.
@@ -62,28 +63,29 @@ pub struct Operator {
     written: Receiver<()>,
 }
 
-/// Where the lines go.
+/// The thread that reads the lines.
 #[derive(Drop)]
 struct Reading {
     alloc: Global,
-    /// What the next line is read into.
+    /// The buffer for the next line.
     line: Vec<u8>,
     orders: Sender<Order>,
     /// One message for each line that is under way.
     under_way: Sender<()>,
 }
 
-/// Where the answers come from.
+/// The thread that writes the answers.
 #[derive(Drop)]
 struct Writing {
     replies: Receiver<Reply>,
     under_way: Receiver<()>,
-    /// It has no message. It goes with the thread.
+    /// It sends no message. It is dropped with the thread.
     _written: Sender<()>,
 }
 
 impl Operator {
-    /// Starts the threads that read the lines and write the answers. After an `Err` they end with the next line or answer.
+    /// Starts the threads that read the lines and write the answers. After an `Err` they end at the next line or
+    /// answer.
     pub fn start<
         R: Threads + Wait + Copy + Send + 'static,
         L: BufRead + Send + Drop + 'static,
@@ -115,8 +117,9 @@ impl Operator {
         })
     }
 
-    /// Makes the changes that the lines ask for and answers each line, until `end` is called. The lines that were handed on before
-    /// are still answered, and the operator has a second to read the answers. Then it returns, whether they are read or not.
+    /// Makes the changes that the lines ask for and answers each line, until `end` is called. Lines that were handed on
+    /// before that are still answered, and the operator has a second to read the answers. Then it returns, whether they
+    /// are read or not.
     pub fn answer_all<R: Wait + Clock, K: Kern>(&self, service: &Service<'_, R, K>, seat: Seat)
         requires { seat.mark ≡ service.now.mark.now }
     {
@@ -134,14 +137,14 @@ impl Operator {
             .recv_timeout(service.rt, Duration::from_secs(ENDING_SECS));
     }
 
-    /// Has `answer_all` end. It is called once, after the flusher has stopped and its bells were rung.
+    /// Makes `answer_all` end. It is called once, after the flusher has stopped and its bells were rung.
     pub fn end<R: Wait>(&self, rt: &R) {
         let _ = self.order.send(rt, Order::Ends);
     }
 }
 
-/// Makes the change of a line, and waits until it is durable. A serial is answered only where the mark was seen to have it, and
-/// `Fault` only where the flusher was seen to have stopped and the mark read after that.
+/// Makes the change of a line, and waits until it is durable. A serial is answered only if the mark was seen to have
+/// reached it. `Fault` is answered only if the flusher was seen to have stopped and the mark was read after that.
 fn answer<R: Wait, K: Kern>(
     service: &Service<'_, R, K>,
     seat: &mut Seat,
@@ -189,14 +192,14 @@ impl Reading {
         }
     }
 
-    /// The line that was read, in memory of its own.
+    /// A copy of the line that was read.
     fn kept(&self) -> Result<Vec<u8>, Refused> {
         Ok(Vec::from_slice(self.alloc, self.line.as_slice())?)
     }
 }
 
 impl Writing {
-    /// Writes the answers, until there is none any more. One that can't be written is lost, since nobody reads it.
+    /// Writes the answers until the last one. An answer that cannot be written is lost, since nobody reads it.
     fn write_all<R: Wait, A: Write + Drop>(self, rt: &R, answers: A) {
         let mut answers = answers;
         for _ in rt.forever() {

@@ -1,5 +1,5 @@
-//! The operator's side of a server. Each line asks for a group, or takes articles out of one, and is answered with the serial of
-//! the change once that is durable, or with the refusal.
+//! The operator's side of a server. Each line asks for a group, or removes articles from one. The answer is the serial
+//! of the change once the change is durable, or the refusal.
 #![tactic(auto)]
 
 mod changes;

@@ -1,4 +1,4 @@
-//! The operator's lines, read in a bounded memory.
+//! The operator's lines, read in bounded memory.
 
 ghost use Rattle.std.specs.Prelude.{◌≡◌, ◌≢◌, ◌≤◌, ◌∷◌, [], IfOk, IfSome, IfNone, length, All, if◌then◌else◌};
 ghost use Rattle.std.specs.Io.KnownBytes.{Consumes, IsAtEnd};
@@ -8,21 +8,21 @@ ghost use Rattle.operator.specs.declared.lines.Next.TheVariants as next;
 use std::io::{self, BufRead, ErrorKind};
 use std::sync::Wait;
 
-/// The octets of the longest line, without its LF. The longest that makes a change has fewer than 300.
+/// The most octets of a line, without its LF. The longest line that makes a change has fewer than 300.
 pub(crate) const LINE_OCTETS: usize = 1024;
 
-/// What a reader has come to.
+/// What a reader found next.
 #[derive(Clone, Copy, Debug, PartialEq, Eq)]
 pub(crate) enum Next {
-    /// A line, which ends with an LF or with all that there is.
+    /// A line, which ends with an LF or at the end of the stream.
     Line,
-    /// A line of more than `LINE_OCTETS` octets. It is read, and not kept.
+    /// A line of more than `LINE_OCTETS` octets. It is read and not kept.
     TooLong,
     /// There is no further line.
     End,
 }
 
-/// Reads the next line into the buffer, without its LF. An `Err` is the reader's, and leaves it where it failed.
+/// Reads the next line into the buffer, without its LF. An `Err` is the reader's; reading stops where it failed.
 pub(crate) fn next_line<R: Wait, L: BufRead>(
     rt: &R,
     lines: &mut L,
@@ -52,7 +52,7 @@ pub(crate) fn next_line<R: Wait, L: BufRead>(
     unreachable!()
 }
 
-/// What the end of a line is the end of.
+/// The result at the end of a line.
 fn ended(is_long: bool) -> Next
     ensures { result ≡ (if is_long then next.TooLong else next.Line) }
 {

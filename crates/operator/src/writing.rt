@@ -1,4 +1,4 @@
-//! What a line of the operator is answered.
+//! The answer to a line of the operator.
 
 ghost use Rattle.std.specs.Prelude.{◌≡◌};
 ghost use Rattle.operator.specs.declared.writing.Refused.TheVariants.{Group, Expiry, Memory};
@@ -11,10 +11,10 @@ use thiserror::Error;
 /// Why a line is not answered with a serial.
 #[derive(Clone, Copy, Debug, Drop, PartialEq, Eq, Error)]
 pub(crate) enum Refused {
-    /// The group is not made.
+    /// The group was not made.
     #[error("{0}")]
     Group(AdminError),
-    /// The articles are not taken out.
+    /// The articles were not removed.
     #[error("{0}")]
     Expiry(ExpireError),
     /// The change was made, but the flusher stopped before it was durable.
@@ -23,7 +23,7 @@ pub(crate) enum Refused {
     /// A growth was refused.
     #[error("E2 Memory")]
     Memory,
-    /// The line isn't one of the operator's.
+    /// The line is not one of the operator's.
     #[error("E14 Bad")]
     Bad,
 }
@@ -52,7 +52,7 @@ impl From<AllocError> for Refused {
     }
 }
 
-/// The serial of a change that is durable, or why there is none.
+/// The serial of a durable change, or why there is none.
 pub(crate) type Answer = Result<u64, Refused>;
 
 /// Writes an answer and an LF, and flushes.

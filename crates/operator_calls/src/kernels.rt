@@ -13,7 +13,7 @@ use std::sync::atomic::{AtomicBool, AtomicU64, Ordering};
 /// What was asked of the kernel.
 #[derive(Drop)]
 pub(crate) struct Counting {
-    /// The groups that it was asked for while it was not halted.
+    /// The number of groups that it was asked for while it was not halted.
     pub(crate) groups: AtomicU64,
     is_halted: AtomicBool,
 }

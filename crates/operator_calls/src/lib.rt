@@ -1,5 +1,5 @@
-//! Tests of the operator's threads over a kernel that only counts: what a line is answered, and that an operator who reads no
-//! answers holds up its own lines alone, and not the end of the server.
+//! Tests of the operator's threads over a kernel that only counts: how a line is answered, and that an operator that
+//! reads no answers delays only its own lines, and not the end of the server.
 #![tactic(auto)]
 
 #[cfg(test)]

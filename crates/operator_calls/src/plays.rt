@@ -1,4 +1,4 @@
-//! An operator and a flusher, which says that changes are durable, or that it has stopped.
+//! An operator, and a flusher that reports changes as durable, or that it has stopped.
 
 ghost use Rattle.std.specs.Prelude.{◌≡◌};
 
@@ -13,39 +13,39 @@ use std::sync::{Arc, Mutex, Wait};
 use std::thread::{self, Threads, join};
 use std::time::{Clock, Duration};
 
-/// A play waits for so many milliseconds, and then fails.
+/// A play waits for this many milliseconds, and then fails.
 const WAIT_MILLIS: u64 = 20_000;
 
-/// Who reads ahead is given so many milliseconds to do so.
+/// A thread that reads ahead gets this many milliseconds to do so.
 const PAUSE_MILLIS: u64 = 100;
 
 /// What an operator sends, and how the play ends.
 #[derive(Drop)]
 pub(crate) struct Play {
     pub(crate) lines: Vec<u8>,
-    /// The lines come again and again.
+    /// The lines are repeated without end.
     pub(crate) is_endless: bool,
     /// The operator reads the answers.
     pub(crate) is_read: bool,
-    /// The flusher says that so many changes are durable, and no more.
+    /// The flusher reports this many changes as durable, and no more.
     pub(crate) durable: u64,
-    /// The flusher stops once so many groups were asked for.
+    /// The flusher stops once this many groups were asked for.
     pub(crate) groups: u64,
 }
 
-/// How a play went.
+/// The outcome of a play.
 #[derive(Drop)]
 pub(crate) struct Outcome {
     /// The groups were asked for, and all lines were read, in time.
     pub(crate) is_in_time: bool,
-    /// How many groups were asked for, and how many octets were read, when the flusher stopped.
+    /// The number of groups asked for, and of octets read, when the flusher stopped.
     pub(crate) groups: u64,
     pub(crate) octets: u64,
     /// What the operator has read at the end.
     pub(crate) text: Vec<u8>,
 }
 
-/// Looks at a count each millisecond until it is reached. It is false at the end of the time.
+/// Looks at a count each millisecond until it is reached. It is false if the time ends first.
 fn reaches<R: Clock>(rt: &R, count: &AtomicU64, least: u64) -> bool {
     for _ in 0..WAIT_MILLIS {
         if count.load(Ordering::SeqCst) >= least {
@@ -63,7 +63,7 @@ struct Stage {
     mark: Mark,
     bells: Bells,
     operator: Operator,
-    /// How many octets of the lines were read.
+    /// The number of octets of the lines that were read.
     read: Arc<AtomicU64>,
 }
 
@@ -82,8 +82,8 @@ impl Stage {
         self.operator.answer_all(&service, seat)
     }
 
-    /// Stops, as the flusher does, once so many groups were asked for and so many octets read. Answers whether that was in time,
-    /// and what was asked for and read a while later.
+    /// Stops, as the flusher does, once this many groups were asked for and this many octets were read. Answers whether
+    /// that was in time, and what was asked for and read a while later.
     fn stop<R: Wait + Clock>(
         &self,
         rt: &R,
@@ -107,7 +107,7 @@ impl Stage {
     }
 }
 
-/// The operator of a play, the count of what was read of its lines, and where its answers go.
+/// The operator of a play, the count of octets read from its lines, and where its answers are written.
 #[derive(Drop)]
 struct Begun {
     operator: Operator,

@@ -1,16 +1,16 @@
-//! Where the lines come from, and where the answers go.
+//! The source of the lines, and the destination of the answers.
 
 use std::io::{self, BufRead, Read, Write};
 use std::sync::atomic::{AtomicU64, Ordering};
 use std::sync::{Arc, Mutex, Wait};
 use std::thread::Parker;
 
-/// Lines, once or again and again.
+/// Lines, once or repeated without end.
 #[derive(Drop)]
 pub(crate) struct Lines {
     pub(crate) octets: Vec<u8>,
     pub(crate) is_endless: bool,
-    /// How many octets were read, and one more once the end was.
+    /// The number of octets that were read, plus one once the end was read.
     pub(crate) read: Arc<AtomicU64>,
 }
 
@@ -53,7 +53,7 @@ impl BufRead for Lines {
     }
 }
 
-/// What the operator has read. Where nothing is read, a write never ends.
+/// What the operator has read. If nothing is read, a write never ends.
 #[derive(Drop)]
 pub(crate) struct Answers<R> {
     pub(crate) rt: R,

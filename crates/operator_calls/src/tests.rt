@@ -1,10 +1,12 @@
+//! Tests of the operator's lines and answers.
+
 use crate::plays::{Play, run};
 use std::test::Fail;
 
-/// So many lines are handed on at most before an answer is read, and one more is read.
+/// The most lines that are handed on before an answer is read; one more is read.
 const LINES: u64 = 64;
 
-/// A line of so many octets, without its LF, that asks for a group.
+/// Appends a line of this many octets, without its LF, that asks for a group.
 fn push_line(lines: &mut Vec<u8>, octets: usize) -> Result<(), Fail> {
     lines.extend_from_slice(b"group x.a y ")?;
     for _ in 18..octets {

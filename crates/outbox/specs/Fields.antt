@@ -1,4 +1,4 @@
--- What the fields of a queue and of a buffer stand for.
+-- What the fields of a queue and of a buffer mean.
 use Rattle.std.specs.Prelude.{◌≡◌, ℕ, ◌-◌, ◌≤◌, Bool, List, ◌++◌, length, All, vec_len, vec_capacity}
 use Rattle.std.specs.VecDeque.{deque_len, deque_capacity}
 use Rattle.outbox.specs.Queue.{Held, QueueView, Giving, Entry, buffered, octets_along, octets_in}
@@ -26,7 +26,7 @@ pub record IsSoundBuffer (b : buffer.Inside) : Type 0 where
   pub few : vec_len b.slots ≤ 64
   pub room : 64 ≤ vec_capacity b.slots
 
--- what the loop over the front outputs leaves, of them and after the octets that were there
+-- what the loop over the first outputs leaves, of them and after the octets that were already there
 pub record IsGiven (g : Giving) (ended : Bool) (given : ℕ) (held : List Held) (before after : List ℕ) : Type 0 where
   pub ended_is : ended ≡ g.ended
   pub given_is : given ≡ g.given

@@ -1,23 +1,23 @@
--- The outputs of one session that are not handed out whole yet, and what a release hands out of them. All of this is this
--- project's rule.
+-- The outputs of one session that are not yet handed out whole, and what a release hands out of them. All of this is
+-- this project's rule.
 use Rattle.std.specs.Prelude.{◌≡◌, ℕ, ◌-◌, Bool, true, false, not, ◌&&◌, ◌||◌, ◌==◌, nat_lt, if◌then◌else◌, List, [], ◌∷◌, ◌++◌, length, take, drop, map, sum_by}
 use Rattle.std.specs.List.{concat}
 
--- An output that is not handed out whole yet: the octets that are still to go, the number of changes that have to be durable
--- before any of them may, and whether the session ends after them.
+-- An output that is not yet handed out whole: the octets still to be handed out, the number of changes that must be
+-- durable before any of these octets may be, and whether the session ends after them.
 pub record Held : Type 0 where
   pub octets : List ℕ
   pub dependency : ℕ
   pub ends : Bool
 
--- The dependency of the last output that was handed out whole, 0 at first; the outputs that are held, the next to go in front;
--- and how many more can be put after them with no memory taken.
+-- The dependency of the last output that was handed out whole, 0 at first; the outputs that are held, the next one
+-- first; and how many more can be added after them without taking memory.
 pub record QueueView : Type 0 where
   pub given : ℕ
   pub held : List Held
   pub room : ℕ
 
--- how many octets are held
+-- the number of octets that are held
 abbrev pub buffered : List Held → ℕ
 buffered held = sum_by (λ (h : Held). length h.octets) held
 
@@ -26,13 +26,13 @@ abbrev pub last_dependency : ℕ → List Held → ℕ
 last_dependency given [] = given
 last_dependency given (held ∷ rest) = last_dependency held.dependency rest
 
--- where an output ends the session, it is the last
+-- an output that ends the session is the last one
 abbrev pub OnlyLastEnds : List Held → Type 0
 OnlyLastEnds [] = Unit {0}
 OnlyLastEnds (held ∷ rest) = (held.ends ≡ true → rest ≡ []) × OnlyLastEnds rest
 
--- What is given where there is room for so many octets: the room that is left, the octets, whether the session ends after
--- them, and what is kept of `given` and `held`.
+-- What is given if there is room for a number of octets: the room that is left, the octets, whether the session ends
+-- after them, and what is kept of `given` and `held`.
 pub record Giving : Type 0 where
   pub room : ℕ
   pub octets : List ℕ
@@ -51,8 +51,8 @@ cut_at count held = record { octets = drop count held.octets; dependency = held.
 abbrev pub behind : Held → Giving → Giving
 behind held later = record { room = later.room; octets = held.octets ++ later.octets; ended = held.ends || later.ended; given = later.given; held = later.held }
 
--- The front outputs that depend on p changes at most, in order, while there is room. The last may be cut: then its rest stays
--- in front, and its end with it.
+-- The first outputs that depend on at most p changes, in order, while there is room. The last may be cut: then the rest
+-- stays first in the queue, and the session's end stays with it.
 abbrev pub give : ℕ → ℕ → ℕ → List Held → Giving
 give p room given [] = nothing_more room given []
 give p room given (held ∷ rest) =
@@ -64,11 +64,11 @@ give p room given (held ∷ rest) =
 abbrev pub Entry : Type 0
 Entry = ℕ × List ℕ × Bool
 
--- a session's entry, where octets are given or it ends
+-- a session's entry, if octets are given or the session ends
 abbrev pub entry_of : ℕ → Giving → List Entry
 entry_of number g = if length g.octets == 0 && not g.ended then [] else (number, g.octets, g.ended) ∷ []
 
--- how many octets stand in these entries
+-- the number of octets in these entries
 abbrev pub octets_in : List Entry → ℕ
 octets_in entries = sum_by (λ (e : Entry). length e.1) entries
 

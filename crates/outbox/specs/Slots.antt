@@ -10,11 +10,11 @@ entry_at octets slot = (slot.number, slice_range octets slot.start slot.end, slo
 abbrev pub entries_in : List ℕ → List Slot → List Entry
 entries_in octets slots = map (entry_at octets) slots
 
--- a slot lies within so many octets
+-- a slot lies within this many octets
 pub record LiesWithin (size : ℕ) (slot : Slot) : Type 0 where
   pub order : slot.start ≤ slot.end
   pub bound : slot.end ≤ size
 
--- the slot of a session's octets, where there are some or it ends
+-- the slot of a session's octets, if there are some or the session ends
 abbrev pub slots_of : ℕ → ℕ → ℕ → Bool → List Slot
 slots_of number start end ends = if start == end && not ends then [] else record { number = number; start = start; end = end; ends = ends } ∷ []

@@ -7,8 +7,8 @@ mod ready;
 pub use queue::Queue;
 pub use ready::ReadyBuf;
 
-/// How many octets one release hands out at most (this project's rule).
+/// The most octets that one release hands out (this project's rule).
 pub const RELEASE_OCTETS: usize = 65_536;
 
-/// How many sessions one release serves at most (this project's rule).
+/// The most sessions that one release serves (this project's rule).
 pub const RELEASE_ENTRIES: usize = 64;

@@ -11,7 +11,7 @@ use std::alloc::{AllocError, Global};
 use std::collections::VecDeque;
 use std::marker::Model;
 
-/// An output of which the octets from `start` on are still to go.
+/// An output whose octets from `start` on are still to be handed out.
 #[derive(Drop)]
 struct Output {
     octets: Vec<u8>,
@@ -57,14 +57,14 @@ impl Output {
         self.ends
     }
 
-    /// The octets that are still to go.
+    /// The octets that are still to be handed out.
     fn rest(&self) -> &[u8]
         ensures { result.now ≡ self.now.octets }
     {
         &self.octets[self.start..]
     }
 
-    /// Takes the first n octets away.
+    /// Removes the first n octets.
     fn cut(&mut self, n: usize)
         requires { n ≤ length self.old.octets }
         ensures { self.new ≡ cut_at n self.old }
@@ -73,12 +73,12 @@ impl Output {
     }
 }
 
-/// The outputs of one session that are not handed out whole yet, in order, and the dependency of the last that was.
+/// The outputs of one session that are not yet handed out whole, in order, and the dependency of the last one that was.
 #[derive(Drop)]
 pub struct Queue {
     given: u64,
     outputs: VecDeque<Output>,
-    /// How many octets are still to go.
+    /// The number of octets still to be handed out.
     buffered: u64,
 }
 
@@ -95,7 +95,7 @@ impl Model for Queue {
 }
 
 impl Queue {
-    /// The queue of a session that was given nothing yet.
+    /// The queue of a session that has no output yet. It takes no memory.
     pub fn new(alloc: Global) -> Queue
         ensures given { result.given ≡ 0 }
         ensures held { result.held ≡ [] }
@@ -107,7 +107,8 @@ impl Queue {
         }
     }
 
-    /// Makes room for n more outputs. A refusal comes only where room is missing, and leaves the outputs as they were.
+    /// Makes room for n more outputs. Refused only for want of memory, if room is missing; then the outputs are as they
+    /// were.
     pub fn reserve(&mut self, n: usize) -> Result<(), AllocError>
         ensures given { self.new.given ≡ self.old.given }
         ensures held { self.new.held ≡ self.old.held }
@@ -131,14 +132,14 @@ impl Queue {
             .push_back_reserved(Output::new(octets, dependency, ends));
     }
 
-    /// How many octets are still to go.
+    /// The number of octets still to be handed out.
     pub fn buffered(&self) -> u64
         ensures { result ≡ buffered self.now.held }
     {
         self.buffered
     }
 
-    /// The dependency of the last output, also where that was handed out; 0 where there was none.
+    /// The dependency of the last output, even if that was handed out; 0 if there was none.
     pub fn last_dependency(&self) -> u64
         ensures { result ≡ last_dependency self.now.given self.now.held }
     {
@@ -155,8 +156,9 @@ impl Queue {
         self.outputs.is_empty()
     }
 
-    /// Moves the front outputs that depend on `durable` changes at most into the buffer, in order and as this session's
-    /// entry, until the buffer has no room for octets; the last one may be cut. Says whether the session ends. It takes no memory.
+    /// Moves the first outputs that depend on at most `durable` changes into the buffer, in order and as this session's
+    /// entry, until the buffer has no more room for octets. The last output may be cut. Answers whether the session
+    /// ends. It takes no memory.
     pub fn give(&mut self, number: u64, durable: u64, into: &mut ReadyBuf) -> bool
         requires { length into.old < 64 }
         ensures ended { result ≡ (give durable (65_536 - octets_in into.old) self.old.given self.old.held).ended }
@@ -179,8 +181,8 @@ impl Queue {
     }
 }
 
-/// Moves the octets of the front outputs that depend on `durable` changes at most after the others, until there are
-/// `RELEASE_OCTETS`, and keeps the dependency of the last that went whole. Says whether one that ends the session did.
+/// Appends the octets of the first outputs that depend on at most `durable` changes, until there are `RELEASE_OCTETS`.
+/// It keeps the dependency of the last output that was moved whole, and answers whether that one ends the session.
 fn give_front(
     outputs: &mut VecDeque<Output>,
     given: &mut u64,
@@ -214,7 +216,7 @@ fn give_front(
     ended
 }
 
-/// Adds octets that there is room for.
+/// Appends octets for which there is room.
 fn append(octets: &mut Vec<u8>, more: &[u8])
     requires { vec_len octets.old + length more.now ≤ vec_capacity octets.old }
     ensures items { octets.new.items ≡ octets.old.items ++ more.now }

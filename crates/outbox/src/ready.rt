@@ -1,4 +1,4 @@
-//! The buffer that a release fills: the sessions' octets one after the other, and where each session's stand.
+//! The buffer that a release fills: the sessions' octets one after the other, and where each session's octets are.
 
 ghost use Rattle.std.specs.Prelude.{◌≡◌, ◌<◌, ◌≤◌, ◌==◌, ◌++◌, [], length, vec_len, vec_capacity, Some, IfOk, slice_get};
 ghost use Rattle.outbox.specs.Queue.{octets_along, octets_in};
@@ -8,7 +8,7 @@ use crate::{RELEASE_ENTRIES, RELEASE_OCTETS};
 use std::alloc::{AllocError, Global};
 use std::marker::Model;
 
-/// Where a session's octets stand, and whether it ends after them.
+/// Where a session's octets are, and whether it ends after them.
 #[derive(Drop)]
 pub(crate) struct Slot {
     pub(crate) number: u64,
@@ -17,8 +17,8 @@ pub(crate) struct Slot {
     pub(crate) ends: bool,
 }
 
-/// What one release hands out: for each session that gets something its number, its octets and whether it ends, in order.
-/// It has room for `RELEASE_ENTRIES` entries with `RELEASE_OCTETS` octets in all.
+/// What one release hands out, in order: for each session that gets something its number, its octets and whether it
+/// ends. It has room for `RELEASE_ENTRIES` entries with `RELEASE_OCTETS` octets in all.
 #[derive(Drop)]
 pub struct ReadyBuf {
     pub(crate) octets: Vec<u8>,
@@ -39,7 +39,7 @@ impl Model for ReadyBuf {
 }
 
 impl ReadyBuf {
-    /// An empty buffer, whose room is made here.
+    /// An empty buffer with all its room. Refused only for want of memory.
     pub fn new(alloc: Global) -> Result<ReadyBuf, AllocError>
         ensures { IfOk result (λ buffer. buffer ≡ []) }
     {
@@ -56,7 +56,7 @@ impl ReadyBuf {
         self.octets.clear();
     }
 
-    /// How many entries there are. They and their octets are within the room.
+    /// The number of entries. They and their octets never exceed the room.
     pub fn len(&self) -> usize
         ensures len { result ≡ length self.now }
         ensures few { length self.now ≤ 64 }

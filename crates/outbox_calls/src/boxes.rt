@@ -6,14 +6,14 @@ use outboxes::Outbox;
 use std::alloc::{AllocError, Global};
 use std::test::Fail;
 
-/// A call of the outbox, with what it is to answer.
+/// A call of the outbox, with the expected answer.
 #[derive(Clone, Copy)]
 enum Step<'a> {
-    /// Room for so many outputs of this session.
+    /// Room for this many outputs of this session.
     Reserve(u64, usize),
-    /// Of this session what is sent, on which change it depends, and whether the session ends after it.
+    /// An output of this session: its octets, the change on which it depends, and whether the session ends after it.
     Push(u64, Runs<'a>, u64, bool),
-    /// What depends on this change at most is handed out.
+    /// Whatever depends at most on this change is handed out.
     Ready(u64, &'a [Entry<'a>]),
     Buffered(u64, u64),
     LastDependency(u64, u64),
@@ -104,7 +104,7 @@ const OUTBOXES: &[(&str, &[Step<'static>])] = &[
     ),
 ];
 
-/// Puts an output behind those of its session, where few sessions hold outputs.
+/// Adds an output after those of its session, if few sessions hold outputs.
 fn push(
     outbox: &mut Outbox,
     number: u64,
@@ -119,7 +119,7 @@ fn push(
     Ok(true)
 }
 
-/// Whether the outbox answers as a step says.
+/// Whether the outbox answers as a step expects.
 fn answer(
     alloc: Global,
     outbox: &mut Outbox,
@@ -150,7 +150,7 @@ fn answer(
     }
 }
 
-/// The place of the first step that is answered in another way.
+/// The index of the first step with another answer.
 fn first_wrong(alloc: Global, steps: &[Step<'_>]) -> Result<Option<usize>, AllocError> {
     let mut outbox = Outbox::new(alloc);
     let mut ready = ReadyBuf::new(alloc)?;

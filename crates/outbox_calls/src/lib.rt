@@ -1,4 +1,4 @@
-//! Tables of what sessions are sent and what a release hands out.
+//! Tables of what sessions are sent and of what a release hands out.
 #![tactic(auto)]
 
 #[cfg(test)]

@@ -5,12 +5,13 @@ use outbox::{Queue, ReadyBuf};
 use std::alloc::{AllocError, Global};
 use std::test::Fail;
 
-/// A call of the queue of session 1 or 2, each with what it is to answer.
+/// A call of the queue of session 1 or 2, with the expected answer.
 #[derive(Clone, Copy)]
 enum Step<'a> {
-    /// What is sent, on which change it depends, and whether the session ends after it.
+    /// An output: its octets, the change on which it depends, and whether the session ends after it.
     Push(u64, Runs<'a>, u64, bool),
-    /// What depends on this change at most is handed out of both queues: whether each session ends, and what the buffer has.
+    /// Whatever depends at most on this change is handed out of both queues: whether each session ends, and what the
+    /// buffer holds.
     Release(u64, (bool, bool), &'a [Entry<'a>]),
     Buffered(u64, u64),
     LastDependency(u64, u64),
@@ -78,7 +79,7 @@ const QUEUES: &[(&str, &[Step<'static>])] = &[
     ),
 ];
 
-/// Puts an output after the others, where they can be counted.
+/// Adds an output after the others, if they can still be counted.
 fn push(
     queue: &mut Queue,
     octets: Vec<u8>,
@@ -93,7 +94,7 @@ fn push(
     Ok(true)
 }
 
-/// Hands out of a session's queue, where the buffer has room for an entry, and says whether the session ends.
+/// Hands out of a session's queue, if the buffer has room for an entry, and answers whether the session ends.
 fn give(queue: &mut Queue, number: u64, durable: u64, ready: &mut ReadyBuf) -> Option<bool> {
     if ready.len() >= 64 {
         return None;
@@ -157,7 +158,7 @@ impl Sessions {
         Ok(first_ends && second_ends && has(self.alloc, &self.ready, entries)?)
     }
 
-    /// Whether the queues answer as a step says.
+    /// Whether the queues answer as a step expects.
     fn answer(&mut self, step: Step<'_>) -> Result<bool, AllocError> {
         match step {
             Step::Push(number, runs, dependency, ends) => {
@@ -173,7 +174,7 @@ impl Sessions {
     }
 }
 
-/// The place of the first step that is answered in another way.
+/// The index of the first step with another answer.
 fn first_wrong(alloc: Global, steps: &[Step<'_>]) -> Result<Option<usize>, AllocError> {
     let mut sessions = Sessions::new(alloc)?;
     for (place, step) in steps.iter().enumerate() {

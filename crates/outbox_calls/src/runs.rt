@@ -3,7 +3,7 @@
 use outbox::ReadyBuf;
 use std::alloc::{AllocError, Global};
 
-/// So many octets of a kind, one run after the other.
+/// Runs of octets, each an octet and how many times it occurs.
 pub type Runs<'a> = &'a [(u8, usize)];
 
 /// What is handed out: the session, its octets, and whether it ends after them.

@@ -2,14 +2,14 @@
 use Rattle.std.specs.Prelude.{ℕ, suc, ◌+◌, ◌≤◌, Bool, true, false, ◌==◌, nat_le, if◌then◌else◌, List, [], ◌∷◌, ◌++◌, length, filter}
 use Rattle.outbox.specs.Queue.{Held, Giving, Entry, entry_of, give}
 
--- A session's number; the dependency of its last output that was handed out whole, 0 at first; and its outputs that are held,
--- the next to go in front.
+-- A session's number; the dependency of its last output that was handed out whole, 0 at first; and the outputs that it
+-- holds, the next one first.
 pub record Session : Type 0 where
   pub number : ℕ
   pub given : ℕ
   pub held : List Held
 
--- a session to which nothing was sent yet
+-- a session without outputs
 abbrev pub silent : ℕ → Session
 silent n = record { number = n; given = 0; held = [] }
 
@@ -18,12 +18,12 @@ abbrev pub RiseFrom : ℕ → List Session → Type 0
 RiseFrom n [] = Unit {0}
 RiseFrom n (s ∷ rest) = (n ≤ s.number) × RiseFrom (suc s.number) rest
 
--- the session with this number; nothing was sent to one that is not kept
+-- the session with this number; one that is not kept has no outputs
 abbrev pub session_of : ℕ → List Session → Session
 session_of n [] = silent n
 session_of n (s ∷ rest) = if s.number == n then s else session_of n rest
 
--- with this done to the session, which is kept from then on
+-- the sessions after this is done to one of them, which is kept from then on
 abbrev pub with_session : (Session → Session) → ℕ → List Session → List Session
 with_session f n [] = f (silent n) ∷ []
 with_session f n (s ∷ rest) =
@@ -34,7 +34,7 @@ with_session f n (s ∷ rest) =
 abbrev pub joined : ℕ → List Session → List Session
 joined n sessions = with_session (λ s. s) n sessions
 
--- an output more, behind those of the session
+-- one more output, after those of the session
 abbrev pub with_output : Held → Session → Session
 with_output output s = record { number = s.number; given = s.given; held = s.held ++ output ∷ [] }
 
@@ -48,7 +48,7 @@ is_holding s = are_held s.held where
   are_held [] = false
   are_held (held ∷ rest) = true
 
--- how many sessions hold outputs
+-- the number of sessions that hold outputs
 abbrev pub holding : List Session → ℕ
 holding sessions = length (filter is_holding sessions)
 
@@ -67,7 +67,7 @@ pub record Release : Type 0 where
 abbrev pub in_front : Session → Giving → Release → Release
 in_front s g later = record { entries = entry_of s.number g ++ later.entries; sessions = after_giving g s ∷ later.sessions }
 
--- session by session, the front outputs that depend on p changes at most, where there is room for so many octets
+-- session by session, the first outputs that depend on at most p changes, while there is room for this many octets
 abbrev pub release : ℕ → ℕ → List Session → Release
 release p room [] = record { entries = []; sessions = [] }
 release p room (s ∷ rest) = in_front s (give p room s.given s.held) (release p (give p room s.given s.held).room rest)

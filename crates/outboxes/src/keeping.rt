@@ -10,8 +10,8 @@ use outbox::ReadyBuf;
 use std::alloc::{AllocError, Global};
 use std::marker::Model;
 
-/// The outputs of all sessions that are not handed out whole yet, each session's in order, and the dependency of its last one
-/// that was. The sessions stand in rising number.
+/// The outputs of all sessions that are not yet handed out whole, each session's in order, and the dependency of the
+/// last one that was. The sessions are in rising number.
 #[derive(Drop)]
 pub struct Outbox {
     alloc: Global,
@@ -30,7 +30,7 @@ impl Model for Outbox {
 }
 
 impl Outbox {
-    /// An outbox that keeps no session.
+    /// An outbox without sessions. It takes no memory.
     pub fn new(alloc: Global) -> Outbox
         ensures { result ≡ [] }
     {
@@ -40,7 +40,8 @@ impl Outbox {
         }
     }
 
-    /// Makes room for n more outputs of a session, which is kept from then on. A refusal for memory leaves what is held.
+    /// Makes room for n more outputs of a session, which is kept from then on. Refused only for want of memory; what is
+    /// held stays.
     pub fn reserve(&mut self, sid: u64, n: usize) -> Result<(), AllocError>
         ensures ok { OnOk result (sessions self.new ≡ joined sid (sessions self.old)) }
         ensures err { OnErr result (sessions self.new ≡ sessions self.old) }
@@ -52,9 +53,9 @@ impl Outbox {
         Ok(())
     }
 
-    /// Puts an output behind those of its session, which is kept from then on. It takes no memory where `reserve` made room.
-    /// A refusal for memory leaves what is held; it comes only where room is missing, or where the session's octets would
-    /// not be countable in 64 bits.
+    /// Adds an output after those of its session, which is kept from then on. It takes no memory if `reserve` made
+    /// room. A refusal for memory leaves what is held. It comes only if room is missing, or if the session's octets
+    /// could no longer be counted in 64 bits.
     pub fn push(
         &mut self,
         sid: u64,
@@ -75,7 +76,7 @@ impl Outbox {
         Ok(())
     }
 
-    /// How many octets of a session are still to go.
+    /// The number of octets of a session still to be handed out.
     pub fn buffered(&self, sid: u64) -> u64
         ensures { result ≡ buffered (session_of sid (sessions self.now)).held }
     {
@@ -85,7 +86,7 @@ impl Outbox {
         }
     }
 
-    /// The dependency of a session's last output, also where that was handed out; 0 where there was none.
+    /// The dependency of a session's last output, even if that was handed out; 0 if there was none.
     pub fn last_dependency(&self, sid: u64) -> u64
         ensures { result ≡ last_dependency (session_of sid (sessions self.now)).given (session_of sid (sessions self.now)).held }
     {
@@ -95,7 +96,7 @@ impl Outbox {
         }
     }
 
-    /// How many sessions hold outputs. With an output more, one session more may.
+    /// The number of sessions that hold outputs. One more output adds at most one session.
     pub fn holding(&self) -> usize
         ensures count { result ≡ holding (sessions self.now) }
         ensures more { (n : ℕ) (output : Held) → holding (sent n output (sessions self.now)) ≤ result + 1 }
@@ -103,7 +104,7 @@ impl Outbox {
         count_holding(&self.seats)
     }
 
-    /// Drops a session with its outputs; nothing where it is not kept. It takes no memory.
+    /// Drops a session with its outputs; does nothing if the session is not kept. It takes no memory.
     pub fn forget(&mut self, sid: u64)
         ensures { self.new ≡ without sid self.old }
     {
@@ -112,9 +113,9 @@ impl Outbox {
         }
     }
 
-    /// Fills the buffer anew: goes through the sessions in rising number and moves out their front outputs that depend on
-    /// `durable` changes at most, in order, until its octets are used. The last may be cut; then its rest stays in front, and
-    /// its end with it. It takes no memory.
+    /// Fills the buffer anew. In rising number, each session's first outputs that depend on at most `durable` changes
+    /// are moved out in order, until the octets of the buffer are used up. The last output may be cut; then its rest
+    /// stays first, and the session's end stays with it. It takes no memory.
     pub fn ready(&mut self, durable: u64, into: &mut ReadyBuf)
         ensures entries { into.new ≡ (release durable 65_536 (sessions self.old)).entries }
         ensures kept { sessions self.new ≡ (release durable 65_536 (sessions self.old)).sessions }
@@ -139,7 +140,7 @@ fn seat_of(seats: &[Seat], sid: u64) -> Option<&Seat>
     None
 }
 
-/// How many sessions hold outputs.
+/// The number of sessions that hold outputs.
 #[tactic(auto, using(crate::proofs::Rising::holding_more))]
 fn count_holding(seats: &[Seat]) -> usize
     ensures { result ≡ holding (sessions seats.now) }
@@ -151,7 +152,7 @@ fn count_holding(seats: &[Seat]) -> usize
     count
 }
 
-/// The place of the first session whose number is not below this one, or their count.
+/// The place of the first session whose number is not below this one, or the number of sessions.
 fn place(seats: &[Seat], sid: u64) -> usize
     ensures { result ≡ place_of sid seats.now }
 {
@@ -185,7 +186,7 @@ fn standing(seats: &[Seat], sid: u64) -> Option<usize>
     None
 }
 
-/// Makes room for n more outputs of a session, which is kept from then on, and tells its place.
+/// Makes room for n more outputs of a session, which is kept from then on, and answers its place.
 fn make_room(seats: &mut Vec<Seat>, alloc: Global, sid: u64, n: usize) -> Result<usize, AllocError>
     requires { RiseFrom 0 (sessions seats.old.items) }
     ensures at { IfOk result (λ at. Stands sid at seats.new.items) }
@@ -204,7 +205,7 @@ fn make_room(seats: &mut Vec<Seat>, alloc: Global, sid: u64, n: usize) -> Result
     Ok(at)
 }
 
-/// Makes room for n more outputs of the session that stands there.
+/// Makes room for n more outputs of the session at this place.
 fn room_at(seats: &mut Vec<Seat>, at: usize, sid: u64, n: usize) -> Result<(), AllocError>
     requires { Stands sid at seats.old.items }
     ensures at { Stands sid at seats.new.items }
@@ -217,7 +218,7 @@ fn room_at(seats: &mut Vec<Seat>, at: usize, sid: u64, n: usize) -> Result<(), A
     seats[at].reserve(n)
 }
 
-/// Keeps a session from now on, with room for n outputs, at the place where its number belongs.
+/// Keeps a session from then on, with room for n outputs, at the place where its number belongs.
 fn room_before(
     seats: &mut Vec<Seat>,
     alloc: Global,
@@ -241,7 +242,7 @@ fn room_before(
     Ok(())
 }
 
-/// Puts an output behind those of its session.
+/// Adds an output after those of its session.
 fn put(
     seats: &mut Vec<Seat>,
     alloc: Global,
@@ -262,7 +263,7 @@ fn put(
     Ok(())
 }
 
-/// Puts an output behind those of the session that stands there.
+/// Adds an output after those of the session at this place.
 fn put_at(seats: &mut Vec<Seat>, at: usize, sid: u64, dependency: u64, octets: Vec<u8>, ends: bool)
     requires at { Stands sid at seats.old.items }
     requires room { 1 ≤ room_of sid seats.old.items }
@@ -273,7 +274,7 @@ fn put_at(seats: &mut Vec<Seat>, at: usize, sid: u64, dependency: u64, octets: V
     seats[at].push(octets, dependency, ends);
 }
 
-/// Each session in turn gives what is ready.
+/// Lets each session in turn give what is ready.
 fn give_all(seats: &mut Vec<Seat>, durable: u64, into: &mut ReadyBuf)
     requires few { holding (sessions seats.old.items) ≤ 64 }
     requires empty { into.old ≡ [] }

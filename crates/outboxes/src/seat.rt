@@ -25,7 +25,7 @@ impl Model for Seat {
 }
 
 impl Seat {
-    /// A session to which nothing was sent yet.
+    /// A session without outputs. It takes no memory.
     pub(crate) fn new(alloc: Global, number: u64) -> Seat
         ensures { session_in result ≡ silent number }
     {
@@ -53,7 +53,7 @@ impl Seat {
         self.queue.last_dependency()
     }
 
-    /// One if it holds outputs, else none.
+    /// 1 if it holds outputs, else 0.
     #[tactic(auto, using(crate::proofs::Rising::some_held))]
     pub(crate) fn holding(&self) -> usize
         ensures { result ≡ (if is_holding (session_in self.now) then 1 else 0) }
@@ -79,7 +79,8 @@ impl Seat {
         self.queue.push(octets, dependency, ends);
     }
 
-    /// Moves the outputs that depend on `durable` changes at most into the buffer, as this session's entry, if it holds some.
+    /// Moves the outputs that depend on at most `durable` changes into the buffer, as this session's entry, if there
+    /// are any.
     pub(crate) fn give(&mut self, durable: u64, into: &mut ReadyBuf)
         requires { 0 < length self.old.held → length into.old < 64 }
         ensures entries { into.new ≡ into.old ++ entry_of self.old.number (give durable (65_536 - octets_in into.old) self.old.given self.old.held) }

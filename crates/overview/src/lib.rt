@@ -10,8 +10,8 @@ use std::alloc::{AllocError, Global};
 
 const TAB: u8 = b'\t';
 
-/// The line of an article that has this number in its group, or 0 where it was asked for by its message-id. It has no CRLF.
-/// An `Err` is out of memory.
+/// The line of an article that has this number in its group, or 0 if it was asked for by its message-id. It has no
+/// CRLF. Refused only for want of memory.
 pub fn line(alloc: Global, number: u64, article: &Article<'_>) -> Result<Vec<u8>, AllocError>
     ensures { IfOk result (λ line. line.items ≡ overview_line number article.now) }
 {
@@ -29,8 +29,8 @@ pub fn line(alloc: Global, number: u64, article: &Article<'_>) -> Result<Vec<u8>
     Ok(line)
 }
 
-/// Appends the line of a text, whether or not it is an article, with this number. It has no CRLF. An `Err` is out of memory; the
-/// octets behind those that were there may be any then.
+/// Appends the line of a text, whether or not it is an article, with this number. It has no CRLF. Refused only for want
+/// of memory; then any octets may follow those that were already there.
 pub fn push_line(
     alloc: Global,
     line: &mut Vec<u8>,
@@ -52,7 +52,7 @@ pub fn push_line(
     push_number(alloc, line, body_line_count(text) as u64)
 }
 
-/// Adds a TAB and what the field of this name says, or the TAB alone where the header has none.
+/// Appends a TAB and the content of the field of this name, or only the TAB if the header has none.
 fn push_content(
     alloc: Global,
     line: &mut Vec<u8>,
@@ -65,7 +65,7 @@ fn push_content(
     push_shown(line, &header.content(alloc, name)?)
 }
 
-/// Adds a number.
+/// Appends a number.
 fn push_number(alloc: Global, line: &mut Vec<u8>, number: u64) -> Result<(), AllocError>
     ensures { OnOk result (line.new.items ≡ line.old.items ++ decimal number) }
 {
@@ -73,7 +73,7 @@ fn push_number(alloc: Global, line: &mut Vec<u8>, number: u64) -> Result<(), All
     line.extend_from_slice(digits.as_bytes())
 }
 
-/// Adds a TAB and what the field of this name says, or the TAB alone where the article has none.
+/// Appends a TAB and the content of the field of this name, or only the TAB if the article has none.
 fn push_field(
     alloc: Global,
     line: &mut Vec<u8>,
@@ -89,7 +89,7 @@ fn push_field(
     }
 }
 
-/// Adds a field's content, each TAB of it as SP.
+/// Appends a field's content, with SP in place of each TAB.
 fn push_shown(line: &mut Vec<u8>, content: &[u8]) -> Result<(), AllocError>
     ensures { OnOk result (line.new.items ≡ line.old.items ++ map (λ octet. if octet == 9 then 32 else octet) content.now) }
 {

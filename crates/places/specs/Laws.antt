@@ -1,4 +1,4 @@
--- Where a spool's files stand, by their names.
+-- The places of a spool's files, by their names.
 use Rattle.std.specs.Prelude.{◌≡◌, ℕ, ◌+◌, List, [], ◌∷◌, ◌++◌, length, Option, Some, None}
 use Rattle.model.specs.Stream.{Octets}
 use Rattle.model.specs.Files.{File, table}
@@ -10,22 +10,22 @@ use Rattle.model.specs.declared.change.Change.{Change}
 use Rattle.model.specs.declared.change.Change.TheVariants.{Group}
 use Rattle.places.specs.Places.{AreNamed, KeepsNames, name_of, with_change, with_group}
 
--- Where the spool's files stand, their names stand.
+-- The places of the spool's files are inodes whose files have those names.
 abbrev pub PlacesHaveNames : Type 0
 PlacesHaveNames = (inodes : ℕ) (blocks : List Octets) (S : Spool) (places : FilePlaces) → ArePlaces inodes blocks S places → AreNamed (table inodes blocks) S places
 
--- And where the blocks hold the spool, the files with their names are the spool's, as no name stands twice.
+-- If the blocks hold the spool, the files with these names are the spool's, since no name occurs twice.
 abbrev pub PlacesAreByName : Type 0
 PlacesAreByName = (host : Octets) (inodes : ℕ) (blocks : List Octets) (S : Spool) (places : FilePlaces) → Holds host inodes blocks S → AreNamed (table inodes blocks) S places →
     ArePlaces inodes blocks S places
 
--- One change more, which makes no group: the place of its file.
+-- One more change that makes no group adds the place of its file.
 abbrev pub PlacesGrowByChange : Type 0
 PlacesGrowByChange = (old new : List (Option File)) (S : Spool) (c : Change) (places : FilePlaces) (at : ℕ) → group_made (record { serial = length S + 1; change = c }) ≡ None →
     AreNamed old S places → KeepsNames old new → name_of new at ≡ Some (change_file (record { serial = length S + 1; change = c })).name →
     AreNamed new (S ++ c ∷ []) (with_change at places)
 
--- One group more: the places of its three files.
+-- One more group adds the places of its three files.
 abbrev pub PlacesGrowByGroup : Type 0
 PlacesGrowByGroup = (old new : List (Option File)) (S : Spool) (name : Octets) (status : ℕ) (description : Octets) (moment : ℕ) (places : FilePlaces) (at numbers overview : ℕ) →
     AreNamed old S places → KeepsNames old new →

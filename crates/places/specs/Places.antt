@@ -1,4 +1,4 @@
--- The places of a spool's files, and the names that stand there.
+-- The places of a spool's files, and the names at these places.
 use Rattle.std.specs.Prelude.{◌≡◌, ℕ, List, [], ◌∷◌, ◌++◌, map, slice_index_or, Option, Some, None, option_map}
 use Rattle.model.specs.Stream.{Octets}
 use Rattle.model.specs.Files.{File}
@@ -6,11 +6,11 @@ use Rattle.model.specs.Indexed.{FilePlaces}
 use Rattle.model.specs.Spool.{Spool, entries, groups}
 use Rattle.model.specs.SpoolFiles.{change_file, numbers_name, overview_name}
 
--- one place more, of the file of an article or an expiry
+-- one more place, that of the file of an article or an expiry
 abbrev pub with_change : ℕ → FilePlaces → FilePlaces
 with_change at p = record p { changes = p.changes ++ at ∷ [] }
 
--- the three of a group
+-- the three places of a group
 abbrev pub with_group : ℕ → ℕ → ℕ → FilePlaces → FilePlaces
 with_group at numbers overview p = record { changes = p.changes ++ at ∷ []; numbers = p.numbers ++ numbers ∷ []; overviews = p.overviews ++ overview ∷ [] }
 

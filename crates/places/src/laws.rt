@@ -1,4 +1,4 @@
-//! What the places of files rest on. The functions do nothing.
+//! The facts that the places of files rely on. The functions do nothing.
 
 ghost use Rattle.places.specs.Laws.{PlacesAreByName, PlacesGrowByChange, PlacesGrowByGroup, PlacesHaveNames};
 
@@ -8,7 +8,7 @@ pub fn places_are_by_name()
     ensures are { PlacesAreByName }
 {}
 
-/// Where each file keeps its inode and its name, a change's new files have their places behind the others.
+/// If each file keeps its inode and its name, the places of a change's new files follow the others.
 pub fn places_grow_with_the_spool()
     ensures change { PlacesGrowByChange }
     ensures group { PlacesGrowByGroup }

@@ -1,5 +1,5 @@
-//! Where the files of a spool stand: the inode of each change's file by serial, and of the numbers and the overview of each
-//! group. Inodes are found in memory, so no call searches the directory for a name.
+//! The places of a spool's files: the inode of each change's file by serial, and the inodes of the numbers and the
+//! overview of each group. Inodes are found in memory, so no call searches the directory for a name.
 #![tactic(auto)]
 
 ghost use Rattle.std.specs.Prelude.{◌≡◌, ℕ, [], OnErr, OnOk};
@@ -29,7 +29,7 @@ impl Model for Places {
 }
 
 impl Places {
-    /// The places of no files.
+    /// The places of an empty spool. It takes no memory.
     pub fn new(alloc: Global) -> Places
         ensures { result ≡ record { changes = []; numbers = []; overviews = [] } }
     {
@@ -40,7 +40,7 @@ impl Places {
         }
     }
 
-    /// By serial, the inode of the file of each change.
+    /// The inode of each change's file, by serial.
     pub fn changes(&self) -> &[u32]
         ensures { result.now ≡ self.now.changes }
     {
@@ -61,7 +61,8 @@ impl Places {
         self.overviews.as_slice()
     }
 
-    /// Adds the place of the file of an article or an expiry. An `Err` is out of memory and changes nothing.
+    /// Adds the place of the file of an article or an expiry. Refused only for want of memory, and then nothing
+    /// changes.
     pub fn push_change(&mut self, at: u32) -> Result<(), AllocError>
         ensures ok { OnOk result (self.new ≡ with_change at self.old) }
         ensures err { OnErr result (self.new ≡ self.old) }
@@ -70,8 +71,8 @@ impl Places {
         Ok(())
     }
 
-    /// Adds the places of the files of a group: its record, its numbers, its overview. An `Err` is out of memory and changes
-    /// nothing.
+    /// Adds the places of the files of a group: its record, its numbers, its overview. Refused only for want of memory,
+    /// and then nothing changes.
     pub fn push_group(&mut self, at: u32, numbers: u32, overview: u32) -> Result<(), AllocError>
         ensures ok { OnOk result (self.new ≡ with_group at numbers overview self.old) }
         ensures err { OnErr result (self.new ≡ self.old) }
@@ -88,14 +89,14 @@ impl Places {
         Ok(())
     }
 
-    /// Takes out what the last `push_change` added.
+    /// Removes what the last `push_change` added.
     pub fn pop_change(&mut self)
         ensures { (old : FilePlaces) (at : ℕ) → self.old ≡ with_change at old → self.new ≡ old }
     {
         let _ = self.changes.pop();
     }
 
-    /// Takes out what the last `push_group` added.
+    /// Removes what the last `push_group` added.
     pub fn pop_group(&mut self)
         ensures { (old : FilePlaces) (at numbers overview : ℕ) → self.old ≡ with_group at numbers overview old → self.new ≡ old }
     {

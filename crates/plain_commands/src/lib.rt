@@ -1,5 +1,5 @@
-//! The commands that read nothing of the spool, and the answers where there is no room or the server has stopped. Each answers
-//! as `specs/Answer.antt` of the crate `model` says. An error is that memory is refused.
+//! The commands that read nothing of the spool, and the answers when there is no room or the server has stopped. Each
+//! answers as `specs/Answer.antt` of the crate `model` says, and is refused only for want of memory.
 #![tactic(auto)]
 
 ghost use Rattle.std.specs.Prelude.{◌≡◌, ◌++◌, ◌<◌, IfOk, codes};
@@ -58,8 +58,8 @@ pub fn stopped(alloc: Global, session: &Session) -> Result<Answered, AllocError>
     closes(alloc, session, Reply::ServiceEnds)
 }
 
-/// The answer to an article for which there is no room: it may be offered again, or is not accepted
-/// (RFC 3977, sections 6.3.1 and 6.3.2).
+/// The answer to an article for which there is no room: an offered one may be sent again later, a posted one is not
+/// accepted (RFC 3977, sections 6.3.1 and 6.3.2).
 pub fn full(alloc: Global, session: &Session) -> Result<Answered, AllocError>
     ensures { IfOk result (λ said. said ≡ answered (answers.full_answer session.now session.now.awaits) 0) }
 {
@@ -76,7 +76,7 @@ fn closes(alloc: Global, session: &Session, which: Reply) -> Result<Answered, Al
     ends(alloc, session, which, Awaits::Nothing)
 }
 
-/// A reply of one line behind which this is awaited.
+/// A one-line reply, after which the session awaits this.
 pub fn ends(
     alloc: Global,
     session: &Session,

@@ -1,4 +1,4 @@
--- What comes of an article, as the code says it.
+-- The outcome of an article, as the code states it.
 use Rattle.std.specs.Prelude.{ℕ, ◌+◌, [], ◌∷◌, List, find, length, if◌then◌else◌, Option, Some, None}
 use Rattle.model.specs.Stream.{Octets}
 use Rattle.model.specs.Answer as answers
@@ -20,7 +20,7 @@ use Rattle.posting_commands.specs.declared.posts.Posted.{Posted}
 use Rattle.posting_commands.specs.declared.filing.Outcome.{Outcome}
 use Rattle.posting_commands.specs.declared.filing.Outcome.TheVariants as outcome
 
--- a refusal says what it reads
+-- a refusal states what it reads
 abbrev pub told : Spool → answers.Outcome → Outcome
 told S answers.not_an_article = outcome.Refused 0
 told S (answers.id_here a) = outcome.Refused a.serial
@@ -28,7 +28,7 @@ told S answers.no_group_here = outcome.Refused 0
 told S (answers.group_closed g) = outcome.Refused (last_naming S g)
 told S (answers.accepted here) = outcome.Accepted here
 
--- the first of these groups that is in the way
+-- the first of these groups that prevents the filing
 abbrev pub closed_among : Closed → Spool → List Octets → Option Octets
 closed_among closed.Refuse S names = find (answers.is_closed S) names
 closed_among closed.Take S names = None
@@ -43,19 +43,20 @@ post_said host S x t text =
     if answers.is_long_as_stored host S text then record { answered = answered (then_line x not_accepted None) 0; mark = mark.Long }
     else record { answered = answered (answers.post_answer host S x t text) (outcome_reads S (answers.post_outcome host S text)); mark = mark.Served }
 
--- the answer to one that is an article
+-- the answer to a post that is an article
 abbrev pub posted_by : Octets → Spool → Session → ℕ → Octets → Answered
 posted_by host S x t text =
     let what = answers.spool_outcome (answers.same_id S text) (answers.groups_here S text) (closed_among closed.Refuse S (groups_of text)) in
     answered (answers.article_answer (answers.awaiting x awaits.Line) received not_accepted (injected host (length S + 1) t text) t what) (outcome_reads S what)
 
--- what comes of an article with these groups here, and the last serial that names one in the way
+-- the outcome of an article whose existing groups are these, and the last serial that names one that prevents the
+-- filing
 abbrev pub outcome_by : List Octets → Option ℕ → Outcome
 outcome_by [] shut = outcome.Refused 0
 outcome_by (g ∷ here) (Some n) = outcome.Refused n
 outcome_by (g ∷ here) None = outcome.Accepted (g ∷ here)
 
--- how a post is marked that is refused for this cause
+-- the mark of a post that is refused for this cause
 abbrev pub mark_by : Cause → Mark
 mark_by Long = mark.Long
 mark_by cause = mark.Served

@@ -1,4 +1,4 @@
-//! Where an article is filed.
+//! The groups in which an article is filed.
 
 ghost use Rattle.std.specs.Prelude.{◌≡◌, find, filter, option_map, IfOk, None};
 ghost use Rattle.model.specs.Answer.{groups_here, is_closed, same_id, spool_outcome};
@@ -11,23 +11,23 @@ use lookups::{LookUps, counts_of, find_group};
 use model::{Names, Text};
 use std::alloc::{AllocError, Global};
 
-/// What comes of an article.
+/// The outcome of an article.
 #[derive(Drop)]
 pub enum Outcome {
-    /// It is not filed, by what stands up to this serial.
+    /// It is not filed. The reason for this lies within the changes up to this serial.
     Refused(u64),
     /// It is filed in these groups.
     Accepted(Names),
 }
 
-/// Which groups that take no articles are in the way.
+/// Which closed groups prevent the filing.
 #[derive(Clone, Copy, PartialEq, Eq)]
 pub enum Closed {
     Refuse,
     Take,
 }
 
-/// The serial of the article that has the same id, also where it is gone.
+/// The serial of the article with the same id, even if it is gone.
 fn same_id<L: LookUps>(spool: &L, article: &Article<'_>) -> Option<u64>
     ensures { result ≡ option_map (λ a. a.serial) (same_id (L.changes spool.now) article.now) }
 {
@@ -37,7 +37,7 @@ fn same_id<L: LookUps>(spool: &L, article: &Article<'_>) -> Option<u64>
     }
 }
 
-/// Those of the groups that are here.
+/// Those of the groups that exist.
 fn groups_here<L: LookUps>(
     alloc: Global,
     spool: &L,
@@ -54,7 +54,7 @@ fn groups_here<L: LookUps>(
     Ok(here)
 }
 
-/// Whether the group is here and takes no articles.
+/// Whether the group exists and takes no articles.
 fn is_closed<L: LookUps>(spool: &L, name: &Text) -> bool
     ensures { result ≡ is_closed (L.changes spool.now) name.now }
 {
@@ -64,7 +64,7 @@ fn is_closed<L: LookUps>(spool: &L, name: &Text) -> bool
     }
 }
 
-/// The last serial that names the first of the groups that takes no articles.
+/// The last serial that names the first closed group of these.
 fn first_closed<L: LookUps>(spool: &L, names: &[Text]) -> Option<u64>
     ensures { result ≡ option_map (last_naming (L.changes spool.now)) (find (is_closed (L.changes spool.now)) names.now) }
 {
@@ -74,7 +74,7 @@ fn first_closed<L: LookUps>(spool: &L, names: &[Text]) -> Option<u64>
     }
 }
 
-/// The last serial that names the first of the groups that is in the way.
+/// The last serial that names the first group of these that prevents the filing.
 fn last_of_closed<L: LookUps>(spool: &L, closed: Closed, names: &[Text]) -> Option<u64>
     ensures { result ≡ option_map (last_naming (L.changes spool.now)) (closed_among closed (L.changes spool.now) names.now) }
 {
@@ -84,7 +84,8 @@ fn last_of_closed<L: LookUps>(spool: &L, closed: Closed, names: &[Text]) -> Opti
     }
 }
 
-/// What comes of an article by what is here: its id, its groups, those of them that take no articles.
+/// The outcome of an article over this spool. It depends on its id, on which of its groups exist, and on which are
+/// closed.
 pub fn filing<L: LookUps>(
     alloc: Global,
     spool: &L,
@@ -99,7 +100,7 @@ pub fn filing<L: LookUps>(
     }
 }
 
-/// What comes of an article whose id is new, by its groups.
+/// The outcome of an article whose id is new, by its groups.
 #[tactic(auto, using(crate::proofs::Telling::told_groups))]
 fn by_groups<L: LookUps>(
     alloc: Global,
@@ -116,7 +117,7 @@ fn by_groups<L: LookUps>(
     Ok(made_outcome(here, in_the_way))
 }
 
-/// What comes of it, by its groups that are here and the last serial that names one in the way.
+/// The outcome, by the groups that exist and the last serial that names one that prevents the filing.
 fn made_outcome(here: Vec<Text>, in_the_way: Option<u64>) -> Outcome
     ensures { result ≡ outcome_by here.items in_the_way }
 {

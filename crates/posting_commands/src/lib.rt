@@ -1,6 +1,5 @@
-//! POST and IHAVE (RFC 3977, section 6.3): the commands, and the articles that follow them. Each answers as
-//! `specs/Answer.antt` of the crate `model` says, with what `specs/Reads.antt` says that it reads. An error is that memory is
-//! refused.
+//! POST and IHAVE (RFC 3977, section 6.3): the commands, and the articles that follow them. `specs/Answer.antt` of the
+//! crate `model` says what each answers, and `specs/Reads.antt` what it reads. Each is refused only for want of memory.
 #![tactic(auto)]
 
 mod filing;

@@ -36,7 +36,8 @@ pub fn post(alloc: Global, session: &Session) -> Result<Answered, AllocError>
     asks(alloc, session, Reply::SendPosted, Awaits::PostBlock)
 }
 
-/// IHAVE (RFC 3977, section 6.3.2). An id of the host's own is never wanted, nor is one that is here or gone.
+/// IHAVE (RFC 3977, section 6.3.2). An id of the host's own is never wanted, nor is the id of an article that was
+/// filed.
 pub fn ihave<L: LookUps>(
     alloc: Global,
     spool: &L,

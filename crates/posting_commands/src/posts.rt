@@ -25,7 +25,7 @@ pub struct Posted {
     pub mark: Mark,
 }
 
-/// A reply behind which a line is awaited, and the change that it accepts.
+/// A reply after which a line is awaited, and the change that it accepts.
 fn answer(
     alloc: Global,
     session: &Session,
@@ -45,7 +45,7 @@ fn answer(
     Ok(Answered { answer, reads })
 }
 
-/// The octets in memory of their own.
+/// A copy of the octets on the heap.
 fn copied(alloc: Global, octets: &[u8]) -> Result<Vec<u8>, AllocError>
     ensures { IfOk result (λ copy. copy.items ≡ octets.now) }
 {
@@ -63,9 +63,9 @@ fn filed(text: Vec<u8>, groups: Names, moment: u64) -> Change
     }
 }
 
-/// The article that follows POST, at a moment in seconds since 1970, below 253,402,300,800. It is refused where it is no
-/// article, where its id or none of its groups is here, and where one of its groups takes no articles. Its mark is `Long` where
-/// it is refused since it would be too long as it is stored.
+/// Answers the article that follows POST, at a moment in seconds since 1970, below 253,402,300,800. It is refused if it
+/// is not an article, or if an article with its id was filed. It is also refused if none of its groups exists, or one
+/// of them takes no articles. Its mark is `Long` if it is refused because it would be too long as it is stored.
 pub fn post_block<L: LookUps>(
     alloc: Global,
     spool: &L,
@@ -91,7 +91,7 @@ pub fn post_block<L: LookUps>(
     }
 }
 
-/// How a post is marked that is refused for this cause.
+/// The mark of a post that is refused for this cause.
 fn mark_of(cause: Cause) -> Mark
     ensures { result ≡ mark_by (cause_of cause) }
 {
@@ -101,7 +101,7 @@ fn mark_of(cause: Cause) -> Mark
     }
 }
 
-/// A posted article, by what is here.
+/// The answer to a posted article over this spool.
 fn taken<L: LookUps>(
     alloc: Global,
     spool: &L,
@@ -124,8 +124,9 @@ fn taken<L: LookUps>(
     }
 }
 
-/// The article that follows IHAVE with this message-id, at a moment in seconds since 1970. It is refused where it is no
-/// article or has another id, and where its id or none of its groups is here.
+/// Answers the article that follows IHAVE with this message-id, at a moment in seconds since 1970. It is refused if it
+/// is not an article or has another id. It is also refused if an article with its id was filed, or if none of its
+/// groups exists.
 pub fn ihave_block<L: LookUps>(
     alloc: Global,
     spool: &L,
@@ -143,7 +144,7 @@ pub fn ihave_block<L: LookUps>(
     }
 }
 
-/// A carried article, by its id and by what is here.
+/// The answer to a carried article, by its id and over this spool.
 fn given<L: LookUps>(
     alloc: Global,
     spool: &L,

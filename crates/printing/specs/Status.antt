@@ -3,7 +3,7 @@ use Rattle.std.specs.Prelude.{ℕ}
 use Rattle.printing.specs.declared.failure.Failure.{Failure}
 use Rattle.printing.specs.declared.failure.Failure.TheVariants.{Memory, Bad, NotOpened, BadEvent, Command, Stream}
 
--- 2 where an event wasn't understood, else 1
+-- 2 if an event was not understood, else 1
 abbrev pub status_of : Failure → ℕ
 status_of (BadEvent line) = 2
 status_of Memory = 1

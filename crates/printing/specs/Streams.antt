@@ -13,10 +13,10 @@ abbrev pub is_memory : ErrorKind → Bool
 is_memory OutOfMemory = true
 is_memory _ = false
 
--- a stream that was refused memory is told as any refusal of memory
+-- a stream error for want of memory counts as any refusal of memory
 abbrev pub failure_of : Error → Failure
 failure_of error = if is_memory (error_kind error) then failure.Memory else failure.Stream error
 
--- the same of a command over a volume
+-- the same for a command over a volume
 abbrev pub command_error_of : Error → CommandError
 command_error_of error = if is_memory (error_kind error) then command.Memory else command.Stream error

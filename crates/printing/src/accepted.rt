@@ -1,4 +1,4 @@
-//! The spool as it is printed.
+//! Prints the spool.
 
 use crate::CommandError;
 use article::{Article, Origin};
@@ -8,7 +8,7 @@ use model::{Change, Text};
 use std::alloc::Global;
 use std::io::{self, Write};
 
-/// Prints how many changes are accepted, and each of them on a line of its own.
+/// Prints the number of accepted changes, and each change on a line of its own.
 pub fn print_spool<W: Write>(
     alloc: Global,
     spool: &Spool,
@@ -56,7 +56,7 @@ fn print_article<W: Write>(
     groups: &[Text],
     output: &mut W,
 ) -> Result<(), CommandError> {
-    // A stored text is an article and has an id, so that memory alone may be refused; then nothing of the line is printed.
+    // A stored text is an article and has an id, so only memory can be refused; then nothing of the line is printed.
     let Ok(article) = Article::read(alloc, text, Origin::Carried) else {
         return Err(CommandError::Memory);
     };
@@ -65,7 +65,7 @@ fn print_article<W: Write>(
     Ok(print_groups(groups, output)?)
 }
 
-/// Prints the groups, parted by commas, and ends the line.
+/// Prints the groups, separated by commas, and ends the line.
 fn print_groups<W: Write>(groups: &[Text], output: &mut W) -> io::Result<()> {
     for (index, name) in groups.iter().enumerate() {
         output.write_all(if index == 0 { b" " } else { b"," })?;

@@ -1,3 +1,5 @@
+//! The refusals of a command over a volume in a file.
+
 ghost use Rattle.std.specs.Prelude.{◌≡◌};
 ghost use Rattle.printing.specs.declared.errors.CommandError.TheVariants.{Memory};
 ghost use Rattle.printing.specs.Streams.{command_error_of};
@@ -8,16 +10,16 @@ use std::alloc::AllocError;
 use std::io::{self, ErrorKind};
 use thiserror::Error;
 
-/// Why a command over a volume in a file ends without having been done.
+/// Why a command over a volume in a file was not done.
 #[derive(Debug, Drop, Error)]
 pub enum CommandError {
-    /// The file can't be had, or the device failed.
+    /// The file cannot be opened, or the device failed.
     #[error("E1 Fault")]
     Fault,
     /// A growth was refused.
     #[error("E2 Memory")]
     Memory,
-    /// No volume stands in the file.
+    /// The file does not hold a volume.
     #[error("E3 NotAVolume")]
     NotAVolume,
     /// The journal was halted before.
@@ -26,13 +28,13 @@ pub enum CommandError {
     /// The volume holds no spool.
     #[error("{0}")]
     NotOpened(OpenError),
-    /// The group is not made.
+    /// The group was not made.
     #[error("{0}")]
     NotMade(AdminError),
-    /// The articles are not taken out of the group.
+    /// The articles were not removed from the group.
     #[error("{0}")]
     NotExpired(ExpireError),
-    /// The group isn't here.
+    /// The group does not exist.
     #[error("E12 NotFound")]
     NotFound,
     /// A socket or a stream failed.
@@ -51,7 +53,7 @@ impl From<AllocError> for CommandError {
 impl From<io::Error> for CommandError {
     ghost from_gives = { λ error refused. refused ≡ command_error_of error };
 
-    /// A stream that was refused memory ends as any other refusal of memory.
+    /// A stream error for want of memory counts as any other refusal of memory.
     fn from(error: io::Error) -> CommandError {
         match error.kind() {
             ErrorKind::OutOfMemory => CommandError::Memory,

@@ -1,3 +1,5 @@
+//! Why the program ends before its input does, and its status then.
+
 ghost use Rattle.std.specs.Prelude.{◌≡◌};
 ghost use Rattle.printing.specs.declared.failure.Failure.TheVariants.{Memory};
 ghost use Rattle.printing.specs.Status.{status_of};
@@ -21,7 +23,7 @@ pub enum Failure {
     /// The new volume was refused.
     #[error("{0}")]
     NotOpened(OpenError),
-    /// The line with this number, from 1, is no event. Those before it are done and printed.
+    /// The line with this number, from 1, is not an event. The events before it are done and printed.
     #[error("line {0}: bad event")]
     BadEvent(u64),
     /// A command over a volume in a file was refused.
@@ -69,7 +71,7 @@ impl From<CommandError> for Failure {
 impl From<io::Error> for Failure {
     ghost from_gives = { λ error failure. failure ≡ failure_of error };
 
-    /// A stream that was refused memory ends as any other refusal of memory.
+    /// A stream error for want of memory counts as any other refusal of memory.
     fn from(error: io::Error) -> Failure {
         match error.kind() {
             ErrorKind::OutOfMemory => Failure::Memory,

@@ -12,7 +12,7 @@ pub fn print_refusal<E: Display, W: Write>(error: &E, output: &mut W) -> io::Res
     writeln!(output, "{error}")
 }
 
-/// Prints what was handed out: for each session its octets, where there are any, then its end, where it ends.
+/// Prints what was handed out: for each session its octets, if there are any, and then its end, if it ends.
 pub fn print_released<W: Write>(
     alloc: Global,
     ready: &ReadyBuf,
@@ -21,7 +21,7 @@ pub fn print_released<W: Write>(
     for index in 0..ready.len() {
         let (session, octets, ends) = ready.entry(index);
         if !octets.is_empty() {
-            // before anything of the line is printed, as it may be refused memory
+            // this comes before any part of the line is printed, because memory may be refused
             let text = escaped(alloc, octets)?;
             write!(output, "out {session} ")?;
             output.write_all(text.as_slice())?;

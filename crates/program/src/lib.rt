@@ -1,4 +1,4 @@
-//! The program `newsd` over a reader and two writers: what each of its words does.
+//! The program `newsd` over a reader and two writers: what each of its commands does.
 #![tactic(auto)]
 
 mod running;

@@ -1,4 +1,4 @@
-//! What the program does: each of its commands but the simulation, and the server.
+//! What the program does: each of its commands except the simulation, and the server.
 
 ghost use Rattle.std.specs.Prelude.{◌≡◌};
 ghost use Rattle.printing.specs.Status.{status_of};
@@ -19,7 +19,7 @@ use std::thread::Threads;
 use std::time::Clock;
 use words::{Asked, Export, Service, read_words};
 
-/// How the program goes on after `run`.
+/// How the program continues after `run`.
 #[derive(Clone, Copy)]
 pub enum Outcome<'a> {
     /// It ends with this status.
@@ -29,8 +29,8 @@ pub enum Outcome<'a> {
 }
 
 /// Runs the program on its words, the first of which is its name, and answers its status: `DONE`, `REFUSED` with the
-/// refusal on `faults`, or `NOT_UNDERSTOOD`. Help and the version, where one is asked for, go to `output`. Words that ask for a
-/// server are read and handed back.
+/// refusal on `faults`, or `NOT_UNDERSTOOD`. Help and the version, if asked for, go to `output`. Words that ask for a
+/// server are read and returned.
 ///
 /// Faults are found in this order: words not understood; words outside their grammar; opening; the call.
 pub fn run<'a, R: Files<File = File> + Wait, S: AsStr, I: BufRead, W: Write, F: Write>(
@@ -152,7 +152,7 @@ fn change<R: Files<File = File> + Wait, W: Write>(
     Ok(writeln!(output, "{serial}")?)
 }
 
-/// The group that a word names. A line that was read names one.
+/// The group that a word names. A line that was read names a valid one.
 fn group_name(name: &[u8]) -> Result<GroupName, Failure> {
     GroupName::read(name).map_err(|_| Failure::Bad)
 }

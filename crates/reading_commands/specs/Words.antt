@@ -1,4 +1,4 @@
--- What the lines of these commands say.
+-- The lines of these commands.
 use Rattle.std.specs.Prelude.{ℕ, ◌+◌, ◌-◌, [], ◌∷◌, codes, decimal, flat_map, max, min, nat_lt, if◌then◌else◌, Option, Some, None}
 use Rattle.std.specs.List.{range_with_len}
 use Rattle.model.specs.Stream.{Octets, line, stuffed_line}
@@ -7,7 +7,7 @@ use Rattle.model.specs.declared.command.Range.{Range}
 use Rattle.model.specs.declared.command.Part.{Part}
 use Rattle.model.specs.declared.command.Part.TheVariants as part
 
--- the code of a reply that has this part of an article
+-- the code of a reply with this part of an article
 abbrev pub code_of : Part → Octets
 code_of part.Whole = codes "220"
 code_of part.Head = codes "221"
@@ -27,7 +27,7 @@ abbrev pub current_of : Option ℕ → ℕ → Option ℕ
 current_of None low = None
 current_of (Some n) low = if nat_lt n low then None else Some n
 
--- the numbers of a range that are in a group: the first, and how many
+-- the numbers of a range that are in a group: the first one, and how many
 abbrev pub first_in : Range → ℕ → ℕ
 first_in r low = max r.first low
 

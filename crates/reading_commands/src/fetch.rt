@@ -13,7 +13,7 @@ use model::{Part, Session};
 use replies::{Answered, Reply, answer, at_number, says, says_line};
 use std::alloc::{AllocError, Global};
 
-/// Without an argument: the current article (RFC 3977, sections 6.2.1 to 6.2.4).
+/// Answers without an argument: the current article (RFC 3977, sections 6.2.1 to 6.2.4).
 pub fn fetch_current<L: LookUps>(
     alloc: Global,
     spool: &L,
@@ -49,7 +49,7 @@ fn current_in<L: LookUps>(
     }
 }
 
-/// By number: the article becomes the current one (RFC 3977, sections 6.2.1 to 6.2.4).
+/// Answers by number: the article becomes the current one (RFC 3977, sections 6.2.1 to 6.2.4).
 pub fn fetch_number<L: LookUps>(
     alloc: Global,
     spool: &L,
@@ -86,7 +86,7 @@ fn number_in<L: LookUps>(
     }
 }
 
-/// By message-id: the number is 0, and the current article stays (RFC 3977, sections 6.2.1 to 6.2.4).
+/// Answers by message-id: the number is 0, and the current article stays (RFC 3977, sections 6.2.1 to 6.2.4).
 pub fn fetch_id<L: LookUps>(
     alloc: Global,
     spool: &L,
@@ -103,7 +103,7 @@ pub fn fetch_id<L: LookUps>(
     }
 }
 
-/// The reply that has this part of an article, and leaves the session as it is.
+/// The reply with this part of an article, which leaves the session as it is.
 fn shown<L: LookUps>(
     alloc: Global,
     spool: &L,

@@ -15,7 +15,7 @@ use model::{Range, Session};
 use replies::{Answered, Reply, answer, push_end, push_line, push_number, says_line, selecting};
 use std::alloc::{AllocError, Global};
 
-/// How many articles are in a group with these numbers.
+/// The number of articles in a group with these counts.
 fn count(counts: Counts) -> u64
     requires { 1 ≤ counts.low }
     ensures { result ≡ counts.high + 1 - counts.low }
@@ -26,7 +26,7 @@ fn count(counts: Counts) -> u64
     counts.high - counts.low + 1
 }
 
-/// A number, and a space in front.
+/// Appends a space and a number.
 fn push_spaced(reply: &mut Vec<u8>, number: u64) -> Result<(), AllocError>
     ensures { OnOk result (reply.new.items ≡ reply.old.items ++ 32 ∷ decimal number) }
 {
@@ -34,7 +34,7 @@ fn push_spaced(reply: &mut Vec<u8>, number: u64) -> Result<(), AllocError>
     push_number(reply, number)
 }
 
-/// Count, lowest and highest number, and name.
+/// Appends count, lowest and highest number, and name.
 fn push_counted(reply: &mut Vec<u8>, counts: Counts, group: &[u8]) -> Result<(), AllocError>
     requires { 1 ≤ counts.low }
     ensures { OnOk result (reply.new.items ≡ reply.old.items ++ counted counts.low counts.high group.now) }
@@ -47,7 +47,7 @@ fn push_counted(reply: &mut Vec<u8>, counts: Counts, group: &[u8]) -> Result<(),
     reply.extend_from_slice(group)
 }
 
-/// A reply that selects the group with these numbers, and reads it.
+/// A reply that selects the group with these counts, and reads the group.
 fn selects(
     alloc: Global,
     session: &Session,
@@ -93,7 +93,7 @@ fn selected<L: LookUps>(
     selects(alloc, session, group, counts, reply)
 }
 
-/// LISTGROUP of a group that is named (RFC 3977, section 6.1.2).
+/// LISTGROUP of the named group (RFC 3977, section 6.1.2).
 pub fn list_group<L: LookUps>(
     alloc: Global,
     spool: &L,

@@ -1,5 +1,5 @@
-//! The commands on the selected group and on articles (RFC 3977, sections 6 and 8.3). Each answers as `specs/Answer.antt` of
-//! the crate `model` says, with what `specs/Reads.antt` says that it reads. An error is that memory is refused.
+//! The commands on the selected group and on articles (RFC 3977, sections 6 and 8.3). `specs/Answer.antt` of the crate
+//! `model` says what each answers, and `specs/Reads.antt` what it reads. Each is refused only for want of memory.
 #![tactic(auto)]
 
 mod fetch;

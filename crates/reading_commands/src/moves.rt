@@ -84,7 +84,7 @@ fn last_in<L: LookUps>(
     }
 }
 
-/// The article under this number becomes the current one.
+/// Makes the article under this number the current one.
 fn moved<L: LookUps>(
     alloc: Global,
     spool: &L,

@@ -1,4 +1,4 @@
-//! What is sent of an article.
+//! The parts of an article as they are sent.
 
 ghost use Rattle.std.specs.Prelude.{◌≡◌, ◌++◌, OnOk, Some};
 ghost use Rattle.model.specs.Answer.{part_reply};
@@ -11,7 +11,7 @@ use model::Part;
 use replies::push_number;
 use std::alloc::AllocError;
 
-/// The code of a reply that has this part.
+/// The code of a reply with this part.
 fn code(part: &Part) -> &'static [u8]
     ensures { result.now ≡ code_of part.now }
 {
@@ -23,7 +23,7 @@ fn code(part: &Part) -> &'static [u8]
     }
 }
 
-/// Code, number and message-id.
+/// Appends code, number and message-id.
 pub fn push_found<L: LookUps>(
     spool: &L,
     part: &Part,
@@ -42,7 +42,7 @@ pub fn push_found<L: LookUps>(
     reply.extend_from_slice(b"\r\n")
 }
 
-/// The reply that has this part of an article.
+/// Appends the reply with this part of an article.
 #[tactic(auto, using(crate::proofs::Replied::parted, std::proofs::lemmas::Grind::common_steps))]
 pub fn push_part<L: LookUps>(
     spool: &L,

@@ -8,7 +8,7 @@ use model::Range;
 use replies::push_number_line;
 use std::alloc::AllocError;
 
-/// Numbers that stand one after the other, none where the last is below the first.
+/// Consecutive numbers; there are none if the last is below the first.
 #[derive(Clone, Copy)]
 pub struct Numbers {
     pub first: u64,
@@ -30,7 +30,7 @@ pub fn numbers_in(range: &Range, counts: Counts) -> Numbers
     Numbers { first, last }
 }
 
-/// How many numbers there are.
+/// How many numbers these are.
 fn count(numbers: Numbers) -> u64
     requires { 1 ≤ numbers.first }
     ensures { result ≡ numbers.last + 1 - numbers.first }
@@ -41,7 +41,7 @@ fn count(numbers: Numbers) -> u64
     numbers.last - numbers.first + 1
 }
 
-/// A line for each of the numbers.
+/// Appends a line for each of the numbers.
 pub fn push_numbers(reply: &mut Vec<u8>, numbers: Numbers) -> Result<(), AllocError>
     requires { 1 ≤ numbers.first }
     ensures { OnOk result (reply.new.items ≡ reply.old.items ++ number_lines numbers.first (numbers.last + 1 - numbers.first)) }

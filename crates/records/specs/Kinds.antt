@@ -4,7 +4,7 @@ use Rattle.model.specs.Stream.{Octets}
 use Rattle.records.specs.declared.names.FileKind.{FileKind}
 use Rattle.records.specs.declared.names.FileKind.TheVariants.{Group, Numbers, Overview, Article, Expiry}
 
--- the two octets in front of a group's name or a serial
+-- the two octets before a group's name or a serial
 abbrev pub front_of : FileKind → Octets
 front_of Group = codes "g."
 front_of Numbers = codes "n."

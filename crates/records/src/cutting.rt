@@ -1,11 +1,11 @@
-//! Octets cut into numbers and names, from the front on.
+//! Octets cut into numbers and names, from the start.
 
 ghost use Rattle.std.specs.Prelude.{◌≡◌, ◌^◌, ◌<◌, ◌∷◌, ◌++◌, ℕ, List, length, MatchOption};
 ghost use Rattle.byteorder.specs.Endian.{little_bytes};
 
 use byteorder::{ByteOrder, LittleEndian};
 
-/// The octet in front, and what stands behind it.
+/// The first octet, and the rest.
 pub(crate) fn cut8(octets: &[u8]) -> Option<(u8, &[u8])>
     ensures { MatchOption result (length octets.now < 1) (λ p. octets.now ≡ p.0 ∷ p.1.now) }
 {
@@ -16,7 +16,7 @@ pub(crate) fn cut8(octets: &[u8]) -> Option<(u8, &[u8])>
     Some((front[0], rest))
 }
 
-/// The number of 4 octets in front, and what stands behind it.
+/// The number in the first 4 octets, and the rest.
 pub(crate) fn cut32(octets: &[u8]) -> Option<(u32, &[u8])>
     ensures { MatchOption result (length octets.now < 4) (λ p. (p.0 < 2 ^ 32) × (octets.now ≡ little_bytes 4 p.0 ++ p.1.now)) }
 {
@@ -27,7 +27,7 @@ pub(crate) fn cut32(octets: &[u8]) -> Option<(u32, &[u8])>
     Some((LittleEndian::read_u32(front), rest))
 }
 
-/// The number of 8 octets in front, and what stands behind it.
+/// The number in the first 8 octets, and the rest.
 pub(crate) fn cut64(octets: &[u8]) -> Option<(u64, &[u8])>
     ensures { MatchOption result (length octets.now < 8) (λ p. octets.now ≡ little_bytes 8 p.0 ++ p.1.now) }
 {
@@ -38,7 +38,7 @@ pub(crate) fn cut64(octets: &[u8]) -> Option<(u64, &[u8])>
     Some((LittleEndian::read_u64(front), rest))
 }
 
-/// The name in front, which stands behind its length, and what stands behind it.
+/// The name at the start, which follows its length, and the rest.
 pub(crate) fn cut_name(octets: &[u8]) -> Option<(&[u8], &[u8])>
     ensures { MatchOption result
         ((name rest : List ℕ) → octets.now ≡ length name ∷ name ++ rest → ⊥)

@@ -1,5 +1,5 @@
-//! What the files of a spool say: their names, and the records in them (docs/FORMATS.md). Each is written from a change and
-//! read back exactly.
+//! The files of a spool: their names, and the records in them (docs/FORMATS.md). Each is written from a change and read
+//! back exactly.
 #![tactic(auto)]
 
 mod cutting;

@@ -1,4 +1,4 @@
-//! The names of the files of a spool: their kind in two octets, and a group's name or a serial behind them.
+//! The names of the files of a spool: two octets for their kind, followed by a group's name or a serial.
 
 ghost use Rattle.std.specs.Prelude.{◌≡◌, ◌^◌, ◌<◌, ◌++◌, ℕ, List, MatchOption, IfOk};
 ghost use Rattle.model.specs.Records.{last_digits};
@@ -9,7 +9,7 @@ use std::alloc::{AllocError, Global};
 /// The decimal digits of a serial in a file's name.
 pub const SERIAL_DIGITS: usize = 10;
 
-/// What a file says, by its name.
+/// The kind of a file, by its name.
 #[derive(Clone, Copy, Debug, PartialEq, Eq)]
 pub enum FileKind {
     /// a group's change
@@ -25,7 +25,7 @@ pub enum FileKind {
 }
 
 impl FileKind {
-    /// The octets in front of the name.
+    /// The octets before the group's name or the serial.
     fn front(self) -> &'static [u8; 2]
         ensures { result.now ≡ front_of self }
     {
@@ -39,7 +39,7 @@ impl FileKind {
     }
 }
 
-/// The name of the file of this kind for a group or a serial. Refused for memory alone.
+/// The name of the file of this kind for a group or a serial. Refused only for want of memory.
 pub fn file_name(alloc: Global, kind: FileKind, rest: &[u8]) -> Result<Vec<u8>, AllocError>
     ensures { IfOk result (λ name. name.items ≡ front_of kind ++ rest.now) }
 {
@@ -48,7 +48,7 @@ pub fn file_name(alloc: Global, kind: FileKind, rest: &[u8]) -> Result<Vec<u8>, 
     Ok(name)
 }
 
-/// The kind that a name begins with, and what stands behind it; nothing where it begins with none.
+/// The kind that a name begins with, and the rest of the name; `None` if it begins with no kind.
 pub fn kind_of(name: &[u8]) -> Option<(FileKind, &[u8])>
     ensures { MatchOption result
         ((kind : FileKind) (rest : List ℕ) → name.now ≡ front_of kind ++ rest → ⊥)
@@ -77,7 +77,7 @@ pub fn serial_digits(serial: u64) -> [u8; SERIAL_DIGITS]
     digits
 }
 
-/// The serial that these digits are of; nothing where they are not ten digits.
+/// The serial that these digits write; `None` if they are not ten digits.
 pub fn serial_of(digits: &[u8]) -> Option<u64>
     ensures { MatchOption result
         ((serial : ℕ) → digits.now ≡ last_digits 10 serial → ⊥)

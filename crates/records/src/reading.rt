@@ -1,4 +1,4 @@
-//! What the record of a change says.
+//! Reads the records of changes.
 
 ghost use Rattle.std.specs.Prelude.{◌≡◌, ◌^◌, ◌<◌, ◌∷◌, ◌++◌, ℕ, List, map, flat_map, length, IfOk, MatchOption};
 ghost use Rattle.byteorder.specs.Endian.{little_bytes};
@@ -8,7 +8,7 @@ ghost use Rattle.model.specs.Records.{article_record, expiry_record, group_recor
 use crate::cutting::{cut_name, cut8, cut32, cut64};
 use std::alloc::{AllocError, Global};
 
-/// What the file of a group says. The group's name stands in the file's.
+/// The contents of a group's file. The group's name is in the name of the file.
 #[derive(Clone, Copy)]
 pub struct GroupRecord<'a> {
     pub serial: u64,
@@ -18,7 +18,7 @@ pub struct GroupRecord<'a> {
     pub description: &'a [u8],
 }
 
-/// What the file of an article says.
+/// The contents of an article's file.
 #[derive(Drop)]
 pub struct ArticleRecord<'a> {
     pub serial: u64,
@@ -29,7 +29,7 @@ pub struct ArticleRecord<'a> {
     pub text: &'a [u8],
 }
 
-/// What the file of an expiry says.
+/// The contents of an expiry's file.
 #[derive(Clone, Copy)]
 pub struct ExpiryRecord<'a> {
     pub serial: u64,
@@ -37,7 +37,7 @@ pub struct ExpiryRecord<'a> {
     pub number: u32,
 }
 
-/// What a group's record says; nothing where the octets are no record of a group.
+/// Reads a group's record; `None` if the octets are not the record of a group.
 pub fn read_group(octets: &[u8]) -> Option<GroupRecord<'_>>
     ensures { MatchOption result
         ((g : NewsGroup) → octets.now ≡ group_record g → ⊥)
@@ -54,7 +54,7 @@ pub fn read_group(octets: &[u8]) -> Option<GroupRecord<'_>>
     })
 }
 
-/// What an expiry's record says; nothing where the octets are no record of an expiry.
+/// Reads an expiry's record; `None` if the octets are not the record of an expiry.
 pub fn read_expiry(octets: &[u8]) -> Option<ExpiryRecord<'_>>
     ensures { MatchOption result
         ((e : Expiry) → octets.now ≡ expiry_record e → ⊥)
@@ -75,8 +75,8 @@ pub fn read_expiry(octets: &[u8]) -> Option<ExpiryRecord<'_>>
     })
 }
 
-/// What an article's record says; nothing where the octets are no record of an article whose text has fewer than 2^32 octets.
-/// Refused for memory alone.
+/// Reads an article's record; `None` if the octets are not the record of an article whose text has fewer than 2^32
+/// octets. Refused only for want of memory.
 pub fn read_article(alloc: Global, octets: &[u8]) -> Result<Option<ArticleRecord<'_>>, AllocError>
     ensures { IfOk result (λ answer. MatchOption answer
         ((a : NewsArticle) → length a.text < 256 ^ 4 → octets.now ≡ article_record a → ⊥)
@@ -99,18 +99,18 @@ pub fn read_article(alloc: Global, octets: &[u8]) -> Result<Option<ArticleRecord
     }))
 }
 
-/// What stands in front of an article's groups.
+/// The fields before an article's groups.
 #[derive(Clone, Copy)]
 struct ArticleHead {
     serial: u64,
     moment: u64,
-    /// the octets of the text
+    /// the number of octets of the text
     text: u32,
-    /// how many groups there are
+    /// the number of groups
     groups: u8,
 }
 
-/// The head of an article's record, and what stands behind it.
+/// The head of an article's record, and the rest.
 fn article_head(octets: &[u8]) -> Option<(ArticleHead, &[u8])>
     ensures { MatchOption result
         (length octets.now < 21)
@@ -129,7 +129,7 @@ fn article_head(octets: &[u8]) -> Option<(ArticleHead, &[u8])>
     Some((head, rest))
 }
 
-/// So many names in front, each behind its length, and what stands behind them.
+/// This many names at the start, each after its length, and the rest.
 fn cut_names(
     alloc: Global,
     count: u8,

@@ -1,4 +1,4 @@
-//! The records of changes.
+//! Writes the records of changes.
 
 ghost use Rattle.std.specs.Prelude.{◌≡◌, ◌+◌, ◌^◌, ◌<◌, ◌∷◌, ◌++◌, ℕ, List, map, flat_map, length, IfOk, OnOk};
 ghost use Rattle.std.specs.List.{All};
@@ -7,7 +7,7 @@ ghost use Rattle.model.specs.SpoolFiles as model_files;
 
 use std::alloc::{AllocError, Global};
 
-/// The record of a group: serial, moment, status, description. Refused for memory alone.
+/// The record of a group: serial, moment, status, description. Refused only for want of memory.
 pub fn group_record(
     alloc: Global,
     serial: u64,
@@ -24,8 +24,8 @@ pub fn group_record(
     Ok(octets)
 }
 
-/// The record of an article: serial, moment, the text's length, its groups behind their lengths, the text. Refused for memory
-/// alone.
+/// The record of an article: serial, moment, the text's length, its groups after their lengths, the text. Refused only
+/// for want of memory.
 pub fn article_record(
     alloc: Global,
     serial: u64,
@@ -47,7 +47,7 @@ pub fn article_record(
     Ok(octets)
 }
 
-/// Adds names, each behind its length.
+/// Appends names, each after its length.
 fn push_names(octets: &mut Vec<u8>, names: &[&[u8]]) -> Result<(), AllocError>
     requires { All (λ g. length g.now < 256) names.now }
     ensures { OnOk result (octets.new.items ≡ octets.old.items ++ flat_map (λ g. length g.now ∷ g.now) names.now) }
@@ -59,7 +59,7 @@ fn push_names(octets: &mut Vec<u8>, names: &[&[u8]]) -> Result<(), AllocError>
     Ok(())
 }
 
-/// The record of an expiry: serial, number, the group's name behind its length. Refused for memory alone.
+/// The record of an expiry: serial, number, the group's name after its length. Refused only for want of memory.
 pub fn expiry_record(
     alloc: Global,
     serial: u64,
@@ -76,8 +76,8 @@ pub fn expiry_record(
     Ok(octets)
 }
 
-/// The 16 octets of an article in the numbers of a group: its serial, and where its overview line stands, by the octets in front
-/// of the line.
+/// The 16 octets of an article in the numbers of a group: its serial, and the place of its overview line, given by the
+/// number of octets before the line.
 pub fn number_record(serial: u64, offset: u32, line: &[u8]) -> [u8; 16]
     requires { length line.now < 2 ^ 32 }
     ensures { result ≡ model_files.number_record serial offset line.now }

@@ -1,4 +1,4 @@
-//! Rows on the records of the files of a spool, over their public calls.
+//! Tables of the records of a spool's files, over their public calls.
 #![tactic(auto)]
 
 #[cfg(test)]

@@ -1,3 +1,5 @@
+//! Tests of records: written, read back, and damaged.
+
 use records::{
     FileKind, article_record, expiry_record, file_name, group_record, kind_of, number_record,
     read_article, read_expiry, read_group, serial_digits, serial_of,
@@ -5,7 +7,7 @@ use records::{
 use std::alloc::{AllocError, Global};
 use std::test::Fail;
 
-/// The record of an article with these groups; nothing where a length has no room in it.
+/// The record of an article with these groups; `None` if a length does not fit into it.
 fn article(
     alloc: Global,
     serial: u64,

@@ -5,15 +5,16 @@ use std::io::{BufRead, BufReader, Read, Write};
 use std::net::{Ipv4Addr, Net, SocketAddr, TcpListener, TcpStream};
 use std::time::Duration;
 
-/// A read of a test ends after so many seconds.
+/// A read of a test ends after this many seconds.
 const READ_SECS: u64 = 10;
 
-/// What fills a socket, and how many writes of it do at most.
+/// The octets that fill a socket, and the most writes of them.
 const FILLING: [u8; 4096] = [b'x'; 4096];
 
 const FILLINGS: u32 = 100_000;
 
-/// So many writes in turn of which a socket took nothing show that it is full. After fewer its two buffers may still be settling.
+/// This many writes in a row of which a socket took nothing show that it is full. After fewer its two buffers may still
+/// be settling.
 const REFUSALS: u32 = 30;
 
 /// A caller.
@@ -40,7 +41,7 @@ impl Caller {
         Some((near, Caller { replies, alloc }))
     }
 
-    /// Whether the next line is this one, behind what a socket was filled with.
+    /// Whether the next line is this one, after the octets that filled the socket.
     pub(crate) fn reads(&mut self, text: &[u8]) -> bool {
         let mut line = Vec::new(self.alloc);
         if self.replies.read_until(b'\n', &mut line).is_err() {
@@ -60,14 +61,15 @@ impl Caller {
         true
     }
 
-    /// Takes a little. How many octets that was, 0 at the end.
+    /// Takes a little, and answers how many octets that was, 0 at the end.
     pub(crate) fn takes(&mut self, piece: &mut [u8]) -> Option<u64> {
         let count = self.replies.read(piece).ok()?;
         Some(count as u64)
     }
 }
 
-/// Fills a socket, whose writes wait for little, until it takes no more. How many octets that were; `None` where it never was full.
+/// Fills a socket, whose writes hardly wait, until it takes no more. It answers the number of octets; `None` if it
+/// never was full.
 pub(crate) fn fill(stream: &TcpStream) -> Option<u64> {
     let mut stream = stream;
     let (mut filled, mut refusals) = (0u64, 0u32);

@@ -1,4 +1,4 @@
-//! The plays of two threads, the session's and the one that commits and releases, in chosen orders and in any.
+//! The plays of two threads, the session's and the one that commits and releases, in chosen orders and in any order.
 
 use crate::callers::{Caller, fill};
 use crate::sides::Side;
@@ -12,7 +12,7 @@ use std::sync::Wait;
 use std::sync::atomic::Ordering;
 use std::thread::{Threads, join};
 
-/// How often a session waits for a release at most.
+/// The most times that a session waits for a release.
 const WAITS: u32 = 100;
 
 pub(crate) const GREETING: &[u8] = b"200 news.example ready, posting permitted\r\n";
@@ -26,7 +26,7 @@ const DATED: &[u8] = b"111 20010909014640\r\n";
 pub(crate) enum Then {
     Send,
     Release,
-    /// It waits until nothing is held, as for a caller who sends nothing more.
+    /// It waits until nothing is held, as for a caller that sends nothing more.
     Finish,
     /// It sends, and has `DATE` answered while the other thread releases.
     Date,
@@ -89,7 +89,7 @@ fn finish<R: Wait, K: Kern, G: Gate>(session: &Session<'_, R, K, G>, stop: &Stop
     None
 }
 
-/// Has the next message answered, while the other thread has stopped in a release.
+/// Has the next message answered, while the other thread is stopped in a release.
 fn ask_for_date<R: Wait, K: Kern, G: Gate>(
     session: &Session<'_, R, K, G>,
     stop: &Stop,
@@ -103,7 +103,7 @@ fn ask_for_date<R: Wait, K: Kern, G: Gate>(
     Some(())
 }
 
-/// The other thread commits and releases.
+/// The steps of the other thread: it commits and releases.
 fn commit<R: Wait, K: Kern, G: Gate>(
     session: &Session<'_, R, K, G>,
     stop: &Stop,
@@ -122,7 +122,7 @@ fn commit<R: Wait, K: Kern, G: Gate>(
     Some(())
 }
 
-/// Then it reads what the caller does, who sends nothing more. The session's thread has to end before the server does.
+/// Then it reads the caller's replies, and the caller sends nothing more. The session's thread must end before the server.
 fn commit_and_read<R: Wait, K: Kern, G: Gate>(
     session: &Session<'_, R, K, G>,
     caller: Caller,
@@ -139,7 +139,7 @@ fn commit_and_read<R: Wait, K: Kern, G: Gate>(
     is_read && has_ended
 }
 
-/// Plays an order. Whether the caller read its replies.
+/// Plays an order, and answers whether the caller read its replies.
 pub(crate) fn play<'a, R: Net<Listener = TcpListener, Stream = TcpStream> + Threads + Wait + Sync>(
     rt: &'a R,
     alloc: Global,

@@ -1,4 +1,4 @@
-//! Many articles, each of which is committed and released while its session's thread goes on, with no stop.
+//! Many articles, each of which is committed and released while its session's thread continues without a stop.
 
 use crate::callers::Caller;
 use crate::plays::{GREETING, REPLIES};
@@ -10,16 +10,16 @@ use std::net::{Net, TcpListener, TcpStream};
 use std::sync::Wait;
 use std::thread::{self, Threads, join};
 
-/// How many articles.
+/// The number of articles.
 const ROUNDS: u64 = 200;
 
-/// A change is waited for in so many turns of one look and one yield.
+/// The wait for a change ends after this many turns of one look and one yield.
 const TURNS: u32 = 10_000_000;
 
-/// The turns that a commit is late by differ from round to round, up to these.
+/// A commit is late by a number of turns that differs from round to round, up to this many.
 const DELAYS: u64 = 40;
 
-/// Whether the caller is told of each of its articles before it sends the next.
+/// Whether the caller gets the reply to each of its articles before it sends the next.
 pub(crate) fn race<R: Net<Listener = TcpListener, Stream = TcpStream> + Threads + Wait + Sync>(
     rt: &R,
     alloc: Global,
@@ -48,7 +48,7 @@ fn run<'a, R: Threads + Wait + Sync, K: Kern + Sync, G: Gate + Sync>(
     committed
 }
 
-/// The session's thread. It reads what its caller does, before that one sends the next article.
+/// The session's thread. It reads its caller's replies before the caller sends the next article.
 fn post_all<R: Wait, K: Kern, G: Gate>(
     session: &Session<'_, R, K, G>,
     caller: Caller,
@@ -86,7 +86,7 @@ fn commit_all<R: Wait, K: Kern, G: Gate>(session: &Session<'_, R, K, G>) -> Opti
     Some(())
 }
 
-/// Takes a change as soon as there is one.
+/// Takes the changed blocks as soon as there are any.
 fn next_ticket<R: Wait, K: Kern, G: Gate>(
     session: &Session<'_, R, K, G>,
     batch: &mut BatchBuf,

@@ -1,4 +1,4 @@
-//! One session over a kernel, its writer, and what the threads of a play do with it.
+//! One session over a kernel, its writer, and what the threads of a play do with them.
 
 use crate::callers::Caller;
 use flusher::{BatchBuf, Bells, Gate, Kern, Kernel, Locked, Ticket};
@@ -18,7 +18,7 @@ const HOST: &[u8] = b"news.example";
 
 pub(crate) const MOMENT: u64 = 1_000_000_000;
 
-/// One session, whose caller has come, and its writer.
+/// One session, whose caller has connected, and its writer.
 #[derive(Drop)]
 pub(crate) struct Stage {
     alloc: Global,
@@ -83,7 +83,7 @@ pub(crate) fn make_kernel<R: Wait>(rt: &R, alloc: Global) -> Option<Locked> {
     Some(kern)
 }
 
-/// The kernel of a new volume. The sizes are no constants here, as a proof would count with them.
+/// The kernel of a new volume. The sizes are not constants here, because a proof would count with them.
 fn new_kernel(alloc: Global, blocks: u64, inodes: u64) -> Option<Kernel> {
     if !is_host(HOST) || !are_sizes(blocks, inodes) {
         return None;
@@ -153,12 +153,12 @@ impl<'a, R: Wait, K: Kern, G: Gate> Session<'a, R, K, G> {
         Some(())
     }
 
-    /// Takes what changed.
+    /// Takes the changed blocks as a batch.
     pub(crate) fn takes(&self, batch: &mut BatchBuf) -> Option<Ticket> {
         self.shared.kern.take_batch(self.rt(), batch)
     }
 
-    /// Says that it is durable, and releases what waited for it.
+    /// Reports the batch as committed, and releases what waited for it.
     pub(crate) fn commits(&self, ticket: Ticket) -> Option<()> {
         self.shared.kern.committed(self.rt(), ticket).ok()?;
         self.writer().release_waiting(self.shared);

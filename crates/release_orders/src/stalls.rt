@@ -1,4 +1,4 @@
-//! Callers that take nothing, or little, of their replies.
+//! Callers that take none, or few, of their replies' octets.
 
 use crate::callers::{Caller, fill};
 use crate::plays::GREETING;
@@ -15,19 +15,20 @@ use std::sync::atomic::Ordering;
 use std::thread::{Threads, join};
 use std::time::{Clock, Duration, Instant};
 
-/// The limit for a caller that takes nothing, and what it may be exceeded by on a busy machine, in milliseconds.
+/// The limit for a caller that takes nothing, and by how much it may be exceeded on a busy machine, in milliseconds.
 const STALL_MILLIS: u64 = 50;
 
 const LATE_MILLIS: u64 = 5_000;
 
-/// The limit for one that takes so little, again and again: about a half of what the system wakes a waiting write for.
+/// The limit for a caller that takes a little again and again: about half of what must be free before the system wakes
+/// a write.
 const SLOW_MILLIS: u64 = 500;
 
 const LITTLE: usize = 8_192;
 
 const LITTLE_MILLIS: u64 = 5;
 
-/// How often at most it takes that.
+/// The most times that it takes a little.
 const TAKES: u32 = 100_000;
 
 /// What it asks for, and how often.
@@ -45,7 +46,7 @@ fn limits(stall: u64) -> Limits {
     }
 }
 
-/// Whether a caller that takes nothing is let go, and not before its limit.
+/// Whether a caller that takes nothing is dropped, and not before its limit.
 pub(crate) fn lets_go<R: Net<Listener = TcpListener, Stream = TcpStream> + Wait + Clock>(
     rt: &R,
     alloc: Global,
@@ -73,7 +74,7 @@ fn is_between(waited: Duration, least: u64, most: u64) -> bool {
     Duration::from_millis(least) <= waited && waited < Duration::from_millis(most)
 }
 
-/// Whether a caller that takes a little again and again is told all, and is there to the end.
+/// Whether a caller that takes a little again and again gets all replies, and stays to the end.
 pub(crate) fn keeps<R: Net<Listener = TcpListener, Stream = TcpStream> + Threads + Wait + Sync>(
     rt: &R,
     alloc: Global,
@@ -89,7 +90,7 @@ pub(crate) fn keeps<R: Net<Listener = TcpListener, Stream = TcpStream> + Threads
     run(&session, caller, &stop)
 }
 
-/// The two threads of that.
+/// The two threads of such a play.
 fn run<'a, R: Threads + Wait + Sync, K: Kern + Sync, G: Gate + Sync>(
     session: &'a Session<'a, R, K, G>,
     caller: Caller,
@@ -104,7 +105,7 @@ fn run<'a, R: Threads + Wait + Sync, K: Kern + Sync, G: Gate + Sync>(
     Some(sent.is_some() && sent == taken)
 }
 
-/// Has the same asked for again and again, once the socket is full. How many octets the caller has to take.
+/// Asks for the same again and again once the socket is full, and answers how many octets the caller has to take.
 fn send_much<R: Wait, K: Kern, G: Gate>(
     session: &Session<'_, R, K, G>,
     stop: &Stop,
@@ -126,7 +127,7 @@ fn send_much<R: Wait, K: Kern, G: Gate>(
         .checked_add(others)
 }
 
-/// How many octets the reply to that has.
+/// The number of octets in the reply to that.
 fn reply_octets<R: Wait, K: Kern, G: Gate>(session: &Session<'_, R, K, G>) -> Option<u64> {
     let Shared {
         rt,
@@ -142,7 +143,8 @@ fn reply_octets<R: Wait, K: Kern, G: Gate>(session: &Session<'_, R, K, G>) -> Op
     Some(ready.octets().len() as u64)
 }
 
-/// Once the socket is full, takes a little again and again, until the socket ends, and then all that is left. How many octets that were.
+/// Once the socket is full, takes a little again and again until the socket ends, and then the rest. It answers how
+/// many octets that was.
 fn take_slowly<R: Wait>(rt: &R, caller: Caller, stop: &Stop) -> Option<u64> {
     wait_for(rt, &stop.is_let_go)?;
     let mut caller = caller;

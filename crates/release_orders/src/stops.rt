@@ -1,4 +1,4 @@
-//! Where a thread stops for another one.
+//! Where a thread stops to wait for another.
 
 use flusher::Gate;
 use std::sync::Wait;
@@ -6,10 +6,10 @@ use std::sync::atomic::{AtomicBool, Ordering};
 use std::thread::Parker;
 use std::time::Duration;
 
-/// A wait of a test ends after so many looks, of a millisecond each.
+/// A wait of a test ends after this many looks, a millisecond apart.
 const LOOKS: u32 = 10_000;
 
-/// A thread that was let go on has so many milliseconds to come to the lock.
+/// A thread that may continue gets this many milliseconds to reach the lock.
 pub(crate) const PAUSE_MILLIS: u64 = 20;
 
 /// Waits until a flag is set. `None` at the limit.
@@ -23,7 +23,7 @@ pub(crate) fn wait_for<R: Wait>(rt: &R, flag: &AtomicBool) -> Option<()> {
     None
 }
 
-/// Waits so many milliseconds.
+/// Waits this many milliseconds.
 pub(crate) fn pause<R: Wait>(rt: &R, millis: u64) {
     Parker::new().park_timeout(rt, Duration::from_millis(millis));
 }
@@ -41,21 +41,21 @@ pub(crate) enum Point {
     /// Before and after the kernel gives what is ready.
     BeforeGive,
     AfterGive,
-    /// Nobody has the lock: the session's thread is about to send, or to wait.
+    /// No thread has the lock: the session's thread is about to send, or to wait.
     BeforeThen,
     BeforeWait,
 }
 
-/// The stop of a play: the first thread that comes to its point waits there until the other one has done its steps.
+/// The stop of a play: the first thread that reaches its point waits there until the other one has done its steps.
 #[derive(Drop)]
 pub(crate) struct Stop {
     point: Point,
     is_armed: AtomicBool,
-    /// A thread has come to the point.
+    /// A thread has reached the point.
     pub(crate) is_reached: AtomicBool,
     /// The other one has done its steps.
     pub(crate) is_done: AtomicBool,
-    /// The session's thread has let go of the lock, or waits.
+    /// The session's thread has released the lock, or waits.
     pub(crate) is_let_go: AtomicBool,
     /// The session's thread has ended.
     pub(crate) has_ended: AtomicBool,
@@ -78,7 +78,7 @@ impl Stop {
         self.is_armed.store(true, Ordering::SeqCst);
     }
 
-    /// A thread comes to a point.
+    /// Notes that a thread is at a point, and holds it there if this is the point to stop at.
     pub(crate) fn pass<R: Wait>(&self, rt: &R, point: Point) {
         if point != self.point || !self.is_armed.swap(false, Ordering::SeqCst) {
             return;

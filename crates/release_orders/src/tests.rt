@@ -1,10 +1,12 @@
+//! Tests of the orders and of callers that take little.
+
 use crate::plays::{Order, Then, play};
 use crate::races::race;
 use crate::stages::make_kernel;
 use crate::stalls::{keeps, lets_go};
 use crate::stops::Point;
 
-/// Where the commit and the release that follows it fall.
+/// When the commit and the release that follows it happen.
 const ORDERS: [(Point, Then); 16] = [
     // while the session's thread has the lock
     (Point::AfterAnswer, Then::Send),
@@ -15,12 +17,12 @@ const ORDERS: [(Point, Then); 16] = [
     (Point::BeforeGive, Then::Release),
     (Point::AfterGive, Then::Release),
     (Point::AfterGive, Then::Finish),
-    // while nobody has it
+    // while no thread has the lock
     (Point::BeforeThen, Then::Send),
     (Point::BeforeWait, Then::Finish),
     (Point::Nowhere, Then::Finish),
     (Point::Nowhere, Then::Send),
-    // the next message comes while the releaser has it
+    // the next message arrives while the releaser has the lock
     (Point::BeforeGive, Then::Date),
     (Point::AfterGive, Then::Date),
     (Point::BeforeWrite, Then::Date),

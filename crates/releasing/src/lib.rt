@@ -1,5 +1,5 @@
-//! How replies leave the server: each session's thread has a `ReplyWriter` with the session's socket, and one releaser calls
-//! all of them after each commit. docs/ARCHITECTURE.md, "The threads of serve", says who wakes whom.
+//! How replies leave the server. Each session's thread has a `ReplyWriter` with the session's socket, and one releaser
+//! calls all of them after each commit. docs/ARCHITECTURE.md, "The threads of serve", says which thread wakes which.
 #![tactic(auto)]
 
 mod limits;

@@ -2,19 +2,21 @@
 
 use std::time::Duration;
 
-/// A caller who sends nothing for so many seconds is let go. RFC 3977, section 3.1, asks for three minutes at least.
+/// A caller that sends nothing for this many seconds is dropped. RFC 3977, section 3.1, asks for at least three
+/// minutes.
 const SILENCE_SECS: u64 = 600;
 
-/// A caller who takes nothing of its replies for so many seconds is let go. RFC 3977, section 3.1, asks for as much at least.
+/// A caller that takes none of its replies for this many seconds is dropped. RFC 3977, section 3.1, asks for at least
+/// as much.
 const STALL_SECS: u64 = 180;
 
-/// A caller whose session is closed is read for so many seconds.
+/// A caller whose session is closed is read from for this many seconds.
 const LINGER_SECS: u64 = 1;
 
 /// How long the server waits for a caller.
 #[derive(Clone, Copy, Drop)]
 pub struct Limits {
-    /// For the next octets of what it sends.
+    /// For the next octets that the caller sends.
     pub silence: Duration,
     /// For its socket to take any octet of what is written.
     pub stall: Duration,
@@ -23,7 +25,7 @@ pub struct Limits {
 }
 
 impl Limits {
-    /// Those of the program. A test may have shorter ones.
+    /// The program's limits. A test may have shorter ones.
     pub fn standard() -> Limits {
         Limits {
             silence: Duration::from_secs(SILENCE_SECS),

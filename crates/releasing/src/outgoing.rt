@@ -11,20 +11,20 @@ use std::net::{Shutdown, TcpStream};
 use std::sync::{Arc, Wait};
 use std::time::Duration;
 
-/// A write that may not wait is given so many milliseconds, as few as the system knows. A socket that doesn't block at all would
-/// not block its reads either.
+/// A write that may not wait gets this many milliseconds, the fewest that the system allows. A socket that does not
+/// block at all would not block its reads either.
 const SHORT_MILLIS: u64 = 1;
 
-/// The time for which a socket may take nothing is waited for in so many writes. Linux wakes a write that waits only once a third of the
-/// socket's buffer is free, for which a slow caller may need longer; the next write finds whatever is free.
+/// The time for which a socket may take nothing is split into this many writes. Linux wakes a waiting write only once a
+/// third of the socket's buffer is free, which may take a slow caller longer; the next write finds whatever is free.
 const WAITS: u32 = 12;
 
 /// Whether a write may wait until its socket takes more.
 #[derive(Clone, Copy, PartialEq, Eq)]
 pub(crate) enum Patience {
-    /// The thread has other sessions to look after. What the socket doesn't take at once is left.
+    /// The thread has other sessions to serve. Octets that the socket does not take at once are left.
     None,
-    /// The thread has this session alone, and waits until the socket has taken nothing for `Limits::stall`.
+    /// The thread serves only this session, and waits until the socket has taken nothing for `Limits::stall`.
     Long,
 }
 
@@ -38,11 +38,11 @@ pub(crate) enum Written {
     Failed,
 }
 
-/// What was taken of the kernel for a session, and how much of it is written.
+/// The octets taken from the kernel for a session, and how many of them are written.
 #[derive(Drop)]
 pub(crate) struct Outgoing {
     pub(crate) sid: u64,
-    /// `None` where there is no caller.
+    /// `None` if there is no caller.
     pub(crate) stream: Option<Arc<TcpStream, Global>>,
     pub(crate) ready: ReadyBuf,
     written: usize,
@@ -58,19 +58,19 @@ impl Outgoing {
         })
     }
 
-    /// Whether what was taken has to be written before more is.
+    /// Whether what was taken must be written before more is taken.
     pub(crate) fn is_full(&self) -> bool {
         self.ready.len() >= RELEASE_ENTRIES || self.ready.octets().len() >= RELEASE_OCTETS
     }
 
-    /// Forgets what was taken.
+    /// Discards what was taken.
     pub(crate) fn clear(&mut self) {
         self.ready.clear();
         self.written = 0;
     }
 
-    /// Writes what was taken, and forgets it, unless the socket takes no more and the patience ends. Where the socket fails the
-    /// session ends. After the last reply of a session nothing more is written into its socket.
+    /// Writes what was taken and discards it, unless the socket takes no more and the patience ends. If the socket
+    /// fails, the session ends. After the last reply of a session nothing more is written to its socket.
     pub(crate) fn write<R: Wait, K: Kern, G: Gate>(
         &mut self,
         shared: &Shared<'_, R, K, G>,
@@ -110,7 +110,7 @@ impl Outgoing {
         }
     }
 
-    /// Writes what isn't written yet, as far as the patience goes.
+    /// Writes what is not written yet, as long as the patience lasts.
     fn write_rest<R: Wait>(&mut self, rt: &R, stall: Duration, patience: Patience) -> Written {
         let Outgoing {
             stream,
@@ -135,12 +135,13 @@ impl Outgoing {
     }
 }
 
-/// Sets a socket so that a write waits for next to nothing.
+/// Sets a socket so that a write hardly waits.
 pub fn give_short_writes(stream: &TcpStream) -> io::Result<()> {
     stream.set_write_timeout(Some(Duration::from_millis(SHORT_MILLIS)))
 }
 
-/// Writes the octets from the place `written` on, and moves that place, until the socket has taken none in all waits of a limit.
+/// Writes the octets from the place `written` on, and advances that place, until the socket took none in all waits of a
+/// limit.
 fn write_patiently<R: Wait>(
     rt: &R,
     stream: &TcpStream,
@@ -166,7 +167,8 @@ fn write_patiently<R: Wait>(
     unreachable!()
 }
 
-/// Writes the octets from the place `written` on, and moves that place, until the socket takes none within its limit.
+/// Writes the octets from the place `written` on, and advances that place, until the socket takes none within its
+/// limit.
 fn write_on<R: Wait>(rt: &R, stream: &TcpStream, octets: &[u8], written: &mut usize) -> Written {
     for _ in rt.forever() {
         if *written > octets.len() {
@@ -181,7 +183,7 @@ fn write_on<R: Wait>(rt: &R, stream: &TcpStream, octets: &[u8], written: &mut us
     unreachable!()
 }
 
-/// Writes what a socket takes in one call, and says how many octets that was: all of them where it says `All`, none where it says
+/// Writes what a socket takes in one call, and answers how many octets that was: all of them with `All`, none with
 /// `Failed`.
 fn write_once<R: Wait>(rt: &R, stream: &TcpStream, octets: &[u8]) -> (Written, usize)
     ensures within { result.1 ≤ length octets.now }

@@ -1,4 +1,5 @@
-//! The releaser: after each commit it has what waited for it released. At the server's end it ends the callers.
+//! The releaser: after each commit it has the replies that waited for it released. At the server's end it ends the
+//! callers.
 
 use crate::Shared;
 use flusher::{Gate, Kern};
@@ -6,12 +7,13 @@ use std::net::Shutdown;
 use std::sync::Wait;
 use std::time::Duration;
 
-/// At the server's end callers have so many pauses to take what is ready of their sessions, and the milliseconds of a pause.
+/// At the server's end callers get this many pauses to take what is ready of their sessions; then the milliseconds of a
+/// pause.
 const PAUSES: u32 = 200;
 
 const PAUSE_MILLIS: u64 = 10;
 
-/// After each commit releases what waited for it, until the server's end begins; then ends the callers.
+/// After each commit, releases the replies that waited for it, until the server's end begins. Then it ends the callers.
 pub fn release_all<R: Wait, K: Kern, G: Gate>(shared: &Shared<'_, R, K, G>) {
     for _ in shared.rt.forever() {
         let is_last = shared.closing.has_begun();
@@ -26,8 +28,8 @@ pub fn release_all<R: Wait, K: Kern, G: Gate>(shared: &Shared<'_, R, K, G>) {
     end_callers(shared);
 }
 
-/// Nothing more is read of any caller, so that its thread releases what is ready and leaves. A caller that takes nothing meanwhile
-/// is cut off.
+/// Stops reading from the callers, so that their threads release what is ready and leave. A caller that takes nothing
+/// meanwhile is cut off.
 fn end_callers<R: Wait, K: Kern, G: Gate>(shared: &Shared<'_, R, K, G>) {
     for writer in shared.writers {
         writer.shut_down(shared.rt, Shutdown::Read);

@@ -5,7 +5,7 @@ use flusher::Bells;
 use std::alloc::Global;
 use std::sync::atomic::{AtomicBool, Ordering};
 
-/// Whether the server's end has begun. It has when nobody is accepted any more and nothing is flushed any more.
+/// Whether the server's end has begun. It begins when no caller is accepted and nothing is flushed any more.
 #[derive(Drop)]
 pub struct Closing {
     has_begun: AtomicBool,
@@ -27,7 +27,7 @@ impl Closing {
     }
 }
 
-/// What each thread has of the server.
+/// What each thread knows of the server.
 pub struct Shared<'a, R, K, G> {
     pub rt: &'a R,
     pub alloc: Global,
@@ -56,8 +56,8 @@ impl<'a, R, K, G> Drop for Shared<'a, R, K, G> {
 }
 
 impl<'a, R, K, G> Shared<'a, R, K, G> {
-    /// Begins the server's end, and wakes everybody who waits for something that doesn't come any more. The releaser then ends
-    /// the callers, and their threads end with them.
+    /// Begins the server's end, and wakes every thread that waits for something that will not happen any more. The
+    /// releaser then ends the callers, and their threads end with them.
     pub fn close(&self) {
         self.closing.begin();
         self.bells.later.ring();

@@ -1,5 +1,6 @@
-//! The way of one session's replies from the kernel to its socket. Whoever has the lock on `outgoing` takes what is ready, and
-//! nobody else does, so the order on the socket is that of the kernel. The lock is taken before the kernel's, and nobody has two.
+//! The way of one session's replies from the kernel to its socket. Only the holder of the lock on `outgoing` takes what
+//! is ready, so the order on the socket is that of the kernel. The lock is taken before the kernel's, and no thread
+//! holds two of these locks.
 
 ghost use Rattle.std.specs.Prelude.{◌<◌};
 ghost use Rattle.model.specs.Calendar.{moment_limit};
@@ -19,30 +20,30 @@ use std::thread::Parker;
 #[derive(Drop)]
 pub struct ReplyWriter {
     outgoing: Mutex<Outgoing>,
-    /// Something may be ready that the holder of `outgoing` has not seen. A thread that sets this and then doesn't get the lock
-    /// has done its part: the holder looks at it once more after letting go.
+    /// Something may be ready that the holder of `outgoing` has not seen. A thread that sets this flag and then does
+    /// not get the lock has done its part: the holder looks at the flag once more after it releases the lock.
     is_missed: AtomicBool,
     /// Outputs may be held until a commit.
     is_waiting: AtomicBool,
     /// Wakes the thread that finishes a write that was cut short.
     rest: Parker,
-    /// Wakes the session's thread where it waits for a release.
+    /// Wakes the session's thread when it waits for a release.
     session: Parker,
-    /// To end the socket, whoever writes. `None` where there is no caller.
+    /// For ending the socket while any thread writes. `None` if there is no caller.
     socket: Mutex<Option<Arc<TcpStream, Global>>>,
 }
 
-/// What a release has found.
+/// What a release found.
 #[derive(Clone, Copy)]
 pub struct Released {
     /// Something was taken.
     pub has_taken: bool,
-    /// Outputs of the session are still held, or a part of what was taken isn't written.
+    /// The session still holds outputs, or a part of what was taken is not written.
     pub is_held: bool,
 }
 
 impl ReplyWriter {
-    /// A writer without a caller. An `Err` is out of memory.
+    /// A writer without a caller. Refused only for want of memory.
     pub fn new(alloc: Global) -> Result<ReplyWriter, AllocError> {
         Ok(ReplyWriter {
             outgoing: Mutex::new(Outgoing::new(alloc)?),
@@ -54,7 +55,7 @@ impl ReplyWriter {
         })
     }
 
-    /// A caller comes with a new session. Both handles are of its socket.
+    /// Begins a new session for a caller. Both handles are of the caller's socket.
     pub fn begin<R: Wait>(
         &self,
         rt: &R,
@@ -68,7 +69,7 @@ impl ReplyWriter {
         outgoing.stream = Some(writing);
     }
 
-    /// The caller is gone, and what is left of its session with it.
+    /// Ends the caller, and drops what is left of its session.
     pub fn end<R: Wait, K: Kern>(&self, rt: &R, kern: &K) {
         let mut outgoing = self.outgoing.lock(rt);
         kern.leave(rt, outgoing.sid);
@@ -78,8 +79,8 @@ impl ReplyWriter {
         *self.socket.lock(rt) = None;
     }
 
-    /// Has a message answered, and takes what is ready. What doesn't fit is written before anything else is served. The caller of
-    /// this calls `send` or `release` before it waits.
+    /// Has a message answered, and takes what is ready. What does not fit is written before anything else is served.
+    /// The thread that calls this calls `send` or `release` before it waits.
     pub fn answer<R: Wait, K: Kern, G: Gate>(
         &self,
         shared: &Shared<'_, R, K, G>,
@@ -106,7 +107,7 @@ impl ReplyWriter {
             &mut outgoing.ready,
         );
         if answer.is_err() {
-            // nothing was taken, whatever a commit has found before
+            // nothing was taken, whatever a commit found before
             self.is_missed.store(true, Ordering::SeqCst);
         }
         let answered = answer?;
@@ -117,7 +118,7 @@ impl ReplyWriter {
         Ok(answered)
     }
 
-    /// Writes what was taken, before its caller waits.
+    /// Writes what was taken. A session's thread calls this before it waits.
     pub fn send<R: Wait, K: Kern, G: Gate>(&self, shared: &Shared<'_, R, K, G>) {
         let mut outgoing = self.outgoing.lock(shared.rt);
         outgoing.write(shared, Patience::Long);
@@ -127,7 +128,7 @@ impl ReplyWriter {
         }
     }
 
-    /// Takes all that is ready and writes it, before its caller waits.
+    /// Takes all that is ready and writes it. A session's thread calls this before it waits.
     pub fn release<R: Wait, K: Kern, G: Gate>(&self, shared: &Shared<'_, R, K, G>) -> Released {
         let mut has_taken = false;
         for _ in shared.rt.forever() {
@@ -145,8 +146,8 @@ impl ReplyWriter {
         unreachable!()
     }
 
-    /// After a commit: what waited for it is released, where nobody has the lock; else whoever has it does that. It waits for
-    /// nobody.
+    /// After a commit, releases what waited for it if no thread has the lock; otherwise the holder of the lock does
+    /// that. It waits for no thread.
     pub fn release_waiting<R: Wait, K: Kern, G: Gate>(&self, shared: &Shared<'_, R, K, G>) {
         if !self.is_waiting.load(Ordering::SeqCst) {
             return;
@@ -156,12 +157,12 @@ impl ReplyWriter {
         self.session.unpark();
     }
 
-    /// The session's thread waits until something was released, or the server's end begins. It may end earlier.
+    /// Waits until something was released, or the server's end begins. It may return earlier.
     pub fn wait_for_release<R: Wait>(&self, rt: &R) {
         self.session.park(rt);
     }
 
-    /// Finishes each write that was cut short, until the server's end begins: a thread of its own does that.
+    /// Finishes each write that was cut short, until the server's end begins. It runs in a thread of its own.
     pub fn write_rests<R: Wait, K: Kern, G: Gate>(&self, shared: &Shared<'_, R, K, G>) {
         for _ in shared.rt.forever() {
             self.rest.park(shared.rt);
@@ -173,12 +174,12 @@ impl ReplyWriter {
         }
     }
 
-    /// Whether no caller is there.
+    /// Whether there is no caller.
     pub(crate) fn is_free<R: Wait>(&self, rt: &R) -> bool {
         self.socket.lock(rt).is_none()
     }
 
-    /// Ends the caller's socket, whoever writes.
+    /// Ends the caller's socket, whichever thread writes.
     pub(crate) fn shut_down<R: Wait>(&self, rt: &R, how: Shutdown) {
         if let Some(socket) = &*self.socket.lock(rt) {
             let _ = socket.shutdown(how);
@@ -191,7 +192,7 @@ impl ReplyWriter {
         self.session.unpark();
     }
 
-    /// Takes and writes what a holder of the lock has missed, unless somebody else has the lock by now.
+    /// Takes and writes what a holder of the lock has missed, unless another thread has the lock by now.
     fn catch_up<R: Wait, K: Kern, G: Gate>(&self, shared: &Shared<'_, R, K, G>) {
         for _ in shared.rt.forever() {
             if !self.is_missed.load(Ordering::SeqCst) {
@@ -211,7 +212,7 @@ impl ReplyWriter {
         }
     }
 
-    /// Writes what was taken, and takes and writes what is ready, until nothing is or the socket takes no more.
+    /// Writes what was taken, and takes and writes what is ready, until nothing is ready or the socket takes no more.
     fn release_ready<R: Wait, K: Kern, G: Gate>(
         &self,
         shared: &Shared<'_, R, K, G>,
@@ -242,7 +243,7 @@ impl ReplyWriter {
         unreachable!()
     }
 
-    /// The holder is about to take all that is ready. A commit from here on finds that it may be missed.
+    /// Notes that the holder is about to take all that is ready. A commit from here on learns that it may be missed.
     fn note_taking(&self) {
         self.is_missed.store(false, Ordering::SeqCst);
         self.is_waiting.store(true, Ordering::SeqCst);

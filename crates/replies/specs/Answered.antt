@@ -12,6 +12,6 @@ answered answer reads = record { answer = answer; reads = reads }
 abbrev pub replied : Octets → Session → Answer
 replied reply next = record { reply = reply; next = next; change = None }
 
--- the group is selected, with its lowest number, if it has an article
+-- the group is selected, with its lowest number if it has an article
 abbrev pub with_group : Session → Octets → ℕ → ℕ → Session
 with_group x g low count = record x { group = Some g; current = if count == 0 then None else Some low }

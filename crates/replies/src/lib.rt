@@ -1,4 +1,4 @@
-//! The texts of the replies, how they are written, and the answers that they make.
+//! The texts of the replies, how they are written, and the answers made from them.
 #![tactic(auto)]
 
 mod sessions;

@@ -1,4 +1,4 @@
-//! A session after an answer. An error is that memory is refused.
+//! A session after an answer. Each call is refused only for want of memory.
 
 ghost use Rattle.std.specs.Prelude.{◌≡◌, IfOk};
 ghost use Rattle.model.specs.Answer as answers;
@@ -10,7 +10,7 @@ use crate::writing::push_reply;
 use model::{Answer, Awaits, Session, Text};
 use std::alloc::{AllocError, Global};
 
-/// An answer, and the serial that it reads up to.
+/// An answer, and the greatest serial that it reads.
 #[derive(Drop)]
 pub struct Answered {
     pub answer: Answer,
@@ -29,7 +29,7 @@ pub fn answer(reply: Vec<u8>, next: Session, reads: u64) -> Answered
     Answered { answer, reads }
 }
 
-/// The same name, if there is one.
+/// A copy of the name, if there is one.
 fn copy_name(alloc: Global, name: &Option<Text>) -> Result<Option<Text>, AllocError>
     ensures { IfOk result (λ copy. copy ≡ name.now) }
 {
@@ -50,7 +50,7 @@ fn copy_awaits(alloc: Global, awaits: &Awaits) -> Result<Awaits, AllocError>
     }
 }
 
-/// The session as it is.
+/// A copy of the session.
 pub fn copy(alloc: Global, session: &Session) -> Result<Session, AllocError>
     ensures { IfOk result (λ next. next ≡ session.now) }
 {
@@ -58,7 +58,7 @@ pub fn copy(alloc: Global, session: &Session) -> Result<Session, AllocError>
     awaiting(alloc, session, awaits)
 }
 
-/// The session, where it awaits this next.
+/// The session, but awaiting this next.
 pub fn awaiting(alloc: Global, session: &Session, awaits: Awaits) -> Result<Session, AllocError>
     ensures { IfOk result (λ next. next ≡ answers.awaiting session.now awaits) }
 {
@@ -80,7 +80,7 @@ pub fn at_number(alloc: Global, session: &Session, number: u64) -> Result<Sessio
     })
 }
 
-/// The session with this group, and with its lowest number where it has an article.
+/// The session with this group selected, and with the group's lowest number if it has an article.
 pub fn selecting(
     alloc: Global,
     session: &Session,
@@ -112,7 +112,7 @@ pub fn says(
     Ok(answer(reply, copy(alloc, session)?, reads))
 }
 
-/// A reply of one line that leaves the session as it is.
+/// A one-line reply that leaves the session as it is.
 pub fn says_line(
     alloc: Global,
     session: &Session,

@@ -1,11 +1,11 @@
-//! Dot-stuffing of a text that comes in pieces (RFC 3977, section 3.1.1).
+//! Dot-stuffing of a text that arrives in pieces (RFC 3977, section 3.1.1).
 
 ghost use Rattle.std.specs.Prelude.{◌≡◌, ◌++◌, ◌∷◌, [], ◌&&◌, ◌==◌, true, false, OnOk};
 ghost use Rattle.replies.specs.Pieces.{PiecesFollow, PiecesMakeTheText};
 
 use std::alloc::AllocError;
 
-/// How a text goes on after the pieces so far.
+/// The state of a text after the pieces so far.
 #[derive(Clone, Copy)]
 pub struct Stuffing {
     /// the next octet begins a line
@@ -17,7 +17,7 @@ pub struct Stuffing {
 impl Stuffing {
     ghost use Rattle.replies.specs.Stuffing.{after, step, stuffed_from};
 
-    /// Before the first piece of a text.
+    /// The state before the first piece of a text.
     pub fn new() -> Stuffing
         ensures { result ≡ record { fresh = true; after_cr = false } }
     {
@@ -27,8 +27,8 @@ impl Stuffing {
         }
     }
 
-    /// Appends the next piece of the text, with a dot in front of each dot that begins a line. Refused for memory alone; the
-    /// reply may hold any octets then, and is thrown away.
+    /// Appends the next piece of the text, with another dot before each dot that begins a line. Refused only for want
+    /// of memory; then the reply may hold any octets, and the caller discards it.
     pub fn push(&mut self, reply: &mut Vec<u8>, piece: &[u8]) -> Result<(), AllocError>
         ensures sent { OnOk result (reply.new.items ≡ reply.old.items ++ stuffed_from self.old piece.now) }
         ensures state { OnOk result (self.new ≡ after self.old piece.now) }
@@ -55,7 +55,7 @@ impl Stuffing {
         self.fresh && octet == b'.'
     }
 
-    /// After one more octet.
+    /// The state after one more octet.
     fn next(self, octet: u8) -> Stuffing
         ensures { result ≡ step self octet }
     {
@@ -66,7 +66,7 @@ impl Stuffing {
     }
 }
 
-/// Appends octets, and a dot behind them.
+/// Appends octets, and a dot after them.
 fn push_with_dot(reply: &mut Vec<u8>, octets: &[u8]) -> Result<(), AllocError>
     ensures { OnOk result (reply.new.items ≡ reply.old.items ++ (octets.now ++ 46 ∷ [])) }
 {
@@ -75,7 +75,7 @@ fn push_with_dot(reply: &mut Vec<u8>, octets: &[u8]) -> Result<(), AllocError>
     Ok(())
 }
 
-/// Pieces that are pushed one after the other are the block that sends their text, but for the line that ends it.
+/// Pieces that are pushed one after the other give the block that sends their text, except the line that ends it.
 pub fn pieces_make_the_text()
     ensures text { PiecesMakeTheText }
     ensures follow { PiecesFollow }

@@ -1,10 +1,10 @@
-//! The words of each reply, with its code (RFC 3977, appendix C; the words are this project's own).
+//! The text of each reply, with its code (RFC 3977, appendix C; the wording is this project's own).
 
 ghost use Rattle.std.specs.Prelude.{◌≡◌};
 ghost use Rattle.model.specs.Stream.{line};
 ghost use Rattle.replies.specs.Replies.{headed, sent, sent_block};
 
-/// A reply of one line.
+/// A one-line reply.
 #[derive(Clone, Copy)]
 pub enum Reply {
     Bye,
@@ -58,7 +58,7 @@ impl Reply {
     }
 }
 
-/// The first line of a reply of several.
+/// The first line of a multi-line reply.
 #[derive(Clone, Copy)]
 pub enum Heading {
     Help,
@@ -85,7 +85,7 @@ impl Heading {
     }
 }
 
-/// A reply of several lines that never changes.
+/// A multi-line reply that never changes.
 #[derive(Clone, Copy)]
 pub enum Block {
     Capabilities,

@@ -1,4 +1,5 @@
-//! What is appended to a reply. Each is refused for memory alone; the reply may hold any octets then, and is thrown away.
+//! Functions that append to a reply. Each is refused only for want of memory; then the reply may hold any octets, and
+//! the caller discards it.
 
 ghost use Rattle.std.specs.Prelude.{◌≡◌, ◌++◌, OnOk, decimal};
 ghost use Rattle.model.specs.Stream.{dot_line, line, stuffed_line};
@@ -9,7 +10,7 @@ use crate::texts::{Heading, Reply};
 use itoa::Buffer;
 use std::alloc::AllocError;
 
-/// A line, which may not begin with a dot in a block.
+/// Appends a line. In a block it may not begin with a dot.
 pub fn push_line(reply: &mut Vec<u8>, text: &[u8]) -> Result<(), AllocError>
     ensures { OnOk result (reply.new.items ≡ reply.old.items ++ line text.now) }
 {
@@ -17,7 +18,7 @@ pub fn push_line(reply: &mut Vec<u8>, text: &[u8]) -> Result<(), AllocError>
     reply.extend_from_slice(b"\r\n")
 }
 
-/// A line of a block, with a dot in front where it begins with one.
+/// Appends a line of a block, with another dot before it if it begins with one.
 pub fn push_stuffed(reply: &mut Vec<u8>, text: &[u8]) -> Result<(), AllocError>
     ensures { OnOk result (reply.new.items ≡ reply.old.items ++ stuffed_line (line text.now)) }
 {
@@ -27,14 +28,14 @@ pub fn push_stuffed(reply: &mut Vec<u8>, text: &[u8]) -> Result<(), AllocError>
     push_line(reply, text)
 }
 
-/// The line that ends a block.
+/// Appends the line that ends a block.
 pub fn push_end(reply: &mut Vec<u8>) -> Result<(), AllocError>
     ensures { OnOk result (reply.new.items ≡ reply.old.items ++ dot_line) }
 {
     reply.extend_from_slice(b".\r\n")
 }
 
-/// A number in decimal digits.
+/// Appends a number in decimal digits.
 pub fn push_number(reply: &mut Vec<u8>, number: u64) -> Result<(), AllocError>
     ensures { OnOk result (reply.new.items ≡ reply.old.items ++ decimal number) }
 {
@@ -42,7 +43,7 @@ pub fn push_number(reply: &mut Vec<u8>, number: u64) -> Result<(), AllocError>
     reply.extend_from_slice(buffer.format(number).as_bytes())
 }
 
-/// A line of a block that is a number alone.
+/// Appends a line of a block that holds only a number.
 pub fn push_number_line(reply: &mut Vec<u8>, number: u64) -> Result<(), AllocError>
     ensures { OnOk result (reply.new.items ≡ reply.old.items ++ stuffed_line (line (decimal number))) }
 {
@@ -50,21 +51,21 @@ pub fn push_number_line(reply: &mut Vec<u8>, number: u64) -> Result<(), AllocErr
     push_stuffed(reply, buffer.format(number).as_bytes())
 }
 
-/// A reply of one line.
+/// Appends a one-line reply.
 pub fn push_reply(reply: &mut Vec<u8>, which: Reply) -> Result<(), AllocError>
     ensures { OnOk result (reply.new.items ≡ reply.old.items ++ sent which) }
 {
     push_line(reply, which.text())
 }
 
-/// The first line of a reply of several.
+/// Appends the first line of a multi-line reply.
 pub fn push_heading(reply: &mut Vec<u8>, which: Heading) -> Result<(), AllocError>
     ensures { OnOk result (reply.new.items ≡ reply.old.items ++ line (headed which)) }
 {
     push_line(reply, which.text())
 }
 
-/// The greeting of a server that takes posts (RFC 3977, section 5.1).
+/// Appends the greeting of a server that takes posts (RFC 3977, section 5.1).
 #[tactic(auto, unfolding(model::specs::Replies::greeting))]
 pub fn push_greeting(reply: &mut Vec<u8>, host: &[u8]) -> Result<(), AllocError>
     ensures { OnOk result (reply.new.items ≡ reply.old.items ++ greeting host.now) }
@@ -72,7 +73,7 @@ pub fn push_greeting(reply: &mut Vec<u8>, host: &[u8]) -> Result<(), AllocError>
     push_joined(reply, b"200 ", host, b" ready, posting permitted")
 }
 
-/// The line of three texts, one behind the other.
+/// Appends a line that consists of three texts.
 fn push_joined(
     reply: &mut Vec<u8>,
     first: &[u8],

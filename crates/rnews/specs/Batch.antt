@@ -10,15 +10,15 @@ use Rattle.rnews.specs.declared.batches.Cause.TheVariants.{NoHeader, NoNumber, T
 abbrev pub keyword : Octets
 keyword = codes "#! rnews "
 
--- the line that says how many octets the text behind it has
+-- the line that states the number of octets of the text after it
 abbrev pub header : ℕ → Octets
 header size = keyword ++ decimal size ++ 10 ∷ []
 
--- a text as it stands in a batch
+-- a text with its header line, as in a batch
 abbrev pub entry : Octets → Octets
 entry text = header (length text) ++ text
 
--- the batch of these texts, one behind the other
+-- the batch of these texts, one after the other
 abbrev pub batch : List Octets → Octets
 batch texts = flat_map entry texts
 
@@ -31,16 +31,17 @@ size_in_limit (Some size) = if nat_le size block_limit then Ok size else Err Too
 abbrev pub size_of : Octets → Result ℕ Cause
 size_of line = if starts_with nat_eq line keyword then size_in_limit (number_of (drop 9 line)) else Err NoHeader
 
--- what is found at the front of a batch: a text and what follows it; `None` where more octets are wanted; or why no batch goes on so
+-- what a batch begins with: a text and what follows it; `None` if more octets are needed; or why no batch begins with
+-- these octets
 abbrev pub Found : Type 0
 Found = Result (Option (Octets × Octets)) Cause
 
--- a text of this size and what follows it, if all of it is there
+-- a text of this size and what follows it, if all of it has arrived
 abbrev pub split : Octets → Result ℕ Cause → Found
 split octets (Ok size) = if nat_le size (length octets) then Ok (Some (take size octets, drop size octets)) else Ok None
 split octets (Err cause) = Err cause
 
--- how many octets stand before the first LF; of 26 octets without one it is 26, and too many for a header line
+-- the number of octets before the first LF; for 26 octets without one it is 26, too many for a header line
 abbrev pub line_length : Octets → ℕ
 line_length octets = position_or_len (λ octet. octet == 10) (take 26 octets)
 
@@ -50,13 +51,13 @@ next octets =
     let end = line_length octets in
     if nat_lt end (length octets) then split (drop (end + 1) octets) (size_of (take end octets)) else Ok None
 
--- the first text stands from this place to that one
+-- the first text begins and ends at these places
 abbrev pub IsFirstText : Octets → ℕ × ℕ → Type 0
 IsFirstText octets place =
     (place.0 ≤ place.1) × (place.1 ≤ length octets)
     × (next octets ≡ Ok (Some (take (place.1 - place.0) (drop place.0 octets), drop place.1 octets)))
 
--- octets that are read as these texts, to their end
+-- octets that are read as these texts, up to their end
 abbrev pub IsReadAs : List Octets → Octets → Type 0
 IsReadAs [] octets = octets ≡ []
 IsReadAs (text ∷ texts) octets = (rest : Octets) × (next octets ≡ Ok (Some (text, rest))) × IsReadAs texts rest

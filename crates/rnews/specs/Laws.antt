@@ -1,4 +1,4 @@
--- What holds of batches.
+-- What holds for batches.
 use Rattle.std.specs.Prelude.{◌≡◌, ◌≤◌, ◌++◌, All, List, length, Some, Ok, Err}
 use Rattle.model.specs.Stream.{Octets, block_limit}
 use Rattle.rnews.specs.Batch.{batch, next, IsReadAs}
@@ -12,11 +12,11 @@ IsShort text = length text ≤ block_limit
 abbrev pub IsReadBack : Type 0
 IsReadBack = (texts : List Octets) → All IsShort texts → IsReadAs texts (batch texts)
 
--- and as no others
+-- and as no other texts
 abbrev pub IsReadAsOne : Type 0
 IsReadAsOne = (texts others : List Octets) (octets : Octets) → IsReadAs texts octets → IsReadAs others octets → texts ≡ others
 
--- the text that is found in the octets that have come is the one of all of them
+-- the text found in the octets that have arrived is also the one found in all octets
 abbrev pub TextStays : Type 0
 TextStays = (octets more text rest : Octets) → next octets ≡ Ok (Some (text, rest)) → next (octets ++ more) ≡ Ok (Some (text, rest ++ more))
 

@@ -9,11 +9,11 @@ unfoldable pub with_lf : Octets → Octets
 with_lf [] = []
 with_lf (x ∷ rest) = (if x == 13 && begins (λ y. y == 10) rest then [] else x ∷ []) ++ with_lf rest
 
--- an octet that follows another one: an LF that follows no CR is CRLF
+-- an octet after another one: an LF that follows no CR becomes CRLF
 abbrev pub with_cr : ℕ → ℕ → Octets
 with_cr before x = if x == 10 && not (before == 13) then 13 ∷ x ∷ [] else x ∷ []
 
--- each LF that follows no CR is CRLF; the octet `before` comes before the text
+-- each LF that follows no CR becomes CRLF; the octet `before` comes before the text
 unfoldable pub with_crlf_after : ℕ → Octets → Octets
 with_crlf_after before [] = []
 with_crlf_after before (x ∷ rest) = with_cr before x ++ with_crlf_after x rest
@@ -25,7 +25,7 @@ with_crlf text = with_crlf_after 0 text
 abbrev pub IsLine : Octets → Type 0
 IsLine text = list_all (λ x. not (x == 10) && not (x == 13)) text ≡ true
 
--- the line with an LF alone
+-- the line with only an LF
 abbrev pub lf_line : Octets → Octets
 lf_line text = text ++ 10 ∷ []
 
@@ -33,7 +33,7 @@ lf_line text = text ++ 10 ∷ []
 abbrev pub LinesGetLf : Type 0
 LinesGetLf = (lines : List Octets) → All IsLine lines → with_lf (flat_map line lines) ≡ flat_map lf_line lines
 
--- and these become the lines that end in CRLF again
+-- and those become the lines that end in CRLF again
 abbrev pub LinesGetCrlf : Type 0
 LinesGetCrlf = (lines : List Octets) → All IsLine lines → with_crlf (flat_map lf_line lines) ≡ flat_map line lines
 

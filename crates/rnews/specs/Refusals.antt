@@ -5,7 +5,7 @@ use Rattle.rnews.specs.Held.{Held}
 use Rattle.rnews.specs.declared.reader.ReadError.{ReadError}
 use Rattle.rnews.specs.declared.reader.ReadError.TheVariants.{Memory, Refused}
 
--- memory was refused, or no batch goes on as what is held, and the place is where that begins
+-- memory was refused, or no batch continues with what is held, and the place is where that begins
 abbrev pub IsDue : Held → ReadError → Type 0
 IsDue held Memory = Unit {0}
 IsDue held (Refused refusal) = (next held.rest ≡ Err refusal.cause) × (refusal.place ≡ held.place)

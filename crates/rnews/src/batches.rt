@@ -1,4 +1,4 @@
-//! A text as it stands in a batch, and the first text of a batch.
+//! A text in the form of a batch, and the first text of a batch.
 
 ghost use Rattle.std.specs.Prelude.{◌≡◌, ◌+◌, ◌-◌, ◌≤◌, Some, None, Ok, Err, length, take, drop, IfOk, IfErr, MatchOption};
 ghost use Rattle.rnews.specs.Batch as batch;
@@ -15,16 +15,16 @@ pub const TEXT_LIMIT: usize = 262_144;
 /// What each header line begins with.
 const KEYWORD: &[u8] = b"#! rnews ";
 
-/// A first line with so many octets is no header line.
+/// A first line with this many octets is not a header line.
 const LINE_LIMIT: usize = 26;
 
 /// Why no text is read.
 #[derive(Clone, Copy, Debug, PartialEq, Eq, Error)]
 pub enum Cause {
-    /// The text doesn't follow a header line.
+    /// The text does not follow a header line.
     #[error("no line `#! rnews LENGTH`")]
     NoHeader,
-    /// The length in a header line isn't 1 to 16 digits.
+    /// The length in a header line is not 1 to 16 digits.
     #[error("the length is no number")]
     NoNumber,
     /// The length in a header line is above that of the longest text.
@@ -35,7 +35,7 @@ pub enum Cause {
     CutShort,
 }
 
-/// A text as it stands in a batch.
+/// A text with its header line, as in a batch. Refused only for want of memory.
 pub fn entry(alloc: Global, text: &[u8]) -> Result<Vec<u8>, AllocError>
     ensures { IfOk result (λ octets. octets.items ≡ batch.entry text.now) }
 {
@@ -47,8 +47,8 @@ pub fn entry(alloc: Global, text: &[u8]) -> Result<Vec<u8>, AllocError>
     Ok(octets)
 }
 
-/// Where the first text of a batch begins and ends, or `None` where more octets are wanted. `Err` where no batch begins so, or its
-/// first text is too long.
+/// Where the first text of a batch begins and ends, or `None` if more octets are needed. `Err` if no batch begins with
+/// these octets, or its first text is too long.
 #[tactic(auto, unfolding(crate::specs::Batch::next))]
 pub fn find_text(octets: &[u8]) -> Result<Option<(usize, usize)>, Cause>
     ensures found { IfOk result (λ found. MatchOption found (batch.next octets.now ≡ Ok None) (batch.IsFirstText octets.now)) }
@@ -66,7 +66,7 @@ pub fn find_text(octets: &[u8]) -> Result<Option<(usize, usize)>, Cause>
     Ok(Some((start, start + size)))
 }
 
-/// How many octets stand before the first LF, of so many as tell whether they are a header line.
+/// The number of octets before the first LF, among those that decide whether they are a header line.
 fn line_length(octets: &[u8]) -> usize
     ensures { result ≡ batch.line_length octets.now }
 {
@@ -77,7 +77,7 @@ fn line_length(octets: &[u8]) -> usize
     }
 }
 
-/// The octets that tell whether a header line is in front.
+/// The octets that decide whether the batch begins with a header line.
 fn first_octets(octets: &[u8]) -> &[u8]
     ensures { result.now ≡ take 26 octets.now }
 {

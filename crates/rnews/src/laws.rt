@@ -1,9 +1,9 @@
-//! What holds of batches and of line ends.
+//! What holds for batches and for line ends.
 
 ghost use Rattle.rnews.specs.Laws.{IsReadBack, IsReadAsOne, TextStays, CauseStays};
 ghost use Rattle.rnews.specs.LineEnds.{LinesGetLf, LinesGetCrlf, CrlfStays};
 
-/// A batch is read as the texts that were written, as no others, and the same in whatever pieces it comes.
+/// A batch is read as the texts that were written and as no others, whatever pieces it arrives in.
 pub fn batches_are_read_back()
     ensures back { IsReadBack }
     ensures one { IsReadAsOne }
@@ -11,7 +11,7 @@ pub fn batches_are_read_back()
     ensures cause { CauseStays }
 {}
 
-/// Lines that end in CRLF become lines that end in LF, and these become the former; lines that end in CRLF stay.
+/// Lines that end in CRLF become lines that end in LF, and become the same lines again; lines that end in CRLF stay.
 pub fn line_ends_are_kept()
     ensures lf { LinesGetLf }
     ensures crlf { LinesGetCrlf }

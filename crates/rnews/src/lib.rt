@@ -1,5 +1,5 @@
-//! Batches of articles, as `rnews` reads them: each text follows a line `#! rnews LENGTH`, which says how many octets it has.
-//! Lines of a batch end in LF, those of a stored article in CRLF.
+//! Batches of articles, as `rnews` reads them: each text follows a line `#! rnews LENGTH`, which states its number of
+//! octets. Lines of a batch end in LF, those of a stored article in CRLF.
 #![tactic(auto)]
 
 mod batches;

@@ -6,7 +6,7 @@ ghost use Rattle.rnews.specs.LineEnds as ends;
 
 use std::alloc::{AllocError, Global};
 
-/// The text with each CRLF as an LF.
+/// The text with each CRLF replaced by an LF. Refused only for want of memory.
 pub fn with_lf(alloc: Global, octets: &[u8]) -> Result<Vec<u8>, AllocError>
     ensures { IfOk result (λ text. text.items ≡ ends.with_lf octets.now) }
 {
@@ -27,7 +27,7 @@ fn is_crlf_at(octets: &[u8], at: usize) -> bool
     octets[at] == b'\r' && octets[at + 1..].first() == Some(&b'\n')
 }
 
-/// The text with each LF that follows no CR as CRLF.
+/// The text with each LF that follows no CR replaced by CRLF. Refused only for want of memory.
 pub fn with_crlf(alloc: Global, octets: &[u8]) -> Result<Vec<u8>, AllocError>
     ensures { IfOk result (λ text. text.items ≡ ends.with_crlf octets.now) }
 {
@@ -40,7 +40,7 @@ pub fn with_crlf(alloc: Global, octets: &[u8]) -> Result<Vec<u8>, AllocError>
     Ok(text)
 }
 
-/// Adds an octet, as CRLF where it is an LF that follows no CR.
+/// Appends an octet, as CRLF if it is an LF that follows no CR.
 fn push_octet(text: &mut Vec<u8>, before: u8, octet: u8) -> Result<(), AllocError>
     ensures { OnOk result (text.new.items ≡ text.old.items ++ ends.with_cr before octet) }
 {

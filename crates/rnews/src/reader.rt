@@ -1,4 +1,4 @@
-//! A batch that comes in pieces.
+//! A batch that arrives in pieces.
 
 ghost use Rattle.std.specs.Prelude.{◌≡◌, ◌-◌, ◌≤◌, ◌++◌, [], drop, vec_len, length, ◌↔◌};
 ghost use Rattle.std.specs.Prelude.{Some, None, Ok, Err, IfOk, IfErr, IfSome, IfNone, OnSome, OnOk, OnErr, IsOk};
@@ -13,7 +13,7 @@ use std::alloc::{AllocError, Global};
 use std::marker::Model;
 use thiserror::Error;
 
-/// Why the octets are no batch, and how many octets of it come before the header line where it ends to be one.
+/// Why the octets are not a batch, and how many octets come before the header line at which they stop being one.
 #[derive(Clone, Copy, Debug, PartialEq, Eq, Error)]
 #[error("octet {place}: {cause}")]
 pub struct Refusal {
@@ -27,7 +27,7 @@ pub enum ReadError {
     /// A growth was refused.
     #[error("E2 Memory")]
     Memory,
-    /// No batch goes on so.
+    /// No batch continues with these octets.
     #[error("{0}")]
     Refused(Refusal),
 }
@@ -40,14 +40,14 @@ impl From<AllocError> for ReadError {
     }
 }
 
-/// A batch that comes in pieces.
+/// A batch that arrives in pieces.
 #[derive(Drop)]
 pub struct Reader {
     octets: Vec<u8>,
     alloc: Global,
-    /// How many of the octets are handed out.
+    /// The number of octets that were handed out.
     start: usize,
-    /// How many octets of the batch come before what is not handed out, up to 2^64 - 1.
+    /// The number of octets of the batch before those that are not handed out, up to 2^64 - 1.
     place: u64,
 }
 
@@ -76,7 +76,7 @@ impl Reader {
         }
     }
 
-    /// Takes the next piece of the batch. An `Err` takes nothing.
+    /// Takes the next piece of the batch. Refused only for want of memory; then nothing is taken.
     pub fn feed(&mut self, piece: &[u8]) -> Result<(), AllocError>
         ensures ok { OnOk result (self.new.rest ≡ self.old.rest ++ piece.now) }
         ensures place { self.new.place ≡ self.old.place }
@@ -88,8 +88,8 @@ impl Reader {
         Ok(())
     }
 
-    /// The next text, or `None` where more octets are wanted: at most those of a header line and of the longest text are there then.
-    /// An `Err` changes nothing.
+    /// The next text, or `None` if more octets are needed. At `None` at most the octets of a header line and of the
+    /// longest text are held. A refusal changes nothing.
     pub fn next(&mut self) -> Result<Option<Vec<u8>>, ReadError>
         ensures text { IfOk result (λ found. IfSome found (λ text. next self.old.rest ≡ Ok (Some (text.items, self.new.rest)))) }
         ensures place { IfOk result (λ found. OnSome found (self.new.place ≡ counted self.old.place (length self.old.rest - length self.new.rest))) }
@@ -112,7 +112,7 @@ impl Reader {
         }
     }
 
-    /// The batch ends here: refused as cut short where octets are left.
+    /// Ends the batch here. It is refused as cut short if octets are left.
     pub fn end(&self) -> Result<(), Refusal>
         ensures ok { IsOk result ↔ (self.now.rest ≡ []) }
         ensures err { IfErr result (λ refusal. (refusal.cause ≡ CutShort) × (refusal.place ≡ self.now.place)) }
@@ -123,7 +123,7 @@ impl Reader {
         Ok(())
     }
 
-    /// A refusal of what comes next.
+    /// A refusal at the octets that come next.
     fn refusal(&self, cause: Cause) -> Refusal
         ensures { result ≡ record { cause = cause; place = self.now.place } }
     {
@@ -134,7 +134,7 @@ impl Reader {
     }
 }
 
-/// Takes the first n octets away.
+/// Removes the first n octets.
 fn forget_front(octets: &mut Vec<u8>, n: usize)
     requires { n ≤ vec_len octets.old }
     ensures { octets.new.items ≡ drop n octets.old.items }

@@ -1,11 +1,11 @@
-//! What is read of a batch, however it is cut into pieces.
+//! What is read from a batch, however it is cut into pieces.
 
 use octets::Octets;
 use rnews::{Cause, ReadError, Reader, Refusal, TEXT_LIMIT, entry};
 use std::alloc::Global;
 use std::test::Fail;
 
-/// The name of a row, the octets of a batch, the texts that are read of it, and the refusal, if one ends it.
+/// The name of a row, the octets of a batch, the texts that are read from it, and the refusal, if one ends it.
 type Row<'a> = (&'a str, Octets<'a>, &'a [Octets<'a>], Option<(Cause, u64)>);
 
 const ROWS: &[Row<'static>] = &[
@@ -95,14 +95,14 @@ fn rows() -> &'static [Row<'static>] {
     ROWS
 }
 
-/// What is read of a batch.
+/// What is read from a batch.
 #[derive(Drop)]
 struct Found {
     texts: Vec<Vec<u8>>,
     refusal: Option<Refusal>,
 }
 
-/// What is read of octets that come in pieces of so many.
+/// What is read when the octets arrive in pieces of this size.
 fn read(alloc: Global, octets: &[u8], size: usize) -> Result<Found, Fail> {
     if size == 0 {
         return Err("empty pieces")?;
@@ -122,7 +122,7 @@ fn read(alloc: Global, octets: &[u8], size: usize) -> Result<Found, Fail> {
     Ok(Found { texts, refusal })
 }
 
-/// Takes the texts that are there, and answers the refusal, if one ends them.
+/// Takes the complete texts, and answers the refusal, if one ends them.
 fn take_texts(reader: &mut Reader, texts: &mut Vec<Vec<u8>>) -> Result<Option<Refusal>, Fail> {
     for _ in 0..u64::MAX {
         match reader.next() {
@@ -135,7 +135,7 @@ fn take_texts(reader: &mut Reader, texts: &mut Vec<Vec<u8>>) -> Result<Option<Re
     Ok(None)
 }
 
-/// Whether this is what the row wants.
+/// Whether this is what the row expects.
 fn is_wanted(alloc: Global, found: &Found, row: &Row<'_>) -> Result<bool, Fail> {
     let (_, _, texts, refusal) = row;
     let wanted = refusal.map(|(cause, place)| Refusal { cause, place });

@@ -1,4 +1,4 @@
-//! Rows on batches, over the public calls of `rnews`.
+//! Tables of batches, over the public calls of `rnews`.
 #![tactic(auto)]
 
 #[cfg(test)]

@@ -13,8 +13,8 @@ use Rattle.script.specs.Words.{expiry_number_of, hex_octet, hex_octets, moment_o
 use Rattle.script.specs.declared.lines.Line.{Line}
 use Rattle.script.specs.declared.lines.Line.TheVariants.{Group, Expire, Join, Leave, Arrive, Exec, Take, Dev, Told, Release, Commit, Settle, FailAt, FailKind, Crash, Spool}
 
--- what a line asks for, its texts as lists: a group is made, articles are taken out of one, octets come for a session,
--- anything else
+-- what a line asks for, with its texts as lists: a group is made, articles are removed from one, octets arrive for a
+-- session, anything else
 pub data Said : Type 0 where
   Made : (name : Octets) (status moment : ℕ) (description : Octets) → Said
   Expired : (name : Octets) (number : ℕ) → Said

@@ -10,7 +10,7 @@ use Rattle.model.specs.Names as article
 use Rattle.model.specs.Names.{is_run_of}
 use Rattle.model.specs.Calendar.{moment_limit}
 
--- what stands before the first SP, and what after it
+-- the parts before and after the first SP
 abbrev pub split_word : Octets → Option (Octets × Octets)
 split_word text = option_map (λ i. (take i text, drop (i + 1) text)) (position (λ x. x == 32) text)
 
@@ -26,7 +26,8 @@ number_of word = if is_run_of is_ascii_digit word then within_u64 word else None
 abbrev pub moment_of : Octets → Option ℕ
 moment_of word = option_and_then (λ n. if nat_lt n moment_limit then Some n else None) (number_of word)
 
--- up to which number an expiry takes articles, by 1 to 16 digits: no article has 0, nor a number of 2^32 or more, for which 0 stands
+-- the number up to which an expiry removes articles, by 1 to 16 digits; it is 0 for 0 and for a number of 2^32 or more,
+-- which no article has
 abbrev pub expiry_number_of : Octets → Option ℕ
 expiry_number_of word = option_map (λ n. if nat_lt n (2 ^ 32) then n else 0) (article.number_of word)
 

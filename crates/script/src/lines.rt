@@ -29,7 +29,8 @@ pub enum Line {
         moment: u64,
         description: Vec<u8>,
     },
-    /// The operator takes the articles of a group up to this number out of it. 0 stands for each number that no article can have.
+    /// The operator removes the articles of a group up to this number. 0 stands for each number that no article can
+    /// have.
     Expire {
         name: Vec<u8>,
         number: u32,
@@ -52,11 +53,11 @@ pub enum Line {
     Take,
     /// The journal makes its next device call.
     Dev,
-    /// The kernel is told what a device call answered.
+    /// The kernel learns what a device call answered.
     Told,
     /// What is ready is handed out.
     Release,
-    /// A batch is taken and carried to its commit.
+    /// A batch is taken and written up to its commit.
     Commit,
     /// The batch in flight is carried to its end.
     Settle,
@@ -64,16 +65,16 @@ pub enum Line {
     FailAt(u64),
     /// The n-th device call of this kind from now on fails.
     FailKind(DiskCall, u64),
-    /// The device crashes, each touched octet by this pick, and is opened again.
+    /// The device crashes, each touched octet becomes what this pick says, and the device is opened again.
     Crash(Pick),
     /// The accepted changes are printed.
     Spool,
 }
 
-/// Why a line was not read. Nothing has changed then.
+/// Why a line was not read.
 #[derive(Clone, Copy, Debug, PartialEq, Eq, Error)]
 pub enum ParseError {
-    /// The line isn't in the grammar.
+    /// The line does not follow the grammar.
     #[error("bad event")]
     Bad,
     /// A growth was refused.
@@ -97,8 +98,8 @@ impl From<AllocError> for ParseError {
     }
 }
 
-/// What a line asks for, without the LF that ends it. Words are parted by one space; the text of `group` and of `line`
-/// may hold any octets but LF.
+/// Reads a line, without the LF that ends it. Words are separated by one space; the text of `group` and of `line` may
+/// hold any octets except LF. `Bad` if the line does not follow the grammar, `Memory` if a growth was refused.
 #[tactic(auto, unfolding(crate::specs::Script::meaning))]
 pub fn parse(alloc: Global, line: &[u8]) -> Result<Line, ParseError>
     ensures ok { IfOk result (λ read. meaning line.now ≡ Some (said read)) }
@@ -249,7 +250,7 @@ struct GroupWords<'a> {
     description: &'a [u8],
 }
 
-/// The words of a group's line, if each is in its grammar.
+/// The words of a group's line, if each follows its grammar.
 #[tactic(auto, unfolding(crate::specs::Script::group_of))]
 fn group_words(words: &[u8]) -> Option<GroupWords<'_>>
     ensures value { option_map (λ read. Made read.name.now read.status read.moment read.description.now) result ≡ group_of words.now }
@@ -316,7 +317,7 @@ fn group(alloc: Global, words: &[u8]) -> Result<Line, ParseError>
     })
 }
 
-/// The group and the number of an expiry's line, if each is in its grammar.
+/// The group and the number of an expiry's line, if each follows its grammar.
 #[tactic(auto, unfolding(crate::specs::Script::expiry_of))]
 fn expiry_words(words: &[u8]) -> Option<(&[u8], u32)>
     ensures value { option_map (λ read. Expired read.0.now read.1) result ≡ expiry_of words.now }
@@ -344,7 +345,7 @@ fn expiry(alloc: Global, words: &[u8]) -> Result<Line, ParseError>
     Ok(Line::Expire { name, number })
 }
 
-/// `line S TEXT`, after its first word: the text and CRLF arrive, without a text CRLF alone.
+/// `line S TEXT`, after its first word: the text and CRLF arrive, or only CRLF without a text.
 #[tactic(auto, unfolding(crate::specs::Script::arrival_of))]
 fn arrival(alloc: Global, words: &[u8]) -> Result<Line, ParseError>
     ensures ok { IfOk result (λ read. arrival_of words.now ≡ Some (said read)) }

@@ -5,8 +5,8 @@ ghost use Rattle.script.specs.Printed.{escape, escaped, hex_escape};
 
 use std::alloc::{AllocError, Global};
 
-/// The octets as they are printed: CR as `\r`, LF as `\n`, a backslash as `\\`, any other octet outside 32 to 126 as
-/// `\xHH` in lower case, all others as they are.
+/// The octets in their printed form: CR as `\r`, LF as `\n`, a backslash as `\\`, any other octet outside 32 to 126 as
+/// `\xHH` in lower case, all others as they are. Refused only for want of memory.
 pub fn escaped(alloc: Global, octets: &[u8]) -> Result<Vec<u8>, AllocError>
     ensures { IfOk result (λ text. text.items ≡ escaped octets.now) }
 {
@@ -17,7 +17,7 @@ pub fn escaped(alloc: Global, octets: &[u8]) -> Result<Vec<u8>, AllocError>
     Ok(text)
 }
 
-/// Adds the printed form of an octet.
+/// Appends the printed form of an octet.
 #[tactic(auto, unfolding(crate::specs::Printed::escape))]
 fn push_escaped(text: &mut Vec<u8>, octet: u8) -> Result<(), AllocError>
     ensures { OnOk result (text.new.items ≡ text.old.items ++ escape octet) }
@@ -31,7 +31,7 @@ fn push_escaped(text: &mut Vec<u8>, octet: u8) -> Result<(), AllocError>
     }
 }
 
-/// Adds an octet by its two hexadecimal digits.
+/// Appends an octet as two hexadecimal digits.
 fn push_hex(text: &mut Vec<u8>, octet: u8) -> Result<(), AllocError>
     ensures { OnOk result (text.new.items ≡ text.old.items ++ hex_escape octet) }
 {

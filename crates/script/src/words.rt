@@ -1,4 +1,4 @@
-//! The words of a line: where they are parted, and the numbers that they write.
+//! The words of a line: how they are separated, and the numbers that they write.
 
 ghost use Rattle.std.specs.Prelude.{◌≡◌, ◌<◌, IfSome, option_map, true};
 ghost use Rattle.std.specs.Char.{is_ascii_digit};
@@ -9,10 +9,10 @@ ghost use Rattle.script.specs.Words.{expiry_number_of, moment_of, number_of, spl
 
 use names::number_of;
 
-/// The first moment of the year 10000, before which each moment lies, in seconds since 1970.
+/// The first moment of the year 10000, in seconds since 1970. Each moment must be before it.
 pub const MOMENT_LIMIT: u64 = 253_402_300_800;
 
-/// What stands before the first space, and what after it.
+/// The parts before and after the first space.
 pub(crate) fn split_word(text: &[u8]) -> Option<(&[u8], &[u8])>
     ensures { option_map (λ parts. (parts.0.now, parts.1.now)) result ≡ split_word text.now }
 {
@@ -64,8 +64,8 @@ pub(crate) fn moment(word: &[u8]) -> Option<u64>
     }
 }
 
-/// Up to which number an expiry takes articles, by 1 to 16 digits. No article has the number 0, nor one above 4,294,967,295, for
-/// which 0 stands.
+/// The number up to which an expiry removes articles, by 1 to 16 digits. It is 0 for 0 and for each number above
+/// 4,294,967,295, which no article has.
 pub(crate) fn expiry_number(word: &[u8]) -> Option<u32>
     ensures { result ≡ expiry_number_of word.now }
 {

@@ -1,4 +1,4 @@
-//! How the lines of a script are read, how octets are printed, and in what words each refusal is.
+//! How the lines of a script are read, how octets are printed, and the words of each refusal.
 #![tactic(auto)]
 
 #[cfg(test)]

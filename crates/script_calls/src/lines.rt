@@ -112,7 +112,7 @@ fn lines_with_a_group(rt: HostRuntime) {
     }
 }
 
-/// Whether the articles of the group x.a up to this number are taken out of it.
+/// Whether the articles of the group x.a up to this number are removed.
 fn is_expiry(alloc: Global, line: &str, wanted: u32) -> bool {
     match parse(alloc, line.as_bytes()) {
         Ok(Line::Expire { name, number }) => {
@@ -221,7 +221,7 @@ fn bad_lines(rt: HostRuntime) -> Result<(), Fail> {
     Ok(())
 }
 
-/// A group's line whose name and description have so many octets.
+/// A group's line whose name and description have this many octets.
 fn group_line(alloc: Global, name: usize, description: usize) -> Result<Vec<u8>, Fail> {
     let mut line = Vec::from_slice(alloc, b"group ")?;
     for _ in 0..name {

@@ -1,4 +1,4 @@
-//! How each refusal is printed: of a world, of the kernel, and of the program where it ends.
+//! How each refusal is printed: of a world, of the kernel, and of the program when it ends.
 
 use kernel::Stale;
 use printing::{Failure, NOT_UNDERSTOOD, REFUSED};

@@ -1,4 +1,4 @@
--- What is kept of the sessions: each held output is the plain server's reply on a front of the spool.
+-- What is kept of the sessions: each held output is the plain server's reply on a prefix of the spool.
 use Rattle.std.specs.Prelude.{◌≡◌, ◌⊎◌, ℕ, ◌+◌, ◌≤◌, ◌<◌, max, false, List, [], ◌∷◌, ◌++◌, length, drop, IsSome, is_none}
 use Rattle.std.specs.Option.{option_to_list}
 use Rattle.model.specs.Stream.{Octets}
@@ -34,8 +34,8 @@ reads_at host S o = reads host (first S o.position) o.session o.message o.moment
 abbrev pub made_at : Octets → Spool → Origin → List Change
 made_at host S o = option_to_list (answer_at host S o).change
 
--- The held output is the plain server's reply to that message, less its first octets; it depends on what that read, or on
--- what the session had read before; the change that it made is the spool's there.
+-- The held output is the plain server's reply to that message, without its first octets. It depends on what that reply
+-- read, or on what the session had read before. The change that it made is the one at that place in the spool.
 pub record IsReply (host : Octets) (S : Spool) (before cut : ℕ) (o : Origin) (held : Held) : Type 0 where
   pub position : o.position ≤ length S
   pub awaited : IsSome (mode_of o.session.awaits)
@@ -45,14 +45,14 @@ pub record IsReply (host : Octets) (S : Spool) (before cut : ℕ) (o : Origin) (
   pub ends : held.ends ≡ is_none (mode_of (answer_at host S o).next.awaits)
   pub change : first S (o.position + length (made_at host S o)) ≡ first S o.position ++ made_at host S o
 
--- whole replies, each after the one before it: in the session that that left, on a spool not shorter than that left
+-- whole replies, each after the one before it: in the session that the earlier one left, on a spool that is not shorter
 abbrev pub AreReplies : Octets → Spool → Session → ℕ → ℕ → List Held → Session → Type 0
 AreReplies host S session before from [] last = session ≡ last
 AreReplies host S session before from (held ∷ rest) last =
     (o : Origin) × IsReply host S before 0 o held × (o.session ≡ session) × (from ≤ o.position)
     × AreReplies host S (answer_at host S o).next held.dependency (o.position + length (made_at host S o)) rest last
 
--- the greeting, less its first octets
+-- the greeting, without its first octets
 pub record IsGreeting (host : Octets) (given cut : ℕ) (held : Held) : Type 0 where
   pub cut_within : cut < length (greeting host)
   pub octets : held.octets ≡ drop cut (greeting host)
@@ -60,7 +60,7 @@ pub record IsGreeting (host : Octets) (given cut : ℕ) (held : Held) : Type 0 w
   pub ends : held.ends ≡ false
   pub first_output : given ≡ 0
 
--- the front output alone may be cut, and has after it the number kept for the session
+-- only the first output may be cut; it depends on at least what the last output handed out did, which is kept as `given`
 abbrev pub SeatIsKept : Octets → Spool → ℕ → List Held → Session → Type 0
 SeatIsKept host S given [] last = Unit {0}
 SeatIsKept host S given (held ∷ rest) last =
@@ -68,7 +68,7 @@ SeatIsKept host S given (held ∷ rest) last =
     ⊎ ((o : Origin) × (cut : ℕ) × IsReply host S given cut o held
     × AreReplies host S (answer_at host S o).next held.dependency (o.position + length (made_at host S o)) rest last)
 
--- a session with nothing held still awaits something: its end goes with its last output
+-- a session with nothing held still awaits something: it ends with its last output
 abbrev pub StillAwaits : List Held → Session → Type 0
 StillAwaits [] session = IsSome (mode_of session.awaits)
 StillAwaits (held ∷ rest) session = Unit {0}

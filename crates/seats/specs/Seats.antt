@@ -1,4 +1,4 @@
--- A session as callers of the kernel see it, and what it holds, gives and is answered.
+-- A session as callers of the kernel see it: what it holds, what it gives, and how it is answered.
 use Rattle.std.specs.Prelude.{ℕ, ◌-◌, max, Bool, false, not, ◌==◌, if◌then◌else◌, List, [], ◌∷◌, ◌++◌, map, filter, find, length, Option, Some, None, is_none}
 use Rattle.model.specs.Stream.{Octets}
 use Rattle.model.specs.Spool.{Spool}
@@ -11,7 +11,7 @@ use Rattle.model.specs.declared.message.Mark.{Mark}
 use Rattle.model.specs.declared.session.Session.{Session}
 use Rattle.outbox.specs.Queue.{Held, Giving, Entry, last_dependency, give, entry_of, octets_in}
 
--- a session that is there
+-- a session that exists
 pub record Seat : Type 0 where
   pub number : ℕ
   pub session : Session
@@ -25,7 +25,7 @@ pub record Seat : Type 0 where
 abbrev pub new_seat : Octets → ℕ → Seat
 new_seat host number = record { number = number; session = new_session; given = 0; held = record { octets = greeting host; dependency = 0; ends = false } ∷ [] }
 
--- the session with one reply more
+-- the session with one more reply
 abbrev pub answered_by : Octets → Spool → Message → ℕ → Mark → Seat → Seat
 answered_by host S m t mark seat =
     record {
@@ -64,12 +64,12 @@ given_by seat g later = record {
 abbrev pub given_of : ℕ → List Entry → Seat → Giving
 given_of p entries seat = give p (65536 - octets_in entries) seat.given seat.held
 
--- through the sessions in rising number
+-- the same for all sessions in rising number
 abbrev pub ready : ℕ → ℕ → List Seat → Ready
 ready p room [] = record { entries = []; seats = [] }
 ready p room (seat ∷ seats) = given_by seat (give p room seat.given seat.held) (ready p (give p room seat.given seat.held).room seats)
 
--- what one session gives behind these entries, and the sessions after it; where it isn't there, nothing happens
+-- what one session gives after these entries, and the sessions afterwards; if it does not exist, nothing happens
 abbrev pub ready_by : ℕ → List Entry → List Seat → Option Seat → Ready
 ready_by p entries seats None = record { entries = []; seats = seats }
 ready_by p entries seats (Some seat) = record {
@@ -80,7 +80,7 @@ ready_by p entries seats (Some seat) = record {
 abbrev pub ready_of : ℕ → List Entry → ℕ → List Seat → Ready
 ready_of p entries number seats = ready_by p entries seats (find (λ (seat : Seat). seat.number == number) seats)
 
--- whether a session is there and holds outputs
+-- whether a session exists and holds outputs
 abbrev pub holds : Option Seat → Bool
 holds None = false
 holds (Some seat) = not (length seat.held == 0)

@@ -1,5 +1,5 @@
-//! The sessions that are there, and their outputs. `specs/Seats.antt` says what callers see of one and what each call does to it,
-//! `specs/Kept.antt` what is kept of it.
+//! The sessions and their outputs. `specs/Seats.antt` says what callers see of a session and what each call does
+//! to it, `specs/Kept.antt` what is kept of it.
 #![tactic(auto)]
 
 ghost use Rattle.std.specs.Prelude.{Some, IfSome, IsNone, None, ℕ, find, not, slice_get, ◌==◌, ◌≡◌, ◌<◌, ◌≤◌, ◌+◌, ◌^◌, ◌++◌, ◌∷◌, [], max, IfOk, OnErr, OnOk, length};
@@ -22,14 +22,14 @@ use serving::{Files, Served, serve};
 use std::alloc::{AllocError, Global};
 use std::marker::Model;
 
-/// A session that is there.
+/// A session that exists.
 pub struct Seat {
     number: u64,
     session: Session,
     queue: Queue,
 }
 
-// By hand: who drops one would prove a derived one again, field by field.
+// By hand: a caller that drops one would otherwise prove the derived one again, field by field.
 impl Drop for Seat {
     fn drop(self) {
         let Seat {
@@ -49,7 +49,7 @@ impl Model for Seat {
 }
 
 impl Seat {
-    /// A session that has just begun, with its greeting, which depends on nothing.
+    /// A session that has just begun, with its greeting, which depends on nothing. Refused only for want of memory.
     pub fn new(alloc: Global, number: u64, host: &[u8]) -> Result<Seat, AllocError>
         ensures { IfOk result (λ seat. seat ≡ new_seat host.now number) }
     {
@@ -76,22 +76,23 @@ impl Seat {
         self.number
     }
 
-    /// What the session sends next; `None` where it was closed.
+    /// What the session sends next; `None` if it was closed.
     pub fn mode(&self) -> Option<Mode>
         ensures { result ≡ mode_of self.now.session.awaits }
     {
         mode_of(&self.session.awaits)
     }
 
-    /// How many octets are held.
+    /// The number of octets held.
     pub fn buffered(&self) -> u64
         ensures { result ≡ buffered self.now.held }
     {
         self.queue.buffered()
     }
 
-    /// Serves a message over a spool that takes changes, and holds its reply. Answers what the session sends next, and how the message
-    /// was served. `moment` is in seconds since 1970. Refused where memory is, and then neither session nor spool changes.
+    /// Serves a message over a spool that takes changes, and holds its reply. Answers what the session sends next, and
+    /// the mark of the message. `moment` is in seconds since 1970. Refused only for want of memory; then neither
+    /// session nor spool changes.
     pub fn serve<S: Files>(
         &mut self,
         alloc: Global,
@@ -119,8 +120,8 @@ impl Seat {
         Ok((mode, mark))
     }
 
-    /// Moves the outputs that depend on `durable` changes at most into the buffer, as this session's entry. Whether the
-    /// session ends with them.
+    /// Moves the outputs that depend on at most `durable` changes into the buffer, as this session's entry. Answers
+    /// whether the session ends with them.
     pub fn give(&mut self, durable: u64, into: &mut ReadyBuf) -> bool
         requires { length into.old < 64 }
         ensures ended { result ≡ (given_of durable into.old self.old).ended }
@@ -137,8 +138,8 @@ impl Seat {
         !self.queue.is_empty()
     }
 
-    /// Tells the session that the service ends, whatever its message says; it is closed then. Refused where memory is, and then
-    /// nothing changes.
+    /// Adds the reply that the service has stopped, whatever the session's message says, and closes the session.
+    /// Refused only for want of memory; then nothing changes.
     pub fn stop(&mut self, alloc: Global) -> Result<(), AllocError>
         requires room { buffered self.old.held < 1_048_576 }
         ensures ok { OnOk result ((host : Octets) (S : Changes) (m : MessageView) (t : ℕ) → self.new ≡ answered_by host S m t Mark.Stopped self.old) }
@@ -153,7 +154,8 @@ impl Seat {
     }
 }
 
-/// Holds a reply after the others, with the greater of what it reads and what the one before it depends on.
+/// Holds a reply after the others. Its dependency is the greater of what it reads and the dependency of the reply
+/// before it.
 fn hold(queue: &mut Queue, octets: Vec<u8>, reads: u64, ends: bool)
     requires room { 1 ≤ queue.old.room }
     requires countable { buffered queue.old.held + length octets.items < 2 ^ 64 }
@@ -164,7 +166,7 @@ fn hold(queue: &mut Queue, octets: Vec<u8>, reads: u64, ends: bool)
     queue.push(octets, dependency, ends);
 }
 
-/// What is read next of a session's stream.
+/// What is read next from a session's stream.
 fn mode_of(awaits: &Awaits) -> Option<Mode>
     ensures { result ≡ mode_of awaits.now }
 {
@@ -175,7 +177,7 @@ fn mode_of(awaits: &Awaits) -> Option<Mode>
     }
 }
 
-/// The place of a session among those that are there; `None` where it isn't.
+/// The place of a session among all that exist; `None` if it does not.
 pub fn position(seats: &[Seat], sid: u64) -> Option<usize>
     ensures some { IfSome result (λ at. (seat : SeatView) × (slice_get seats.now at ≡ Some seat) × (seat.number ≡ sid)) }
     ensures none { IsNone result → find (λ (seat : SeatView). seat.number == sid) seats.now ≡ None }
@@ -188,7 +190,7 @@ pub fn position(seats: &[Seat], sid: u64) -> Option<usize>
     None
 }
 
-/// Goes through the sessions in order, each giving what is ready, and drops those that end.
+/// Lets each session in order give what is ready, and drops those that end.
 pub fn release(seats: &mut Vec<Seat>, durable: u64, into: &mut ReadyBuf)
     requires few { length seats.old.items ≤ 64 }
     requires empty { into.old ≡ [] }
@@ -206,8 +208,8 @@ pub fn release(seats: &mut Vec<Seat>, durable: u64, into: &mut ReadyBuf)
     }
 }
 
-/// One session gives what is ready behind what the buffer holds, and is dropped where it ends; nothing where it isn't there.
-/// Whether outputs of it are still held.
+/// Lets one session give what is ready, after what the buffer holds, and drops the session if it ends. Nothing happens
+/// if it does not exist. Answers whether it still holds outputs.
 pub fn release_of(seats: &mut Vec<Seat>, sid: u64, durable: u64, into: &mut ReadyBuf) -> bool
     requires rising { RiseFrom 0 seats.old.items }
     requires room { length into.old < 64 }

@@ -12,12 +12,12 @@ abbrev pub HaveNone : ℕ → List Batch → Type 0
 HaveNone k [] = Unit {0}
 HaveNone k (batch ∷ batches) = ((i : ℕ) → i < length batch.numbers → k ≢ slice_index batch.numbers i) × HaveNone k batches
 
--- homes that are the same but in blocks of which some batch has an image
+-- homes that differ only in blocks of which some batch has an image
 pub record AgreeBut (batches : List Batch) (old new : List (List ℕ)) : Type 0 where
   pub size : length new ≡ length old
   pub same : (k : ℕ) → HaveNone k batches → slice_index_or new k [] ≡ slice_index_or old k []
 
--- all have lesser numbers, or all greater ones
+-- all have lesser numbers; all have greater ones
 abbrev pub AreBelow : ℕ → List Batch → Type 0
 AreBelow n [] = Unit {0}
 AreBelow n (batch ∷ batches) = (batch.number < n) × AreBelow n batches

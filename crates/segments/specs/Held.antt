@@ -16,12 +16,12 @@ abbrev pub AreHeld : List Held → List ℕ → Type 0
 AreHeld [] image = Unit {0}
 AreHeld (h ∷ held) image = (IsOpenIn h.place image × (batch_in h.place image ≡ h.batch)) × AreHeld held image
 
--- a place is that of one of them
+-- a place is that of one of these segments
 abbrev pub IsAmong : ℕ → List Held → Type 0
 IsAmong s [] = ⊥
 IsAmong s (h ∷ held) = (s ≡ h.place) ⊎ IsAmong s held
 
--- each has a lesser number, or each a greater one
+-- each has a lesser number; each has a greater one
 abbrev pub HaveLess : ℕ → List Held → Type 0
 HaveLess n [] = Unit {0}
 HaveLess n (h ∷ held) = (h.batch.number < n) × HaveLess n held
@@ -42,7 +42,7 @@ pub record AreOpen (held : List Held) (image : List ℕ) : Type 0 where
   pub all : (s : ℕ) → IsOpenIn s image → IsAmong s held
   pub rise : AreRising held
 
--- over a first home the batches that are done lie there, and of the next one so many images
+-- the home consists of a first home, the batches that are done, and this many images of the next batch
 abbrev pub IsHomeOnTheWay : List (List ℕ) → List Held → Batch → ℕ → List ℕ → Type 0
 IsHomeOnTheWay first done next i image =
     home image ≡ laid_over (all_laid_over first (batches_of done)) (take i next.numbers) (take i next.images)
@@ -62,7 +62,7 @@ held_at image places = map (λ s. record { place = s; batch = batch_in s image }
 abbrev pub held_in : List ℕ → List Held
 held_in image = sorted_held (held_at image (open_segments image))
 
--- a block is the home of one of which one of these has an image
+-- a block is the home of a logical block of which one of these segments has an image
 abbrev pub IsHomeOfHeld : ℕ → List Held → ℕ → Type 0
 IsHomeOfHeld segments [] k = ⊥
 IsHomeOfHeld segments (h ∷ held) k =
@@ -73,6 +73,6 @@ pub record IsWrittenIn (s : ℕ) (descriptor : List ℕ) (images : List (List �
   pub descriptor_is : block (descriptor_place s) image ≡ descriptor
   pub images_are : (i : ℕ) → i < length images → block (image_place s i) image ≡ slice_index_or images i []
 
--- the batch that a descriptor block and images say
+-- the batch that a descriptor block and images describe
 abbrev pub batch_of : List ℕ → List (List ℕ) → Batch
 batch_of descriptor images = record { number = number_at 0 8 descriptor; last = number_at 8 8 descriptor; numbers = listed descriptor; images = images }

@@ -9,16 +9,16 @@ ghost use Rattle.model.specs.Volume.{Batch, IsDescriptor, IsSuperblock, StandsFo
 ghost use Rattle.segments.specs.Held.{AreOpen, HaveLess, Held, IsHomeOfHeld, IsHomeOnTheWay, IsWrittenIn, batch_of, batches_of, held_in};
 ghost use Rattle.segments.specs.Images.{IsCarried, IsHomeOfOpen, IsInside, IsOpenIn, SameBut, open_batches};
 
-/// What an image stands for has as many blocks as its superblock says, of 4,096 octets each; and the segments that are
-/// open in it are found by their gates, sorted by number.
+/// What an image stands for has as many blocks as its superblock says, of 4,096 octets each. The segments that are open
+/// in the image are found by their gates and sorted by number.
 pub fn an_image_is_read()
     ensures count { (image label : List ℕ) (blocks : List (List ℕ)) → StandsFor image label blocks → length blocks ≡ home_size image }
     ensures whole { (image label : List ℕ) (blocks : List (List ℕ)) → StandsFor image label blocks → All (λ block. length block ≡ 4096) blocks }
     ensures open { (image label : List ℕ) (blocks : List (List ℕ)) → StandsFor image label blocks → AreOpen (held_in image) image }
 {}
 
-/// Two open segments of a volume have different batch numbers. That, a valid superblock, and valid descriptors of the open
-/// segments are all that is asked of a volume.
+/// Two open segments of a volume have different batch numbers. A volume needs only this, a valid superblock, and valid
+/// descriptors of its open segments.
 pub fn a_volume_is_judged_by_its_segments()
     ensures apart { (image label : List ℕ) (blocks : List (List ℕ)) (s t : ℕ) → StandsFor image label blocks → IsOpenIn s image → IsOpenIn t image → s ≢ t
         → (batch_in s image).number ≢ (batch_in t image).number }
@@ -26,7 +26,7 @@ pub fn a_volume_is_judged_by_its_segments()
         → ((s t : ℕ) → IsOpenIn s image → IsOpenIn t image → s ≢ t → (batch_in s image).number ≢ (batch_in t image).number) → StandsFor image (label_of image) (logical_blocks image) }
 {}
 
-/// A closed segment isn't read. So a crash while its descriptor and images are written leaves what stood there before.
+/// A closed segment is not read. So a crash while its descriptor and images are written leaves the volume as it was.
 pub fn a_closed_segment_is_not_read()
     ensures stands { (old new label : List ℕ) (blocks : List (List ℕ)) (s : ℕ) → StandsFor old label blocks → is_open s old ≡ false → s < segment_count old
         → SameBut (IsInside s) old new → StandsFor new label blocks }
@@ -40,8 +40,8 @@ pub fn a_segment_holds_what_was_written()
         → batch_in s image ≡ batch_of descriptor images }
 {}
 
-/// The batch with the greatest number is laid over last, whatever its place. So a crash while its gate is opened leaves the
-/// blocks before the batch, or with it.
+/// The batch with the greatest number is laid over last, wherever its segment is. So a crash while its gate is opened
+/// leaves the blocks without the batch, or with it.
 pub fn an_opened_gate_lays_its_batch_last()
     ensures stands { (old new label : List ℕ) (blocks : List (List ℕ)) (s : ℕ) → StandsFor old label blocks → is_open s old ≡ false → s < segment_count old
         → IsDescriptor (home_size old) (block (descriptor_place s) old) → ((t : ℕ) → IsOpenIn t old → (batch_in t old).number < (batch_in s old).number)
@@ -53,15 +53,15 @@ pub fn an_opened_gate_lays_its_batch_last()
         → StandsFor new label (laid_over blocks (batch_in s old).numbers (batch_in s old).images) × AreOpen (held ++ record { place = s; batch = batch_in s old } ∷ []) new }
 {}
 
-/// Home blocks of which an open segment has an image don't matter. So a crash while images are carried home leaves what
-/// stood there before.
+/// Home blocks of which an open segment has an image do not matter. So a crash while images are carried home leaves the
+/// volume as it was.
 pub fn torn_homes_are_laid_over()
     ensures stands { (old new label : List ℕ) (blocks : List (List ℕ)) → StandsFor old label blocks → SameBut (IsHomeOfOpen old) old new → StandsFor new label blocks }
     ensures open { (old new label : List ℕ) (blocks : List (List ℕ)) (held : List Held) → StandsFor old label blocks → SameBut (IsHomeOfOpen old) old new → AreOpen held old → AreOpen held new }
     ensures held { (old new label : List ℕ) (blocks : List (List ℕ)) (held : List Held) → StandsFor old label blocks → AreOpen held old → SameBut (IsHomeOfHeld (segment_count old) held) old new → StandsFor new label blocks }
 {}
 
-/// A home write carries one image more of the batch that is next, and after its last image the batch is done.
+/// A home write carries one more image of the next batch. After its last image the batch is done.
 pub fn a_home_write_carries_one_image()
     ensures one { (first : List (List ℕ)) (done : List Held) (next : Batch) (i : ℕ) (image : List ℕ) → i < length next.numbers → i < length next.images
         → length (slice_index_or next.images i []) ≡ 4096 → slice_index next.numbers i < home_size image → 4096 * home_place (segment_count image) (home_size image) ≤ length image
@@ -71,13 +71,13 @@ pub fn a_home_write_carries_one_image()
         → IsHomeOnTheWay first done h.batch (length h.batch.numbers) image → home image ≡ all_laid_over first (batches_of (done ++ h ∷ [])) }
 {}
 
-/// Once the home is what the open segments say, it stays so however many of the first are closed.
+/// Once the home is what the open segments say, it stays so however many of the first ones are closed.
 pub fn what_lies_at_home_is_carried()
     ensures { (image : List ℕ) (first : List (List ℕ)) → home image ≡ all_laid_over first (open_batches image) → IsCarried image }
 {}
 
-/// Then the segment with the least number may be closed, and the next one after it. So a crash while its gate is closed
-/// leaves what stood there before.
+/// Then the segment with the least number may be closed, and after it the next one. So a crash while a gate is closed
+/// leaves the volume as it was.
 pub fn the_oldest_gate_may_be_closed()
     ensures stands { (old new label : List ℕ) (blocks : List (List ℕ)) (s : ℕ) → StandsFor old label blocks → IsOpenIn s old
         → ((t : ℕ) → IsOpenIn t old → t ≢ s → (batch_in s old).number < (batch_in t old).number) → IsCarried old

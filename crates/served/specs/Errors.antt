@@ -3,7 +3,7 @@ use Rattle.kernel.specs.Kernel as kernel
 use Rattle.served.specs.declared.errors.ArriveError.{ArriveError}
 use Rattle.served.specs.declared.errors.ArriveError.TheVariants.{Memory, NoSession}
 
--- arrive: NoSession; its test gives no other. The list is whole, so a new refusal has to be given its name here.
+-- arrive: NoSession; its test gives no other. The list is complete, so a new refusal needs a name here.
 abbrev pub of_arrive : Refusal → ArriveError
 of_arrive kernel.NoSession = NoSession
 of_arrive kernel.Halted = Memory

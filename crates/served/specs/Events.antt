@@ -27,7 +27,7 @@ abbrev pub arrives : ServedView → ℕ → Octets → ServedView
 arrives served number octets =
     record served { sessions = with_sent served.sessions number (record (sent_at served.sessions number) { arrived = (sent_at served.sessions number).arrived ++ octets }) }
 
--- a session leaves; one that is not there does not
+-- a session leaves; nothing happens if it does not exist
 abbrev pub leaves : ServedView → ℕ → ServedView
 leaves served number =
     record served {
@@ -59,7 +59,7 @@ releases_of served number =
       ready = (ready_of served.kernel.durable [] number served.kernel.seats).entries;
     }
 
--- the kernel alone changes
+-- only the kernel changes
 abbrev pub with_kernel : ServedView → KernelView → ServedView
 with_kernel served kernel = record served { kernel = kernel }
 
@@ -79,12 +79,12 @@ pub record Makes (old new : ServedView) (change : Change) (serial : ℕ) : Type 
   pub sessions : new.sessions ≡ old.sessions
   pub ready : new.ready ≡ old.ready
 
--- octets arrive where the session is there and was not closed
+-- octets arrive if the session exists and was not closed
 abbrev pub arrive_refusal : KernelView → ℕ → Option Refusal
 arrive_refusal kernel number = first_failing ((is_none (mode_at kernel number), NoSession) ∷ [])
 
--- Exec: the next message of a session that is there and not closed is served, or refused and still its next one; where none
--- has come whole, nothing happens
+-- Exec: the next message of a session that exists and is not closed is served, or refused and still its next one; if no
+-- message has arrived whole, nothing happens
 abbrev pub DidExec : ServedView → ℕ → ℕ → Option Mode → Option (Message × Octets) → Result (Option (Option Mode × Mark)) ExecError → ServedView → Type 0
 DidExec old number moment None found result new = (result ≡ Err exec.NoSession) × (new ≡ old)
 DidExec old number moment (Some mode) None result new = MatchResult result (λ answered. (answered ≡ None) × (new ≡ old)) (λ e. (e ≡ exec.Memory) × (new ≡ old))

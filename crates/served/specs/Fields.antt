@@ -1,4 +1,4 @@
--- What the fields of the code stand for, and what they keep.
+-- What the fields of the code mean, and what they keep.
 use Rattle.std.specs.Option.{IsSome}
 use Rattle.std.specs.Prelude.{◌≡◌, ◌+◌, ◌≤◌, ◌++◌, ◌==◌, ℕ, List, [], ◌∷◌, if◌then◌else◌, length, map, Option, Some, vec_len, vec_capacity}
 use Rattle.kernel.specs.Kernel.{seat_of}
@@ -31,7 +31,7 @@ sents peers = map sent_of peers
 abbrev pub inputs : List Peer → List Input
 inputs peers = map (λ (peer : Peer). peer.input) peers
 
--- the input of each session that is there stands for what waits at the plain server
+-- the input of each session that exists stands for what waits at the plain server
 abbrev pub InputsStand : (ℕ → Connection Session) → (ℕ → Option Input) → (ℕ → Option Seat) → Type 0
 InputsStand connections inputs seats =
     (number : ℕ) (input : Input) (seat : Seat) (mode : Mode) → inputs number ≡ Some input → seats number ≡ Some seat
@@ -42,7 +42,7 @@ pub record IsSound (served : ServedView) (its_inputs : List Input) : Type 0 wher
   pub many : length its_inputs ≡ length served.sessions
   pub stand : InputsStand (account served).server.connections (numbered its_inputs) (seat_of served.kernel)
 
--- the input of this number is now so
+-- the input at this number changes in this way
 abbrev pub Becomes : List Input → List Input → ℕ → (Input → Input → Type 0) → Type 0
 Becomes old new number R = (before : Input) → numbered old number ≡ Some before → (after : Input) × (new ≡ with_numbered old number after) × R before after
 
@@ -56,7 +56,7 @@ abbrev pub AreKnown : List Sent → List Given → Type 0
 AreKnown sessions [] = Unit {0}
 AreKnown sessions (entry ∷ entries) = IsSome (numbered sessions entry.0) × AreKnown sessions entries
 
--- a peer has room for so many octets more that are released to it
+-- a peer has room for this many more octets that are released to it
 abbrev pub HasRoom : List Peer → ℕ → ℕ → Type 0
 HasRoom peers number needed = (peer : Peer) → numbered peers number ≡ Some peer → vec_len peer.released + needed ≤ vec_capacity peer.released
 

@@ -1,4 +1,5 @@
--- The kernel beside the plain server: what each session sent and was sent since the opening, the trace, and what ties the two.
+-- The kernel together with the plain server: what each session sent and was sent since the opening, the trace, and what
+-- ties the two.
 use Rattle.std.specs.Prelude.{◌≡◌, ℕ, zero, suc, ◌≤◌, Bool, false, List, [], ◌∷◌, ◌++◌, length, take, map, slice_get, slice_set, Option, Some, None, is_none, unwrap_or}
 use Rattle.std.specs.List.{concat}
 use Rattle.model.specs.Stream.{Octets}
@@ -19,7 +20,7 @@ use Rattle.synchrony.specs.Synchrony.{IsReleased}
 abbrev pub Trace : Type 0
 Trace = List (Entry Change Mark)
 
--- of a session: the octets that arrived, those that were released to it, and whether it left
+-- for a session: the octets that arrived, those that were released to it, and whether it left
 pub record Sent : Type 0 where
   pub arrived : Octets
   pub released : Octets
@@ -29,7 +30,7 @@ pub record ServedView : Type 0 where
   pub kernel : KernelView
   -- the number of changes at the opening
   pub first : ℕ
-  -- of each session that ever joined, from number 1 on
+  -- one entry for each session that ever joined, from number 1 on
   pub sessions : List Sent
   pub trace : Trace
   -- what the last release handed out
@@ -37,7 +38,7 @@ pub record ServedView : Type 0 where
 
 -- ---- look-ups
 
--- of a session that never joined nothing arrived, and nothing was released to it
+-- for a session that never joined, nothing arrived and nothing was released
 abbrev pub nobody : Sent
 nobody = record { arrived = []; released = []; left = false }
 
@@ -77,18 +78,18 @@ account served = account_of (service served.kernel.host) (first_spool served) (a
 abbrev pub next_of : ServedView → ℕ → Option (Message × Octets)
 next_of served number = taken (service served.kernel.host) (account served).server number
 
--- ---- beside the plain server
+-- ---- together with the plain server
 
 abbrev pub without_ends : List Held → List Output
 without_ends held = map (λ (h : Held). record { octets = h.octets; dependency = h.dependency }) held
 
--- the last output held, and no other, ends the session, where it is closed
+-- only the last output held ends the session, and only if it is closed
 abbrev pub EndsLast : Bool → List Held → Type 0
 EndsLast closed [] = closed ≡ false
 EndsLast closed (last ∷ []) = last.ends ≡ closed
 EndsLast closed (held ∷ next ∷ rest) = (held.ends ≡ false) × EndsLast closed (next ∷ rest)
 
--- a session that is there stands as the plain server's, and holds what of its outputs is not released
+-- a session that exists agrees with the plain server's, and holds what is not yet released of its outputs
 pub record IsPresent (seat : Seat) (sent : Sent) (connection : Connection Session) (outputs : List Output) : Type 0 where
   pub stays : sent.left ≡ false
   pub session : seat.session ≡ connection.session
@@ -96,7 +97,7 @@ pub record IsPresent (seat : Seat) (sent : Sent) (connection : Connection Sessio
   pub read : last_dependency seat.given seat.held ≡ greatest outputs
   pub ends : EndsLast (is_none (mode_of seat.session.awaits)) seat.held
 
--- one that ended is closed, and all its outputs are released
+-- a session that ended is closed, and all its outputs are released
 pub record HasEnded (sent : Sent) (connection : Connection Session) (outputs : List Output) : Type 0 where
   pub all : sent.released ≡ octets_of outputs
   pub closed : mode_of connection.session.awaits ≡ None
@@ -105,14 +106,14 @@ abbrev pub IsThere : Option Seat → Sent → Connection Session → List Output
 IsThere None sent connection outputs = sent.left ≡ false → HasEnded sent connection outputs
 IsThere (Some seat) sent connection outputs = IsPresent seat sent connection outputs
 
--- a session that never joined is not there, and the plain server has said no more than its greeting
+-- a session that never joined does not exist, and the plain server has sent it only the greeting
 pub record IsUnknown (host : Octets) (seat : Option Seat) (connection : Connection Session) (outputs : List Output) : Type 0 where
   pub nowhere : seat ≡ None
   pub fresh : connection.session ≡ new_session
   pub silent : connection.pending ≡ []
   pub greeted : outputs ≡ record { octets = greeting host; dependency = 0 } ∷ []
 
--- what was released stays released, also to a session that left
+-- what was released stays released, even to a session that left
 pub record IsKnown (durable : ℕ) (seat : Option Seat) (sent : Sent) (connection : Connection Session) (outputs : List Output) : Type 0 where
   pub released : IsReleased durable sent.released outputs
   pub there : IsThere seat sent connection outputs
@@ -121,7 +122,7 @@ abbrev pub IsSession : Octets → ℕ → Option Sent → Option Seat → Connec
 IsSession host durable None seat connection outputs = IsUnknown host seat connection outputs
 IsSession host durable (Some sent) seat connection outputs = IsKnown durable seat sent connection outputs
 
--- The kernel has the plain server's spool, and each session stands as there.
+-- The kernel has the plain server's spool, and each session agrees with the plain server's.
 pub record IsServed (served : ServedView) : Type 0 where
   pub numbers : length served.sessions ≡ served.kernel.joined
   pub opening : served.first ≤ served.kernel.durable
@@ -131,21 +132,21 @@ pub record IsServed (served : ServedView) : Type 0 where
   pub finds : EachFindsMessage (service served.kernel.host) (opened (service served.kernel.host) (first_spool served) (arrived_at served)) served.trace
   pub each : (number : ℕ) → IsSession served.kernel.host served.kernel.durable (session_at served.sessions number) (seat_of served.kernel number) ((account served).server.connections number) ((account served).outputs number)
 
--- ---- the same in the plain server's words
+-- ---- the same in terms of the plain server
 
 -- the plain server after the trace
 abbrev pub plain : ServedView → Server Session Change
 plain served = sync (service served.kernel.host) (first_spool served) (arrived_at served) served.trace
 
--- all that a session is to be sent
+-- all that a session is sent in the end
 abbrev pub replies_to : ServedView → ℕ → Octets
 replies_to served number = concat ((plain served).connections number).replies
 
 abbrev pub octets_of_held : List Held → Octets
 octets_of_held held = concat (map (λ (h : Held). h.octets) held)
 
--- The kernel has the plain server's spool. Of a session that is there, what was released, followed by what is held, are its
--- replies, and of one that ended all its replies were released.
+-- The kernel has the plain server's spool. For a session that exists, what was released followed by what is held gives its
+-- replies. For one that ended, all its replies were released.
 pub record FollowsPlain (served : ServedView) : Type 0 where
   pub spool : served.kernel.spool ≡ (plain served).spool
   pub there : (number : ℕ) (seat : Seat) → seat_of served.kernel number ≡ Some seat → released_at served number ++ octets_of_held seat.held ≡ replies_to served number

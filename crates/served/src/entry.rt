@@ -1,10 +1,12 @@
+//! The entries of the trace.
+
 use model::{Change, Mark};
 use std::marker::Model;
 
-/// What an entry of the trace says.
+/// What happened, as an entry of the trace records it.
 #[derive(Drop)]
 pub enum Happened {
-    /// A session's message was served, at a moment, so.
+    /// A session's message was served: the session, the moment, and the mark.
     Command(u64, u64, Mark),
     /// The operator made a change.
     Admin(Change),
@@ -32,14 +34,14 @@ impl Entry {
     ghost use Rattle.served.specs.Fields.{entry_of};
     ghost use Rattle.std.specs.Prelude.{◌≡◌};
 
-    /// The entry that says so.
+    /// The entry that records this.
     pub fn new(happened: Happened) -> Entry
         ensures { result ≡ entry_of happened }
     {
         Entry { happened }
     }
 
-    /// What it says.
+    /// What the entry records.
     pub fn happened(&self) -> &Happened
         ensures { entry_of result.now ≡ self.now }
     {

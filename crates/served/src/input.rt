@@ -1,3 +1,5 @@
+//! The octets that a session sent and that were not served yet.
+
 ghost use Rattle.std.specs.Prelude.{◌≡◌, ◌++◌, [], List, ℕ, Some, None, IfOk, OnOk, OnErr};
 ghost use Rattle.model.specs.declared.message.Mode.{Mode as ItsMode};
 ghost use Rattle.served.specs.Input.{Found, MayAsk, Waits};
@@ -6,11 +8,11 @@ use framing::Reader;
 use model::{Message, Mode};
 use std::alloc::{AllocError, Global};
 
-/// What a session sent and was not served yet.
+/// What a session sent that was not served yet.
 #[derive(Drop)]
 pub struct Input {
     pub(crate) reader: Reader,
-    /// The next message, where it was found and is not served.
+    /// The next message, if it was found and is not served yet.
     pub(crate) message: Option<Message>,
 }
 
@@ -24,7 +26,7 @@ impl Input {
         }
     }
 
-    /// Takes further octets. An `Err` takes nothing.
+    /// Takes further octets. Refused only for want of memory, and then nothing is taken.
     pub(crate) fn feed(&mut self, piece: &[u8]) -> Result<(), AllocError>
         ensures ok { OnOk result ((mode : ItsMode) (stream : List ℕ) → Waits self.old mode stream → Waits self.new mode (stream ++ piece.now)) }
         ensures err { OnErr result (self.new ≡ self.old) }
@@ -32,7 +34,8 @@ impl Input {
         self.reader.feed(piece)
     }
 
-    /// Whether the next message has come whole; it is held then, until it was served. An `Err` changes nothing.
+    /// Whether the next message has arrived whole. If so, it is held until it is served. Refused only for want of
+    /// memory, and then nothing changes.
     pub(crate) fn find(&mut self, mode: Mode) -> Result<bool, AllocError>
         requires { MayAsk self.old mode }
         ensures found { IfOk result (λ found. (stream : List ℕ) → Waits self.old mode stream → Found found self.new mode stream) }

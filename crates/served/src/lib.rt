@@ -1,5 +1,6 @@
-//! The kernel beside the plain server: what each session sent and was sent since the opening, and the trace of what was
-//! served. `specs/Served.antt` says what callers see and what ties the two, `specs/Events.antt` what each call does.
+//! The kernel together with the plain server: what each session sent and was sent since the opening, and the trace of
+//! what was served. `specs/Served.antt` says what callers see and what ties the two, `specs/Events.antt` what each call
+//! does.
 #![tactic(auto)]
 
 ghost use Rattle.std.specs.Prelude.{◌≡◌, ◌≢◌, ◌⊎◌, ◌↔◌, ◌+◌, ◌*◌, ◌≤◌, ◌<◌, [], Option, Some, None, Ok, IsTrue, IsSome, IsNone, IfOk, IfSome, OnOk, OnErr, length, true, false, is_none};
@@ -38,13 +39,13 @@ use std::marker::Model;
 pub struct Served {
     kernel: Kernel,
     first: u64,
-    // Session n has place n - 1.
+    // Session n is at place n - 1.
     peers: Vec<Peer>,
     trace: Vec<Entry>,
     ready: ReadyBuf,
 }
 
-// By hand: who drops one would prove a derived one again, field by field.
+// By hand: a caller that drops one would otherwise prove the derived one again, field by field.
 impl Drop for Served {
     fn drop(self) {
         let Served {
@@ -70,7 +71,8 @@ impl Model for Served {
 }
 
 impl Served {
-    /// A kernel that was just opened: all its changes are durable, and no session joined. Refused for memory alone.
+    /// Takes a kernel that was just opened: all its changes are durable, and no session joined. Refused only for want
+    /// of memory.
     pub fn new(alloc: Global, kernel: Kernel) -> Result<Served, AllocError>
         requires durable { kernel.durable ≡ length kernel.spool }
         requires joined { kernel.joined ≡ 0 }
@@ -87,7 +89,7 @@ impl Served {
         })
     }
 
-    /// What is kept: the kernel stands beside the plain server, and keeps what its lock keeps.
+    /// States what is kept, and does nothing: the kernel agrees with the plain server, and keeps what its lock keeps.
     #[tactic(auto, using(crate::proofs::Plain::follows_plain))]
     pub fn kept(&self)
         ensures served { IsServed self.now }
@@ -110,7 +112,7 @@ impl Served {
         Ok(number)
     }
 
-    /// A session leaves; nothing where it isn't there.
+    /// A session leaves; nothing happens if it does not exist.
     pub fn leave(&mut self, number: u64)
         ensures { self.new ≡ leaves self.old number }
     {
@@ -121,8 +123,8 @@ impl Served {
         self.kernel.leave(number);
     }
 
-    /// Octets arrive for a session. Refused as `NoSession` (E10) where it isn't there or was closed, or `Memory` (E2), in that
-    /// order; a refusal changes nothing.
+    /// Octets arrive for a session. Refused as `NoSession` (E10) if it does not exist or was closed, or `Memory` (E2),
+    /// tested in that order; a refusal changes nothing.
     pub fn arrive(&mut self, number: u64, octets: &[u8]) -> Result<(), ArriveError>
         ensures { Tested of_arrive ArriveError.Memory (arrive_refusal self.old.kernel number) self.old self.new result (λ done. self.new ≡ arrives self.old number octets.now) }
     {
@@ -135,9 +137,9 @@ impl Served {
         Ok(())
     }
 
-    /// A session's next whole message is served at a moment, in seconds since 1970; `None` where none has come whole. Refused as
-    /// by the kernel, but `Memory` may come before all but `NoSession`; a refusal changes nothing, and the message is the
-    /// session's next one still.
+    /// Serves a session's next whole message at a moment, in seconds since 1970; `None` if no message has arrived
+    /// whole. Refused as by the kernel, but `Memory` may come before any refusal except `NoSession`. A refusal changes
+    /// nothing, and the message is still the session's next one.
     pub fn exec(
         &mut self,
         alloc: Global,
@@ -169,8 +171,8 @@ impl Served {
         Ok(Some(answered))
     }
 
-    /// The operator makes a group, and is told its serial. Refused as by the kernel, in the same order, but `Memory` may come at
-    /// any growth, which is never before `Halted` and `LaterDirty`; a refusal changes nothing.
+    /// Makes a group for the operator, and answers its serial. Refused as by the kernel, in the same order, but
+    /// `Memory` may come at any growth, which is never before `Halted` and `LaterDirty`; a refusal changes nothing.
     pub fn admin(
         &mut self,
         alloc: Global,
@@ -198,9 +200,9 @@ impl Served {
         Ok(serial)
     }
 
-    /// The operator takes the articles of a group up to a number out of it, and is told the serial of that change. Refused as by
-    /// the kernel, in the same order, but `Memory` may come at any growth, which is never before `Halted` and `LaterDirty`; a
-    /// refusal changes nothing.
+    /// Removes the articles of a group up to a number for the operator, and answers the serial of that change. Refused
+    /// as by the kernel, in the same order, but `Memory` may come at any growth, which is never before `Halted` and
+    /// `LaterDirty`; a refusal changes nothing.
     pub fn expire(
         &mut self,
         alloc: Global,
@@ -222,7 +224,8 @@ impl Served {
         Ok(serial)
     }
 
-    /// What is ready is handed out, and counts as released: `ready` tells it. Refused for memory alone, with nothing changed.
+    /// Hands out what is ready, which then counts as released: `ready` returns it. Refused only for want of memory,
+    /// with nothing changed.
     pub fn release(&mut self) -> Result<(), AllocError>
         ensures ok { OnOk result (self.new ≡ releases self.old) }
         ensures err { OnErr result (self.new ≡ self.old) }
@@ -234,8 +237,8 @@ impl Served {
         Ok(())
     }
 
-    /// What is ready of one session is handed out, and counts as released: `ready` tells it; nothing where the session isn't
-    /// there. Refused for memory alone, with nothing changed.
+    /// Hands out what is ready of one session, which then counts as released: `ready` returns it. Nothing is handed out
+    /// if the session does not exist. Refused only for want of memory, with nothing changed.
     pub fn release_of(&mut self, number: u64) -> Result<(), AllocError>
         ensures ok { OnOk result (self.new ≡ releases_of self.old number) }
         ensures err { OnErr result (self.new ≡ self.old) }
@@ -256,21 +259,21 @@ impl Served {
         self.first
     }
 
-    /// What was served, in order.
+    /// The entries that were served, in order.
     pub fn trace(&self) -> &[Entry]
         ensures { result.now ≡ self.now.trace }
     {
         self.trace.as_slice()
     }
 
-    /// The octets that arrived for a session; none for one that never joined.
+    /// The octets that arrived for a session; empty for one that never joined.
     pub fn arrived(&self, number: u64) -> &[u8]
         ensures { result.now ≡ arrived_at self.now number }
     {
         peer::arrived(&self.peers, number)
     }
 
-    /// The octets that were released to a session; none to one that never joined.
+    /// The octets that were released to a session; empty for one that never joined.
     pub fn released(&self, number: u64) -> &[u8]
         ensures { result.now ≡ released_at self.now number }
     {
@@ -284,21 +287,21 @@ impl Served {
         &self.ready
     }
 
-    /// How many changes are durable.
+    /// The number of durable changes.
     pub fn durable(&self) -> u64
         ensures { result ≡ self.now.kernel.durable }
     {
         self.kernel.durable()
     }
 
-    /// What is accepted.
+    /// The accepted changes.
     pub fn spool(&self) -> &Spool
         ensures { result.now.changes ≡ self.now.kernel.spool }
     {
         self.kernel.spool()
     }
 
-    /// The kernel's dirty blocks, as the batch in flight; `None` exactly where the kernel has none.
+    /// Takes the kernel's dirty blocks as the batch in flight; `None` exactly if the kernel has none.
     pub fn take_batch(&mut self, into: &mut BatchBuf) -> Option<Ticket>
         ensures when { IsSome result ↔ IsTrue (has_batch self.old.kernel) }
         ensures nothing { IsNone result → (self.new ≡ self.old) × (into.new ≡ into.old) }
@@ -309,8 +312,8 @@ impl Served {
         self.kernel.take_batch(into)
     }
 
-    /// The batch in flight is on disk: its changes are durable. `Stale` (E13) exactly where the ticket isn't the batch in
-    /// flight or the kernel is halted, and then nothing changes.
+    /// Notes that the batch in flight is on disk: its changes are durable. `Stale` (E13) exactly if the ticket is not
+    /// that of the batch in flight or the kernel is halted; then nothing changes.
     pub fn committed(&mut self, ticket: Ticket) -> Result<(), Stale>
         ensures ok { IfOk result (λ done. (self.old.kernel.in_flight ≡ Some ticket.last) × (self.old.kernel.halted ≡ false) × (self.new ≡ with_kernel self.old (made_durable self.old.kernel ticket.last))) }
         ensures stale { OnErr result (((self.old.kernel.in_flight ≢ Some ticket.last) ⊎ (self.old.kernel.halted ≡ true)) × (self.new ≡ self.old)) }
@@ -345,7 +348,7 @@ fn group_entry(
     })))
 }
 
-/// The entry of the articles that the operator takes out of a group.
+/// The entry for the articles that the operator removes from a group.
 fn expiry_entry(alloc: Global, name: &GroupName, number: u32) -> Result<Entry, AllocError>
     ensures { IfOk result (λ entry. entry ≡ Admin (Expire name.now number)) }
 {

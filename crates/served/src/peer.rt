@@ -37,7 +37,7 @@ impl Peer {
         }
     }
 
-    /// Takes further octets. An `Err` leaves what was sent as it was.
+    /// Takes further octets. Refused only for want of memory; then what was sent is as it was.
     fn hear(&mut self, octets: &[u8]) -> Result<(), AllocError>
         ensures sent { OnOk result (sent_of self.new ≡ record { arrived = self.old.arrived.items ++ octets.now; released = self.old.released.items; left = self.old.left }) }
         ensures input { OnOk result ((mode : ItsMode) (stream : List ℕ) → Waits self.old.input mode stream → Waits self.new.input mode (stream ++ octets.now)) }
@@ -50,7 +50,7 @@ impl Peer {
     }
 }
 
-/// The session left.
+/// Notes that the session left.
 pub(crate) fn leave(peers: &mut Vec<Peer>, number: u64)
     requires some { 1 ≤ number }
     requires within { number ≤ length peers.old.items }
@@ -60,7 +60,7 @@ pub(crate) fn leave(peers: &mut Vec<Peer>, number: u64)
     peers[(number - 1) as usize].left = true;
 }
 
-/// Octets arrive for the session.
+/// Takes octets that arrive for the session.
 pub(crate) fn hear(peers: &mut Vec<Peer>, number: u64, octets: &[u8]) -> Result<(), AllocError>
     requires some { 1 ≤ number }
     requires within { number ≤ length peers.old.items }
@@ -72,7 +72,7 @@ pub(crate) fn hear(peers: &mut Vec<Peer>, number: u64, octets: &[u8]) -> Result<
     peers[(number - 1) as usize].hear(octets)
 }
 
-/// Whether the session's next message has come whole.
+/// Whether the session's next message has arrived whole.
 pub(crate) fn find(peers: &mut Vec<Peer>, number: u64, mode: Mode) -> Result<bool, AllocError>
     requires some { 1 ≤ number }
     requires within { number ≤ length peers.old.items }
@@ -84,7 +84,7 @@ pub(crate) fn find(peers: &mut Vec<Peer>, number: u64, mode: Mode) -> Result<boo
     peers[(number - 1) as usize].input.find(mode)
 }
 
-/// The session's next message, where it was found.
+/// The session's next message, if it was found.
 pub(crate) fn found(peers: &Vec<Peer>, number: u64) -> Option<&Message>
     requires some { 1 ≤ number }
     requires within { number ≤ length peers.now.items }
@@ -93,7 +93,7 @@ pub(crate) fn found(peers: &Vec<Peer>, number: u64) -> Option<&Message>
     peers[(number - 1) as usize].input.message.as_ref()
 }
 
-/// The session's next message was served.
+/// Notes that the session's next message was served.
 pub(crate) fn forget(peers: &mut Vec<Peer>, number: u64)
     requires some { 1 ≤ number }
     requires within { number ≤ length peers.old.items }
@@ -103,7 +103,7 @@ pub(crate) fn forget(peers: &mut Vec<Peer>, number: u64)
     peers[(number - 1) as usize].input.message = None;
 }
 
-/// Room for what one release hands out, at each session that is there.
+/// Makes room for what one release hands out, for each session that exists.
 pub(crate) fn make_room(kernel: &Kernel, peers: &mut Vec<Peer>) -> Result<(), AllocError>
     requires { (k : ℕ) (seat : Seat) → slice_get kernel.now.seats k ≡ Some seat → (1 ≤ seat.number) × (seat.number ≤ length peers.old.items) }
     ensures sent { sents peers.new.items ≡ sents peers.old.items }
@@ -120,7 +120,7 @@ pub(crate) fn make_room(kernel: &Kernel, peers: &mut Vec<Peer>) -> Result<(), Al
     Ok(())
 }
 
-/// Room for what one release hands out, at this session.
+/// Makes room for what one release hands out, for this session.
 fn reserve(peers: &mut Vec<Peer>, number: u64) -> Result<(), AllocError>
     requires some { 1 ≤ number }
     requires within { number ≤ length peers.old.items }
@@ -134,7 +134,7 @@ fn reserve(peers: &mut Vec<Peer>, number: u64) -> Result<(), AllocError>
         .reserve(RELEASE_OCTETS)
 }
 
-/// What was handed out counts as released, each entry's octets to its session.
+/// Counts what was handed out as released, each entry's octets to its session.
 pub(crate) fn file(peers: &mut Vec<Peer>, ready: &ReadyBuf)
     requires known { AreKnown (sents peers.old.items) ready.now }
     requires room { HaveRoom peers.old.items (λ number. length (given_in number ready.now)) }
@@ -147,7 +147,7 @@ pub(crate) fn file(peers: &mut Vec<Peer>, ready: &ReadyBuf)
     }
 }
 
-/// These octets count as released to this session.
+/// Counts these octets as released to this session.
 fn file_one(peers: &mut Vec<Peer>, number: u64, octets: &[u8])
     requires some { 1 ≤ number }
     requires within { number ≤ length peers.old.items }
@@ -161,7 +161,7 @@ fn file_one(peers: &mut Vec<Peer>, number: u64, octets: &[u8])
         .extend_from_slice(octets);
 }
 
-/// What arrived of this session.
+/// The octets that arrived for this session.
 pub(crate) fn arrived(peers: &Vec<Peer>, number: u64) -> &[u8]
     ensures { result.now ≡ (sent_at (sents peers.now.items) number).arrived }
 {
@@ -174,7 +174,7 @@ pub(crate) fn arrived(peers: &Vec<Peer>, number: u64) -> &[u8]
     peers[(number - 1) as usize].arrived.as_slice()
 }
 
-/// What was released of this session.
+/// The octets that were released to this session.
 pub(crate) fn released(peers: &Vec<Peer>, number: u64) -> &[u8]
     ensures { result.now ≡ (sent_at (sents peers.now.items) number).released }
 {

@@ -1,5 +1,5 @@
-//! The callers whose sessions are closed and whose sockets may still hold octets that nobody has read: a close before those are
-//! read could take the last reply back. One thread reads them for a while, so that no session's thread waits for them.
+//! The callers whose sessions are closed and whose sockets may still hold unread octets: a close before these are read
+//! could discard the last reply. One thread reads them for a while, so that no session's thread waits for them.
 
 use crossbeam_channel::{Receiver, Sender, TrySendError};
 use releasing::Closing;
@@ -9,16 +9,16 @@ use std::net::TcpStream;
 use std::sync::{Arc, Wait};
 use std::time::{Clock, Duration, Instant};
 
-/// So many callers may be on their way out. The socket of a further one is closed after what has come of it was read.
+/// The most callers that may be leaving. The socket of a further one is read without a wait, and closed.
 pub(crate) const FAREWELLS: usize = 256;
 
-/// How often at most a caller's socket is read where it isn't waited for.
+/// The most reads of a caller's socket that is not waited for.
 const READS_AT_ONCE: u32 = 16;
 
-/// What is read of it at once, in octets.
+/// The most octets that one read of it takes.
 const PIECE: usize = 4_096;
 
-/// A caller on its way out.
+/// A caller that is leaving.
 #[derive(Drop)]
 pub(crate) struct Farewell {
     stream: Arc<TcpStream, Global>,
@@ -34,8 +34,8 @@ pub(crate) enum Parting {
     End,
 }
 
-/// Hands a caller's socket to the thread that lingers. Where it has too many, or the clock can't be read, the socket is read
-/// without a wait, and closed.
+/// Hands a caller's socket to the thread that lingers. If that thread has too many, or the clock cannot be read, the
+/// socket is read without a wait, and closed.
 pub(crate) fn part<R: Wait + Clock>(
     rt: &R,
     partings: &Sender<Parting>,
@@ -51,7 +51,7 @@ pub(crate) fn part<R: Wait + Clock>(
     }
 }
 
-/// Reads those callers until their sockets end, each for a while after its session was closed.
+/// Reads from these callers until their sockets end, each for a while after its session was closed.
 pub(crate) fn linger_all<R: Wait + Clock>(
     rt: &R,
     closing: &Closing,
@@ -69,7 +69,7 @@ pub(crate) fn linger_all<R: Wait + Clock>(
     }
 }
 
-/// Reads until the socket ends, for so long after the session was closed. It is false where that time was over before.
+/// Reads until the socket ends, for this long after the session was closed. It is false if that time was over first.
 fn read_within<R: Clock>(rt: &R, farewell: &Farewell, linger: Duration) -> bool {
     let mut piece = [0; PIECE];
     let mut stream = &*farewell.stream;
@@ -91,7 +91,7 @@ fn read_within<R: Clock>(rt: &R, farewell: &Farewell, linger: Duration) -> bool 
     true
 }
 
-/// Reads what has come, and waits for nothing.
+/// Reads what has arrived, and waits for nothing.
 pub(crate) fn read_at_once(stream: &TcpStream) {
     if stream.set_nonblocking(true).is_err() {
         return;

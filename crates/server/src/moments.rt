@@ -1,4 +1,4 @@
-//! The time of day, as sessions are given it.
+//! The time of day that sessions get.
 
 ghost use Rattle.std.specs.Prelude.{◌<◌};
 ghost use Rattle.model.specs.Calendar.{moment_limit};
@@ -6,17 +6,17 @@ ghost use Rattle.model.specs.Calendar.{moment_limit};
 use std::sync::atomic::{AtomicBool, Ordering};
 use std::time::Clock;
 
-/// One past the last second that a moment may be.
+/// The first second that is too late for a moment.
 const MOMENT_LIMIT: u64 = 253_402_300_800;
 
-/// What is said of a clock that can't be read, once.
+/// The message, printed once, about a clock that cannot be read.
 const NO_TIME: &str =
     "newsd: the clock gives no time from 1970 to 9999: articles and groups are dated 1970";
 
 /// Reads the clock.
 #[derive(Drop)]
 pub(crate) struct Moments {
-    /// It was said that the clock can't be read.
+    /// The message about the clock was printed.
     is_told: AtomicBool,
 }
 
@@ -27,7 +27,7 @@ impl Moments {
         }
     }
 
-    /// The seconds since 1970. They are 0 where they can't be had or are out of range, and standard error says so once.
+    /// The seconds since 1970. They are 0 if the clock cannot be read or is out of range; standard error says so once.
     pub(crate) fn now<R: Clock + Eprint>(&self, rt: &R) -> u64
         ensures { result < moment_limit }
     {

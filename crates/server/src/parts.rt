@@ -1,4 +1,4 @@
-//! What a server is made of, and why it ends.
+//! The parts of a server, and why it ends.
 
 ghost use Rattle.std.specs.Prelude.{◌≡◌};
 ghost use Rattle.journal.specs.Journal.{IsIdle};
@@ -35,7 +35,7 @@ pub enum ServeError {
     /// The device failed.
     #[error("E1 Fault")]
     Fault,
-    /// There was no memory to begin with.
+    /// Memory was refused before the start.
     #[error("E2 Memory")]
     Memory,
     /// The journal or the kernel was halted before.

@@ -22,8 +22,8 @@ use std::sync::Wait;
 use std::thread::{self, JoinHandle, Scope, Threads};
 use std::time::Clock;
 
-/// Serves the callers of a listener and the operator's lines, until a turn of the flusher is refused. Then the next caller is
-/// told that the service ends, what is durable is released, all threads end, and it is said why.
+/// Serves the callers of a listener and the operator's lines, until a turn of the flusher is refused. Then the next
+/// caller gets the reply that the service ends, what is durable is released, all threads end, and the result says why.
 pub fn serve<
     R: Threads + Wait + Clock + Eprint + Copy + Send + Sync + 'static,
     D: Disk + Drop,
@@ -76,7 +76,7 @@ pub fn serve<
     Err(run(&shared, &channels, flusher, looker, ends))
 }
 
-/// What takes memory before the threads start.
+/// The parts that take memory before the threads start.
 #[derive(Drop)]
 struct Parts {
     batch: BatchBuf,
@@ -95,7 +95,7 @@ struct Channels {
     moments: Moments,
 }
 
-/// What the acceptor has: the callers come in, and go to the sessions' threads.
+/// What the acceptor has: the callers that arrive, and the way to the sessions' threads.
 #[derive(Drop)]
 struct Ends<'a> {
     listener: &'a TcpListener,
@@ -113,7 +113,7 @@ struct Flusher<'a, D: Disk> {
     ghost flushes: { seat.mark ≡ mark.now },
 }
 
-/// What the operator's thread looks at the mark with.
+/// What the operator's thread reads the mark with.
 #[derive(Drop)]
 struct Looker<'a> {
     mark: &'a Mark,
@@ -122,7 +122,7 @@ struct Looker<'a> {
 }
 
 impl Parts {
-    /// Makes them, and starts the threads that read the operator's lines and write the answers.
+    /// Makes the parts, and starts the threads that read the operator's lines and write the answers.
     fn make<
         R: Threads + Wait + Copy + Send + 'static,
         L: BufRead + Send + Drop + 'static,
@@ -149,7 +149,7 @@ impl Parts {
     }
 }
 
-/// One for each session's thread.
+/// Makes one writer for each session's thread.
 fn make_writers(alloc: Global) -> Result<Vec<ReplyWriter>, AllocError> {
     let mut writers = Vec::new(alloc);
     for _ in 0..SESSIONS {
@@ -158,7 +158,7 @@ fn make_writers(alloc: Global) -> Result<Vec<ReplyWriter>, AllocError> {
     Ok(writers)
 }
 
-/// All threads but the two that wait for the operator. This one flushes.
+/// Runs all threads except the two that wait for the operator. The calling thread flushes.
 fn run<
     'a,
     R: Threads + Wait + Clock + Eprint + Sync,
@@ -194,7 +194,7 @@ fn run<
     })
 }
 
-/// Starts the threads of all sessions. It is false where the system has not all.
+/// Starts the threads of all sessions. It is false if the system cannot start all.
 fn start_sessions<'s, E, R: Wait + Clock + Eprint + Sync, K: Kern + Sync, G: Gate + Sync>(
     scope: &Scope<'s, E>,
     shared: &'s Shared<'s, R, K, G>,
@@ -207,7 +207,7 @@ fn start_sessions<'s, E, R: Wait + Clock + Eprint + Sync, K: Kern + Sync, G: Gat
     is_started
 }
 
-/// Starts the releaser, the thread that lingers and the operator's. It is false where the system has not all.
+/// Starts the releaser, the thread that lingers and the operator's. It is false if the system cannot start all.
 fn start_others<'s, E, R: Wait + Clock + Eprint + Sync, K: Kern + Sync, G: Gate + Sync>(
     scope: &Scope<'s, E>,
     shared: &'s Shared<'s, R, K, G>,
@@ -220,7 +220,7 @@ fn start_others<'s, E, R: Wait + Clock + Eprint + Sync, K: Kern + Sync, G: Gate 
     releaser.is_ok() && lingerer.is_ok() && operator.is_ok()
 }
 
-/// Starts the acceptor; `None` where the system has no thread.
+/// Starts the acceptor; `None` if the system cannot start a thread.
 fn start_accepting<'s, E, R: Wait + Clock + Sync, K: Kern + Sync, G: Sync>(
     scope: &Scope<'s, E>,
     shared: &'s Shared<'s, R, K, G>,
@@ -235,7 +235,7 @@ fn accept_calls<R: Wait + Clock, K: Kern, G>(shared: &Shared<'_, R, K, G>, ends:
     accept_all(shared, listener, caller)
 }
 
-/// Reads the callers whose sessions are closed.
+/// Reads from the callers whose sessions are closed.
 fn linger<R: Wait + Clock, K, G>(shared: &Shared<'_, R, K, G>, channels: &Channels) {
     linger_all(
         shared.rt,
@@ -245,7 +245,7 @@ fn linger<R: Wait + Clock, K, G>(shared: &Shared<'_, R, K, G>, channels: &Channe
     )
 }
 
-/// Starts a session's thread and the one that finishes its writes. It is false where the system has no thread.
+/// Starts a session's thread and the one that finishes its writes. It is false if the system cannot start both.
 fn start_session<'s, E, R: Wait + Clock + Eprint + Sync, K: Kern + Sync, G: Gate + Sync>(
     scope: &Scope<'s, E>,
     shared: &'s Shared<'s, R, K, G>,
@@ -309,7 +309,7 @@ fn flush<R: Wait, D: Disk + Drop, K: Kern, G: Gate>(
     )
 }
 
-/// There are no threads to serve callers with: nothing is flushed any more.
+/// Gives up because there are no threads for callers: nothing is flushed any more.
 fn give_up<R: Wait, D: Disk + Drop, K: Kern, G>(
     shared: &Shared<'_, R, K, G>,
     flusher: Flusher<'_, D>,
@@ -320,7 +320,7 @@ fn give_up<R: Wait, D: Disk + Drop, K: Kern, G>(
     mark.stop(&mut seat);
 }
 
-/// Wakes the threads that wait for the flusher. The acceptor ends once another caller has come.
+/// Wakes the threads that wait for the flusher. The acceptor ends after one more caller has arrived.
 fn wake<R: Wait, K, G>(shared: &Shared<'_, R, K, G>, channels: &Channels) {
     shared.bells.operator.unpark();
     shared.bells.releaser.unpark();
@@ -328,7 +328,7 @@ fn wake<R: Wait, K, G>(shared: &Shared<'_, R, K, G>, channels: &Channels) {
     channels.operator.end(shared.rt);
 }
 
-/// Nobody comes any more: the callers are let go, and all threads end.
+/// Ends the callers and all threads, after the last caller was accepted.
 fn end<R: Wait, K, G>(shared: &Shared<'_, R, K, G>, channels: &Channels) {
     shared.close();
     let _ = channels.parting.send(shared.rt, Parting::End);

@@ -1,4 +1,4 @@
-//! The callers of a test: each is a socket, read line by line, whose reads end in time.
+//! The callers of a test: each is a socket that is read line by line, and whose reads end in time.
 
 use crate::gates::{Flags, Holds};
 use std::alloc::Global;
@@ -8,10 +8,10 @@ use std::sync::atomic::{AtomicBool, Ordering};
 use std::thread;
 use std::time::{Clock, Duration};
 
-/// A read of a test ends after so many seconds.
+/// A read of a test ends after this many seconds.
 const READ_SECS: u64 = 20;
 
-/// How often a caller comes again until the server tells it that the service ends, and the milliseconds between.
+/// How often a caller connects again until the server replies that the service ends, and the milliseconds in between.
 const TRIES: u32 = 500;
 
 const PAUSE_MILLIS: u64 = 20;
@@ -103,7 +103,7 @@ impl Caller {
     }
 }
 
-/// Does what the callers of a test do, and says whether all came as it had to.
+/// Does what the callers of a test do, and answers whether they read what they had to.
 pub(crate) fn call<R: Net<Listener = TcpListener, Stream = TcpStream> + Clock>(
     rt: &R,
     alloc: Global,
@@ -137,7 +137,7 @@ pub(crate) fn call<R: Net<Listener = TcpListener, Stream = TcpStream> + Clock>(
     is_good && is_told && (holds != Holds::Fault || caller.reads_end())
 }
 
-/// A caller posts, reads the article back and is told all in order.
+/// A caller posts, reads the article back and gets all replies in order.
 fn posts_and_reads(caller: &mut Caller) -> bool {
     caller.reads(GREETING) && posts_and_reads_replies(caller)
 }
@@ -153,8 +153,8 @@ fn posts_and_reads_replies(caller: &mut Caller) -> bool {
         && caller.reads("211 1 1 1 x.a")
 }
 
-/// A caller sends all at once and then no more; it is told all, and then the socket ends. So it does behind `QUIT`, where
-/// the caller has sent more than is served.
+/// A caller sends everything at once and then nothing more; it gets all replies, and then the socket ends. The same
+/// holds after `QUIT`, when the caller has sent more than is served.
 fn sends_no_more<R: Net<Listener = TcpListener, Stream = TcpStream>>(
     rt: &R,
     alloc: Global,
@@ -178,7 +178,8 @@ fn sends_no_more<R: Net<Listener = TcpListener, Stream = TcpStream>>(
         && other.reads_end()
 }
 
-/// Looks for a flag each millisecond until it is set, for as long as a read may take. It is false at the end of that time.
+/// Looks at a flag each millisecond until it is set, for as long as a read may take. It is false if that time ends
+/// first.
 fn sleep_until<R: Clock>(rt: &R, flag: &AtomicBool) -> bool {
     for _ in 0..READ_SECS * 1000 {
         if flag.load(Ordering::SeqCst) {
@@ -189,7 +190,8 @@ fn sleep_until<R: Clock>(rt: &R, flag: &AtomicBool) -> bool {
     false
 }
 
-/// While the flush of one caller's article is held, another one comes and is told of a group that the article isn't in.
+/// While the flush of one caller's article is held, another caller gets a reply about a group that the article is not
+/// in.
 fn reads_while_a_flush_is_held<R: Net<Listener = TcpListener, Stream = TcpStream> + Clock>(
     rt: &R,
     alloc: Global,
@@ -225,14 +227,14 @@ fn posts_while_a_release_is_held<R: Net<Listener = TcpListener, Stream = TcpStre
         && other.reads_all(&[GREETING, "340 Send article", "240 Article received"])
 }
 
-/// The caller's article commits while the reply to its `POST` is on its way. It is told all without sending more.
+/// The caller's article commits while the reply to its `POST` is on its way. It gets all replies without sending more.
 fn posts_while_its_line_is_taken(caller: &mut Caller) -> bool {
     caller.reads(GREETING)
         && caller.sends(FIRST)
         && caller.reads_all(&["340 Send article", "240 Article received"])
 }
 
-/// Has the next commit refused, and waits until a caller is told that the service ends.
+/// Has the next commit refused, and waits until a caller gets the reply that the service ends.
 fn end<R: Net<Listener = TcpListener, Stream = TcpStream> + Clock>(
     rt: &R,
     alloc: Global,
@@ -244,7 +246,7 @@ fn end<R: Net<Listener = TcpListener, Stream = TcpStream> + Clock>(
     caller.sends(SECOND) && comes_until_told(rt, alloc, address)
 }
 
-/// Comes again and again until a caller is told that the service ends.
+/// Connects again and again until a caller gets the reply that the service ends.
 fn comes_until_told<R: Net<Listener = TcpListener, Stream = TcpStream> + Clock>(
     rt: &R,
     alloc: Global,

@@ -1,4 +1,4 @@
-//! Where a test stops the flusher or the releaser, and what its threads tell one another.
+//! Where a test holds the flusher or the releaser, and the flags between its threads.
 
 use crate::kernels::Watch;
 use flusher::{Arrivals, Gate};
@@ -10,13 +10,13 @@ use std::thread::{self, Parker};
 /// A test waits for this many turns of one look and one yield, and then fails.
 const TURNS: u32 = 1_000_000;
 
-/// So many turns the operator's batch is held, and a session's line once its commit is there.
+/// The turns for which the operator's batch is held, and a session's line once its commit has happened.
 const PAUSE: u32 = 1_000;
 
 /// The first post is change 3: the two groups come before it.
 const FIRST_POST: u64 = 3;
 
-/// What the threads of a test tell one another.
+/// The flags between the threads of a test.
 #[derive(Drop)]
 pub(crate) struct Flags {
     /// A flush is about to begin.
@@ -25,13 +25,13 @@ pub(crate) struct Flags {
     pub(crate) flushed: AtomicBool,
     /// The caller has read what the test waits for.
     pub(crate) has_read: AtomicBool,
-    /// A gate met the limit of its turns, or saw what it must not.
+    /// A gate reached the limit of its turns, or saw what it must not.
     pub(crate) failed: AtomicBool,
     /// The next commit is refused, so that the server ends.
     pub(crate) over: AtomicBool,
-    /// What the operator was answered: its octets, as the digits of a number.
+    /// The answer to the operator: its octets, as the digits of a number.
     pub(crate) answered: Arc<AtomicU64>,
-    /// How many releases have begun.
+    /// The number of releases that have begun.
     releases: AtomicU64,
 }
 
@@ -48,7 +48,7 @@ impl Flags {
         })
     }
 
-    /// Turns until a flag is set, as a gate does.
+    /// Takes turns until a flag is set, as a gate does.
     fn hold_until(&self, flag: &AtomicBool) {
         if !turn_until(flag) {
             self.failed.store(true, Ordering::SeqCst);
@@ -56,7 +56,7 @@ impl Flags {
     }
 }
 
-/// Turns until a flag is set. It is false at the limit.
+/// Takes turns until a flag is set. It is false at the limit.
 fn turn_until(flag: &AtomicBool) -> bool {
     for _ in 0..TURNS {
         if flag.load(Ordering::SeqCst) {
@@ -71,17 +71,18 @@ fn turn_until(flag: &AtomicBool) -> bool {
 #[derive(Clone, Copy, PartialEq, Eq)]
 pub(crate) enum Holds {
     Nothing,
-    /// Nothing either, and the device fails at its first sync.
+    /// Nothing is held, and the device fails at its first sync.
     Fault,
-    /// The write of the operator's first answer, for ever, and the device fails at its first write.
+    /// The write of the operator's first answer, forever, and the device fails at its first write.
     Unread,
     /// A flush, until a caller has read its reply.
     Flush,
     /// Each release to session 1, until a seat of the mark sees that the first post, which is session 2's, is durable.
     Release,
-    /// A flush, for a while in which the operator must not be answered.
+    /// A flush, for a while in which the operator must get no answer.
     Answer,
-    /// The second release, until a batch is committed and who releases what waited for it had time to find the session's line taken.
+    /// The second release, until a batch is committed and the thread that releases its replies had time to find the
+    /// session's line taken.
     Taken,
 }
 
@@ -161,7 +162,7 @@ impl<'a> Gate for TestGate<'a> {
     fn after_release(&self, _sid: u64) {}
 }
 
-/// Waits for more blocks than come, again and again until a flag is set.
+/// Waits for more blocks than arrive, again and again until a flag is set.
 pub(crate) fn gather_until<R: Wait>(rt: &R, arrivals: &Arrivals, flag: &AtomicBool) {
     let bell = Parker::new();
     for _ in 0..TURNS {
@@ -172,7 +173,8 @@ pub(crate) fn gather_until<R: Wait>(rt: &R, arrivals: &Arrivals, flag: &AtomicBo
     }
 }
 
-/// Notes blocks until one rings nobody, since the flusher waits for a later one, and then sets the flag. It is false at the limit.
+/// Notes blocks until one wakes no thread, because the flusher waits for a later one, and then sets the flag. It is
+/// false at the limit.
 pub(crate) fn note_until_quiet(arrivals: &Arrivals, flag: &AtomicBool) -> bool {
     let mut is_quiet = false;
     for _ in 0..TURNS {

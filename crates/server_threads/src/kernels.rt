@@ -1,4 +1,4 @@
-//! A kernel that watches the mark at each commit, and that can be told to end the server.
+//! A kernel that watches the mark at each commit, and that can be made to end the server.
 
 ghost use Rattle.std.specs.Prelude.{◌≡◌};
 
@@ -36,7 +36,7 @@ impl<'a> Watch<'a> {
     }
 }
 
-/// A kernel under its lock. Its `committed` is refused where a seat shows the ticket's number already.
+/// A kernel under its lock. Its `committed` is refused if a seat already shows the ticket's number.
 #[derive(Drop)]
 pub(crate) struct Watched<'a> {
     inner: Locked,

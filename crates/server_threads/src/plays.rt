@@ -29,20 +29,20 @@ const BLOCKS: u64 = 1024;
 
 const INODES: u64 = 64;
 
-/// How a play went.
+/// The outcome of a play.
 #[derive(Clone, Copy, Debug, PartialEq, Eq)]
 pub(crate) struct Outcome {
     /// The callers read what they had to.
     pub(crate) is_read: bool,
-    /// A gate met its limit, or the mark was raised too early.
+    /// A gate reached its limit, or the mark was raised too early.
     pub(crate) has_failed: bool,
     /// How the server ended.
     pub(crate) ended: ServeError,
-    /// What the operator was answered.
+    /// The answer to the operator.
     pub(crate) answered: u64,
 }
 
-/// Where the operator's answers go. Where he doesn't read them, a write never ends.
+/// The destination of the operator's answers. If the operator does not read them, a write never ends.
 #[derive(Drop)]
 struct Answers<R> {
     rt: R,
@@ -91,7 +91,7 @@ fn open_volume(alloc: Global, plan: &Plan<'_>) -> Option<(Journal<MemDisk>, Kern
     }
 }
 
-/// What the volumes are.
+/// The plan of the volumes.
 fn plan() -> Option<Plan<'static>> {
     if !is_host(HOST) || !are_sizes(BLOCKS, INODES) {
         return None;
@@ -168,7 +168,7 @@ impl<'a> Stage<'a> {
         })
     }
 
-    /// The device fails at its next sync or its next write, where the play is of a fault.
+    /// Makes the device fail at its next sync or its next write, if the play is about a fault.
     fn plan_fault(&mut self, holds: Holds) {
         match holds {
             Holds::Fault => self.journal.fail_kind(DiskCall::Sync, 1),
@@ -227,7 +227,7 @@ impl<'a> Stage<'a> {
     }
 }
 
-/// Whether a turn of the flusher raises the mark, and not before its batch is told to be committed.
+/// Whether a turn of the flusher raises the mark, and not before its batch is reported as committed.
 pub(crate) fn raises_after_commit<R: Wait>(rt: &R, alloc: Global) -> bool {
     let Ok(flags) = Flags::new(alloc) else {
         return false;
@@ -242,7 +242,8 @@ pub(crate) fn raises_after_commit<R: Wait>(rt: &R, alloc: Global) -> bool {
     mark.durable(&mut seat) == 2 && !flags.failed.load(Ordering::SeqCst)
 }
 
-/// What a kernel answers to a ticket in time, to the same one again, and to one of a batch that a halt left in flight.
+/// The answers of a kernel to a ticket in time, to the same ticket again, and to that of a batch that a halt left in
+/// flight.
 pub(crate) fn tell<R: Wait>(rt: &R, alloc: Global) -> Option<[Result<(), Stale>; 3]> {
     let (_, kernel) = open_volume(alloc, &plan()?)?;
     let kern = Locked::new(kernel);

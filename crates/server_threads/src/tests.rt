@@ -1,3 +1,5 @@
+//! Tests of a running server and its callers.
+
 use crate::gates::{Holds, gather_until, note_until_quiet};
 use crate::plays::{Outcome, play, raises_after_commit, tell};
 use flusher::{Arrivals, Stale};

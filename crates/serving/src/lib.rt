@@ -1,4 +1,4 @@
-//! A message served over a spool that takes changes: what is answered, what it reads, how it is marked, and what is filed.
+//! A message served over a spool that takes changes: the answer, what it reads, its mark, and the change that is filed.
 #![tactic(auto)]
 
 ghost use Rattle.std.specs.Prelude.{◌≡◌, ◌⊎◌, ◌<◌, ◌++◌, ◌∷◌, [], IfOk, MatchResult, OnErr, true, false};
@@ -13,7 +13,7 @@ use plain_commands::full;
 use replies::Answered;
 use std::alloc::{AllocError, Global};
 
-/// Why a change is not filed.
+/// Why a change was not filed.
 #[derive(Clone, Copy, Debug, Drop, PartialEq, Eq)]
 pub enum FileError {
     /// There is no room for it.
@@ -22,7 +22,7 @@ pub enum FileError {
     Memory,
 }
 
-/// A spool that changes may be filed in.
+/// A spool in which changes may be filed.
 pub trait Files: LookUps {
     ghost use Rattle.std.specs.Prelude.{Bool};
     ghost use Rattle.model.specs.declared.change.Change.{Change as ChangeView};
@@ -30,10 +30,11 @@ pub trait Files: LookUps {
     /// Whether there is no room for the change.
     ghost lacks_room: { Self → ChangeView → Bool };
 
-    /// Between two values: the second is the first with this change behind the others.
+    /// Relates two values: the second is the first with this change added as the last one.
     ghost adds: { Self → Self → ChangeView → Type 0 };
 
-    /// Files a change that may follow. Refused as `Full` exactly where there is no room, else as `Memory`; a refusal changes nothing.
+    /// Files a change that may follow. `Full` comes exactly if there is no room, otherwise only `Memory`; a refusal
+    /// changes nothing.
     fn file(&mut self, change: &Change) -> Result<(), FileError>
         requires { IsLawful (Self.host_of self.old) (Self.changes self.old ++ change.now ∷ []) }
         ensures { MatchResult result
@@ -41,20 +42,20 @@ pub trait Files: LookUps {
             (λ error. (((error ≡ FileError.Memory) × (lacks_room self.old change.now ≡ false)) ⊎ ((error ≡ FileError.Full) × (lacks_room self.old change.now ≡ true))) × (self.new ≡ self.old)) };
 }
 
-/// What was served.
+/// The outcome of a message that was served.
 #[derive(Drop)]
 pub struct Served {
     pub reply: Text,
     /// the session afterwards
     pub next: Session,
     pub mark: Mark,
-    /// the serial up to which the answer reads the spool, its own change among them
+    /// the greatest serial that the answer reads, counting its own change
     pub reads: u64,
 }
 
-/// Answers a message and files what it accepts, at a moment in seconds since 1970, below 253,402,300,800. The mark is `Long`
-/// where a posted article is refused since it would be too long as it is stored, `Full` where there is no room for what would
-/// be accepted, and else `Served`. Refused for memory alone, with nothing changed.
+/// Answers a message and files the change that it accepts, at a moment in seconds since 1970, below 253,402,300,800.
+/// The mark is `Long` if a posted article is refused because it would be too long as it is stored. It is `Full` if
+/// there is no room for the change, and otherwise `Served`. Refused only for want of memory, with nothing changed.
 pub fn serve<S: Files>(
     alloc: Global,
     spool: &mut S,
@@ -94,7 +95,7 @@ pub fn serve<S: Files>(
     }
 }
 
-/// The answer where there is no room.
+/// The answer if there is no room.
 fn turned_away(said: Answered) -> Served
     ensures { result ≡ record { reply = said.answer.reply; next = said.answer.next; mark = Mark.Full; reads = said.reads } }
 {

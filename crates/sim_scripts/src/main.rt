@@ -1,9 +1,9 @@
 //! Plays scripts through the program `newsd`, and prints what each run prints, its status, and then its faults.
 //!
-//! A line `== NAME` of standard input begins a script that is played, a line `-- NAME` one that only later scripts use. The
-//! lines up to the next of these are its own. There `$ WORD` is one of the program's words, which without any are
-//! `newsd sim --host news.example`; `+ N NAME` stands for the lines of an earlier script, N times; `> N` gives the output room for
-//! N octets alone, of which it says how many are left, and has the last line end without an LF.
+//! A line `== NAME` of standard input begins a script that is played, a line `-- NAME` one that only later scripts use.
+//! The script consists of the lines up to the next of these. In it `$ WORD` is one of the program's words; without any
+//! they are `newsd sim --host news.example`. `+ N NAME` stands for the lines of an earlier script, N times. `> N` gives
+//! the output room for only N octets, prints how many are left, and gives the script's last line no LF.
 #![tactic(auto)]
 
 use anyhow::{Result, anyhow, bail};
@@ -14,7 +14,7 @@ use std::io::{BufRead, BufReader, BufWriter, Write};
 use std::rt::Files;
 use std::sync::Wait;
 
-/// The program's words where a script gives none.
+/// The program's words if a script gives none.
 const WORDS: [&str; 4] = ["newsd", "sim", "--host", "news.example"];
 
 /// A script, and the words of the program that plays it.
@@ -38,7 +38,7 @@ impl Script {
         })
     }
 
-    /// Adds one of its lines, which may stand for those of earlier scripts.
+    /// Adds a line to the script; it may stand for those of earlier scripts.
     fn push(&mut self, alloc: Global, line: &str, earlier: &[Script]) -> Result<()> {
         if let Some(word) = line.strip_prefix("$ ") {
             self.words.push(String::from_str(alloc, word)?)?;
@@ -64,7 +64,7 @@ impl Script {
         Ok(())
     }
 
-    /// Runs the program on it, and prints what it prints, its status and its faults.
+    /// Runs the program on the script, and prints what the program prints, its status and its faults.
     fn play<R: Files<File = File> + Wait, W: Write>(
         &self,
         rt: &R,
@@ -82,7 +82,7 @@ impl Script {
         Ok(())
     }
 
-    /// Runs the program on it with room for so many octets, and answers its status.
+    /// Runs the program on the script with room for this many octets, and answers its status.
     fn run_into<R: Files<File = File> + Wait, W: Write>(
         &self,
         rt: &R,

@@ -1,4 +1,4 @@
-//! Blocks of one device in memory, copied to another.
+//! Copies the blocks of one device in memory to another.
 
 use crate::errors::SimError;
 use disk::Disk;
@@ -21,7 +21,7 @@ impl Room {
         })
     }
 
-    /// Makes a block what it is on another device. It isn't written where it is so already.
+    /// Makes a block equal to that of another device. It is not written if it is equal already.
     pub(crate) fn copy(
         &mut self,
         from: &mut MemDisk,

@@ -1,3 +1,5 @@
+//! The errors of a simulated system.
+
 use std::alloc::{AllocError, AllocFailed};
 use thiserror::Error;
 use world::OpenError;

@@ -1,4 +1,4 @@
-//! What a line of a script asks of a world, and what a world answers, in words.
+//! What a line of a script asks of a world, and the world's answers in words.
 
 ghost use Rattle.std.specs.Prelude.{IfOk, OnOk};
 ghost use Rattle.std.specs.List.{All};
@@ -29,7 +29,7 @@ pub(crate) fn event(alloc: Global, line: &str) -> Result<Event, SimError>
     }
 }
 
-// A script has no line for it.
+// A script has no line for this.
 fn release_of(session: &str) -> Result<Event, SimError>
     ensures { IfOk result MayHappen }
 {
@@ -78,7 +78,7 @@ fn group_name(octets: &[u8]) -> Result<GroupName, SimError> {
     }
 }
 
-/// Adds an event that may happen.
+/// Appends an event that may happen.
 #[tactic(auto, using(crate::proofs::Listed::may_push))]
 fn push(events: &mut Vec<Event>, event: Event) -> Result<(), AllocError>
     requires may { MayHappen event }
@@ -88,7 +88,7 @@ fn push(events: &mut Vec<Event>, event: Event) -> Result<(), AllocError>
     Ok(events.push(event)?)
 }
 
-/// Adds what these lines ask.
+/// Appends the events that these lines ask for.
 pub(crate) fn read(alloc: Global, rows: &[Row], events: &mut Vec<Event>) -> Result<(), SimError>
     requires { All MayHappen events.old.items }
     ensures { OnOk result (All MayHappen events.new.items) }

@@ -1,5 +1,5 @@
-//! The whole system over a device in memory as text in and text out, for tests. It promises nothing, so that what is proved of
-//! a caller carries no fact of the system.
+//! The whole system over a device in memory, as text in and text out, for tests. It has no contracts, so that the proof
+//! of a caller carries no fact about the system.
 #![tactic(auto)]
 
 mod copying;

@@ -1,4 +1,4 @@
-//! A device and a world over it, sealed: what is proved of a caller learns nothing of them.
+//! A device and a world over it, sealed: the proof of a caller learns nothing about them.
 
 ghost use Rattle.std.specs.Prelude.{Some};
 ghost use Rattle.std.specs.List.{All};
@@ -30,7 +30,7 @@ pub struct Device {
     disk: MemDisk,
 }
 
-// By hand, as a caller proves a derived one again, field by field.
+// By hand: a caller would otherwise prove the derived one again, field by field.
 impl Drop for Device {
     fn drop(self) {
         let Device { disk: _ } = self;
@@ -44,7 +44,7 @@ impl Model for Device {
 }
 
 impl Device {
-    /// One with a new volume of `BLOCKS` blocks, whose label says 64 inodes and the host `news.example`.
+    /// A device with a new volume of `BLOCKS` blocks, whose label states 64 inodes and the host `news.example`.
     pub fn new(alloc: Global) -> Result<Device, SimError> {
         match plan(BLOCKS) {
             Some(plan) => formatted(alloc, &plan),
@@ -57,22 +57,22 @@ impl Device {
         disk
     }
 
-    /// How many writes and syncs it was asked for since it was made.
+    /// The numbers of writes and syncs that it was asked for since it was made.
     pub fn counts(&self) -> (u64, u64) {
         self.disk.counts()
     }
 
-    /// The device call fails that is so many from now on.
+    /// Makes the n-th device call from now on fail.
     pub fn fail_at(&mut self, call: u64) {
         self.disk.fail_at(call);
     }
 
-    /// The call of this kind fails that is so many from now on, and none of them at 0.
+    /// Makes the n-th device call of this kind from now on fail; 0 fails none.
     pub fn fail_kind(&mut self, kind: DiskCall, call: u64) {
         self.disk.fail_kind(kind, call);
     }
 
-    /// Each touched octet becomes what the pick makes of it.
+    /// Crashes the device: each touched octet becomes what the pick says.
     pub fn crash(&mut self, pick: Pick) {
         self.disk.crash(&[pick]);
     }
@@ -89,7 +89,7 @@ impl Device {
         Ok(was[0])
     }
 
-    /// Makes each block what it is on another device.
+    /// Makes each block equal to that of another device.
     pub fn copy_volume(&mut self, alloc: Global, from: &mut Device) -> Result<(), SimError> {
         let mut room = Room::new(alloc)?;
         for block in 0..self.disk.len() / BLOCK as u64 {
@@ -99,7 +99,7 @@ impl Device {
     }
 }
 
-/// What a volume of so many blocks is. The number is no constant here, as a proof would count with it.
+/// The plan of a volume with this many blocks. The number is not a constant here, because a proof would count with it.
 fn plan(blocks: u64) -> Option<Plan<'static>> {
     if !is_host(HOST) || !are_sizes(blocks, INODES) {
         return None;
@@ -159,7 +159,7 @@ impl Sim {
         }
     }
 
-    /// Opens a device that is to be opened.
+    /// Opens a device whose opening must succeed.
     pub fn over(alloc: Global, device: Device) -> Result<Sim, SimError> {
         match Sim::open(alloc, device) {
             Ok(sim) => Ok(sim),
@@ -172,7 +172,7 @@ impl Sim {
         Sim::over(alloc, Device::new(alloc)?)
     }
 
-    /// The device crashes, each touched octet by this pick, and is opened again.
+    /// Crashes the device, each touched octet becoming what this pick says, and opens it again.
     pub fn crash(self, alloc: Global, pick: Pick) -> Result<Sim, SimError> {
         let mut device = self.into_device();
         device.crash(pick);
@@ -199,17 +199,17 @@ impl Sim {
         Ok(ran(alloc, &mut self.world, &events))
     }
 
-    /// The device call fails that is so many from now on.
+    /// Makes the n-th device call from now on fail.
     pub fn fail_at(&mut self, call: u64) {
         self.world.fail_at(call);
     }
 
-    /// The call of the device of this kind fails that is so many from now on, and none of them at 0.
+    /// Makes the n-th device call of this kind from now on fail; 0 fails none.
     pub fn fail_kind(&mut self, kind: DiskCall, call: u64) {
         self.world.fail_kind(kind, call);
     }
 
-    /// How many changes were there at the opening, are durable, and are accepted.
+    /// The numbers of changes at the opening, of durable changes, and of accepted changes.
     pub fn counts(&self) -> (u64, u64, u64) {
         (
             self.world.opened(),
@@ -242,7 +242,7 @@ impl Sim {
         }
     }
 
-    /// Whether the change with this serial is an article that is sent so.
+    /// Whether the change with this serial is the article that is sent in this form.
     pub fn is_article(&self, alloc: Global, serial: u64, sent: &[u8]) -> Result<bool, SimError> {
         let spool = self.world.spool();
         if spool.moment(serial).is_none() {
@@ -253,7 +253,7 @@ impl Sim {
         Ok(octets.as_slice() == sent)
     }
 
-    /// The lowest and the highest number of a group that is here.
+    /// The lowest and the highest number of a group, if it exists.
     pub fn numbers(&self, name: &[u8]) -> Option<(u64, u64)> {
         let group = self.world.spool().group(name)?;
         Some((group.low, group.high))

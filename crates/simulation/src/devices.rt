@@ -5,13 +5,13 @@ use memdisk::{MemDisk, Pick};
 use std::alloc::Global;
 use wcache::WCache;
 
-/// A device that can be told to fail, and that crashes.
+/// A device that can be made to fail, and that crashes.
 pub(crate) trait Device: Faults + Drop {
     /// The device over this one in memory.
     fn over(alloc: Global, disk: MemDisk) -> Self;
 
-    /// The device after a crash: each octet that was touched since the last good sync becomes what the pick says, and what
-    /// a cache had collected is lost. A failure that is pending stays so.
+    /// The device after a crash: each octet that was touched since the last good sync becomes what the pick says, and
+    /// what a cache had collected is lost. A pending failure stays pending.
     fn crashed(self, alloc: Global, pick: Pick) -> Self;
 }
 

@@ -19,13 +19,14 @@ use std::io::{BufRead, Write};
 use wcache::WCache;
 use world::{Answer, Event, StepError};
 
-/// The most device calls from the first of a batch to its end: `n + 4` of its commit, and those of a checkpoint of eight segments,
-/// which are a write of each home, a sync, and a write and a sync for each gate. A batch has at most 512 images.
+/// The most device calls from the first of a batch to its end. The commit is call `n + 4`. A checkpoint of eight
+/// segments adds a write for each home block, a sync, and a write and a sync for each gate. A batch has at most 512
+/// images.
 const MOST_CALLS: u32 = 9 * 512 + 5 + 2 * 8;
 
 /// Plays the script that `input` holds, one event a line, and prints what it does. A refused event prints its refusal,
-/// and the script goes on. What ends it before is a growth that is refused to the simulation itself (`Memory`), a new volume
-/// that isn't made (`NotOpened`), a line that is no event (`BadEvent`), and a stream that fails (`Stream`); what was done until then
+/// and the script continues. It ends early with `Memory` (the simulation itself gets no memory), `NotOpened` (the new
+/// volume was not made), `BadEvent` (a line is not an event), or `Stream` (a stream failed); what was done until then
 /// is printed.
 pub fn simulate<R: BufRead, W: Write>(
     alloc: Global,
@@ -41,7 +42,7 @@ pub fn simulate<R: BufRead, W: Write>(
     }
 }
 
-/// The same over one kind of device.
+/// The same for one kind of device.
 fn play_lines<D: Device, R: BufRead, W: Write>(
     alloc: Global,
     plan: &Plan<'_>,
@@ -125,7 +126,7 @@ fn play<D: Device, W: Write>(
     }
 }
 
-/// The device crashes, each touched octet by this pick, and is opened again.
+/// Crashes the device, each touched octet becoming what this pick says, and opens it again.
 fn reopen<D: Device, W: Write>(
     alloc: Global,
     stage: &mut Stage<D>,
@@ -138,7 +139,7 @@ fn reopen<D: Device, W: Write>(
     }
 }
 
-/// Does what a line asks of the world, and prints what it says of it.
+/// Does what a line asks of the world, and prints the line's output.
 fn act<D: Device, W: Write>(
     alloc: Global,
     sim: &mut Sim<D>,
@@ -161,7 +162,7 @@ fn act<D: Device, W: Write>(
     }
 }
 
-/// The event of a line that asks for one and prints nothing but its refusal.
+/// The event of a line that prints nothing but its refusal.
 fn event_of(line: Line) -> Option<Event>
     requires { IsLawful line }
     ensures { IfSome result MayHappen }
@@ -207,7 +208,7 @@ fn step<D: Device, W: Write>(
     }
 }
 
-/// A session begins; its number is printed.
+/// Begins a session and prints its number.
 fn join<D: Device, W: Write>(
     alloc: Global,
     sim: &mut Sim<D>,
@@ -220,7 +221,7 @@ fn join<D: Device, W: Write>(
     }
 }
 
-/// What is ready is handed out and printed.
+/// Hands out and prints what is ready.
 fn release<D: Device, W: Write>(
     alloc: Global,
     sim: &mut Sim<D>,
@@ -232,7 +233,7 @@ fn release<D: Device, W: Write>(
     }
 }
 
-/// A batch is taken and carried to its commit, of which the kernel is told. Where none was taken, nothing happens.
+/// Takes a batch and writes it up to its commit, which the kernel then learns. If no batch was taken, nothing happens.
 fn commit<D: Device, W: Write>(
     alloc: Global,
     sim: &mut Sim<D>,
@@ -254,7 +255,7 @@ fn commit<D: Device, W: Write>(
     }
 }
 
-/// The batch in flight is carried to its end.
+/// Carries the batch in flight to its end.
 fn settle<D: Device, W: Write>(
     alloc: Global,
     sim: &mut Sim<D>,
@@ -266,7 +267,7 @@ fn settle<D: Device, W: Write>(
     }
 }
 
-/// What a batch is carried to.
+/// How far a batch is carried.
 #[derive(Clone, Copy)]
 enum Until {
     Committed,
@@ -274,7 +275,7 @@ enum Until {
 }
 
 impl Until {
-    /// Whether this answer of a device call is what was awaited.
+    /// Whether this answer to a device call is the awaited one.
     fn is_met(self, progress: Progress) -> bool {
         match (self, progress) {
             (Until::Committed, Progress::Committed(_)) | (Until::Ended, Progress::Idle) => true,
@@ -283,7 +284,7 @@ impl Until {
     }
 }
 
-/// Makes device calls until one answers what is awaited, or is refused.
+/// Makes device calls until one gives the awaited answer, or is refused.
 fn carry<D: Device>(alloc: Global, sim: &mut Sim<D>, until: Until) -> Result<Answer, StepError> {
     for _ in 0..MOST_CALLS {
         if let Answer::Progressed(progress) = sim.step(alloc, &Event::Dev)? {

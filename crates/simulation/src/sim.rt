@@ -1,4 +1,4 @@
-//! The simulated system, sealed: a proof learns nothing of it beside what `World` promises of itself.
+//! The simulated system, sealed: a proof learns nothing about it except what `World` promises.
 
 ghost use Rattle.world.specs.Events.{MayHappen};
 
@@ -22,7 +22,7 @@ impl<D: Device> Model for Sim<D> {
     ghost view = { λ s. tt };
 }
 
-/// A device that is not opened.
+/// A device that is not open.
 #[derive(Drop)]
 pub(crate) struct Closed<D: Device> {
     disk: D,
@@ -39,7 +39,7 @@ impl<D: Device> Closed<D> {
         Closed { disk }
     }
 
-    /// Opens it. A refusal hands it back.
+    /// Opens it. A refusal returns it.
     pub(crate) fn open(self, alloc: Global) -> Result<Sim<D>, (Closed<D>, OpenError)> {
         match World::open(alloc, self.disk) {
             Ok(world) => Ok(Sim { world }),
@@ -47,46 +47,46 @@ impl<D: Device> Closed<D> {
         }
     }
 
-    /// The device after a crash: each touched octet becomes what the pick makes of it.
+    /// The device after a crash: each touched octet becomes what the pick says.
     pub(crate) fn crashed(self, alloc: Global, pick: Pick) -> Closed<D> {
         Closed::new(self.disk.crashed(alloc, pick))
     }
 
-    /// The n-th device call from now on fails.
+    /// Makes the n-th device call from now on fail.
     pub(crate) fn fail_at(&mut self, call: u64) {
         self.disk.fail_at(call);
     }
 
-    /// The n-th device call of this kind from now on fails.
+    /// Makes the n-th device call of this kind from now on fail.
     pub(crate) fn fail_kind(&mut self, kind: DiskCall, call: u64) {
         self.disk.fail_kind(kind, call);
     }
 }
 
 impl<D: Device> Sim<D> {
-    /// One event.
+    /// Makes one event happen.
     pub(crate) fn step(&mut self, alloc: Global, event: &Event) -> Result<Answer, StepError>
         requires { MayHappen event.now }
     {
         self.world.step(alloc, event)
     }
 
-    /// The n-th device call from now on fails.
+    /// Makes the n-th device call from now on fail.
     pub(crate) fn fail_at(&mut self, call: u64) {
         self.world.fail_at(call);
     }
 
-    /// The n-th device call of this kind from now on fails.
+    /// Makes the n-th device call of this kind from now on fail.
     pub(crate) fn fail_kind(&mut self, kind: DiskCall, call: u64) {
         self.world.fail_kind(kind, call);
     }
 
-    /// How many changes were there at the opening.
+    /// The number of changes at the opening.
     pub(crate) fn opened(&self) -> u64 {
         self.world.opened()
     }
 
-    /// How many changes are durable.
+    /// The number of durable changes.
     pub(crate) fn durable(&self) -> u64 {
         self.world.durable()
     }
@@ -96,7 +96,7 @@ impl<D: Device> Sim<D> {
         self.world.ready()
     }
 
-    /// What is accepted.
+    /// The accepted changes.
     pub(crate) fn spool(&self) -> &Spool {
         self.world.spool()
     }

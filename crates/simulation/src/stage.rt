@@ -7,7 +7,7 @@ use memdisk::Pick;
 use std::alloc::Global;
 use world::OpenError;
 
-/// A world, or the device where the last opening was refused: a crash opens it again.
+/// A world, or the device if the last opening was refused: a crash opens it again.
 #[derive(Drop)]
 pub(crate) struct Stage<D: Device> {
     pub(crate) sim: Option<Sim<D>>,
@@ -26,7 +26,7 @@ impl<D: Device> Stage<D> {
         }
     }
 
-    /// The n-th device call from now on fails.
+    /// Makes the n-th device call from now on fail.
     pub(crate) fn fail_at(&mut self, call: u64) {
         if let Some(sim) = &mut self.sim {
             sim.fail_at(call);
@@ -36,7 +36,7 @@ impl<D: Device> Stage<D> {
         }
     }
 
-    /// The n-th device call of this kind from now on fails.
+    /// Makes the n-th device call of this kind from now on fail.
     pub(crate) fn fail_kind(&mut self, kind: DiskCall, call: u64) {
         if let Some(sim) = &mut self.sim {
             sim.fail_kind(kind, call);
@@ -46,11 +46,12 @@ impl<D: Device> Stage<D> {
         }
     }
 
-    /// The device crashes, each touched octet by this pick, and is opened again. Answers how many changes it holds.
+    /// Crashes the device, each touched octet becoming what this pick says, and opens it again. Answers the number of
+    /// its changes.
     pub(crate) fn crash(&mut self, alloc: Global, pick: Pick) -> Result<u64, OpenError> {
         match self.take_device() {
             Some(device) => self.reopen(alloc, device.crashed(alloc, pick)),
-            // one of both is always there
+            // one of the two is always there
             None => Err(OpenError::Fault),
         }
     }

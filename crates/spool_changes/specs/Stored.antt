@@ -1,11 +1,11 @@
--- What is asked of blocks that changes are read from.
+-- What is required of blocks that changes are read from.
 use Rattle.std.specs.Prelude.{◌≤◌, ℕ, List, length}
 use Rattle.model.specs.Stream.{Octets}
 use Rattle.model.specs.Indexed.{ArePlaces, FilePlaces}
 use Rattle.model.specs.Layout.{Holds}
 use Rattle.model.specs.Spool.{Spool}
 
--- the blocks hold some changes of a host, of which one has this serial, and the places are those of their files
+-- the blocks hold some changes of a host, one of them has this serial, and the places are those of their files
 pub record HasChange (inodes : ℕ) (blocks : List Octets) (places : FilePlaces) (serial : ℕ) : Type 0 where
   pub host : Octets
   pub changes : Spool

@@ -1,4 +1,4 @@
-//! What the file of a change says, as a change of its own.
+//! Copies the contents of a change's file into a change.
 
 ghost use Rattle.std.specs.Prelude.{◌≡◌, map, IfOk};
 ghost use Rattle.spool_reading.specs.Said.{change_of};
@@ -7,7 +7,7 @@ use model::{Change, Names, Text};
 use spool_reading::Said;
 use std::alloc::{AllocError, Global};
 
-/// The change that a file says, with its own copies of the octets. Refused for memory alone.
+/// The change that a file describes, with its own copies of the octets. Refused only for want of memory.
 pub fn change_said(alloc: Global, said: &Said<'_>) -> Result<Change, AllocError>
     ensures { IfOk result (λ change. change ≡ change_of said.now) }
 {
@@ -39,14 +39,14 @@ pub fn change_said(alloc: Global, said: &Said<'_>) -> Result<Change, AllocError>
     }
 }
 
-/// A text of these octets. Refused for memory alone.
+/// A text of these octets. Refused only for want of memory.
 fn copy(alloc: Global, octets: &[u8]) -> Result<Text, AllocError>
     ensures { IfOk result (λ text. text ≡ octets.now) }
 {
     Ok(Text::new(octets.to_vec(alloc)?))
 }
 
-/// The same names. Refused for memory alone.
+/// A copy of the names. Refused only for want of memory.
 fn copy_names(alloc: Global, names: &[&[u8]]) -> Result<Names, AllocError>
     ensures { IfOk result (λ copies. copies ≡ map (λ name. name.now) names.now) }
 {

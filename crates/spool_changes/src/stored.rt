@@ -14,7 +14,8 @@ use spool_reading::{file_at, read_change};
 use std::alloc::{AllocError, Global};
 use volume::Blocks;
 
-/// The change with this serial of the spool that the blocks hold, read once from its file. Refused for memory alone.
+/// The change with this serial of the spool that the blocks hold, read once from its file. Refused only for want of
+/// memory.
 pub fn change<B: Blocks>(
     alloc: Global,
     blocks: &B,

@@ -1,8 +1,9 @@
-//! Volumes of which octets were replaced, and whether they are opened.
+//! Volumes in which octets were replaced, and whether they are opened.
 //!
-//! The volume has the groups x.a and x.b, an article of another host in x.a (serial 3), one of this host in both (4), a second one of the
-//! other host in x.a (5), and an expiry of x.a up to number 1 (6). Of 64 inodes the inodes stand in block 2 and the slots in block 3, 64
-//! octets each. The files take the inodes 0 to 9 and the blocks 4 to 13:
+//! The volume has the groups x.a and x.b. Serial 3 is an article of another host in x.a, and serial 4 one of this host
+//! in both groups. Serial 5 is a second article of the other host in x.a, and serial 6 an expiry of x.a up to number 1.
+//! There are 64 inodes: they are in block 2 and the slots in block 3, 64 octets each. The files take the inodes 0 to 9
+//! and the blocks 4 to 13:
 //!
 //! | Inode | File | Block |
 //! |---|---|---|
@@ -28,7 +29,7 @@ const INODES: u32 = 2;
 
 const SLOTS: u32 = 3;
 
-/// What is filed, and carried as a batch.
+/// The changes that are filed, and taken as a batch.
 const CHANGES: &[(Call, Answer)] = &[
     (
         Call::Add("x.a", b'y', "test"),
@@ -67,7 +68,7 @@ const CHANGES: &[(Call, Answer)] = &[
     (Call::Reopen, Answer::Opened),
 ];
 
-/// What is replaced, and whether a spool is opened.
+/// The octets that are replaced, and whether a spool is then opened.
 type Row = (&'static str, &'static [Octet], bool);
 
 const ROWS: &[Row] = &[

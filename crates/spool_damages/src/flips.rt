@@ -1,4 +1,5 @@
-//! The volume of `damages` with one bit changed, octet by octet: each is told as damaged, or opened as a spool that answers.
+//! The volume of `damages` with one bit changed, octet by octet: each is found to be damaged, or opened as a spool that
+//! answers.
 
 use crate::damages::changed;
 use spool_files::Spool;
@@ -7,7 +8,7 @@ use spool_reading::OpenError;
 use std::alloc::{AllocError, Global};
 use std::test::Fail;
 
-/// What is to become of a volume of which a bit was changed.
+/// The expected outcome for a volume in which a bit was changed.
 #[derive(Clone, Copy, PartialEq)]
 enum Wanted {
     Damaged,
@@ -15,8 +16,8 @@ enum Wanted {
     Either,
 }
 
-/// Octets of a block of which each in turn is changed: what they are, their block, the first one, how many, and how far they
-/// stand apart.
+/// Octets of a block, each of which is changed in turn: their name, their block, the first one, their number, and the
+/// distance between them.
 type Row = (&'static str, u32, usize, usize, usize, Wanted);
 
 const ROWS: &[Row] = &[
@@ -59,7 +60,7 @@ fn rows() -> &'static [Row] {
 /// The bits that are changed, in turn, in one octet after the other.
 const BITS: [u8; 8] = [1, 2, 4, 8, 16, 32, 64, 128];
 
-/// What each spool that is opened is to find.
+/// What each spool that is opened must find.
 const FOUND: &[(Asked, u64)] = &[
     (Asked::Len, 6),
     (Asked::GroupCount, 2),
@@ -77,7 +78,7 @@ fn found() -> &'static [(Asked, u64)] {
     FOUND
 }
 
-/// The texts that each is to have.
+/// The texts that each spool must have.
 const TEXTS: &[Sought] = &[
     Sought::Description("x.a"),
     Sought::Description("x.b"),
@@ -105,7 +106,7 @@ fn answers(alloc: Global, spool: &Spool) -> Result<bool, AllocError> {
     Ok(true)
 }
 
-/// Whether a volume of which this octet was changed becomes what is wanted.
+/// Whether a volume in which this octet was changed has the expected outcome.
 fn becomes(
     alloc: Global,
     stored: &Stored,
@@ -121,7 +122,7 @@ fn becomes(
     }
 }
 
-/// The first place of a row where it becomes something else.
+/// The first octet of a row with another outcome.
 fn first_wrong(alloc: Global, stored: &Stored, row: &Row) -> Result<Option<usize>, AllocError> {
     let (_, block, first, count, apart, wanted) = row;
     for k in 0..*count {

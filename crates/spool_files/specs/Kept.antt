@@ -1,4 +1,4 @@
--- What a spool keeps beside its blocks.
+-- What a spool keeps besides its blocks.
 use Rattle.std.specs.Prelude.{◌≡◌, ℕ, ◌+◌, List, length}
 use mathlib.Core.HLevel.{is_prop→PathP}
 use mathlib.Core.Path.{PathP}
@@ -13,7 +13,7 @@ use Rattle.index.specs.View.{IndexView}
 use Rattle.volume.specs.Volume.{VolumeView}
 use Rattle.spool_growing.specs.Kept.{IsHeld, IsKept}
 
--- the changes that stand in the blocks
+-- the changes that the blocks hold
 pub record StandsIn (host : Octets) (inodes : ℕ) (blocks : List Octets) : Type 0 where
   pub changes : Spool
   pub held : ∥ IsHeld host inodes blocks changes ∥₁
@@ -21,7 +21,7 @@ pub record StandsIn (host : Octets) (inodes : ℕ) (blocks : List Octets) : Type
 pub spool_set : (S R : Spool) → IsProp (S ≡ R)
 spool_set = Prim.hlevel props
 
--- there is one list of changes at most
+-- there is at most one list of changes
 pub one_stands : (host : Octets) (inodes : ℕ) (blocks : List Octets) → IsProp (StandsIn host inodes blocks)
 one_stands host inodes blocks p q = λ i. record { changes = same i; held = along i } where
   same : p.changes ≡ q.changes
@@ -30,11 +30,11 @@ one_stands host inodes blocks p q = λ i. record { changes = same i; held = alon
   along : PathP (λ i. ∥ IsHeld host inodes blocks (same i) ∥₁) p.held q.held
   along = is_prop→PathP (λ i. ∥ IsHeld host inodes blocks (same i) ∥₁) (λ i. ∥∥₁_prop) p.held q.held
 
--- so many inodes have no file
+-- this many inodes have no file
 abbrev pub AreFree : ℕ → ℕ → Spool → Type 0
 AreFree free inodes S = free + length (files_of S) ≡ inodes
 
--- some changes stand so
+-- the blocks hold some changes, and all that is kept agrees with them
 pub record CanStand (host : Octets) (inodes free : ℕ) (volume : VolumeView) (index : IndexView) (places : FilePlaces) : Type 0 where
   pub changes : Spool
   pub kept : IsKept host inodes volume index places changes

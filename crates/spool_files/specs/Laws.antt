@@ -1,4 +1,4 @@
--- What holds of every spool: its host is one, its changes are lawful, and they are few.
+-- What holds for every spool: its host is valid, its changes are lawful, and they are few.
 use Rattle.std.specs.Prelude.{◌≡◌, ◌⊎◌, ℕ, ◌+◌, ◌<◌, ◌^◌, List, [], ◌∷◌, ◌++◌, length, IsTrue}
 use Rattle.std.proofs.Common.{inl, inr, ap, arith}
 use Rattle.std.proofs.Math.Logic.{∥∥₁_elim}
@@ -49,14 +49,14 @@ name_prop = Prim.hlevel props
 below_prop : (m n : ℕ) → IsProp (m < n)
 below_prop = Prim.hlevel props
 
--- its host is one
+-- its host is valid
 pub named_well : (s : SpoolView) → IsTrue (is_host s.host)
 named_well s = ∥∥₁_elim s.sound (name_prop s.host) (λ is. is.named)
 
--- each change may follow those before it
+-- each change may follow the changes before it
 pub changes_lawful : (s : SpoolView) → IsLawful s.host s.changes
 changes_lawful s = ∥∥₁_elim s.sound (lawful_prop s.host [] s.changes) (λ is. is.held.lawful)
 
--- each serial has room in ten digits
+-- each serial fits into ten digits
 pub changes_few : (s : SpoolView) → length s.changes + 1 < 10 ^ 10
 changes_few s = ∥∥₁_elim s.sound (below_prop (length s.changes + 1) (10 ^ 10)) (λ is. Prim.omega (arith, fewer_than_inodes s.host s.inodes s.blocks s.changes is.held, is.room.few))

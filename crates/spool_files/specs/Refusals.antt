@@ -1,4 +1,4 @@
--- Why a change is refused, memory apart: the first test that fails.
+-- Why a change is refused, apart from memory: the first test that fails.
 use Rattle.std.specs.Prelude.{◌≡◌, ℕ, ◌⊎◌, Bool, true, false, ◌&&◌, nat_le, if◌then◌else◌, length, Option, Some, None, Result, MatchResult}
 use Rattle.model.specs.Stream.{Octets}
 use Rattle.model.specs.Spool.{Spool, high, is_here, low}
@@ -13,7 +13,7 @@ use Rattle.spool_files.specs.declared.errors.AddError.TheVariants as add
 use Rattle.spool_files.specs.declared.errors.ExpireError.{ExpireError}
 use Rattle.spool_files.specs.declared.errors.ExpireError.TheVariants as expire
 
--- an answer or memory where no test fails, and else that test's refusal; a refusal leaves the spool as it was
+-- an answer or `Memory` if no test fails, and otherwise that test's refusal; a refusal leaves the spool as it was
 abbrev pub Tested : {T E : Type 0} → E → Option E → SpoolView → SpoolView → Result T E → (T → Type 0) → Type 0
 Tested memory refusal old new result done =
     MatchResult result (λ answer. (refusal ≡ None) × done answer) (λ error. (((error ≡ memory) × (refusal ≡ None)) ⊎ (refusal ≡ Some error)) × (new ≡ old))
@@ -21,7 +21,7 @@ Tested memory refusal old new result done =
 abbrev pub is_full_for : SpoolView → Change → Bool
 is_full_for s c = is_full (length s.blocks) s.inodes s.changes (Some c)
 
--- a group: its name is here, or there is no room
+-- a group: one with its name exists, or there is no room
 abbrev pub group_refusal : SpoolView → Octets → Change → Option AddError
 group_refusal s name c = if is_here s.changes name then Some add.Exists else if is_full_for s c then Some add.Full else None
 
@@ -29,7 +29,7 @@ group_refusal s name c = if is_here s.changes name then Some add.Exists else if 
 abbrev pub has_number : Spool → Octets → ℕ → Bool
 has_number S g n = is_here S g && (nat_le (low S g) n && nat_le n (high S g))
 
--- an expiry: the group or the number isn't there, or there is no room
+-- an expiry: the group or the number does not exist, or there is no room
 abbrev pub expiry_refusal : SpoolView → Octets → ℕ → Option ExpireError
 expiry_refusal s g n = if has_number s.changes g n then (if is_full_for s (Expire g n) then Some expire.Full else None) else Some expire.NotFound
 
@@ -37,7 +37,7 @@ expiry_refusal s g n = if has_number s.changes g n then (if is_full_for s (Expir
 abbrev pub article_refusal : SpoolView → Change → Option FileError
 article_refusal s c = if is_full_for s c then Some file.Full else None
 
--- a change was filed or memory refused, where there was room, or there was none; a refusal leaves the spool as it was
+-- if there was room, a change was filed or memory was refused; a refusal leaves the spool as it was
 abbrev pub IsFiled : SpoolView → SpoolView → Change → Result (Unit {0}) FileError → Type 0
 IsFiled old new c result =
     MatchResult result (λ done. (is_full_for old c ≡ false) × Adds old new c) (λ error. (((error ≡ file.Memory) × (is_full_for old c ≡ false)) ⊎ ((error ≡ file.Full) × (is_full_for old c ≡ true))) × (new ≡ old))

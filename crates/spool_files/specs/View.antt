@@ -6,8 +6,8 @@ use Rattle.model.specs.declared.change.Change.{Change}
 pub use Rattle.spool_growing.specs.Growing.{Dirties}
 use Rattle.spool_growing.specs.Kept.{IsHeld}
 
--- its host, the inodes of its volume, the accepted changes, the cached blocks, which hold them, and the numbers of those that no
--- batch has taken since they changed
+-- its host, the inodes of its volume, the accepted changes, the cached blocks, which hold them, and the numbers of the
+-- blocks that no batch has taken since they changed
 pub record SpoolView : Type 0 where
   pub host : Octets
   pub inodes : ℕ
@@ -16,7 +16,7 @@ pub record SpoolView : Type 0 where
   pub dirty : List ℕ
   pub sound : ∥ IsHeld host inodes blocks changes ∥₁
 
--- what holds of every spool
+-- what holds for every spool
 abbrev pub IsSpool : SpoolView → Type 0
 IsSpool s = IsHeld s.host s.inodes s.blocks s.changes
 

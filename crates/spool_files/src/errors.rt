@@ -1,9 +1,11 @@
+//! The refusals of a spool's changes.
+
 use thiserror::Error;
 
-/// Why a group is not added.
+/// Why a group was not added.
 #[derive(Clone, Copy, Debug, Drop, PartialEq, Eq, Error)]
 pub enum AddError {
-    /// The name is there.
+    /// A group with this name exists already.
     #[error("E11 Exists")]
     Exists,
     /// There is no room for the group.
@@ -14,10 +16,10 @@ pub enum AddError {
     Memory,
 }
 
-/// Why articles are not taken out of a group.
+/// Why articles were not removed from a group.
 #[derive(Clone, Copy, Debug, Drop, PartialEq, Eq, Error)]
 pub enum ExpireError {
-    /// The group isn't here, or the number is below its lowest or above its highest.
+    /// The group does not exist, or the number is below its lowest or above its highest.
     #[error("E12 NotFound")]
     NotFound,
     /// There is no room for the expiry.

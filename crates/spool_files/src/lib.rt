@@ -38,7 +38,7 @@ use std::alloc::{AllocError, Global};
 use std::marker::Model;
 use volume::{BatchBuf, Blocks, Volume};
 
-/// A change is refused where fewer blocks are free.
+/// A change is refused if fewer blocks than this are free.
 const BLOCKS_ASKED: u32 = 256;
 
 /// The most groups on a server.
@@ -62,7 +62,7 @@ pub struct Spool {
 
 ghost use Rattle.spool_files.specs.Kept.{StandsIn, one_stands};
 
-// By hand: who drops one would prove a derived one again, field by field.
+// By hand: a caller that drops one would otherwise prove the derived one again, field by field.
 impl Drop for Spool {
     fn drop(self) {
         let Spool {
@@ -96,7 +96,7 @@ impl Spool {
     ghost use Rattle.spool_files.specs.Refusals.{Tested, article_refusal, expiry_refusal, group_refusal, has_number, is_full_for};
     ghost use Rattle.spool_files.specs.View.{Adds, IsSpool};
 
-    /// The spool that stands in the blocks of a volume, with its index, the places of its files, and how many inodes are free.
+    /// The spool in the blocks of a volume, with its index, the places of its files, and the number of free inodes.
     pub fn of(
         alloc: Global,
         host: Text,
@@ -154,35 +154,35 @@ impl Spool {
         )
     }
 
-    /// What holds of every spool: its blocks hold its changes.
+    /// States what holds for every spool: its blocks hold its changes. It does nothing.
     pub fn kept(&self)
         ensures { IsSpool self.now }
     {
         let _ = &self.inodes;
     }
 
-    /// How many inodes the volume's label has.
+    /// The number of inodes in the volume's label.
     pub fn inodes(&self) -> u32
         ensures { result ≡ self.now.inodes }
     {
         self.inodes
     }
 
-    /// How many logical blocks there are.
+    /// The number of logical blocks.
     pub fn blocks(&self) -> u32
         ensures { result ≡ length self.now.blocks }
     {
         self.volume.len()
     }
 
-    /// How many blocks are dirty.
+    /// The number of dirty blocks.
     pub fn dirty_len(&self) -> usize
         ensures { result ≡ length self.now.dirty }
     {
         self.volume.dirty_len()
     }
 
-    /// Copies the dirty blocks, of which there are at most 512, in place of what was in the buffer. Then none is dirty.
+    /// Copies the dirty blocks, at most 512, into the buffer in place of its content. Afterwards none is dirty.
     pub fn copy_dirty(&mut self, into: &mut BatchBuf)
         requires { length self.old.dirty ≤ 512 }
         ensures clean { self.new ≡ record self.old { dirty = [] } }
@@ -196,7 +196,7 @@ impl Spool {
         self.volume.copy_dirty(into);
     }
 
-    /// Whether the group is here.
+    /// Whether the group exists.
     fn is_here(&self, name: &[u8]) -> bool
         ensures { result ≡ is_here self.now.changes name.now }
     {
@@ -225,8 +225,8 @@ impl Spool {
         self.lacks_room(GROUP_FILES) || GROUPS <= self.index.groups().len()
     }
 
-    /// Adds a group and answers its serial. Refused as `Exists`, `Full` or `Memory`, in that order. A refusal changes
-    /// nothing.
+    /// Adds a group and answers its serial. Refused as `Exists`, `Full` or `Memory`, tested in that order. A refusal
+    /// changes nothing.
     pub fn add_group(
         &mut self,
         name: &[u8],
@@ -254,7 +254,8 @@ impl Spool {
         }
     }
 
-    /// Adds a group that may be made and for which there is room. An `Err` is out of memory and changes nothing.
+    /// Adds a group that may be made and for which there is room. Refused only for want of memory, and then nothing
+    /// changes.
     fn push_group(
         &mut self,
         name: &[u8],
@@ -284,7 +285,7 @@ impl Spool {
         Ok(())
     }
 
-    /// Whether there is no room for an article in these groups, which are here.
+    /// Whether there is no room for an article in these groups, which must exist.
     fn is_full_for_article(&self, groups: &[Text]) -> bool
         requires { AreHere self.now.changes groups.now }
         ensures { result ≡ is_full_for self.now (changed.Article [] groups.now 0) }
@@ -292,8 +293,8 @@ impl Spool {
         self.lacks_room(1) || extends_large(&self.index, groups)
     }
 
-    /// Files an article, whose change may follow, in these groups, and answers its serial. Refused as `Full` or `Memory`, in
-    /// that order. A refusal changes nothing.
+    /// Files an article in these groups, and answers its serial. Its change must be one that may follow. Refused as
+    /// `Full` or `Memory`, tested in that order. A refusal changes nothing.
     pub fn add_article(
         &mut self,
         text: &[u8],
@@ -318,7 +319,8 @@ impl Spool {
         }
     }
 
-    /// Files an article that may be filed in these groups and for which there is room. An `Err` is out of memory and changes nothing.
+    /// Files an article that may be filed in these groups and for which there is room. Refused only for want of memory,
+    /// and then nothing changes.
     fn push_article(
         &mut self,
         article: &Article<'_>,
@@ -346,7 +348,7 @@ impl Spool {
         Ok(())
     }
 
-    /// Whether a number is in a group that is here, from its lowest to its highest.
+    /// Whether the group exists and the number is in it, from its lowest to its highest.
     fn has_number(&self, name: &[u8], number: u32) -> bool
         ensures { result ≡ has_number self.now.changes name.now number }
     {
@@ -356,8 +358,9 @@ impl Spool {
         }
     }
 
-    /// Takes the articles of a group up to a number out of it, and answers the serial of that change. Refused as `NotFound`, `Full`
-    /// or `Memory`, in that order. A refusal changes nothing.
+    /// Removes the articles of a group up to a number, and answers the serial of that change. Refused as `NotFound`
+    /// (the group does not exist, or the number is not in it), `Full` or `Memory`, tested in that order. A refusal
+    /// changes nothing.
     pub fn expire(&mut self, name: &[u8], number: u32) -> Result<u64, ExpireError>
         ensures { Tested ExpireError.Memory (expiry_refusal self.old name.now number) self.old self.new result
             (λ serial. (serial ≡ length self.old.changes + 1) × Adds self.old self.new (changed.Expire name.now number)) }
@@ -374,7 +377,8 @@ impl Spool {
         }
     }
 
-    /// Adds an expiry that may follow and for which there is room. An `Err` is out of memory and changes nothing.
+    /// Adds an expiry that may follow and for which there is room. Refused only for want of memory, and then nothing
+    /// changes.
     fn push_expiry(&mut self, name: &[u8], number: u32) -> Result<(), AllocError>
         requires may { MayExpire self.old.changes name.now number }
         requires room { is_full_for self.old (changed.Expire name.now number) ≡ false }

@@ -1,4 +1,4 @@
-//! What the commands may ask of the spool.
+//! The commands' questions, answered by the spool.
 
 use crate::Spool;
 use lookups::{GroupView, LookUps};

@@ -1,4 +1,4 @@
-//! Opening a spool.
+//! Opens a spool.
 
 ghost use Rattle.std.specs.Prelude.{◌≡◌, List, IfErr, IfOk, IsTrue};
 ghost use Rattle.model.specs.Files.{HasRoom};
@@ -15,8 +15,8 @@ use std::alloc::Global;
 use volume::Volume;
 
 impl Spool {
-    /// Opens the spool of a host that stands in the blocks of a volume, for every content of these. `Damaged` exactly where they
-    /// hold no spool of the host (docs/FORMATS.md), `Memory` where a growth was refused. No block changes.
+    /// Opens the spool of a host in the blocks of a volume, whatever they contain. `Damaged` exactly if they hold no
+    /// spool of the host (docs/FORMATS.md), `Memory` if a growth was refused. No block changes.
     pub fn open(alloc: Global, host: Text, inodes: u32, volume: Volume) -> Result<Spool, OpenError>
         requires named { IsTrue (is_host host) }
         requires room { HasRoom inodes volume.cache }

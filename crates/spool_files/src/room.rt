@@ -13,10 +13,10 @@ ghost use Rattle.spool_opening.specs.Replayed.{AreHere};
 use index::{Group, Index};
 use model::Text;
 
-/// A file that gets more has at most so many octets: 12,288 less than the largest.
+/// The most octets of a file that may still grow: 12,288 less than the largest file has.
 const MOST_OCTETS: u64 = 4_222_976;
 
-/// The articles whose numbers are so many octets, 16 for each.
+/// The most articles of a group whose numbers may still grow, 16 octets for each.
 const MOST_NUMBERS: u64 = MOST_OCTETS / 16;
 
 /// Whether the numbers or the overview of a group are too large for another article.
@@ -26,7 +26,7 @@ fn is_large(group: &Group) -> bool
     MOST_NUMBERS < group.high() || MOST_OCTETS < group.overview_size()
 }
 
-/// Whether those of the group with this name, which is here, are.
+/// Whether the files of the group with this name, which must exist, are too large for another article.
 fn is_large_in(index: &Index, name: &[u8]) -> bool
     ensures { (S : Spool) → Indexes S index.now → is_here S name.now ≡ true
         → result ≡ (model_room.is_large (numbers_file S name.now) || model_room.is_large (overview_file S name.now)) }
@@ -37,7 +37,7 @@ fn is_large_in(index: &Index, name: &[u8]) -> bool
     }
 }
 
-/// Whether those of one of these groups, which are here, are.
+/// Whether the files of one of these groups, which must exist, are too large for another article.
 pub(crate) fn extends_large(index: &Index, groups: &[Text]) -> bool
     ensures { (S : Spool) → Indexes S index.now → AreHere S groups.now
         → result ≡ list_any (λ g. model_room.is_large (numbers_file S g) || model_room.is_large (overview_file S g)) groups.now }

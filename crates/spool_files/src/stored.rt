@@ -8,7 +8,7 @@ use spool_changes::change;
 use std::alloc::AllocError;
 
 impl Spool {
-    /// The change with this serial, from 1 to `len`, read once from its file. An `Err` is out of memory.
+    /// The change with this serial, from 1 to `len`, read once from its file. Refused only for want of memory.
     pub fn change(&self, serial: u64) -> Result<Change, AllocError>
         requires from { 1 ≤ serial }
         requires to { serial ≤ length self.now.changes }

@@ -1,4 +1,5 @@
-//! What calls of one spool answer, one after the other. Of 64 inodes and 1,024 blocks, 1,020 blocks are free at first.
+//! What calls of one spool answer, one after the other. There are 64 inodes and 1,024 blocks, of which 1,020 are free
+//! at first.
 
 use serving::FileError;
 use spool_files::{AddError, ExpireError};
@@ -9,10 +10,10 @@ use spool_plays::{
 use std::alloc::Global;
 use std::test::Fail;
 
-/// Calls, and what each is to answer.
+/// Calls, and the expected answer to each.
 type Rows = &'static [(Call, Answer)];
 
-/// What the batches have carried is opened.
+/// Opens what the batches have written.
 const REOPENED: Rows = &[
     (Call::Carry, Answer::Blocks(0)),
     (Call::Reopen, Answer::Opened),
@@ -435,7 +436,7 @@ const TWO_LEFT: Rows = &[
     ),
 ];
 
-/// The other articles are taken out too, and one more is posted.
+/// The other articles are expired too, and one more is posted.
 const MORE_EXPIRIES: Rows = &[
     (Call::FileExpiry("x.b", 1), Answer::Changed(Filed::Done)),
     (Call::FileExpiry("x.a", 3), Answer::Changed(Filed::Done)),
@@ -528,8 +529,8 @@ const FULL: Rows = &[
     (Call::DirtyLen, Answer::Blocks(0)),
 ];
 
-/// One group is there, and each of the 64 inodes has a file: the record of the group is one block, the numbers another, the
-/// overview two.
+/// One group exists, and each of the 64 inodes has a file. The record of the group takes one block, the numbers
+/// another, the overview two.
 const ALL_INODES: Rows = &[
     (
         Call::Add("x.a", b'y', ""),
@@ -563,7 +564,8 @@ const MANY_GROUPS: Rows = &[
     ),
 ];
 
-/// After the group and its first article 1,017 blocks are free, but for the articles' own. In the end 255 are free.
+/// After the group and its first article 1,017 blocks are free, not counting the articles' own. At the end 255 are
+/// free.
 const FEW_BLOCKS: Rows = &[
     (
         Call::Add("x.a", b'y', ""),
@@ -598,7 +600,7 @@ const MANY_DIRTY: Rows = &[
     (Call::Carry, Answer::TooMany),
 ];
 
-// Functions hand the rows out, so that no proof of a test reads them.
+// The rows are returned by functions, so that no proof of a test reads them.
 
 fn reopened() -> Rows {
     REOPENED
@@ -660,7 +662,8 @@ fn full() -> Rows {
     FULL
 }
 
-/// Makes the calls of a new spool, part by part, and answers the place of the first that is answered otherwise, with that answer.
+/// Makes the calls of a new spool, part by part, and answers the index of the first call with another answer, and that
+/// answer.
 fn first_wrong(alloc: Global, parts: &[Rows]) -> Result<Option<(usize, usize, Answer)>, Fail> {
     let mut stored = Stored::new(alloc)?;
     for (part, rows) in parts.iter().enumerate() {

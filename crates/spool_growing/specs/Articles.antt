@@ -1,4 +1,4 @@
--- An article more, in the files and the index of its groups.
+-- One more article, in the files and the index of its groups.
 use Rattle.std.specs.Prelude.{◌≡◌, ℕ, List, [], ◌∷◌, slice_index_or, Option, Some, None}
 use Rattle.std.specs.List.{Contains}
 use Rattle.model.specs.Stream.{Octets}
@@ -13,14 +13,14 @@ use Rattle.spool_growing.specs.Kept.{IsHeld}
 
 -- ---- what an article adds to its groups
 
--- a piece for the numbers and one for the overview of the group, with the inodes of these
+-- a piece for the numbers and one for the overview of the group, with the inodes of these two files
 pub record ArePiecesOf (inodes : List (Option File)) (S : Spool) (text g : Octets) (number line : Piece) : Type 0 where
   pub numbers : slice_index_or inodes number.at None ≡ Some (record { name = numbers_name g; content = numbers_file S g })
   pub overview : slice_index_or inodes line.at None ≡ Some (record { name = overview_name g; content = overview_file S g })
   pub number_is : number.octets.items ≡ next_record S text g
   pub line_is : line.octets.items ≡ next_line S text g
 
--- two for each group
+-- two pieces for each group
 abbrev pub ArePieces : List (Option File) → Spool → Octets → List Octets → List Piece → Type 0
 ArePieces inodes S text [] [] = Unit {0}
 ArePieces inodes S text [] (p ∷ pieces) = ⊥
@@ -42,7 +42,7 @@ pub record CanFile (index : IndexView) (places : FilePlaces) (text : Octets) (fi
   pub placed : ArePlaces inodes blocks changes places
   pub may : MayFile host changes text filed moment
 
--- one of the groups
+-- the same for one of the groups
 pub record CanFileIn (index : IndexView) (places : FilePlaces) (text g : Octets) : Type 0 where
   pub filed : List Octets
   pub can : CanFile index places text filed

@@ -30,7 +30,7 @@ pub record LacksGroup (inodes : ℕ) (blocks : List Octets) (name : Octets) : Ty
   pub numbers : ¬ (IsThere (table inodes blocks) (numbers_name name))
   pub overview : ¬ (IsThere (table inodes blocks) (overview_name name))
 
--- so many blocks and inodes are free
+-- this many blocks and inodes are free
 pub record HasFree (inodes files : ℕ) (blocks : List Octets) : Type 0 where
   pub inodes_free : length (files_in (table inodes blocks)) + files ≤ inodes
   pub blocks_free : 256 ≤ free_blocks blocks
@@ -45,8 +45,8 @@ pub record MakesGroup (inodes at numbers overview : ℕ) (name octets : Octets) 
 
 -- ---- the whole
 
--- there are as many blocks, and the dirty ones are those that were dirty and those whose octets differ now, none of them twice; a
--- change dirties at most 256
+-- there are as many blocks as before. The dirty ones are those that were dirty and those whose octets changed, none of
+-- them twice; a change dirties at most 256
 pub record Dirties (old new : List Octets) (before after : List ℕ) : Type 0 where
   pub size : length new ≡ length old
   pub exactly : (k : ℕ) → Contains after k ↔ (Contains before k ⊎ Differs old new k)
@@ -61,14 +61,14 @@ pub record IsReady (inodes : ℕ) (volume : VolumeView) (index : IndexView) (pla
   pub may : MayFollow host changes c
   pub room : is_full (length volume.cache) inodes changes (Some c) ≡ false
 
--- whatever they held, they hold this change behind it
+-- if they held some changes, they now hold this change after them
 pub record IsGrown (inodes : ℕ) (v w : VolumeView) (i j : IndexView) (p q : FilePlaces) (c : Change) : Type 0 where
   pub kept : (host : Octets) (S : Spool) → IsKept host inodes v i p S → MayFollow host S c → IsKept host inodes w j q (S ++ c ∷ [])
   pub dirties : Dirties v.cache w.cache v.dirty w.dirty
 
 -- ---- an article
 
--- its file was made in this inode, and then these pieces were put at the ends of their files
+-- its file was made in this inode, and then these pieces were appended to their files
 pub record FilesArticle (inodes at : ℕ) (name octets : Octets) (pieces : List Piece) (old new : List Octets) : Type 0 where
   pub calls : Calls inodes (making_calls name octets ++ map (append_call (table inodes old)) pieces) old new
   pub article : name_of (table inodes new) at ≡ Some name

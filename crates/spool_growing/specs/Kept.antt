@@ -9,7 +9,7 @@ use Rattle.model.specs.Stream.{Octets}
 use Rattle.index.specs.View.{IndexView, Indexes}
 use Rattle.volume.specs.Volume.{VolumeView}
 
--- blocks with room for so many inodes hold these changes of a host
+-- blocks with room for this many inodes hold these changes of a host
 pub record IsHeld (host : Octets) (inodes : ℕ) (blocks : List Octets) (S : Spool) : Type 0 where
   pub named : IsTrue (is_host host)
   pub room : HasRoom inodes blocks

@@ -1,4 +1,4 @@
-//! What is put together of an article before it is filed.
+//! What is put together for an article before it is filed.
 
 ghost use Rattle.std.specs.Prelude.{◌≡◌, ◌^◌, ◌<◌, length, map, IfOk};
 ghost use Rattle.std.specs.List.{All};
@@ -9,7 +9,7 @@ use model::{Names, Text};
 use records::article_record;
 use std::alloc::{AllocError, Global};
 
-/// The same names. Refused for memory alone.
+/// A copy of the names. Refused only for want of memory.
 pub(crate) fn copy_names(alloc: Global, names: &[Text]) -> Result<Names, AllocError>
     ensures { IfOk result (λ copy. copy ≡ names.now) }
 {
@@ -20,7 +20,7 @@ pub(crate) fn copy_names(alloc: Global, names: &[Text]) -> Result<Names, AllocEr
     Ok(Names::new(copy))
 }
 
-/// The octets of the names. Refused for memory alone.
+/// The octets of the names. Refused only for want of memory.
 fn octets_of(alloc: Global, names: &[Text]) -> Result<Vec<&[u8]>, AllocError>
     ensures { IfOk result (λ octets. map (λ name. name.now) octets.items ≡ names.now) }
 {
@@ -31,7 +31,7 @@ fn octets_of(alloc: Global, names: &[Text]) -> Result<Vec<&[u8]>, AllocError>
     Ok(octets)
 }
 
-/// The record of an article that is filed in these groups. Refused for memory alone.
+/// The record of an article that is filed in these groups. Refused only for want of memory.
 pub(crate) fn record_of(
     alloc: Global,
     serial: u64,

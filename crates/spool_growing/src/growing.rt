@@ -1,5 +1,5 @@
-//! One change more in all that a spool keeps: its files on the stage, then their places and the index, and last the stage is
-//! applied, which takes no memory. Where memory is refused, all is as it was.
+//! Adds one more change to all that a spool keeps: first its files on the stage, then their places and the index. Last
+//! the stage is applied, which takes no memory. If memory is refused, everything is as it was.
 
 ghost use Rattle.std.specs.Prelude.{◌≡◌, IfOk, OnErr, OnOk};
 ghost use Rattle.filing.specs.Calls.{IsKnown};
@@ -21,7 +21,7 @@ use records::{expiry_record, group_record};
 use std::alloc::{AllocError, Global};
 use volume::{Blocks, Volume};
 
-/// The same, after the lowest free block was looked for.
+/// The same, after a search for the lowest free block.
 fn seek_block(volume: &Volume, inodes: u32, free: Free) -> Free
     requires room { HasRoom inodes volume.now.seen }
     requires known { IsKnown inodes free volume.now.seen }
@@ -34,8 +34,8 @@ fn seek_block(volume: &Volume, inodes: u32, free: Free) -> Free
     Free { block, ..free }
 }
 
-/// Adds a group that may be made and for which there is room, and answers what is free then. An `Err` is out of memory and changes
-/// nothing.
+/// Adds a group that may be made and for which there is room, and answers what is free afterwards. Refused only for
+/// want of memory, and then nothing changes.
 pub fn grow_by_group(
     alloc: Global,
     inodes: u32,
@@ -76,8 +76,8 @@ pub fn grow_by_group(
     Ok(seek_block(volume, inodes, next))
 }
 
-/// Adds an expiry that may follow and for which there is room, and answers what is free then. An `Err` is out of memory and changes
-/// nothing.
+/// Adds an expiry that may follow and for which there is room, and answers what is free afterwards. Refused only for
+/// want of memory, and then nothing changes.
 pub fn grow_by_expiry(
     alloc: Global,
     inodes: u32,
@@ -116,8 +116,8 @@ pub fn grow_by_expiry(
     Ok(seek_block(volume, inodes, next))
 }
 
-/// Files an article in these groups, where that change may follow and there is room for it, and answers what is free then. An `Err` is
-/// out of memory and changes nothing.
+/// Files an article in these groups and answers what is free afterwards. The change must be one that may follow, and
+/// there must be room for it. Refused only for want of memory, and then nothing changes.
 pub fn grow_by_article(
     alloc: Global,
     inodes: u32,

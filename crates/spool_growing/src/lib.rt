@@ -1,4 +1,4 @@
-//! One change more in the files of a spool, in their places and in the index.
+//! Adds one more change to the files of a spool, to their places and to the index.
 #![tactic(auto)]
 
 mod articles;

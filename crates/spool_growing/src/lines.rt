@@ -23,11 +23,11 @@ use std::alloc::{AllocError, Global};
 pub(crate) struct Lines {
     /// for each group its number, and its line in the overview
     pub(crate) pieces: Vec<Piece>,
-    /// the octets of the lines
+    /// the number of octets of each line
     pub(crate) sizes: Vec<u64>,
 }
 
-/// What an article adds to the numbers and to the overview of a group. An `Err` is out of memory.
+/// What an article adds to the numbers and to the overview of a group. Refused only for want of memory.
 fn line_in(
     alloc: Global,
     index: &Index,
@@ -58,7 +58,7 @@ fn line_in(
     Ok((number, line))
 }
 
-/// What an article adds to its groups. An `Err` is out of memory.
+/// What an article adds to its groups. Refused only for want of memory.
 pub(crate) fn lines_of(
     alloc: Global,
     index: &Index,

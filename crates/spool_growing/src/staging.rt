@@ -1,4 +1,5 @@
-//! The files that a change makes, on the stage. Each goes into the lowest free inode, and its octets into the lowest free blocks.
+//! The files that a change makes, on the stage. Each is put into the lowest free inode, and its octets into the lowest
+//! free blocks.
 
 ghost use Rattle.std.specs.Prelude.{◌≡◌, ◌<◌, ◌≤◌, IfOk, OnOk, length};
 ghost use Rattle.model.specs.Files.{HasRoom, IsFileSystem, table};
@@ -22,8 +23,8 @@ pub(crate) struct GroupPlaces {
     pub(crate) overview: u32,
 }
 
-/// Makes the files of a group: its record, and empty numbers and overview. An `Err` is out of memory; the caller then drops what it
-/// staged.
+/// Makes the files of a group: its record, and empty numbers and overview. Refused only for want of memory; then the
+/// caller must drop the stage.
 pub(crate) fn make_group<B: Blocks>(
     alloc: Global,
     blocks: &mut B,
@@ -57,7 +58,7 @@ pub(crate) fn make_group<B: Blocks>(
     })
 }
 
-/// Makes the file of an expiry. An `Err` is out of memory; the caller then drops what it staged.
+/// Makes the file of an expiry. Refused only for want of memory; then the caller must drop the stage.
 pub(crate) fn make_expiry<B: Blocks>(
     alloc: Global,
     blocks: &mut B,
@@ -81,8 +82,8 @@ pub(crate) fn make_expiry<B: Blocks>(
     make_file(blocks, inodes, free, &name, record)
 }
 
-/// Makes the file of an article, and puts what it adds to its groups at the ends of their files. An `Err` is out of memory; the caller
-/// then drops what it staged.
+/// Makes the file of an article, and appends what it adds to its groups to their files. Refused only for want of
+/// memory; then the caller must drop the stage.
 pub(crate) fn file_article<B: Blocks>(
     alloc: Global,
     blocks: &mut B,

@@ -1,4 +1,4 @@
--- The files beside those of changes.
+-- The files besides those of changes.
 use Rattle.std.specs.Prelude.{◌≡◌, ℕ, true, false, List, length, slice_index_or, Option, Some, None}
 use Rattle.model.specs.Stream.{Octets}
 use Rattle.model.specs.Files.{File}
@@ -9,7 +9,7 @@ use Rattle.model.specs.SpoolFiles.{is_of_change}
 use Rattle.index.specs.View.{IndexView, Indexes}
 use Rattle.spool_opening.specs.Stored.{Which, file_for, name_for}
 
--- the name of the numbers or of the overview of a group that is here, which have so many octets
+-- the name of the numbers or of the overview of an existing group, which have this many octets
 pub record IsNameOf (S : Spool) (name : Octets) (size : ℕ) : Type 0 where
   pub which : Which
   pub group : Octets
@@ -17,11 +17,11 @@ pub record IsNameOf (S : Spool) (name : Octets) (size : ℕ) : Type 0 where
   pub is : name ≡ name_for which group
   pub size_is : size ≡ length (file_for which S group)
 
--- the file of an inode is a change's, or has the name and the size of such a one
+-- the file of an inode belongs to a change, or has the name and the size of numbers or an overview
 abbrev pub IsWholeAt : List (Option File) → Spool → ℕ → Type 0
 IsWholeAt inodes S k = (f : File) → slice_index_or inodes k None ≡ Some f → is_of_change f ≡ false → IsNameOf S f.name (length f.content)
 
--- the blocks hold some changes of the host, whose index and places these are
+-- the blocks hold some changes of the host, and these are the index and the places of the changes
 pub record IsOpened (host : Octets) (inodes : ℕ) (blocks : List Octets) (index : IndexView) (places : FilePlaces) : Type 0 where
   pub changes : Spool
   pub held : Holds host inodes blocks changes

@@ -24,13 +24,13 @@ pub record AreReplayed (index : IndexView) (places : FilePlaces) : Type 0 where
   pub changes : Spool
   pub replayed : IsReplayed host inodes blocks index places changes
 
--- of these blocks, with room for one serial more
+-- of these blocks, with room for one more serial
 pub record CanReplay (host : Octets) (inodes : ℕ) (blocks : List Octets) (index : IndexView) (places : FilePlaces) : Type 0 where
   pub changes : Spool
   pub replayed : IsReplayed host inodes blocks index places changes
   pub few : length changes < 32768
 
--- so many changes
+-- this many changes
 pub record AreReplayedTo (host : Octets) (inodes : ℕ) (blocks : List Octets) (index : IndexView) (places : FilePlaces) (count : ℕ) : Type 0 where
   pub changes : Spool
   pub replayed : IsReplayed host inodes blocks index places changes
@@ -50,10 +50,10 @@ pub record IsBounded (index : IndexView) : Type 0 where
   pub few : length changes ≤ 32768
   pub short : (g : Octets) → is_here changes g ≡ true → length (overview_file changes g) < 2 ^ 32
 
--- the numbers and the overviews of these groups go on with this article
+-- the numbers and the overviews of these groups continue with this article
 abbrev pub AllGoOn : List (Option File) → Spool → Octets → List Octets → Type 0
 AllGoOn inodes S text names = (k : ℕ) (w : Which) → k < length names → HasPiece inodes (name_for w (slice_index_or names k [])) (length (file_for w S (slice_index_or names k []))) (piece_for w S text (slice_index_or names k []))
 
--- these groups are here
+-- these groups exist
 abbrev pub AreHere : Spool → List Octets → Type 0
 AreHere S names = (k : ℕ) → k < length names → is_here S (slice_index_or names k []) ≡ true

@@ -35,7 +35,7 @@ pub record HasFront (inodes : List (Option File)) (name octets : Octets) : Type 
   pub there : IsFileAt inodes place name content
   pub front : take (length octets) content ≡ octets
 
--- a file of this name has these octets, at most so many of which stand after so many others
+-- a file of this name has these octets at this place
 pub record HasPiece (inodes : List (Option File)) (name : Octets) (after : ℕ) (piece : Octets) : Type 0 where
   pub place : ℕ
   pub content : Octets
@@ -44,7 +44,8 @@ pub record HasPiece (inodes : List (Option File)) (name : Octets) (after : ℕ) 
 
 -- ---- the changes
 
--- these changes are lawful, each has its file in the blocks, and the numbers and the overview of each group begin as theirs
+-- these changes are lawful, each has its file in the blocks, and the numbers and the overview of each group begin as
+-- these changes say
 pub record AreRead (host : Octets) (inodes : ℕ) (blocks : List Octets) (R : Spool) : Type 0 where
   pub lawful : IsLawful host R
   pub changes : (n : ℕ) (c : Change) → slice_get R n ≡ Some c → HasRoomInFile (n + 1) c × Contains (files_in (table inodes blocks)) (change_file (record { serial = n + 1; change = c }))

@@ -1,4 +1,4 @@
-//! All changes of a spool are replayed.
+//! Replays all changes of a spool.
 
 ghost use Rattle.std.specs.Prelude.{◌≡◌, length, IfErr, IfOk};
 ghost use Rattle.model.specs.Files.{HasRoom, IsFileSystem, table};
@@ -15,7 +15,8 @@ use spool_reading::{Files, OpenError};
 use std::alloc::Global;
 use volume::Blocks;
 
-/// Replays all changes, whose files stand in the first so many slots. `Damaged` only where the blocks hold no spool of the host.
+/// Replays all changes, whose files are in the first `count` slots. `Damaged` only if the blocks hold no spool of the
+/// host.
 pub fn replay_all<B: Blocks>(
     alloc: Global,
     blocks: &B,

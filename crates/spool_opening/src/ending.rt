@@ -1,4 +1,4 @@
-//! Whether the files are those of the changes that were replayed, and no other.
+//! Checks that the files are those of the changes that were replayed, and no others.
 
 ghost use Rattle.std.specs.Prelude.{◌≡◌, ◌<◌, ◌+◌, ◌*◌, ◌↔◌, ℕ, List, true, length, IfOk, IsTrue, MatchOption};
 ghost use Rattle.model.specs.Files.{HasRoom, IsFileSystem, files_in, table};
@@ -18,7 +18,7 @@ use spool_reading::{file_name_at, file_size_at};
 use std::alloc::{AllocError, Global};
 use volume::Blocks;
 
-/// Whether a file of this name is a change's.
+/// Whether a file of this name belongs to a change.
 fn names_change(name: &[u8]) -> bool
     ensures { (content : List ℕ) → is_of_change (record { name = name.now; content = content }) ≡ result }
 {
@@ -28,7 +28,7 @@ fn names_change(name: &[u8]) -> bool
     *first == b'g' || (*first == b'a' || *first == b'x')
 }
 
-/// The octets of the numbers of a group; nothing where it is not here.
+/// The number of octets in the numbers of a group; `None` if it does not exist.
 fn numbers_size(index: &Index, group: &[u8]) -> Option<u64>
     requires { IsBounded index.now }
     ensures { (S : Spool) → Indexes S index.now → MatchOption result (spool.is_here S group.now ≡ true → ⊥) (λ n. (spool.is_here S group.now ≡ true) × (n ≡ length (numbers_file S group.now))) }
@@ -40,7 +40,7 @@ fn numbers_size(index: &Index, group: &[u8]) -> Option<u64>
     Some(NUMBER_SIZE * high)
 }
 
-/// The octets of the overview of a group; nothing where it is not here.
+/// The number of octets in the overview of a group; `None` if it does not exist.
 fn overview_size(index: &Index, group: &[u8]) -> Option<u64>
     ensures { (S : Spool) → Indexes S index.now → MatchOption result (spool.is_here S group.now ≡ true → ⊥) (λ n. (spool.is_here S group.now ≡ true) × (n ≡ length (overview_file S group.now))) }
 {
@@ -50,7 +50,7 @@ fn overview_size(index: &Index, group: &[u8]) -> Option<u64>
     Some(found.overview_size())
 }
 
-/// The octets of the file of this name, if that is the numbers or the overview of a group that is here.
+/// The size of the file with this name, if it is the numbers or the overview of an existing group.
 fn size_by_name(index: &Index, name: &[u8]) -> Option<u64>
     requires { IsBounded index.now }
     ensures { (S : Spool) → Indexes S index.now → MatchOption result ((n : ℕ) → IsNameOf S name.now n → ⊥) (λ n. IsNameOf S name.now n) }
@@ -65,8 +65,8 @@ fn size_by_name(index: &Index, name: &[u8]) -> Option<u64>
     }
 }
 
-/// Whether the file of an inode, if it has one, is a change's, or the numbers or the overview of a group that is here, with as
-/// many octets as the articles filed in it give. Refused for memory alone.
+/// Whether the file of an inode, if it has one, belongs to a change, or is the numbers or the overview of an existing
+/// group. The latter must have as many octets as the articles filed in the group give. Refused only for want of memory.
 fn is_whole<B: Blocks>(
     alloc: Global,
     blocks: &B,
@@ -93,7 +93,7 @@ fn is_whole<B: Blocks>(
     Ok(file_size_at(blocks, inodes, at) == size)
 }
 
-/// Whether each file is a change's, or that of a group that is here, of its size. Refused for memory alone.
+/// Whether each file belongs to a change, or to an existing group and has its size. Refused only for want of memory.
 pub fn are_whole<B: Blocks>(
     alloc: Global,
     blocks: &B,
@@ -113,7 +113,7 @@ pub fn are_whole<B: Blocks>(
     Ok(true)
 }
 
-/// Whether there are as many files as the changes have: one each, and two more of each group.
+/// Whether there are as many files as the changes have: one for each change, and two more for each group.
 pub fn are_as_many<B: Blocks>(blocks: &B, inodes: u32, index: &Index) -> bool
     requires room { HasRoom inodes (B.blocks blocks.now) }
     requires rule { IsFileSystem inodes (B.blocks blocks.now) }

@@ -1,4 +1,4 @@
-//! Whether the numbers and the overview of a group go on with an article.
+//! Whether the numbers and the overview of a group continue with an article.
 
 ghost use Rattle.std.specs.Prelude.{◌≡◌, ◌+◌, ◌*◌, ◌^◌, ◌<◌, ◌≤◌, ◌↔◌, ℕ, List, IsTrue, false, length, IfOk, IfSome, MatchOption};
 ghost use Rattle.std.specs.List.{All};
@@ -24,10 +24,10 @@ use spool_reading::{Files, read_file};
 use std::alloc::{AllocError, Global};
 use volume::Blocks;
 
-/// The octets of the number of an article.
+/// The number of octets for an article in the numbers of a group.
 pub(crate) const NUMBER_SIZE: u64 = 16;
 
-/// Whether a file of this name has these octets after so many others. Refused for memory alone.
+/// Whether a file of this name has these octets at a place. Refused only for want of memory.
 fn stands<B: Blocks>(
     alloc: Global,
     blocks: &B,
@@ -51,8 +51,8 @@ fn stands<B: Blocks>(
     Ok(there.as_slice() == piece)
 }
 
-/// The octets of an article's line in the overview of a group; nothing where the group's numbers and overview do not go on with
-/// the article. Refused for memory alone.
+/// The number of octets of an article's line in the overview of a group; `None` if the group's numbers and overview do
+/// not continue with the article. Refused only for want of memory.
 pub fn goes_on<B: Blocks>(
     alloc: Global,
     blocks: &B,
@@ -95,8 +95,8 @@ pub fn goes_on<B: Blocks>(
     Ok(Some(line.len() as u64))
 }
 
-/// The octets of an article's lines in the overviews of these groups; nothing where the numbers or the overview of one do not go
-/// on with the article. Refused for memory alone.
+/// The numbers of octets of an article's lines in the overviews of these groups; `None` if the numbers or the overview
+/// of one do not continue with the article. Refused only for want of memory.
 pub fn line_sizes<B: Blocks>(
     alloc: Global,
     blocks: &B,

@@ -1,4 +1,4 @@
-//! The next change of a spool is read from its file and replayed.
+//! Reads the next change of a spool from its file and replays it.
 
 ghost use Rattle.std.specs.Prelude.{◌≡◌, ◌≢◌, ◌<◌, ◌+◌, ◌++◌, ◌∷◌, [], ℕ, List, length, slice_index, IfErr, OnOk};
 ghost use Rattle.model.specs.Files.{HasRoom, IsFileSystem, table};
@@ -16,8 +16,8 @@ use spool_reading::{Files, OpenError, Said, file_at, read_change};
 use std::alloc::Global;
 use volume::Blocks;
 
-/// Replays a group, whose numbers and overview are found by their names. `Damaged` only where it is not the next change of a
-/// spool that the blocks hold: it may not follow the changes before it, or one of its files is not there.
+/// Replays a group, whose numbers and overview are found by their names. `Damaged` only if it is not the next change of
+/// a spool that the blocks hold: it may not follow the changes before it, or one of its files is missing.
 fn replay_named(
     alloc: Global,
     files: &Files,
@@ -46,7 +46,8 @@ fn replay_named(
     replay_group(replay, at, first, second, name, status, description, moment)
 }
 
-/// Replays what the file of an inode says. `Damaged` only where that is not the next change of a spool that the blocks hold.
+/// Replays the contents of an inode's file. `Damaged` only if they are not the next change of a spool that the blocks
+/// hold.
 fn replay_said<B: Blocks>(
     alloc: Global,
     blocks: &B,
@@ -93,8 +94,8 @@ fn replay_said<B: Blocks>(
     }
 }
 
-/// Replays the change after so many, whose file stands in its slot. `Damaged` only where no spool of the host that the blocks hold
-/// has more changes.
+/// Replays the change after the first `count`, whose file is in its slot. `Damaged` only if no spool of the host that
+/// the blocks hold has more changes.
 pub fn replay_next<B: Blocks>(
     alloc: Global,
     blocks: &B,

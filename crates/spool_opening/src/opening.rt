@@ -1,4 +1,4 @@
-//! Opening a spool.
+//! Opens a spool.
 
 ghost use Rattle.std.specs.Prelude.{◌≡◌, IfErr, IfOk};
 ghost use Rattle.model.specs.Files.{HasRoom, IsFileSystem};
@@ -15,9 +15,10 @@ use spool_reading::{OpenError, sort};
 use std::alloc::Global;
 use volume::Blocks;
 
-/// Opens the spool of a host that stands in the blocks, for every content of these: its index, and the places of its files.
-/// `Damaged` exactly where the blocks hold no spool of the host, as the rule of blocks or the rule of files is broken
-/// (docs/FORMATS.md); `Memory` where a growth was refused. Each file is read once, and the work is n log n in what is stored.
+/// Opens the spool of a host in these blocks, whatever they contain: its index, and the places of its files. `Damaged`
+/// exactly if the blocks hold no spool of the host, because the rule of blocks or the rule of files is broken
+/// (docs/FORMATS.md); `Memory` if a growth was refused. Each file is read once, and the work is n log n in what is
+/// stored.
 pub fn open<B: Blocks>(
     alloc: Global,
     blocks: &B,
@@ -35,7 +36,7 @@ pub fn open<B: Blocks>(
     }
 }
 
-/// Opens the spool of a host in blocks that keep the rule of blocks. `Damaged` exactly where the rule of files is broken.
+/// Opens the spool of a host in blocks that keep the rule of blocks. `Damaged` exactly if the rule of files is broken.
 fn open_checked<B: Blocks>(
     alloc: Global,
     blocks: &B,

@@ -1,4 +1,4 @@
-//! The changes of a spool are replayed, each by its file.
+//! Replays the changes of a spool, each from its file.
 
 ghost use Rattle.std.specs.Prelude.{◌≡◌, ◌<◌, ◌+◌, ◌++◌, ◌∷◌, [], ℕ, List, Some, length, map, IfErr, OnOk};
 ghost use Rattle.model.specs.Lawful.{MayExpire, MayFile, MayMake};
@@ -28,7 +28,7 @@ pub struct Replay {
     pub places: Places,
 }
 
-/// Replays an expiry, whose file has this inode. `Damaged` exactly where it may not follow the changes before it.
+/// Replays an expiry, whose file has this inode. `Damaged` exactly if it may not follow the changes before it.
 pub fn replay_expiry(
     replay: &mut Replay,
     at: u32,
@@ -47,7 +47,7 @@ pub fn replay_expiry(
     Ok(())
 }
 
-/// Replays a group, whose files have these inodes. `Damaged` exactly where it may not follow the changes before it.
+/// Replays a group, whose files have these inodes. `Damaged` exactly if it may not follow the changes before it.
 pub fn replay_group(
     replay: &mut Replay,
     at: u32,
@@ -74,8 +74,8 @@ pub fn replay_group(
     Ok(())
 }
 
-/// Replays an article, whose file has this inode. `Damaged` exactly where it may not follow the changes before it, or where the
-/// numbers and the overview of one of its groups do not go on with it.
+/// Replays an article, whose file has this inode. `Damaged` exactly if it may not follow the changes before it, or if
+/// the numbers and the overview of one of its groups do not continue with it.
 pub fn replay_article<B: Blocks>(
     alloc: Global,
     blocks: &B,

@@ -1,4 +1,4 @@
-//! The calls of a spool, and what each answers.
+//! The calls of a spool, and the answer to each.
 
 use crate::changes::{Wanted, is_change};
 use crate::changing::{Filed, add, expire, file_expiry, file_group, post, take};
@@ -13,16 +13,16 @@ use std::alloc::Global;
 pub enum Call {
     /// Adds a group with this status and this description.
     Add(&'static str, u8, &'static str),
-    /// Adds so many groups, with the names g.1, g.2 and so on.
+    /// Adds this many groups, with the names g.1, g.2 and so on.
     AddMany(u64),
-    /// Takes the articles up to a number out of a group.
+    /// Removes the articles up to a number from a group.
     Expire(&'static str, u32),
     Post(Sent),
-    /// Posts an article so many times.
+    /// Posts an article this many times.
     PostMany(u64, Sent),
-    /// Takes an article over from another server.
+    /// Accepts an article from another server.
     Take(Sent),
-    /// Files a group with this status as a change, and so an expiry.
+    /// Files a group with this status as a change; `FileExpiry` does the same for an expiry.
     FileGroup(&'static str, u8),
     FileExpiry(&'static str, u64),
     /// Whether the change with a serial is this one.
@@ -33,20 +33,20 @@ pub enum Call {
     /// Whether nothing is found in the place of a text.
     IsNone(Sought),
     DirtyLen,
-    /// Carries a batch of the dirty blocks, and counts them.
+    /// Takes the dirty blocks as a batch, and counts them.
     Carry,
-    /// Opens what the batches have carried, in place of the spool.
+    /// Opens what the batches have written, in place of the spool.
     Reopen,
 }
 
-/// What a call answers.
+/// The answer to a call.
 #[derive(Clone, Copy, Debug, PartialEq)]
 pub enum Answer {
     Changed(Filed),
     Found(u64),
     Nothing,
     Is(bool),
-    /// So many blocks.
+    /// This many blocks.
     Blocks(usize),
     /// More blocks are dirty than a batch may have.
     TooMany,
@@ -111,7 +111,7 @@ fn change_by(alloc: Global, stored: &mut Stored, call: Call) -> Filed {
     }
 }
 
-// Posts an article so many times, and answers what the last one is.
+// Posts an article this many times, and gives the answer to the last post.
 fn post_many(alloc: Global, stored: &mut Stored, count: u64, sent: &Sent) -> Filed {
     let mut last = Filed::NotCalled;
     for _ in 0..count {
@@ -120,7 +120,7 @@ fn post_many(alloc: Global, stored: &mut Stored, count: u64, sent: &Sent) -> Fil
     last
 }
 
-// Adds groups with the names g.1, g.2 and so on, and answers what the last one is.
+// Adds groups with the names g.1, g.2 and so on, and gives the answer to the last one.
 fn add_many(alloc: Global, stored: &mut Stored, count: u64) -> Filed {
     let mut last = Filed::NotCalled;
     for number in 1..=count {

@@ -7,7 +7,7 @@ use model::{Change, Names, Text};
 use spool_files::Spool;
 use std::alloc::{AllocError, Global};
 
-/// What a change is to be.
+/// The expected change.
 #[derive(Clone, Copy)]
 pub enum Wanted {
     /// A group with this status and this description.
@@ -17,7 +17,7 @@ pub enum Wanted {
     Expiry(&'static str, u64),
 }
 
-/// Whether the change with a serial is this one; none where there is no such change.
+/// Whether the change with a serial is this one; `None` if there is no such change.
 pub fn is_change(
     alloc: Global,
     spool: &Spool,

@@ -1,4 +1,4 @@
-//! Changes of a spool. Each call tests anew what it requires, and promises nothing.
+//! Changes of a spool. Each call checks its own preconditions, and has no contract.
 
 ghost use Rattle.std.specs.Prelude.{◌≡◌, ◌⊎◌, ◌≤◌, ◌∷◌, ◌++◌, [], IsTrue, None, length};
 ghost use Rattle.std.specs.List.{list_all};
@@ -16,22 +16,22 @@ use std::alloc::Global;
 /// When everything is made, in seconds since 1970.
 pub const MOMENT: u64 = 1_000_000_000;
 
-/// What a change is answered.
+/// The answer to a change.
 #[derive(Clone, Copy, Debug, PartialEq)]
 pub enum Filed {
     /// It has this serial.
     Serial(u64),
     /// The code of the reply, and the serial that it reads.
     Reply(u64, u64),
-    /// The code of the reply, where there is no room.
+    /// The code of the reply if there is no room.
     Full(u64),
-    /// The code of the reply, where it would be too long as it is stored.
+    /// The code of the reply if the article would be too long as it is stored.
     Long(u64),
     Done,
     NotAdded(AddError),
     NotExpired(ExpireError),
     NotFiled(FileError),
-    /// The arguments aren't what the call requires.
+    /// The call's preconditions do not hold, so it was not made.
     NotCalled,
     Memory,
 }
@@ -64,7 +64,7 @@ fn is_printable(description: &[u8]) -> bool
         .all(|octet| 32 <= *octet && *octet <= 126)
 }
 
-/// Takes articles out of a group.
+/// Removes articles from a group.
 pub fn expire(spool: &mut Spool, name: &[u8], number: u32) -> Filed {
     match spool.expire(name, number) {
         Ok(serial) => Filed::Serial(serial),
@@ -108,7 +108,7 @@ fn file(spool: &mut Spool, change: &Change) -> Filed {
     }
 }
 
-// Whether a group or an expiry may follow the changes of a spool. Articles are not filed so: they come as messages.
+// Whether a group or an expiry may follow the changes of a spool. Articles are filed by messages, not here.
 fn may_follow(spool: &Spool, change: &Change) -> bool
     ensures { IsTrue result → IsLawful spool.now.host (spool.now.changes ++ change.now ∷ []) }
 {
@@ -140,7 +140,7 @@ fn is_new(spool: &Spool, name: &[u8]) -> bool
     spool.group(name).is_none()
 }
 
-// Whether articles up to a number may be taken out of a group.
+// Whether articles up to a number may be removed from a group.
 fn may_expire(spool: &Spool, group: &[u8], number: u64) -> bool
     ensures { IsTrue result → MayExpire spool.now.changes group.now number }
 {
@@ -155,7 +155,7 @@ pub fn post(alloc: Global, spool: &mut Spool, sent: &Sent) -> Filed {
     deliver(alloc, spool, sent, Awaits::PostBlock)
 }
 
-/// Takes an article over from another server, which offered it under its id.
+/// Accepts an article from another server, which offered it under its id.
 pub fn take(alloc: Global, spool: &mut Spool, sent: &Sent) -> Filed {
     let Ok(id) = Vec::from_slice(alloc, sent.id.as_bytes()) else {
         return Filed::Memory;
@@ -185,7 +185,7 @@ fn deliver(alloc: Global, spool: &mut Spool, sent: &Sent, awaits: Awaits) -> Fil
     }
 }
 
-// What an article is answered.
+// The answer to an article.
 fn said(served: &Served) -> Filed {
     let Some(code) = code_of(served.reply.as_slice()) else {
         return Filed::NotCalled;

@@ -1,4 +1,4 @@
-//! Look-ups into a spool. Each call tests anew what it requires, and promises nothing.
+//! Look-ups in a spool. Each call checks its own preconditions, and has no contract.
 
 use lookups::{LookUps, counts_of, find_id};
 use model::Part;
@@ -6,14 +6,14 @@ use names::is_wildmat;
 use spool_files::Spool;
 use std::alloc::{AllocError, Global};
 
-/// What is asked.
+/// The question that is asked.
 #[derive(Clone, Copy)]
 pub enum Asked {
     Len,
     Blocks,
     Inodes,
     GroupCount,
-    /// The serial of the group with a place.
+    /// The serial of the group at a place.
     At(usize),
     Serial(&'static str),
     Status(&'static str),
@@ -26,11 +26,11 @@ pub enum Asked {
     ExpiredAt(&'static str, u64),
     GoneAt(u64),
     Moment(u64),
-    /// Whether an article is in a group whose name the wildmat takes.
+    /// Whether an article is in a group whose name the wildmat matches.
     IsInOne(u64, &'static str),
 }
 
-/// What a look-up finds; none where there is nothing, or where what it requires doesn't hold.
+/// What a look-up finds; `None` if it finds nothing, or if its preconditions do not hold.
 pub fn find(spool: &Spool, asked: Asked) -> Option<u64> {
     match asked {
         Asked::Len => Some(spool.len()),
@@ -91,7 +91,7 @@ pub enum Sought {
     Lines(&'static str, u64, u64),
 }
 
-/// A text; none where there is nothing, or where what the look-up requires doesn't hold.
+/// A text; `None` if nothing is found, or if the look-up's preconditions do not hold.
 pub fn text_of(
     alloc: Global,
     spool: &Spool,

@@ -1,5 +1,5 @@
-//! A spool in files over a volume in memory, for tests: its calls and their answers as data. Each call tests anew what it requires,
-//! and promises nothing.
+//! A spool in files over a volume in memory, for tests: its calls and their answers as data. Each call checks its own
+//! preconditions, and has no contract.
 #![tactic(auto)]
 
 mod calls;

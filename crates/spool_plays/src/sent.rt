@@ -2,8 +2,8 @@
 
 use std::alloc::{AllocError, Global};
 
-/// An article that is sent: its message-id, its groups, and how many octets it is lengthened to. Without an id it lacks the fields
-/// that the server adds.
+/// An article that is sent: its message-id, its groups, and the number of octets that it is padded to. Without an id it
+/// lacks the fields that the server adds.
 #[derive(Clone, Copy)]
 pub struct Sent {
     pub id: &'static str,
@@ -41,7 +41,7 @@ pub const FIRST: Sent = Sent {
     size: 0,
 };
 
-/// One of 156 octets for two groups, and for one that isn't here.
+/// An article of 156 octets for two groups, and for one that does not exist.
 pub const CROSSPOSTED: Sent = Sent {
     id: "<2@a.example>",
     groups: "x.b ,x.z,\tx.a",
@@ -54,7 +54,7 @@ pub const THIRD: Sent = Sent {
     size: 0,
 };
 
-/// One for a group that takes no posts, too.
+/// An article that is also for a group that takes no posts.
 pub const FOR_CLOSED: Sent = Sent {
     id: "<3@a.example>",
     groups: "x.a,x.c",
@@ -74,14 +74,14 @@ pub const SMALL: Sent = Sent {
     size: 0,
 };
 
-/// One that is stored in 64 blocks and an indirect block.
+/// An article that is stored in 64 blocks and an indirect block.
 pub const LARGE: Sent = Sent {
     id: "",
     groups: "x.a",
     size: 262_000,
 };
 
-/// One that is stored, under a serial of two digits, in 45 blocks and an indirect block.
+/// An article that is stored, under a serial of two digits, in 45 blocks and an indirect block.
 pub const MEDIUM: Sent = Sent {
     id: "",
     groups: "x.a",

@@ -1,4 +1,4 @@
-//! A spool over a volume in memory, and beside it what a device would hold.
+//! A spool over a volume in memory, together with what a device would hold.
 
 ghost use Rattle.std.specs.Prelude.{IsTrue};
 ghost use Rattle.model.specs.Files.{HasRoom};
@@ -19,7 +19,7 @@ pub const COUNT: u32 = 1024;
 /// The host of the spools that are tested.
 pub const HOST: &[u8] = b"news.example";
 
-/// A spool, and the octets of the blocks that batches have carried.
+/// A spool, and the octets of the blocks that batches have written.
 #[derive(Drop)]
 pub struct Stored {
     pub spool: Spool,
@@ -41,7 +41,8 @@ impl Stored {
         })
     }
 
-    /// Carries a batch of what is dirty, and answers how many blocks it has; none where that is more than a batch may have.
+    /// Takes the dirty blocks as a batch, and answers how many there are; `None` if there are more than a batch may
+    /// have.
     pub fn carry(&mut self) -> Option<usize> {
         if self.spool.dirty_len() > BATCH_BLOCKS {
             return None;
@@ -51,18 +52,19 @@ impl Stored {
         Some(self.batch.numbers().len())
     }
 
-    /// Opens what the batches have carried, in place of the spool. A refusal changes nothing.
+    /// Opens what the batches have written, in place of the spool. A refusal changes nothing.
     pub fn reopen(&mut self, alloc: Global) -> Result<(), OpenError> {
         self.spool = opened(alloc, &self.octets, &[])?;
         Ok(())
     }
 
-    /// Why what the batches have carried is not opened once octets are replaced in it; none where it is opened.
+    /// Why what the batches have written is not opened after octets in it are replaced; `None` if it is opened.
     pub fn refusal(&self, alloc: Global, changed: &[Octet]) -> Option<OpenError> {
         opened(alloc, &self.octets, changed).err()
     }
 
-    /// Opens what the batches have carried, once these bits of an octet are changed in it. The octet is that of a block of the volume.
+    /// Opens what the batches have written after these bits of an octet are changed in it. The octet must be in a block
+    /// of the volume.
     pub fn flipped(
         &self,
         alloc: Global,
@@ -80,10 +82,11 @@ impl Stored {
     }
 }
 
-/// An octet to replace: its block, its place there, and the octet in its stead.
+/// An octet to replace: its block, its place there, and the new octet.
 pub type Octet = (u32, usize, u8);
 
-// The octets of the empty file system: the bitmap marks its own two blocks, that of the inodes and that of the slots.
+// The octets of the empty file system: the bitmap marks its own two blocks, the block of the inodes and that of the
+// slots.
 fn empty(alloc: Global, count: u32) -> Result<Vec<u8>, OpenError> {
     let mut octets = vec![in alloc; 0; count as usize * BLOCK_SIZE]?;
     if let Some(marks) = octets.first_mut() {
@@ -96,7 +99,7 @@ fn host(alloc: Global) -> Result<Text, AllocError> {
     Ok(Text::new(Vec::from_slice(alloc, HOST)?))
 }
 
-// Whether a volume has room for a spool. It has the blocks of the stage.
+// Whether a volume has room for a spool, and at least as many blocks as the tests use.
 fn has_room(volume: &Volume) -> bool
     ensures { IsTrue result → HasRoom 64 volume.now.seen }
 {
@@ -120,7 +123,7 @@ fn lay(octets: &mut [u8], batch: &BatchBuf) {
     }
 }
 
-// The spool in these octets, once some are replaced.
+// The spool in these octets, after some are replaced.
 fn opened(alloc: Global, octets: &[u8], changed: &[Octet]) -> Result<Spool, OpenError> {
     let mut octets = octets.to_vec(alloc)?;
     for (number, place, octet) in changed {

@@ -1,4 +1,4 @@
--- What the file of a change says.
+-- The contents of a change's file.
 use Rattle.std.specs.Prelude.{◌≡◌, ℕ, map}
 use Rattle.model.specs.Stream.{Octets}
 use Rattle.model.specs.SpoolFiles.{HasRoomInFile, change_file}
@@ -7,7 +7,7 @@ use Rattle.model.specs.declared.change.Change.TheVariants as change
 use Rattle.spool_reading.specs.declared.reading.Said.{Said}
 use Rattle.spool_reading.specs.declared.reading.Said.TheVariants as said
 
--- the change that it says
+-- the change that the contents describe
 abbrev pub change_of : Said → Change
 change_of (said.Group name status description moment) = change.Group name.now status description.now moment
 change_of (said.Article text groups moment) = change.Article text.now (map (λ g. g.now) groups.items) moment

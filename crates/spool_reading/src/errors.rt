@@ -1,10 +1,12 @@
+//! The refusals of an opening.
+
 ghost use Rattle.std.specs.Prelude.{◌≡◌};
 ghost use Rattle.spool_reading.specs.declared.errors.OpenError.TheVariants.{Memory};
 
 use std::alloc::AllocError;
 use thiserror::Error;
 
-/// Why no spool was opened. Nothing has changed then.
+/// Why no spool was opened. Nothing has changed.
 #[derive(Clone, Copy, Debug, PartialEq, Eq, Error)]
 pub enum OpenError {
     /// A growth was refused.

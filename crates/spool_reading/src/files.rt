@@ -1,4 +1,4 @@
-//! The files of inodes.
+//! The files in inodes.
 
 ghost use Rattle.std.specs.Prelude.{◌≡◌, ◌<◌, ◌≤◌, Option, Some, None, drop, length, option_map, slice_index_or, take, IfOk};
 ghost use Rattle.model.specs.Files.{File, HasRoom, IsFileSystem, table};
@@ -31,7 +31,7 @@ pub fn file_name_at<B: Blocks>(
     Ok(Some(name))
 }
 
-/// The octets of the file of an inode from a place on, at most so many.
+/// The octets of the file of an inode from a place on, at most this many.
 pub fn read_file<B: Blocks>(
     alloc: Global,
     blocks: &B,
@@ -57,7 +57,7 @@ pub struct NamedFile {
     pub content: Vec<u8>,
 }
 
-/// The whole file of an inode that has one. Refused for memory alone.
+/// The whole file of an inode that has one. Refused only for want of memory.
 pub fn file_at<B: Blocks>(
     alloc: Global,
     blocks: &B,
@@ -78,7 +78,7 @@ pub fn file_at<B: Blocks>(
     Ok(NamedFile { name, content })
 }
 
-/// The octets of the file of an inode, if it has one.
+/// The number of octets in the file of an inode, if it has one.
 pub fn file_size_at<B: Blocks>(blocks: &B, inodes: u32, at: u32) -> u64
     requires room { HasRoom inodes (B.blocks blocks.now) }
     requires rule { IsFileSystem inodes (B.blocks blocks.now) }

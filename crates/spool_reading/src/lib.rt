@@ -1,5 +1,5 @@
-//! What is read from the files of a volume before a spool is opened (docs/FORMATS.md): the files are sorted, those of changes by
-//! serial and the others by name, and what the file of a change says is read exactly.
+//! What is read from the files of a volume before a spool is opened (docs/FORMATS.md). The files are sorted, those of
+//! changes by serial and the others by name, and the file of each change is read exactly.
 #![tactic(auto)]
 
 mod errors;

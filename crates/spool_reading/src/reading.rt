@@ -1,4 +1,4 @@
-//! What the files of changes say.
+//! The contents of the files of changes.
 
 ghost use Rattle.std.specs.Prelude.{◌≡◌, ◌^◌, ◌<◌, ◌++◌, ◌↔◌, length, codes, IfOk, IsTrue, MatchOption};
 ghost use Rattle.model.specs.Records.{last_digits};
@@ -9,7 +9,7 @@ ghost use Rattle.spool_reading.specs.Said.{IsFileOf, change_of};
 use records::{FileKind, kind_of, read_article, read_expiry, read_group, serial_digits};
 use std::alloc::{AllocError, Global};
 
-/// What the file of a change says.
+/// The contents of a change's file.
 #[derive(Drop)]
 pub enum Said<'a> {
     Group {
@@ -30,7 +30,7 @@ pub enum Said<'a> {
     },
 }
 
-/// What the file of this name says, if it is of the change with this serial.
+/// The contents of the file with this name, if it is that of the change with this serial.
 pub fn read_change<'a>(
     alloc: Global,
     name: &'a [u8],
@@ -52,7 +52,7 @@ pub fn read_change<'a>(
     }
 }
 
-/// What the file of a group says.
+/// The contents of a group's file.
 fn group_said<'a>(group: &'a [u8], content: &'a [u8], serial: u64) -> Option<Said<'a>>
     ensures { MatchOption result
         ((c : Change) → IsFileOf serial c (group_name group.now) content.now → ⊥)
@@ -72,7 +72,7 @@ fn group_said<'a>(group: &'a [u8], content: &'a [u8], serial: u64) -> Option<Sai
     })
 }
 
-/// What the file of an article with these digits says.
+/// The contents of the file of an article with these digits.
 fn article_said<'a>(
     alloc: Global,
     digits: &'a [u8],
@@ -100,7 +100,7 @@ fn article_said<'a>(
     }))
 }
 
-/// What the file of an expiry with these digits says.
+/// The contents of the file of an expiry with these digits.
 fn expiry_said<'a>(digits: &'a [u8], content: &'a [u8], serial: u64) -> Option<Said<'a>>
     ensures { MatchOption result
         ((c : Change) → IsFileOf serial c (codes "x." ++ digits.now) content.now → ⊥)

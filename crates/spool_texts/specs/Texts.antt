@@ -1,4 +1,4 @@
--- What is asked of blocks that texts are read from.
+-- What is required of blocks that texts are read from.
 use Rattle.std.specs.Prelude.{◌≡◌, ℕ, zero, suc, ◌+◌, ◌-◌, ◌^◌, ◌<◌, ◌≤◌, List, [], ◌++◌, length, take, drop, slice_index, IsSome}
 use Rattle.model.specs.Article.{header_lines}
 use Rattle.model.specs.Files.{IsFile, content_of, entry}
@@ -10,14 +10,14 @@ use Rattle.article.specs.Header.{IsHeader}
 use Rattle.index.specs.View.{IndexView, Indexes}
 use Rattle.spool_texts.specs.declared.finding.TextPlace.{TextPlace}
 
--- index and places are those of some changes, of which this serial is an article
+-- index and places are those of some changes, and this serial is that of an article among them
 pub record HasArticle (inodes : ℕ) (blocks : List Octets) (index : IndexView) (places : FilePlaces) (serial : ℕ) : Type 0 where
   pub changes : Spool
   pub indexed : Indexes changes index
   pub placed : ArePlaces inodes blocks changes places
   pub there : IsSome (article_with changes serial)
 
--- index and places are those of some changes, in which the group is here and has these numbers
+-- index and places are those of some changes, in which the group exists and has these numbers
 pub record HasNumbers (inodes : ℕ) (blocks : List Octets) (index : IndexView) (places : FilePlaces) (group : Octets) (from to : ℕ) : Type 0 where
   pub changes : Spool
   pub indexed : Indexes changes index
@@ -32,7 +32,7 @@ pub record HasNumbers (inodes : ℕ) (blocks : List Octets) (index : IndexView) 
 abbrev pub octets_in : ℕ → List Octets → TextPlace → Octets
 octets_in inodes blocks p = take p.size (drop p.from (content_of blocks (entry inodes blocks p.inode)))
 
--- the text of the article with this serial stands there
+-- the text of the article with this serial is at this place
 pub record IsPlaceOf (inodes : ℕ) (blocks : List Octets) (index : IndexView) (places : FilePlaces) (serial : ℕ) (p : TextPlace) : Type 0 where
   pub below : p.inode < inodes
   pub file : IsFile (entry inodes blocks p.inode)
@@ -40,18 +40,18 @@ pub record IsPlaceOf (inodes : ℕ) (blocks : List Octets) (index : IndexView) (
   pub size : length (octets_in inodes blocks p) ≡ p.size
   pub text : (S : Spool) → Indexes S index → ArePlaces inodes blocks S places → octets_in inodes blocks p ≡ text_of S serial
 
--- some octets in front of a text have its header
+-- a prefix of a text has the text's header
 pub record HasHeader (front text : Octets) : Type 0 where
   pub lines : header_lines front ≡ header_lines text
   pub header : (n : ℕ) → IsHeader front n → IsHeader text n
 
 -- ---- lines of an overview
 
--- the line with this place, from 0
+-- the line at this place, from 0
 abbrev pub line_at : Octets → List ℕ → ℕ → Octets
 line_at content ends k = take (slice_index ends k - line_start ends k) (drop (line_start ends k) content)
 
--- so many lines from this place on, each with its CRLF
+-- this many lines from this place on, each with its CRLF
 abbrev pub lines_from : Octets → List ℕ → ℕ → ℕ → Octets
 lines_from content ends k zero = []
 lines_from content ends k (suc n) = line (line_at content ends k) ++ lines_from content ends (suc k) n

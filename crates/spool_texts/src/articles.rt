@@ -19,11 +19,12 @@ use places::Places;
 use std::alloc::{AllocError, Global};
 use volume::Blocks;
 
-/// The octets of the line that ends a header.
+/// The number of octets of the line that ends a header.
 const EMPTY_LINE_SIZE: u64 = 2;
 
-/// Appends the text of an article, dot-stuffed and with the line that ends it (RFC 3977, section 3.1.1): the last octets of the file
-/// of its change. Refused for memory alone; the reply may hold any octets then, and is thrown away.
+/// Appends the text of an article, dot-stuffed and with the line that ends it (RFC 3977, section 3.1.1). The text is
+/// the last part of the file of its change. Refused only for want of memory; then the reply may hold any octets, and
+/// the caller discards it.
 pub fn push_article<B: Blocks>(
     blocks: &B,
     inodes: u32,
@@ -41,8 +42,9 @@ pub fn push_article<B: Blocks>(
     push_stuffed(blocks, inodes, text.inode, text.from, text.size, reply)
 }
 
-/// Appends this part of an article, dot-stuffed and with the line that ends it (RFC 3977, section 3.1.1); no octet for `Nothing`.
-/// Refused for memory alone; the reply may hold any octets then, and is thrown away.
+/// Appends this part of an article, dot-stuffed and with the line that ends it (RFC 3977, section 3.1.1); appends
+/// nothing for `Nothing`. Refused only for want of memory; then the reply may hold any octets, and the caller discards
+/// it.
 pub fn push_part<B: Blocks>(
     alloc: Global,
     blocks: &B,
@@ -87,7 +89,7 @@ fn push_head<B: Blocks>(
     push_stuffed(blocks, inodes, text.inode, text.from, size, reply)
 }
 
-/// Appends what follows the empty line of an article, as `push_part` does.
+/// Appends the part of an article after its empty line, as `push_part` does.
 fn push_body<B: Blocks>(
     alloc: Global,
     blocks: &B,
@@ -111,8 +113,8 @@ fn push_body<B: Blocks>(
     push_stuffed(blocks, inodes, text.inode, from, text.size - skipped, reply)
 }
 
-/// Appends the message-id of an article; no octet where it has none. Refused for memory alone; the reply may hold any octets then,
-/// and is thrown away.
+/// Appends the message-id of an article; appends nothing if it has none. Refused only for want of memory; then the
+/// reply may hold any octets, and the caller discards it.
 pub fn push_id<B: Blocks>(
     alloc: Global,
     blocks: &B,

@@ -1,4 +1,4 @@
-//! Where the texts of articles stand.
+//! The places of the texts of articles.
 
 ghost use Rattle.std.specs.Prelude.{◌≡◌, ◌<◌, length, IfOk};
 ghost use Rattle.model.specs.Files.{HasRoom, IsFile, IsFileSystem, entry};
@@ -12,7 +12,7 @@ use places::Places;
 use std::alloc::{AllocError, Global};
 use volume::Blocks;
 
-/// The octets of the longest header that is stored, and of the empty line behind it.
+/// The number of octets of the longest header that is stored, and of the empty line after it.
 const FRONT_SIZE: u64 = HEADER_LIMIT as u64 + 2;
 
 /// Some octets of a file.
@@ -21,11 +21,11 @@ pub(crate) struct TextPlace {
     pub(crate) inode: u32,
     /// the first of them, from 0
     pub(crate) from: u64,
-    /// how many they are
+    /// the number of octets
     pub(crate) size: u64,
 }
 
-/// Where the text of an article stands: it is the last octets of the file of its change.
+/// The place of the text of an article: it ends the file of its change.
 pub(crate) fn place_of<B: Blocks>(
     blocks: &B,
     inodes: u32,
@@ -50,8 +50,8 @@ pub(crate) fn place_of<B: Blocks>(
     }
 }
 
-/// The front of a text, with its header and the empty line behind it; all of a text that has no empty line, or a longer header than
-/// is stored. Refused for memory alone.
+/// The prefix of a text with its header and the empty line after it; all of a text that has no empty line, or a longer
+/// header than is stored. Refused only for want of memory.
 pub(crate) fn front_of<B: Blocks>(
     alloc: Global,
     blocks: &B,

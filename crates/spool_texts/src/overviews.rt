@@ -19,8 +19,8 @@ use places::Places;
 use std::alloc::{AllocError, Global};
 use volume::Blocks;
 
-/// Appends the overview line of an article with this number and CRLF (RFC 3977, section 8.3). Refused for memory alone; the reply may
-/// hold any octets then, and is thrown away.
+/// Appends the overview line of an article with this number and CRLF (RFC 3977, section 8.3). Refused only for want of
+/// memory; then the reply may hold any octets, and the caller discards it.
 pub fn push_overview<B: Blocks>(
     alloc: Global,
     blocks: &B,
@@ -42,9 +42,9 @@ pub fn push_overview<B: Blocks>(
     reply.extend_from_slice(b"\r\n")
 }
 
-/// Appends the overview lines of the articles in a group from one number to another, each with CRLF (RFC 3977, section 8.3). Each line
-/// is copied once, from the file of the group's overview. Refused for memory alone; the reply may hold any octets then, and is
-/// thrown away.
+/// Appends the overview lines of the articles in a group from one number to another, each with CRLF (RFC 3977, section
+/// 8.3). Each line is copied once, from the file of the group's overview. Refused only for want of memory; then the
+/// reply may hold any octets, and the caller discards it.
 pub fn push_overviews<B: Blocks>(
     blocks: &B,
     inodes: u32,
@@ -68,8 +68,8 @@ pub fn push_overviews<B: Blocks>(
     push_lines(blocks, inodes, inode, lines, from - 1, to, reply)
 }
 
-/// Appends the lines of a group's overview, whose file has this inode, from one place among them up to another, each with CRLF. Refused
-/// for memory alone; the reply may hold any octets then.
+/// Appends the lines of a group's overview, whose file has this inode, from one line up to another, each with CRLF.
+/// Refused only for want of memory; then the reply may hold any octets.
 fn push_lines<B: Blocks>(
     blocks: &B,
     inodes: u32,

@@ -10,9 +10,9 @@ use replies::{Stuffing, push_end};
 use std::alloc::AllocError;
 use volume::Blocks;
 
-/// Appends the octets of the file of an inode from a place up to its size, at most `count`, dot-stuffed and with the line that
-/// ends them (RFC 3977, section 3.1.1). Each octet is copied once. Refused for memory alone; the reply may hold any octets then, and
-/// is thrown away.
+/// Appends the octets of the file of an inode from a place up to its size, at most `count`, dot-stuffed and with the
+/// line that ends them (RFC 3977, section 3.1.1). Each octet is copied once. Refused only for want of memory; then the
+/// reply may hold any octets, and the caller discards it.
 pub fn push_stuffed<B: Blocks>(
     blocks: &B,
     inodes: u32,

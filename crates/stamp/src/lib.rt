@@ -1,5 +1,5 @@
-//! The texts of moments, and the moment that a text says. A moment is whole seconds since 1970 in UTC, below
-//! 253,402,300,800, where the year 10000 begins; that is the caller's condition.
+//! The texts of moments, and the moment that a text means. A moment is whole seconds since 1970 in UTC. It must be
+//! below 253,402,300,800, where the year 10000 begins.
 #![tactic(auto)]
 
 ghost use Rattle.std.specs.Prelude.{◌≡◌, true, ◌+◌, ◌/◌, ◌<◌, ◌≤◌, ◌++◌, codes, length, IfOk, IfSome, OnOk, pos};
@@ -25,7 +25,7 @@ const DAY: u64 = 86_400;
 /// Why a date and a time of day are refused.
 #[derive(Clone, Copy, Debug, PartialEq, Eq, Error)]
 pub enum SinceError {
-    /// They are not of the form, or the calendar has no such moment.
+    /// They do not have the form, or the calendar has no such moment.
     #[error("E14 Bad")]
     Bad,
 }
@@ -39,7 +39,7 @@ fn date_at(moment: u64) -> Date
     date(1970, 1, 1).checked_add(days.days()).unwrap()
 }
 
-/// Adds two digits.
+/// Appends two digits.
 fn push_two(text: &mut Vec<u8>, n: u64) -> Result<(), AllocError>
     ensures { OnOk result (text.new.items ≡ text.old.items ++ two_digits n) }
 {
@@ -48,7 +48,7 @@ fn push_two(text: &mut Vec<u8>, n: u64) -> Result<(), AllocError>
     Ok(())
 }
 
-/// Adds four digits.
+/// Appends four digits.
 fn push_four(text: &mut Vec<u8>, n: u64) -> Result<(), AllocError>
     ensures { OnOk result (text.new.items ≡ text.old.items ++ four_digits n) }
 {
@@ -81,7 +81,8 @@ fn parts_at(moment: u64) -> Parts
     }
 }
 
-/// The fourteen digits of a moment in the answer to DATE, as `20010909014640` (RFC 3977, 7.1). An `Err` is out of memory.
+/// The fourteen digits of a moment in the answer to DATE, as `20010909014640` (RFC 3977, 7.1). Refused only for want of
+/// memory.
 pub fn date_reply(alloc: Global, moment: u64) -> Result<Vec<u8>, AllocError>
     requires { moment < calendar.moment_limit }
     ensures { IfOk result (λ text. text.items ≡ calendar.date_reply moment) }
@@ -135,7 +136,7 @@ fn month_name(month: u64) -> &'static [u8]
     }
 }
 
-/// Adds a moment's time of day, as 01:46:40.
+/// Appends a moment's time of day, as 01:46:40.
 fn push_clock(text: &mut Vec<u8>, moment: u64) -> Result<(), AllocError>
     ensures { OnOk result (text.new.items ≡ text.old.items ++ two_digits (calendar.hour_at moment) ++ codes ":" ++ two_digits (calendar.minute_at moment) ++ codes ":" ++ two_digits (calendar.second_at moment)) }
 {
@@ -146,7 +147,7 @@ fn push_clock(text: &mut Vec<u8>, moment: u64) -> Result<(), AllocError>
     push_two(text, moment % MINUTE)
 }
 
-/// Adds a date, as 09 Sep 2001.
+/// Appends a date, as 09 Sep 2001.
 fn push_date(text: &mut Vec<u8>, date: Parts) -> Result<(), AllocError>
     requires low { 1 ≤ date.month }
     requires high { date.month ≤ 12 }
@@ -159,8 +160,8 @@ fn push_date(text: &mut Vec<u8>, date: Parts) -> Result<(), AllocError>
     push_four(text, date.year)
 }
 
-/// A moment as a Date field has it, as `Sun, 09 Sep 2001 01:46:40 +0000` (RFC 5536, 3.1.1). It has 31 octets at each
-/// moment (`model::date_of_a_moment`). An `Err` is out of memory.
+/// A moment in the form of a Date field, as `Sun, 09 Sep 2001 01:46:40 +0000` (RFC 5536, 3.1.1). It always has 31
+/// octets (`model::date_of_a_moment`). Refused only for want of memory.
 pub fn date_header(alloc: Global, moment: u64) -> Result<Vec<u8>, AllocError>
     requires { moment < calendar.moment_limit }
     ensures { IfOk result (λ text. text.items ≡ calendar.date_header moment) }
@@ -176,7 +177,7 @@ pub fn date_header(alloc: Global, moment: u64) -> Result<Vec<u8>, AllocError>
     Ok(text)
 }
 
-/// Whether a text is so many digits.
+/// Whether a text consists of this many digits.
 fn are_digits(count: usize, text: &[u8]) -> bool
     ensures { result ≡ calendar.are_digits count text.now }
 {
@@ -231,7 +232,7 @@ fn year_of(current: u64, date: &[u8]) -> u64
     }
 }
 
-/// How many days the date with these parts lies after 1 January 1970, if the calendar has it.
+/// The number of days from 1 January 1970 to the date with these parts, if the calendar has it.
 fn days_since(parts: Parts) -> Option<i64>
     requires year { parts.year ≤ 9999 }
     requires month { parts.month < 100 }
@@ -245,7 +246,7 @@ fn days_since(parts: Parts) -> Option<i64>
     Some(date.to_plain().to_unix_epoch_day() as i64)
 }
 
-/// The same of a date's text, where this is the current year.
+/// The same for a date's text; `current` is the current year.
 fn days_of_text(current: u64, date: &[u8]) -> Option<i64>
     requires since { 100 ≤ current }
     requires last { current ≤ 9999 }
@@ -262,7 +263,7 @@ fn days_of_text(current: u64, date: &[u8]) -> Option<i64>
     })
 }
 
-/// How many seconds a time of day lies after midnight, if it is one.
+/// The number of seconds from midnight to a time of day, if the text is one.
 fn seconds_of_text(time: &[u8]) -> Option<u64>
     ensures value { result ≡ since.seconds_of_text time.now }
     ensures small { IfSome result (λ seconds. seconds < 86_400) }
@@ -278,10 +279,10 @@ fn seconds_of_text(time: &[u8]) -> Option<u64>
     }
 }
 
-/// The moment of a date (`yymmdd` or `yyyymmdd`) and a time of day (`hhmmss`) in UTC, in whole seconds since 1970, which
-/// are negative before it (RFC 3977, 7.3.2). Two digits of a year that are not above those of the year of `moment` are
-/// of its century, others of the one before. `Bad` comes exactly where the calendar has no such date or the time of day
-/// is above 23:59:59 (this project's rule: a leap second is refused too).
+/// The moment of a date (`yymmdd` or `yyyymmdd`) and a time of day (`hhmmss`) in UTC, in whole seconds since 1970; it
+/// is negative before 1970 (RFC 3977, 7.3.2). A year of two digits is in the century of `moment` if the result is not
+/// later than the year of `moment`, else in the century before. `Bad` comes exactly if the calendar has no such date or
+/// the time of day is after 23:59:59 (this project's rule: a leap second is refused too).
 pub fn read_since(date: &[u8], time: &[u8], moment: u64) -> Result<i64, SinceError>
     requires { moment < calendar.moment_limit }
     ensures { result_ok result ≡ calendar.since date.now time.now moment }

@@ -3,7 +3,7 @@ use Rattle.std.specs.Prelude.{◌≡◌, ◌<◌, ◌≤◌, ℕ, ◌+◌, ◌-�
 use Rattle.std.specs.List.{All}
 use Rattle.model.specs.Volume.{AreDistinct}
 
--- the members in the order in which they came
+-- the members in the order in which they were inserted
 pub record Numbers : Type 0 where
   pub bound : ℕ
   pub members : List ℕ
@@ -12,7 +12,7 @@ pub record IsNumbers (s : Numbers) : Type 0 where
   pub below : All (λ n. n < s.bound) s.members
   pub distinct : AreDistinct s.members
 
--- a number's place is 1 more than where it stands among the first `count`, or 0 where it is not there
+-- a number's place is 1 more than its index among the first `count`, or 0 where it is not among them
 pub record IsIndex (numbers : List ℕ) (count : ℕ) (places : List ℕ) : Type 0 where
   pub size : length numbers ≡ length places
   pub few : length places < 2 ^ 32

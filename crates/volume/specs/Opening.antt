@@ -3,7 +3,7 @@ use Rattle.std.specs.Prelude.{◌≡◌, IsTrue}
 use Rattle.disk.specs.Device.{Device, Elapses}
 use Rattle.journal.specs.Journal.{JournalView, IsIdle, IsSameBatch, LeavesAdmitted, LeftAdmitted}
 
--- reads alone: the blocks stay, and a crash leaves what the journal admits
+-- only reads: the blocks stay, and a crash leaves what the journal admits
 pub record Loads {D : Type 0} (device : D → Device) (old new : JournalView D) : Type 0 where
   pub same : IsSameBatch old new
   pub blocks : IsTrue (device old.disk).tells → new.blocks ≡ old.blocks

@@ -10,11 +10,11 @@ pub record VolumeView : Type 0 where
   pub seen : List (List ℕ)
   pub dirty : List ℕ
 
--- the octets of block k are not the same
+-- the two have different octets in block k
 abbrev pub Differs : List (List ℕ) → List (List ℕ) → ℕ → Type 0
 Differs before after k = slice_index_or before k [] ≢ slice_index_or after k []
 
--- the blocks are those of the cache, but for the ones with these numbers
+-- the blocks are those of the cache, except the blocks with these numbers
 pub record AgreeOutside (numbers : List ℕ) (blocks cache : List (List ℕ)) : Type 0 where
   pub count : length blocks ≡ length cache
   pub same : (k : ℕ) → ¬ (Contains numbers k) → slice_index_or blocks k [] ≡ slice_index_or cache k []

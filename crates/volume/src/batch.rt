@@ -27,7 +27,7 @@ impl Model for BatchBuf {
 }
 
 impl BatchBuf {
-    /// An empty batch with room for 512 blocks.
+    /// An empty batch with room for 512 blocks. Refused only for want of memory.
     pub fn new(alloc: Global) -> Result<BatchBuf, AllocError>
         ensures { IfOk result (λ b. b ≡ record { numbers = []; images = [] }) }
     {
@@ -52,7 +52,7 @@ impl BatchBuf {
         &self.images[..self.count * BLOCK_SIZE]
     }
 
-    // Takes the blocks with these numbers, in place of those that it has.
+    // Replaces its blocks with those that have these numbers.
     pub(crate) fn fill(&mut self, numbers: &[u32], octets: &[u8])
         requires few { length numbers.now ≤ 512 }
         requires there { All (λ n. 4096 * n + 4096 ≤ length octets.now) numbers.now }
@@ -64,7 +64,7 @@ impl BatchBuf {
     }
 }
 
-// Copies the numbers to the front.
+// Copies the numbers to the start of `into`.
 fn copy_front(into: &mut [u32], from: &[u32])
     requires { length from.now ≤ length into.old }
     ensures { take (length from.now) into.new ≡ from.now }
@@ -72,7 +72,7 @@ fn copy_front(into: &mut [u32], from: &[u32])
     into[..from.len()].copy_from_slice(from);
 }
 
-// Copies the blocks with these numbers to the front.
+// Copies the blocks with these numbers to the start of `images`.
 fn gather(images: &mut [u8], numbers: &[u32], octets: &[u8])
     requires room { 4096 * length numbers.now ≤ length images.old }
     requires there { All (λ n. 4096 * n + 4096 ≤ length octets.now) numbers.now }

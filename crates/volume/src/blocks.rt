@@ -1,4 +1,4 @@
-//! Numbered blocks of 4,096 octets, and where they stand in octets laid end to end.
+//! Numbered blocks of 4,096 octets, and their places in octets laid end to end.
 
 ghost use Rattle.std.specs.Prelude.{◌≡◌, ℕ, ◌+◌, ◌*◌, ◌<◌, ◌≤◌, List, [], length, slice_index_or, slice_set, is_ok, if◌then◌else◌};
 ghost use Rattle.std.specs.List.{All};
@@ -15,10 +15,10 @@ pub trait Blocks {
     /// What reads give.
     ghost blocks: { Self → List (List ℕ) };
 
-    /// What was applied, which no put changes: the blocks without the stage, and the numbers of the dirty ones.
+    /// What was applied, which no put changes: the blocks without the stage, and the numbers of the dirty blocks.
     ghost applied: { Self → List (List ℕ) × List ℕ };
 
-    /// How many blocks there are.
+    /// The number of blocks.
     fn len(&self) -> u32
         ensures count { result ≡ length (blocks self.now) }
         ensures whole { All (λ octets. length octets ≡ 4096) (blocks self.now) };
@@ -38,7 +38,7 @@ pub trait Blocks {
         into.copy_from_slice(self.block(number));
     }
 
-    /// Replaces the octets of a block. Where memory is refused nothing changes.
+    /// Replaces the octets of a block. If memory is refused, nothing changes.
     fn put(&mut self, number: u32, from: &[u8]) -> Result<(), AllocError>
         requires there { number < length (blocks self.old) }
         requires whole { length from.now ≡ 4096 }

@@ -1,13 +1,15 @@
+//! The refusals of a load.
+
 ghost use Rattle.std.specs.Prelude.{◌≡◌};
 ghost use Rattle.volume.specs.declared.errors.OpenError.TheVariants.{Memory};
 
 use std::alloc::AllocError;
 use thiserror::Error;
 
-/// Why a volume can't be loaded.
+/// Why a volume cannot be loaded.
 #[derive(Clone, Copy, Debug, Drop, PartialEq, Eq, Error)]
 pub enum OpenError {
-    /// The device failed in this call. The journal is halted by it for good.
+    /// The device failed in this call. This halts the journal for good.
     #[error("E1 Fault")]
     Fault,
     /// A growth was refused in this call, and nothing changed.

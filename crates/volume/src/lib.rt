@@ -12,5 +12,5 @@ pub use blocks::{BLOCK_SIZE, Blocks};
 pub use errors::OpenError;
 pub use volume::Volume;
 
-/// How many blocks a batch has at most.
+/// The most blocks that a batch has.
 pub const BATCH_BLOCKS: usize = 512;

@@ -1,4 +1,4 @@
-//! Sets of block numbers, whose cost is that of their members.
+//! Sets of block numbers. To clear a set costs time by its members, not by the bound of the numbers.
 
 ghost use Rattle.std.specs.Prelude.{◌≡◌, ℕ, ◌+◌, ◌-◌, ◌<◌, ◌≤◌, [], ◌∷◌, ◌++◌, length, slice_index, take, IfOk, MatchOption};
 ghost use Rattle.std.specs.List.{Contains};
@@ -7,7 +7,7 @@ ghost use Rattle.volume.specs.Numbers.{Numbers, IsNumbers, IsIndex};
 use std::alloc::{AllocError, Global};
 use std::marker::Model;
 
-/// Distinct numbers below a bound, in the order in which they came.
+/// Distinct numbers below a bound, in the order in which they were inserted.
 #[derive(Drop)]
 pub struct NumberSet {
     numbers: Vec<u32>,
@@ -25,7 +25,7 @@ impl Model for NumberSet {
 }
 
 impl NumberSet {
-    /// The empty set, with room for every number below the bound.
+    /// The empty set, with room for every number below the bound. Refused only for want of memory.
     pub fn new(alloc: Global, bound: u32) -> Result<NumberSet, AllocError>
         ensures bound { IfOk result (λ s. s.bound ≡ bound) }
         ensures empty { IfOk result (λ s. s.members ≡ []) }
@@ -45,7 +45,7 @@ impl NumberSet {
         &self.numbers[..self.count]
     }
 
-    /// The place of a number among the members.
+    /// The place of a number among the members, or `None` if it is not a member.
     pub fn place(&self, number: u32) -> Option<usize>
         requires { number < self.now.bound }
         ensures { MatchOption result
@@ -58,7 +58,7 @@ impl NumberSet {
         }
     }
 
-    /// Adds a number that is no member, after the others.
+    /// Adds a number that is not a member, after the others.
     pub fn insert(&mut self, number: u32)
         requires below { number < self.old.bound }
         requires other { ¬ (Contains self.old.members number) }
@@ -80,7 +80,7 @@ impl NumberSet {
     }
 }
 
-// Clears the places of these numbers, which are all that have one.
+// Clears the places of these numbers. No other number has one.
 fn forget(places: &mut [u32], numbers: &[u32])
     requires below { (i : ℕ) → i < length numbers.now → slice_index numbers.now i < length places.old }
     requires all { (k : ℕ) → k < length places.old → slice_index places.old k ≤ length numbers.now }

@@ -18,8 +18,8 @@ use journal::{Journal, JournalError};
 use std::alloc::{AllocError, Global};
 use std::marker::Model;
 
-/// The logical blocks of a volume. Reads see the stage over the cache. A block is dirty exactly when an
-/// `apply` changed its octets since the last `copy_dirty`.
+/// The logical blocks of a volume. Reads see the stage over the cache. A block is dirty exactly if an `apply` changed
+/// its octets since the last `copy_dirty`.
 #[derive(Drop)]
 pub struct Volume {
     cache: Vec<u8>,
@@ -41,7 +41,7 @@ impl Model for Volume {
 }
 
 impl Volume {
-    /// A volume of these octets, nothing staged, nothing dirty.
+    /// A volume with these octets, nothing staged and nothing dirty. Refused only for want of memory.
     pub fn of(alloc: Global, octets: Vec<u8>, count: u32) -> Result<Volume, AllocError>
         requires { length octets.items ≡ 4096 * count }
         ensures cache { IfOk result (λ v. v.cache ≡ blocks_from 0 count octets.items) }
@@ -57,7 +57,8 @@ impl Volume {
     }
 
     /// Loads all logical blocks of a journal after its opening and before its first batch. Nothing is staged, and
-    /// nothing is dirty. After `Fault` the journal is halted; `Memory` comes before the first read.
+    /// nothing is dirty. `Fault` halts the journal. `Memory` comes before the first read and leaves the journal as it
+    /// was.
     pub fn open<D: Disk>(alloc: Global, journal: &mut Journal<D>) -> Result<Volume, OpenError>
         requires { IsReady journal.old }
         ensures blocks { IsTrue (D.device journal.old.disk).tells → IfOk result (λ v. v.cache ≡ journal.old.blocks) }
@@ -71,7 +72,7 @@ impl Volume {
         ensures fault { IfErr result (λ e. e ≡ OpenError.Fault
             → (journal.new.halted ≡ true) × ((D.device journal.new.disk).failures ≢ (D.device journal.old.disk).failures)) }
     {
-        // it tells what the journal keeps
+        // its clauses state what the journal keeps
         let _ready = journal.is_idle();
         let count = journal.blocks() as u32;
         let mut octets = vec![in alloc; 0; count as usize * BLOCK_SIZE]?;
@@ -88,14 +89,14 @@ impl Volume {
         }
     }
 
-    /// Begins with an empty stage.
+    /// Begins a change with an empty stage.
     pub fn stage(&mut self)
         ensures { self.new ≡ record self.old { seen = self.old.cache } }
     {
         self.drop_stage();
     }
 
-    /// Empties the stage: reads see the cache.
+    /// Discards the stage: reads see the cache again.
     pub fn drop_stage(&mut self)
         ensures { self.new ≡ record self.old { seen = self.old.cache } }
     {
@@ -103,7 +104,7 @@ impl Volume {
         self.images.clear();
     }
 
-    /// Moves the stage into the cache. The blocks whose octets that changes are dirty from then on.
+    /// Moves the stage into the cache. Blocks whose octets change become dirty.
     pub fn apply(&mut self)
         ensures cache { self.new.cache ≡ self.old.seen }
         ensures seen { self.new.seen ≡ self.old.seen }
@@ -119,14 +120,14 @@ impl Volume {
         self.drop_stage();
     }
 
-    /// How many blocks are dirty.
+    /// The number of dirty blocks.
     pub fn dirty_len(&self) -> usize
         ensures { result ≡ length self.now.dirty }
     {
         self.dirty.as_slice().len()
     }
 
-    /// Copies the dirty blocks out of the cache, and none is dirty any more.
+    /// Copies the dirty blocks out of the cache. Afterwards none is dirty.
     pub fn copy_dirty(&mut self, into: &mut BatchBuf)
         requires { length self.old.dirty ≤ 512 }
         ensures clean { self.new ≡ record self.old { dirty = [] } }
@@ -185,7 +186,7 @@ fn load_block<D: Disk>(
     Ok(())
 }
 
-// Moves the staged blocks into the cache, and marks those whose octets that changes.
+// Moves the staged blocks into the cache, and marks those whose octets change.
 fn lay_over(cache: &mut [u8], staged: &[u32], images: &[u8], dirty: &mut NumberSet)
     requires whole { length cache.old ≡ 4096 * dirty.old.bound }
     requires images { length images.now ≡ 4096 * length staged.now }

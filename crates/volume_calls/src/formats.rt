@@ -1,4 +1,4 @@
-//! What stands on a device after a new volume was asked for, also where one of its calls failed.
+//! What a device holds after a new volume was asked for, even if one of the calls failed.
 
 use disk::{DiskCall, Faults};
 use journal::{Journal, JournalError, Refused};
@@ -24,7 +24,7 @@ enum Found {
 /// A call that fails, counted among those of its kind, and what an opening finds after it.
 type Row = (&'static str, DiskCall, u64, Found);
 
-/// Those in front of the batch.
+/// The rows before the batch.
 const BEFORE: &[Row] = &[
     ("the first block", DiskCall::Write, 1, Found::NoVolume),
     ("the sync of the zeros", DiskCall::Sync, 1, Found::Zeros),
@@ -36,7 +36,7 @@ const BEFORE: &[Row] = &[
     ),
 ];
 
-/// Those of the batch.
+/// The rows of the batch.
 const BATCH: &[Row] = &[
     ("the sync of its images", DiskCall::Sync, 3, Found::Zeros),
     ("the sync that commits", DiskCall::Sync, 4, Found::Empty),
@@ -80,7 +80,7 @@ fn found_on(alloc: Global, disk: MemDisk) -> Found {
     }
 }
 
-/// A volume that was asked for where the n-th call of that kind fails.
+/// A new volume, asked for while the n-th call of that kind fails.
 fn asked(alloc: Global, kind: DiskCall, n: u64) -> Result<Result<MemDisk, Refused<MemDisk>>, Fail> {
     let Some(plan) = plan() else {
         return Err("no plan")?;
@@ -90,7 +90,7 @@ fn asked(alloc: Global, kind: DiskCall, n: u64) -> Result<Result<MemDisk, Refuse
     Ok(format(alloc, disk, &plan))
 }
 
-/// The first row whose call is not refused as a fault, or after which something else is found.
+/// The first row whose call is not refused as a fault, or after which an opening finds something else.
 fn first_wrong(alloc: Global, rows: &[Row]) -> Result<Option<&'static str>, Fail> {
     for (name, kind, n, left) in rows {
         let is_right = match asked(alloc, *kind, *n)? {

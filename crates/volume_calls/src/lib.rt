@@ -1,4 +1,4 @@
-//! Tables of what is asked of a volume, one call after the other, with what it is to answer.
+//! Tables of calls to a volume, with the expected answer to each.
 #![tactic(auto)]
 
 #[cfg(test)]

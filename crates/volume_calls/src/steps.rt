@@ -1,4 +1,4 @@
-//! The calls of a volume, each with what it is to answer.
+//! The calls of a volume, each with the expected answer.
 
 ghost use Rattle.std.specs.Prelude.{◌≤◌};
 
@@ -8,7 +8,7 @@ use std::alloc::{AllocError, Global};
 use std::test::Fail;
 use volume::{BATCH_BLOCKS, BLOCK_SIZE, BatchBuf, Blocks, OpenError, Volume};
 
-/// A call, or what a read is to give.
+/// A call, or what a read must give.
 #[derive(Clone, Copy)]
 pub enum Step<'a> {
     Stage,
@@ -16,9 +16,9 @@ pub enum Step<'a> {
     Fill(u32, u8),
     Drop,
     Apply,
-    /// How many blocks there are.
+    /// The number of blocks is this one.
     Has(u32),
-    /// How many blocks are dirty.
+    /// The number of dirty blocks is this one.
     HasDirty(usize),
     /// Each octet of the block is this one.
     Filled(u32, u8),
@@ -32,7 +32,7 @@ pub fn zeros(alloc: Global) -> Result<Volume, AllocError> {
     Volume::of(alloc, octets, 8)
 }
 
-/// A device with a volume of so many zeroed blocks, and one segment.
+/// A device with a volume of this many zeroed blocks and one segment.
 fn formatted(alloc: Global, blocks: u64) -> Result<MemDisk, FormatError>
     requires low { 1024 ≤ blocks }
     requires high { blocks ≤ 65536 }
@@ -43,7 +43,7 @@ fn formatted(alloc: Global, blocks: u64) -> Result<MemDisk, FormatError>
     Ok(disk)
 }
 
-/// The volume of a device that was just formatted, where the n-th call from its loading on fails; 0 for none.
+/// The volume of a newly formatted device, whose n-th call from the loading on fails; 0 fails none.
 pub fn loaded(alloc: Global, fail_at: u64) -> Result<Result<Volume, OpenError>, Fail> {
     let disk = formatted(alloc, 1024)?;
     let Ok(mut journal) = Journal::open(alloc, disk) else {
@@ -66,7 +66,7 @@ fn is_filled(volume: &Volume, number: u32, octet: u8) -> bool {
     octets.iter().all(|x| *x == octet)
 }
 
-/// Fills a block, where it is there.
+/// Fills a block, if it exists.
 fn fill(volume: &mut Volume, number: u32, octet: u8) -> Result<bool, AllocError> {
     if number >= volume.len() {
         return Ok(false);
@@ -89,7 +89,7 @@ fn is_batch(
     Ok(batch.numbers() == numbers && batch.images() == images.as_slice())
 }
 
-/// Copies what is dirty, where it is no more than a batch has.
+/// Copies the dirty blocks, if a batch has room for them.
 fn copied(volume: &mut Volume, batch: &mut BatchBuf) -> bool {
     if volume.dirty_len() > BATCH_BLOCKS {
         return false;
@@ -98,7 +98,7 @@ fn copied(volume: &mut Volume, batch: &mut BatchBuf) -> bool {
     true
 }
 
-/// Whether a volume answers as a step says.
+/// Whether a volume answers as a step expects.
 pub fn answers(
     alloc: Global,
     volume: &mut Volume,

@@ -60,7 +60,7 @@ const STEPS: &[(&str, &[Step<'static>])] = &[
     ),
 ];
 
-/// The place of the first step that a volume answers in another way.
+/// The index of the first step that a volume answers in another way.
 fn first_wrong(
     alloc: Global,
     volume: &mut Volume,

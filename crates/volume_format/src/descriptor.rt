@@ -1,4 +1,4 @@
-//! The descriptor of a batch, from its octets and into them.
+//! Reads and writes the descriptor of a batch.
 
 ghost use Rattle.std.specs.Prelude.{◌≡◌, ◌↔◌, ◌<◌, ◌≤◌, ◌+◌, IfSome, IsNone, IsTrue, length, replicate, take};
 ghost use Rattle.std.specs.List.{All};
@@ -6,7 +6,7 @@ ghost use Rattle.model.specs.Volume.{AreDistinct, IsDescriptor, descriptor_of, l
 
 use crate::layout::{NUMBERS_AT, SEGMENT_IMAGES, number32, put_numbers, put32, put64};
 
-/// Writes the descriptor of a batch over whatever the block holds. There are at most 512 numbers.
+/// Writes the descriptor of a batch over whatever the block holds. The batch has at most 512 numbers.
 pub fn describe_batch(descriptor: &mut Vec<u8>, number: u64, last: u64, numbers: &[u32])
     requires whole { length descriptor.old.items ≡ 4096 }
     requires few { length numbers.now ≤ 512 }
@@ -51,7 +51,8 @@ fn clear(octets: &mut [u8])
     }
 }
 
-/// How many numbers a descriptor lists, where it is valid. They go to the front of the room.
+/// Reads the numbers of a descriptor to the start of `numbers`, and answers how many there are. `None` if it is not
+/// valid.
 pub fn read_descriptor(descriptor: &[u8], blocks: u64, numbers: &mut Vec<u32>) -> Option<usize>
     requires descriptor { length descriptor.now ≡ 4096 }
     requires room { length numbers.old.items ≡ 512 }
@@ -84,14 +85,14 @@ fn read_numbers(descriptor: &[u8], count: usize, numbers: &mut Vec<u32>)
     }
 }
 
-/// Whether each of the numbers is one of so many blocks.
+/// Whether each of the numbers is below the number of blocks.
 pub fn are_below(numbers: &[u32], blocks: u64) -> bool
     ensures { IsTrue result ↔ All (λ n. n < blocks) numbers.now }
 {
     numbers.iter().all(|n| u64::from(*n) < blocks)
 }
 
-/// Whether no number stands twice.
+/// Whether no number occurs twice.
 pub fn are_distinct(numbers: &[u32]) -> bool
     ensures { IsTrue result ↔ AreDistinct numbers.now }
 {

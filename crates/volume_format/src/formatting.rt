@@ -1,4 +1,4 @@
-//! A new volume.
+//! Writes a new volume.
 
 ghost use Rattle.std.specs.Prelude.{◌≡◌, ◌^◌, ◌⊎◌, ◌+◌, ◌*◌, ◌<◌, ◌≤◌, ℕ, [], length, OnOk, IfOk, IsTrue};
 ghost use Rattle.std.specs.List.{All};
@@ -13,10 +13,10 @@ use crate::superblock::describe_in;
 use disk::{Disk, DiskError};
 use std::alloc::{AllocError, Global};
 
-/// Writes a volume of zeroed logical blocks with this label and eight closed segments, and syncs.
-/// `label` has 128 octets, which the journal doesn't read, and there are 1,024 to 65,536 blocks.
+/// Writes a volume of zeroed logical blocks with this label and eight closed segments, and syncs. `label` has 128
+/// octets, which the journal does not read. The volume has 1,024 to 65,536 blocks.
 ///
-/// A refusal, for memory too, may leave anything there.
+/// `Fault` or `Memory` may leave anything on the device.
 pub fn format<D: Disk>(
     alloc: Global,
     disk: &mut D,
@@ -37,7 +37,7 @@ pub fn format<D: Disk>(
     format_with(alloc, disk, SEGMENTS, blocks, label)
 }
 
-/// The same with 1 segment or 8.
+/// Does the same with 1 segment or 8.
 pub fn format_with<D: Disk>(
     alloc: Global,
     disk: &mut D,
@@ -63,7 +63,7 @@ pub fn format_with<D: Disk>(
     }
 }
 
-// Writes the volume, in which each block but the first is the given one of zeros.
+// Writes the volume. `zeros` is the content of each block but the first.
 fn write_volume<D: Disk>(
     disk: &mut D,
     segments: u32,
@@ -132,7 +132,7 @@ fn sync_last<D: Disk>(disk: &mut D) -> Result<(), FormatError>
     }
 }
 
-/// That many zeros.
+/// This many zeros. Refused only for want of memory.
 pub fn zeros(alloc: Global, size: usize) -> Result<Vec<u8>, AllocError>
     ensures size { IfOk result (λ octets. length octets.items ≡ size) }
     ensures zero { IfOk result (λ octets. All (λ octet. octet ≡ 0) octets.items) }

@@ -1,4 +1,4 @@
-//! Where things stand on the device, and numbers in octets. `Volume.antt` of the model says the same as definitions.
+//! The places on the device, and numbers in octets. `Volume.antt` of the model says the same as definitions.
 
 ghost use Rattle.std.specs.Prelude.{◌≡◌, ◌^◌, ◌<◌, ◌≤◌, ◌+◌, ◌*◌, length};
 ghost use Rattle.std.specs.List.{flat_map};
@@ -8,15 +8,15 @@ ghost use Rattle.model.specs.Volume.{number_at, gate_place, descriptor_place, im
 
 use byteorder::{ByteOrder, LittleEndian};
 
-/// How many octets a block has.
+/// The number of octets of a block.
 pub const BLOCK: usize = 4096;
-/// How many segments a new volume has.
+/// The number of segments of a new volume.
 pub const SEGMENTS: u32 = 8;
-/// How many a volume may have in place of them.
+/// The other number of segments that a volume may have.
 pub const ONE_SEGMENT: u32 = 1;
-/// How many images a segment has room for.
+/// The number of images that a segment has room for.
 pub const SEGMENT_IMAGES: usize = 512;
-/// How many blocks a segment has: its gate, its descriptor and its images.
+/// The number of blocks of a segment: its gate, its descriptor and its images.
 pub const SEGMENT_BLOCKS: u64 = 514;
 /// The fewest and the most logical blocks.
 pub const FEWEST_BLOCKS: u64 = 1024;
@@ -26,20 +26,20 @@ pub const MOST_BLOCKS: u64 = 65536;
 pub const MAGIC: [u8; 8] = [0x58, 0x4e, 0x4e, 0x54, 0x50, 0x46, 0x53, 0x31];
 
 pub const VERSION: u32 = 1;
-/// Where the label stands in the superblock. It ends the octets that are used; those behind are zero.
+/// Where the label begins in the superblock. It ends the octets that are used; those after it are zero.
 pub const LABEL_AT: usize = 20;
 
 pub const SUPERBLOCK_USED: usize = 148;
-/// The first octet of an open gate, and of a closed one that the journal writes.
+/// The first octet of an open gate, and that of a closed one as the journal writes it.
 pub const OPEN: u8 = 1;
 
 pub const CLOSED: u8 = 0;
-/// The number of a batch where no segment is open.
+/// The number of a batch that begins while no segment is open.
 pub const FIRST_NUMBER: u64 = 1;
 /// Where the numbers of a descriptor begin.
 pub const NUMBERS_AT: usize = 24;
 
-/// The first octet of a block.
+/// The place of a block's first octet.
 pub fn start_of(block: u64) -> u64
     requires { block < 2 ^ 40 }
     ensures { result ≡ 4096 * block }

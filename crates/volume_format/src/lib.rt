@@ -1,4 +1,4 @@
-//! Where things stand on the device of a volume, the octets of its superblock and of a batch's descriptor, and a new
+//! The places on a volume's device, the octets of its superblock and of a batch's descriptor, and the writing of a new
 //! volume. `Volume.antt` of the model says the same as definitions, docs/FORMATS.md in words.
 #![tactic(auto)]
 

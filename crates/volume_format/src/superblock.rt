@@ -1,4 +1,4 @@
-//! The superblock, from its octets and into them.
+//! Reads and writes the superblock.
 
 ghost use Rattle.std.specs.Prelude.{◌≡◌, ◌↔◌, ◌⊎◌, ◌*◌, ◌≤◌, IfSome, IsNone, IsTrue, drop, length, take};
 ghost use Rattle.std.specs.List.{All};
@@ -10,7 +10,7 @@ use crate::layout::{
     home_block, number32, put_octets, put32, start_of,
 };
 
-/// Makes a superblock of a block of zeros.
+/// Turns a block of zeros into a superblock.
 pub(crate) fn describe_in(octets: &mut Vec<u8>, segments: u32, blocks: u32, label: &[u8])
     requires segments { (segments ≡ 1) ⊎ (segments ≡ 8) }
     requires low { 1024 ≤ blocks }
@@ -47,7 +47,7 @@ fn describe_volume(octets: &mut [u8], segments: u32, blocks: u32, label: &[u8])
     put_octets(octets, LABEL_AT, label);
 }
 
-/// How many logical blocks and how many segments a volume has.
+/// The numbers of logical blocks and segments of a volume.
 #[derive(Clone, Copy, Debug, PartialEq, Eq)]
 pub struct Sizes {
     /// 1,024 to 65,536.
@@ -56,7 +56,7 @@ pub struct Sizes {
     pub segments: u32,
 }
 
-/// The sizes that a superblock tells, where it is valid for a device of so many octets.
+/// The sizes that a superblock states. `None` if it is not valid for a device of `size` octets.
 pub fn read_superblock(octets: &[u8], size: u64) -> Option<Sizes>
     requires { length octets.now ≡ 4096 }
     ensures some { IfSome result (λ sizes. IsSuperblock octets.now size × (number_at 12 4 octets.now ≡ sizes.blocks) × (number_at 16 4 octets.now ≡ sizes.segments)) }
@@ -78,7 +78,7 @@ pub fn read_superblock(octets: &[u8], size: u64) -> Option<Sizes>
     }
 }
 
-// Whether a volume may have so many segments.
+// Whether a volume may have this many segments.
 fn may_be_many(segments: u32) -> bool
     ensures count { IsTrue result ↔ (segments ≡ 1) ⊎ (segments ≡ 8) }
     ensures few { IsTrue result → segments ≤ 8 }

@@ -6,9 +6,9 @@ use Rattle.wcache.specs.Collected.{MayLeave, shown}
 -- a cache over a device of the type D
 pub record CacheView (D : Type 0) : Type 0 where
   pub disk : D
-  -- for each place of the device the octet that was collected since the last good sync, if there is one
+  -- for each place of the device the octet collected since the last good sync, if any
   pub collected : List (Option ℕ)
-  -- how many reads, writes and syncs the cache was asked for, each as a u64 that wraps
+  -- the numbers of reads, writes and syncs that the cache was asked for, each as a u64 that wraps
   pub reads : ℕ
   pub writes : ℕ
   pub syncs : ℕ

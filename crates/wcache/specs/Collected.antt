@@ -1,4 +1,4 @@
--- Octets that were collected: for each place of the device the collected one, if there is one.
+-- Collected octets: for each place of the device the one collected, if any.
 use Rattle.std.specs.Prelude.{◌≡◌, ◌⊎◌, ◌<◌, ℕ, List, [], ◌∷◌, length, slice_index, slice_index_or, Option, Some, None}
 use Rattle.disk.specs.Device.{Device}
 
@@ -9,7 +9,7 @@ shown (c ∷ collected) [] = []
 shown (None ∷ collected) (octet ∷ octets) = octet ∷ shown collected octets
 shown (Some c ∷ collected) (octet ∷ octets) = c ∷ shown collected octets
 
--- an octet that a crash may leave: the device's or, where one was collected, that or any other
+-- an octet that a crash may leave: the device's own or, where one was collected, any octet
 abbrev pub MayBe : Option ℕ → ℕ → ℕ → Type 0
 MayBe None under octet = octet ≡ under
 MayBe (Some collected) under octet = (octet ≡ under) ⊎ ((octet ≡ collected) ⊎ (octet < 256))

@@ -7,7 +7,7 @@ pub record Run : Type 0 where
   pub at : ℕ
   pub octets : List ℕ
 
--- an octet in front of runs: it joins the run that begins behind it, unless a block begins there
+-- an octet put before some runs: it joins the run that begins right after it, unless a block begins there
 unfoldable pub join : ℕ → ℕ → List Run → List Run
 join at octet [] = record { at = at; octets = octet ∷ [] } ∷ []
 join at octet (run ∷ runs) =

@@ -2,11 +2,11 @@
 use Rattle.std.specs.Prelude.{◌≡◌, ◌⊎◌, ◌<◌, ◌≤◌, ◌==◌, ℕ, zero, suc, ◌+◌, ◌*◌, ◌/◌, ◌%◌, ◌^◌, if◌then◌else◌, List, length, map, slice_index, Option, Some, None}
 use Rattle.std.specs.List.{range_with_len}
 
--- the octet at a place of the slots, where one was collected
+-- the octet at a place of the slots, if one was collected there
 abbrev pub cell : List ℕ → List ℕ → ℕ → Option ℕ
 cell flags octets place = if slice_index flags place == 1 then Some (slice_index octets place) else None
 
--- the i-th of a slot, by one more than its number; 0 is none
+-- the i-th octet of a slot, by one more than the slot's number; 0 means no slot
 abbrev pub in_slot : ℕ → List ℕ → List ℕ → ℕ → Option ℕ
 in_slot zero flags octets i = None
 in_slot (suc s) flags octets i = cell flags octets (4096 * s + i)
@@ -15,11 +15,11 @@ in_slot (suc s) flags octets i = cell flags octets (4096 * s + i)
 abbrev pub octet_at : List ℕ → List ℕ → List ℕ → ℕ → Option ℕ
 octet_at slots flags octets k = in_slot (slice_index slots (k / 4096)) flags octets (k % 4096)
 
--- those of the first n places
+-- the octets of the first n places
 abbrev pub places : (ℕ → Option ℕ) → ℕ → List (Option ℕ)
 places taken n = map taken (range_with_len 0 n)
 
--- the slots are whole, and no two blocks have one
+-- the slots are whole, and no two blocks share one
 pub record IsSound (slots flags octets : List ℕ) : Type 0 where
   pub few : length slots ≤ 2 ^ 52
   pub whole : length flags % 4096 ≡ 0

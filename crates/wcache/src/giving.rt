@@ -1,4 +1,4 @@
-//! The collected octets given to the device.
+//! Gives the collected octets to the device.
 
 ghost use Rattle.std.specs.Prelude.{◌≡◌, ◌⊎◌, ◌<◌, ◌≤◌, ℕ, ◌+◌, ◌*◌, ◌%◌, ◌^◌, List, Option, None, Some, IfSome, IsNone, length, slice_index, slice_index_or};
 ghost use Rattle.disk.specs.Calls.{Makes};
@@ -11,7 +11,7 @@ use disk::{Disk, DiskError};
 use memchr::memchr;
 use std::ops::Range;
 
-/// Gives the device all that was collected, and syncs it.
+/// Gives the device all collected octets, and syncs it. It stops at the first call that is refused.
 pub fn give_and_sync<D: Disk>(disk: &mut D, collected: &Collected) -> Result<(), DiskError>
     requires { (k : ℕ) → (D.device disk.old).size ≤ k → taken collected.now k ≡ None }
     ensures { (n : ℕ) → ((k : ℕ) → n ≤ k → taken collected.now k ≡ None) → Makes D.device (calls_of (places (taken collected.now) n)) result disk.old disk.new }
@@ -22,7 +22,7 @@ pub fn give_and_sync<D: Disk>(disk: &mut D, collected: &Collected) -> Result<(),
     }
 }
 
-// Block by block, in rising place.
+// Gives the blocks one by one, in rising place.
 fn give<D: Disk>(disk: &mut D, collected: &Collected) -> Result<(), DiskError>
     requires { (k : ℕ) → (D.device disk.old).size ≤ k → taken collected.now k ≡ None }
     ensures { (n : ℕ) → ((k : ℕ) → n ≤ k → taken collected.now k ≡ None) → Makes D.device (writes_of (runs_from 0 (places (taken collected.now) n))) result disk.old disk.new }
@@ -36,7 +36,7 @@ fn give<D: Disk>(disk: &mut D, collected: &Collected) -> Result<(), DiskError>
     Ok(())
 }
 
-// One block, of these octets.
+// Gives the collected octets of one block.
 fn give_slot<D: Disk>(disk: &mut D, collected: &Collected, block: usize) -> Result<(), DiskError>
     requires few { block < 2 ^ 52 }
     requires fits { (k : ℕ) → (D.device disk.old).size ≤ k → taken collected.now k ≡ None }
@@ -49,7 +49,7 @@ fn give_slot<D: Disk>(disk: &mut D, collected: &Collected, block: usize) -> Resu
     }
 }
 
-// The runs of one block, which starts there.
+// Gives the runs of the block that starts there.
 fn give_block<D: Disk>(
     disk: &mut D,
     start: u64,
@@ -75,7 +75,7 @@ fn give_block<D: Disk>(
     Ok(())
 }
 
-// The next run of octets that were collected, from a place of the block on.
+// The next run of collected octets, from a place of the block on.
 fn next_run(flags: &[u8], from: usize) -> Option<Range<usize>>
     requires size { length flags.now ≡ 4096 }
     requires bits { (i : ℕ) → slice_index flags.now i ≤ 1 }
@@ -92,7 +92,7 @@ fn next_run(flags: &[u8], from: usize) -> Option<Range<usize>>
     }
 }
 
-// Where the run ends that has this place.
+// Where the run that contains this place ends.
 fn run_end(flags: &[u8], start: usize) -> usize
     requires size { length flags.now ≡ 4096 }
     requires within { start < 4096 }

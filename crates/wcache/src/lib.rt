@@ -1,5 +1,5 @@
-//! A device that collects writes until a sync, over another device. So writes to one place, or to places side by side,
-//! reach the device as one. `specs/Cache.antt` says what it is as a device, `specs/Runs.antt` what a sync gives the
+//! A device that collects writes until a sync, over another device. So writes to one place, or to adjacent places,
+//! reach that device as one. `specs/Cache.antt` says what it is as a device, `specs/Runs.antt` what a sync gives the
 //! device below.
 #![tactic(auto)]
 
@@ -49,7 +49,7 @@ impl<D: Disk> Model for WCache<D> {
 }
 
 impl<D: Disk> WCache<D> {
-    /// A cache over a device. Nothing is collected yet, and it takes no memory yet.
+    /// A cache over a device. It has collected nothing and takes no memory yet.
     pub fn new(alloc: Global, disk: D) -> WCache<D>
         ensures { result ≡ record { disk = disk; collected = replicate (D.device disk).size None; reads = 0; writes = 0; syncs = 0 } }
     {
@@ -64,7 +64,7 @@ impl<D: Disk> WCache<D> {
         }
     }
 
-    /// The device below, as it is. What was collected since the last good sync is lost.
+    /// The device below, as it is. Writes collected since the last good sync are lost.
     pub fn into_inner(self) -> D
         ensures { result ≡ self.disk }
     {
@@ -106,7 +106,7 @@ impl<D: Disk> Disk for WCache<D> {
         Ok(())
     }
 
-    /// Collects the octets. It is refused only where a growth was, and then nothing is taken; the device below isn't asked.
+    /// Collects the octets and does not call the device below. The only refusal is `Memory`, which has no effect.
     fn write(&mut self, at: u64, from: &[u8]) -> Result<(), DiskError>
         requires { at + length from.now ≤ (D.device self.old.disk).size }
         ensures below { self.new.disk ≡ self.old.disk }
@@ -131,9 +131,9 @@ impl<D: Disk> Disk for WCache<D> {
         }
     }
 
-    /// Gives the device below, in rising place, one write for each longest run of collected octets within a block of 4,096,
-    /// then one sync, up to the first of these calls that is refused. What was collected is forgotten only after `Ok`. It
-    /// takes no memory of its own.
+    /// Gives the device below, in rising place, one write for each longest run of collected octets within a block of
+    /// 4,096. Then it asks one sync. It stops at the first of these calls that is refused. The collected octets are
+    /// discarded only after `Ok`. It takes no memory of its own.
     fn sync(&mut self) -> Result<(), DiskError>
         ensures calls { Makes D.device (calls_of self.old.collected) result self.old.disk self.new.disk }
         ensures forgets { OnOk result (self.new.collected ≡ replicate (length self.old.collected) None) }
@@ -179,7 +179,7 @@ impl<D: Faults> Faults for WCache<D> {
 
     ghost plans_kind = { λ kind n old new. (new ≡ record old { disk = new.disk }) × D.plans_kind kind n old.disk new.disk };
 
-    /// The n-th call of the device below fails.
+    /// Makes the n-th call of the device below fail.
     fn fail_at(&mut self, n: u64)
         ensures plan { (self.new ≡ record self.old { disk = self.new.disk }) × D.plans n self.old.disk self.new.disk }
         ensures device { IsUnchanged (D.device self.old.disk) (D.device self.new.disk) }
@@ -188,7 +188,7 @@ impl<D: Faults> Faults for WCache<D> {
         self.disk.fail_at(n);
     }
 
-    /// The n-th call of that kind of the device below fails.
+    /// Makes the n-th call of that kind of the device below fail.
     fn fail_kind(&mut self, kind: DiskCall, n: u64)
         ensures plan { (self.new ≡ record self.old { disk = self.new.disk }) × D.plans_kind kind n self.old.disk self.new.disk }
         ensures device { IsUnchanged (D.device self.old.disk) (D.device self.new.disk) }

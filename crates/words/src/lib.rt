@@ -1,4 +1,4 @@
-//! The words of the program `newsd`: their grammar, its help, and what they ask for.
+//! The command line of `newsd`: its grammar, its help, and the request that it makes.
 #![tactic(auto)]
 
 mod reading;

@@ -1,4 +1,4 @@
-//! The program's words are read.
+//! Reads the program's words.
 
 use crate::syntax::syntax;
 use crate::table::{
@@ -14,12 +14,12 @@ use std::alloc::Global;
 use std::convert::AsStr;
 use std::io::Write;
 
-/// What the words ask for.
+/// The request that the words make.
 #[derive(Drop)]
 pub enum Asked<'a> {
     /// Nothing more: help or the version was printed, or words were not understood.
     Nothing(u8),
-    /// Over a device in memory, with or without a cache that collects writes until a sync.
+    /// A simulation over a device in memory, with or without a cache that collects writes until a sync.
     Simulation(Plan<'a>, bool),
     Format(&'a str, Plan<'a>),
     /// The line of a change, as an operator would write it.
@@ -44,8 +44,9 @@ pub struct Export<'a> {
     pub has_crlf: bool,
 }
 
-/// Reads the words, the first of which is the program's name. Where they aren't understood, the parser's text goes to `faults`;
-/// help and the version go to `output`. `Bad` where a word is outside its grammar or range, `Memory` where a growth was refused.
+/// Reads the words, the first of which is the program's name. If they are not understood, the parser's text goes to
+/// `faults`; help and the version go to `output`. `Bad` if a word is outside its grammar or range, `Memory` if a growth
+/// was refused.
 pub fn read_words<'a, S: AsStr, W: Write, F: Write>(
     alloc: Global,
     words: &'a [S],
@@ -58,7 +59,7 @@ pub fn read_words<'a, S: AsStr, W: Write, F: Write>(
     }
 }
 
-/// Writes what the parser has to say, and answers the status that the program ends with.
+/// Writes the parser's message, and answers the status with which the program ends.
 fn tell<W: Write, F: Write>(error: &Error, output: &mut W, faults: &mut F) -> Result<u8, Failure> {
     if error.kind() == ErrorKind::OutOfMemory {
         return Err(Failure::Memory);
@@ -71,7 +72,7 @@ fn tell<W: Write, F: Write>(error: &Error, output: &mut W, faults: &mut F) -> Re
     Ok(DONE)
 }
 
-/// What the words that were understood ask for, where each is in its grammar and range.
+/// The request of words that were understood, if each is in its grammar and range.
 fn read_request<'a>(alloc: Global, matches: &ArgMatches<'a>) -> Result<Asked<'a>, Failure> {
     let Some((name, words)) = matches.subcommand() else {
         return Err(Failure::Bad);
@@ -130,7 +131,7 @@ fn read_expiry(alloc: Global, words: &ArgMatches<'_>) -> Result<Vec<u8>, Failure
     read_line(alloc, b"expire", &[NAME, NUMBER], words)
 }
 
-/// A line that begins with this keyword and goes on with the words of these names, none of which may have spaces.
+/// A line that begins with this keyword, followed by the words of these names, none of which may have spaces.
 fn read_line(
     alloc: Global,
     keyword: &[u8],

@@ -4,7 +4,7 @@ use crate::table::{Kind, SUBCOMMANDS, Subcommand, Word};
 use clap::{Arg, ArgAction, Command, value_parser};
 use std::alloc::{AllocError, Global};
 
-/// What `newsd --version` says.
+/// The version that `newsd --version` prints.
 pub const VERSION: &str = "0.9.0";
 
 /// The program's words, one level of subcommands.

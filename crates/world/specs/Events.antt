@@ -49,7 +49,7 @@ of_kernel refusal.Full = error.Full
 
 -- ---- Arrive and Exec
 
--- a message is served, or refused and still the session's next one; where none has come whole, nothing happens
+-- a message is served, or refused and still the session's next one; if no message has arrived whole, nothing happens
 abbrev pub DidExec : {D : Type 0} → WorldView D → ℕ → ℕ → Option Mode → Option (Message × Octets) → Result Answer StepError → WorldView D → Type 0
 DidExec old number moment None found result new = (result ≡ Err error.NoSession) × (new ≡ old)
 DidExec old number moment (Some mode) None result new = MatchResult result (λ a. (a ≡ answer.Served None) × (new ≡ old)) (λ e. (e ≡ error.Memory) × (new ≡ old))
@@ -63,7 +63,7 @@ DidExec old number moment (Some mode) (Some found) result new =
 abbrev pub begun : {D : Type 0} → JournalView D → KernelView → JournalView D
 begun journal kernel = begins journal (length kernel.spool) kernel.dirty (map (λ n. slice_index_or kernel.blocks n []) kernel.dirty)
 
--- a batch begins exactly where the journal is idle, and not halted, and the kernel has one
+-- a batch begins exactly if the journal is idle and not halted and the kernel has a batch
 pub record DidTake {D : Type 0} (old : WorldView D) (result : Result Answer StepError) (new : WorldView D) : Type 0 where
   pub takes : IsReady old.journal → has_batch (kernel_of old) ≡ true →
       (result ≡ Ok (answer.Took (Some (length (kernel_of old).spool))))
@@ -107,7 +107,7 @@ pub record DidDev {D : Type 0} (device : D → Device) (old : WorldView D) (resu
   pub untold : new.untold ≡ old.untold ++ news_of answered
   pub served : new.served ≡ old.served
 
--- the oldest news is handed on to the kernel
+-- the kernel learns the oldest news
 abbrev pub told : KernelView → List News → KernelView
 told kernel [] = kernel
 told kernel (IsDurable last ∷ later) = made_durable kernel last
@@ -115,8 +115,8 @@ told kernel (HasFailed ∷ later) = halted_for_good kernel
 
 -- ---- all events
 
--- What an event does, by its answer. A refusal changes nothing, but that a failed device call halts the journal, and that
--- a device which refuses a call for want of memory takes nothing of it.
+-- What an event does, by its answer. A refusal changes nothing, except that a failed device call halts the journal. A
+-- call that the device refuses for want of memory leaves the device's content and counts as they were.
 abbrev pub Did : {D : Type 0} → (D → Device) → WorldView D → Event → Result Answer StepError → WorldView D → Type 0
 Did device old event.Join result new =
     Tested of_kernel error.Memory (join_refusal (kernel_of old)) old new result (λ a. (a ≡ answer.Joined ((kernel_of old).joined + 1)) × (new ≡ with_served old (joins old.served)))
@@ -144,20 +144,20 @@ abbrev pub for_memory : Result Answer StepError → Bool
 for_memory (Err error.Memory) = true
 for_memory other = false
 
--- these events were done one after another, those refused but for memory passed over
+-- these events were done one after another; those that were refused, but not for memory, were skipped
 pub data Went {D : Type 0} (device : D → Device) : WorldView D → List Event → WorldView D → Type 0 where
   none : (world : WorldView D) → Went device world [] world
   more : (old middle new : WorldView D) (first : Event) (events : List Event) (result : Result Answer StepError)
       → result ≢ Err error.Memory → Did device old first result middle → Went device middle events new → Went device old (first ∷ events) new
 
--- the first n events were done, and the next one, where there is one, was refused for memory
+-- the first n events were done, and the next one, if there is one, was refused for memory
 pub record Ran {D : Type 0} (device : D → Device) (old : WorldView D) (events : List Event) (n : ℕ) (new : WorldView D) : Type 0 where
   pub middle : WorldView D
   pub went : Went device old (take n events) middle
   pub ended : length events ≤ n → new ≡ middle
   pub stopped : n < length events → (event : Event) × (slice_get events n ≡ Some event) × Did device middle event (Err error.Memory) new
 
--- the kernel's refusals, as the errors that they are told by
+-- the kernel's refusals, as the errors that report them
 abbrev pub of_join_error : JoinError → StepError
 of_join_error join.Halted = error.Halted
 of_join_error join.TooManySessions = error.TooManySessions
@@ -191,7 +191,7 @@ abbrev pub of_arrive_error : ArriveError → StepError
 of_arrive_error arrive.NoSession = error.NoSession
 of_arrive_error arrive.Memory = error.Memory
 
--- the conditions of an event: moments, and what is said of a group, are in their ranges
+-- the conditions of an event: its moment and the fields of a group are in their ranges
 abbrev pub MayHappen : Event → Type 0
 MayHappen (event.Exec number moment) = moment < moment_limit
 MayHappen (event.Admin name status description moment) =

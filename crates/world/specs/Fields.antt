@@ -1,4 +1,4 @@
--- What the fields of the code stand for, and what they keep.
+-- What the fields of the code mean, and what they keep.
 use Rattle.std.specs.Prelude.{◌≡◌, Bool, true, false, List, [], ◌∷◌, ◌++◌, Option, Some, None, option_map}
 use Rattle.kernel.specs.declared.Ticket.{Ticket}
 use Rattle.world.specs.Tied.{IsTied}
@@ -13,7 +13,7 @@ abbrev pub failed_news : Bool → List News
 failed_news false = []
 failed_news true = HasFailed ∷ []
 
--- what is untold of the batch in flight, and whether a fault is
+-- what the kernel has yet to learn of the batch in flight, and of a fault
 abbrev pub news_in : Option Ticket → Bool → Bool → List News
 news_in ticket committed failed = durable_news ticket committed ++ failed_news failed
 

@@ -11,12 +11,13 @@ use Rattle.model.specs.News.{Holds}
 use Rattle.served.specs.Served.{FollowsPlain, IsServed}
 use Rattle.world.specs.World.{News, IsDurable, HasFailed, WorldView, kernel_of}
 
--- blocks that hold the first p changes, and are the cached ones but for the dirty ones
+-- blocks that hold the first p changes, and are the cached ones except for the dirty ones
 pub record LieBehind (kernel : KernelView) (blocks : List Octets) (p : ℕ) : Type 0 where
   pub agrees : AgreesBehind kernel blocks
   pub holds : Holds kernel.host kernel.inodes blocks (take p kernel.spool)
 
--- whether the journal and the kernel are halted: a fault halts the journal at once, and the kernel when it is told
+-- whether the journal and the kernel are halted: a fault halts the journal at once, and the kernel when it learns of
+-- the fault
 abbrev pub AreFaults : Bool → Bool → List News → Type 0
 AreFaults false halted news = (halted ≡ false) × (news ≡ [])
 AreFaults true false news = news ≡ HasFailed ∷ []
@@ -29,7 +30,8 @@ pub record IsQuiet {D : Type 0} (tells : Bool) (journal : JournalView D) (kernel
   pub blocks : IsTrue tells → LieBehind kernel journal.blocks kernel.durable
   pub faults : AreFaults journal.halted kernel.halted untold
 
--- a batch is in flight, and is not committed: the journal's blocks hold the durable changes, and with the batch those up to its last
+-- a batch is in flight and not committed: the journal's blocks hold the durable changes, and with the batch those up to
+-- its last serial
 pub record IsFlying {D : Type 0} (tells : Bool) (journal : JournalView D) (kernel : KernelView) (untold : List News) (last : ℕ) : Type 0 where
   pub flies : kernel.in_flight ≡ Some last
   pub last_is : journal.last ≡ last
@@ -39,7 +41,7 @@ pub record IsFlying {D : Type 0} (tells : Bool) (journal : JournalView D) (kerne
   pub after : IsTrue tells → LieBehind kernel (with_batch journal) last
   pub faults : AreFaults journal.halted kernel.halted untold
 
--- it is committed, and the kernel is still to be told
+-- the batch is committed, and the kernel has yet to learn it
 pub record IsCommitted {D : Type 0} (tells : Bool) (journal : JournalView D) (kernel : KernelView) (untold : List News) (last : ℕ) : Type 0 where
   pub flies : kernel.in_flight ≡ Some last
   pub past : is_to_commit journal.next ≡ false
@@ -59,8 +61,8 @@ pub record IsTied (tells : Bool) {D : Type 0} (world : WorldView D) : Type 0 whe
   pub size : world.journal.size ≡ length (kernel_of world).blocks
   pub phase : Phase tells world.journal (kernel_of world) world.untold
 
--- What the whole system keeps, whatever happens: what is served is what the plain server serves, the kernel keeps what its lock
--- keeps, the journal is tied to the kernel, and admits what a crash may leave.
+-- What the whole system keeps, whatever happens: what is served is what the plain server serves, the kernel keeps what
+-- its lock keeps, and the journal is tied to the kernel and admits what a crash may leave.
 pub record IsWorld {D : Type 0} (device : D → Device) (world : WorldView D) : Type 0 where
   pub plain : FollowsPlain world.served
   pub served : IsServed world.served

@@ -13,12 +13,12 @@ pub data News : Type 0 where
 pub record WorldView (D : Type 0) : Type 0 where
   pub journal : JournalView D
   pub served : ServedView
-  -- the news that was not handed on to the kernel, the oldest first
+  -- the news that the kernel has yet to learn, the oldest first
   pub untold : List News
 
 abbrev pub kernel_of : {D : Type 0} → WorldView D → KernelView
 kernel_of world = world.served.kernel
 
--- the sessions and the kernel change, and nothing of the device
+-- the sessions and the kernel change, and the device stays as it is
 abbrev pub with_served : {D : Type 0} → WorldView D → ServedView → WorldView D
 with_served world served = record { journal = world.journal; served = served; untold = world.untold }

@@ -1,9 +1,11 @@
+//! The events of the whole system, and the answers to them.
+
 use journal::Progress;
 use model::{Mark, Mode};
 use names::GroupName;
 use thiserror::Error;
 
-/// What may happen. Sessions are named by their numbers; a moment is in seconds since 1970.
+/// An event. Sessions are named by their numbers; a moment is in seconds since 1970.
 #[derive(Drop)]
 pub enum Event {
     /// A session begins.
@@ -23,16 +25,16 @@ pub enum Event {
         description: Vec<u8>,
         moment: u64,
     },
-    /// The operator takes the articles of a group up to a number out of it.
+    /// The operator removes the articles of a group up to a number.
     Expire {
         name: GroupName,
         number: u32,
     },
-    /// The journal begins a batch of the changed blocks, if it is idle and there is one.
+    /// The journal begins a batch of the dirty blocks, if it is idle and there are any.
     Take,
     /// The journal makes its next device call.
     Dev,
-    /// The kernel is told what a device call answered.
+    /// The kernel learns what a device call answered.
     Told,
     /// What is ready is handed out.
     Release,
@@ -40,17 +42,17 @@ pub enum Event {
     ReleaseOf(u64),
 }
 
-/// What an event was answered.
+/// The answer to an event.
 #[derive(Clone, Copy)]
 pub enum Answer {
     Done,
     /// the session's number
     Joined(u64),
-    /// what the session sends next, and how the message was served; none where no message has come whole
+    /// what the session sends next, and the mark of the message; `None` if no message has arrived whole
     Served(Option<(Option<Mode>, Mark)>),
     /// the serial of the operator's change
     Made(u64),
-    /// the last serial of the batch that begins, if one does
+    /// the last serial of the batch that begins, if any
     Took(Option<u64>),
     Progressed(Progress),
 }
@@ -58,7 +60,7 @@ pub enum Answer {
 /// Why an event was refused.
 #[derive(Clone, Copy, Debug, Drop, PartialEq, Eq, Error)]
 pub enum StepError {
-    /// The device failed in this call. The journal is halted by it for good.
+    /// The device failed in this call. This halts the journal for good.
     #[error("E1 Fault")]
     Fault,
     /// A growth was refused in this call, and nothing changed.
@@ -70,22 +72,22 @@ pub enum StepError {
     /// There is no room for the change.
     #[error("E6 Full")]
     Full,
-    /// 64 sessions are there, or the greatest u64 was given as a session's number.
+    /// 64 sessions exist, or the greatest u64 was used as a session's number.
     #[error("E7 TooManySessions")]
     TooManySessions,
-    /// More than 256 blocks are dirty: ask again after a take.
+    /// More than 256 blocks are dirty: ask again after a batch is taken.
     #[error("E8 LaterDirty")]
     LaterDirty,
     /// The session has 1,048,576 or more buffered octets: ask again after a release.
     #[error("E9 LaterOut")]
     LaterOut,
-    /// No session of this number is there, or it was closed.
+    /// No session of this number exists, or it was closed.
     #[error("E10 NoSession")]
     NoSession,
-    /// A group of this name is there.
+    /// A group with this name exists already.
     #[error("E11 Exists")]
     Exists,
-    /// The group isn't here, or the number is below its lowest or above its highest.
+    /// The group does not exist, or the number is below its lowest or above its highest.
     #[error("E12 NotFound")]
     NotFound,
 }

@@ -1,4 +1,4 @@
-//! The whole system under any list of events: at each moment, also within a device call, a crash leaves a disk that is
+//! The whole system under any list of events. At each moment, even within a device call, a crash leaves a disk that is
 //! externally synchronous with what was released. `specs/Images.antt` says what that is, `specs/Events.antt` what each
 //! event does, `specs/Tied.antt` what the system keeps.
 #![tactic(auto)]
@@ -48,13 +48,13 @@ pub struct World<D: Disk> {
     batch: BatchBuf,
     // The batch in flight.
     ticket: Option<Ticket>,
-    // It is on disk, and the kernel was not told.
+    // The batch in flight is on disk, and the kernel has not yet learned it.
     is_committed: bool,
-    // The device failed, and the kernel was not told.
+    // The device failed, and the kernel has not yet learned it.
     has_failed: bool,
 }
 
-// By hand: who drops one would prove a derived one again, field by field.
+// By hand: a caller that drops one would otherwise prove the derived one again, field by field.
 impl<D: Disk + Drop> Drop for World<D> {
     fn drop(self) {
         let World {
@@ -81,7 +81,7 @@ impl<D: Disk> Model for World<D> {
 }
 
 impl<D: Disk> World<D> {
-    /// What the whole system keeps.
+    /// States what the whole system keeps, and does nothing.
     pub fn kept(&self)
         ensures { IsWorld D.device self.now }
     {
@@ -89,12 +89,14 @@ impl<D: Disk> World<D> {
         let _ = self.journal.is_idle();
     }
 
-    /// Opens what stands on the device: all its changes are durable, and nothing has happened yet. A crash during it leaves
-    /// a disk that stands for the spool of an image that a crash at its start might have left; and from the first good sync on,
-    /// which comes before every write, the volume that a read gives, with its label and its logical blocks, whatever these hold.
-    /// A refusal keeps to this too, so it overwrites no disk, and hands the device back:
-    /// `Fault` (E1) where the device failed, `Memory` (E2) where it did not, `NotAVolume` (E3) where no volume with a label of its
-    /// size stands there, and `Damaged` (E5) where one does, and holds no lawful spool of the label's host.
+    /// Opens the device: all its changes are durable, and nothing has happened yet. A crash during the opening leaves a
+    /// disk that stands for the spool of an image that a crash at the start might have left. The first good sync comes
+    /// before every write. After it a crash leaves the volume that a read gives, with its label and its logical blocks,
+    /// whatever they contain.
+    ///
+    /// A refusal keeps to this too, so it overwrites no disk, and it returns the device. `Fault` (E1) if the device
+    /// failed. `Memory` (E2) if it did not, and a growth was refused. `NotAVolume` (E3) if the device holds no volume
+    /// with a label of its size. `Damaged` (E5) if it holds one, but no lawful spool of the label's host.
     pub fn open(alloc: Global, disk: D) -> Result<World<D>, Refused<D>>
         ensures new { IfOk result (λ w. IsNew w) }
         ensures spool { IsTrue (D.device disk).tells → IfOk result (λ w. Stands (kernel_of w).host (D.device disk).content (kernel_of w).spool) }
@@ -142,9 +144,10 @@ impl<D: Disk> World<D> {
         Ok(world)
     }
 
-    /// One event. A crash at any moment of it, also within a device call, leaves a disk that is externally synchronous with
-    /// the trace and the released octets that stood at its start; and one after it, with those that stand then. `did` says what the
-    /// event does by its answer (`Did` in `specs/Events.antt`), `keeps` that what the whole system keeps stands again (`IsWorld` in
+    /// Makes one event happen. A crash at any moment of the event, even within a device call, leaves a disk that is
+    /// externally synchronous with the trace and the released octets at its start. A crash afterwards leaves one that
+    /// is synchronous with those at its end. `did` says what the event does by its answer (`Did` in
+    /// `specs/Events.antt`). `keeps` says that the whole system again keeps what it keeps (`IsWorld` in
     /// `specs/Tied.antt`).
     pub fn step(&mut self, alloc: Global, event: &Event) -> Result<Answer, StepError>
         requires { MayHappen event.now }
@@ -160,9 +163,10 @@ impl<D: Disk> World<D> {
         result
     }
 
-    /// One event after another, those refused passed over; only at a refusal for memory it stops before that event. Answers how
-    /// many events it went through. A crash at any moment leaves a disk that is externally synchronous with what stood after some
-    /// of them, and one after the last with what stands then.
+    /// Makes the events happen one after another. Events that are refused are skipped; only at a refusal for memory it
+    /// stops before that event. Answers the number of events that it went through. A crash at any moment leaves a disk
+    /// that is externally synchronous with the state after some of them. A crash after the last one leaves one that is
+    /// synchronous with the state at the end.
     pub fn run(&mut self, alloc: Global, events: &[Event]) -> u64
         requires { (k : ℕ) (event : ItsEvent) → slice_get events.now k ≡ Some event → MayHappen event }
         ensures count { result ≤ length events.now }
@@ -191,14 +195,14 @@ impl<D: Disk> World<D> {
         self.served.opened()
     }
 
-    /// How many changes are durable.
+    /// The number of durable changes.
     pub fn durable(&self) -> u64
         ensures { result ≡ (kernel_of self.now).durable }
     {
         self.served.durable()
     }
 
-    /// What was served since the opening, in order.
+    /// The entries that were served since the opening, in order.
     pub fn trace(&self) -> &[Entry]
         ensures { result.now ≡ self.now.served.trace }
     {
@@ -226,14 +230,14 @@ impl<D: Disk> World<D> {
         self.served.released(number)
     }
 
-    /// What is accepted.
+    /// The accepted changes.
     pub fn spool(&self) -> &Spool
         ensures { result.now.changes ≡ (kernel_of self.now).spool }
     {
         self.served.spool()
     }
 
-    /// Hands the device back.
+    /// Returns the device.
     pub fn into_disk(self) -> D
         ensures { result ≡ self.journal.disk }
     {
@@ -408,8 +412,8 @@ impl<D: Disk> World<D> {
 impl<D: Faults> World<D> {
     ghost use Rattle.disk.specs.Device.{IsUnchanged};
 
-    /// The n-th call of the device from now on, counted from 1, answers `Fault`; 0 takes an earlier plan back.
-    /// All else stays as it was.
+    /// Makes the n-th call of the device from now on, counted from 1, answer `Fault`; 0 cancels an earlier plan. All
+    /// else stays as it was.
     pub fn fail_at(&mut self, n: u64)
         ensures view { self.new ≡ record self.old { journal = record self.old.journal { disk = self.new.journal.disk } } }
         ensures device { IsUnchanged (D.device self.old.journal.disk) (D.device self.new.journal.disk) }
@@ -418,7 +422,7 @@ impl<D: Faults> World<D> {
         self.journal.fail_at(n);
     }
 
-    /// The n-th call of that kind of the device from now on fails likewise.
+    /// Does the same for the n-th call of that kind.
     pub fn fail_kind(&mut self, kind: DiskCall, n: u64)
         ensures view { self.new ≡ record self.old { journal = record self.old.journal { disk = self.new.journal.disk } } }
         ensures device { IsUnchanged (D.device self.old.journal.disk) (D.device self.new.journal.disk) }
@@ -460,7 +464,7 @@ fn exec_answer(served: Result<Option<(Option<Mode>, Mark)>, ExecError>) -> Resul
     }
 }
 
-/// Whether a commit is untold, after this answer of the journal.
+/// Whether the kernel has yet to learn of a commit, after this answer of the journal.
 fn commits_too(committed: bool, answered: &Result<Progress, JournalError>) -> bool
     ensures { result ≡ (committed || commits answered.now) }
 {
@@ -470,7 +474,7 @@ fn commits_too(committed: bool, answered: &Result<Progress, JournalError>) -> bo
     }
 }
 
-/// Whether a fault is untold, after this answer of the journal.
+/// Whether the kernel has yet to learn of a fault, after this answer of the journal.
 fn fails_too(failed: bool, answered: &Result<Progress, JournalError>) -> bool
     ensures { result ≡ (failed || fails answered.now) }
 {

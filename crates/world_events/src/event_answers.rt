@@ -1,4 +1,4 @@
-//! What each event answers, refusals among them.
+//! What each event answers, including refusals.
 
 use crate::first_script::first_wrong;
 use sim_world::{Row, Sim};
@@ -70,7 +70,7 @@ fn answers_of_events(rt: HostRuntime) -> Result<(), Fail> {
     Ok(())
 }
 
-/// Events of which all but the second and third are refused, find nothing to do, or follow a fault.
+/// Events that, except for the second and third, are refused, find nothing to do, or follow a fault.
 fn refused() -> &'static [Row] {
     &[
         ("exec 1 0", "E10 NoSession"),

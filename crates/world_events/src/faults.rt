@@ -5,7 +5,7 @@ use sim_world::{BLOCKS, Device, NotOpened, OpenError, Pick, Row, Sim};
 use std::alloc::Global;
 use std::test::Fail;
 
-/// The answer to the device call that is so many from the one that fails, which itself is the last.
+/// The expected answer to a device call, where `left` calls remain up to the one that fails, that one included.
 fn answer_of<'a>(left: u64, good: &'a str) -> &'a str {
     match left {
         0 => "E4 Halted",
@@ -14,8 +14,8 @@ fn answer_of<'a>(left: u64, good: &'a str) -> &'a str {
     }
 }
 
-/// Plays rows in which the device call fails that is `left` from their start on, and answers how many are left after them.
-/// That call alone is to be answered `E1`, and each later one `E4`.
+/// Plays rows in which the device call fails that is `left` from their start on, and answers how many remain after
+/// them. Only that call must be answered `E1`, and each later one `E4`.
 fn play_faulted(alloc: Global, sim: &mut Sim, rows: &[Row], mut left: u64) -> Result<u64, Fail> {
     for (line, want) in rows {
         let answer = sim.tell(alloc, line)?;
@@ -43,8 +43,8 @@ fn with_fault(alloc: Global, call: u64) -> Result<Sim, Fail> {
     Ok(sim)
 }
 
-/// Whether the script with this device call failing leaves so many changes durable, and, after a crash with this pick, so
-/// many to be opened, in a world that isn't halted.
+/// Whether the script with this device call failing leaves this many changes durable. After a crash with this pick, the
+/// given number must be opened, in a world that is not halted.
 fn is_survived(
     alloc: Global,
     call: u64,
@@ -66,8 +66,8 @@ fn is_survived(
     Ok(is_opened(alloc, &sim, opened)? && sim.tell(alloc, "join")?.as_str() == "joined 1")
 }
 
-/// The first and the last device call of the script where a fault leaves so many changes durable, whatever becomes of the
-/// octets that were touched.
+/// The first and the last device call of the script at which a fault leaves this many changes durable, whatever becomes
+/// of the octets that were touched.
 fn faults() -> &'static [(u64, u64, u64)] {
     &[(1, 6, 0), (9, 16, 1)]
 }
@@ -86,7 +86,7 @@ fn fault_before_a_gate(rt: HostRuntime) -> Result<(), Fail> {
     Ok(())
 }
 
-/// The device calls at which a gate is written and not synced, and how many changes are durable then.
+/// The device calls at which a gate is written and not synced, and the number of durable changes then.
 fn gates() -> &'static [(u64, u64)] {
     &[(7, 0), (8, 0), (17, 1), (18, 1)]
 }
@@ -111,10 +111,11 @@ fn fault_at_a_gate(rt: HostRuntime) -> Result<(), Fail> {
     Ok(())
 }
 
-/// The calls of an opening up to the logical blocks, where no segment is open: a sync, the superblock and eight gates.
+/// The calls of an opening up to the logical blocks if no segment is open: a sync, the superblock and eight gates.
 const LOOKING: u64 = 10;
 
-/// Those where a segment with four images is open: also its descriptor and images, its home blocks, a sync, its gate and a sync.
+/// The same if a segment with four images is open: also its descriptor and images, its home blocks, a sync, its gate
+/// and a sync.
 const CLOSING: u64 = LOOKING + 12;
 
 // `Old` opens the segment again up to the last call that closes it.
@@ -133,7 +134,7 @@ fn fault_within_an_opening(rt: HostRuntime) -> Result<(), Fail> {
     Ok(())
 }
 
-/// The device after a crash and an opening that is refused since this call of it fails.
+/// The device after a crash and an opening that is refused because this call of it fails.
 fn faulted_opening(alloc: Global, mut device: Device, call: u64) -> Result<Device, Fail> {
     device.crash(Pick::Old);
     device.fail_at(call);
@@ -154,7 +155,7 @@ fn taken() -> &'static [Row] {
     ]
 }
 
-/// What its device calls answer, with the writes and syncs up to each of them.
+/// The answers to its device calls, with the writes and syncs up to each of them.
 fn calls() -> &'static [(&'static str, u64, u64)] {
     &[
         ("Working", 1, 0),
@@ -169,7 +170,8 @@ fn calls() -> &'static [(&'static str, u64, u64)] {
     ]
 }
 
-/// How many writes and syncs the device was asked for by a batch's first calls. Each is to be answered so.
+/// The numbers of writes and syncs that a batch's first calls asked of the device. Each call must have the given
+/// answer.
 fn counts_after(alloc: Global, calls: &[(&str, u64, u64)]) -> Result<(u64, u64), Fail> {
     let device = Sim::new(alloc)?.into_device();
     let (writes, syncs) = device.counts();
@@ -202,7 +204,7 @@ fn device_calls_of_a_batch(rt: HostRuntime) -> Result<(), Fail> {
     Ok(())
 }
 
-/// Why the device isn't opened where this octet is changed, and the device as it was before.
+/// Why the device is not opened if this octet is changed, and the device as it was before.
 fn refused(
     alloc: Global,
     mut device: Device,
@@ -224,8 +226,9 @@ fn refused(
 fn a_device_without_a_spool(rt: HostRuntime) -> Result<(), Fail> {
     let alloc = rt.alloc();
     let mut device = Sim::new(alloc)?.into_device();
-    // of the superblock the first octet, the version, the blocks and the segments; of its label the inodes, which are no multiple of 64
-    // then, the host's length, and its first octet, a space; and the first octet of the file system's bitmap
+    // of the superblock the first octet, the version, the blocks and the segments; of its label the inodes, which are
+    // then no multiple of 64, the length of the host, and its first octet, a space; and the first octet of the file
+    // system's bitmap
     for (at, octet, error) in [
         (0, b'x', OpenError::NotAVolume),
         (8, 9, OpenError::NotAVolume),
@@ -258,13 +261,13 @@ fn groups() -> &'static [&'static str] {
     ]
 }
 
-/// Does what a line asks, and carries it to its commit.
+/// Does what a line asks, and writes the change up to its commit.
 pub(crate) fn commit(alloc: Global, sim: &mut Sim, line: &str) -> Result<(), Fail> {
     sim.tell(alloc, line)?;
     carry(alloc, sim)
 }
 
-/// Carries what changed to its commit.
+/// Writes the changed blocks up to their commit.
 pub(crate) fn carry(alloc: Global, sim: &mut Sim) -> Result<(), Fail> {
     sim.tell(alloc, "take")?;
     for _ in 0..600 {
@@ -276,8 +279,8 @@ pub(crate) fn carry(alloc: Global, sim: &mut Sim) -> Result<(), Fail> {
     Err("no commit")?
 }
 
-/// Whether a fault at this device call, counted from the commit of the eighth group on, leaves all groups, and each call
-/// before it is answered as one that goes on.
+/// Whether a fault at this device call, counted from the commit of the eighth group on, leaves all groups, and each
+/// call before it answers that the batch continues.
 fn is_carried(alloc: Global, call: u64) -> Result<bool, Fail> {
     let mut sim = Sim::new(alloc)?;
     for line in groups() {

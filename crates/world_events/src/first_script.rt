@@ -5,7 +5,7 @@ use sim_world::{Change, Entry, Happened, Mark, Pick, Row, Sim};
 use std::alloc::Global;
 use std::test::Fail;
 
-/// A group is made, and carried to its commit.
+/// A group is made, and written up to its commit.
 pub(crate) fn made() -> &'static [Row] {
     &[
         ("group x.a y 1000000000 test", "made 1"),
@@ -22,7 +22,7 @@ pub(crate) fn made() -> &'static [Row] {
     ]
 }
 
-/// A batch ends with its commit where a closed segment is left.
+/// A batch ends with its commit if a closed segment is left.
 fn settled() -> &'static [Row] {
     &[("dev", "Idle")]
 }
@@ -48,7 +48,7 @@ pub(crate) fn posted() -> &'static [Row] {
     ]
 }
 
-/// The article is carried to its commit, and its reply is released.
+/// The article is written up to its commit, and its reply is released.
 pub(crate) fn committed() -> &'static [Row] {
     &[
         ("take", "took Some(2)"),
@@ -67,12 +67,12 @@ pub(crate) fn committed() -> &'static [Row] {
     ]
 }
 
-/// What is released while the article isn't durable.
+/// What is released while the article is not durable.
 pub(crate) fn held() -> &'static [u8] {
     b"200 news.example ready, posting permitted\r\n340 Send article\r\n"
 }
 
-/// What is released once it is.
+/// What is released once the article is durable.
 pub(crate) fn released() -> &'static [u8] {
     b"200 news.example ready, posting permitted\r\n340 Send article\r\n240 Article received\r\n"
 }
@@ -87,7 +87,7 @@ fn arrived() -> &'static [u8] {
     b"POST\r\nPath: p!not-for-mail\r\nDate: Sun, 09 Sep 2001 01:46:40 +0000\r\nMessage-ID: <1@a.example>\r\nFrom: a@example.org\r\nNewsgroups: x.a\r\nSubject: one\r\n\r\nhi\r\n.\r\n"
 }
 
-/// Plays the rows, and answers the first line whose answer is another.
+/// Plays the rows, and answers the first line with another answer.
 pub(crate) fn first_wrong(
     alloc: Global,
     sim: &mut Sim,
@@ -101,7 +101,7 @@ pub(crate) fn first_wrong(
     Ok(None)
 }
 
-/// Whether the accepted changes are the first so many of the group and the article.
+/// Whether the accepted changes are the first `count` of the group and the article.
 fn holds(alloc: Global, sim: &Sim, count: u64) -> Result<bool, Fail> {
     let (_, _, len) = sim.counts();
     let is_here = sim.is_article(alloc, 2, article())?;
@@ -113,7 +113,7 @@ fn holds(alloc: Global, sim: &Sim, count: u64) -> Result<bool, Fail> {
     )
 }
 
-/// Whether what was opened, and is durable, is the first so many of the group and the article.
+/// Whether the opened and durable changes are the first `count` of the group and the article.
 pub(crate) fn is_opened(alloc: Global, sim: &Sim, count: u64) -> Result<bool, Fail> {
     let is_held = holds(alloc, sim, count)?;
     Ok(is_held && sim.counts() == (count, count, count) && sim.trace().is_empty())
@@ -141,7 +141,7 @@ fn is_made(entry: &Entry) -> bool {
     }
 }
 
-/// Whether the served post leaves the world so, with so many changes durable and these octets released.
+/// Whether the served post leaves the world with this many durable changes and these octets released.
 fn is_left(alloc: Global, sim: &Sim, durable: u64, octets: &[u8]) -> Result<bool, Fail> {
     let is_held = holds(alloc, sim, 2)?;
     Ok(
@@ -153,7 +153,7 @@ fn is_left(alloc: Global, sim: &Sim, durable: u64, octets: &[u8]) -> Result<bool
     )
 }
 
-/// Plays parts of the script. Is each line answered as it is to be?
+/// Plays parts of the script, and answers whether each line has the expected answer.
 fn is_played(alloc: Global, sim: &mut Sim, parts: &[&[Row]]) -> Result<bool, Fail> {
     for rows in parts {
         if first_wrong(alloc, sim, rows)?.is_some() {
@@ -180,7 +180,7 @@ fn first_script_by_step(rt: HostRuntime) -> Result<(), Fail> {
     Ok(())
 }
 
-/// Plays parts of the script by `World::run`. Does it go through all events?
+/// Plays parts of the script by `World::run`, and answers whether it goes through all events.
 fn is_run(alloc: Global, sim: &mut Sim, parts: &[&[Row]]) -> Result<bool, Fail> {
     for rows in parts {
         if sim.run(alloc, rows)? != rows.len() as u64 {
@@ -204,7 +204,7 @@ fn first_script_by_run(rt: HostRuntime) -> Result<(), Fail> {
     Ok(())
 }
 
-/// The article is taken out of its group, once.
+/// The article is removed from its group, once.
 fn expired() -> &'static [Row] {
     &[
         ("expire x.b 1", "E12 NotFound"),
@@ -214,7 +214,7 @@ fn expired() -> &'static [Row] {
     ]
 }
 
-/// Whether the last entry of the trace is that the article was taken out of its group.
+/// Whether the last entry of the trace is that the article was removed from its group.
 fn is_expired(trace: &[Entry]) -> bool {
     match trace {
         [.., last] => match last.happened() {

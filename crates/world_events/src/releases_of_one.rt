@@ -1,4 +1,4 @@
-//! What a release of one session gives, beside others.
+//! What a release of one session gives while other sessions exist.
 
 use crate::faults::{carry, commit};
 use crate::first_script::{first_wrong, made};
@@ -14,7 +14,7 @@ fn of_two() -> &'static [Row] {
         ("join", "joined 1"),
         ("join", "joined 2"),
         ("out 1", ""),
-        // one that isn't there gives nothing, and takes nothing from others
+        // a session that does not exist gives nothing, and takes nothing from others
         ("release 0", "done"),
         ("release 3", "done"),
         ("out 1", ""),
@@ -55,7 +55,7 @@ fn of_two() -> &'static [Row] {
     ]
 }
 
-/// A post whose reply waits for its commit, beside a session that sees the article before that.
+/// A post whose reply waits for its commit, and a session that sees the article before the commit.
 fn of_a_post() -> &'static [Row] {
     &[
         ("dev", "Idle"),
@@ -73,7 +73,7 @@ fn of_a_post() -> &'static [Row] {
         ("line 1 hi", "done"),
         ("line 1 .", "done"),
         ("exec 1 1000000000", "served, Some(Line) is next"),
-        // this reply depends on nothing, and stays behind the one that waits
+        // this reply depends on nothing, and stays after the one that waits
         ("line 1 STAT", "done"),
         ("exec 1 1000000000", "served, Some(Line) is next"),
         ("line 2 STAT <1@a.example>", "done"),
@@ -122,7 +122,7 @@ fn of_what_is_durable() -> &'static [Row] {
     ]
 }
 
-/// Of 64 sessions, the end of the first. No other may join until it was handed out.
+/// The end of the first of 64 sessions. No other may join until that end was handed out.
 fn of_an_end() -> &'static [Row] {
     &[
         ("join", "E7 TooManySessions"),
@@ -157,7 +157,7 @@ fn shown(line: &str) -> Option<u64> {
     }
 }
 
-/// Whether an event is answered so or, in a row `out S`, whether all that was released to the session is this.
+/// Whether an event has this answer or, in a row `out S`, whether this is all that was released to the session.
 fn is_so(alloc: Global, sim: &mut Sim, line: &str, want: &str) -> Result<bool, Fail> {
     match shown(line) {
         Some(session) => Ok(sim.has_released(session, want.as_bytes())),
@@ -165,7 +165,7 @@ fn is_so(alloc: Global, sim: &mut Sim, line: &str, want: &str) -> Result<bool, F
     }
 }
 
-/// Plays rows, and answers the place of the first that is not so.
+/// Plays rows, and answers the index of the first that does not hold.
 fn first_other(alloc: Global, sim: &mut Sim, rows: &[Row]) -> Result<Option<usize>, Fail> {
     for (place, (line, want)) in rows.iter().enumerate() {
         if !is_so(alloc, sim, line, want)? {
@@ -205,10 +205,10 @@ fn a_session_goes_with_its_end(rt: HostRuntime) -> Result<(), Fail> {
     Ok(())
 }
 
-/// The octets that one release gives at most.
+/// The most octets that one release gives.
 const AT_MOST: usize = 65_536;
 
-/// How many lines the body of a long article has.
+/// The number of lines in the body of a long article.
 const LINES: u64 = 1_000;
 
 /// One of them as it is sent, and the event that sends it.
@@ -258,7 +258,7 @@ fn long(alloc: Global) -> Result<Vec<u8>, Fail> {
     Ok(octets)
 }
 
-/// A world with a group, where a long article is posted and asked for.
+/// A world with a group, in which a long article is posted and asked for.
 fn asked_long(alloc: Global) -> Result<Sim, Fail> {
     let mut sim = Sim::new(alloc)?;
     commit(alloc, &mut sim, "group x.a y 1000000000 test")?;

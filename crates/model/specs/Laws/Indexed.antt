@@ -1,4 +1,4 @@
--- What the index of a spool rests on, and how it grows.
+-- What the index of a spool relies on, and how it grows.
 use Rattle.std.specs.Prelude.{◌≡◌, ℕ, ◌+◌, ◌*◌, ◌<◌, false, if◌then◌else◌, [], ◌∷◌, ◌++◌, bytes_eq, length, map, slice_get, slice_index, List, Some}
 use Rattle.std.specs.List.{list_any}
 use Rattle.disk.specs.Image.{part}
@@ -10,7 +10,8 @@ use Rattle.model.specs.SpoolFiles.{numbers_file, overview_file, overview_lines}
 use Rattle.model.specs.declared.change.Change.{Change}
 use Rattle.model.specs.declared.change.Change.TheVariants.{Group, Article, Expire}
 
--- The expiries of a group have rising numbers, and articles filed in it rising serials, so both are found by halving.
+-- The expiries of a group have rising numbers, and the articles filed in it have rising serials, so both are found by
+-- binary search.
 abbrev pub ExpiriesRise : Type 0
 ExpiriesRise = (host : Octets) (S : Spool) (g : Octets) (i j : ℕ) → IsLawful host S → i < j → j < length (expiries_of S g) →
     slice_index (map (λ (e : Expiry). e.number) (expiries_of S g)) i < slice_index (map (λ (e : Expiry). e.number) (expiries_of S g)) j
@@ -19,17 +20,17 @@ abbrev pub FiledRise : Type 0
 FiledRise = (S : Spool) (g : Octets) (i j : ℕ) → i < j → j < length (filed_in S g) →
     slice_index (map (λ (a : NewsArticle). a.serial) (filed_in S g)) i < slice_index (map (λ (a : NewsArticle). a.serial) (filed_in S g)) j
 
--- The numbers of a group have 16 octets for each article.
+-- The file of a group's numbers has 16 octets for each article.
 abbrev pub NumbersAreWhole : Type 0
 NumbersAreWhole = (S : Spool) (g : Octets) → length (numbers_file S g) ≡ 16 * high S g
 
--- A line of the overview stands where the index says.
+-- A line of the overview is where the index says.
 abbrev pub LinesStand : Type 0
 LinesStand = (S : Spool) (g : Octets) (k : ℕ) (line : Octets) → slice_get (overview_lines (filed_in S g)) k ≡ Some line →
     (part (line_start (ends_from 0 (overview_lines (filed_in S g))) k) (length line) (overview_file S g) ≡ line)
     × (slice_index (ends_from 0 (overview_lines (filed_in S g))) k ≡ line_start (ends_from 0 (overview_lines (filed_in S g))) k + length line)
 
--- ---- one change more
+-- ---- one more change
 
 pub record GroupsGrow : Type 0 where
   pub others : (S : Spool) (name : Octets) (status : ℕ) (description : Octets) (moment : ℕ) (g : NewsGroup) → bytes_eq name g.name ≡ false →

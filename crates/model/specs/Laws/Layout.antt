@@ -6,7 +6,7 @@ use Rattle.model.specs.Layout.{IsLabel, Stands}
 use Rattle.model.specs.Spool.{Spool}
 use Rattle.model.specs.Volume.{StandsFor, block, number_at}
 
--- An image stands for one spool at most, under one host.
+-- An image stands for at most one spool, under one host.
 abbrev pub ImagesStandForOne : Type 0
 ImagesStandForOne = (host other image : Octets) (S R : Spool) → Stands host image S → Stands other image R → (host ≡ other) × (S ≡ R)
 

@@ -18,7 +18,7 @@ pub record IsBeside (inodes : ℕ) (blocks : List Octets) (files : List File) : 
 abbrev pub FreeIsBeside : Type 0
 FreeIsBeside = (inodes : ℕ) (blocks : List Octets) (files : List File) → HasRoom inodes blocks → HoldsFiles inodes blocks files → IsBeside inodes blocks files
 
--- A file that gets so many octets more takes a block for each 4,096 of them and an indirect block, at most.
+-- A file that gets this many more octets takes at most one block for each 4,096 of them and an indirect block.
 abbrev pub FilesGrowByBlocks : Type 0
 FilesGrowByBlocks = (size more : ℕ) → blocks_for (size + more) ≤ blocks_for size + ((more + 4095) / 4096 + 1)
 
@@ -28,9 +28,9 @@ pub record AsksFew (S : Spool) (c : Change) : Type 0 where
   pub blocks : sum_by blocks_taken (change_calls S c) ≤ 146
   -- a head of at most 677 octets, and the text
   pub made : length (change_file (record { serial = length S + 1; change = c })).content ≤ 262_821
-  -- fewer than the 12,288 for which there is room
+  -- fewer than the 12,288 octets that the overview has room for
   pub lines : (text g : Octets) (filed : List Octets) (moment : ℕ) → c ≡ Article text filed moment → length (next_line S text g) ≤ 8_191
-  -- so one change changes few blocks
+  -- so one change alters few blocks
   pub changed : blocks_changed S c ≤ most_changed
 
 -- What a change asks for is within what was free before it.
@@ -44,7 +44,7 @@ pub record HasRoomForChange (blocks inodes : ℕ) (S : Spool) (c : Change) : Typ
   pub sizes : (text : Octets) (filed : List Octets) (moment : ℕ) (g : Octets) → c ≡ Article text filed moment → Contains filed g →
       (length (numbers_file S g) + length (next_record S text g) ≤ largest_file) × (length (overview_file S g) + length (next_line S text g) ≤ largest_file)
 
--- So none of its calls meets a full file system where the spool isn't full.
+-- So none of its calls meets a full file system where the spool is not full.
 abbrev pub NotFullHasRoom : Type 0
 NotFullHasRoom = (host : Octets) (blocks inodes : ℕ) (S : Spool) (c : Change) → length S ≤ 32_768 → IsLawful host S → MayFollow host S c →
     is_full blocks inodes S (Some c) ≡ false → HasRoomForChange blocks inodes S c

@@ -9,12 +9,12 @@ use Rattle.model.specs.Layout.{Holds}
 use Rattle.model.specs.SpoolFiles.{Create, Append, HasRoomInFile, after_call, after_calls, change_calls, change_file, files_by_kind, files_of, is_of_change}
 use Rattle.model.specs.declared.change.Change.{Change}
 
--- Blocks hold one spool at most, under whatever hosts.
+-- Blocks hold at most one spool, under any hosts.
 abbrev pub BlocksHoldOne : Type 0
 BlocksHoldOne = (host other : Octets) (inodes : ℕ) (blocks : List Octets) (S R : Spool) → inodes ≤ 32768 →
     Holds host inodes blocks S → Holds other inodes blocks R → S ≡ R
 
--- A spool that blocks hold has no more changes than there are inodes.
+-- A spool that blocks hold has at most as many changes as there are inodes.
 abbrev pub ChangesAreFew : Type 0
 ChangesAreFew = (host : Octets) (inodes : ℕ) (blocks : List Octets) (S : Spool) → Holds host inodes blocks S → length S ≤ inodes
 
@@ -23,7 +23,7 @@ abbrev pub EmptyHoldsNone : Type 0
 EmptyHoldsNone = (host : Octets) (inodes : ℕ) (blocks : List Octets) → IsFileSystem inodes blocks → table inodes blocks ≡ replicate inodes None →
     Holds host inodes blocks []
 
--- The files of a spool with one change more are those after the calls that the change makes.
+-- The files of a spool with one more change are those after the calls that the change makes.
 abbrev pub FilesGrow : Type 0
 FilesGrow = (host : Octets) (S : Spool) (c : Change) → length S + 1 < 10 ^ 10 → IsLawful host S → MayFollow host S c →
     files_of (S ++ c ∷ []) ≡ after_calls (files_of S) (change_calls S c)
@@ -36,23 +36,23 @@ SpoolsGrow = (host : Octets) (inodes : ℕ) (blocks : List Octets) (files : List
 
 -- ---- opening
 
--- What the file of a change says stands in every spool that the blocks hold, at its serial.
+-- The change that a change's file holds is in every spool that the blocks hold, at its serial.
 abbrev pub ChangesAreRead : Type 0
 ChangesAreRead = (host : Octets) (inodes : ℕ) (blocks : List Octets) (S : Spool) (n : ℕ) (c : Change) → inodes ≤ 32768 → Holds host inodes blocks S →
     HasRoomInFile n c → Contains (files_in (table inodes blocks)) (change_file (record { serial = n; change = c })) → (1 ≤ n) × (slice_get S (n - 1) ≡ Some c)
 
--- So the changes that were read, by rising serial, are the first ones of every spool that the blocks hold,
+-- So the changes that were read, by rising serial, are the first ones of every spool that the blocks hold.
 abbrev pub FrontsAreRead : Type 0
 FrontsAreRead = (host : Octets) (inodes : ℕ) (blocks : List Octets) (S R : Spool) → inodes ≤ 32768 → Holds host inodes blocks S →
     ((n : ℕ) (c : Change) → slice_get R n ≡ Some c → HasRoomInFile (n + 1) c × Contains (files_in (table inodes blocks)) (change_file (record { serial = n + 1; change = c }))) →
     R ≡ first S (length R)
 
--- which has as many changes as there are files of changes.
+-- Such a spool has as many changes as there are files of changes.
 abbrev pub ChangesAreCounted : Type 0
 ChangesAreCounted = (host : Octets) (inodes : ℕ) (blocks : List Octets) (S : Spool) → Holds host inodes blocks S →
     count_by is_of_change (files_in (table inodes blocks)) ≡ length S
 
--- Blocks hold a lawful spool where each of their files is one of its own, and there are as many.
+-- Blocks hold a lawful spool if each of their files is one of the spool's own, and there are as many.
 abbrev pub FilesMakeSpool : Type 0
 FilesMakeSpool = (host : Octets) (inodes : ℕ) (blocks : List Octets) (files : List File) (S : Spool) → HoldsFiles inodes blocks files → IsLawful host S →
     All (Contains (files_of S)) files → length files ≡ length (files_of S) → Holds host inodes blocks S
@@ -61,7 +61,7 @@ FilesMakeSpool = (host : Octets) (inodes : ℕ) (blocks : List Octets) (files : 
 abbrev pub FilesAreByKind : Type 0
 FilesAreByKind = (S : Spool) → IsPermutation (files_of S) (files_by_kind S)
 
--- Each change has a file, and each group two more.
+-- Each change has a file, and each group has two more.
 abbrev pub FilesAreCounted : Type 0
 FilesAreCounted = (S : Spool) → length (files_of S) ≡ length S + 2 * length (groups S)
 
