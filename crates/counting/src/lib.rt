@@ -1,0 +1,57 @@
+//! A device that counts the syncs that are asked of another one, where other threads may read the count. All else is
+//! the other device's.
+#![tactic(auto)]
+
+ghost use Rattle.std.specs.Prelude.{◌≡◌};
+
+use disk::{Disk, DiskError};
+use std::alloc::Global;
+use std::sync::Arc;
+use std::sync::atomic::{AtomicU64, Ordering};
+
+/// A device, and the count of its syncs. The device's meaning is that of the one below.
+#[derive(Drop)]
+pub struct CountedDisk<D: Disk> {
+    disk: D,
+    syncs: Arc<AtomicU64, Global>,
+}
+
+impl<D: Disk> CountedDisk<D> {
+    /// A device that adds to this count for each sync that is asked of it, also for one that fails.
+    pub fn new(disk: D, syncs: Arc<AtomicU64, Global>) -> CountedDisk<D>
+        ensures { result.disk ≡ disk }
+    {
+        CountedDisk { disk, syncs }
+    }
+}
+
+impl<D: Disk> Disk for CountedDisk<D> {
+    ghost device = { λ counted. D.device counted.disk };
+
+    ghost grows = { D.grows };
+
+    fn len(&self) -> u64 {
+        self.disk.len()
+    }
+
+    fn read(&mut self, at: u64, into: &mut [u8]) -> Result<(), DiskError> {
+        self.disk.read(at, into)
+    }
+
+    fn write(&mut self, at: u64, from: &[u8]) -> Result<(), DiskError> {
+        self.disk.write(at, from)
+    }
+
+    fn sync(&mut self) -> Result<(), DiskError> {
+        self.syncs.fetch_add(1, Ordering::SeqCst);
+        self.disk.sync()
+    }
+
+    ghost image_size = { λ counted. D.image_size counted.disk };
+
+    ghost counts_content = { λ counted. D.counts_content counted.disk };
+
+    ghost counts_now = { λ counted. D.counts_now counted.disk };
+
+    ghost only_now = { λ counted. D.only_now counted.disk };
+}

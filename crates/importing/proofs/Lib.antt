@@ -1,0 +1,5 @@
+pub mod Transfers
+pub mod Carried
+pub mod Tied
+pub mod Batches
+pub mod Opened

@@ -1,0 +1,37 @@
+-- What becomes of a text that is filed as a transfer would be.
+use Rattle.std.specs.Prelude.{◌≡◌, ℕ, ◌+◌, List, Some, None, length, true, false}
+use Rattle.article.specs.Origins.{cause_of}
+use Rattle.model.specs.Answer as answers
+use Rattle.model.specs.Article.{Carried, cause, id}
+use Rattle.model.specs.Names.{is_of_host}
+use Rattle.model.specs.Spool.{NewsArticle}
+use Rattle.model.specs.Stream.{Octets}
+use Rattle.model.specs.declared.change.Change.TheVariants.{Article}
+use Rattle.spool_files.specs.Refusals.{is_full_for}
+use Rattle.spool_files.specs.View.{Adds, SpoolView}
+use Rattle.importing.specs.declared.outcome.Outcome.{Outcome}
+use Rattle.importing.specs.declared.outcome.Outcome.TheVariants.{Filed, Here, NoGroup, Refused, Full}
+use Rattle.importing.specs.declared.outcome.Refused.TheVariants.{NotAnArticle, OwnId}
+
+-- the outcome of the transfer in which a peer offers a text by its own message-id and then sends it
+abbrev pub transferred : SpoolView → Octets → answers.Outcome
+transferred s text = answers.transfer_outcome s.changes (id text) text
+
+-- the text's message-id is one that this host makes: an offer of it is not wanted
+abbrev pub has_own_id : SpoolView → Octets → Type 0
+has_own_id s text = is_of_host s.host (id text) ≡ true
+
+abbrev pub IsOffered : SpoolView → Octets → Type 0
+IsOffered s text = is_of_host s.host (id text) ≡ false
+
+-- each outcome, when it comes, and the spool afterwards
+abbrev pub Becomes : SpoolView → SpoolView → Octets → ℕ → Outcome → Type 0
+Becomes old new text moment (Filed serial) =
+    IsOffered old text × (serial ≡ length old.changes + 1)
+    × ((groups : List Octets) × (transferred old text ≡ answers.accepted groups) × (is_full_for old (Article text groups moment) ≡ false) × Adds old new (Article text groups moment))
+Becomes old new text moment Full =
+    IsOffered old text × ((groups : List Octets) × (transferred old text ≡ answers.accepted groups) × (is_full_for old (Article text groups moment) ≡ true)) × (new ≡ old)
+Becomes old new text moment Here = IsOffered old text × ((a : NewsArticle) × (transferred old text ≡ answers.id_here a)) × (new ≡ old)
+Becomes old new text moment NoGroup = IsOffered old text × (transferred old text ≡ answers.no_group_here) × (new ≡ old)
+Becomes old new text moment (Refused OwnId) = (cause Carried text ≡ None) × has_own_id old text × (new ≡ old)
+Becomes old new text moment (Refused (NotAnArticle c)) = (cause Carried text ≡ Some (cause_of c)) × (new ≡ old)

@@ -1,0 +1,3 @@
+pub mod Filing
+pub mod Saved
+pub mod Opening

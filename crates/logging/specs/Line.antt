@@ -1,0 +1,85 @@
+-- The lines of the log, in the form that is called logfmt: fields `name=value` with a space between them.
+use Rattle.std.specs.Prelude.{◌≡◌, ℕ, ◌≤◌, ◌&&◌, nat_le, if◌then◌else◌, [], ◌∷◌, ◌++◌, map, take, slice_range, drop, codes, decimal, All}
+use Rattle.std.specs.Net.Text.{socket_text}
+use Rattle.model.specs.Stream.{Octets}
+use Rattle.model.specs.Calendar.{date_reply}
+use Rattle.logging.specs.declared.events.Counts.{Counts}
+use Rattle.logging.specs.declared.events.Ended.{Ended}
+use Rattle.logging.specs.declared.events.Ending.{Ending}
+use Rattle.logging.specs.declared.events.Ending.TheVariants as ending
+use Rattle.logging.specs.declared.events.Event.{Event}
+use Rattle.logging.specs.declared.events.Event.TheVariants as event
+use Rattle.logging.specs.declared.events.Part.{Part}
+use Rattle.logging.specs.declared.events.Refusal.{Refusal}
+use Rattle.logging.specs.declared.events.Refusal.TheVariants as refusal
+
+-- the fourteen digits yyyymmddhhmmss as yyyy-mm-ddThh:mm:ssZ (RFC 3339, section 5.6)
+abbrev pub marked : Octets → Octets
+marked digits =
+    take 4 digits ++ codes "-" ++ slice_range digits 4 6 ++ codes "-" ++ slice_range digits 6 8 ++ codes "T"
+    ++ slice_range digits 8 10 ++ codes ":" ++ slice_range digits 10 12 ++ codes ":" ++ drop 12 digits ++ codes "Z"
+
+-- the time of a moment, in UTC: the digits of the answer to DATE, with marks
+abbrev pub time_text : ℕ → Octets
+time_text moment = marked (date_reply moment)
+
+abbrev pub ending_text : Ending → Octets
+ending_text ending.Quit = codes "quit"
+ending_text ending.Closed = codes "closed"
+ending_text ending.Silent = codes "silent"
+ending_text ending.Stalled = codes "stalled"
+ending_text ending.Failed = codes "failed"
+ending_text ending.Memory = codes "memory"
+ending_text ending.Stopped = codes "stopped"
+
+abbrev pub refusal_text : Refusal → Octets
+refusal_text refusal.Access = codes "access"
+refusal_text refusal.Sessions = codes "sessions"
+refusal_text refusal.Descriptors = codes "descriptors"
+refusal_text refusal.Memory = codes "memory"
+refusal_text refusal.Failed = codes "failed"
+refusal_text refusal.Halted = codes "halted"
+
+abbrev pub counts_text : Counts → Octets
+counts_text counts =
+    codes "messages=" ++ decimal counts.messages ++ codes " taken=" ++ decimal counts.taken ++ codes " refused="
+    ++ decimal counts.refused ++ codes " in=" ++ decimal counts.octets_in ++ codes " out=" ++ decimal counts.octets_out
+
+abbrev pub ended_text : Ended → Octets
+ended_text ended =
+    codes "peer=" ++ socket_text ended.peer ++ codes " session=" ++ decimal ended.session ++ codes " "
+    ++ counts_text ended.counts ++ codes " why=" ++ ending_text ended.why
+
+-- used/all
+abbrev pub part_text : Part → Octets
+part_text part = decimal part.used ++ codes "/" ++ decimal part.all
+
+-- the event and its fields
+abbrev pub event_text : Event → Octets
+event_text (event.End ended) = codes "event=end " ++ ended_text ended
+event_text (event.Refused peer why) = codes "event=refused peer=" ++ socket_text peer ++ codes " why=" ++ refusal_text why
+event_text event.Fault = codes "event=fault"
+event_text event.Halted = codes "event=halted"
+event_text event.Clock = codes "event=clock"
+event_text (event.Full blocks inodes) = codes "event=full blocks=" ++ part_text blocks ++ codes " inodes=" ++ part_text inodes
+event_text (event.Lost lines) = codes "event=lost lines=" ++ decimal lines
+
+-- the text of a line
+abbrev pub text_of : ℕ → Event → Octets
+text_of moment event = codes "time=" ++ time_text moment ++ codes " " ++ event_text event
+
+-- an octet from 32 to 126 as it is, any other as a question mark
+abbrev pub shown : ℕ → ℕ
+shown octet = if nat_le 32 octet && nat_le octet 126 then octet else 63
+
+-- the line of an event, with its LF
+abbrev pub line_of : ℕ → Event → Octets
+line_of moment event = map shown (text_of moment event) ++ 10 ∷ []
+
+-- an octet that every terminal shows as it is
+abbrev pub IsPlain : ℕ → Type 0
+IsPlain octet = (32 ≤ octet) × (octet ≤ 126)
+
+-- plain octets, and then one LF
+abbrev pub IsPlainLine : Octets → Type 0
+IsPlainLine octets = (text : Octets) × (octets ≡ text ++ 10 ∷ []) × All IsPlain text

@@ -1,0 +1,231 @@
+//! What the log tells.
+
+ghost use Rattle.std.specs.Prelude.{◌≡◌, ◌≤◌, ◌*◌, ◌↔◌, IsTrue, Some};
+ghost use Rattle.logging.specs.Counting.{counted, no_counts};
+ghost use Rattle.logging.specs.Line.{counts_text, ended_text, ending_text, event_text, part_text, refusal_text};
+
+use std::fmt::{self, Display};
+use std::net::SocketAddr;
+
+/// Why a session ended.
+#[derive(Clone, Copy, Debug, PartialEq, Eq)]
+pub enum Ending {
+    /// The caller sent `QUIT`, or its last message was answered by a reply that ends the session.
+    Quit,
+    /// The caller closed its socket, or sends nothing more.
+    Closed,
+    /// The caller sent nothing for too long.
+    Silent,
+    /// The caller took none of its replies for too long.
+    Stalled,
+    /// The socket failed.
+    Failed,
+    /// Memory was refused.
+    Memory,
+    /// The server ends.
+    Stopped,
+}
+
+impl Display for Ending {
+    ghost output = { λ ending. Some (ending_text ending) };
+
+    fn fmt<W: fmt::Write>(&self, f: &mut fmt::Formatter<W>) -> fmt::Result {
+        f.write_str(match self {
+            Ending::Quit => "quit",
+            Ending::Closed => "closed",
+            Ending::Silent => "silent",
+            Ending::Stalled => "stalled",
+            Ending::Failed => "failed",
+            Ending::Memory => "memory",
+            Ending::Stopped => "stopped",
+        })
+    }
+}
+
+/// Why a caller got no session.
+#[derive(Clone, Copy)]
+pub enum Refusal {
+    /// It calls from an address that is not let in.
+    Access,
+    /// As many sessions as can be are served.
+    Sessions,
+    /// The system has no descriptor left for a further caller.
+    Descriptors,
+    /// Memory was refused.
+    Memory,
+    /// Its socket failed.
+    Failed,
+    /// The server ends.
+    Halted,
+}
+
+impl Display for Refusal {
+    ghost output = { λ refusal. Some (refusal_text refusal) };
+
+    fn fmt<W: fmt::Write>(&self, f: &mut fmt::Formatter<W>) -> fmt::Result {
+        f.write_str(match self {
+            Refusal::Access => "access",
+            Refusal::Sessions => "sessions",
+            Refusal::Descriptors => "descriptors",
+            Refusal::Memory => "memory",
+            Refusal::Failed => "failed",
+            Refusal::Halted => "halted",
+        })
+    }
+}
+
+/// What a session was served.
+#[derive(Clone, Copy)]
+pub struct Counts {
+    /// The messages that were answered: lines, and the blocks of posts and transfers.
+    pub messages: u64,
+    /// The blocks that were accepted.
+    pub taken: u64,
+    /// The blocks that were not.
+    pub refused: u64,
+    /// The octets that were read from the socket.
+    pub octets_in: u64,
+    /// The octets that were written to it.
+    pub octets_out: u64,
+}
+
+/// What was answered, as a session counts it.
+#[derive(Clone, Copy)]
+pub enum Served {
+    Line,
+    /// A block that was accepted.
+    Taken,
+    /// A block that was not.
+    Refused,
+}
+
+impl Counts {
+    /// Nothing was served yet.
+    pub fn new() -> Counts
+        ensures { result ≡ no_counts }
+    {
+        Counts {
+            messages: 0,
+            taken: 0,
+            refused: 0,
+            octets_in: 0,
+            octets_out: 0,
+        }
+    }
+
+    /// Counts a message that was answered. A count stops at the greatest `u64`.
+    pub fn note(&mut self, served: Served)
+        ensures { self.new ≡ counted self.old served }
+    {
+        self.messages = self.messages.saturating_add(1);
+        match served {
+            Served::Line => {}
+            Served::Taken => self.taken = self.taken.saturating_add(1),
+            Served::Refused => self.refused = self.refused.saturating_add(1),
+        }
+    }
+}
+
+impl Display for Counts {
+    ghost output = { λ counts. Some (counts_text counts) };
+
+    fn fmt<W: fmt::Write>(&self, f: &mut fmt::Formatter<W>) -> fmt::Result {
+        let Counts {
+            messages,
+            taken,
+            refused,
+            octets_in,
+            octets_out,
+        } = *self;
+        write!(f, "messages={messages} taken={taken} refused={refused}")?;
+        write!(f, " in={octets_in} out={octets_out}")
+    }
+}
+
+/// A session that has ended.
+#[derive(Clone, Copy)]
+pub struct Ended {
+    /// The caller's address.
+    pub peer: SocketAddr,
+    /// The number of the session.
+    pub session: u64,
+    pub counts: Counts,
+    pub why: Ending,
+}
+
+impl Display for Ended {
+    ghost output = { λ ended. Some (ended_text ended) };
+
+    fn fmt<W: fmt::Write>(&self, f: &mut fmt::Formatter<W>) -> fmt::Result {
+        let Ended {
+            peer,
+            session,
+            counts,
+            why,
+        } = *self;
+        write!(f, "peer={peer} session={session} {counts} why={why}")
+    }
+}
+
+/// How many of some things are used.
+#[derive(Clone, Copy)]
+pub struct Part {
+    pub used: u64,
+    pub all: u64,
+}
+
+impl Part {
+    /// Whether at least nine tenths are used.
+    pub fn is_nearly_full(&self) -> bool
+        ensures { IsTrue result ↔ (9 * self.now.all ≤ 10 * self.now.used) }
+    {
+        u128::from(self.all) * 9 <= u128::from(self.used) * 10
+    }
+}
+
+impl Display for Part {
+    ghost output = { λ part. Some (part_text part) };
+
+    fn fmt<W: fmt::Write>(&self, f: &mut fmt::Formatter<W>) -> fmt::Result {
+        let Part { used, all } = *self;
+        write!(f, "{used}/{all}")
+    }
+}
+
+/// What a line of the log tells.
+#[derive(Clone, Copy)]
+pub enum Event {
+    /// A session has ended.
+    End(Ended),
+    /// A caller at this address got no session.
+    Refused(SocketAddr, Refusal),
+    /// The device failed: nothing is written any more, and the server ends.
+    Fault,
+    /// The kernel or the journal was halted, though the device didn't fail, and the server ends.
+    Halted,
+    /// The clock gives no time from 1970 to 9999. The time of this line, and of all that is dated meanwhile, is the
+    /// beginning of 1970.
+    Clock,
+    /// Nine tenths of the blocks or of the inodes are used.
+    Full { blocks: Part, inodes: Part },
+    /// This many lines found no room, because the log was not read.
+    Lost(u64),
+}
+
+impl Display for Event {
+    ghost output = { λ event. Some (event_text event) };
+
+    fn fmt<W: fmt::Write>(&self, f: &mut fmt::Formatter<W>) -> fmt::Result {
+        match *self {
+            Event::End(ended) => write!(f, "event=end {ended}"),
+            Event::Refused(peer, why) => write!(f, "event=refused peer={peer} why={why}"),
+            Event::Fault => write!(f, "event=fault"),
+            Event::Halted => write!(f, "event=halted"),
+            Event::Clock => write!(f, "event=clock"),
+            Event::Full { blocks, inodes } => {
+                write!(f, "event=full blocks={blocks} inodes={inodes}")
+            }
+            Event::Lost(lines) => write!(f, "event=lost lines={lines}"),
+        }
+    }
+}

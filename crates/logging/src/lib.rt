@@ -1,0 +1,13 @@
+//! The log of a server: its events, the line of each, and a thread that writes the lines. Noting an event never waits
+//! for the reader of the log. The lines are described in docs/newsd.1, their definition is `specs/Line.antt`.
+#![tactic(auto)]
+
+mod clock;
+mod events;
+mod lines;
+mod writing;
+
+pub use clock::moment;
+pub use events::{Counts, Ended, Ending, Event, Part, Refusal, Served};
+pub use lines::{Entry, line};
+pub use writing::{Log, Verbosity};

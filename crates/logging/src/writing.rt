@@ -1,0 +1,151 @@
+//! The log, and the thread that writes it.
+//!
+//! That thread may wait for the reader of the log for ever, so it is not joined. No other thread waits for it: a line
+//! that finds no room is counted, and the count is written before the next line.
+
+ghost use Rattle.std.specs.Prelude.{◌<◌, IfSome};
+ghost use Rattle.model.specs.Calendar.{moment_limit};
+
+use crate::{Entry, Event, line, moment};
+use crossbeam_channel::{Receiver, Sender, bounded};
+use std::alloc::{AllocError, Global};
+use std::io::Write;
+use std::sync::atomic::{AtomicU64, Ordering};
+use std::sync::{Arc, Wait};
+use std::thread::{self, Threads};
+use std::time::{Clock, Duration};
+
+/// The most lines that are noted and not written yet.
+const LINES: usize = 1024;
+
+/// At the end the reader of the log has this many seconds to take the lines that are due.
+const ENDING_SECS: u64 = 1;
+
+/// Which events are logged.
+#[derive(Clone, Copy, Debug, PartialEq, Eq)]
+pub enum Verbosity {
+    All,
+    /// All but the ends of sessions.
+    Quiet,
+}
+
+/// The log of a running server.
+#[derive(Drop)]
+pub struct Log {
+    verbosity: Verbosity,
+    entries: Sender<Entry>,
+    /// The lines that found no room, and of which the log has not told.
+    lost: Arc<AtomicU64, Global>,
+    /// It is disconnected once the last line is written.
+    written: Receiver<()>,
+}
+
+/// The thread that writes the lines.
+#[derive(Drop)]
+struct Writing {
+    alloc: Global,
+    entries: Receiver<Entry>,
+    lost: Arc<AtomicU64, Global>,
+    /// It sends no message. It is dropped with the thread.
+    _written: Sender<()>,
+}
+
+impl Log {
+    /// Starts the thread that writes the lines.
+    pub fn start<
+        R: Threads + Wait + Clock + Copy + Send + 'static,
+        F: Write + Send + Drop + 'static,
+    >(rt: &R, alloc: Global, faults: F, verbosity: Verbosity) -> Result<Log, AllocError> {
+        let (entries, to_write) = bounded(alloc, LINES)?;
+        let (_written, written) = bounded(alloc, 1)?;
+        let lost = Arc::new(alloc, AtomicU64::new(0))?;
+        let writing = Writing {
+            alloc,
+            entries: to_write,
+            lost: Arc::try_clone(&lost)?,
+            _written,
+        };
+        let own = *rt;
+        let _writer = thread::spawn(rt, move || writing.write_all(&own, faults))?;
+        Ok(Log {
+            verbosity,
+            entries,
+            lost,
+            written,
+        })
+    }
+
+    /// Notes an event, now. It waits for no thread that writes: where the reader of the log has left no room for a
+    /// further line, the line is counted as lost.
+    pub fn note<R: Wait + Clock>(&self, rt: &R, event: Event) {
+        if self.verbosity == Verbosity::Quiet && matches!(event, Event::End(_)) {
+            return;
+        }
+        let entry = entry(moment(rt), event);
+        if self.entries.try_send(rt, entry).is_err() {
+            self.lost.fetch_add(1, Ordering::SeqCst);
+        }
+    }
+
+    /// Ends the log. The lines that were noted are still written, and their reader has a second to take them. Then it
+    /// returns, whether they are taken or not.
+    pub fn end<R: Wait + Clock>(self, rt: &R) {
+        let Log {
+            entries,
+            written,
+            ..
+        } = self;
+        drop(entries);
+        let _ = written.recv_timeout(rt, Duration::from_secs(ENDING_SECS));
+    }
+}
+
+/// An event and the time. Without one it is the beginning of 1970.
+fn entry(moment: Option<u64>, event: Event) -> Entry
+    requires { IfSome moment (λ moment. moment < moment_limit) }
+{
+    Entry {
+        moment: moment.unwrap_or(0),
+        event,
+    }
+}
+
+impl Writing {
+    /// Writes the lines until there is no further one. A line that cannot be written is left out, since nobody reads it.
+    fn write_all<R: Wait + Clock, F: Write + Drop>(self, rt: &R, faults: F) {
+        let mut faults = faults;
+        for _ in rt.forever() {
+            let Ok(entry) = self.entries.recv(rt) else {
+                break;
+            };
+            self.write_lost(&mut faults, &entry);
+            self.write(&mut faults, &entry);
+        }
+        self.write_lost(&mut faults, &entry(moment(rt), Event::Lost(0)));
+    }
+
+    /// Says how many lines were lost, if any were. The line has the time of this entry.
+    fn write_lost<F: Write>(&self, faults: &mut F, entry: &Entry) {
+        let lost = self.lost.swap(0, Ordering::SeqCst);
+        if lost > 0 {
+            let told = Entry {
+                moment: entry.moment,
+                event: Event::Lost(lost),
+            };
+            self.write(faults, &told);
+        }
+    }
+
+    /// Writes the line of an entry. If memory for it is refused, it is lost.
+    fn write<F: Write>(&self, faults: &mut F, entry: &Entry) {
+        match line(self.alloc, entry) {
+            Ok(line) => {
+                let _ = faults.write_all(line.as_slice());
+                let _ = faults.flush();
+            }
+            Err(AllocError) => {
+                self.lost.fetch_add(1, Ordering::SeqCst);
+            }
+        }
+    }
+}

@@ -1,0 +1,178 @@
+//! The events of the tests, and their lines.
+
+use logging::{Counts, Ended, Ending, Entry, Event, Part, Refusal, line};
+use std::alloc::Global;
+use std::net::SocketAddr;
+
+/// The first moment that a line cannot have.
+const MOMENT_LIMIT: u64 = 253_402_300_800;
+
+/// An event of a caller at some address, or another event.
+#[derive(Clone, Copy)]
+pub(crate) enum What {
+    End(u64, Counts, Ending),
+    Refused(Refusal),
+    Other(Event),
+}
+
+/// An event, when it is noted, and its line.
+#[derive(Clone, Copy)]
+pub(crate) struct Row {
+    pub(crate) moment: u64,
+    pub(crate) peer: &'static str,
+    pub(crate) what: What,
+    pub(crate) line: &'static str,
+}
+
+/// A moment of 26 November 2026.
+const NOON: u64 = 1_795_694_400;
+
+const COUNTS: Counts = Counts {
+    messages: 14,
+    taken: 2,
+    refused: 1,
+    octets_in: 5120,
+    octets_out: 20480,
+};
+
+const MOST: Counts = Counts {
+    messages: u64::MAX,
+    taken: u64::MAX,
+    refused: 0,
+    octets_in: 0,
+    octets_out: u64::MAX,
+};
+
+const LOCAL: &str = "127.0.0.1:50412";
+
+pub(crate) const ROWS: &[Row] = &[
+    Row {
+        moment: NOON,
+        peer: LOCAL,
+        what: What::End(12, COUNTS, Ending::Quit),
+        line: "time=2026-11-26T12:00:00Z event=end peer=127.0.0.1:50412 session=12 messages=14 taken=2 refused=1 in=5120 \
+            out=20480 why=quit\n",
+    },
+    Row {
+        moment: MOMENT_LIMIT - 1,
+        peer: "[2001:db8::7]:65535",
+        what: What::End(u64::MAX, MOST, Ending::Closed),
+        line: "time=9999-12-31T23:59:59Z event=end peer=[2001:db8::7]:65535 session=18446744073709551615 \
+            messages=18446744073709551615 taken=18446744073709551615 refused=0 in=0 out=18446744073709551615 why=closed\n",
+    },
+    Row {
+        moment: 0,
+        peer: "[::ffff:192.0.2.7]:1",
+        what: What::Refused(Refusal::Access),
+        line: "time=1970-01-01T00:00:00Z event=refused peer=[::ffff:192.0.2.7]:1 why=access\n",
+    },
+    Row {
+        moment: 951_782_399,
+        peer: "[fe80::1%3]:119",
+        what: What::Refused(Refusal::Sessions),
+        line: "time=2000-02-28T23:59:59Z event=refused peer=[fe80::1%3]:119 why=sessions\n",
+    },
+    Row {
+        moment: NOON,
+        peer: LOCAL,
+        what: What::Other(Event::Fault),
+        line: "time=2026-11-26T12:00:00Z event=fault\n",
+    },
+    Row {
+        moment: NOON,
+        peer: LOCAL,
+        what: What::Other(Event::Halted),
+        line: "time=2026-11-26T12:00:00Z event=halted\n",
+    },
+    Row {
+        moment: 0,
+        peer: LOCAL,
+        what: What::Other(Event::Clock),
+        line: "time=1970-01-01T00:00:00Z event=clock\n",
+    },
+    Row {
+        moment: NOON,
+        peer: LOCAL,
+        what: What::Other(Event::Full {
+            blocks: Part {
+                used: 14746,
+                all: 16384,
+            },
+            inodes: Part {
+                used: 310,
+                all: 8192,
+            },
+        }),
+        line: "time=2026-11-26T12:00:00Z event=full blocks=14746/16384 inodes=310/8192\n",
+    },
+    Row {
+        moment: NOON,
+        peer: LOCAL,
+        what: What::Other(Event::Lost(12)),
+        line: "time=2026-11-26T12:00:00Z event=lost lines=12\n",
+    },
+];
+
+/// The words of all ends and refusals.
+pub(crate) const ENDINGS: &[(Ending, &str)] = &[
+    (Ending::Quit, "quit"),
+    (Ending::Closed, "closed"),
+    (Ending::Silent, "silent"),
+    (Ending::Stalled, "stalled"),
+    (Ending::Failed, "failed"),
+    (Ending::Memory, "memory"),
+    (Ending::Stopped, "stopped"),
+];
+
+pub(crate) const REFUSALS: &[(Refusal, &str)] = &[
+    (Refusal::Access, "access"),
+    (Refusal::Sessions, "sessions"),
+    (Refusal::Descriptors, "descriptors"),
+    (Refusal::Memory, "memory"),
+    (Refusal::Failed, "failed"),
+    (Refusal::Halted, "halted"),
+];
+
+/// What of 100 is nearly full, and what is not.
+pub(crate) const PARTS: &[(u64, u64, bool)] = &[
+    (90, 100, true),
+    (89, 100, false),
+    (0, 100, false),
+    (14746, 16384, true),
+    (14745, 16384, false),
+    (u64::MAX, u64::MAX, true),
+];
+
+/// The event of a row.
+fn event_of(row: &Row) -> Option<Event> {
+    let peer: SocketAddr = row.peer.parse().ok()?;
+    match row.what {
+        What::End(session, counts, why) => Some(Event::End(Ended {
+            peer,
+            session,
+            counts,
+            why,
+        })),
+        What::Refused(why) => Some(Event::Refused(peer, why)),
+        What::Other(event) => Some(event),
+    }
+}
+
+/// Whether the event of a row has its line.
+pub(crate) fn has_its_line(alloc: Global, row: &Row) -> bool {
+    let Some(event) = event_of(row) else {
+        return false;
+    };
+    match line_of(alloc, row.moment, event) {
+        Some(line) => line.as_slice() == row.line.as_bytes(),
+        None => false,
+    }
+}
+
+/// The line of an event, if it is noted at a moment that a line can have.
+fn line_of(alloc: Global, moment: u64, event: Event) -> Option<Vec<u8>> {
+    if moment >= MOMENT_LIMIT {
+        return None;
+    }
+    line(alloc, &Entry { moment, event }).ok()
+}

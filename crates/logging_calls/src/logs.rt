@@ -1,0 +1,170 @@
+//! Logs that are read late, or never.
+
+use logging::{Counts, Ended, Ending, Event, Log, Verbosity};
+use std::alloc::Global;
+use std::io::{self, Write};
+use std::net::{Ipv4Addr, SocketAddr};
+use std::sync::atomic::{AtomicBool, Ordering};
+use std::sync::{Arc, Mutex, Wait};
+use std::thread::{self, Threads};
+use std::time::{Clock, Duration, Instant};
+
+/// The lines that are noted and not written, at most.
+const LINES: u32 = 1024;
+
+/// So many more are noted.
+const MORE: u32 = 10;
+
+/// A wait of a test takes at most this many milliseconds.
+const WAIT_MILLIS: u32 = 20_000;
+
+/// What a log is written to: nothing is taken before the reader comes.
+#[derive(Drop)]
+struct Reader<R> {
+    rt: R,
+    shared: Arc<Shared, Global>,
+}
+
+#[derive(Drop)]
+struct Shared {
+    text: Mutex<Vec<u8>>,
+    /// A line is to be written.
+    is_awaited: AtomicBool,
+    /// The reader takes lines.
+    is_reading: AtomicBool,
+}
+
+impl<R: Wait + Clock> Write for Reader<R> {
+    fn write(&mut self, octets: &[u8]) -> io::Result<usize> {
+        self.shared.is_awaited.store(true, Ordering::SeqCst);
+        for _ in self.rt.forever() {
+            if self.shared.is_reading.load(Ordering::SeqCst) {
+                break;
+            }
+            thread::sleep(&self.rt, Duration::from_millis(1));
+        }
+        self.shared.text.lock(&self.rt).extend_from_slice(octets)?;
+        Ok(octets.len())
+    }
+
+    fn flush(&mut self) -> io::Result<()> {
+        Ok(())
+    }
+}
+
+/// A log, and what it is written to.
+#[derive(Drop)]
+struct Play {
+    log: Log,
+    shared: Arc<Shared, Global>,
+}
+
+fn start<R: Threads + Wait + Clock + Copy + Send + 'static>(
+    rt: &R,
+    alloc: Global,
+    verbosity: Verbosity,
+    is_reading: bool,
+) -> Option<Play> {
+    let shared = Shared {
+        text: Mutex::new(Vec::new(alloc)),
+        is_awaited: AtomicBool::new(false),
+        is_reading: AtomicBool::new(is_reading),
+    };
+    let shared = Arc::new(alloc, shared).ok()?;
+    let reader = Reader {
+        rt: *rt,
+        shared: Arc::try_clone(&shared).ok()?,
+    };
+    let log = Log::start(rt, alloc, reader, verbosity).ok()?;
+    Some(Play { log, shared })
+}
+
+/// Waits until a flag is set. It is false at the limit.
+fn wait_for<R: Clock>(rt: &R, flag: &AtomicBool) -> bool {
+    for _ in 0..WAIT_MILLIS {
+        if flag.load(Ordering::SeqCst) {
+            return true;
+        }
+        thread::sleep(rt, Duration::from_millis(1));
+    }
+    false
+}
+
+/// Whether a log has all lines that found room, and tells of the others before its second line, for a reader that comes
+/// once ten lines have found no room.
+pub(crate) fn read_late<R: Threads + Wait + Clock + Copy + Send + 'static>(
+    rt: &R,
+    alloc: Global,
+) -> Option<bool> {
+    let Play { log, shared } = start(rt, alloc, Verbosity::All, false)?;
+    log.note(rt, Event::Fault);
+    if !wait_for(rt, &shared.is_awaited) {
+        return None;
+    }
+    for _ in 0..LINES + MORE {
+        log.note(rt, Event::Halted);
+    }
+    shared.is_reading.store(true, Ordering::SeqCst);
+    log.end(rt);
+    let has_all = has_lines(rt, &shared, 1026);
+    let text = shared.text.lock(rt);
+    let mut lines = text.split(|octet| *octet == b'\n');
+    let is_first = ends(lines.next(), b" event=fault");
+    let is_second = ends(lines.next(), b" event=lost lines=10");
+    let is_third = ends(lines.next(), b" event=halted");
+    Some(has_all && is_first && is_second && is_third)
+}
+
+/// Waits until so many lines are written, and no more. It is false at the limit.
+fn has_lines<R: Wait + Clock>(rt: &R, shared: &Shared, lines: usize) -> bool {
+    for _ in 0..WAIT_MILLIS {
+        let text = shared.text.lock(rt);
+        let count = text.iter().filter(|octet| **octet == b'\n').count();
+        drop(text);
+        if count >= lines {
+            return count == lines;
+        }
+        thread::sleep(rt, Duration::from_millis(1));
+    }
+    false
+}
+
+fn ends(line: Option<&[u8]>, end: &[u8]) -> bool {
+    match line {
+        Some(line) => line.ends_with(end),
+        None => false,
+    }
+}
+
+/// Whether a log that is never read ends within ten seconds.
+pub(crate) fn never_read<R: Threads + Wait + Clock + Copy + Send + 'static>(
+    rt: &R,
+    alloc: Global,
+) -> Option<bool> {
+    let Play { log, .. } = start(rt, alloc, Verbosity::All, false)?;
+    log.note(rt, Event::Fault);
+    log.note(rt, Event::Fault);
+    let since = Instant::now(rt).ok()?;
+    log.end(rt);
+    Some(since.elapsed(rt).ok()? < Duration::from_secs(10))
+}
+
+/// How many lines a log has of an end and a fault.
+pub(crate) fn lines_of<R: Threads + Wait + Clock + Copy + Send + 'static>(
+    rt: &R,
+    alloc: Global,
+    verbosity: Verbosity,
+) -> Option<usize> {
+    let Play { log, shared } = start(rt, alloc, verbosity, true)?;
+    let ended = Ended {
+        peer: SocketAddr::from((Ipv4Addr::LOCALHOST, 1)),
+        session: 1,
+        counts: Counts::new(),
+        why: Ending::Quit,
+    };
+    log.note(rt, Event::End(ended));
+    log.note(rt, Event::Fault);
+    log.end(rt);
+    let text = shared.text.lock(rt);
+    Some(text.iter().filter(|octet| **octet == b'\n').count())
+}

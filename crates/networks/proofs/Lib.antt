@@ -1,0 +1,4 @@
+pub mod FirstBits
+pub mod Numeral
+pub mod Slash
+pub mod Family

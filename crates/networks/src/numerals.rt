@@ -1,0 +1,25 @@
+//! The length of a prefix as a text.
+
+ghost use Rattle.std.specs.Prelude.{◌≡◌, ◌≤◌, ℕ, decimal, IfSome, IfNone};
+
+/// The number that a decimal numeral writes, if it has no sign and no leading zero and the number is at most `limit`.
+pub(crate) fn read_length(numeral: &[u8], limit: u32) -> Option<u32>
+    requires { limit ≤ 128 }
+    ensures found { IfSome result (λ n. (numeral.now ≡ decimal n) × (n ≤ limit)) }
+    ensures none { IfNone result ((n : ℕ) → n ≤ limit → ¬ (numeral.now ≡ decimal n)) }
+{
+    if numeral.is_empty() || numeral.len() > 3 {
+        return None;
+    }
+    if numeral[0] == b'0' && numeral.len() > 1 {
+        return None;
+    }
+    let mut number = 0;
+    for digit in numeral {
+        if !digit.is_ascii_digit() {
+            return None;
+        }
+        number = number * 10 + u32::from(*digit - b'0');
+    }
+    if number > limit { None } else { Some(number) }
+}

@@ -1,0 +1,56 @@
+//! The state of a volume as a value.
+
+ghost use Rattle.std.specs.Prelude.{◌≡◌, ◌-◌, ◌<◌, ◌≤◌};
+
+use model::Text;
+
+/// The octets of an overview up to which its group takes articles: 12,288 less than the largest file has.
+pub const OVERVIEW_ROOM: u32 = 4_222_976;
+
+/// How much there is of something, and how much of it is used.
+#[derive(Clone, Copy, Debug, PartialEq, Eq)]
+pub struct Share {
+    pub all: u32,
+    pub used: u32,
+    ghost some: { 0 < all },
+    ghost within: { used ≤ all },
+}
+
+impl Share {
+    /// How much of it is free.
+    pub fn free(&self) -> u32
+        ensures { result ≡ self.now.all - self.now.used }
+    {
+        self.all - self.used
+    }
+}
+
+/// The state of a group.
+#[derive(Drop)]
+pub struct GroupStatus {
+    pub name: Text,
+    /// The lowest number that is still in it.
+    pub low: u64,
+    /// The highest number, which is the number of articles ever filed in it.
+    pub high: u64,
+    /// The number of articles in it.
+    pub count: u64,
+    /// `y`, or `n` if it takes no posts.
+    pub status: u8,
+    /// The octets of its overview.
+    pub overview: u32,
+}
+
+/// The state of a volume.
+#[derive(Drop)]
+pub struct VolumeStatus {
+    pub host: Text,
+    /// The version of the volume's layout.
+    pub format: u32,
+    pub blocks: Share,
+    pub inodes: Share,
+    /// The number of accepted changes.
+    pub changes: u64,
+    /// The groups in rising serial.
+    pub groups: Vec<GroupStatus>,
+}

@@ -1,0 +1,70 @@
+-- The state of a volume, as the definitions of the spool and of its blocks say it.
+use Rattle.std.specs.Prelude.{◌≡◌, ℕ, ◌+◌, ◌-◌, List, length, map}
+use Rattle.model.specs.Files.{free_blocks, free_inodes}
+use Rattle.model.specs.Indexed.{GroupIndex}
+use Rattle.model.specs.Layout.{Holds}
+use Rattle.model.specs.Spool.{NewsGroup, Spool, contents, count, groups, high, low}
+use Rattle.model.specs.SpoolFiles.{overview_file}
+use Rattle.model.specs.Stream.{Octets}
+use Rattle.index.specs.Filing.{end_of}
+use Rattle.index.specs.View.{IndexView, Indexes}
+use Rattle.reporting.specs.declared.state.GroupStatus.{GroupStatus}
+use Rattle.reporting.specs.declared.state.Share.{Share}
+use Rattle.reporting.specs.declared.state.VolumeStatus.{VolumeStatus}
+
+-- ---- shares
+
+-- all blocks, and those that aren't free
+pub record AreBlocks (blocks : List Octets) (share : Share) : Type 0 where
+  pub all : share.all ≡ length blocks
+  pub used : share.used + free_blocks blocks ≡ length blocks
+
+-- all inodes, and those that aren't free
+pub record AreInodes (inodes : ℕ) (blocks : List Octets) (share : Share) : Type 0 where
+  pub all : share.all ≡ inodes
+  pub used : share.used + free_inodes inodes blocks ≡ inodes
+
+-- ---- groups
+
+-- the state of a group of these changes
+abbrev pub group_status : Spool → NewsGroup → GroupStatus
+group_status S g = record {
+  name = g.name;
+  low = low S g.name;
+  high = high S g.name;
+  count = count (contents S g.name);
+  status = g.status;
+  overview = length (overview_file S g.name);
+}
+
+-- ---- the volume
+
+-- the state of a volume whose blocks hold some changes of the host
+pub record IsStatusOf (host : Octets) (inodes : ℕ) (blocks : List Octets) (s : VolumeStatus) : Type 0 where
+  pub changes : Spool
+  pub held : Holds host inodes blocks changes
+  pub host_is : s.host ≡ host
+  pub format_is : s.format ≡ 1
+  pub blocks_are : AreBlocks blocks s.blocks
+  pub inodes_are : AreInodes inodes blocks s.inodes
+  pub changes_are : s.changes ≡ length changes
+  pub groups_are : s.groups.items ≡ map (group_status changes) (groups changes)
+
+-- ---- the same by the index
+
+-- the blocks hold some changes of the host, and this is their index
+pub record IsIndexed (host : Octets) (inodes : ℕ) (blocks : List Octets) (index : IndexView) : Type 0 where
+  pub changes : Spool
+  pub held : Holds host inodes blocks changes
+  pub indexed : Indexes changes index
+
+-- the state of a group that the index keeps so
+abbrev pub of_index : GroupIndex → GroupStatus
+of_index i = record {
+  name = i.group.name;
+  low = i.low;
+  high = length i.filed;
+  count = length i.filed - (i.low - 1);
+  status = i.group.status;
+  overview = end_of i;
+}

@@ -1,0 +1,112 @@
+//! The state of the volume of a host, in its blocks.
+
+ghost use Rattle.std.specs.Prelude.{◌≡◌, ◌<◌, ◌^◌, IfErr, IfOk, map};
+ghost use Rattle.index.specs.Filing.{EndBelow, end_of};
+ghost use Rattle.index.specs.Shown.{shown};
+ghost use Rattle.model.specs.Files.{HasRoom};
+ghost use Rattle.model.specs.Layout.{Holds};
+ghost use Rattle.model.specs.Spool.{Spool};
+ghost use Rattle.volume_states.specs.State.{AreBlocks, AreInodes, IsIndexed, IsStatusOf, of_index};
+
+use fs_layout::inodes::free_inode_count;
+use fs_layout::marks::free_block_count;
+use index::{Group, Index};
+use model::Text;
+use reporting::{GroupStatus, Share, VolumeStatus};
+use spool_opening::open;
+use spool_reading::OpenError;
+use std::alloc::{AllocError, Global};
+use volume::Blocks;
+use volume_format::layout::VERSION;
+
+/// The state of the volume of a host in these blocks, whatever they contain. `Damaged` exactly if they hold no spool of
+/// the host (docs/FORMATS.md), `Memory` if a growth was refused.
+pub fn volume_status<B: Blocks>(
+    alloc: Global,
+    blocks: &B,
+    inodes: u32,
+    host: &[u8],
+) -> Result<VolumeStatus, OpenError>
+    requires { HasRoom inodes (B.blocks blocks.now) }
+    ensures ok { IfOk result (IsStatusOf host.now inodes (B.blocks blocks.now)) }
+    ensures damaged { IfErr result (λ e. e ≡ OpenError.Damaged → (S : Spool) → Holds host.now inodes (B.blocks blocks.now) S → ⊥) }
+{
+    let opened = match open(alloc, blocks, inodes, host) {
+        Ok(opened) => opened,
+        Err(error) => return Err(error),
+    };
+    Ok(status_by(alloc, blocks, inodes, host, &opened.index)?)
+}
+
+/// The state of a volume whose index is known. Refused only for want of memory.
+fn status_by<B: Blocks>(
+    alloc: Global,
+    blocks: &B,
+    inodes: u32,
+    host: &[u8],
+    index: &Index,
+) -> Result<VolumeStatus, AllocError>
+    requires room { HasRoom inodes (B.blocks blocks.now) }
+    requires indexed { IsIndexed host.now inodes (B.blocks blocks.now) index.now }
+    ensures { IfOk result (IsStatusOf host.now inodes (B.blocks blocks.now)) }
+{
+    let host = Text::new(Vec::from_slice(alloc, host)?);
+    let groups = statuses(alloc, index.groups())?;
+    Ok(VolumeStatus {
+        host,
+        format: VERSION,
+        blocks: block_share(blocks, inodes),
+        inodes: inode_share(blocks, inodes),
+        changes: index.len(),
+        groups,
+    })
+}
+
+/// All blocks, and those that the bitmap marks as used.
+fn block_share<B: Blocks>(blocks: &B, inodes: u32) -> Share
+    requires { HasRoom inodes (B.blocks blocks.now) }
+    ensures { AreBlocks (B.blocks blocks.now) result }
+{
+    let all = blocks.len();
+    let used = all - free_block_count(blocks, inodes);
+    Share { all, used }
+}
+
+/// All inodes, and those that have a file.
+fn inode_share<B: Blocks>(blocks: &B, inodes: u32) -> Share
+    requires { HasRoom inodes (B.blocks blocks.now) }
+    ensures { AreInodes inodes (B.blocks blocks.now) result }
+{
+    let used = inodes - free_inode_count(blocks, inodes);
+    Share { all: inodes, used }
+}
+
+/// The states of groups, in their order. Refused only for want of memory.
+fn statuses(alloc: Global, groups: &[Group]) -> Result<Vec<GroupStatus>, AllocError>
+    requires { EndBelow (2 ^ 32) (map shown groups.now) }
+    ensures { IfOk result (λ list. list.items ≡ map of_index (map shown groups.now)) }
+{
+    let mut list = Vec::new(alloc);
+    for group in groups {
+        list.push(status_of(alloc, group)?)?;
+    }
+    Ok(list)
+}
+
+/// The state of a group. Refused only for want of memory.
+fn status_of(alloc: Global, group: &Group) -> Result<GroupStatus, AllocError>
+    requires { end_of (shown group.now) < 2 ^ 32 }
+    ensures { IfOk result (λ status. status ≡ of_index (shown group.now)) }
+{
+    let name = Text::new(Vec::from_slice(alloc, group.name())?);
+    let low = group.low();
+    let high = group.high();
+    Ok(GroupStatus {
+        name,
+        low,
+        high,
+        count: high.saturating_sub(low.saturating_sub(1)),
+        status: group.status(),
+        overview: group.overview_size() as u32,
+    })
+}

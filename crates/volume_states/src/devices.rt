@@ -1,0 +1,97 @@
+//! The state of the volume on a device.
+
+ghost use Rattle.std.specs.Prelude.{◌≡◌, ◌⊎◌, IfErr, IfOk, IsTrue};
+ghost use Rattle.journal.specs.Journal.{IsReady};
+ghost use Rattle.kernel.specs.Opening.{IsDamaged};
+ghost use Rattle.labels.specs.Label.{IsNoLabel};
+ghost use Rattle.model.specs.Files.{HasRoom};
+ghost use Rattle.model.specs.Layout.{Holds};
+ghost use Rattle.model.specs.Spool.{Spool};
+ghost use Rattle.opening.specs.Standing.{IsDamagedVolume, IsNoNewsVolume, open_error};
+ghost use Rattle.volume_states.specs.State.{IsStatusOf};
+ghost use Rattle.volume_states.specs.Told.{IsStateIn, IsStateOf};
+
+use crate::blocks::volume_status;
+use disk::Disk;
+use journal::{Journal, JournalError};
+use kernel::OpenError;
+use labels::read_label;
+use reporting::VolumeStatus;
+use std::alloc::Global;
+use volume::{Blocks, Volume};
+
+/// The state of the volume on a device. `Fault` (E1) if the device failed, `Memory` (E2) if a growth was refused,
+/// `NotAVolume` (E3) if the device holds no volume with a label of its size, and `Damaged` (E5) if it holds one, but no
+/// lawful spool of the label's host.
+pub fn state_on<D: Disk + Drop>(alloc: Global, disk: D) -> Result<VolumeStatus, OpenError>
+    ensures told { IsTrue (D.device disk).tells → IfOk result (IsStateOf (D.device disk).content) }
+    ensures no_volume { IsTrue (D.device disk).tells → IfErr result (λ e. e ≡ OpenError.NotAVolume → IsNoNewsVolume (D.device disk).content) }
+    ensures damaged { IsTrue (D.device disk).tells → IfErr result (λ e. e ≡ OpenError.Damaged → IsDamagedVolume (D.device disk).content) }
+{
+    let mut journal = match Journal::open(alloc, disk) {
+        Ok(journal) => journal,
+        Err(refused) => return Err(journal_error(refused.error)),
+    };
+    state_in(alloc, &mut journal)
+}
+
+/// The state of the volume in a journal that was just opened.
+fn state_in<D: Disk>(alloc: Global, journal: &mut Journal<D>) -> Result<VolumeStatus, OpenError>
+    requires { IsReady journal.old }
+    ensures told { IsTrue (D.device journal.old.disk).tells → IfOk result (IsStateIn journal.old.label journal.old.size journal.old.blocks) }
+    ensures no_label { IfErr result (λ e. e ≡ OpenError.NotAVolume → IsNoLabel journal.old.label journal.old.size) }
+    ensures damaged { IfErr result (λ e. e ≡ OpenError.Damaged → IsDamaged D.device journal.old) }
+{
+    // what the journal keeps, which the loads need
+    prove!(journal.is_idle());
+    let Some(label) = read_label(journal.label(), journal.blocks()) else {
+        return Err(OpenError::NotAVolume);
+    };
+    let inodes = label.inodes as u32;
+    let Ok(host) = label.host.to_vec(alloc) else {
+        return Err(OpenError::Memory);
+    };
+    let loaded = Volume::open(alloc, journal);
+    // its clauses state what the journal keeps
+    let _idle = journal.is_idle();
+    match loaded {
+        Ok(volume) => {
+            // its clauses state that each block is whole
+            let _count = volume.len();
+            state_over(alloc, &volume, inodes, &host)
+        }
+        Err(volume::OpenError::Fault) => Err(OpenError::Fault),
+        Err(volume::OpenError::Memory) => Err(OpenError::Memory),
+    }
+}
+
+/// The state of the volume of a host in these blocks.
+fn state_over<B: Blocks>(
+    alloc: Global,
+    blocks: &B,
+    inodes: u32,
+    host: &[u8],
+) -> Result<VolumeStatus, OpenError>
+    requires { HasRoom inodes (B.blocks blocks.now) }
+    ensures ok { IfOk result (IsStatusOf host.now inodes (B.blocks blocks.now)) }
+    ensures damaged { IfErr result (λ e. e ≡ OpenError.Damaged → (S : Spool) → Holds host.now inodes (B.blocks blocks.now) S → ⊥) }
+    ensures no_other { IfErr result (λ e. (e ≡ OpenError.Memory) ⊎ (e ≡ OpenError.Damaged)) }
+{
+    match volume_status(alloc, blocks, inodes, host) {
+        Ok(status) => Ok(status),
+        Err(spool_reading::OpenError::Memory) => Err(OpenError::Memory),
+        Err(spool_reading::OpenError::Damaged) => Err(OpenError::Damaged),
+    }
+}
+
+/// Why the journal was not opened, as an opening tells it.
+fn journal_error(error: JournalError) -> OpenError
+    ensures { result ≡ open_error error }
+{
+    match error {
+        JournalError::Fault => OpenError::Fault,
+        JournalError::Memory => OpenError::Memory,
+        JournalError::NotAVolume => OpenError::NotAVolume,
+        JournalError::Halted => OpenError::Memory,
+    }
+}

@@ -1,0 +1,9 @@
+//! The state of a volume, in its blocks and on its device. The journal is opened and the blocks are loaded as for a
+//! server, but no kernel is made of them.
+#![tactic(auto)]
+
+mod blocks;
+mod devices;
+
+pub use blocks::volume_status;
+pub use devices::state_on;

@@ -1,0 +1,7 @@
+//! Tables of spools, and what is told of the volumes that hold them.
+#![tactic(auto)]
+
+#[cfg(test)]
+mod states;
+#[cfg(test)]
+mod volumes;
