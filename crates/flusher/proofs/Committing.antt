@@ -2,7 +2,7 @@
 use Rattle.std.proofs.Common.{◌≡◌, ◌≢◌, ◌≤◌, ◌<◌, ◌+◌, ℕ, Bool, false, IsTrue, List, length, refl, sym, ◌∙◌, ap, subst, arith, ◌⊎◌, inl, inr, true, Result, Ok, Err, IfErr}
 use Rattle.disk.specs.Device.{Device}
 use Rattle.journal.specs.Calls.{IsRetried, MakesCall, OnMade, OnRetried, blocks_after}
-use Rattle.journal.specs.Journal.{JournalView, LeavesAdmitted, calls, sizes, with_batch}
+use Rattle.journal.specs.Journal.{JournalView, LeavesAdmitted, sizes, with_batch}
 use Rattle.journal.specs.Opening.{IsMore}
 use Rattle.journal.specs.Order.{answer, following, syncs_made, writes_made}
 use Rattle.journal.specs.declared.Next.{Next}

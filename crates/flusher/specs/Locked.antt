@@ -1,7 +1,9 @@
 -- What a call does to the kernel under the lock, and to the caller's buffer.
-use Rattle.std.specs.Prelude.{◌≡◌, ℕ, Bool, List, ◌++◌}
+use Rattle.std.specs.Prelude.{◌≡◌, ◌<◌, ◌↔◌, ℕ, Bool, IsTrue, List, ◌++◌, length}
 use Rattle.flusher.specs.declared.kern.Answered.{Answered}
+use Rattle.flusher.specs.declared.kern.Counts.{Counts}
 use Rattle.kernel.specs.Kernel.{Execs, KernelView, released_of, seat_of}
+use Rattle.model.specs.SpoolFiles.{files_of}
 use Rattle.model.specs.declared.message.Message.{Message}
 use Rattle.outbox.specs.Queue.{Entry}
 use Rattle.seats.specs.Seats.{holds, ready_of}
@@ -16,4 +18,12 @@ pub record Gives (old new : KernelView) (number : ℕ) (before after : List Entr
 pub record Answers (old new : KernelView) (number : ℕ) (m : Message) (t : ℕ) (before after : List Entry) (answered : Answered) : Type 0 where
   pub served : KernelView
   pub executed : Execs old served number m t (answered.next, answered.mark)
+  pub accepted : IsTrue answered.has_accepted ↔ (length old.spool < length served.spool)
   pub given : Gives served new number before after answered.is_held
+
+-- what a kernel holds
+pub record IsCounted (kernel : KernelView) (counts : Counts) : Type 0 where
+  pub sessions : counts.sessions ≡ length kernel.seats
+  pub inodes : counts.inodes ≡ length (files_of kernel.spool)
+  pub accepted : counts.accepted ≡ length kernel.spool
+  pub durable : counts.durable ≡ kernel.durable

@@ -3,7 +3,7 @@
 use crate::Gate;
 use crate::arrivals::Arrivals;
 use std::sync::Wait;
-use std::sync::atomic::{AtomicU64, Ordering};
+use std::sync::atomic::{AtomicBool, AtomicU64, Ordering};
 use std::thread::Parker;
 
 /// A bell on which any number of threads wait. A waiter first notes the count, then looks for work, and then sleeps as
@@ -45,7 +45,7 @@ impl Bell {
     }
 }
 
-/// The bells of the server's threads.
+/// The bells of the server's threads, and how far a stop of the server has come.
 #[derive(Drop)]
 pub struct Bells {
     /// There may be something to flush.
@@ -57,6 +57,10 @@ pub struct Bells {
     /// A batch was taken, so fewer blocks are dirty: a message that was refused for them may be asked again.
     pub later: Bell,
     pub arrivals: Arrivals,
+    /// The operator has asked for the server's end.
+    is_stopping: AtomicBool,
+    /// The flusher has stopped because of that, with every accepted change durable.
+    has_stopped: AtomicBool,
 }
 
 impl Bells {
@@ -67,7 +71,32 @@ impl Bells {
             operator: Parker::new(),
             later: Bell::new(),
             arrivals: Arrivals::new(),
+            is_stopping: AtomicBool::new(false),
+            has_stopped: AtomicBool::new(false),
         }
+    }
+
+    /// Asks for the server's end: from now on no caller is read from any more, and the flusher stops once every
+    /// accepted change is durable.
+    pub fn ask_to_stop(&self) {
+        self.is_stopping.store(true, Ordering::SeqCst);
+        self.flush_now();
+    }
+
+    /// Whether the server's end was asked for. A thread looks at this before it reads from a caller, and the acceptor
+    /// before it joins a session.
+    pub fn is_stopping(&self) -> bool {
+        self.is_stopping.load(Ordering::SeqCst)
+    }
+
+    /// Notes that the flusher is about to stop as it was asked to.
+    pub fn note_stop(&self) {
+        self.has_stopped.store(true, Ordering::SeqCst);
+    }
+
+    /// Whether the flusher has stopped as it was asked to. It says so once a seat of the mark has seen the stop.
+    pub fn has_stopped(&self) -> bool {
+        self.has_stopped.load(Ordering::SeqCst)
     }
 
     /// Notes that a command that asks for a block was served, or a block, which may have brought a change.
@@ -102,6 +131,10 @@ impl<'a, 'b, G: Gate> Gate for Ringing<'a, 'b, G> {
         self.bells.releaser.unpark();
         self.bells.operator.unpark();
         self.gate.after_flush();
+    }
+
+    fn after_batch(&self) {
+        self.gate.after_batch();
     }
 
     fn before_release(&self, sid: u64) {

@@ -7,6 +7,8 @@ ghost use Rattle.journal.specs.declared.Next.{Next};
 ghost use Rattle.flusher.specs.Flush.{Carries, Commits, Failed, HasBegun, HasNotFailed, MayBegin, Turns, has_failed};
 
 use crate::bells::Bells;
+use crate::marks::Marks;
+use crate::tally::Tally;
 use crate::{Gate, Kern};
 use disk::Disk;
 use journal::{Journal, JournalError, Progress};
@@ -211,38 +213,156 @@ fn released(last: Option<u64>, raised: u64) -> u64 {
     }
 }
 
-/// Flushes whenever there is something to flush, until a turn is refused. After a batch it waits a little for the
-/// callers whose replies that batch has released.
-pub fn flush_all<R: Wait, D: Disk + Drop, K: Kern, G: Gate>(
-    rt: &R,
+/// What the flusher has.
+#[derive(Drop)]
+pub struct Flusher<'a, D: Disk> {
+    pub journal: Journal<D>,
+    pub mark: &'a Mark,
+    pub seat: FlushSeat,
+    pub batch: BatchBuf,
+    /// The marks of used blocks on the device.
+    pub marks: Marks,
+    pub tally: &'a Tally,
+    ghost idle: { IsIdle journal },
+    ghost flushes: { seat.mark ≡ mark.now },
+}
+
+/// How the flusher ended.
+#[derive(Clone, Copy, Debug, Drop, PartialEq, Eq)]
+pub enum Ended {
+    /// It was asked to stop: every accepted change is durable, and the kernel is halted.
+    Stopped,
+    /// A turn was refused.
+    Failed(FlushError),
+}
+
+/// The parts of a flusher that change.
+#[derive(Drop)]
+struct Work<D: Disk> {
     journal: Journal<D>,
-    kern: &K,
-    mark: &Mark,
     seat: FlushSeat,
     batch: BatchBuf,
+    marks: Marks,
+}
+
+/// What the flusher tells others.
+#[derive(Clone, Copy)]
+struct Around<'a, K: Kern, G: Gate> {
+    kern: &'a K,
+    mark: &'a Mark,
+    gate: &'a G,
+    bells: &'a Bells,
+    tally: &'a Tally,
+}
+
+/// Flushes whenever there is something to flush, until a turn is refused, or until a stop was asked for and every
+/// accepted change is durable. After a batch it waits a little for the callers whose replies that batch has released.
+pub fn flush_all<R: Wait, D: Disk + Drop, K: Kern, G: Gate>(
+    rt: &R,
+    flusher: Flusher<'_, D>,
+    kern: &K,
     gate: &G,
     bells: &Bells,
-) -> FlushError
-    requires idle { IsIdle journal }
-    requires seat { seat.mark ≡ mark.now }
+) -> Ended {
+    let Flusher {
+        journal,
+        mark,
+        seat,
+        batch,
+        marks,
+        tally,
+    } = flusher;
+    let mut work = Work {
+        journal,
+        seat,
+        batch,
+        marks,
+    };
+    let around = Around {
+        kern,
+        mark,
+        gate,
+        bells,
+        tally,
+    };
+    flush_to_end(rt, &around, &mut work)
+}
+
+/// Flushes until the end that `flush_all` says. `Fault` (E1) exactly if the device failed in the last turn.
+fn flush_to_end<R: Wait, D: Disk, K: Kern, G: Gate>(
+    rt: &R,
+    around: &Around<'_, K, G>,
+    work: &mut Work<D>,
+) -> Ended
+    requires idle { IsIdle work.old.journal }
+    requires seat { work.old.seat.mark ≡ around.now.mark.now }
+    ensures stopped { work.new.seat.stopped ≡ true }
+    ensures in_order { result ≡ Ended.Stopped → IsIdle work.new.journal × HasNotFailed D.device work.old.journal work.new.journal }
+    ensures fault { result ≡ Ended.Failed FlushError.Fault → Failed D.device work.old.journal work.new.journal }
+    ensures halted { result ≡ Ended.Failed FlushError.Halted → HasNotFailed D.device work.old.journal work.new.journal }
 {
-    let mut journal = journal;
-    let mut seat = seat;
-    let mut batch = batch;
+    let Around {
+        kern,
+        mark,
+        gate,
+        bells,
+        ..
+    } = around;
     let mut last = None;
     'turns: for _ in rt.forever() {
         bells.arrivals.begin_turn();
-        match flush_turn(rt, &mut journal, kern, mark, &mut seat, &mut batch, gate) {
+        match flush_turn(
+            rt,
+            &mut work.journal,
+            *kern,
+            *mark,
+            &mut work.seat,
+            &mut work.batch,
+            *gate,
+        ) {
             Ok(Some(raised)) => {
-                let released = released(last, raised);
-                bells.arrivals.gather(rt, &bells.flusher, released);
+                work.marks = work.marks.after(&work.batch);
+                follow(rt, around, work.marks, released(last, raised));
                 last = Some(raised);
             }
-            Ok(None) => {
-                bells.flusher.park(rt);
+            Ok(None) if ends(rt, around) => {
+                mark.stop(&mut work.seat);
+                return Ended::Stopped;
             }
-            Err(error) => return error,
+            Ok(None) => bells.flusher.park(rt),
+            Err(error) => return Ended::Failed(error),
         }
     }
     unreachable!()
+}
+
+/// Counts a batch, and waits a little for the callers whose replies it has released, unless a stop was asked for.
+fn follow<R: Wait, K: Kern, G: Gate>(
+    rt: &R,
+    around: &Around<'_, K, G>,
+    marks: Marks,
+    released: u64,
+) {
+    let Around {
+        gate,
+        bells,
+        tally,
+        ..
+    } = around;
+    tally.note_batch(marks);
+    gate.after_batch();
+    if !bells.is_stopping() {
+        bells.arrivals.gather(rt, &bells.flusher, released);
+    }
+}
+
+/// Whether the flusher ends because a stop was asked for and every accepted change is durable. Then the kernel is
+/// halted.
+fn ends<R: Wait, K: Kern, G: Gate>(rt: &R, around: &Around<'_, K, G>) -> bool {
+    let Around { kern, bells, .. } = around;
+    let is_over = bells.is_stopping() && kern.halt_if_clean(rt);
+    if is_over {
+        bells.note_stop();
+    }
+    is_over
 }

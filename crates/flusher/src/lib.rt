@@ -9,13 +9,17 @@ mod flushing;
 mod gate;
 mod kern;
 mod locked;
+mod marks;
+mod tally;
 
 pub use arrivals::Arrivals;
 pub use bells::{Bell, Bells, Ringing};
-pub use flushing::{FlushError, flush_all, flush_turn};
+pub use flushing::{Ended, FlushError, Flusher, flush_all, flush_turn};
 pub use gate::{Gate, NoGate};
-pub use kern::{Answered, Kern};
+pub use kern::{Answered, Counts, Kern};
 pub use kernel::{
     AdminError, BatchBuf, ExecError, ExpireError, JoinError, Kernel, SESSIONS, Stale, Ticket,
 };
 pub use locked::Locked;
+pub use marks::Marks;
+pub use tally::{Tallied, Tally, VolumeFacts};

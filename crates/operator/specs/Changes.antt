@@ -1,8 +1,10 @@
 -- What the operator's lines ask for.
-use Rattle.std.specs.Prelude.{Option, Some, None}
-use Rattle.script.specs.Script.{Said, Made, Expired, Came, Asked}
+use Rattle.std.specs.Prelude.{◌≡◌, ◌≢◌, ℕ, List, Option, Some, None, codes}
+use Rattle.script.specs.Script.{Said, Made, Expired, Came, Asked, meaning}
 use Rattle.operator.specs.declared.changes.Change.{Change}
 use Rattle.operator.specs.declared.changes.Change.TheVariants.{Group, Expiry}
+use Rattle.operator.specs.declared.requests.Request.{Request}
+use Rattle.operator.specs.declared.requests.Request.TheVariants as request
 
 -- a change as a line states it
 abbrev pub asked : Change → Said
@@ -16,3 +18,13 @@ IsNone (Some (Made name status moment description)) = ⊥
 IsNone (Some (Expired name number)) = ⊥
 IsNone (Some (Came session octets)) = Unit {0}
 IsNone (Some (Asked line)) = Unit {0}
+
+-- a line asks for this: a change, the word `status`, or the word `stop`
+abbrev pub IsAskedBy : List ℕ → Request → Type 0
+IsAskedBy line (request.Change change) = meaning line ≡ Some (asked change)
+IsAskedBy line request.Status = line ≡ codes "status"
+IsAskedBy line request.Stop = line ≡ codes "stop"
+
+-- a line asks for nothing
+abbrev pub AsksNothing : List ℕ → Type 0
+AsksNothing line = (line ≢ codes "status") × (line ≢ codes "stop") × IsNone (meaning line)

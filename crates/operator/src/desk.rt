@@ -4,14 +4,17 @@
 //! The first and the last may wait for the operator forever, so neither is joined. The second waits for neither of
 //! them: at most `LINES` lines are under way, and each channel has room for all of them.
 
-ghost use Rattle.std.specs.Prelude.{◌≡◌, ◌≤◌, true, IfOk, IfErr, OnOk};
+ghost use Rattle.std.specs.Prelude.{◌≡◌, IfOk, IfErr, OnOk};
+ghost use Rattle.operator.specs.Told.{HasSeenStop, IsSeen};
 
-use crate::changes::{change_of, make};
-use crate::durable::is_durable;
+use crate::changes::{Change, make};
+use crate::durable::{is_durable, wait_for_stop};
 use crate::lines::{LINE_OCTETS, Next, next_line};
-use crate::writing::{Answer, Refused, write_answer};
+use crate::requests::{Request, request_of};
+use crate::status::Status;
+use crate::writing::{Answer, Refused, Told, write_answer};
 use crossbeam_channel::{Receiver, Sender, bounded};
-use flusher::{Bells, Kern};
+use flusher::{Bells, Kern, Tally, VolumeFacts};
 use mark::{Mark, Seat};
 use std::alloc::{AllocError, Global};
 use std::io::{BufRead, Write};
@@ -36,14 +39,15 @@ enum Order {
 }
 
 /// What the thread that writes waits for.
-#[derive(Clone, Copy, Drop)]
+#[derive(Drop)]
 enum Reply {
     Answer(Answer),
     /// There is no further answer.
     Ends,
 }
 
-/// What the changes are made with: the kernel, the mark that says what is durable, and the bells of the server's threads.
+/// What the lines are carried out with: the kernel, the mark that says what is durable, the bells of the server's
+/// threads, and what is known and counted of the volume.
 #[derive(Drop)]
 pub struct Service<'a, R, K> {
     pub rt: &'a R,
@@ -51,6 +55,8 @@ pub struct Service<'a, R, K> {
     pub kern: &'a K,
     pub mark: &'a Mark,
     pub bells: &'a Bells,
+    pub tally: &'a Tally,
+    pub facts: VolumeFacts<'a>,
 }
 
 /// The operator's side of a running server.
@@ -117,7 +123,7 @@ impl Operator {
         })
     }
 
-    /// Makes the changes that the lines ask for and answers each line, until `end` is called. Lines that were handed on
+    /// Does what the lines ask for and answers each line, until `end` is called. Lines that were handed on
     /// before that are still answered, and the operator has a second to read the answers. Then it returns, whether they
     /// are read or not.
     pub fn answer_all<R: Wait + Clock, K: Kern>(&self, service: &Service<'_, R, K>, seat: Seat)
@@ -143,31 +149,71 @@ impl Operator {
     }
 }
 
-/// Makes the change of a line, and waits until it is durable. A serial is answered only if the mark was seen to have
-/// reached it. `Fault` is answered only if the flusher was seen to have stopped and the mark was read after that.
+/// Does what a line asks for. A serial is answered only if the mark was seen to have reached it. `stopped` and `Fault`
+/// are answered only if the flusher was seen to have stopped and the mark was read after that.
 fn answer<R: Wait, K: Kern>(
     service: &Service<'_, R, K>,
     seat: &mut Seat,
     line: Result<Vec<u8>, Refused>,
 ) -> Answer
     requires { seat.old.mark ≡ service.now.mark.now }
-    ensures told { IfOk result (λ serial. serial ≤ seat.new.seen) }
-    ensures gone { OnOk line (IfErr result (λ error. error ≡ Refused.Fault → (seat.new.told ≡ true) × (seat.new.after_stop ≡ true))) }
+    ensures told { IfOk result (IsSeen seat.new) }
+    ensures gone { OnOk line (IfErr result (λ error. error ≡ Refused.Fault → HasSeenStop seat.new)) }
+    ensures mark { seat.new.mark ≡ seat.old.mark }
+{
+    let line = line?;
+    match request_of(service.alloc, line.as_slice())? {
+        Request::Change(change) => carry_out(service, seat, &change),
+        Request::Status => Ok(Told::Status(Status::of(service)?)),
+        Request::Stop => stop(service, seat),
+    }
+}
+
+/// Makes a change, and waits until it is durable.
+fn carry_out<R: Wait, K: Kern>(
+    service: &Service<'_, R, K>,
+    seat: &mut Seat,
+    change: &Change,
+) -> Answer
+    requires { seat.old.mark ≡ service.now.mark.now }
+    ensures told { IfOk result (IsSeen seat.new) }
+    ensures gone { IfErr result (λ error. error ≡ Refused.Fault → HasSeenStop seat.new) }
     ensures mark { seat.new.mark ≡ seat.old.mark }
 {
     let Service {
         rt,
-        alloc,
         mark,
         bells,
         ..
     } = service;
-    let line = line?;
-    let change = change_of(*alloc, line.as_slice())?;
-    let serial = make(service, &change)?;
+    let serial = make(service, change)?;
     bells.flush_now();
     if is_durable(*rt, *mark, seat, *bells, serial) {
-        Ok(serial)
+        Ok(Told::Serial(serial))
+    } else {
+        Err(Refused::Fault)
+    }
+}
+
+/// Asks the flusher to stop, and waits until it has stopped. `Fault` if it stopped for another reason, or if a change
+/// was accepted that is not durable.
+fn stop<R: Wait, K: Kern>(service: &Service<'_, R, K>, seat: &mut Seat) -> Answer
+    requires { seat.old.mark ≡ service.now.mark.now }
+    ensures told { IfOk result (IsSeen seat.new) }
+    ensures gone { IfErr result (λ error. error ≡ Refused.Fault → HasSeenStop seat.new) }
+    ensures mark { seat.new.mark ≡ seat.old.mark }
+{
+    let Service {
+        rt,
+        kern,
+        mark,
+        bells,
+        ..
+    } = service;
+    bells.ask_to_stop();
+    let durable = wait_for_stop(*rt, *mark, seat, *bells);
+    if bells.has_stopped() && kern.counts(*rt).accepted <= durable {
+        Ok(Told::Stopped)
     } else {
         Err(Refused::Fault)
     }
@@ -206,7 +252,7 @@ impl Writing {
             let Ok(Reply::Answer(answer)) = self.replies.recv(rt) else {
                 return;
             };
-            let _ = write_answer(&mut answers, answer);
+            let _ = write_answer(&mut answers, &answer);
             let _ = self.under_way.recv(rt);
         }
     }

@@ -1,6 +1,7 @@
-//! How the operator's thread waits for a change to be durable.
+//! How the operator's thread waits for a change to be durable, or for the flusher's stop.
 
 ghost use Rattle.std.specs.Prelude.{◌≡◌, ◌<◌, ◌≤◌, true, false};
+ghost use Rattle.operator.specs.Told.{HasSeenStop};
 
 use flusher::Bells;
 use mark::{Mark, Seat};
@@ -17,7 +18,7 @@ pub(crate) fn is_durable<R: Wait>(
 ) -> bool
     requires { seat.old.mark ≡ mark.now }
     ensures told { result ≡ true → serial ≤ seat.new.seen }
-    ensures gone { result ≡ false → (seat.new.told ≡ true) × (seat.new.after_stop ≡ true) × (seat.new.seen < serial) }
+    ensures gone { result ≡ false → HasSeenStop seat.new × (seat.new.seen < serial) }
     ensures mark { seat.new.mark ≡ seat.old.mark }
 {
     'looks: for _ in rt.forever() {
@@ -27,6 +28,22 @@ pub(crate) fn is_durable<R: Wait>(
         }
         if has_stopped {
             return false;
+        }
+        bells.operator.park(rt);
+    }
+    unreachable!()
+}
+
+/// Waits until the flusher has stopped, and answers the number of durable changes that was read after that.
+pub(crate) fn wait_for_stop<R: Wait>(rt: &R, mark: &Mark, seat: &mut Seat, bells: &Bells) -> u64
+    requires { seat.old.mark ≡ mark.now }
+    ensures seen { result ≡ seat.new.seen }
+    ensures stop { HasSeenStop seat.new }
+    ensures mark { seat.new.mark ≡ seat.old.mark }
+{
+    'looks: for _ in rt.forever() {
+        if mark.stopped(seat) {
+            return mark.durable(seat);
         }
         bells.operator.park(rt);
     }

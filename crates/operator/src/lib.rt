@@ -1,5 +1,5 @@
-//! The operator's side of a server. Each line asks for a group, or removes articles from one. The answer is the serial
-//! of the change once the change is durable, or the refusal.
+//! The operator's side of a server. A line makes a group or removes articles from one: its answer is the serial of the
+//! change once the change is durable. Or it asks for the server's status or its end. Or it is refused.
 #![tactic(auto)]
 
 mod changes;
@@ -7,6 +7,8 @@ mod desk;
 mod durable;
 mod group;
 mod lines;
+mod requests;
+mod status;
 mod writing;
 
 pub use desk::{Operator, Service};

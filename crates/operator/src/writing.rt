@@ -3,8 +3,10 @@
 ghost use Rattle.std.specs.Prelude.{◌≡◌};
 ghost use Rattle.operator.specs.declared.writing.Refused.TheVariants.{Group, Expiry, Memory};
 
+use crate::status::Status;
 use flusher::{AdminError, ExpireError};
 use std::alloc::AllocError;
+use std::fmt::{self, Display, Formatter};
 use std::io::{self, Write};
 use thiserror::Error;
 
@@ -52,13 +54,33 @@ impl From<AllocError> for Refused {
     }
 }
 
-/// The serial of a durable change, or why there is none.
-pub(crate) type Answer = Result<u64, Refused>;
+/// The answer to a line that was not refused.
+#[derive(Drop)]
+pub(crate) enum Told {
+    /// The serial of a change that is durable.
+    Serial(u64),
+    Status(Status),
+    /// The flusher has stopped as it was asked to.
+    Stopped,
+}
+
+impl Display for Told {
+    fn fmt<W: fmt::Write>(&self, f: &mut Formatter<W>) -> fmt::Result {
+        match self {
+            Told::Serial(serial) => write!(f, "{serial}"),
+            Told::Status(status) => write!(f, "{status}"),
+            Told::Stopped => f.write_str("stopped"),
+        }
+    }
+}
+
+/// The answer to a line.
+pub(crate) type Answer = Result<Told, Refused>;
 
 /// Writes an answer and an LF, and flushes.
-pub(crate) fn write_answer<A: Write>(answers: &mut A, answer: Answer) -> io::Result<()> {
+pub(crate) fn write_answer<A: Write>(answers: &mut A, answer: &Answer) -> io::Result<()> {
     match answer {
-        Ok(serial) => writeln!(answers, "{serial}")?,
+        Ok(told) => writeln!(answers, "{told}")?,
         Err(refused) => writeln!(answers, "{refused}")?,
     }
     answers.flush()

@@ -1,7 +1,7 @@
 //! A kernel that counts the groups that it is asked for, and makes none.
 
 use flusher::{
-    AdminError, Answered, BatchBuf, ExecError, ExpireError, JoinError, Kern, Stale, Ticket,
+    AdminError, Answered, BatchBuf, Counts, ExecError, ExpireError, JoinError, Kern, Stale, Ticket,
 };
 use model::{Message, Mode};
 use names::GroupName;
@@ -15,13 +15,16 @@ use std::sync::atomic::{AtomicBool, AtomicU64, Ordering};
 pub(crate) struct Counting {
     /// The number of groups that it was asked for while it was not halted.
     pub(crate) groups: AtomicU64,
+    /// The number of changes that its sessions made.
+    posts: u64,
     is_halted: AtomicBool,
 }
 
 impl Counting {
-    pub(crate) fn new() -> Counting {
+    pub(crate) fn new(posts: u64) -> Counting {
         Counting {
             groups: AtomicU64::new(0),
+            posts,
             is_halted: AtomicBool::new(false),
         }
     }
@@ -88,5 +91,20 @@ impl Kern for Counting {
 
     fn halt<R: Wait>(&self, _rt: &R) {
         self.is_halted.store(true, Ordering::SeqCst);
+    }
+
+    fn halt_if_clean<R: Wait>(&self, _rt: &R) -> bool {
+        self.is_halted.store(true, Ordering::SeqCst);
+        true
+    }
+
+    fn counts<R: Wait>(&self, _rt: &R) -> Counts {
+        let groups = self.groups.load(Ordering::SeqCst);
+        Counts {
+            sessions: 3,
+            inodes: 310,
+            accepted: groups.wrapping_add(self.posts),
+            durable: 118,
+        }
     }
 }

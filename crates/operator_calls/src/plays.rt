@@ -4,7 +4,7 @@ ghost use Rattle.std.specs.Prelude.{◌≡◌};
 
 use crate::kernels::Counting;
 use crate::streams::{Answers, Lines};
-use flusher::{Bells, Kern};
+use flusher::{Bells, Kern, Marks, Tally, VolumeFacts};
 use mark::{FlushSeat, Mark, Seat};
 use operator::{Operator, Service};
 use std::alloc::Global;
@@ -19,6 +19,23 @@ const WAIT_MILLIS: u64 = 20_000;
 /// A thread that reads ahead gets this many milliseconds to do so.
 const PAUSE_MILLIS: u64 = 100;
 
+/// What the operator is told of the volume: its host, the version of its format, its logical blocks, its inodes, the marks of
+/// its used blocks, and the syncs of its device.
+const HOST: &[u8] = b"news.example";
+
+const FORMAT: u32 = 1;
+
+const BLOCKS: u64 = 16_384;
+
+const INODES: u64 = 8_192;
+
+const MARKS: Marks = Marks {
+    first: 1_100,
+    second: 100,
+};
+
+const SYNCS: u64 = 63;
+
 /// What an operator sends, and how the play ends.
 #[derive(Drop)]
 pub(crate) struct Play {
@@ -29,8 +46,20 @@ pub(crate) struct Play {
     pub(crate) is_read: bool,
     /// The flusher reports this many changes as durable, and no more.
     pub(crate) durable: u64,
-    /// The flusher stops once this many groups were asked for.
-    pub(crate) groups: u64,
+    /// The number of changes that sessions made.
+    pub(crate) posts: u64,
+    pub(crate) stop: Stop,
+}
+
+/// When the flusher stops.
+#[derive(Clone, Copy, Drop)]
+pub(crate) enum Stop {
+    /// Once this many groups were asked for. The operator has not asked for that.
+    Groups(u64),
+    /// Once the operator has asked for that. It says so.
+    Asked,
+    /// Once the operator has asked for that, but then the device fails.
+    Fails,
 }
 
 /// The outcome of a play.
@@ -56,15 +85,68 @@ fn reaches<R: Clock>(rt: &R, count: &AtomicU64, least: u64) -> bool {
     false
 }
 
+/// Looks each millisecond until the operator has asked for the end. It is false if the time ends first.
+fn is_asked<R: Clock>(rt: &R, bells: &Bells) -> bool {
+    for _ in 0..WAIT_MILLIS {
+        if bells.is_stopping() {
+            return true;
+        }
+        thread::sleep(rt, Duration::from_millis(1));
+    }
+    false
+}
+
 /// What the flusher and the operator share.
 #[derive(Drop)]
 struct Stage {
     kern: Counting,
     mark: Mark,
     bells: Bells,
+    tally: Tally,
     operator: Operator,
     /// The number of octets of the lines that were read.
     read: Arc<AtomicU64>,
+}
+
+/// What the operator's lines are carried out with.
+#[derive(Drop)]
+struct Means<'a, R> {
+    rt: &'a R,
+    kern: &'a Counting,
+    mark: &'a Mark,
+    bells: &'a Bells,
+    tally: &'a Tally,
+    host: &'a [u8],
+}
+
+/// Answers the operator's lines.
+fn answer_all<R: Wait + Clock>(operator: &Operator, alloc: Global, means: Means<'_, R>, seat: Seat)
+    requires { seat.mark ≡ means.mark.now }
+{
+    let Means {
+        rt,
+        kern,
+        mark,
+        bells,
+        tally,
+        host,
+    } = means;
+    let facts = VolumeFacts {
+        host,
+        format: FORMAT,
+        blocks: BLOCKS,
+        inodes: INODES,
+    };
+    let service = Service {
+        rt,
+        alloc,
+        kern,
+        mark,
+        bells,
+        tally,
+        facts,
+    };
+    operator.answer_all(&service, seat)
 }
 
 impl Stage {
@@ -72,33 +154,46 @@ impl Stage {
     fn answer_lines<R: Wait + Clock>(&self, rt: &R, alloc: Global, seat: Seat)
         requires { seat.mark ≡ self.now.mark }
     {
-        let service = Service {
+        let means = Means {
             rt,
-            alloc,
             kern: &self.kern,
             mark: &self.mark,
             bells: &self.bells,
+            tally: &self.tally,
+            host: HOST,
         };
-        self.operator.answer_all(&service, seat)
+        answer_all(&self.operator, alloc, means, seat)
     }
 
-    /// Stops, as the flusher does, once this many groups were asked for and this many octets were read. Answers whether
-    /// that was in time, and what was asked for and read a while later.
+    /// Whether the time to stop comes, and this many octets are read.
+    fn is_due<R: Clock>(&self, rt: &R, stop: Stop, octets: u64) -> bool {
+        let is_due = match stop {
+            Stop::Groups(groups) => reaches(rt, &self.kern.groups, groups),
+            Stop::Asked | Stop::Fails => is_asked(rt, &self.bells),
+        };
+        is_due && reaches(rt, &self.read, octets)
+    }
+
+    /// Stops, as the flusher does, when it is due and this many octets were read. Answers whether that was in time, and
+    /// what was asked for and read a while later.
     fn stop<R: Wait + Clock>(
         &self,
         rt: &R,
         flush_seat: FlushSeat,
-        groups: u64,
+        stop: Stop,
         octets: u64,
     ) -> (bool, u64, u64)
         requires { flush_seat.mark ≡ self.now.mark }
     {
         let mut flush_seat = flush_seat;
-        let is_in_time = reaches(rt, &self.kern.groups, groups) && reaches(rt, &self.read, octets);
+        let is_in_time = self.is_due(rt, stop, octets);
         thread::sleep(rt, Duration::from_millis(PAUSE_MILLIS));
         let asked = self.kern.groups.load(Ordering::SeqCst);
         let read = self.read.load(Ordering::SeqCst);
         self.kern.halt(rt);
+        if matches!(stop, Stop::Asked) {
+            self.bells.note_stop();
+        }
         self.mark.stop(&mut flush_seat);
         self.bells.operator.unpark();
         self.bells.later.ring();
@@ -156,7 +251,8 @@ pub(crate) fn run<R: Threads + Wait + Clock + Copy + Send + Sync + 'static>(
         is_endless,
         is_read,
         durable,
-        groups,
+        posts,
+        stop,
     } = play;
     let Ok((mark, flush_seat, seat)) = Mark::new(alloc) else {
         return None;
@@ -174,16 +270,17 @@ pub(crate) fn run<R: Threads + Wait + Clock + Copy + Send + Sync + 'static>(
         text,
     } = begin(rt, alloc, lines, is_endless, is_read)?;
     let stage = Stage {
-        kern: Counting::new(),
+        kern: Counting::new(posts),
         mark,
         bells: Bells::new(),
+        tally: Tally::new(MARKS, Arc::new(alloc, AtomicU64::new(SYNCS)).ok()?),
         operator,
         read,
     };
     let ((), (is_in_time, groups, octets)) = join(
         rt,
         || stage.answer_lines(rt, alloc, seat),
-        || stage.stop(rt, flush_seat, groups, octets),
+        || stage.stop(rt, flush_seat, stop, octets),
     );
     let text = Vec::from_slice(alloc, text.lock(rt).as_slice()).ok()?;
     Some(Outcome {

@@ -1,6 +1,6 @@
 //! Tests of the operator's lines and answers.
 
-use crate::plays::{Play, run};
+use crate::plays::{Play, Stop, run};
 use std::test::Fail;
 
 /// The most lines that are handed on before an answer is read; one more is read.
@@ -28,7 +28,8 @@ fn a_line_has_1024_octets_at_most(rt: HostRuntime) -> Result<(), Fail> {
         is_endless: false,
         is_read: true,
         durable: 2,
-        groups: 2,
+        posts: 0,
+        stop: Stop::Groups(2),
     };
     let outcome = run(&rt, rt.alloc(), play).expect(&rt, "a play");
     assert!(rt; outcome.is_in_time);
@@ -45,7 +46,8 @@ fn lines_wait_for_an_operator_who_reads_nothing(rt: HostRuntime) -> Result<(), F
         is_endless: true,
         is_read: false,
         durable: 1000,
-        groups: LINES,
+        posts: 0,
+        stop: Stop::Groups(LINES),
     };
     let outcome = run(&rt, rt.alloc(), play).expect(&rt, "a play");
     assert!(rt; outcome.is_in_time);
@@ -65,10 +67,106 @@ fn a_line_before_the_stop_is_answered(rt: HostRuntime) -> Result<(), Fail> {
         is_endless: false,
         is_read: true,
         durable: 1,
-        groups: 2,
+        posts: 0,
+        stop: Stop::Groups(2),
     };
     let outcome = run(&rt, rt.alloc(), play).expect(&rt, "a play");
     assert!(rt; outcome.is_in_time);
     assert!(rt; outcome.text.as_slice() == b"1\nE1 Fault\nE4 Halted\nE4 Halted\n".as_slice());
+    Ok(())
+}
+
+/// What the operator sends and reads, and when the flusher stops.
+struct Row {
+    name: &'static str,
+    lines: &'static str,
+    /// The changes that sessions made, and those that are durable.
+    posts: u64,
+    durable: u64,
+    stop: Stop,
+    answers: &'static str,
+}
+
+/// The rows with `status` and `stop`.
+const ROWS: [Row; 7] = [
+    Row {
+        name: "the status is a line of names and numbers",
+        lines: "status\nstop\n",
+        posts: 120,
+        durable: 120,
+        stop: Stop::Asked,
+        answers: "host news.example format 1 blocks 1200 of 16384 inodes 310 of 8192 sessions 3 accepted 120 durable 118 \
+            batches 0 syncs 63\nstopped\n",
+    },
+    Row {
+        name: "another line than the word asks for nothing",
+        lines: "status \n status\nstatus x\nStatus\nstops\nstop \n\nstop",
+        posts: 0,
+        durable: 0,
+        stop: Stop::Asked,
+        answers: "E14 Bad\nE14 Bad\nE14 Bad\nE14 Bad\nE14 Bad\nE14 Bad\nE14 Bad\nstopped\n",
+    },
+    Row {
+        name: "a group before the stop is durable",
+        lines: "group x.a y 1 test\nstop\n",
+        posts: 4,
+        durable: 5,
+        stop: Stop::Asked,
+        answers: "1\nstopped\n",
+    },
+    Row {
+        name: "the server is stopped once, and says so twice",
+        lines: "stop\nstop\n",
+        posts: 0,
+        durable: 0,
+        stop: Stop::Asked,
+        answers: "stopped\nstopped\n",
+    },
+    Row {
+        name: "a line after the stop is answered",
+        lines: "stop\ngroup x.a y 1 test\nexpire x.a 1\nstatus\nspool\n",
+        posts: 2,
+        durable: 2,
+        stop: Stop::Asked,
+        answers: "stopped\nE4 Halted\nE12 NotFound\nhost news.example format 1 blocks 1200 of 16384 inodes 310 of 8192 \
+            sessions 3 accepted 2 durable 118 batches 0 syncs 63\nE14 Bad\n",
+    },
+    Row {
+        name: "a device that fails before the flusher stops is a fault",
+        lines: "stop\nstop\n",
+        posts: 0,
+        durable: 0,
+        stop: Stop::Fails,
+        answers: "E1 Fault\nE1 Fault\n",
+    },
+    Row {
+        name: "a change that is not durable is a fault",
+        lines: "stop\n",
+        posts: 3,
+        durable: 2,
+        stop: Stop::Asked,
+        answers: "E1 Fault\n",
+    },
+];
+
+#[test]
+fn status_and_stop_are_answered(rt: HostRuntime) -> Result<(), Fail> {
+    for row in &ROWS {
+        let play = Play {
+            lines: Vec::from_slice(rt.alloc(), row.lines.as_bytes())?,
+            is_endless: false,
+            is_read: true,
+            durable: row.durable,
+            posts: row.posts,
+            stop: row.stop,
+        };
+        let outcome = run(&rt, rt.alloc(), play).expect(&rt, "a play");
+        assert!(rt; outcome.is_in_time, "{}", row.name);
+        assert!(rt;
+            outcome.text.as_slice() == row.answers.as_bytes(),
+            "{}",
+            row.name
+        );
+    }
     Ok(())
 }

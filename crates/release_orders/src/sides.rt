@@ -2,7 +2,8 @@
 
 use crate::stops::{Point, Stop};
 use flusher::{
-    AdminError, Answered, BatchBuf, ExecError, ExpireError, JoinError, Kern, Locked, Stale, Ticket,
+    AdminError, Answered, BatchBuf, Counts, ExecError, ExpireError, JoinError, Kern, Locked, Stale,
+    Ticket,
 };
 use model::{Message, Mode};
 use names::GroupName;
@@ -78,5 +79,13 @@ impl<'a> Kern for Side<'a> {
 
     fn halt<R: Wait>(&self, rt: &R) {
         self.inner.halt(rt);
+    }
+
+    fn halt_if_clean<R: Wait>(&self, rt: &R) -> bool {
+        self.inner.halt_if_clean(rt)
+    }
+
+    fn counts<R: Wait>(&self, rt: &R) -> Counts {
+        self.inner.counts(rt)
     }
 }

@@ -34,8 +34,27 @@ pub(crate) enum Written {
     All,
     /// The socket takes no more now.
     Part,
-    /// The socket failed, or took nothing for too long.
+    /// The socket took nothing for too long.
+    Stalled,
+    /// The socket failed.
     Failed,
+}
+
+/// Why nothing more is written to a caller.
+#[derive(Clone, Copy, Debug, PartialEq, Eq)]
+pub enum Cut {
+    /// The socket took nothing for `Limits::stall`.
+    Stalled,
+    /// The socket failed.
+    Failed,
+}
+
+/// What was written to a caller.
+#[derive(Clone, Copy, Debug, PartialEq, Eq)]
+pub struct Sent {
+    pub octets: u64,
+    /// `None` if all that was released to the caller was written.
+    pub cut: Option<Cut>,
 }
 
 /// The octets taken from the kernel for a session, and how many of them are written.
@@ -46,6 +65,8 @@ pub(crate) struct Outgoing {
     pub(crate) stream: Option<Arc<TcpStream, Global>>,
     pub(crate) ready: ReadyBuf,
     written: usize,
+    /// What was written to this caller so far.
+    sent: Sent,
 }
 
 impl Outgoing {
@@ -55,7 +76,28 @@ impl Outgoing {
             stream: None,
             ready: ReadyBuf::new(alloc)?,
             written: 0,
+            sent: Sent {
+                octets: 0,
+                cut: None,
+            },
         })
+    }
+
+    /// Begins a session with a caller.
+    pub(crate) fn begin(&mut self, sid: u64, stream: Arc<TcpStream, Global>) {
+        self.sid = sid;
+        self.stream = Some(stream);
+        self.sent = Sent {
+            octets: 0,
+            cut: None,
+        };
+    }
+
+    /// Ends the session, discards what was taken, and answers what was written to the caller.
+    pub(crate) fn end(&mut self) -> Sent {
+        self.stream = None;
+        self.clear();
+        self.sent
     }
 
     /// Whether what was taken must be written before more is taken.
@@ -80,18 +122,26 @@ impl Outgoing {
             return;
         }
         shared.gate.before_release(self.sid);
+        let before = self.written;
         let written = self.write_rest(shared.rt, shared.limits.stall, patience);
+        let count = self.written.saturating_sub(before) as u64;
+        self.sent.octets = self.sent.octets.saturating_add(count);
         shared.gate.after_release(self.sid);
         match written {
             Written::Part => return,
             Written::All if !self.ends() => {}
             Written::All => self.shut_down(Shutdown::Write),
-            Written::Failed => {
-                self.shut_down(Shutdown::Both);
-                shared.kern.leave(shared.rt, self.sid);
-            }
+            Written::Stalled => self.cut_off(shared, Cut::Stalled),
+            Written::Failed => self.cut_off(shared, Cut::Failed),
         }
         self.clear();
+    }
+
+    /// Ends the session and the socket, since nothing more can be written.
+    fn cut_off<R: Wait, K: Kern, G>(&mut self, shared: &Shared<'_, R, K, G>, cut: Cut) {
+        self.sent.cut = Some(cut);
+        self.shut_down(Shutdown::Both);
+        shared.kern.leave(shared.rt, self.sid);
     }
 
     /// Whether the session ends with what was taken.
@@ -130,6 +180,7 @@ impl Outgoing {
         }
         match write_patiently(rt, stream, ready.octets(), written) {
             Written::All if give_short_writes(stream).is_ok() => Written::All,
+            Written::Part => Written::Stalled,
             _ => Written::Failed,
         }
     }

@@ -6,7 +6,7 @@ ghost use Rattle.std.specs.Prelude.{◌<◌};
 ghost use Rattle.model.specs.Calendar.{moment_limit};
 
 use crate::Shared;
-use crate::outgoing::{Outgoing, Patience};
+use crate::outgoing::{Outgoing, Patience, Sent};
 use flusher::{Answered, ExecError, Gate, Kern};
 use model::Message;
 use outbox::RELEASE_ENTRIES;
@@ -64,19 +64,17 @@ impl ReplyWriter {
         ending: Arc<TcpStream, Global>,
     ) {
         *self.socket.lock(rt) = Some(ending);
-        let mut outgoing = self.outgoing.lock(rt);
-        outgoing.sid = sid;
-        outgoing.stream = Some(writing);
+        self.outgoing.lock(rt).begin(sid, writing);
     }
 
-    /// Ends the caller, and drops what is left of its session.
-    pub fn end<R: Wait, K: Kern>(&self, rt: &R, kern: &K) {
+    /// Ends the caller, drops what is left of its session, and answers what was written to it.
+    pub fn end<R: Wait, K: Kern>(&self, rt: &R, kern: &K) -> Sent {
         let mut outgoing = self.outgoing.lock(rt);
         kern.leave(rt, outgoing.sid);
-        outgoing.stream = None;
-        outgoing.clear();
+        let sent = outgoing.end();
         self.is_waiting.store(false, Ordering::SeqCst);
         *self.socket.lock(rt) = None;
+        sent
     }
 
     /// Has a message answered, and takes what is ready. What does not fit is written before anything else is served.

@@ -48,6 +48,11 @@ fn refusals_that_end_the_program(rt: HostRuntime) -> Result<(), Fail> {
     for (failure, text, status) in [
         (Failure::Memory, "E2 Memory", REFUSED),
         (Failure::Bad, "E14 Bad", REFUSED),
+        (
+            Failure::bad_word(rt.alloc(), "NAME", "a\\\r", "is no name"),
+            "E14 Bad: NAME 'a\\\\\\r' is no name",
+            REFUSED,
+        ),
         (Failure::NotOpened(OpenError::Fault), "E1 Fault", REFUSED),
         (Failure::NotOpened(OpenError::Memory), "E2 Memory", REFUSED),
         (

@@ -3,20 +3,15 @@
 ghost use Rattle.std.specs.Prelude.{◌<◌};
 ghost use Rattle.model.specs.Calendar.{moment_limit};
 
+use logging::{Event, Log, moment};
+use std::sync::Wait;
 use std::sync::atomic::{AtomicBool, Ordering};
 use std::time::Clock;
-
-/// The first second that is too late for a moment.
-const MOMENT_LIMIT: u64 = 253_402_300_800;
-
-/// The message, printed once, about a clock that cannot be read.
-const NO_TIME: &str =
-    "newsd: the clock gives no time from 1970 to 9999: articles and groups are dated 1970";
 
 /// Reads the clock.
 #[derive(Drop)]
 pub(crate) struct Moments {
-    /// The message about the clock was printed.
+    /// The log has told that the clock gives no time.
     is_told: AtomicBool,
 }
 
@@ -27,15 +22,15 @@ impl Moments {
         }
     }
 
-    /// The seconds since 1970. They are 0 if the clock cannot be read or is out of range; standard error says so once.
-    pub(crate) fn now<R: Clock + Eprint>(&self, rt: &R) -> u64
+    /// The seconds since 1970. They are 0 if the clock cannot be read or is out of range; the log says so once.
+    pub(crate) fn now<R: Wait + Clock>(&self, rt: &R, log: &Log) -> u64
         ensures { result < moment_limit }
     {
-        match rt.since_1970() {
-            Ok(since) if since.as_secs() < MOMENT_LIMIT => since.as_secs(),
-            _ => {
+        match moment(rt) {
+            Some(moment) => moment,
+            None => {
                 if !self.is_told.swap(true, Ordering::SeqCst) {
-                    let _ = rt.eprintln(NO_TIME);
+                    log.note(rt, Event::Clock);
                 }
                 0
             }

@@ -4,24 +4,34 @@ ghost use Rattle.std.specs.Prelude.{◌≡◌};
 ghost use Rattle.journal.specs.Journal.{IsIdle};
 
 use disk::Disk;
-use flusher::FlushError;
+use flusher::{FlushError, Marks, Tally, VolumeFacts};
 use journal::Journal;
+use logging::Log;
 use mark::{FlushSeat, Mark, Seat};
+use networks::Network;
 use releasing::Limits;
 use std::alloc::AllocError;
 use std::net::TcpListener;
 use thiserror::Error;
 
-/// An opened volume and its kernel, the mark of what is durable with two of its seats, and the listener for the callers. `gate` is
-/// called before and after each flush and each write of replies.
+/// An opened volume and its kernel, the mark of what is durable with two of its seats, what is known and counted of the
+/// volume, the listeners for the callers and the log. `gate` is called before and after each flush and each write of replies.
 #[derive(Drop)]
 pub struct Server<'a, D: Disk, K, G> {
-    pub listener: &'a TcpListener,
+    /// At least one. All callers have the same sessions.
+    pub listeners: &'a [TcpListener],
+    /// The networks from which callers are let in, besides the loopback networks.
+    pub networks: &'a [Network],
+    pub log: &'a Log,
     pub journal: Journal<D>,
     pub kern: &'a K,
     pub mark: &'a Mark,
     pub flush_seat: FlushSeat,
     pub seat: Seat,
+    pub facts: VolumeFacts<'a>,
+    /// The marks of used blocks on the device.
+    pub marks: Marks,
+    pub tally: &'a Tally,
     pub gate: &'a G,
     pub limits: Limits,
     ghost idle: { IsIdle journal },
@@ -29,7 +39,7 @@ pub struct Server<'a, D: Disk, K, G> {
     ghost looks: { seat.mark ≡ mark.now },
 }
 
-/// Why the server ends.
+/// Why the server fails.
 #[derive(Clone, Copy, Debug, Drop, PartialEq, Eq, Error)]
 pub enum ServeError {
     /// The device failed.

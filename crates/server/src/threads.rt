@@ -3,29 +3,41 @@
 ghost use Rattle.std.specs.Prelude.{◌≡◌};
 ghost use Rattle.journal.specs.Journal.{IsIdle};
 
-use crate::accepting::accept_all;
-use crate::answering::{Call, SessionThread};
-use crate::lingering::{FAREWELLS, Parting, linger_all};
+use crate::answering::SessionThread;
 use crate::moments::Moments;
+use crate::watching::Watching;
 use crate::{ServeError, Server};
+use accepting::{Acceptor, Call, Doors, FAREWELLS, Parting, linger_all};
 use crossbeam_channel::{Receiver, Sender, bounded};
 use disk::Disk;
-use flusher::{BatchBuf, Bells, FlushError, Gate, Kern, Ringing, SESSIONS, flush_all};
-use journal::Journal;
-use mark::{FlushSeat, Mark, Seat};
+use flusher::{
+    BatchBuf, Bells, Ended, FlushError, Flusher, Gate, Kern, Ringing, SESSIONS, Tally, VolumeFacts,
+    flush_all,
+};
+use logging::{Event, Log};
+use mark::{Mark, Seat};
 use operator::Operator;
 use releasing::{Closing, ReplyWriter, Shared, release_all};
 use std::alloc::{AllocError, Global};
 use std::io::{BufRead, Write};
-use std::net::TcpListener;
+use std::net::{Net, TcpListener, TcpStream};
 use std::sync::Wait;
 use std::thread::{self, JoinHandle, Scope, Threads};
 use std::time::Clock;
 
-/// Serves the callers of a listener and the operator's lines, until a turn of the flusher is refused. Then the next
-/// caller gets the reply that the service ends, what is durable is released, all threads end, and the result says why.
+/// Serves the callers of some listeners and the operator's lines, until the operator stops the server or a turn of the
+/// flusher is refused. Then callers get the reply that the service ends, what is durable is released, all threads end,
+/// and the result says why: `Ok` after a stop. After a refusal the acceptors end with the next caller of any of them
+/// that is let in.
 pub fn serve<
-    R: Threads + Wait + Clock + Eprint + Copy + Send + Sync + 'static,
+    R: Net<Listener = TcpListener, Stream = TcpStream>
+        + Threads
+        + Wait
+        + Clock
+        + Copy
+        + Send
+        + Sync
+        + 'static,
     D: Disk + Drop,
     K: Kern + Sync,
     G: Gate + Sync,
@@ -40,12 +52,17 @@ pub fn serve<
 ) -> Result<(), ServeError> {
     let (bells, closing) = (Bells::new(), Closing::new());
     let Server {
-        listener,
+        listeners,
+        networks,
+        log,
         journal,
         kern,
         mark,
         flush_seat,
         seat,
+        facts,
+        marks,
+        tally,
         gate,
         limits,
     } = server;
@@ -54,7 +71,9 @@ pub fn serve<
         writers,
         channels,
         caller,
-    } = Parts::make(rt, alloc, lines, answers)?;
+        acceptors,
+    } = Parts::make(rt, alloc, listeners.len(), lines, answers)?;
+    let doors = Doors::new(listeners, networks);
     let shared = Shared {
         rt,
         alloc,
@@ -70,10 +89,22 @@ pub fn serve<
         mark,
         seat: flush_seat,
         batch,
+        marks,
+        tally,
     };
-    let looker = Looker { mark, seat };
-    let ends = Ends { listener, caller };
-    Err(run(&shared, &channels, flusher, looker, ends))
+    let looker = Looker {
+        mark,
+        seat,
+        tally,
+        facts,
+    };
+    let hall = Hall {
+        shared: &shared,
+        channels: &channels,
+        doors: &doors,
+        log,
+    };
+    run(&hall, flusher, looker, Acceptors { caller, acceptors })
 }
 
 /// The parts that take memory before the threads start.
@@ -83,6 +114,7 @@ struct Parts {
     writers: Vec<ReplyWriter>,
     channels: Channels,
     caller: Sender<Call>,
+    acceptors: Vec<JoinHandle<()>>,
 }
 
 /// The channels between the threads, and the clock that they read.
@@ -95,29 +127,39 @@ struct Channels {
     moments: Moments,
 }
 
-/// What the acceptor has: the callers that arrive, and the way to the sessions' threads.
+/// What the threads of a server share.
+struct Hall<'a, R, K, G> {
+    shared: &'a Shared<'a, R, K, G>,
+    channels: &'a Channels,
+    doors: &'a Doors<'a>,
+    log: &'a Log,
+}
+
+impl<'a, R, K, G> Drop for Hall<'a, R, K, G> {
+    fn drop(self) {
+        let Hall {
+            shared: _,
+            channels: _,
+            doors: _,
+            log: _,
+        } = self;
+    }
+}
+
+/// The way to the sessions' threads, and room for the threads of the acceptors.
 #[derive(Drop)]
-struct Ends<'a> {
-    listener: &'a TcpListener,
+struct Acceptors {
     caller: Sender<Call>,
+    acceptors: Vec<JoinHandle<()>>,
 }
 
-/// What the flusher has.
-#[derive(Drop)]
-struct Flusher<'a, D: Disk> {
-    journal: Journal<D>,
-    mark: &'a Mark,
-    seat: FlushSeat,
-    batch: BatchBuf,
-    ghost idle: { IsIdle journal },
-    ghost flushes: { seat.mark ≡ mark.now },
-}
-
-/// What the operator's thread reads the mark with.
+/// What the operator's thread looks at.
 #[derive(Drop)]
 struct Looker<'a> {
     mark: &'a Mark,
     seat: Seat,
+    tally: &'a Tally,
+    facts: VolumeFacts<'a>,
     ghost looks: { seat.mark ≡ mark.now },
 }
 
@@ -127,9 +169,10 @@ impl Parts {
         R: Threads + Wait + Copy + Send + 'static,
         L: BufRead + Send + Drop + 'static,
         A: Write + Send + Drop + 'static,
-    >(rt: &R, alloc: Global, lines: L, answers: A) -> Result<Parts, ServeError> {
+    >(rt: &R, alloc: Global, acceptors: usize, lines: L, answers: A) -> Result<Parts, ServeError> {
         let batch = BatchBuf::new(alloc)?;
         let writers = make_writers(alloc)?;
+        let acceptors = Vec::with_capacity(alloc, acceptors)?;
         let (caller, calls) = bounded(alloc, SESSIONS)?;
         let (parting, partings) = bounded(alloc, FAREWELLS)?;
         let operator = Operator::start(rt, alloc, lines, answers)?;
@@ -145,6 +188,7 @@ impl Parts {
             writers,
             channels,
             caller,
+            acceptors,
         })
     }
 }
@@ -161,152 +205,198 @@ fn make_writers(alloc: Global) -> Result<Vec<ReplyWriter>, AllocError> {
 /// Runs all threads except the two that wait for the operator. The calling thread flushes.
 fn run<
     'a,
-    R: Threads + Wait + Clock + Eprint + Sync,
+    R: Net<Listener = TcpListener, Stream = TcpStream> + Threads + Wait + Clock + Sync,
     D: Disk + Drop,
     K: Kern + Sync,
     G: Gate + Sync,
 >(
-    shared: &'a Shared<'a, R, K, G>,
-    channels: &'a Channels,
+    hall: &'a Hall<'a, R, K, G>,
     flusher: Flusher<'a, D>,
     looker: Looker<'a>,
-    ends: Ends<'a>,
-) -> ServeError {
-    thread::scope(thread::scope_env(), shared.rt, move |scope| -> ServeError {
-        let has_sessions = start_sessions(scope, shared, channels);
-        let has_others = start_others(scope, shared, channels, looker);
-        let acceptor = if has_sessions && has_others {
-            start_accepting(scope, shared, ends)
-        } else {
-            None
-        };
-        let Some(acceptor) = acceptor else {
-            give_up(shared, flusher);
-            wake(shared, channels);
-            end(shared, channels);
-            return ServeError::Memory;
-        };
-        let error = flush(shared, flusher);
-        wake(shared, channels);
-        acceptor.join(shared.rt);
-        end(shared, channels);
-        ServeError::from(error)
-    })
+    acceptors: Acceptors,
+) -> Result<(), ServeError> {
+    let Shared { rt, .. } = hall.shared;
+    thread::scope(
+        thread::scope_env(),
+        *rt,
+        move |scope| -> Result<(), ServeError> {
+            let facts = looker.facts;
+            let has_sessions = start_sessions(scope, hall);
+            let has_others = start_others(scope, hall, looker);
+            let Acceptors {
+                caller,
+                mut acceptors,
+            } = acceptors;
+            let has_acceptors = has_sessions
+                && has_others
+                && start_accepting(scope, hall, caller, &mut acceptors);
+            let outcome = if has_acceptors {
+                flush(hall, flusher, facts)
+            } else {
+                give_up(hall.shared, flusher);
+                Err(ServeError::Memory)
+            };
+            wake(hall);
+            if matches!(outcome, Ok(()) | Err(ServeError::Memory)) {
+                hall.doors.shut(*rt, None);
+            }
+            for acceptor in acceptors {
+                acceptor.join(*rt);
+            }
+            end(hall);
+            outcome
+        },
+    )
 }
 
 /// Starts the threads of all sessions. It is false if the system cannot start all.
-fn start_sessions<'s, E, R: Wait + Clock + Eprint + Sync, K: Kern + Sync, G: Gate + Sync>(
+fn start_sessions<'s, E, R: Wait + Clock + Sync, K: Kern + Sync, G: Gate + Sync>(
     scope: &Scope<'s, E>,
-    shared: &'s Shared<'s, R, K, G>,
-    channels: &'s Channels,
+    hall: &'s Hall<'s, R, K, G>,
 ) -> bool {
     let mut is_started = true;
-    for writer in shared.writers {
-        is_started &= start_session(scope, shared, channels, writer);
+    for writer in hall.shared.writers {
+        is_started &= start_session(scope, hall, writer);
     }
     is_started
 }
 
 /// Starts the releaser, the thread that lingers and the operator's. It is false if the system cannot start all.
-fn start_others<'s, E, R: Wait + Clock + Eprint + Sync, K: Kern + Sync, G: Gate + Sync>(
+fn start_others<'s, E, R: Wait + Clock + Sync, K: Kern + Sync, G: Gate + Sync>(
     scope: &Scope<'s, E>,
-    shared: &'s Shared<'s, R, K, G>,
-    channels: &'s Channels,
+    hall: &'s Hall<'s, R, K, G>,
     looker: Looker<'s>,
 ) -> bool {
-    let releaser = scope.spawn(move || release_all(shared));
-    let lingerer = scope.spawn(move || linger(shared, channels));
-    let operator = scope.spawn(move || answer_lines(shared, channels, looker));
+    let releaser = scope.spawn(move || release_all(hall.shared));
+    let lingerer = scope.spawn(move || linger(hall));
+    let operator = scope.spawn(move || answer_lines(hall, looker));
     releaser.is_ok() && lingerer.is_ok() && operator.is_ok()
 }
 
-/// Starts the acceptor; `None` if the system cannot start a thread.
-fn start_accepting<'s, E, R: Wait + Clock + Sync, K: Kern + Sync, G: Sync>(
+/// Starts an acceptor for each listener. It is false if the system cannot start all.
+fn start_accepting<
+    's,
+    E,
+    R: Net<Listener = TcpListener, Stream = TcpStream> + Wait + Clock + Sync,
+    K: Kern + Sync,
+    G: Sync,
+>(
     scope: &Scope<'s, E>,
-    shared: &'s Shared<'s, R, K, G>,
-    ends: Ends<'s>,
-) -> Option<JoinHandle<()>> {
-    scope.spawn(move || accept_calls(shared, ends)).ok()
-}
-
-/// Accepts callers until the kernel is halted.
-fn accept_calls<R: Wait + Clock, K: Kern, G>(shared: &Shared<'_, R, K, G>, ends: Ends<'_>) {
-    let Ends { listener, caller } = ends;
-    accept_all(shared, listener, caller)
+    hall: &'s Hall<'s, R, K, G>,
+    caller: Sender<Call>,
+    acceptors: &mut Vec<JoinHandle<()>>,
+) -> bool {
+    for (place, listener) in hall.doors.listeners.iter().enumerate() {
+        let Ok(calls) = caller.clone() else {
+            return false;
+        };
+        let acceptor = Acceptor {
+            shared: hall.shared,
+            doors: hall.doors,
+            place,
+            log: hall.log,
+            calls,
+        };
+        let Ok(thread) = scope.spawn(move || acceptor.accept_all(listener)) else {
+            return false;
+        };
+        if acceptors.push(thread).is_err() {
+            return false;
+        }
+    }
+    true
 }
 
 /// Reads from the callers whose sessions are closed.
-fn linger<R: Wait + Clock, K, G>(shared: &Shared<'_, R, K, G>, channels: &Channels) {
-    linger_all(
-        shared.rt,
-        shared.closing,
-        shared.limits.linger,
-        &channels.partings,
-    )
+fn linger<R: Wait + Clock, K, G>(hall: &Hall<'_, R, K, G>) {
+    let Shared {
+        rt,
+        closing,
+        limits,
+        ..
+    } = hall.shared;
+    linger_all(*rt, *closing, limits.linger, &hall.channels.partings)
 }
 
 /// Starts a session's thread and the one that finishes its writes. It is false if the system cannot start both.
-fn start_session<'s, E, R: Wait + Clock + Eprint + Sync, K: Kern + Sync, G: Gate + Sync>(
+fn start_session<'s, E, R: Wait + Clock + Sync, K: Kern + Sync, G: Gate + Sync>(
     scope: &Scope<'s, E>,
-    shared: &'s Shared<'s, R, K, G>,
-    channels: &'s Channels,
+    hall: &'s Hall<'s, R, K, G>,
     writer: &'s ReplyWriter,
 ) -> bool {
-    let rests = scope.spawn(move || writer.write_rests(shared));
+    let rests = scope.spawn(move || writer.write_rests(hall.shared));
     let session = scope.spawn(move || {
         let thread = SessionThread {
-            shared,
+            shared: hall.shared,
             writer,
-            moments: &channels.moments,
-            partings: &channels.parting,
+            moments: &hall.channels.moments,
+            log: hall.log,
+            partings: &hall.channels.parting,
         };
-        thread.serve_calls(&channels.calls)
+        thread.serve_calls(&hall.channels.calls)
     });
     rests.is_ok() && session.is_ok()
 }
 
 /// Makes the changes that the operator's lines ask for, and has them answered.
-fn answer_lines<R: Wait + Clock, K: Kern, G>(
-    shared: &Shared<'_, R, K, G>,
-    channels: &Channels,
-    looker: Looker<'_>,
-) {
-    let Looker { mark, seat } = looker;
-    let service = operator::Service {
-        rt: shared.rt,
-        alloc: shared.alloc,
-        kern: shared.kern,
+fn answer_lines<R: Wait + Clock, K: Kern, G>(hall: &Hall<'_, R, K, G>, looker: Looker<'_>) {
+    let Shared {
+        rt,
+        alloc,
+        kern,
+        bells,
+        ..
+    } = hall.shared;
+    let Looker {
         mark,
-        bells: shared.bells,
+        seat,
+        tally,
+        facts,
+    } = looker;
+    let service = operator::Service {
+        rt: *rt,
+        alloc: *alloc,
+        kern: *kern,
+        mark,
+        bells: *bells,
+        tally,
+        facts,
     };
-    channels.operator.answer_all(&service, seat)
+    hall.channels.operator.answer_all(&service, seat)
 }
 
-/// Flushes until a turn is refused.
-fn flush<R: Wait, D: Disk + Drop, K: Kern, G: Gate>(
-    shared: &Shared<'_, R, K, G>,
+/// Flushes until a turn is refused or a stop is done. The log tells of a refusal.
+fn flush<R: Wait + Clock, D: Disk + Drop, K: Kern, G: Gate>(
+    hall: &Hall<'_, R, K, G>,
     flusher: Flusher<'_, D>,
-) -> FlushError {
-    let Flusher {
-        journal,
-        mark,
-        seat,
-        batch,
-    } = flusher;
+    facts: VolumeFacts<'_>,
+) -> Result<(), ServeError> {
+    let Shared {
+        rt,
+        kern,
+        bells,
+        ..
+    } = hall.shared;
+    let watching = Watching::new(hall.shared, hall.log, flusher.tally, facts);
     let ringing = Ringing {
-        bells: shared.bells,
-        gate: shared.gate,
+        bells: *bells,
+        gate: &watching,
     };
-    flush_all(
-        shared.rt,
-        journal,
-        shared.kern,
-        mark,
-        seat,
-        batch,
-        &ringing,
-        shared.bells,
-    )
+    match flush_all(*rt, flusher, *kern, &ringing, *bells) {
+        Ended::Stopped => Ok(()),
+        Ended::Failed(error) => {
+            hall.log.note(*rt, event_of(error));
+            Err(ServeError::from(error))
+        }
+    }
+}
+
+/// What the log tells of a refused turn.
+fn event_of(error: FlushError) -> Event {
+    match error {
+        FlushError::Fault => Event::Fault,
+        FlushError::Halted => Event::Halted,
+    }
 }
 
 /// Gives up because there are no threads for callers: nothing is flushed any more.
@@ -320,16 +410,17 @@ fn give_up<R: Wait, D: Disk + Drop, K: Kern, G>(
     mark.stop(&mut seat);
 }
 
-/// Wakes the threads that wait for the flusher. The acceptor ends after one more caller has arrived.
-fn wake<R: Wait, K, G>(shared: &Shared<'_, R, K, G>, channels: &Channels) {
-    shared.bells.operator.unpark();
-    shared.bells.releaser.unpark();
-    shared.bells.later.ring();
-    channels.operator.end(shared.rt);
+/// Wakes the threads that wait for the flusher, except the acceptors, which end after one more caller has arrived.
+fn wake<R: Wait, K, G>(hall: &Hall<'_, R, K, G>) {
+    let Shared { rt, bells, .. } = hall.shared;
+    bells.operator.unpark();
+    bells.releaser.unpark();
+    bells.later.ring();
+    hall.channels.operator.end(*rt);
 }
 
 /// Ends the callers and all threads, after the last caller was accepted.
-fn end<R: Wait, K, G>(shared: &Shared<'_, R, K, G>, channels: &Channels) {
-    shared.close();
-    let _ = channels.parting.send(shared.rt, Parting::End);
+fn end<R: Wait, K, G>(hall: &Hall<'_, R, K, G>) {
+    hall.shared.close();
+    let _ = hall.channels.parting.send(hall.shared.rt, Parting::End);
 }

@@ -4,7 +4,7 @@ use crate::gates::{Flags, Holds};
 use std::alloc::Global;
 use std::io::{BufRead, BufReader, Read, Write};
 use std::net::{Net, Shutdown, SocketAddr, TcpListener, TcpStream};
-use std::sync::atomic::{AtomicBool, Ordering};
+use std::sync::atomic::{AtomicBool, AtomicU64, Ordering};
 use std::thread;
 use std::time::{Clock, Duration};
 
@@ -23,6 +23,16 @@ const FIRST: &str =
 const SECOND: &str =
     "POST\r\nPath: p!not-for-mail\r\nDate: Sun, 09 Sep 2001 01:46:40 +0000\r\nMessage-ID: <2@a.example>\r\n\
     From: a@example.org\r\nNewsgroups: x.a\r\nSubject: two\r\n\r\nhi\r\n.\r\n";
+
+/// The most articles of a caller that posts until the server ends. Those of four callers find room.
+const ARTICLES: u64 = 12;
+
+/// Such an article, before and after the number in its message-id.
+const FRONT: &str =
+    "Path: p!not-for-mail\r\nDate: Sun, 09 Sep 2001 01:46:40 +0000\r\nMessage-ID: <";
+
+const BACK: &str =
+    "@a.example>\r\nFrom: a@example.org\r\nNewsgroups: x.a\r\nSubject: one\r\n\r\nhi\r\n.\r\n";
 
 const GREETING: &str = "200 news.example ready, posting permitted";
 
@@ -68,16 +78,30 @@ impl Caller {
         stream.write_all(text.as_bytes()).is_ok()
     }
 
+    /// The next line, with its CRLF; empty at the end.
+    fn line(&mut self) -> Vec<u8> {
+        let mut line = Vec::new(self.alloc);
+        let _ = self.replies.read_until(b'\n', &mut line);
+        line
+    }
+
     /// Whether the next line is this one.
     fn reads(&mut self, text: &str) -> bool {
-        let mut line = Vec::new(self.alloc);
-        match self.replies.read_until(b'\n', &mut line) {
-            Ok(count) if count > 0 => {}
-            _ => return false,
-        }
-        match line.as_slice() {
+        match self.line().as_slice() {
             [read @ .., b'\r', b'\n'] => read == text.as_bytes(),
             _ => false,
+        }
+    }
+
+    /// What the server says next to a caller that expects this line: whether it is that. `None` if it is neither that nor
+    /// the end of the service.
+    fn goes_on(&mut self, text: &str) -> Option<bool> {
+        let line = self.line();
+        match line.as_slice() {
+            [] => Some(false),
+            [read @ .., b'\r', b'\n'] if read == text.as_bytes() => Some(true),
+            [read @ .., b'\r', b'\n'] if read == b"400 Service ends".as_slice() => Some(false),
+            _ => None,
         }
     }
 
@@ -135,6 +159,47 @@ pub(crate) fn call<R: Net<Listener = TcpListener, Stream = TcpStream> + Clock>(
     let is_told = end(rt, alloc, address, flags, &caller);
     // what the device refused is never acknowledged
     is_good && is_told && (holds != Holds::Fault || caller.reads_end())
+}
+
+/// A caller posts one article after another until the server ends, and then reads the end. It counts those that are
+/// acknowledged. It is false if it reads another reply.
+pub(crate) fn post_until_end<R: Net<Listener = TcpListener, Stream = TcpStream>>(
+    rt: &R,
+    alloc: Global,
+    address: SocketAddr,
+    name: u64,
+    posted: &AtomicU64,
+) -> bool {
+    let Some(mut caller) = Caller::connect(rt, alloc, address) else {
+        return false;
+    };
+    if !caller.reads(GREETING) {
+        return false;
+    }
+    for number in 0..ARTICLES {
+        match post(&mut caller, alloc, number_of(name, number)) {
+            Some(true) => posted.fetch_add(1, Ordering::SeqCst),
+            Some(false) => return true,
+            None => return false,
+        };
+    }
+    caller.line().is_empty()
+}
+
+/// The number of an article, from that of its caller and that among the caller's articles.
+fn number_of(caller: u64, number: u64) -> u64 {
+    caller.wrapping_mul(ARTICLES).wrapping_add(number)
+}
+
+/// Posts an article. It is `Some` of whether it is acknowledged, or the server ended; `None` if another reply came.
+fn post(caller: &mut Caller, alloc: Global, number: u64) -> Option<bool> {
+    caller.sends("POST\r\n");
+    if !caller.goes_on("340 Send article")? {
+        return Some(false);
+    }
+    let text = format!(in alloc; "{FRONT}{number}{BACK}").ok()?;
+    caller.sends(&text);
+    caller.goes_on("240 Article received")
 }
 
 /// A caller posts, reads the article back and gets all replies in order.
@@ -247,7 +312,7 @@ fn end<R: Net<Listener = TcpListener, Stream = TcpStream> + Clock>(
 }
 
 /// Connects again and again until a caller gets the reply that the service ends.
-fn comes_until_told<R: Net<Listener = TcpListener, Stream = TcpStream> + Clock>(
+pub(crate) fn comes_until_told<R: Net<Listener = TcpListener, Stream = TcpStream> + Clock>(
     rt: &R,
     alloc: Global,
     address: SocketAddr,

@@ -2,6 +2,7 @@
 
 use crate::kernels::Watch;
 use flusher::{Arrivals, Gate};
+use memdisk::MemDisk;
 use std::alloc::{AllocError, Global};
 use std::sync::atomic::{AtomicBool, AtomicU64, Ordering};
 use std::sync::{Arc, Mutex, Wait};
@@ -33,6 +34,10 @@ pub(crate) struct Flags {
     pub(crate) answered: Arc<AtomicU64>,
     /// The number of releases that have begun.
     releases: AtomicU64,
+    /// The number of articles that were acknowledged to their callers.
+    pub(crate) posted: Arc<AtomicU64>,
+    /// The device, once the server has ended.
+    pub(crate) place: Mutex<Option<MemDisk>>,
 }
 
 impl Flags {
@@ -45,6 +50,8 @@ impl Flags {
             over: AtomicBool::new(false),
             answered: Arc::new(alloc, AtomicU64::new(0))?,
             releases: AtomicU64::new(0),
+            posted: Arc::new(alloc, AtomicU64::new(0))?,
+            place: Mutex::new(None),
         })
     }
 

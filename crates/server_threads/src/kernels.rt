@@ -4,8 +4,8 @@ ghost use Rattle.std.specs.Prelude.{◌≡◌};
 
 use crate::gates::Flags;
 use flusher::{
-    AdminError, Answered, BatchBuf, ExecError, ExpireError, JoinError, Kern, Kernel, Locked, Stale,
-    Ticket,
+    AdminError, Answered, BatchBuf, Counts, ExecError, ExpireError, JoinError, Kern, Kernel,
+    Locked, Stale, Ticket,
 };
 use mark::{Mark, Seat};
 use model::{Message, Mode};
@@ -118,5 +118,13 @@ impl<'a> Kern for Watched<'a> {
 
     fn halt<R: Wait>(&self, rt: &R) {
         self.inner.halt(rt);
+    }
+
+    fn halt_if_clean<R: Wait>(&self, rt: &R) -> bool {
+        self.inner.halt_if_clean(rt)
+    }
+
+    fn counts<R: Wait>(&self, rt: &R) -> Counts {
+        self.inner.counts(rt)
     }
 }

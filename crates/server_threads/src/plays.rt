@@ -4,21 +4,27 @@ ghost use Rattle.std.specs.Prelude.{◌≡◌, IfSome};
 ghost use Rattle.journal.specs.Journal.{IsIdle, IsReady};
 
 use crate::callers::call;
+use crate::disks::Lent;
 use crate::gates::{Flags, Holds, TestGate};
 use crate::kernels::{Watch, Watched};
 use disk::{DiskCall, Faults};
-use flusher::{BatchBuf, FlushError, Kern, Kernel, Locked, NoGate, Stale, flush_turn};
+use flusher::{
+    BatchBuf, Counts, Gate, Kern, Kernel, Locked, Marks, NoGate, Stale, Tally, VolumeFacts,
+    flush_turn,
+};
 use journal::Journal;
+use logging::{Log, Verbosity};
 use mark::{FlushSeat, Mark, Seat};
-use memdisk::MemDisk;
+use memdisk::{MemDisk, Pick};
 use names::{GroupName, is_host};
 use new_volume::{Plan, are_sizes, device_octets, format};
 use server::{Limits, ServeError, Server, serve};
 use std::alloc::Global;
-use std::io::{self, Write};
+use std::io::{self, BufRead, Write};
 use std::net::{Ipv4Addr, Net, SocketAddr, TcpListener, TcpStream};
+use std::slice::from_ref;
 use std::sync::atomic::{AtomicU64, Ordering};
-use std::sync::{Arc, Wait};
+use std::sync::{Arc, Mutex, Wait};
 use std::thread::{Parker, Threads, join};
 use std::time::Clock;
 
@@ -28,6 +34,12 @@ const HOST: &[u8] = b"news.example";
 const BLOCKS: u64 = 1024;
 
 const INODES: u64 = 64;
+
+/// The marks of used blocks that the plays begin with.
+const MARKS: Marks = Marks {
+    first: 0,
+    second: 0,
+};
 
 /// The outcome of a play.
 #[derive(Clone, Copy, Debug, PartialEq, Eq)]
@@ -73,7 +85,11 @@ impl<R: Wait> Write for Answers<R> {
 }
 
 /// A new volume in memory, opened.
-fn open_volume(alloc: Global, plan: &Plan<'_>) -> Option<(Journal<MemDisk>, Kernel)>
+fn open_volume<'a>(
+    alloc: Global,
+    plan: &Plan<'_>,
+    place: &'a Mutex<Option<MemDisk>>,
+) -> Option<(Journal<Lent<'a, MemDisk>>, Kernel)>
     ensures { IfSome result (λ opened. IsReady opened.0) }
 {
     let Ok(disk) = MemDisk::new(alloc, device_octets(plan.blocks)) else {
@@ -82,6 +98,16 @@ fn open_volume(alloc: Global, plan: &Plan<'_>) -> Option<(Journal<MemDisk>, Kern
     let Ok(disk) = format(alloc, disk, plan) else {
         return None;
     };
+    open_lent(alloc, Lent::new(disk, place))
+}
+
+/// A volume in memory, opened.
+fn open_lent<'a>(
+    alloc: Global,
+    disk: Lent<'a, MemDisk>,
+) -> Option<(Journal<Lent<'a, MemDisk>>, Kernel)>
+    ensures { IfSome result (λ opened. IsReady opened.0) }
+{
     let Ok(mut journal) = Journal::open(alloc, disk) else {
         return None;
     };
@@ -113,8 +139,8 @@ fn add_group<K: Kern, R: Wait>(rt: &R, alloc: Global, kern: &K, name: &[u8]) -> 
 
 /// A server that is about to serve a volume with the groups `x.a` and `x.b`, which are durable.
 #[derive(Drop)]
-struct Stage<'a> {
-    journal: Journal<MemDisk>,
+pub(crate) struct Stage<'a> {
+    journal: Journal<Lent<'a, MemDisk>>,
     kern: Watched<'a>,
     mark: &'a Mark,
     flush_seat: FlushSeat,
@@ -126,7 +152,7 @@ struct Stage<'a> {
 }
 
 impl<'a> Stage<'a> {
-    fn new<R: Wait>(
+    pub(crate) fn new<R: Wait>(
         rt: &R,
         alloc: Global,
         mark: &'a Mark,
@@ -139,7 +165,7 @@ impl<'a> Stage<'a> {
     {
         let mut flush_seat = flush_seat;
         let mut seat = seat;
-        let (mut journal, kernel) = open_volume(alloc, &plan()?)?;
+        let (mut journal, kernel) = open_volume(alloc, &plan()?, &flags.place)?;
         let watch = Watch::new(mark, mark.another(&mut seat));
         let kern = Watched::new(kernel, watch, flags);
         let Ok(mut batch) = BatchBuf::new(alloc) else {
@@ -177,14 +203,58 @@ impl<'a> Stage<'a> {
         }
     }
 
+    /// Makes the device fail at its n-th sync from now on, if n is not 0.
+    pub(crate) fn fail_sync(&mut self, n: u64) {
+        self.journal.fail_kind(DiskCall::Sync, n);
+    }
+
     /// Serves callers until a commit or the device fails.
-    fn serve<R: Threads + Wait + Clock + Eprint + Copy + Send + Sync + 'static>(
+    fn serve<
+        R: Net<Listener = TcpListener, Stream = TcpStream>
+            + Threads
+            + Wait
+            + Clock
+            + Copy
+            + Send
+            + Sync
+            + 'static,
+    >(self, rt: &R, alloc: Global, listener: &TcpListener, holds: Holds) -> ServeError {
+        let flags = self.flags;
+        let mut stage = self;
+        let watch = Watch::new(stage.mark, stage.mark.another(&mut stage.seat));
+        let gate = TestGate::new(flags, holds, watch);
+        let lines: &'static [u8] = match holds {
+            Holds::Answer => b"group x.c y 1000000000 test\n",
+            Holds::Unread => b"spool\ngroup x.c y 1000000000 test\n",
+            _ => b"",
+        };
+        let served = stage.start(rt, alloc, listener, &gate, (lines, holds != Holds::Unread));
+        match served.ended {
+            Ok(()) => ServeError::Memory,
+            Err(error) => error,
+        }
+    }
+
+    /// Serves callers and the operator's lines to the end. The operator may read no answers.
+    pub(crate) fn start<
+        R: Net<Listener = TcpListener, Stream = TcpStream>
+            + Threads
+            + Wait
+            + Clock
+            + Copy
+            + Send
+            + Sync
+            + 'static,
+        G: Gate + Sync,
+        L: BufRead + Send + Drop + 'static,
+    >(
         self,
         rt: &R,
         alloc: Global,
         listener: &TcpListener,
-        holds: Holds,
-    ) -> ServeError {
+        gate: &G,
+        (lines, is_read): (L, bool),
+    ) -> Served {
         let Stage {
             journal,
             kern,
@@ -193,38 +263,133 @@ impl<'a> Stage<'a> {
             seat,
             flags,
         } = self;
-        let mut seat = seat;
-        let watch = Watch::new(mark, mark.another(&mut seat));
-        let gate = TestGate::new(flags, holds, watch);
-        let lines: &'static [u8] = match holds {
-            Holds::Answer => b"group x.c y 1000000000 test\n",
-            Holds::Unread => b"spool\ngroup x.c y 1000000000 test\n",
-            _ => b"",
-        };
-        let Ok(answered) = Arc::try_clone(&flags.answered) else {
-            return ServeError::Memory;
+        let Some((answered, syncs, log)) = counts_and_log(rt, alloc, flags) else {
+            return Served {
+                ended: Err(ServeError::Memory),
+                counts: kern.counts(rt),
+            };
         };
         let answers = Answers {
             rt: *rt,
             answered,
-            is_read: holds != Holds::Unread,
+            is_read,
         };
-        let server = Server {
+        let tally = Tally::new(MARKS, syncs);
+        let parts = Parts {
             listener,
+            log: &log,
             journal,
             kern: &kern,
             mark,
             flush_seat,
             seat,
-            gate: &gate,
-            limits: Limits::standard(),
+            host: HOST,
+            tally: &tally,
+            gate,
         };
-        let ended = serve(rt, alloc, server, lines, answers);
-        match ended {
-            Ok(()) => ServeError::Memory,
-            Err(error) => error,
+        let ended = serve_parts(rt, alloc, parts, lines, answers);
+        log.end(rt);
+        Served {
+            ended,
+            counts: kern.counts(rt),
         }
     }
+}
+
+/// The parts of a server.
+#[derive(Drop)]
+struct Parts<'a, 'm, G> {
+    listener: &'a TcpListener,
+    log: &'a Log,
+    journal: Journal<Lent<'m, MemDisk>>,
+    kern: &'a Watched<'m>,
+    mark: &'a Mark,
+    flush_seat: FlushSeat,
+    seat: Seat,
+    host: &'a [u8],
+    tally: &'a Tally,
+    gate: &'a G,
+    ghost idle: { IsIdle journal },
+    ghost flushes: { flush_seat.mark ≡ mark.now },
+    ghost looks: { seat.mark ≡ mark.now },
+}
+
+/// Serves these parts.
+fn serve_parts<
+    R: Net<Listener = TcpListener, Stream = TcpStream>
+        + Threads
+        + Wait
+        + Clock
+        + Copy
+        + Send
+        + Sync
+        + 'static,
+    G: Gate + Sync,
+    L: BufRead + Send + Drop + 'static,
+    A: Write + Send + Drop + 'static,
+>(rt: &R, alloc: Global, parts: Parts<'_, '_, G>, lines: L, answers: A) -> Result<(), ServeError> {
+    let Parts {
+        listener,
+        log,
+        journal,
+        kern,
+        mark,
+        flush_seat,
+        seat,
+        host,
+        tally,
+        gate,
+    } = parts;
+    let facts = VolumeFacts {
+        host,
+        format: 1,
+        blocks: BLOCKS,
+        inodes: INODES,
+    };
+    let server = Server {
+        listeners: from_ref(listener),
+        networks: &[],
+        log,
+        journal,
+        kern,
+        mark,
+        flush_seat,
+        seat,
+        facts,
+        marks: MARKS,
+        tally,
+        gate,
+        limits: Limits::standard(),
+    };
+    serve(rt, alloc, server, lines, answers)
+}
+
+/// How a server ended, and what its kernel held then.
+#[derive(Clone, Copy)]
+pub(crate) struct Served {
+    pub(crate) ended: Result<(), ServeError>,
+    pub(crate) counts: Counts,
+}
+
+/// The count of what the operator reads, one of syncs, and a log that nobody reads.
+fn counts_and_log<R: Threads + Wait + Clock + Copy + Send + 'static>(
+    rt: &R,
+    alloc: Global,
+    flags: &Flags,
+) -> Option<(Arc<AtomicU64, Global>, Arc<AtomicU64, Global>, Log)> {
+    let answered = Arc::try_clone(&flags.answered).ok()?;
+    let syncs = Arc::new(alloc, AtomicU64::new(0)).ok()?;
+    let log = Log::start(rt, alloc, io::sink(), Verbosity::All).ok()?;
+    Some((answered, syncs, log))
+}
+
+/// The changes that a device holds after a crash that leaves only what is durable.
+pub(crate) fn changes_on(alloc: Global, disk: MemDisk) -> Option<u64> {
+    let mut disk = disk;
+    disk.crash(&[Pick::Old]);
+    let place = Mutex::new(None);
+    let (_, kernel) = open_lent(alloc, Lent::new(disk, &place))?;
+    Some(kernel.len())
 }
 
 /// Whether a turn of the flusher raises the mark, and not before its batch is reported as committed.
@@ -245,7 +410,8 @@ pub(crate) fn raises_after_commit<R: Wait>(rt: &R, alloc: Global) -> bool {
 /// The answers of a kernel to a ticket in time, to the same ticket again, and to that of a batch that a halt left in
 /// flight.
 pub(crate) fn tell<R: Wait>(rt: &R, alloc: Global) -> Option<[Result<(), Stale>; 3]> {
-    let (_, kernel) = open_volume(alloc, &plan()?)?;
+    let place = Mutex::new(None);
+    let (_, kernel) = open_volume(alloc, &plan()?, &place)?;
     let kern = Locked::new(kernel);
     let Ok(mut batch) = BatchBuf::new(alloc) else {
         return None;
@@ -266,7 +432,6 @@ pub(crate) fn play<
         + Threads
         + Wait
         + Clock
-        + Eprint
         + Copy
         + Send
         + Sync

@@ -1,0 +1,314 @@
+//! The acceptors: each has a listener, and joins a session for each caller that is let in.
+
+use crate::Call;
+use crate::lingering::read_at_once;
+use crossbeam_channel::Sender;
+use flusher::{JoinError, Kern};
+use logging::{Event, Log, Refusal};
+use networks::{Network, may_call};
+use releasing::{Shared, give_short_writes};
+use std::io::{self, Write};
+use std::net::{Net, Shutdown, SocketAddr, TcpListener, TcpStream};
+use std::sync::atomic::{AtomicBool, Ordering};
+use std::sync::{Arc, Wait};
+use std::thread;
+use std::time::{Clock, Duration};
+
+/// The reply to a caller that gets no session (RFC 3977, section 5.1.1).
+const SERVICE_ENDS: &[u8] = b"400 Service ends\r\n";
+
+/// The reply to a caller from an address that is not let in (RFC 3977, section 5.1.1).
+const ACCESS_DENIED: &[u8] = b"502 Access denied\r\n";
+
+/// How long an acceptor waits if the system gives it no socket, in milliseconds.
+const PAUSE_MILLIS: u64 = 10;
+
+/// An acceptor is called this often at the end, with a pause between two tries.
+const TRIES: u32 = 100;
+
+/// A call of an acceptor takes at most this many seconds.
+const CALL_SECS: u64 = 1;
+
+/// The doors of a server: one for each of its listeners.
+pub struct Doors<'a> {
+    pub listeners: &'a [TcpListener],
+    /// The networks from which callers are let in, besides the loopback networks.
+    pub networks: &'a [Network],
+    /// No door lets anybody in any more.
+    are_shut: AtomicBool,
+}
+
+impl<'a> Drop for Doors<'a> {
+    fn drop(self) {
+        let Doors {
+            listeners: _,
+            networks: _,
+            are_shut: _,
+        } = self;
+    }
+}
+
+impl<'a> Doors<'a> {
+    /// Open doors.
+    pub fn new(listeners: &'a [TcpListener], networks: &'a [Network]) -> Doors<'a> {
+        Doors {
+            listeners,
+            networks,
+            are_shut: AtomicBool::new(false),
+        }
+    }
+
+    /// Shuts the doors, once, and calls each acceptor except the one with this number, so that it ends. If the system
+    /// gives no socket for such a call, or a listener's address cannot be called, that acceptor ends with its next
+    /// caller from outside.
+    pub fn shut<R: Net<Listener = TcpListener, Stream = TcpStream> + Clock>(
+        &self,
+        rt: &R,
+        own: Option<usize>,
+    ) {
+        if self.are_shut.swap(true, Ordering::SeqCst) {
+            return;
+        }
+        for (place, listener) in self.listeners.iter().enumerate() {
+            if own != Some(place) {
+                knock(rt, listener);
+            }
+        }
+    }
+
+    fn are_shut(&self) -> bool {
+        self.are_shut.load(Ordering::SeqCst)
+    }
+}
+
+/// Calls an acceptor.
+fn knock<R: Net<Listener = TcpListener, Stream = TcpStream> + Clock>(
+    rt: &R,
+    listener: &TcpListener,
+) {
+    let Ok(address) = listener.local_addr() else {
+        return;
+    };
+    for _ in 0..TRIES {
+        if TcpStream::connect_timeout(rt, &address, Duration::from_secs(CALL_SECS)).is_ok() {
+            return;
+        }
+        thread::sleep(rt, Duration::from_millis(PAUSE_MILLIS));
+    }
+}
+
+/// The entrance for the callers of a listener. It keeps a second handle of the listener as a spare descriptor. If the
+/// system has none left for a caller, the spare is given up, so that the caller can be told that the service ends.
+#[derive(Drop)]
+struct Entrance<'a> {
+    listener: &'a TcpListener,
+    spare: Option<TcpListener>,
+}
+
+/// A caller that has no session yet, and its address.
+#[derive(Drop)]
+struct Newcomer {
+    stream: TcpStream,
+    peer: SocketAddr,
+}
+
+impl<'a> Entrance<'a> {
+    fn new(listener: &'a TcpListener) -> Entrance<'a> {
+        Entrance {
+            listener,
+            spare: listener.try_clone().ok(),
+        }
+    }
+
+    /// The next caller, possibly accepted with the spare descriptor. `None` if the system gives none: then a pause is
+    /// due.
+    fn next(&mut self) -> Option<Newcomer> {
+        let (stream, peer) = match self.listener.accept() {
+            Ok(accepted) => accepted,
+            Err(_) => {
+                self.spare.take()?;
+                self.listener.accept().ok()?
+            }
+        };
+        Some(Newcomer { stream, peer })
+    }
+
+    /// Whether there is a spare descriptor, after an attempt to get one. Without it no caller is served, because the
+    /// next one could not be refused with a reply.
+    fn is_open(&mut self) -> bool {
+        if self.spare.is_none() {
+            self.spare = self.listener.try_clone().ok();
+        }
+        self.spare.is_some()
+    }
+}
+
+/// An acceptor.
+pub struct Acceptor<'a, 'b, R, K, G> {
+    /// What the threads of the server share.
+    pub shared: &'b Shared<'a, R, K, G>,
+    pub doors: &'b Doors<'a>,
+    /// Which of the listeners is its own.
+    pub place: usize,
+    pub log: &'b Log,
+    pub calls: Sender<Call>,
+}
+
+impl<'a, 'b, R, K, G> Drop for Acceptor<'a, 'b, R, K, G> {
+    fn drop(self) {
+        let Acceptor {
+            shared: _,
+            doors: _,
+            place: _,
+            log: _,
+            calls,
+        } = self;
+        drop(calls);
+    }
+}
+
+impl<
+    'a,
+    'b,
+    R: Net<Listener = TcpListener, Stream = TcpStream> + Wait + Clock,
+    K: Kern,
+    G,
+> Acceptor<'a, 'b, R, K, G> {
+    /// Accepts the callers of a listener until the kernel is halted. A caller that cannot be served gets the reply that
+    /// the service ends, and one that is not let in the reply that says so. The first acceptor that finds the kernel
+    /// halted shuts the other doors, too.
+    pub fn accept_all(&self, listener: &TcpListener) {
+        let mut entrance = Entrance::new(listener);
+        for _ in self.shared.rt.forever() {
+            let newcomer = entrance.next();
+            if self.doors.are_shut() {
+                if let Some(newcomer) = newcomer {
+                    turn_away(&newcomer.stream, SERVICE_ENDS);
+                }
+                return;
+            }
+            let Some(newcomer) = newcomer else {
+                thread::sleep(self.shared.rt, Duration::from_millis(PAUSE_MILLIS));
+                continue;
+            };
+            match self.admit(newcomer, &mut entrance) {
+                Ok(()) => {}
+                Err(Over) => {
+                    self.doors.shut(self.shared.rt, Some(self.place));
+                    return;
+                }
+            }
+        }
+    }
+
+    /// Joins a session for a caller that is let in, and hands the caller to a session's thread. A caller that gets no
+    /// session is refused. `Over` if there will be none any more.
+    fn admit(&self, newcomer: Newcomer, entrance: &mut Entrance<'_>) -> Result<(), Over> {
+        if !may_call(self.doors.networks, newcomer.peer.ip()) {
+            self.note(newcomer.peer, Refusal::Access);
+            turn_away(&newcomer.stream, ACCESS_DENIED);
+            return Ok(());
+        }
+        match self.shared.kern.join(self.shared.rt, self.shared.alloc) {
+            Ok(sid) => self.welcome(newcomer, sid, entrance.is_open()),
+            Err(error) => {
+                self.refuse(&newcomer.stream, newcomer.peer, refusal_of(error));
+                if error == JoinError::Halted {
+                    return Err(Over);
+                }
+                Ok(())
+            }
+        }
+    }
+
+    /// Hands a caller whose session was joined to a session's thread. If that is not possible, or if the operator stops
+    /// the server, the session is left and the caller refused. `Over` if there are no such threads any more.
+    fn welcome(&self, newcomer: Newcomer, sid: u64, has_room: bool) -> Result<(), Over> {
+        let Shared {
+            rt,
+            alloc,
+            kern,
+            bells,
+            limits,
+            ..
+        } = self.shared;
+        let Newcomer { stream, peer } = newcomer;
+        if let Some(why) = obstacle(&stream, limits.silence, has_room, bells.is_stopping()) {
+            kern.leave(*rt, sid);
+            self.refuse(&stream, peer, why);
+            return Ok(());
+        }
+        match Arc::new(*alloc, stream) {
+            Ok(stream) => match self.calls.send(*rt, Call { sid, peer, stream }) {
+                Ok(()) => Ok(()),
+                Err(_) => Err(Over),
+            },
+            Err(refused) => {
+                kern.leave(*rt, sid);
+                self.refuse(&refused.value, peer, Refusal::Memory);
+                Ok(())
+            }
+        }
+    }
+
+    /// Tells a caller that the service ends, and notes why it got no session.
+    fn refuse(&self, stream: &TcpStream, peer: SocketAddr, why: Refusal) {
+        self.note(peer, why);
+        turn_away(stream, SERVICE_ENDS);
+    }
+
+    fn note(&self, peer: SocketAddr, why: Refusal) {
+        self.log.note(self.shared.rt, Event::Refused(peer, why));
+    }
+}
+
+/// No caller gets a session any more.
+#[derive(Clone, Copy)]
+struct Over;
+
+/// Why a caller got no session of the kernel.
+fn refusal_of(error: JoinError) -> Refusal {
+    match error {
+        JoinError::Halted => Refusal::Halted,
+        JoinError::TooManySessions => Refusal::Sessions,
+        JoinError::Memory => Refusal::Memory,
+    }
+}
+
+/// Why a caller whose session was joined is not served, if it is not. Otherwise its socket is set up.
+fn obstacle(
+    stream: &TcpStream,
+    silence: Duration,
+    has_room: bool,
+    is_stopping: bool,
+) -> Option<Refusal> {
+    if is_stopping {
+        return Some(Refusal::Halted);
+    }
+    if !has_room {
+        return Some(Refusal::Descriptors);
+    }
+    match set_up(stream, silence) {
+        Ok(()) => None,
+        Err(_) => Some(Refusal::Failed),
+    }
+}
+
+/// Sets a caller's socket up: octets are sent at once, a write hardly waits, and a read of a silent caller ends.
+fn set_up(stream: &TcpStream, silence: Duration) -> io::Result<()> {
+    stream.set_nodelay(true)?;
+    give_short_writes(stream)?;
+    stream.set_read_timeout(Some(silence))
+}
+
+/// Sends a caller its only reply, and waits for nothing. What the caller has already sent is read first, since a close
+/// with unread octets could discard the reply.
+fn turn_away(stream: &TcpStream, reply: &[u8]) {
+    if stream.set_nonblocking(true).is_err() {
+        return;
+    }
+    let mut writing = stream;
+    let _ = writing.write_all(reply);
+    let _ = stream.shutdown(Shutdown::Write);
+    read_at_once(stream);
+}

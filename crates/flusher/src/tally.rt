@@ -1,0 +1,64 @@
+//! What is counted while a server runs, for its operator.
+
+use crate::marks::Marks;
+use std::alloc::Global;
+use std::sync::Arc;
+use std::sync::atomic::{AtomicU64, Ordering};
+
+/// What never changes of a volume that is served.
+#[derive(Clone, Copy)]
+pub struct VolumeFacts<'a> {
+    pub host: &'a [u8],
+    /// The version of its format.
+    pub format: u32,
+    /// Its logical blocks, used or free.
+    pub blocks: u64,
+    /// Its inodes, used or free.
+    pub inodes: u64,
+}
+
+/// What was counted since a server's start. Every thread may read it; the flusher counts the batches, the device the
+/// syncs.
+#[derive(Drop)]
+pub struct Tally {
+    batches: AtomicU64,
+    used_blocks: AtomicU64,
+    syncs: Arc<AtomicU64, Global>,
+}
+
+/// What a tally says at one moment.
+#[derive(Clone, Copy, Debug, PartialEq, Eq)]
+pub struct Tallied {
+    /// The batches that were committed.
+    pub batches: u64,
+    /// The logical blocks that are used as of the last of these batches.
+    pub used_blocks: u64,
+    /// The syncs that were asked of the device.
+    pub syncs: u64,
+}
+
+impl Tally {
+    /// A tally of a volume with these marks of used blocks. Its device counts the syncs.
+    pub fn new(marks: Marks, syncs: Arc<AtomicU64, Global>) -> Tally {
+        Tally {
+            batches: AtomicU64::new(0),
+            used_blocks: AtomicU64::new(marks.all()),
+            syncs,
+        }
+    }
+
+    /// What it says now.
+    pub fn read(&self) -> Tallied {
+        Tallied {
+            batches: self.batches.load(Ordering::SeqCst),
+            used_blocks: self.used_blocks.load(Ordering::SeqCst),
+            syncs: self.syncs.load(Ordering::SeqCst),
+        }
+    }
+
+    /// Counts a batch that was committed, and the used blocks as of that batch.
+    pub(crate) fn note_batch(&self, marks: Marks) {
+        self.used_blocks.store(marks.all(), Ordering::SeqCst);
+        self.batches.fetch_add(1, Ordering::SeqCst);
+    }
+}

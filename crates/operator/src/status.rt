@@ -1,0 +1,74 @@
+//! What the operator is told of a running server.
+
+use crate::desk::Service;
+use flusher::{Counts, Kern, Tallied};
+use std::alloc::{AllocError, Global};
+use std::fmt::{self, Display, Formatter};
+use std::sync::Wait;
+
+/// The volume and the kernel at one moment.
+#[derive(Drop)]
+pub(crate) struct Status {
+    host: String,
+    format: u32,
+    blocks: u64,
+    inodes: u64,
+    counts: Counts,
+    tallied: Tallied,
+}
+
+impl Status {
+    /// Reads the counts. Refused only for want of memory.
+    pub(crate) fn of<R: Wait, K: Kern>(service: &Service<'_, R, K>) -> Result<Status, AllocError> {
+        let Service {
+            rt,
+            alloc,
+            kern,
+            tally,
+            facts,
+            ..
+        } = service;
+        Ok(Status {
+            host: host_of(*alloc, facts.host)?,
+            format: facts.format,
+            blocks: facts.blocks,
+            inodes: facts.inodes,
+            counts: kern.counts(*rt),
+            tallied: tally.read(),
+        })
+    }
+}
+
+/// The text of a host, whose octets are all of ASCII.
+fn host_of(alloc: Global, octets: &[u8]) -> Result<String, AllocError> {
+    let mut host = String::new(alloc);
+    for octet in octets {
+        host.push(char::from(*octet))?;
+    }
+    Ok(host)
+}
+
+/// A line of names, each before its number (docs/OPERATING.md).
+impl Display for Status {
+    fn fmt<W: fmt::Write>(&self, f: &mut Formatter<W>) -> fmt::Result {
+        let Counts {
+            sessions,
+            inodes,
+            accepted,
+            durable,
+        } = self.counts;
+        let Tallied {
+            batches,
+            used_blocks,
+            syncs,
+        } = self.tallied;
+        write!(f, "host {} format {}", self.host, self.format)?;
+        write!(f, " blocks {used_blocks} of {}", self.blocks)?;
+        write!(f, " inodes {inodes} of {}", self.inodes)?;
+        write!(
+            f,
+            " sessions {sessions} accepted {accepted} durable {durable}"
+        )?;
+        write!(f, " batches {batches} syncs {syncs}")
+    }
+}
