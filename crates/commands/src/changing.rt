@@ -9,6 +9,8 @@ ghost use Rattle.model.specs.Lawful.{is_description_octet};
 use crate::files::{VolumeDisk, open};
 use flusher::{BatchBuf, FlushError, Kern, Locked, NoGate, flush_turn};
 use journal::Journal;
+use kernel::{AdminError, ExpireError};
+use lookups::LookUps;
 use mark::Mark;
 use names::GroupName;
 use opening::Opened;
@@ -41,6 +43,7 @@ pub fn group<R: Files<File = File> + Wait>(
     let kern = Locked::new(kernel);
     let serial = match kern.admin(rt, alloc, name, status, description, moment) {
         Ok(serial) => serial,
+        Err(AdminError::Exists) => return Err(CommandError::Exists),
         Err(error) => return Err(CommandError::NotMade(error)),
     };
     flush(rt, alloc, &mut journal, &kern, &mut batch)?;
@@ -60,9 +63,12 @@ pub fn expire<R: Files<File = File> + Wait>(
         mut journal,
         kernel,
     } = open(rt, alloc, path)?;
+    let is_here = kernel.spool().group(name.as_slice()).is_some();
     let kern = Locked::new(kernel);
     let serial = match kern.expire(rt, name, number) {
         Ok(serial) => serial,
+        Err(ExpireError::NotFound) if is_here => return Err(CommandError::NoArticle),
+        Err(ExpireError::NotFound) => return Err(CommandError::NotFound),
         Err(error) => return Err(CommandError::NotExpired(error)),
     };
     flush(rt, alloc, &mut journal, &kern, &mut batch)?;

@@ -1,85 +1,275 @@
 //! Serves a volume.
 
-ghost use Rattle.journal.specs.Journal.{IsReady};
+ghost use Rattle.std.specs.Prelude.{◌≡◌};
+ghost use Rattle.journal.specs.Journal.{IsIdle, IsReady};
 
-use crate::files::{VolumeDisk, open};
-use flusher::{Kernel, Locked, NoGate};
+use crate::files::{VolumeDisk, new_count, open_counted};
+use flusher::{Kernel, Locked, Marks, NoGate, Tally, VolumeFacts};
 use journal::Journal;
-use mark::Mark;
+use logging::{Log, Verbosity};
+use lookups::LookUps;
+use mark::{FlushSeat, Mark, Seat};
+use networks::Network;
 use opening::Opened;
 use printing::CommandError;
 use server::{Limits, ServeError, Server};
-use std::alloc::Global;
+use std::alloc::{AllocError, Global};
 use std::fs::File;
 use std::io::{BufRead, Write};
-use std::net::{Ipv4Addr, Net, SocketAddr, TcpListener, TcpStream};
+use std::net::{Net, SocketAddr, TcpListener, TcpStream};
 use std::rt::Files;
-use std::sync::Wait;
+use std::sync::atomic::AtomicU64;
+use std::sync::{Arc, Wait};
 use std::thread::Threads;
 use std::time::Clock;
+use volume_format::layout::VERSION;
 
-/// Serves a volume on a port of the loopback interface, and answers the operator's lines, until its device fails.
+/// What is asked of a server.
+#[derive(Clone, Copy)]
+pub struct Offer<'a> {
+    /// The file with the volume.
+    pub path: &'a str,
+    /// Where callers are awaited, at least one.
+    pub endpoints: &'a [SocketAddr],
+    /// The networks from which callers are let in, besides the loopback networks.
+    pub networks: &'a [Network],
+    pub verbosity: Verbosity,
+}
+
+/// The streams of a server: the operator's lines, their answers, and the log.
+#[derive(Drop)]
+pub struct Streams<L: Drop, A: Drop, F: Drop> {
+    pub lines: L,
+    pub answers: A,
+    pub faults: F,
+}
+
+/// Serves a volume on some endpoints, and answers the operator's lines, until the operator stops the server or its device
+/// fails. If one of the endpoints cannot be had, nothing is served.
 pub fn serve<
     R: Files<File = File>
         + Net<Listener = TcpListener, Stream = TcpStream>
         + Threads
         + Wait
         + Clock
-        + Eprint
         + Copy
         + Send
         + Sync
         + 'static,
     L: BufRead + Send + Drop + 'static,
     A: Write + Send + Drop + 'static,
->(rt: &R, alloc: Global, path: &str, port: u16, lines: L, answers: A) -> Result<(), CommandError> {
-    let Opened { journal, kernel } = open(rt, alloc, path)?;
-    let mut answers = answers;
-    match listen(rt, port, &mut answers) {
-        Ok(listener) => run(rt, alloc, &listener, journal, kernel, lines, answers),
+    F: Write + Send + Drop + 'static,
+>(rt: &R, alloc: Global, offer: &Offer<'_>, streams: Streams<L, A, F>) -> Result<(), CommandError> {
+    let syncs = new_count(alloc)?;
+    let opened = open_counted(rt, alloc, offer.path, Arc::try_clone(&syncs)?)?;
+    let Streams {
+        lines,
+        mut answers,
+        faults,
+    } = streams;
+    match begin(rt, alloc, offer, &mut answers, faults) {
+        Ok(Ready { listeners, log }) => {
+            let entrance = Entrance {
+                listeners: listeners.as_slice(),
+                networks: offer.networks,
+                log: &log,
+            };
+            let outcome = run(rt, alloc, entrance, opened, syncs, lines, answers);
+            log.end(rt);
+            outcome
+        }
         Err(error) => Err(error),
     }
 }
 
-/// Listens on a port of the loopback interface, and prints which one.
-fn listen<R: Net<Listener = TcpListener, Stream = TcpStream>, A: Write>(
+/// What a server has before it serves.
+#[derive(Drop)]
+struct Ready {
+    listeners: Vec<TcpListener>,
+    log: Log,
+}
+
+/// Where callers come in.
+#[derive(Clone, Copy)]
+struct Entrance<'a> {
+    listeners: &'a [TcpListener],
+    networks: &'a [Network],
+    log: &'a Log,
+}
+
+/// Listens on all endpoints, and starts the log. Only then are the endpoints printed.
+fn begin<
+    R: Net<Listener = TcpListener, Stream = TcpStream>
+        + Threads
+        + Wait
+        + Clock
+        + Copy
+        + Send
+        + 'static,
+    A: Write,
+    F: Write + Send + Drop + 'static,
+>(
     rt: &R,
-    port: u16,
+    alloc: Global,
+    offer: &Offer<'_>,
     answers: &mut A,
-) -> Result<TcpListener, CommandError> {
-    let address = SocketAddr::from((Ipv4Addr::LOCALHOST, port));
-    let listener = TcpListener::bind(rt, address)?;
-    writeln!(answers, "listening {address}")?;
+    faults: F,
+) -> Result<Ready, CommandError> {
+    let listeners = listen(rt, alloc, offer.endpoints)?;
+    let log = Log::start(rt, alloc, faults, offer.verbosity)?;
+    announce(offer.endpoints, answers)?;
+    Ok(Ready { listeners, log })
+}
+
+/// Listens on all endpoints. The first that cannot be had is named.
+fn listen<R: Net<Listener = TcpListener, Stream = TcpStream>>(
+    rt: &R,
+    alloc: Global,
+    endpoints: &[SocketAddr],
+) -> Result<Vec<TcpListener>, CommandError> {
+    let mut listeners = Vec::with_capacity(alloc, endpoints.len())?;
+    for endpoint in endpoints {
+        let listener = match TcpListener::bind(rt, *endpoint) {
+            Ok(listener) => listener,
+            Err(error) => return Err(CommandError::NotBound(*endpoint, error)),
+        };
+        if listeners.push(listener).is_err() {
+            return Err(CommandError::Memory);
+        }
+    }
+    Ok(listeners)
+}
+
+/// Prints a line for each endpoint, in order.
+fn announce<A: Write>(endpoints: &[SocketAddr], answers: &mut A) -> Result<(), CommandError> {
+    for endpoint in endpoints {
+        writeln!(answers, "listening {endpoint}")?;
+    }
     answers.flush()?;
-    Ok(listener)
+    Ok(())
+}
+
+/// The parts of a server over a volume.
+#[derive(Drop)]
+struct Parts<'a> {
+    listeners: &'a [TcpListener],
+    networks: &'a [Network],
+    log: &'a Log,
+    journal: Journal<VolumeDisk>,
+    kern: &'a Locked,
+    mark: &'a Mark,
+    flush_seat: FlushSeat,
+    seat: Seat,
+    host: &'a [u8],
+    blocks: u64,
+    inodes: u64,
+    marks: Marks,
+    tally: &'a Tally,
+    ghost idle: { IsIdle journal },
+    ghost flushes: { flush_seat.mark ≡ mark.now },
+    ghost looks: { seat.mark ≡ mark.now },
 }
 
 /// Serves an opened volume.
 fn run<
-    R: Threads + Wait + Clock + Eprint + Copy + Send + Sync + 'static,
+    R: Net<Listener = TcpListener, Stream = TcpStream>
+        + Threads
+        + Wait
+        + Clock
+        + Copy
+        + Send
+        + Sync
+        + 'static,
     L: BufRead + Send + Drop + 'static,
     A: Write + Send + Drop + 'static,
 >(
     rt: &R,
     alloc: Global,
-    listener: &TcpListener,
-    journal: Journal<VolumeDisk>,
-    kernel: Kernel,
+    entrance: Entrance<'_>,
+    opened: Opened<VolumeDisk>,
+    syncs: Arc<AtomicU64, Global>,
     lines: L,
     answers: A,
 ) -> Result<(), CommandError>
-    requires { IsReady journal }
+    requires { IsReady opened.journal }
 {
+    let Opened {
+        mut journal,
+        kernel,
+    } = opened;
     let (mark, mut flush_seat, seat) = Mark::new(alloc)?;
     mark.raise(&mut flush_seat, kernel.durable());
+    let host = host_of(alloc, &kernel)?;
+    let (blocks, inodes) = (journal.blocks(), u64::from(kernel.spool().inodes()));
+    let Ok(marks) = Marks::read(&mut journal) else {
+        return Err(CommandError::Fault);
+    };
+    let tally = Tally::new(marks, syncs);
     let kern = Locked::new(kernel);
-    let server = Server {
-        listener,
+    let parts = Parts {
+        listeners: entrance.listeners,
+        networks: entrance.networks,
+        log: entrance.log,
         journal,
         kern: &kern,
         mark: &mark,
         flush_seat,
         seat,
+        host: host.as_slice(),
+        blocks,
+        inodes,
+        marks,
+        tally: &tally,
+    };
+    serve_parts(rt, alloc, parts, lines, answers)
+}
+
+/// Serves these parts.
+fn serve_parts<
+    R: Net<Listener = TcpListener, Stream = TcpStream>
+        + Threads
+        + Wait
+        + Clock
+        + Copy
+        + Send
+        + Sync
+        + 'static,
+    L: BufRead + Send + Drop + 'static,
+    A: Write + Send + Drop + 'static,
+>(rt: &R, alloc: Global, parts: Parts<'_>, lines: L, answers: A) -> Result<(), CommandError> {
+    let Parts {
+        listeners,
+        networks,
+        log,
+        journal,
+        kern,
+        mark,
+        flush_seat,
+        seat,
+        host,
+        blocks,
+        inodes,
+        marks,
+        tally,
+    } = parts;
+    let facts = VolumeFacts {
+        host,
+        format: VERSION,
+        blocks,
+        inodes,
+    };
+    let server = Server {
+        listeners,
+        networks,
+        log,
+        journal,
+        kern,
+        mark,
+        flush_seat,
+        seat,
+        facts,
+        marks,
+        tally,
         gate: &NoGate,
         limits: Limits::standard(),
     };
@@ -89,4 +279,9 @@ fn run<
         Err(ServeError::Memory) => Err(CommandError::Memory),
         Err(ServeError::Halted) => Err(CommandError::Halted),
     }
+}
+
+/// A copy of the host of a kernel's spool.
+fn host_of(alloc: Global, kernel: &Kernel) -> Result<Vec<u8>, AllocError> {
+    Ok(Vec::from_slice(alloc, kernel.spool().host())?)
 }

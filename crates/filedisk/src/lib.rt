@@ -1,6 +1,8 @@
 //! A device over a file. Nothing is claimed of the file's octets.
 #![tactic(auto)]
 
+mod holders;
+mod refusals;
 #[cfg(test)]
 mod tests;
 
@@ -8,7 +10,9 @@ ghost use Rattle.std.specs.Prelude.{◌≡◌, ◌↔◌, IsErr, IfOk, IfErr, On
 ghost use Rattle.disk.specs.Device.{one_more};
 
 use disk::{Disk, DiskError};
-use std::fs::{File, OpenOptions};
+pub use holders::holder;
+pub use refusals::FileError;
+use std::fs::{File, OpenOptions, TryLockError};
 use std::io;
 use std::os::unix::fs::FileExt;
 use std::path::Path;
@@ -29,31 +33,30 @@ impl FileDisk {
     ghost use Rattle.filedisk.specs.FileDisk.{file_device};
 
     /// Opens the file at `path` as a device of `len` octets, and makes the file if there is none. Sets its length to
-    /// `len`, and makes the file and its directory entry durable. The file is locked as in `open_existing`. `Fault` if
-    /// one of these fails.
-    pub fn open<R: Files<File = File>>(rt: &R, path: &str, len: u64) -> Result<FileDisk, DiskError>
+    /// `len`, and makes the file and its directory entry durable. The file is locked as in `open_existing`. `Missing`
+    /// if its directory isn't there, `Refused` if the system doesn't open it, `Held` if it is locked; then a file there
+    /// is as it was. `Failed` if a later call fails.
+    pub fn open<R: Files<File = File>>(rt: &R, path: &str, len: u64) -> Result<FileDisk, FileError>
         ensures size { IfOk result (λ f. (file_device f).size ≡ len) }
         ensures calls { IfOk result (λ f. ((file_device f).reads ≡ 0) × ((file_device f).writes ≡ 0) × ((file_device f).syncs ≡ 0)) }
         ensures failures { IfOk result (λ f. (file_device f).failures ≡ 0) }
-        ensures refused { IfErr result (λ e. e ≡ DiskError.Fault) }
     {
         match make_file(rt, path, len) {
             Ok(file) => Ok(FileDisk::over(file, len)),
-            Err(_) => Err(DiskError::Fault),
+            Err(error) => Err(error),
         }
     }
 
     /// Opens the existing file at `path` as a device of the file's own length. It is locked until the device is
-    /// dropped, so that two servers never share it. `Fault` if it cannot be opened for reading and writing, or is
-    /// locked; then it is as it was.
-    pub fn open_existing<R: Files<File = File>>(rt: &R, path: &str) -> Result<FileDisk, DiskError>
+    /// dropped, so that two servers never share it. `Missing` if there is none, `Refused` if it cannot be opened for
+    /// reading and writing, `Held` if it is locked, `Failed` if a later call fails; then it is as it was.
+    pub fn open_existing<R: Files<File = File>>(rt: &R, path: &str) -> Result<FileDisk, FileError>
         ensures calls { IfOk result (λ f. ((file_device f).reads ≡ 0) × ((file_device f).writes ≡ 0) × ((file_device f).syncs ≡ 0)) }
         ensures failures { IfOk result (λ f. (file_device f).failures ≡ 0) }
-        ensures refused { IfErr result (λ e. e ≡ DiskError.Fault) }
     {
         match find_file(rt, path) {
             Ok((file, len)) => Ok(FileDisk::over(file, len)),
-            Err(_) => Err(DiskError::Fault),
+            Err(error) => Err(error),
         }
     }
 
@@ -75,23 +78,52 @@ impl FileDisk {
 }
 
 // The lock comes before the length, so that a file that another process holds stays as it was.
-fn make_file<R: Files<File = File>>(rt: &R, path: &str, len: u64) -> io::Result<File> {
+fn make_file<R: Files<File = File>>(rt: &R, path: &str, len: u64) -> Result<File, FileError> {
     let mut options = OpenOptions::new();
-    let file = options.read(true).write(true).create(true).open(rt, path)?;
-    file.try_lock()?;
+    let file = match options.read(true).write(true).create(true).open(rt, path) {
+        Ok(file) => file,
+        Err(error) => return Err(FileError::of(error.kind())),
+    };
+    lock(&file)?;
+    match make_durable(rt, path, &file, len) {
+        Ok(()) => Ok(file),
+        Err(_) => Err(FileError::Failed),
+    }
+}
+
+// Sets the length of a file, and makes it and its entry in its directory durable.
+fn make_durable<R: Files<File = File>>(
+    rt: &R,
+    path: &str,
+    file: &File,
+    len: u64,
+) -> io::Result<()> {
     file.set_len(len)?;
     file.sync_all()?;
-    sync_directory(rt, path)?;
-    Ok(file)
+    sync_directory(rt, path)
 }
 
 // Its length is read under the lock: from then on no other process changes it.
-fn find_file<R: Files<File = File>>(rt: &R, path: &str) -> io::Result<(File, u64)> {
+fn find_file<R: Files<File = File>>(rt: &R, path: &str) -> Result<(File, u64), FileError> {
     let mut options = OpenOptions::new();
-    let file = options.read(true).write(true).open(rt, path)?;
-    file.try_lock()?;
-    let len = file.metadata()?.len();
-    Ok((file, len))
+    let file = match options.read(true).write(true).open(rt, path) {
+        Ok(file) => file,
+        Err(error) => return Err(FileError::of(error.kind())),
+    };
+    lock(&file)?;
+    match file.metadata() {
+        Ok(metadata) => Ok((file, metadata.len())),
+        Err(_) => Err(FileError::Failed),
+    }
+}
+
+// Locks a file until it is closed.
+fn lock(file: &File) -> Result<(), FileError> {
+    match file.try_lock() {
+        Ok(()) => Ok(()),
+        Err(TryLockError::WouldBlock) => Err(FileError::Held),
+        Err(TryLockError::Error(_)) => Err(FileError::Failed),
+    }
 }
 
 // Makes the entry of a file in its directory durable.

@@ -1,7 +1,9 @@
 //! Tests of devices over files of the system.
 
 use super::*;
+use crate::holders::holder_in;
 use std::fs;
+use std::io::ErrorKind;
 use std::test::Fail;
 
 #[test]
@@ -23,20 +25,71 @@ fn octets_stay_in_the_file(rt: HostRuntime) -> Result<(), Fail> {
 }
 
 #[test]
-fn what_can_not_be_had_is_a_fault(rt: HostRuntime) {
-    for path in ["/", "", "no/such/directory/volume"] {
+fn what_can_not_be_had_is_refused(rt: HostRuntime) {
+    for (path, error) in [
+        ("/", FileError::Refused(ErrorKind::IsADirectory)),
+        ("", FileError::Missing),
+        ("no/such/directory/volume", FileError::Missing),
+    ] {
         assert!(rt;
-            matches!(FileDisk::open(&rt, path, 8), Err(DiskError::Fault)),
+            matches!(FileDisk::open(&rt, path, 8), Err(e) if e == error),
+            "{path}"
+        );
+        assert!(rt;
+            matches!(FileDisk::open_existing(&rt, path), Err(e) if e == error),
             "{path}"
         );
     }
-    for path in ["/", "", "filedisk_missing"] {
-        assert!(rt;
-            matches!(FileDisk::open_existing(&rt, path), Err(DiskError::Fault)),
-            "{path}"
-        );
-    }
+    assert!(rt;
+        matches!(
+            FileDisk::open_existing(&rt, "filedisk_missing"),
+            Err(FileError::Missing)
+        )
+    );
     assert!(rt; !matches!(fs::exists(&rt, "filedisk_missing"), Ok(true)));
+}
+
+#[test]
+fn refusals_are_said_in_words(rt: HostRuntime) -> Result<(), Fail> {
+    for (error, words) in [
+        (FileError::of(ErrorKind::NotFound), "the file isn't there"),
+        (
+            FileError::of(ErrorKind::PermissionDenied),
+            "the file can't be opened: permission denied",
+        ),
+        (
+            FileError::Held,
+            "the volume is in use by a server or another command",
+        ),
+        (FileError::Failed, "the device failed"),
+    ] {
+        assert_eq!(rt; format!(in rt.alloc(); "{error}")?.as_str(), words);
+    }
+    Ok(())
+}
+
+/// A list of locks: of an inode by a process, by one that waits, by one that isn't seen, and of other kinds.
+const LOCKS: &str = "1: FLOCK  ADVISORY  WRITE 26115 fe:00:2302187 0 EOF\n\
+    1: -> FLOCK  ADVISORY  WRITE 11 fe:00:2302188 0 EOF\n\
+    2: POSIX  ADVISORY  WRITE 22 fe:00:2302188 0 EOF\n\
+    3: FLOCK  ADVISORY  WRITE 0 fe:00:2302188 0 EOF\n\
+    4: FLOCK  ADVISORY  WRITE -1 fe:00:2302188 0 EOF\n\
+    5: FLOCK  ADVISORY  WRITE 44\n\
+    6: FLOCK  ADVISORY  WRITE 1234 fe:00:2302188 0 EOF\n\
+    7: FLOCK  ADVISORY  WRITE 55 fe:00:7 0 EOF\n";
+
+#[test]
+fn holders_are_found_in_a_list_of_locks(rt: HostRuntime) {
+    for (inode, process) in [
+        (2302187, Some(26115)),
+        (2302188, Some(1234)),
+        (7, Some(55)),
+        (187, None),
+        (0, None),
+    ] {
+        assert_eq!(rt; holder_in(LOCKS, inode), process, "{inode}");
+    }
+    assert_eq!(rt; holder_in("", 7), None);
 }
 
 // The file is made shorter while the device is open.
@@ -57,8 +110,8 @@ fn two_devices_never_share_a_file(rt: HostRuntime) -> Result<(), Fail> {
     let path = "filedisk_shared";
     let mut first = FileDisk::open(&rt, path, 8)?;
     assert_eq!(rt; first.write(0, b"12345678"), Ok(()));
-    assert!(rt; matches!(FileDisk::open(&rt, path, 4), Err(DiskError::Fault)));
-    assert!(rt; matches!(FileDisk::open_existing(&rt, path), Err(DiskError::Fault)));
+    assert!(rt; matches!(FileDisk::open(&rt, path, 4), Err(FileError::Held)));
+    assert!(rt; matches!(FileDisk::open_existing(&rt, path), Err(FileError::Held)));
     drop(first);
     let mut second = FileDisk::open_existing(&rt, path)?;
     assert_eq!(rt; second.len(), 8);

@@ -1,8 +1,8 @@
 //! `newsd`, a Usenet server that releases no reply before the changes that it depends on are on disk.
 #![tactic(auto)]
 
-use program::{Failure, Outcome, fail, run, serve};
-use std::io::{BufReader, BufWriter, StdinLock, Stdout};
+use program::{Failure, Outcome, Streams, fail, import, run, serve};
+use std::io::{BufReader, BufWriter, IsTerminal, StdinLock, Stdout};
 use std::process::ExitCode;
 
 /// What the program starts with.
@@ -44,7 +44,26 @@ fn main(rt: HostRuntime) -> ExitCode {
                 &mut faults,
             ) {
                 Outcome::Ends(status) => status,
-                Outcome::Serves(service) => serve(&rt, alloc, service, input, output, &mut faults),
+                Outcome::Imports(path) => {
+                    let is_terminal = faults.is_terminal();
+                    import(
+                        &rt,
+                        alloc,
+                        path,
+                        &mut input,
+                        &mut output,
+                        &mut faults,
+                        is_terminal,
+                    )
+                }
+                Outcome::Serves(service) => {
+                    let streams = Streams {
+                        lines: input,
+                        answers: output,
+                        faults: rt.stderr(),
+                    };
+                    serve(&rt, alloc, &service, streams, &mut faults)
+                }
             }
         }
         Err(failure) => fail(&mut faults, &failure),

@@ -4,18 +4,26 @@ ghost use Rattle.std.specs.Prelude.{◌≡◌};
 ghost use Rattle.printing.specs.declared.errors.CommandError.TheVariants.{Memory};
 ghost use Rattle.printing.specs.Streams.{command_error_of};
 
+use filedisk::FileError;
 use journal::JournalError;
 use kernel::{AdminError, ExpireError, OpenError};
 use std::alloc::AllocError;
 use std::io::{self, ErrorKind};
+use std::net::SocketAddr;
 use thiserror::Error;
 
 /// Why a command over a volume in a file was not done.
 #[derive(Debug, Drop, Error)]
 pub enum CommandError {
-    /// The file cannot be opened, or the device failed.
-    #[error("E1 Fault")]
+    /// The device failed.
+    #[error("E1 Fault: the device failed")]
     Fault,
+    /// The file is not opened as a device.
+    #[error("E1 Fault: {0}")]
+    NoDevice(FileError),
+    /// This process holds the volume.
+    #[error("E1 Fault: the volume is in use by process {0}")]
+    HeldBy(u32),
     /// A growth was refused.
     #[error("E2 Memory")]
     Memory,
@@ -28,15 +36,27 @@ pub enum CommandError {
     /// The volume holds no spool.
     #[error("{0}")]
     NotOpened(OpenError),
+    /// The volume holds no spool, and this is wrong with it, in words.
+    #[error("{0}: {1}")]
+    Found(OpenError, String),
     /// The group was not made.
     #[error("{0}")]
     NotMade(AdminError),
     /// The articles were not removed from the group.
     #[error("{0}")]
     NotExpired(ExpireError),
+    /// The group exists already.
+    #[error("E11 Exists: the group is here already")]
+    Exists,
     /// The group does not exist.
-    #[error("E12 NotFound")]
+    #[error("E12 NotFound: the group isn't here")]
     NotFound,
+    /// The group exists, and the number is below its lowest or above its highest.
+    #[error("E12 NotFound: the group has no article of this number")]
+    NoArticle,
+    /// An endpoint cannot be had.
+    #[error("can't listen on {0}: {1}")]
+    NotBound(SocketAddr, io::Error),
     /// A socket or a stream failed.
     #[error("{0}")]
     Stream(io::Error),

@@ -7,7 +7,8 @@ ghost use Rattle.printing.specs.Streams.{failure_of};
 
 use crate::{CommandError, NOT_UNDERSTOOD, REFUSED};
 use kernel::OpenError;
-use std::alloc::{AllocError, AllocFailed};
+use script::escaped;
+use std::alloc::{AllocError, AllocFailed, Global};
 use std::io::{self, ErrorKind};
 use thiserror::Error;
 
@@ -20,6 +21,9 @@ pub enum Failure {
     /// A word is outside its grammar or range.
     #[error("E14 Bad")]
     Bad,
+    /// A word is outside its grammar or range: which one, and what it is not.
+    #[error("E14 Bad: {0}")]
+    BadWord(String),
     /// The new volume was refused.
     #[error("{0}")]
     NotOpened(OpenError),
@@ -35,6 +39,17 @@ pub enum Failure {
 }
 
 impl Failure {
+    /// The refusal of a word that is outside its grammar: `NAME 'WORD' FAULT`, with the word in its printed form.
+    /// `Memory` if a growth was refused.
+    pub fn bad_word(alloc: Global, name: &str, word: &str, fault: &str) -> Failure
+        ensures { status_of result ≡ 1 }
+    {
+        match complaint(alloc, name, word, fault) {
+            Ok(text) => Failure::BadWord(text),
+            Err(_) => Failure::Memory,
+        }
+    }
+
     /// The status with which the program ends.
     pub fn status(&self) -> u8
         ensures { result ≡ status_of self.now }
@@ -44,6 +59,13 @@ impl Failure {
             _ => REFUSED,
         }
     }
+}
+
+/// What is said of a word that is outside its grammar.
+fn complaint(alloc: Global, name: &str, word: &str, fault: &str) -> Result<String, AllocError> {
+    let octets = escaped(alloc, word.as_bytes())?;
+    let shown = str::from_utf8(octets.as_slice()).unwrap_or("");
+    format!(in alloc; "{name} '{shown}' {fault}")
 }
 
 impl From<AllocError> for Failure {

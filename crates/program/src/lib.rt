@@ -3,6 +3,7 @@
 
 mod running;
 
+pub use commands::Streams;
 pub use printing::Failure;
-pub use running::{Outcome, fail, run, serve};
+pub use running::{Outcome, fail, import, run, serve};
 pub use words::Service;

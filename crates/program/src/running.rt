@@ -3,15 +3,15 @@
 ghost use Rattle.std.specs.Prelude.{◌≡◌};
 ghost use Rattle.printing.specs.Status.{status_of};
 
-use commands::LineEnds;
+use commands::{Counts, LineEnds, Offer, Streams, Verbosity};
 use names::GroupName;
-use printing::{DONE, Failure};
+use printing::{DONE, Failure, REFUSED};
 use script::{Line, ParseError, parse};
 use simulation::simulate;
 use std::alloc::Global;
 use std::convert::AsStr;
 use std::fs::File;
-use std::io::{BufRead, Write};
+use std::io::{self, BufRead, Write};
 use std::net::{Net, TcpListener, TcpStream};
 use std::rt::Files;
 use std::sync::Wait;
@@ -20,12 +20,14 @@ use std::time::Clock;
 use words::{Asked, Export, Service, read_words};
 
 /// How the program continues after `run`.
-#[derive(Clone, Copy)]
+#[derive(Drop)]
 pub enum Outcome<'a> {
     /// It ends with this status.
     Ends(u8),
     /// The words ask for a server, which is for `serve`.
     Serves(Service<'a>),
+    /// The words ask to file a batch in this volume, which is for `import`.
+    Imports(&'a str),
 }
 
 /// Runs the program on its words, the first of which is its name, and answers its status: `DONE`, `REFUSED` with the
@@ -43,6 +45,7 @@ pub fn run<'a, R: Files<File = File> + Wait, S: AsStr, I: BufRead, W: Write, F: 
 ) -> Outcome<'a> {
     let status = match read_words(alloc, words, output, faults) {
         Ok(Asked::Serve(service)) => return Outcome::Serves(service),
+        Ok(Asked::Import(path)) => return Outcome::Imports(path),
         Ok(Asked::Nothing(status)) => status,
         Ok(asked) => match carry_out(rt, alloc, asked, input, output) {
             Ok(()) => DONE,
@@ -55,26 +58,73 @@ pub fn run<'a, R: Files<File = File> + Wait, S: AsStr, I: BufRead, W: Write, F: 
     Outcome::Ends(status)
 }
 
-/// Serves a volume until its device fails, and answers the status.
+/// Serves a volume until the operator stops the server or its device fails, and answers the status. The log goes to a
+/// writer that a thread keeps, and the refusal at the end to `faults`, after the last line of the log.
 pub fn serve<
     R: Files<File = File>
         + Net<Listener = TcpListener, Stream = TcpStream>
         + Threads
         + Wait
         + Clock
-        + Eprint
         + Copy
         + Send
         + Sync
         + 'static,
     L: BufRead + Send + Drop + 'static,
     A: Write + Send + Drop + 'static,
+    G: Write + Send + Drop + 'static,
     F: Write,
->(rt: &R, alloc: Global, service: Service<'_>, lines: L, answers: A, faults: &mut F) -> u8 {
-    match commands::serve(rt, alloc, service.path, service.port, lines, answers) {
+>(rt: &R, alloc: Global, service: &Service<'_>, streams: Streams<L, A, G>, faults: &mut F) -> u8 {
+    let verbosity = if service.is_quiet {
+        Verbosity::Quiet
+    } else {
+        Verbosity::All
+    };
+    let offer = Offer {
+        path: service.path,
+        endpoints: service.endpoints.as_slice(),
+        networks: service.networks.as_slice(),
+        verbosity,
+    };
+    match commands::serve(rt, alloc, &offer, streams) {
         Ok(()) => DONE,
         Err(error) => fail(faults, &Failure::Command(error)),
     }
+}
+
+/// Files a batch in a volume, and prints what became of its articles. Answers `DONE` if each was filed, was there or has
+/// no group there, otherwise `REFUSED`. Why it stopped before its batch ended goes to `faults`.
+pub fn import<R: Files<File = File> + Clock, I: BufRead, W: Write, F: Write>(
+    rt: &R,
+    alloc: Global,
+    path: &str,
+    input: &mut I,
+    output: &mut W,
+    faults: &mut F,
+    is_terminal: bool,
+) -> u8 {
+    let report = match commands::import(rt, alloc, path, input, faults, is_terminal) {
+        Ok(report) => report,
+        Err(error) => return fail(faults, &Failure::Command(error)),
+    };
+    if let Err(error) = print_counts(&report.counts, output) {
+        return fail(faults, &Failure::from(error));
+    }
+    if let Some(stop) = report.stop {
+        let _ = writeln!(faults, "newsd: {stop}");
+        return REFUSED;
+    }
+    if report.counts.refused == 0 {
+        DONE
+    } else {
+        REFUSED
+    }
+}
+
+/// Prints what became of the articles of a batch.
+fn print_counts<W: Write>(counts: &Counts, output: &mut W) -> io::Result<()> {
+    writeln!(output, "{counts}")?;
+    output.flush()
 }
 
 /// Does what the words ask for.
@@ -86,7 +136,7 @@ fn carry_out<R: Files<File = File> + Wait, I: BufRead, W: Write>(
     output: &mut W,
 ) -> Result<(), Failure> {
     match asked {
-        Asked::Nothing(_) | Asked::Serve(_) => Ok(()),
+        Asked::Nothing(_) | Asked::Serve(_) | Asked::Import(_) => Ok(()),
         Asked::Simulation(plan, is_cached) => simulate(alloc, &plan, is_cached, input, output),
         Asked::Format(path, plan) => {
             commands::format(rt, alloc, path, &plan)?;
@@ -95,6 +145,10 @@ fn carry_out<R: Files<File = File> + Wait, I: BufRead, W: Write>(
         Asked::Change(path, line) => change(rt, alloc, path, line.as_slice(), output),
         Asked::Dump(path) => {
             commands::dump(rt, alloc, path, output)?;
+            Ok(())
+        }
+        Asked::Status(path, is_json) => {
+            commands::status(rt, alloc, path, is_json, output)?;
             Ok(())
         }
         Asked::Export(asked) => export(rt, alloc, asked, output),

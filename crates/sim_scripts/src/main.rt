@@ -6,13 +6,14 @@
 //! the output room for only N octets, prints how many are left, and gives the script's last line no LF.
 #![tactic(auto)]
 
-use anyhow::{Result, anyhow, bail};
-use program::{Outcome, run};
+use anyhow::{Result, anyhow};
+use program::{Outcome, Service, import, run};
 use std::alloc::{AllocError, Global};
 use std::fs::File;
 use std::io::{BufRead, BufReader, BufWriter, Write};
 use std::rt::Files;
 use std::sync::Wait;
+use std::time::Clock;
 
 /// The program's words if a script gives none.
 const WORDS: [&str; 4] = ["newsd", "sim", "--host", "news.example"];
@@ -65,7 +66,7 @@ impl Script {
     }
 
     /// Runs the program on the script, and prints what the program prints, its status and its faults.
-    fn play<R: Files<File = File> + Wait, W: Write>(
+    fn play<R: Files<File = File> + Wait + Clock, W: Write>(
         &self,
         rt: &R,
         alloc: Global,
@@ -83,7 +84,7 @@ impl Script {
     }
 
     /// Runs the program on the script with room for this many octets, and answers its status.
-    fn run_into<R: Files<File = File> + Wait, W: Write>(
+    fn run_into<R: Files<File = File> + Wait + Clock, W: Write>(
         &self,
         rt: &R,
         alloc: Global,
@@ -104,7 +105,7 @@ impl Script {
     }
 
     /// Runs the program on its words and these lines, and answers its status. No server is started here.
-    fn run<R: Files<File = File> + Wait, W: Write>(
+    fn run<R: Files<File = File> + Wait + Clock, W: Write>(
         &self,
         rt: &R,
         alloc: Global,
@@ -120,9 +121,27 @@ impl Script {
         };
         match outcome {
             Outcome::Ends(status) => Ok(status),
-            Outcome::Serves(service) => bail!("a server on port {}", service.port),
+            Outcome::Imports(path) => {
+                Ok(import(rt, alloc, path, &mut input, output, faults, false))
+            }
+            Outcome::Serves(service) => {
+                describe(output, &service)?;
+                Ok(0)
+            }
         }
     }
+}
+
+/// Prints which server the words ask for.
+fn describe<W: Write>(output: &mut W, service: &Service<'_>) -> Result<()> {
+    write!(output, "serves {} on", service.path)?;
+    for endpoint in &service.endpoints {
+        write!(output, " {endpoint}")?;
+    }
+    let networks = service.networks.len();
+    let quiet = if service.is_quiet { ", quiet" } else { "" };
+    writeln!(output, ", networks {networks}{quiet}")?;
+    Ok(())
 }
 
 fn find<'a>(scripts: &'a [Script], name: &str) -> Option<&'a Script> {

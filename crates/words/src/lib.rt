@@ -1,6 +1,7 @@
 //! The command line of `newsd`: its grammar, its help, and the request that it makes.
 #![tactic(auto)]
 
+mod grammars;
 mod reading;
 mod syntax;
 mod table;

@@ -2,17 +2,20 @@
 
 use crate::syntax::syntax;
 use crate::table::{
-    BLOCKS, CACHE, CRLF, DESCRIPTION, HOST, INODES, MOMENT, NAME, NUMBER, PATH, PORT, STATUS,
+    ALLOW, BLOCKS, CACHE, CRLF, DESCRIPTION, HOST, INODES, JSON, Kind, LISTEN, MOMENT, NAME,
+    NUMBER, PATH, PORT, QUIET, STATUS, SUBCOMMANDS, Subcommand, Word,
 };
 use clap::ArgMatches;
 use clap::error::{Error, ErrorKind};
 use names::is_host;
+use networks::{Network, read_endpoint};
 use new_volume::{Plan, are_sizes};
 use printing::{DONE, Failure, NOT_UNDERSTOOD};
 use script::number;
-use std::alloc::Global;
+use std::alloc::{AllocError, Global};
 use std::convert::AsStr;
 use std::io::Write;
+use std::net::{Ipv4Addr, SocketAddr};
 
 /// The request that the words make.
 #[derive(Drop)]
@@ -26,14 +29,23 @@ pub enum Asked<'a> {
     Change(&'a str, Vec<u8>),
     Serve(Service<'a>),
     Dump(&'a str),
+    /// The state of a volume, for a person or as JSON.
+    Status(&'a str, bool),
     Export(Export<'a>),
+    /// The volume in which a batch is filed.
+    Import(&'a str),
 }
 
-/// The volume that a server serves, and its port.
-#[derive(Clone, Copy)]
+/// The volume that a server serves, where it listens, and whom it lets in.
+#[derive(Drop)]
 pub struct Service<'a> {
     pub path: &'a str,
-    pub port: u16,
+    /// Where callers are awaited, at least one: first the port of 127.0.0.1, if one is given.
+    pub endpoints: Vec<SocketAddr>,
+    /// The networks from which callers are let in, besides the loopback networks.
+    pub networks: Vec<Network>,
+    /// The ends of sessions are not logged.
+    pub is_quiet: bool,
 }
 
 /// The volume whose articles are exported, those of one group or all, and whether their lines end in CRLF.
@@ -77,15 +89,55 @@ fn read_request<'a>(alloc: Global, matches: &ArgMatches<'a>) -> Result<Asked<'a>
     let Some((name, words)) = matches.subcommand() else {
         return Err(Failure::Bad);
     };
+    check_words(alloc, name, words)?;
     match name {
-        "sim" => Ok(Asked::Simulation(read_plan(words)?, words.get_flag(CACHE))),
-        "format" => Ok(Asked::Format(word(words, PATH)?, read_plan(words)?)),
+        "sim" => Ok(Asked::Simulation(read_plan(alloc, words)?, words.get_flag(CACHE))),
+        "format" => Ok(Asked::Format(word(words, PATH)?, read_plan(alloc, words)?)),
         "group" => Ok(Asked::Change(word(words, PATH)?, read_group(alloc, words)?)),
         "expire" => Ok(Asked::Change(word(words, PATH)?, read_expiry(alloc, words)?)),
-        "serve" => Ok(Asked::Serve(read_service(words)?)),
+        "serve" => Ok(Asked::Serve(read_service(alloc, words)?)),
         "dump" => Ok(Asked::Dump(word(words, PATH)?)),
+        "status" => Ok(Asked::Status(word(words, PATH)?, words.get_flag(JSON))),
+        "import" => Ok(Asked::Import(word(words, PATH)?)),
         "export" => Ok(Asked::Export(read_export(words)?)),
         _ => Err(Failure::Bad),
+    }
+}
+
+/// Refuses the first word of a subcommand that is outside its grammar, in the order of the table.
+fn check_words(alloc: Global, name: &str, words: &ArgMatches<'_>) -> Result<(), Failure> {
+    for row in SUBCOMMANDS {
+        if row.name == name {
+            check_row(alloc, row, words)?;
+        }
+    }
+    Ok(())
+}
+
+/// Refuses the first word of a row that is outside its grammar.
+fn check_row(alloc: Global, row: &Subcommand, words: &ArgMatches<'_>) -> Result<(), Failure> {
+    for word in row.words {
+        check_values(alloc, word, words.get_strs(word.id).unwrap_or(&[]))?;
+    }
+    Ok(())
+}
+
+/// Refuses the first of the values of a word that is outside its grammar.
+fn check_values(alloc: Global, word: &Word, values: &[&str]) -> Result<(), Failure> {
+    for value in values {
+        if !word.grammar.holds(value) {
+            let name = shown_name(alloc, word)?;
+            return Err(Failure::bad_word(alloc, name.as_str(), value, word.grammar.fault()));
+        }
+    }
+    Ok(())
+}
+
+/// How help and refusals show a word.
+fn shown_name(alloc: Global, word: &Word) -> Result<String, AllocError> {
+    match word.kind {
+        Kind::Operand | Kind::LastOperand => String::from_str(alloc, word.value),
+        _ => format!(in alloc; "--{}", word.id),
     }
 }
 
@@ -95,23 +147,24 @@ fn word<'a>(words: &ArgMatches<'a>, name: &str) -> Result<&'a str, Failure> {
 }
 
 /// The volume that the words describe.
-fn read_plan<'a>(words: &ArgMatches<'a>) -> Result<Plan<'a>, Failure> {
+fn read_plan<'a>(alloc: Global, words: &ArgMatches<'a>) -> Result<Plan<'a>, Failure> {
     let host = word(words, HOST)?;
     let blocks = word(words, BLOCKS)?;
     let inodes = word(words, INODES)?;
-    plan_of(host.as_bytes(), blocks.as_bytes(), inodes.as_bytes())
+    match plan_of(host.as_bytes(), blocks.as_bytes(), inodes.as_bytes()) {
+        Some(plan) => Ok(plan),
+        None => Err(Failure::bad_word(alloc, "--inodes", inodes, "is too many for so few blocks")),
+    }
 }
 
-fn plan_of<'a>(host: &'a [u8], blocks: &[u8], inodes: &[u8]) -> Result<Plan<'a>, Failure> {
-    if !is_host(host) {
-        return Err(Failure::Bad);
+/// The plan of a volume, if these words follow their grammars and the blocks have room for so many inodes.
+fn plan_of<'a>(host: &'a [u8], blocks: &[u8], inodes: &[u8]) -> Option<Plan<'a>> {
+    let blocks = number(blocks)?;
+    let inodes = number(inodes)?;
+    if !is_host(host) || !are_sizes(blocks, inodes) {
+        return None;
     }
-    let blocks = number(blocks).ok_or(Failure::Bad)?;
-    let inodes = number(inodes).ok_or(Failure::Bad)?;
-    if !are_sizes(blocks, inodes) {
-        return Err(Failure::Bad);
-    }
-    Ok(Plan {
+    Some(Plan {
         host,
         blocks,
         inodes,
@@ -131,7 +184,8 @@ fn read_expiry(alloc: Global, words: &ArgMatches<'_>) -> Result<Vec<u8>, Failure
     read_line(alloc, b"expire", &[NAME, NUMBER], words)
 }
 
-/// A line that begins with this keyword, followed by the words of these names, none of which may have spaces.
+/// A line that begins with this keyword, followed by the words of these names. The grammar of none of these permits
+/// spaces.
 fn read_line(
     alloc: Global,
     keyword: &[u8],
@@ -141,22 +195,41 @@ fn read_line(
     let mut line = Vec::from_slice(alloc, keyword)?;
     for name in names {
         let text = word(words, name)?.as_bytes();
-        if text.contains(&b' ') {
-            return Err(Failure::Bad);
-        }
         line.push(b' ')?;
         line.extend_from_slice(text)?;
     }
     Ok(line)
 }
 
-/// The volume and the port that the words name.
-fn read_service<'a>(words: &ArgMatches<'a>) -> Result<Service<'a>, Failure> {
-    let path = word(words, PATH)?;
-    match words.get_one::<u16>(PORT) {
-        Some(port) => Ok(Service { path, port }),
-        None => Err(Failure::Bad),
+/// The server that the words describe.
+fn read_service<'a>(alloc: Global, words: &ArgMatches<'a>) -> Result<Service<'a>, Failure> {
+    Ok(Service {
+        path: word(words, PATH)?,
+        endpoints: read_endpoints(alloc, words)?,
+        networks: read_networks(alloc, words)?,
+        is_quiet: words.get_flag(QUIET),
+    })
+}
+
+/// Where the server listens: first the port of 127.0.0.1, if one is given.
+fn read_endpoints(alloc: Global, words: &ArgMatches<'_>) -> Result<Vec<SocketAddr>, Failure> {
+    let mut endpoints = Vec::new(alloc);
+    if let Some(port) = words.get_one::<u16>(PORT) {
+        endpoints.push(SocketAddr::from((Ipv4Addr::LOCALHOST, port)))?;
     }
+    for text in words.get_strs(LISTEN).unwrap_or(&[]) {
+        endpoints.push(read_endpoint(text).ok_or(Failure::Bad)?)?;
+    }
+    Ok(endpoints)
+}
+
+/// The networks from which callers are let in.
+fn read_networks(alloc: Global, words: &ArgMatches<'_>) -> Result<Vec<Network>, Failure> {
+    let mut networks = Vec::new(alloc);
+    for text in words.get_strs(ALLOW).unwrap_or(&[]) {
+        networks.push(Network::read(text).ok_or(Failure::Bad)?)?;
+    }
+    Ok(networks)
 }
 
 /// The volume and the articles that the words name.

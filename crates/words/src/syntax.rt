@@ -1,11 +1,14 @@
 //! The grammar of the program's words, and its help.
 
 use crate::table::{Kind, SUBCOMMANDS, Subcommand, Word};
-use clap::{Arg, ArgAction, Command, value_parser};
+use clap::{Arg, ArgAction, ArgGroup, Command, value_parser};
 use std::alloc::{AllocError, Global};
 
 /// The version that `newsd --version` prints.
 pub const VERSION: &str = "0.9.0";
+
+/// The group of words of which at least one has to be given.
+const ONE_OF: &str = "one of";
 
 /// The program's words, one level of subcommands.
 pub(crate) fn syntax<'a>(alloc: Global) -> Result<Command<'a>, AllocError> {
@@ -28,6 +31,10 @@ fn subcommand<'a>(alloc: Global, row: &Subcommand) -> Result<Command<'a>, AllocE
     for word in row.words {
         command = command.arg(argument(alloc, word))?;
     }
+    if !row.one_of.is_empty() {
+        let group = ArgGroup::new(alloc, ONE_OF).args(row.one_of)?;
+        command = command.group(group.required(true).multiple(true))?;
+    }
     Ok(command)
 }
 
@@ -44,8 +51,8 @@ fn argument<'a>(alloc: Global, word: &Word) -> Arg<'a> {
         Kind::Default(value) => argument.long(word.id).default_value(value),
         Kind::Port => argument
             .long(word.id)
-            .required(true)
             .value_parser(value_parser!(u16).range(1..)),
+        Kind::Repeated => argument.long(word.id).action(ArgAction::Append),
         Kind::LastOperand | Kind::Flag => argument,
     }
 }

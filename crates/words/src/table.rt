@@ -1,5 +1,7 @@
 //! The program's words as a table: each subcommand with the words that it takes, and what help says of them.
 
+use crate::grammars::Grammar;
+
 pub(crate) const HOST: &str = "host";
 
 pub(crate) const BLOCKS: &str = "blocks";
@@ -11,6 +13,12 @@ pub(crate) const CACHE: &str = "cache";
 pub(crate) const PATH: &str = "path";
 
 pub(crate) const PORT: &str = "port";
+
+pub(crate) const LISTEN: &str = "listen";
+
+pub(crate) const ALLOW: &str = "allow";
+
+pub(crate) const QUIET: &str = "quiet";
 
 pub(crate) const NAME: &str = "name";
 
@@ -24,6 +32,8 @@ pub(crate) const NUMBER: &str = "number";
 
 pub(crate) const CRLF: &str = "crlf";
 
+pub(crate) const JSON: &str = "json";
+
 /// A word of a subcommand, as it is read and as help shows it.
 #[derive(Clone, Copy)]
 pub(crate) struct Word {
@@ -33,6 +43,7 @@ pub(crate) struct Word {
     pub(crate) value: &'static str,
     pub(crate) help: &'static str,
     pub(crate) kind: Kind,
+    pub(crate) grammar: Grammar,
 }
 
 /// How a word is given.
@@ -46,8 +57,10 @@ pub(crate) enum Kind {
     Required,
     /// As an option, with the value that it has where it isn't given.
     Default(&'static str),
-    /// As an option that has to be given: a number from 1 to 65535.
+    /// As an option that may be left out: a number from 1 to 65535.
     Port,
+    /// As an option that may be given any number of times.
+    Repeated,
     /// As an option without a value.
     Flag,
 }
@@ -60,6 +73,8 @@ pub(crate) struct Subcommand {
     /// What its help says at the end, if it says anything there.
     pub(crate) after_help: Option<&'static str>,
     pub(crate) words: &'static [Word],
+    /// Of these words at least one has to be given; empty where none has to.
+    pub(crate) one_of: &'static [&'static str],
 }
 
 const VOLUME: Word = Word {
@@ -67,6 +82,7 @@ const VOLUME: Word = Word {
     value: "PATH",
     help: "The file that holds the volume",
     kind: Kind::Operand,
+    grammar: Grammar::Any,
 };
 
 const SERVER: Word = Word {
@@ -74,6 +90,7 @@ const SERVER: Word = Word {
     value: "HOST",
     help: "The server's name",
     kind: Kind::Required,
+    grammar: Grammar::Host,
 };
 
 const BLOCKS_OF_FILE: Word = Word {
@@ -81,6 +98,7 @@ const BLOCKS_OF_FILE: Word = Word {
     value: "N",
     help: "Logical blocks of 4096 octets",
     kind: Kind::Default("16384"),
+    grammar: Grammar::Blocks,
 };
 
 const BLOCKS_OF_MEMORY: Word = Word {
@@ -93,6 +111,7 @@ const INODES_OF_FILE: Word = Word {
     value: "I",
     help: "Files on the volume",
     kind: Kind::Default("8192"),
+    grammar: Grammar::Inodes,
 };
 
 const INODES_OF_MEMORY: Word = Word {
@@ -102,12 +121,19 @@ const INODES_OF_MEMORY: Word = Word {
 
 /// What `serve` does, in short.
 const SERVING: &str = "\
-Listens on 127.0.0.1 and prints `listening 127.0.0.1:P`. One server at a time serves a volume. \
+Prints `listening ADDRESS:PORT` for each address, that of --port first. One server at a time serves a volume. \
+A caller from 127.0.0.0/8 or ::1 is always let in, any other only from a network of --allow. Else it is told `502 Access denied`. \
 At most 64 sessions are served at one time; the next caller is told `400 Service ends`. Copy the volume for a backup while the server is stopped.
 
 Each line `group NAME STATUS MOMENT DESCRIPTION` of standard input makes a group, and each line `expire NAME N` takes the \
 articles of a group up to that number out of it; the serial is printed once it is durable, or the refusal. Where the device fails, the next caller is told `400 Service ends` and the server ends with `E1 Fault`, status 1. \
 Serve the volume again then: what was acknowledged is there. The same holds after the process was killed.";
+
+/// What `import` does, in short.
+const IMPORTING: &str = "\
+Reads the batch from standard input. Its lines end in LF or CRLF. Each article is filed as a transfer (IHAVE) would be; one that \
+is there already is left out, and so is one none of whose groups is there. Prints how many were filed. After a kill or a fault it can \
+be run again on the same batch.";
 
 /// The subcommands, in the order of the help.
 pub(crate) const SUBCOMMANDS: &[Subcommand] = &[
@@ -116,6 +142,7 @@ pub(crate) const SUBCOMMANDS: &[Subcommand] = &[
         about: "Makes an empty volume in a file, in place of any file there",
         after_help: None,
         words: &[VOLUME, SERVER, BLOCKS_OF_FILE, INODES_OF_FILE],
+        one_of: &[],
     },
     Subcommand {
         name: "group",
@@ -128,26 +155,31 @@ pub(crate) const SUBCOMMANDS: &[Subcommand] = &[
                 value: "NAME",
                 help: "The group, as in x.announce; at most 40 octets",
                 kind: Kind::Operand,
+                grammar: Grammar::Group,
             },
             Word {
                 id: STATUS,
                 value: "STATUS",
                 help: "y where posting is permitted, else n",
                 kind: Kind::Operand,
+                grammar: Grammar::Status,
             },
             Word {
                 id: MOMENT,
                 value: "MOMENT",
                 help: "When it is made, in seconds since 1970",
                 kind: Kind::Operand,
+                grammar: Grammar::Moment,
             },
             Word {
                 id: DESCRIPTION,
                 value: "DESCRIPTION",
                 help: "What it is about, at most 200 octets of ASCII",
                 kind: Kind::Operand,
+                grammar: Grammar::Description,
             },
         ],
+        one_of: &[],
     },
     Subcommand {
         name: "expire",
@@ -160,34 +192,77 @@ pub(crate) const SUBCOMMANDS: &[Subcommand] = &[
                 value: "NAME",
                 help: "The group",
                 kind: Kind::Operand,
+                grammar: Grammar::Group,
             },
             Word {
                 id: NUMBER,
                 value: "N",
                 help: "The articles up to this number are taken out",
                 kind: Kind::Operand,
+                grammar: Grammar::Article,
             },
         ],
+        one_of: &[],
     },
     Subcommand {
         name: "serve",
-        about: "Serves a volume to news readers on this machine",
+        about: "Serves a volume to news readers",
         after_help: Some(SERVING),
         words: &[
             VOLUME,
             Word {
                 id: PORT,
                 value: "P",
-                help: "The port, 1 to 65535",
+                help: "The same as --listen 127.0.0.1:P; P is 1 to 65535",
                 kind: Kind::Port,
+                grammar: Grammar::Any,
+            },
+            Word {
+                id: LISTEN,
+                value: "ADDRESS:PORT",
+                help: "Where callers are awaited, as in 192.0.2.7:119 or [::]:119; may be given several times",
+                kind: Kind::Repeated,
+                grammar: Grammar::Endpoint,
+            },
+            Word {
+                id: ALLOW,
+                value: "NETWORK",
+                help: "Who may call, as in 192.0.2.7 or 2001:db8::/32; may be given several times",
+                kind: Kind::Repeated,
+                grammar: Grammar::Network,
+            },
+            Word {
+                id: QUIET,
+                value: "",
+                help: "The ends of sessions are not logged",
+                kind: Kind::Flag,
+                grammar: Grammar::Any,
             },
         ],
+        one_of: &[PORT, LISTEN],
+    },
+    Subcommand {
+        name: "status",
+        about: "Prints the state of a volume that no server serves: its blocks, its inodes and its groups",
+        after_help: None,
+        words: &[
+            VOLUME,
+            Word {
+                id: JSON,
+                value: "",
+                help: "One JSON object on one line",
+                kind: Kind::Flag,
+                grammar: Grammar::Any,
+            },
+        ],
+        one_of: &[],
     },
     Subcommand {
         name: "dump",
         about: "Prints the accepted changes of a volume that no server serves",
         after_help: None,
         words: &[VOLUME],
+        one_of: &[],
     },
     Subcommand {
         name: "export",
@@ -200,14 +275,24 @@ pub(crate) const SUBCOMMANDS: &[Subcommand] = &[
                 value: "GROUP",
                 help: "The articles of this group alone, in rising number",
                 kind: Kind::LastOperand,
+                grammar: Grammar::Group,
             },
             Word {
                 id: CRLF,
                 value: "",
                 help: "Lines end in CRLF, as they are stored, and not in LF",
                 kind: Kind::Flag,
+                grammar: Grammar::Any,
             },
         ],
+        one_of: &[],
+    },
+    Subcommand {
+        name: "import",
+        about: "Files the articles of a batch for rnews in a volume that no server serves",
+        after_help: Some(IMPORTING),
+        words: &[VOLUME],
+        one_of: &[],
     },
     Subcommand {
         name: "sim",
@@ -222,7 +307,9 @@ pub(crate) const SUBCOMMANDS: &[Subcommand] = &[
                 value: "",
                 help: "Collects writes in memory until a sync",
                 kind: Kind::Flag,
+                grammar: Grammar::Any,
             },
         ],
+        one_of: &[],
     },
 ];

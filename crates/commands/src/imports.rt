@@ -1,0 +1,119 @@
+//! Files the articles of a batch.
+
+ghost use Rattle.std.specs.Prelude.{◌<◌};
+ghost use Rattle.model.specs.Calendar.{moment_limit};
+
+use crate::files::find;
+use importing::{Counts, ImportError, Place, Refused, Report, Store, Watcher};
+use printing::CommandError;
+use std::alloc::Global;
+use std::fs::File;
+use std::io::{self, Read, Write};
+use std::rt::Files;
+use std::time::{Clock, Duration, Instant};
+use wcache::WCache;
+
+/// The first second that is too late for a moment.
+const MOMENT_LIMIT: u64 = 253_402_300_800;
+
+/// The seconds between two lines of progress.
+const PAUSE_SECS: u64 = 1;
+
+/// Erases a line of a terminal.
+const ERASE: &str = "\r\x1b[K";
+
+/// Says what is refused, and on a terminal how far the import is.
+#[derive(Drop)]
+struct Teller<'a, R, F> {
+    rt: &'a R,
+    faults: &'a mut F,
+    /// What is said goes to a terminal.
+    is_terminal: bool,
+    start: Instant,
+    /// The time since the start at which the next line of progress is due.
+    due: Duration,
+}
+
+impl<'a, R: Clock, F: Write> Teller<'a, R, F> {
+    fn new(rt: &'a R, faults: &'a mut F, is_terminal: bool) -> io::Result<Teller<'a, R, F>> {
+        Ok(Teller {
+            start: Instant::now(rt)?,
+            rt,
+            faults,
+            is_terminal,
+            due: Duration::from_secs(PAUSE_SECS),
+        })
+    }
+
+    /// Erases the line of progress.
+    fn erase(&mut self) -> io::Result<()> {
+        if self.is_terminal {
+            write!(self.faults, "{ERASE}")?;
+        }
+        self.faults.flush()
+    }
+
+    /// Writes the line of progress.
+    fn show(&mut self, elapsed: Duration, octets: u64, counts: &Counts) -> io::Result<()> {
+        let articles = counts.all();
+        let rate = articles / elapsed.as_secs().max(1);
+        write!(
+            self.faults,
+            "{ERASE}{articles} articles, {octets} octets, {rate} articles a second"
+        )?;
+        self.faults.flush()
+    }
+}
+
+impl<'a, R: Clock, F: Write> Watcher for Teller<'a, R, F> {
+    /// 1970 if the clock gives no time from 1970 to 9999.
+    fn moment(&mut self) -> u64 {
+        match self.rt.since_1970() {
+            Ok(since) if since.as_secs() < MOMENT_LIMIT => since.as_secs(),
+            _ => 0,
+        }
+    }
+
+    fn refused(&mut self, place: Place, why: Refused) -> io::Result<()> {
+        self.erase()?;
+        writeln!(self.faults, "newsd: {place}: {why}")
+    }
+
+    fn progress(&mut self, octets: u64, counts: &Counts) -> io::Result<()> {
+        if !self.is_terminal {
+            return Ok(());
+        }
+        let elapsed = self.start.elapsed(self.rt)?;
+        if elapsed < self.due {
+            return Ok(());
+        }
+        self.due = elapsed.saturating_add(Duration::from_secs(PAUSE_SECS));
+        self.show(elapsed, octets, counts)
+    }
+}
+
+/// Files the articles of a batch in a volume, as `importing::import` does. Each refused article is said on `faults`; if
+/// that is a terminal, it also shows the progress.
+pub fn import<R: Files<File = File> + Clock, I: Read, F: Write>(
+    rt: &R,
+    alloc: Global,
+    path: &str,
+    input: &mut I,
+    faults: &mut F,
+    is_terminal: bool,
+) -> Result<Report, CommandError> {
+    let disk = find(rt, alloc, path)?;
+    let mut store = match Store::open(alloc, WCache::new(alloc, disk)) {
+        Ok(store) => store,
+        Err(error) => return Err(CommandError::NotOpened(error)),
+    };
+    let mut teller = Teller::new(rt, faults, is_terminal)?;
+    let imported = importing::import(alloc, &mut store, input, &mut teller);
+    teller.erase()?;
+    match imported {
+        Ok(report) => Ok(report),
+        Err(ImportError::Memory) => Err(CommandError::Memory),
+        Err(ImportError::Device(error)) => Err(CommandError::from(error)),
+        Err(ImportError::Stream(error)) => Err(CommandError::from(error)),
+    }
+}

@@ -1,0 +1,40 @@
+//! Tells the state of a volume.
+
+use crate::files::find;
+use printing::CommandError;
+use reporting::{VolumeStatus, json_text, table_text};
+use std::alloc::Global;
+use std::fs::File;
+use std::io::Write;
+use std::rt::Files;
+use volume_states::state_on;
+use wcache::WCache;
+
+/// Prints the state of a volume, for a person or as JSON on one line.
+pub fn status<R: Files<File = File>, W: Write>(
+    rt: &R,
+    alloc: Global,
+    path: &str,
+    is_json: bool,
+    output: &mut W,
+) -> Result<(), CommandError> {
+    let state = state_of(rt, alloc, path)?;
+    if is_json {
+        let text = json_text(alloc, &state)?;
+        writeln!(output, "{text}")?;
+    } else {
+        output.write_all(table_text(alloc, &state)?.as_slice())?;
+    }
+    output.flush()?;
+    Ok(())
+}
+
+/// The state of the volume in a file.
+fn state_of<R: Files<File = File>>(
+    rt: &R,
+    alloc: Global,
+    path: &str,
+) -> Result<VolumeStatus, CommandError> {
+    let disk = find(rt, alloc, path)?;
+    state_on(alloc, WCache::new(alloc, disk)).map_err(CommandError::NotOpened)
+}

@@ -1,0 +1,80 @@
+//! What each word may be.
+
+use names::{is_group_name, is_host, number_of};
+use networks::{Network, read_endpoint};
+use new_volume::are_sizes;
+use script::{DESCRIPTION_LIMIT, MOMENT_LIMIT, number};
+
+/// The least number of inodes and the largest number of blocks: with these, any permitted number of the other is right.
+const FEWEST_INODES: u64 = 64;
+
+const MOST_BLOCKS: u64 = 65_536;
+
+/// What a word may be.
+#[derive(Clone, Copy)]
+pub(crate) enum Grammar {
+    /// Any text.
+    Any,
+    /// The name of a server.
+    Host,
+    /// A number of blocks.
+    Blocks,
+    /// A number of inodes.
+    Inodes,
+    /// The name of a group.
+    Group,
+    /// Whether posting is permitted.
+    Status,
+    /// Seconds since 1970, before the year 10000.
+    Moment,
+    /// The description of a group.
+    Description,
+    /// The number of an article.
+    Article,
+    /// Where a server listens.
+    Endpoint,
+    /// A network of callers.
+    Network,
+}
+
+impl Grammar {
+    /// Whether a word follows the grammar.
+    pub(crate) fn holds(self, word: &str) -> bool {
+        let octets = word.as_bytes();
+        match self {
+            Grammar::Any => true,
+            Grammar::Host => is_host(octets),
+            Grammar::Blocks => number(octets).is_some_and(|n| are_sizes(n, FEWEST_INODES)),
+            Grammar::Inodes => number(octets).is_some_and(|n| are_sizes(MOST_BLOCKS, n)),
+            Grammar::Group => is_group_name(octets),
+            Grammar::Status => word == "y" || word == "n",
+            Grammar::Moment => number(octets).is_some_and(|moment| moment < MOMENT_LIMIT),
+            Grammar::Description => is_description(octets),
+            Grammar::Article => number_of(octets).is_some(),
+            Grammar::Endpoint => read_endpoint(word).is_some(),
+            Grammar::Network => Network::read(word).is_some(),
+        }
+    }
+
+    /// What a refusal says of a word that doesn't follow the grammar.
+    pub(crate) fn fault(self) -> &'static str {
+        match self {
+            Grammar::Any => "is no text",
+            Grammar::Host => "is no name of a server",
+            Grammar::Blocks => "is no number from 1024 to 65536",
+            Grammar::Inodes => "is no multiple of 64 from 64 to 32768",
+            Grammar::Group => "is no name of a group",
+            Grammar::Status => "is neither y nor n",
+            Grammar::Moment => "is no number of seconds before the year 10000",
+            Grammar::Description => "is no line of at most 200 octets of ASCII",
+            Grammar::Article => "is no number of an article",
+            Grammar::Endpoint => "is no ADDRESS:PORT",
+            Grammar::Network => "is no ADDRESS or ADDRESS/LENGTH",
+        }
+    }
+}
+
+/// Whether a text may describe a group.
+fn is_description(text: &[u8]) -> bool {
+    text.len() <= DESCRIPTION_LIMIT && text.iter().all(|octet| 32 <= *octet && *octet <= 126)
+}
