@@ -16,6 +16,7 @@ ESTABLISHED = 1
 LIBC = ctypes.CDLL(None)
 SET_PARENT_DEATH_SIGNAL = 1
 LINE_OCTETS = 72
+LOGGED = "time="
 
 
 def article(number, subject="one", body="hi"):
@@ -56,22 +57,30 @@ def simulate(program, lines, blocks, inodes):
 class Volume:
     """A volume in a file of a directory that goes with the test."""
 
-    def __init__(self, program, directory, blocks=8192, inodes=4096):
+    def __init__(self, program, directory, blocks=8192, inodes=4096, host=HOST):
         self.program = os.path.abspath(program)
         self.path = os.path.join(directory, "volume")
-        self.run("format", self.path, "--host", HOST, "--blocks", str(blocks), "--inodes", str(inodes)).check_returncode()
+        self.run("format", self.path, "--host", host, "--blocks", str(blocks), "--inodes", str(inodes)).check_returncode()
 
-    def another(self, name):
+    def another(self, name, **given):
         """Another volume, of the same test."""
         directory = os.path.join(os.path.dirname(self.path), name)
         os.mkdir(directory)
-        return Volume(self.program, directory)
+        return Volume(self.program, directory, **given)
 
-    def run(self, *words, most_memory=resource.RLIM_INFINITY):
-        """Runs the program on these words to its end, with at most this much memory."""
+    def run(self, *words, given=b"", most_memory=resource.RLIM_INFINITY, user=None):
+        """Runs the program on these words and this input to its end, with at most this much memory, and by the user of this number."""
         def limit():
             resource.setrlimit(resource.RLIMIT_AS, (most_memory, most_memory))
-        return subprocess.run([self.program, *words], stdin=subprocess.DEVNULL, capture_output=True, timeout=SECONDS, preexec_fn=limit)
+            if user is not None:
+                os.setuid(user)
+        return subprocess.run([self.program, *words], input=given, capture_output=True, timeout=SECONDS, preexec_fn=limit)
+
+    def export(self, *words):
+        """The articles as a batch."""
+        done = self.run("export", self.path, *words)
+        assert (done.returncode, done.stderr) == (0, b""), done
+        return done.stdout
 
     def make_group(self, name=GROUP):
         made = self.run("group", self.path, name, "y", "1000000000", "test")
@@ -90,19 +99,19 @@ class Volume:
         done.check_returncode()
         return done.stdout.decode().splitlines()
 
-    def serve(self, by=()):
-        """A server of it, which the program of these words runs where there are any."""
-        return Server(self, by)
+    def serve(self, by=(), words=()):
+        """A server of it, with these further words, which the program of the words `by` runs where there are any."""
+        return Server(self, by, words)
 
 
 class Server:
     """A running server. It is ended by its own process number. What reads its pipes waits as long as the caller lets it."""
 
-    def __init__(self, volume, by=()):
+    def __init__(self, volume, by=(), words=()):
         for _ in range(5):
             self.port = free_port()
             self.process = subprocess.Popen(
-                [*by, volume.program, "serve", volume.path, "--port", str(self.port)],
+                [*by, volume.program, "serve", volume.path, "--port", str(self.port), *words],
                 stdin=subprocess.PIPE, stdout=subprocess.PIPE, stderr=subprocess.PIPE,
                 # python ignores the signal of a file that grows past its limit, and so does the server then
                 restore_signals=False,
@@ -156,9 +165,14 @@ class Server:
         return len(os.listdir("/proc/%d/fd" % self.process.pid))
 
     def end(self, seconds=SECONDS):
-        """The status and the faults of a server that ends by itself."""
+        """The status and the faults of a server that ends by itself. The lines of its log are none."""
         status = self.process.wait(seconds)
-        return status, self.process.stderr.read().decode()
+        said = self.process.stderr.read().decode().splitlines(keepends=True)
+        return status, "".join(line for line in said if not line.startswith(LOGGED))
+
+    def log(self):
+        """The next line of its log."""
+        return self.process.stderr.readline().decode().rstrip("\n")
 
     def order(self, line):
         """What the operator is answered."""
@@ -203,12 +217,14 @@ class Server:
 class Caller:
     """A client that reads its greeting when it comes."""
 
-    def __init__(self, port, receive_octets=None, seconds=SECONDS):
-        self.socket = socket.socket()
+    def __init__(self, port, receive_octets=None, seconds=SECONDS, to="127.0.0.1", source=None):
+        self.socket = socket.socket(socket.AF_INET6 if ":" in to else socket.AF_INET)
         if receive_octets:
             self.socket.setsockopt(socket.SOL_SOCKET, socket.SO_RCVBUF, receive_octets)
         self.socket.settimeout(seconds)
-        self.socket.connect(("127.0.0.1", port))
+        if source:
+            self.socket.bind((source, 0))
+        self.socket.connect((to, port))
         self.socket.setsockopt(socket.IPPROTO_TCP, socket.TCP_NODELAY, 1)
         self.file = self.socket.makefile("rb")
         self.greeting = self.line()

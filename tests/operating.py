@@ -8,25 +8,39 @@ import socket
 import ssl
 import subprocess
 import sys
+import threading
 import time
 
-from newsd import GREETING, GROUP, SECONDS, Caller, article, end_with_parent, free_port, wait_until
+from newsd import GREETING, GROUP, HOST, LOGGED, SECONDS, Caller, article, end_with_parent, free_port, wait_until
 from playing import Skipped, main
 
 TOP = os.path.dirname(os.path.dirname(os.path.abspath(__file__)))
 PAGE = os.path.join(TOP, "docs", "OPERATING.md")
-# the first block of code of the page
+# a block of code of the page
 COMMANDS = re.compile(r"```\n(.*?)```", re.DOTALL)
 TEN = 10
 # they make a volume of the usual size, which a program with checks does slowly
 SECONDS_OF_THE_TEN = 120
 PORT = "1119"
-INSTALLED = ("bin/newsd", "share/man/man1/newsd.1", "lib/systemd/system/newsd.service")
+UNITS = "lib/systemd/system"
+INSTALLED = ("bin/newsd", "share/man/man1/newsd.1", UNITS + "/newsd.service", UNITS + "/newsd.socket")
+PIPE = "/run/newsd.operator"
+SYSTEMD = "/lib/systemd/systemd"
 
 
 def read(*path):
     with open(os.path.join(*path)) as file:
         return file.read()
+
+
+def write(path, text):
+    with open(path, "w") as file:
+        file.write(text)
+
+
+def answers_in(*path):
+    """The answers of a server in a file that has its log, too."""
+    return [line for line in read(*path).splitlines() if not line.startswith(LOGGED)]
 
 
 def place_of(volume):
@@ -47,7 +61,7 @@ def found_in(folder):
 
 def the_ten_commands_serve_a_group(volume):
     """They are played as they stand on the page, but on a port that is free, in a home of the test, and with the built program."""
-    commands = COMMANDS.search(read(PAGE)).group(1)
+    commands = COMMANDS.findall(read(PAGE))[0]
     assert len(commands.splitlines()) == TEN and PORT in commands, commands
     home, port = os.path.join(place_of(volume), "home"), str(free_port())
     os.mkdir(home)
@@ -59,15 +73,41 @@ def the_ten_commands_serve_a_group(volume):
         try:
             assert playing.wait(SECONDS_OF_THE_TEN) == 0, read(home, "said")
             # the operator's group is answered once it is durable
-            wait_until(lambda: read(home, "news", "serve.log").splitlines() == ["listening 127.0.0.1:" + port, "2"], SECONDS)
+            wait_until(lambda: answers_in(home, "news", "serve.log") == ["listening 127.0.0.1:" + port, "2"], SECONDS)
             with Caller(int(port)) as caller:
                 assert caller.ask("GROUP x.more") == "211 0 1 0 x.more"
         finally:
             # the server is of the shell's group of processes
             os.killpg(playing.pid, signal.SIGKILL)
     lines = read(home, "said").splitlines()
-    assert lines[:3] == ["install: " + os.path.join(home, ".local", it) for it in INSTALLED], lines
-    assert lines[3] == "1" and GREETING in lines and "x.test 0 1 y" in lines and lines[-1] == "205 Bye", lines
+    assert lines[:4] == ["install: " + os.path.join(home, ".local", it) for it in INSTALLED], lines
+    assert lines[4] == "1" and GREETING in lines and "x.test 0 1 y" in lines and lines[-1] == "205 Bye", lines
+
+
+def a_volume_is_moved_to_a_larger_one(volume):
+    """By the commands of the page. Articles that were named here are among those that are moved."""
+    place = place_of(volume)
+    for name, status in ((GROUP, "y"), ("x.b", "n")):
+        volume.run("group", volume.path, name, status, "1000000000", "test").check_returncode()
+    with volume.serve() as server, server.call() as caller:
+        for number in range(1, 4):
+            assert caller.post(article(number)) == "240 Article received"
+        assert caller.post(b"From: a@example.org\r\nNewsgroups: x.b,x.a\r\nSubject: named here\r\n\r\nhi\r\n.\r\n") == "441 Article not accepted"
+        assert caller.post(b"From: a@example.org\r\nNewsgroups: x.a\r\nSubject: named here\r\n\r\nhi\r\n.\r\n") == "240 Article received"
+        assert server.order("expire x.a 1") == "7"
+    os.symlink(volume.program, place + "/newsd")
+    os.symlink(volume.path, place + "/news.volume")
+    commands = COMMANDS.findall(read(PAGE))[1]
+    assert "newsd import" in commands, commands
+    given = dict(os.environ, PATH="%s:%s" % (place, os.environ["PATH"]))
+    words = ["bash", "-e", "-o", "pipefail", "-c", commands]
+    done = subprocess.run(words, cwd=place, env=given, capture_output=True, text=True, stdin=subprocess.DEVNULL, timeout=SECONDS_OF_THE_TEN)
+    assert (done.returncode, done.stdout, done.stderr) == (0, "1\n2\nfiled 3\nhere 0\nno group 0\nrefused 0\n", ""), done
+    larger = volume.run("dump", place + "/larger.volume").stdout.decode().splitlines()
+    named = "<6@%s>" % HOST
+    assert larger == ["spool 5", "1 group x.a y", "2 group x.b n", "3 article <2@a.example> x.a", "4 article <3@a.example> x.a",
+                      "5 article %s x.a" % named], larger
+    assert volume.run("export", place + "/larger.volume").stdout == volume.export()
 
 
 def an_installation_is_whole(volume):
@@ -106,39 +146,188 @@ def a_refused_installation_changes_nothing(volume):
         assert found_in(place) == before, prefix
 
 
-def systemd_takes_the_unit(volume):
+def systemd_takes_the_units(volume):
+    """As they are installed, and with contrib/callers.conf."""
     program = shutil.which("systemd-analyze")
     if program is None:
         raise Skipped("systemd-analyze isn't installed")
     prefix = os.path.join(place_of(volume), "prefix")
     install(volume, prefix).check_returncode()
-    words = [program, "verify", "--man=no", os.path.join(prefix, INSTALLED[2])]
-    done = subprocess.run(words, capture_output=True, text=True, timeout=SECONDS)
-    assert (done.returncode, done.stdout, done.stderr) == (0, "", ""), done
+    more = os.path.join(prefix, UNITS, "newsd.service.d")
+    for has_callers in (False, True):
+        if has_callers:
+            os.mkdir(more)
+            write(more + "/callers.conf", read(TOP, "contrib", "callers.conf").replace("/usr/local", prefix))
+        words = [program, "verify", "--man=no", *(os.path.join(prefix, it) for it in INSTALLED[2:])]
+        done = subprocess.run(words, capture_output=True, text=True, timeout=SECONDS)
+        assert (done.returncode, done.stdout, done.stderr) == (0, "", ""), done
 
 
-def the_units_command_serves_until_it_is_told_to_end(volume):
-    """Its words, with nothing on standard input, as systemd starts it, and then the signal by which systemd ends it."""
+def setting(name, *path):
+    """The value of a setting that a unit has once."""
+    found = re.findall("^%s=(.*)$" % name, read(TOP, "contrib", *path), re.MULTILINE)
+    assert len(found) == 1, (name, found)
+    return found[0]
+
+
+def the_units_commands_serve_until_they_are_told_to_end(volume):
+    """They run as systemd would run them, with the pipe on standard input, and then without it."""
     volume.make_group()
     port = free_port()
-    command = re.search("^ExecStart=(.*)$", read(TOP, "contrib", "newsd.service"), re.MULTILINE).group(1).split()
-    assert "StandardInput=null\n" in read(TOP, "contrib", "newsd.service")
+    assert setting("StandardInput", "newsd.service") == "socket" and setting("ListenFIFO", "newsd.socket") == PIPE
+    pipe = os.path.join(place_of(volume), "operator")
+    os.mkfifo(pipe)
     values = {"/usr/local/bin/newsd": volume.program, "/var/lib/newsd/news.volume": volume.path, PORT: str(port)}
+    command = setting("ExecStart", "newsd.service").split()
     assert set(values) <= set(command), command
     words = [values.get(it, it) for it in command]
-    serving = subprocess.Popen(words, stdin=subprocess.DEVNULL, stdout=subprocess.PIPE, text=True, preexec_fn=end_with_parent)
-    with serving:
-        try:
-            assert serving.stdout.readline() == "listening 127.0.0.1:%d\n" % port
-            # the end of standard input changes nothing
-            time.sleep(1)
-            with Caller(port) as caller:
-                assert caller.post(article(1)) == "240 Article received"
-            serving.terminate()
-            assert serving.wait(SECONDS) == -signal.SIGTERM
-        finally:
-            serving.kill()
-    assert volume.dump() == ["spool 2", "1 group x.a y", "2 article <1@a.example> x.a"]
+    # the signal by which systemd ends a service, where nobody writes into the pipe
+    with Started(words, subprocess.DEVNULL, port) as serving, Caller(port) as caller:
+        # the end of standard input changes nothing
+        time.sleep(1)
+        assert caller.post(article(1)) == "240 Article received"
+        serving.terminate()
+        assert serving.wait(SECONDS) == -signal.SIGTERM
+    # systemd opens a pipe both ways
+    held = os.open(pipe, os.O_RDWR)
+    try:
+        with Started(words, held, port) as serving, Caller(port) as caller:
+            assert caller.post(article(2)) == "240 Article received"
+            # as systemd does, it takes note of the end at once
+            threading.Thread(target=serving.wait, daemon=True).start()
+            stopped = stop_by_the_unit(pipe, serving.pid)
+            assert (stopped.returncode, stopped.stdout, stopped.stderr) == (0, b"", b""), stopped
+            assert (serving.stdout.readline(), serving.wait(SECONDS)) == ("stopped\n", 0)
+        # it has ended by itself
+        stopped = stop_by_the_unit(pipe, None)
+        assert (stopped.returncode, stopped.stdout, stopped.stderr) == (0, b"", b""), stopped
+    finally:
+        os.close(held)
+    assert volume.dump() == ["spool 3", "1 group x.a y", "2 article <1@a.example> x.a", "3 article <2@a.example> x.a"]
+
+
+def stop_by_the_unit(pipe, process):
+    """Runs the command that the unit has for a stop of this process, or of one that has ended."""
+    line = setting("ExecStop", "newsd.service")
+    assert line.startswith("/bin/sh -c '") and line.endswith("'") and line.count(PIPE) == 1, line
+    # $$ is a $ of the shell's
+    script = line[len("/bin/sh -c '"):-1].replace("$$", "$").replace(PIPE, pipe)
+    given = {"PATH": os.environ["PATH"], **({} if process is None else {"MAINPID": str(process)})}
+    return subprocess.run(["/bin/sh", "-c", script], env=given, capture_output=True, timeout=SECONDS)
+
+
+class Started(subprocess.Popen):
+    """A server by these words, which listens on this port. It is killed at the end."""
+
+    def __init__(self, words, given, port):
+        super().__init__(words, stdin=given, stdout=subprocess.PIPE, stderr=subprocess.DEVNULL, text=True, preexec_fn=end_with_parent)
+        assert self.stdout.readline() == "listening 127.0.0.1:%d\n" % port
+
+    def __exit__(self, *given):
+        self.kill()
+        super().__exit__(*given)
+
+
+def systemd_runs_the_units(volume):
+    """A systemd of the user's kind, in namespaces of its own, runs them but for the lines that only the system's own may have."""
+    if os.getuid() or not os.path.exists(SYSTEMD) or not all(map(shutil.which, ("systemctl", "unshare"))):
+        raise Skipped("systemd can't be started by this user here")
+    if os.path.isdir("/run/systemd/system"):
+        raise Skipped("this machine has a systemd that runs, which the test leaves alone")
+    volume.make_group()
+    place, port = place_of(volume), str(free_port())
+    pipe = os.path.join(place, "operator")
+    units = os.path.join(place, "config", "systemd", "user")
+    os.makedirs(units)
+    changed = {"/usr/local/bin/newsd": volume.program, "/var/lib/newsd/news.volume": volume.path, "/var/lib/newsd": place, PIPE: pipe, PORT: port,
+               "=journal": "=append:%s/said" % place, "RestartSec=10": "RestartSec=1"}
+    for name in ("newsd.service", "newsd.socket"):
+        text = read(TOP, "contrib", name)
+        for before, after in changed.items():
+            text = text.replace(before, after)
+        kept = [it for it in text.splitlines() if it.partition("=")[0] not in SYSTEMS_OWN]
+        write(os.path.join(units, name), "\n".join(kept) + "\n")
+    words = ["unshare", "--mount", "--pid", "--fork", "--mount-proc", "--kill-child", "sh", "-c", PLAY, "sh", place, SYSTEMD]
+    groups = set(control_groups())
+    try:
+        done = subprocess.run(words, capture_output=True, text=True, stdin=subprocess.DEVNULL, timeout=3 * SECONDS,
+                              preexec_fn=end_with_parent)
+    finally:
+        for group in sorted(set(control_groups()) - groups, key=len, reverse=True):
+            wait_until(lambda: is_removed(group))
+    if "no systemd" in done.stdout:
+        raise Skipped("systemd doesn't start here")
+    # systemctl may warn that the socket can start the service again, until it has stopped that, too
+    assert (done.returncode, done.stdout.splitlines()) == (0, PLAYED), (done, read(place, "systemd.log"), read(place, "said"))
+    said = answers_in(place, "said")
+    # the server that was killed is started again, and after a stop in order none for the line that was left
+    listening = "listening 127.0.0.1:" + port
+    status = next(line for line in said if line.startswith("host "))
+    first, last = [listening, "2", "stopped", listening, listening, "E11 Exists"], [listening, status, "stopped"]
+    assert said in ([*first, *["stopped"] * answered, *last] for answered in (1, 2)), said
+    assert volume.dump() == ["spool 2", "1 group x.a y", "2 group x.b y"]
+
+
+def control_groups():
+    """The groups of processes that a systemd makes. Others may come and go at any time."""
+    folders = (folder for folder, _, _ in os.walk("/sys/fs/cgroup"))
+    return (folder for folder in folders if {"init.scope", "app.slice"} & set(folder.split("/")))
+
+
+def is_removed(group):
+    """Whether a group of processes is gone, after a try to remove it: not while one of them ends."""
+    try:
+        os.rmdir(group)
+    except OSError:
+        pass
+    return not os.path.isdir(group)
+
+
+# what a systemd of the user's kind doesn't have, or not for each user
+SYSTEMS_OWN = {"User", "Group", "SocketUser", "SocketGroup", "CapabilityBoundingSet", "PrivateDevices", "ProtectSystem", "ReadWritePaths",
+               "ProtectHome", "PrivateTmp", "ProtectKernelTunables", "ProtectKernelModules", "ProtectControlGroups", "IPAddressDeny",
+               "IPAddressAllow"}
+PLAY = r"""
+mount -t tmpfs tmpfs /run && mkdir -p /run/systemd/system /run/user/0 || { echo no systemd; exit; }
+export XDG_RUNTIME_DIR=/run/user/0 XDG_CONFIG_HOME="$1/config" HOME="$1"
+"$2" --user --log-target=console >"$1/systemd.log" 2>&1 &
+tries=0
+until systemctl --user list-units >/dev/null 2>&1; do
+    tries=$((tries + 1))
+    [ $tries -lt 100 ] && kill -0 $! || { echo no systemd; exit; }
+    sleep 0.1
+done
+wait_for() { tries=0; until [ "0$(grep -sc "$1" "$HOME/said")" -ge "$2" ]; do tries=$((tries + 1)); [ $tries -lt 200 ] || exit 1; sleep 0.1; done; }
+state() { systemctl --user show newsd.service --property=ActiveState,Result --value | tr '\n' ' '; echo; }
+systemctl --user start newsd.service
+wait_for listening 1
+state
+echo 'group x.b y 1000000000 test' >"$HOME/operator"
+wait_for '^2$' 1
+systemctl --user stop newsd.service
+state
+tries=0
+while [ -e "$HOME/operator" ] && [ $tries -lt 200 ]; do tries=$((tries + 1)); sleep 0.1; done
+[ -e "$HOME/operator" ] || echo the pipe is gone
+systemctl --user start newsd.service
+wait_for listening 2
+kill -9 "$(systemctl --user show newsd.service --property=MainPID --value)"
+wait_for listening 3
+state
+echo 'group x.b y 1000000000 test' >"$HOME/operator"
+wait_for '^E11 Exists$' 1
+printf 'stop\nstop\n' >"$HOME/operator"
+wait_for stopped 2
+sleep 2
+state
+echo status >"$HOME/operator"
+wait_for '^host ' 1
+state
+systemctl --user stop newsd.service
+state
+"""
+PLAYED = ["success active ", "success inactive ", "the pipe is gone", "success active ", "success inactive ", "success active ",
+          "success inactive "]
 
 
 def readers_elsewhere_come_by_tls(volume):
@@ -226,10 +415,12 @@ def read_by_tls(port, trusted, shown=None):
 
 TESTS = [
     the_ten_commands_serve_a_group,
+    a_volume_is_moved_to_a_larger_one,
     an_installation_is_whole,
     a_refused_installation_changes_nothing,
-    systemd_takes_the_unit,
-    the_units_command_serves_until_it_is_told_to_end,
+    systemd_takes_the_units,
+    the_units_commands_serve_until_they_are_told_to_end,
+    systemd_runs_the_units,
     readers_elsewhere_come_by_tls,
 ]
 

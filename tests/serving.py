@@ -8,7 +8,7 @@ import threading
 import time
 import warnings
 
-from newsd import GREETING, GROUP, HOST, Caller, article, message_id, octets, settled_octets
+from newsd import GREETING, GROUP, HOST, SECONDS, SERVICE_ENDS, Caller, article, message_id, octets, settled_octets, wait_until
 from playing import Skipped, main
 
 
@@ -173,7 +173,10 @@ def one_server_holds_a_volume(volume):
             ["format", volume.path, "--host", HOST],
         ):
             done = volume.run(*words)
-            assert (done.returncode, done.stdout, done.stderr) == (1, b"", b"newsd: E1 Fault\n"), (words, done)
+            # the holder's number isn't seen from everywhere
+            holders = ["process %d" % server.process.pid, "a server or another command"]
+            refused = ["newsd: E1 Fault: the volume is in use by %s\n" % holder for holder in holders]
+            assert (done.returncode, done.stdout) == (1, b"") and done.stderr.decode() in refused, (words, done)
         assert octets(volume.path) == before
         assert caller.ask("STAT <1@a.example>") == "223 0 <1@a.example>"
     assert volume.dump() == ["spool 2", "1 group %s y" % GROUP, "2 article <1@a.example> %s" % GROUP]
@@ -198,14 +201,83 @@ def the_operator_makes_changes(volume):
     ]
 
 
+def the_operator_looks(volume):
+    volume.make_group()
+    with volume.serve() as server, server.call() as caller:
+        said = status_of(server.order("status").split())
+        assert (said["host"], said["format"]) == (HOST, "1"), said
+        assert (said["blocks"][1], said["inodes"]) == ("8192", ("3", "4096")), said
+        assert (said["sessions"], said["accepted"], said["durable"], said["batches"]) == ("1", "1", "1", "0"), said
+        assert caller.post(article(1)) == "240 Article received"
+        wait_until(lambda: status_of(server.order("status").split())["batches"] == "1")
+        then = status_of(server.order("status").split())
+        assert (then["inodes"][0], then["accepted"], then["durable"]) == ("4", "2", "2"), then
+        assert int(then["blocks"][0]) > int(said["blocks"][0]) and int(then["syncs"]) > int(said["syncs"]), (said, then)
+
+
+def status_of(words):
+    """The names of a status line, each with its number, or with its two numbers."""
+    said, at = {}, 0
+    while at < len(words):
+        has_two = words[at + 2:at + 3] == ["of"]
+        said[words[at]] = (words[at + 1], words[at + 3]) if has_two else words[at + 1]
+        at += 4 if has_two else 2
+    return said
+
+
+def a_stop_under_load_ends_in_order(volume):
+    volume.make_group()
+    told, replies, lock = set(), set(), threading.Lock()
+
+    def post(poster):
+        with server.call() as caller:
+            try:
+                for number in range(1000):
+                    name = "%d.%d" % (poster, number)
+                    reply = caller.post(article(name))
+                    with lock:
+                        if reply != "240 Article received":
+                            return replies.add(reply)
+                        told.add(name)
+            except OSError:
+                replies.add("")
+
+    threads = [threading.Thread(target=post, args=(poster,)) for poster in range(16)]
+    with volume.serve() as server:
+        for thread in threads:
+            thread.start()
+        wait_until(lambda: len(told) >= 100, SECONDS)
+        assert server.order("stop") == "stopped"
+        assert server.end() == (0, "")
+        for thread in threads:
+            thread.join()
+    # each accepted article was acknowledged, and nothing else was told than that the service ends
+    assert {line.split()[2] for line in volume.dump()[2:]} == {message_id(name) for name in told}
+    assert replies <= {"", SERVICE_ENDS}, replies
+    print("  %d told" % len(told))
+
+
+def a_server_with_nothing_to_do_stops(volume):
+    with volume.serve() as server, server.call() as caller:
+        assert caller.greeting == GREETING
+        assert server.order("stop") == "stopped"
+        assert caller.has_ended()
+        assert server.end() == (0, "")
+    with volume.serve() as server:
+        assert server.order("group x.a y 1000000000 test") == "1"
+        assert server.order("stop") == "stopped"
+        assert server.end() == (0, "")
+    assert volume.dump() == ["spool 1", "1 group x.a y"]
+
+
 def articles_are_taken_out(volume):
     volume.make_group()
     with volume.serve() as server, server.call() as caller:
         for number in (1, 2, 3):
             assert caller.post(article(number)) == "240 Article received"
-    for name, number in ((GROUP, "4"), ("x.b", "1")):
+    for name, number, why in ((GROUP, "4", "the group has no article of this number"), ("x.b", "1", "the group isn't here")):
         refused = volume.run("expire", volume.path, name, number)
-        assert (refused.returncode, refused.stderr) == (1, b"newsd: E12 NotFound\n"), refused
+        assert (refused.returncode, refused.stderr.decode()) == (1, "newsd: E12 NotFound: %s\n" % why), refused
     assert volume.expire(2) == 5
     assert volume.dump()[-1] == "5 expire x.a 2"
     with volume.serve() as server, server.call() as caller:
@@ -269,6 +341,9 @@ TESTS = [
     a_kill_under_load_takes_nothing_back,
     one_server_holds_a_volume,
     the_operator_makes_changes,
+    the_operator_looks,
+    a_stop_under_load_ends_in_order,
+    a_server_with_nothing_to_do_stops,
     articles_are_taken_out,
     a_client_library_reads,
 ]

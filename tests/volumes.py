@@ -1,14 +1,9 @@
 #!/usr/bin/env python3
 """System tests of the commands over a volume in a file, and of its largest sizes. volumes.py NEWSD [NAME..]"""
-import grp
-import os
-import pwd
-import shutil
 import struct
-import subprocess
 import sys
 
-from newsd import GROUP, HOST, SECONDS, article, message_id, octets, simulate
+from newsd import GROUP, HOST, article, octets, simulate
 from playing import Skipped, main
 from syncs import count_calls
 
@@ -20,39 +15,45 @@ def what_can_not_be_served_is_refused(volume):
     with open(directory + "/text", "w") as text:
         text.write("no volume")
     for words, status, said in (
-        (["serve", directory, "--port", "1"], 1, "E1 Fault"),
-        (["dump", directory + "/none"], 1, "E1 Fault"),
+        (["serve", directory, "--port", "1"], 1, "E1 Fault: the file can't be opened: is a directory"),
+        (["dump", directory + "/none"], 1, "E1 Fault: the file isn't there"),
         (["dump", directory + "/text"], 1, "E3 NotAVolume"),
-        (["group", volume.path, "x..a", "y", "1000000000", "test"], 1, "E14 Bad"),
-        (["group", volume.path, "x.a", "m", "1000000000", "test"], 1, "E14 Bad"),
-        (["group", volume.path, "x.a y", "y", "1000000000", "test"], 1, "E14 Bad"),
-        (["expire", volume.path, "x..a", "1"], 1, "E14 Bad"),
-        (["expire", volume.path, "x.a", "one"], 1, "E14 Bad"),
-        (["expire", volume.path, "x.a", "10000000000000000"], 1, "E14 Bad"),
-        (["expire", volume.path, "x.a", "9999999999999999"], 1, "E12 NotFound"),
-        (["expire", volume.path, "x.a", "4294967297"], 1, "E12 NotFound"),
-        (["expire", volume.path, "x.a", "1"], 1, "E12 NotFound"),
-        (["expire", volume.path, "x.a", "0"], 1, "E12 NotFound"),
+        (["group", volume.path, "x..a", "y", "1000000000", "test"], 1, "E14 Bad: NAME 'x..a' is no name of a group"),
+        (["group", volume.path, "x.a", "m", "1000000000", "test"], 1, "E14 Bad: STATUS 'm' is neither y nor n"),
+        (["group", volume.path, "x.a y", "y", "1000000000", "test"], 1, "E14 Bad: NAME 'x.a y' is no name of a group"),
+        (["expire", volume.path, "x..a", "1"], 1, "E14 Bad: NAME 'x..a' is no name of a group"),
+        (["expire", volume.path, "x.a", "one"], 1, "E14 Bad: N 'one' is no number of an article"),
+        (["expire", volume.path, "x.a", "10000000000000000"], 1, "E14 Bad: N '10000000000000000' is no number of an article"),
+        (["expire", volume.path, "x.a", "9999999999999999"], 1, "E12 NotFound: the group isn't here"),
+        (["expire", volume.path, "x.a", "4294967297"], 1, "E12 NotFound: the group isn't here"),
+        (["expire", volume.path, "x.a", "1"], 1, "E12 NotFound: the group isn't here"),
+        (["expire", volume.path, "x.a", "0"], 1, "E12 NotFound: the group isn't here"),
         (["expire", volume.path, "x.a"], 2, None),
-        (["format", volume.path, "--host", "a..b"], 1, "E14 Bad"),
-        (["format", volume.path, "--host", HOST, "--inodes", "96"], 1, "E14 Bad"),
+        (["format", volume.path, "--host", "a..b"], 1, "E14 Bad: --host 'a..b' is no name of a server"),
+        (["format", volume.path, "--host", HOST, "--inodes", "96"], 1, "E14 Bad: --inodes '96' is no multiple of 64 from 64 to 32768"),
         (["serve", volume.path, "--port", "0"], 2, None),
         (["serve", volume.path, "--port", "65536"], 2, None),
         (["serve", volume.path], 2, None),
+        (["serve", volume.path, "--listen", "localhost:1"], 1, "E14 Bad: --listen 'localhost:1' is no ADDRESS:PORT"),
+        (["serve", volume.path, "--port", "1", "--allow", "::/129"], 1, "E14 Bad: --allow '::/129' is no ADDRESS or ADDRESS/LENGTH"),
         (["dump"], 2, None),
-        (["export", directory + "/none"], 1, "E1 Fault"),
+        (["status", directory + "/none"], 1, "E1 Fault: the file isn't there"),
+        (["status", directory + "/none", "--json"], 1, "E1 Fault: the file isn't there"),
+        (["status", directory + "/text"], 1, "E3 NotAVolume"),
+        (["status"], 2, None),
+        (["export", directory + "/none"], 1, "E1 Fault: the file isn't there"),
         (["export", directory + "/text", "x.a"], 1, "E3 NotAVolume"),
         (["export"], 2, None),
     ):
         done = volume.run(*words)
         assert done.returncode == status and done.stdout == b"", (words, done)
-        assert said is None or done.stderr.decode() == "newsd: %s\n" % said, (words, done)
+        assert said is None or done.stderr.decode() in ("newsd: %s\n" % said, "newsd: %s: it is a directory\n" % said), (words, done)
     for words in (["--help"], ["help", "serve"], ["serve", "--help"]):
         done = volume.run(*words)
         assert done.returncode == 0 and done.stdout and not done.stderr, (words, done)
     assert volume.make_group() == 1
     again = volume.run("group", volume.path, GROUP, "y", "1000000000", "test")
-    assert (again.returncode, again.stderr) == (1, b"newsd: E11 Exists\n")
+    assert (again.returncode, again.stderr) == (1, b"newsd: E11 Exists: the group is here already\n")
     assert volume.dump() == ["spool 1", "1 group %s y" % GROUP]
 
 
@@ -78,9 +79,10 @@ def a_damaged_volume_is_not_opened(volume):
         (names + 64, good[names:names + 64], "E5 Damaged"),
     ):
         write(volume.path, good[:place] + changed + good[place + len(changed):])
-        refused = volume.run("dump", volume.path)
-        assert (refused.returncode, refused.stdout) == (1, b""), place
-        assert refused.stderr.decode() == "newsd: %s\n" % said, (place, refused)
+        for word in ("dump", "status"):
+            refused = volume.run(word, volume.path)
+            assert (refused.returncode, refused.stdout) == (1, b""), (word, place)
+            assert refused.stderr.decode() == "newsd: %s\n" % said, (word, place, refused)
     write(volume.path, good[:-4096])
     assert volume.run("dump", volume.path).stderr == b"newsd: E3 NotAVolume\n"
     write(volume.path, good)
@@ -163,73 +165,6 @@ def a_group_takes_no_article_that_its_overview_has_no_room_for(volume):
     assert sum(sizes[:-1]) <= 4222976 < sum(sizes), (taken, first)
 
 
-def articles_are_exported_as_a_batch(volume):
-    """Those of one group in rising number, or all that are in one in rising serial."""
-    volume.make_group()
-    volume.make_group("x.b")
-    groups = {1: "x.b", 2: GROUP, 3: "x.b,x.a", 4: GROUP}
-    with volume.serve() as server, server.call() as caller:
-        for number, names in groups.items():
-            posted = article(number, body="..x").replace(b"Newsgroups: x.a", b"Newsgroups: " + names.encode())
-            assert caller.post(posted) == "240 Article received"
-        texts = {number: stored_text(caller, number) for number in groups}
-    assert texts[2].endswith(b"\r\n\r\n.x\r\n"), texts[2]
-    for words, numbers in (([], [1, 2, 3, 4]), ([GROUP], [2, 3, 4]), (["x.b"], [1, 3])):
-        assert exported(volume, *words) == batch(texts[number].replace(b"\r\n", b"\n") for number in numbers), words
-        assert exported(volume, *words, "--crlf") == batch(texts[number] for number in numbers), words
-    volume.expire(2)
-    volume.expire(1, "x.b")
-    for words, numbers in (([], [3, 4]), ([GROUP], [4]), (["x.b"], [3])):
-        assert exported(volume, *words, "--crlf") == batch(texts[number] for number in numbers), words
-    for words, said in ((["x.c"], "E12 NotFound"), (["x..c"], "E14 Bad")):
-        refused = volume.run("export", volume.path, *words)
-        assert (refused.returncode, refused.stdout, refused.stderr.decode()) == (1, b"", "newsd: %s\n" % said), refused
-
-
-def rnews_reads_what_was_exported(volume):
-    program = shutil.which("rnews", path=os.environ["PATH"] + ":/usr/lib/news/bin")
-    if program is None:
-        raise Skipped("rnews isn't installed")
-    volume.make_group()
-    with volume.serve() as server, server.call() as caller:
-        for number in range(1, 21):
-            assert caller.post(article(number, body="..x\r\n" * number)) == "240 Article received"
-    written = exported(volume)
-    other = volume.another("other")
-    other.make_group()
-    directory = os.path.dirname(other.path)
-    settings = ("pathhost: a.example", "domain: example", "mta: /bin/false", "hismethod: hisv6", "ovmethod: tradindexed")
-    user, group = pwd.getpwuid(os.getuid()).pw_name, grp.getgrgid(os.getgid()).gr_name
-    places = ["%s: %s" % (name, directory) for name in ("pathnews", "pathincoming", "pathspool", "pathtmp", "pathetc", "pathrun")]
-    write(directory + "/inn.conf", "\n".join([*settings, "runasuser: " + user, "runasgroup: " + group, *places, ""]).encode())
-    with other.serve() as server:
-        words = [program, "-N", "-S", "127.0.0.1", "-P", str(server.port)]
-        given = dict(os.environ, INNCONF=directory + "/inn.conf")
-        subprocess.run(words, input=written, env=given, capture_output=True, timeout=SECONDS, check=True)
-    assert exported(other) == written
-
-
-def exported(volume, *words):
-    """What is written of the articles of a volume."""
-    done = volume.run("export", volume.path, *words)
-    assert (done.returncode, done.stderr) == (0, b""), done
-    return done.stdout
-
-
-def batch(texts):
-    return b"".join(b"#! rnews %d\n%s" % (len(text), text) for text in texts)
-
-
-def stored_text(caller, number):
-    """The text of an article, as it is stored."""
-    reply = caller.ask("ARTICLE %s" % message_id(number))
-    assert reply.startswith("220 "), reply
-    lines = []
-    while not lines or lines[-1] != b".\r\n":
-        lines.append(caller.file.readline())
-    return b"".join(line[1:] if line.startswith(b".") else line for line in lines[:-1])
-
-
 def write(path, content):
     with open(path, "wb") as file:
         file.write(content)
@@ -243,8 +178,6 @@ TESTS = [
     the_largest_volume_is_made_in_little_memory,
     a_server_has_4096_groups_at_most,
     a_group_takes_no_article_that_its_overview_has_no_room_for,
-    articles_are_exported_as_a_batch,
-    rnews_reads_what_was_exported,
 ]
 
 

@@ -1,0 +1,263 @@
+#!/usr/bin/env python3
+"""System tests of where a server listens and whom it lets in: `serve --listen`, `--allow`. listening.py NEWSD [NAME..]"""
+import contextlib
+import os
+import shutil
+import socket
+import subprocess
+import sys
+
+from newsd import GREETING, SECONDS, SERVICE_ENDS, Caller, article, end_with_parent, free_port
+from playing import Skipped, main
+
+DENIED = "502 Access denied"
+# networks for documents (RFC 5737, RFC 3849): the server's side of the link, and the caller's
+SERVER, CALLER, OTHER = "192.0.2.1", "192.0.2.7", "198.51.100.9"
+SERVER_6, CALLER_6 = "2001:db8::1", "2001:db8::7"
+
+
+def a_server_listens_on_several_endpoints(volume):
+    """It says so in the order of the words, but first for its port, and serves the same volume on each."""
+    require_ipv6()
+    volume.make_group()
+    first, second, third, port = (free_port() for _ in range(4))
+    words = ["--listen", "127.0.0.1:%d" % first, "--port", str(port), "--listen", "[::1]:%d" % second, "--listen", "0.0.0.0:%d" % third]
+    with serving(volume, words, 4) as (_, said):
+        assert said == ["listening 127.0.0.1:%d" % port, "listening 127.0.0.1:%d" % first, "listening [::1]:%d" % second,
+                        "listening 0.0.0.0:%d" % third], said
+        callers = [Caller(port), Caller(first), Caller(second, to="::1"), Caller(third)]
+        for number, caller in enumerate(callers):
+            assert caller.greeting == GREETING, caller.greeting
+            assert caller.post(article(number)) == "240 Article received"
+        assert all(caller.ask("GROUP x.a") == "211 4 1 4 x.a" for caller in callers)
+        # the sessions are those of all endpoints
+        callers += [Caller(first if number % 2 else third) for number in range(60)]
+        assert all(caller.greeting == GREETING for caller in callers)
+        late = Caller(second, to="::1")
+        assert late.greeting == SERVICE_ENDS and late.has_ended()
+        for caller in [*callers, late]:
+            caller.close()
+
+
+def a_server_needs_no_port_where_it_has_an_endpoint(volume):
+    port = free_port()
+    with serving(volume, ["--listen", "127.0.0.1:%d" % port], 1) as (_, said):
+        assert said == ["listening 127.0.0.1:%d" % port], said
+        with Caller(port) as caller:
+            assert caller.greeting == GREETING
+
+
+def callers_from_the_loopback_networks_are_let_in(volume):
+    """From each of their addresses, on each endpoint, whatever else is allowed."""
+    require_ipv6()
+    for allowed in ([], ["--allow", "192.0.2.0/24"]):
+        port, port_6, any_port = free_port(), free_port(), free_port()
+        words = ["--listen", "0.0.0.0:%d" % port, "--listen", "[::1]:%d" % port_6, "--listen", "[::]:%d" % any_port, *allowed]
+        with serving(volume, words, 3):
+            for source in ("127.0.0.1", "127.0.0.2", "127.0.0.3", "127.255.255.254"):
+                for to, at in (("127.0.0.1", port), ("127.0.0.5", port), ("127.0.0.1", any_port)):
+                    with Caller(at, to=to, source=source) as caller:
+                        assert caller.greeting == GREETING, (source, to, caller.greeting)
+            for at in (port_6, any_port):
+                with Caller(at, to="::1", source="::1") as caller:
+                    assert caller.greeting == GREETING, caller.greeting
+            # an IPv4 address by its IPv6 form
+            with Caller(any_port, to="::ffff:127.0.0.1", source="::ffff:127.0.0.9") as caller:
+                assert caller.greeting == GREETING, caller.greeting
+
+
+def words_that_are_no_endpoint_or_network_are_refused(volume):
+    good = ["--listen", "127.0.0.1:%d" % free_port()]
+    for word in ("127.0.0.1", ":1119", "127.0.0.1:", "127.0.0.1:0", "127.0.0.1:65536", "127.0.0.1:1119x", "127.0.0.1:-1", "1119",
+                 "localhost:1119", "::1:1119", "[::1]", "[::1]:", "[::1]:0", "[127.0.0.1]:1119", "256.0.0.1:1119", "127.0.0.1 :1119",
+                 "127.1:1119", "", "*:1119", "[::1]:1119 ", "[::g]:1119"):
+        for words in (["--listen", word], [*good, "--listen", word]):
+            assert_bad(volume, words, word)
+    for word in ("", "192.0.2", "192.0.2.0/33", "192.0.2.0/", "192.0.2.0/-1", "192.0.2.0/x", "/24", "2001:db8::/129", "localhost",
+                 "192.0.2.0-192.0.2.9", "192.0.2.0/255.255.255.0", "[2001:db8::1]", "192.0.2.7:119", "192.0.2.0/24 ", "2001:db8:/32",
+                 "all", "*", "192.0.2.0//24"):
+        for words in ([*good, "--allow", word], [*good, "--allow", "192.0.2.7", "--allow", word]):
+            assert_bad(volume, words, word)
+    for words in ([], ["--allow", "192.0.2.7"], ["--quiet"], ["--listen"]):
+        done = volume.run("serve", volume.path, *words)
+        assert done.returncode == 2 and done.stdout == b"" and done.stderr, (words, done)
+
+
+def assert_bad(volume, words, word):
+    """The last of these words is outside its grammar."""
+    forms = {"--listen": "ADDRESS:PORT", "--allow": "ADDRESS or ADDRESS/LENGTH"}
+    said = "newsd: E14 Bad: %s '%s' is no %s\n" % (words[-2], word, forms[words[-2]])
+    done = volume.run("serve", volume.path, *words)
+    assert (done.returncode, done.stdout, done.stderr.decode()) == (1, b"", said), (words, done)
+
+
+def an_endpoint_that_is_taken_is_refused(volume):
+    """Nothing is served then, on the others neither, and the volume is free."""
+    volume.make_group()
+    with socket.socket() as other:
+        other.bind(("127.0.0.1", 0))
+        other.listen()
+        taken, port = other.getsockname()[1], free_port()
+        done = volume.run("serve", volume.path, "--port", str(port), "--listen", "127.0.0.1:%d" % taken)
+        said = "newsd: can't listen on 127.0.0.1:%d: Address already in use" % taken
+        assert (done.returncode, done.stdout) == (1, b"") and done.stderr.decode().startswith(said) and done.stderr.count(b"\n") == 1, done
+    assert volume.dump() == ["spool 1", "1 group x.a y"]
+
+
+def callers_from_elsewhere_are_let_in_where_a_network_holds_them(volume):
+    """A link of its own, with callers at its other end."""
+    volume.make_group()
+    with Link() as link:
+        for allowed, in_4, in_6 in (
+            ([], False, False),
+            ([CALLER], True, False),
+            (["192.0.2.8", "198.51.100.0/24"], False, False),
+            (["192.0.2.0/24"], True, False),
+            (["192.0.2.4/30"], True, False),
+            (["192.0.2.8/29"], False, False),
+            # bits behind the prefix are ignored
+            (["192.0.2.99/25"], True, False),
+            (["0.0.0.0/0"], True, False),
+            ([CALLER_6], False, True),
+            (["2001:db8::/32"], False, True),
+            (["2001:db8::/126"], False, False),
+            (["2001:db8::6/127"], False, True),
+            (["::/0"], False, True),
+            (["::ffff:192.0.2.7"], True, False),
+            (["::ffff:192.0.2.0/120"], True, False),
+            (["192.0.2.8", "2001:db9::/32", "2001:db8::7/128", CALLER], True, True),
+        ):
+            words = [word for network in allowed for word in ("--allow", network)]
+            port, port_6, any_port = free_port(), free_port(), free_port()
+            words += ["--listen", "%s:%d" % (SERVER, port), "--listen", "[%s]:%d" % (SERVER_6, port_6), "--listen", "[::]:%d" % any_port]
+            with serving(volume, words, 3, by=link.by):
+                for to, at, source, is_let_in in (
+                    (SERVER, port, CALLER, in_4), (SERVER, any_port, CALLER, in_4),
+                    (SERVER_6, port_6, CALLER_6, in_6), (SERVER_6, any_port, CALLER_6, in_6),
+                ):
+                    link.call(to, at, source, is_let_in)
+                # those on the server's own side of the link call by an address of it, too
+                assert link.asks(link.near, "::1", any_port, "::1") == [GREETING, "205 Bye", ""]
+
+
+def a_caller_that_is_not_let_in_takes_no_session(volume):
+    """A thousand of them, while the server has its 64 sessions and after."""
+    volume.make_group()
+    with Link() as link:
+        port = free_port()
+        with serving(volume, ["--listen", "0.0.0.0:%d" % port], 1, by=link.by) as (process, _):
+            said = link.asks(link.far, SERVER, port, CALLER, times=1000)
+            assert said == [DENIED, ""] * 1000, said[:4]
+            process.stdin.write(b"status\n")
+            process.stdin.flush()
+            line = process.stdout.readline().decode()
+            assert " sessions 0 " in line and " accepted 1 " in line, line
+            assert link.asks(link.near, "127.0.0.1", port, "127.0.0.1") == [GREETING, "205 Bye", ""]
+
+
+class Link:
+    """Two network namespaces with a link between them. A process stands in each of them as long as the link is wanted."""
+
+    def __enter__(self):
+        if not all(map(shutil.which, ("unshare", "nsenter", "ip"))):
+            raise Skipped("there are no tools for namespaces of a network")
+        self.processes = []
+        try:
+            self.near = self.namespace([])
+            self.far = self.namespace(self.near)
+            # the number that the far process has for the namespaces of this one
+            far = str(self.processes[1].pid)
+            for side, words in (
+                (self.near, "link add near type veth peer name far"), (self.near, "link set far netns " + far),
+                (self.near, "addr add %s/24 dev near" % SERVER), (self.near, "addr add %s/64 dev near nodad" % SERVER_6),
+                (self.near, "link set near up"), (self.near, "link set lo up"),
+                (self.far, "addr add %s/24 dev far" % CALLER), (self.far, "addr add %s/64 dev far nodad" % CALLER_6),
+                (self.far, "link set far up"), (self.far, "link set lo up"),
+            ):
+                done = subprocess.run([*side, "ip", *words.split()], capture_output=True, text=True, timeout=SECONDS)
+                if done.returncode:
+                    raise Skipped("no link can be made here: ip %s: %s" % (words, done.stderr.strip()))
+        except BaseException:
+            self.__exit__()
+            raise
+        self.by = self.near
+        return self
+
+    def __exit__(self, *_):
+        for process in self.processes:
+            process.kill()
+            process.wait(SECONDS)
+            process.stdout.close()
+
+    def namespace(self, within):
+        """The words that run a program in a new namespace."""
+        rights = [] if os.getuid() == 0 else ["--user", "--map-root-user"]
+        words = [*within, "unshare", *(rights if not within else []), "--net", "sh", "-c", "echo there; exec sleep 600"]
+        process = subprocess.Popen(words, stdin=subprocess.DEVNULL, stdout=subprocess.PIPE, stderr=subprocess.DEVNULL,
+                                   preexec_fn=end_with_parent)
+        self.processes.append(process)
+        if process.stdout.readline() != b"there\n":
+            raise Skipped("no namespace of a network can be had here")
+        entered = ["--user", "--preserve-credentials"] if rights else []
+        return ["nsenter", "--target", str(process.pid), *entered, "--net", "--"]
+
+    def asks(self, side, to, port, source, times=1):
+        """The greeting and the reply to QUIT that callers get in one of the namespaces, or the greeting and its end."""
+        words = [*side, sys.executable, "-B", os.path.abspath(__file__), "--call", to, str(port), source, str(times)]
+        done = subprocess.run(words, capture_output=True, text=True, timeout=2 * SECONDS)
+        assert done.returncode == 0, done
+        return done.stdout.split("\n")[:-1]
+
+    def call(self, to, port, source, is_let_in):
+        said = self.asks(self.far, to, port, source)
+        assert said == ([GREETING, "205 Bye", ""] if is_let_in else [DENIED, ""]), (to, source, is_let_in, said)
+
+
+def call(to, port, source, times):
+    """What a caller in a namespace is told."""
+    for _ in range(int(times)):
+        with Caller(int(port), to=to, source=source) as caller:
+            print(caller.greeting)
+            if caller.greeting == GREETING:
+                print(caller.ask("QUIT"))
+            print(caller.line())
+
+
+@contextlib.contextmanager
+def serving(volume, words, lines, by=()):
+    """A server with these words, and the first lines that it says."""
+    process = subprocess.Popen([*by, volume.program, "serve", volume.path, *words], stdin=subprocess.PIPE, stdout=subprocess.PIPE,
+                               stderr=subprocess.PIPE, preexec_fn=end_with_parent)
+    with process:
+        try:
+            said = [process.stdout.readline().decode().rstrip("\n") for _ in range(lines)]
+            assert all(it.startswith("listening ") for it in said), (words, said, process.stderr.read())
+            yield process, said
+        finally:
+            process.kill()
+
+
+def require_ipv6():
+    try:
+        with socket.socket(socket.AF_INET6) as probe:
+            probe.bind(("::1", 0))
+    except OSError:
+        raise Skipped("this machine has no IPv6")
+
+
+TESTS = [
+    a_server_listens_on_several_endpoints,
+    a_server_needs_no_port_where_it_has_an_endpoint,
+    callers_from_the_loopback_networks_are_let_in,
+    words_that_are_no_endpoint_or_network_are_refused,
+    an_endpoint_that_is_taken_is_refused,
+    callers_from_elsewhere_are_let_in_where_a_network_holds_them,
+    a_caller_that_is_not_let_in_takes_no_session,
+]
+
+
+if __name__ == "__main__":
+    if sys.argv[1] == "--call":
+        call(*sys.argv[2:])
+        sys.exit(0)
+    sys.exit(main(TESTS))

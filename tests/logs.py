@@ -1,0 +1,364 @@
+#!/usr/bin/env python3
+"""System tests of the log of `newsd serve`: the lines of its standard error. logs.py NEWSD [NAME..]"""
+import calendar
+import re
+import socket
+import struct
+import sys
+import threading
+import time
+
+from listening import CALLER, DENIED, SERVER, Link, serving
+from newsd import GREETING, GROUP, SERVICE_ENDS, Caller, article, free_port, message_id, wait_until
+from playing import main
+
+LINE = re.compile(r"time=(\d{4}-\d\d-\d\dT\d\d:\d\d:\d\dZ) event=([a-z]+)((?: [a-z]+=[^ ]+)*)")
+SHORT_SESSIONS = 10000
+CALLERS_AT_ONCE = 8
+# longer than the server lets a caller be that takes nothing
+SECONDS_OF_A_STALL = 240
+
+
+class Log:
+    """The log of a server, which is read as it comes."""
+
+    def __init__(self, stream):
+        self.stream, self.lines = stream, []
+        self.reading = threading.Thread(target=self.read, daemon=True)
+        self.reading.start()
+
+    def read(self):
+        try:
+            for line in self.stream:
+                self.lines.append(line.decode())
+        except ValueError:
+            # the test has ended
+            pass
+
+    def events(self, name=None):
+        """The events of this name as pairs of their name and fields, once each line was looked at."""
+        found = [self.event(line) for line in list(self.lines) if not line.startswith("newsd: ")]
+        return [it for it in found if name in (None, it[0])]
+
+    @staticmethod
+    def event(line):
+        found = LINE.fullmatch(line.rstrip("\n"))
+        assert found and line.endswith("\n"), line
+        moment = calendar.timegm(time.strptime(found.group(1), "%Y-%m-%dT%H:%M:%SZ"))
+        assert abs(moment - time.time()) < 300, line
+        return found.group(2), dict(field.split("=", 1) for field in found.group(3).split())
+
+    def wait(self, name, count):
+        """The first so many events of this name."""
+        wait_until(lambda: len(self.events(name)) >= count, 20)
+        return self.events(name)
+
+    def line(self, at):
+        """A line, with the numbers masked that no test knows."""
+        return re.sub(r"time=\S+", "time=T", re.sub(r"peer=127\.0\.0\.1:\d+", "peer=P", self.lines[at].rstrip("\n")))
+
+
+class Counting:
+    """A caller that counts the octets that it sends and gets."""
+
+    def __init__(self, port):
+        self.caller = Caller(port)
+        self.sent, self.got = 0, len(self.caller.greeting) + 2
+        self.peer = "127.0.0.1:%d" % self.caller.socket.getsockname()[1]
+
+    def send(self, octets):
+        self.caller.send(octets)
+        self.sent += len(octets)
+
+    def line(self):
+        line = self.caller.line()
+        self.got += len(line) + 2
+        return line
+
+    def ask(self, line):
+        self.send(line.encode() + b"\r\n")
+        return self.line()
+
+    def post(self, octets):
+        assert self.ask("POST").startswith("340")
+        self.send(octets)
+        return self.line()
+
+    def ended(self, session, messages, taken, refused, why):
+        """The fields of the line that tells of its end."""
+        names = ("peer", "session", "messages", "taken", "refused", "in", "out", "why")
+        values = (self.peer, session, messages, taken, refused, self.sent, self.got, why)
+        return dict(zip(names, map(str, values)))
+
+
+def each_end_of_a_session_is_logged(volume):
+    volume.make_group()
+    with volume.serve() as server:
+        log = Log(server.process.stderr)
+        # it leaves by QUIT
+        one = Counting(server.port)
+        assert one.ask("STAT <9@a.example>") == "430 No such article"
+        assert one.post(article(1)) == "240 Article received"
+        assert one.post(article(1)) == "441 Article not accepted"
+        assert one.ask("FOO") == "500 Unknown command"
+        assert one.ask("IHAVE " + message_id(2)).startswith("335 ")
+        one.send(article(2))
+        assert one.line() == "235 Article transferred"
+        assert one.ask("IHAVE " + message_id(3)).startswith("335 ")
+        one.send(article(3).replace(b"x.a", b"x.none"))
+        assert one.line() == "437 Article rejected"
+        assert one.ask("QUIT") == "205 Bye"
+        assert log.wait("end", 1)[0] == ("end", one.ended(1, 11, 2, 2, "quit"))
+        # it closes
+        two = Counting(server.port)
+        assert two.ask("DATE").startswith("111 ")
+        two.caller.close()
+        assert log.wait("end", 2)[1] == ("end", two.ended(2, 1, 0, 0, "closed"))
+        # it sends no more, and a part of a message
+        three = Counting(server.port)
+        three.send(b"POST\r\nPath: half")
+        assert three.line() == "340 Send article"
+        three.caller.socket.shutdown(socket.SHUT_WR)
+        assert three.caller.has_ended()
+        assert log.wait("end", 3)[2] == ("end", three.ended(3, 1, 0, 0, "closed"))
+        # its connection breaks
+        four = Counting(server.port)
+        four.caller.socket.setsockopt(socket.SOL_SOCKET, socket.SO_LINGER, struct.pack("ii", 1, 0))
+        four.caller.close()
+        assert log.wait("end", 4)[3] == ("end", four.ended(4, 0, 0, 0, "failed"))
+        # it is there at the end
+        five = Counting(server.port)
+        assert five.ask("GROUP " + GROUP).startswith("211 ")
+        assert server.order("stop") == "stopped"
+        assert server.process.wait(10) == 0
+        log.reading.join(10)
+        assert log.events("end")[4] == ("end", five.ended(5, 1, 0, 0, "stopped"))
+        assert len(log.events()) == 5, log.lines
+        assert log.line(0) == ("time=T event=end peer=P session=1 messages=11 taken=2 refused=2 in=%d out=%d why=quit"
+                               % (one.sent, one.got)), log.lines[0]
+
+
+def each_refused_caller_is_logged(volume):
+    volume.make_group()
+    with volume.serve() as server:
+        log = Log(server.process.stderr)
+        callers = [server.call() for _ in range(64)]
+        at_rest = server.descriptors() - len(callers)
+        late = Caller(server.port)
+        assert late.greeting == SERVICE_ENDS
+        peer = "127.0.0.1:%d" % late.socket.getsockname()[1]
+        assert log.wait("refused", 1) == [("refused", {"peer": peer, "why": "sessions"})]
+        assert log.line(0) == "time=T event=refused peer=P why=sessions", log.lines
+        for caller in [late, *callers]:
+            caller.close()
+        log.wait("end", 64)
+        # no descriptor is left for a caller
+        wait_until(lambda: server.descriptors() == at_rest)
+        server.limit_descriptors(at_rest)
+        # the first call already has its descriptor while it is awaited
+        with server.call() as caller:
+            assert caller.greeting == GREETING
+            with Caller(server.port) as late:
+                assert late.greeting == SERVICE_ENDS
+                peer = "127.0.0.1:%d" % late.socket.getsockname()[1]
+            assert log.wait("refused", 2)[1] == ("refused", {"peer": peer, "why": "descriptors"})
+
+
+def a_caller_from_elsewhere_that_is_refused_is_logged(volume):
+    with Link() as link:
+        port = free_port()
+        with serving(volume, ["--listen", "0.0.0.0:%d" % port, "--allow", "192.0.2.8"], 1, by=link.by) as (process, _):
+            log = Log(process.stderr)
+            assert link.asks(link.far, SERVER, port, CALLER, times=3) == [DENIED, ""] * 3
+            for name, fields in log.wait("refused", 3):
+                assert fields["peer"].rpartition(":")[0] == CALLER and fields["why"] == "access", fields
+            assert len(log.events()) == 3, log.lines
+            process.kill()
+            log.reading.join(10)
+
+
+def a_fault_is_logged(volume):
+    volume.make_group()
+    with volume.serve() as server, server.call() as caller:
+        log = Log(server.process.stderr)
+        assert caller.post(article(1)) == "240 Article received"
+        server.have_writes_fail()
+        caller.send(b"POST\r\n" + article(2))
+        greetings = []
+        while SERVICE_ENDS not in greetings:
+            try:
+                with Caller(server.port) as late:
+                    greetings.append(late.greeting)
+            except ConnectionError:
+                break
+        assert server.process.wait(20) == 1
+        log.reading.join(10)
+        assert log.lines[-1] == "newsd: E1 Fault: the device failed\n", log.lines
+        assert log.events("fault") == [("fault", {})], log.lines
+        refused = [fields["why"] for _, fields in log.events("refused")]
+        assert set(refused) <= {"halted"}, log.lines
+        assert [line for line in log.lines if " event=fault" in line and line.endswith("event=fault\n")], log.lines
+
+
+def a_nearly_full_volume_is_logged_once(volume):
+    """Once where nine tenths of the inodes are used, and once where nine tenths of the blocks are."""
+    for blocks, inodes, texts, by in ((1024, 64, [article(number) for number in range(61)], "inodes"),
+                                      (4096, 4096, [article(number, body="x" * 40000) for number in range(360)], "blocks")):
+        small = volume.another(by, blocks=blocks, inodes=inodes)
+        small.make_group()
+        with small.serve(words=["--quiet"]) as server, server.call() as caller:
+            log = Log(server.process.stderr)
+            replies = [caller.post(text)[:3] for text in texts]
+            found = log.wait("full", 1)
+            assert server.order("stop") == "stopped"
+            assert server.process.wait(10) == 0
+            log.reading.join(10)
+        found = [fields for _, fields in log.events("full")]
+        print("  %d taken by %s; %s" % (replies.count("240"), by, found), flush=True)
+        assert len(found) == 1 and len(log.events()) == 1, log.lines
+        used, every = (int(it) for it in found[0][by].split("/"))
+        assert every == {"inodes": 64, "blocks": 4096}[by] and 10 * used >= 9 * every > 10 * (used - 16), found
+
+
+def a_quiet_log_has_no_ends(volume):
+    volume.make_group()
+    with volume.serve(words=["--quiet"]) as server:
+        log = Log(server.process.stderr)
+        for number in range(20):
+            with server.call() as caller:
+                assert caller.post(article(number)) == "240 Article received"
+                assert caller.ask("QUIT") == "205 Bye"
+        callers = [server.call() for _ in range(64)]
+        with Caller(server.port) as late:
+            assert late.greeting == SERVICE_ENDS
+        for caller in callers:
+            caller.close()
+        log.wait("refused", 1)
+        assert server.order("stop") == "stopped"
+        assert server.process.wait(10) == 0
+        log.reading.join(10)
+        assert [name for name, _ in log.events()] == ["refused"], log.lines
+
+
+def a_log_that_nobody_reads_holds_nobody(volume):
+    """Short sessions go on, and the operator is answered. What found no room is counted: each session has a line or is one of these."""
+    volume.make_group()
+    with volume.serve() as server:
+        left, lock = [SHORT_SESSIONS], threading.Lock()
+
+        def call():
+            while True:
+                with lock:
+                    if not left[0]:
+                        return
+                    left[0] -= 1
+                with Caller(server.port) as caller:
+                    assert caller.greeting == GREETING, caller.greeting
+                    assert caller.ask("QUIT") == "205 Bye"
+
+        failures = []
+
+        def run():
+            try:
+                call()
+            except BaseException as failure:
+                failures.append(failure)
+
+        threads = [threading.Thread(target=run, daemon=True) for _ in range(CALLERS_AT_ONCE)]
+        start = time.monotonic()
+        for thread in threads:
+            thread.start()
+        for thread in threads:
+            thread.join()
+        assert not failures, failures[0]
+        print("  %d sessions in %.1f s" % (SHORT_SESSIONS, time.monotonic() - start), flush=True)
+        with server.call() as caller:
+            assert caller.post(article(1)) == "240 Article received"
+        assert server.order("group x.b y 1000000000 test") == "3"
+        log = Log(server.process.stderr)
+        wait_until(lambda: told(log) >= SHORT_SESSIONS + 1, 20)
+        with server.call() as caller:
+            assert caller.ask("QUIT") == "205 Bye"
+        wait_until(lambda: told(log) == SHORT_SESSIONS + 2, 20)
+        assert log.events("lost"), len(log.lines)
+        print("  %d lines, %s lost" % (len(log.events("end")), [fields["lines"] for _, fields in log.events("lost")]), flush=True)
+        sessions = [int(fields["session"]) for _, fields in log.events("end")]
+        assert len(set(sessions)) == len(sessions)
+
+
+def told(log):
+    """The ends of sessions that have a line, and the lines that found no room."""
+    return len(log.events("end")) + sum(int(fields["lines"]) for _, fields in log.events("lost"))
+
+
+def a_server_whose_log_nobody_reads_stops(volume):
+    volume.make_group()
+    with volume.serve() as server:
+        for _ in range(2000):
+            with server.call() as caller:
+                assert caller.ask("QUIT") == "205 Bye"
+        start = time.monotonic()
+        assert server.order("stop") == "stopped"
+        assert server.process.wait(10) == 0
+        print("  stopped in %.1f s" % (time.monotonic() - start), flush=True)
+
+
+def no_line_has_what_a_caller_sent(volume):
+    """Whatever octets come, a line has its form and none of them."""
+    volume.make_group()
+    secret = b"s3cr3t"
+    with volume.serve() as server:
+        log = Log(server.process.stderr)
+        sendings = [
+            secret + b"\r\n", secret + b"=x event=fault\r\n", b"\x00\xff\x1b[31m" + secret + b"\r\n", secret + b"\ntime=x event=fault\n\r\n",
+            b"\"" + secret + b"\"\r\n", b"GROUP " + secret + b"\r\n", b"ARTICLE <" + secret + b"@x.example>\r\n", secret * 200 + b"\r\n",
+            b"\r\n", b"\r\r\n\n" + secret + b"\r\n", b"IHAVE <" + secret + b"@x.example>\r\n" + article(secret.decode(), subject=secret.decode()),
+            b"POST\r\n" + article(secret.decode() + "1", body=secret.decode()), bytes(range(256)) + b"\r\n", "\u2028\u0085".encode() + b"\r\n",
+        ]
+        for sending in sendings:
+            with server.call() as caller:
+                caller.send(sending)
+                caller.socket.shutdown(socket.SHUT_WR)
+                caller.file.read()
+        ends = log.wait("end", len(sendings))
+        assert server.order(secret.decode() + "\x1b[31m") == "E14 Bad"
+        assert server.order("stop") == "stopped"
+        assert server.process.wait(10) == 0
+        log.reading.join(10)
+        assert len(log.events()) == len(ends) == len(sendings), log.lines
+        assert [int(fields["in"]) for _, fields in log.events("end")] == [len(it) for it in sendings], log.lines
+        assert all(secret.decode() not in line and line.isascii() and line[:-1].isprintable() for line in log.lines), log.lines
+
+
+def who_takes_nothing_is_logged_as_stalled(volume):
+    """It takes some three minutes."""
+    volume.make_group()
+    with volume.serve() as server:
+        log = Log(server.process.stderr)
+        with server.call() as caller:
+            for number in range(4):
+                assert caller.post(article(number, body="\r\n".join(["x" * 70] * 2800))) == "240 Article received"
+            assert caller.ask("QUIT") == "205 Bye"
+        deaf = Caller(server.port, receive_octets=4096)
+        deaf.send(b"ARTICLE <1@a.example>\r\n" * 40)
+        wait_until(lambda: len(log.events("end")) == 2, SECONDS_OF_A_STALL)
+        assert log.events("end")[1][1]["why"] == "stalled", log.lines
+        deaf.close()
+
+
+TESTS = [
+    each_end_of_a_session_is_logged,
+    each_refused_caller_is_logged,
+    a_caller_from_elsewhere_that_is_refused_is_logged,
+    a_fault_is_logged,
+    a_nearly_full_volume_is_logged_once,
+    a_quiet_log_has_no_ends,
+    a_log_that_nobody_reads_holds_nobody,
+    a_server_whose_log_nobody_reads_stops,
+    no_line_has_what_a_caller_sent,
+]
+LONG_ONES = [who_takes_nothing_is_logged_as_stalled]
+
+
+if __name__ == "__main__":
+    sys.exit(main(TESTS, LONG_ONES))
