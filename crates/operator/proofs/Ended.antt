@@ -25,7 +25,8 @@ pub record IsRead (octets : List ℕ) (read : List ℕ) (left : Option (List ℕ
   pub line : line_of octets ≡ read
   pub rest : left ≡ Some (drop_through 10 octets)
 
-pub up_to_lf : (known left : Option (List ℕ)) (read : List ℕ) → All (λ x. x ≢ 10) read → Consumes known left (read ++ 10 ∷ []) → IfSome known (λ octets. IsRead octets read left)
+pub up_to_lf : (known left : Option (List ℕ)) (read : List ℕ) → All (λ x. x ≢ 10) read → Consumes known left (read ++ 10 ∷ [])
+    → IfSome known (λ octets. IsRead octets read left)
 up_to_lf None left read other was = tt
 up_to_lf (Some octets) None read other was = absurd was
 up_to_lf (Some octets) (Some rest) read other was =
@@ -36,7 +37,8 @@ up_to_lf (Some octets) (Some rest) read other was =
       rest = ap Some (sym (ap (drop_through 10) parts ∙ drop_through-append 10 read (10 ∷ rest) other));
     }
 
-pub up_to_end : (known left : Option (List ℕ)) (read : List ℕ) → All (λ x. x ≢ 10) read → 0 < length read → Consumes known left read → IsAtEnd left
+pub up_to_end : (known left : Option (List ℕ)) (read : List ℕ) → All (λ x. x ≢ 10) read → 0 < length read → Consumes known left read
+    → IsAtEnd left
     → IfSome known (λ octets. IsRead octets read left)
 up_to_end None left read other long was end = tt
 up_to_end (Some octets) None read other long was end = absurd was
@@ -78,7 +80,8 @@ held_kept read kept is_long octet held other room =
     let more = length-append read (octet ∷ []) in
     record {
       alone = All-push (λ x. x ≢ 10) read octet held.alone other;
-      front = ap (λ l. l ++ octet ∷ []) (held.front ∙ take_all 1024 read (omega arith)) ∙ sym (take_all 1024 (read ++ octet ∷ []) (omega arith));
+      front = ap (λ l. l ++ octet ∷ []) (held.front ∙ take_all 1024 read (omega arith))
+          ∙ sym (take_all 1024 (read ++ octet ∷ []) (omega arith));
       long = λ is. absurd (omega (arith, held.long is));
       short = λ _. omega arith;
     }
@@ -98,16 +101,19 @@ held_dropped read kept is_long octet held other full =
 -- nothing was read, and nothing is left
 pub reads_nothing : (known left : Option (List ℕ)) (read kept : List ℕ) (is_long : Bool) → Held read kept is_long → length kept ≡ 0
     → Consumes known left read → IsAtEnd left → IfSome known (λ octets. Reads octets End kept left)
-reads_nothing known left read kept is_long held none was end = at_end known left read kept (omega (arith, kept_length read kept held.front)) was end
+reads_nothing known left read kept is_long held none was end =
+    at_end known left read kept (omega (arith, kept_length read kept held.front)) was end
   where
-    at_end : (known left : Option (List ℕ)) (read kept : List ℕ) → length read ≡ 0 → Consumes known left read → IsAtEnd left → IfSome known (λ octets. Reads octets End kept left)
+    at_end : (known left : Option (List ℕ)) (read kept : List ℕ) → length read ≡ 0 → Consumes known left read → IsAtEnd left
+        → IfSome known (λ octets. Reads octets End kept left)
     at_end None left read kept none was end = tt
     at_end (Some octets) None read kept none was end = absurd was
     at_end (Some octets) (Some rest) [] kept none was end = was ∙ end
     at_end (Some octets) (Some rest) (x ∷ xs) kept none was end = absurd (omega arith)
 
 -- a line was read
-pub reads_line : (known left : Option (List ℕ)) (read kept : List ℕ) (is_long : Bool) → Held read kept is_long → IfSome known (λ octets. IsRead octets read left)
+pub reads_line : (known left : Option (List ℕ)) (read kept : List ℕ) (is_long : Bool) → Held read kept is_long
+    → IfSome known (λ octets. IsRead octets read left)
     → IfSome known (λ octets. Reads octets (if is_long then TooLong else Line) kept left)
 reads_line None left read kept is_long held is = tt
 reads_line (Some octets) left read kept true held is = (omega (arith, ap length is.line, held.long refl), is.rest)
@@ -116,16 +122,20 @@ reads_line (Some octets) left read kept false held is =
     (is.some, whole ∙ sym is.line, omega (arith, ap length whole, held.short refl), is.rest)
 
 -- the line that is held ends with the octets
-pub ends_with_all : (known was left : Option (List ℕ)) (read kept : List ℕ) (is_long : Bool) (next : Next) → Held read kept is_long → length kept ≢ 0
-    → Consumes known was read → Consumes was left [] → IsAtEnd left → next ≡ (if is_long then TooLong else Line) → IfSome known (λ octets. Reads octets next kept left)
+pub ends_with_all : (known was left : Option (List ℕ)) (read kept : List ℕ) (is_long : Bool) (next : Next) → Held read kept is_long
+    → length kept ≢ 0 → Consumes known was read → Consumes was left [] → IsAtEnd left → next ≡ (if is_long then TooLong else Line)
+    → IfSome known (λ octets. Reads octets next kept left)
 ends_with_all known was left read kept is_long next held some before now end is =
-    let all : Consumes known left read = subst (λ octets. Consumes known left octets) (append-nil read) (Consumes-trans known was left read [] before now) in
+    let all : Consumes known left read =
+    subst (λ octets. Consumes known left octets) (append-nil read) (Consumes-trans known was left read [] before now) in
     subst (λ n. IfSome known (λ octets. Reads octets n kept left)) (sym is)
     (reads_line known left read kept is_long held (up_to_end known left read held.alone (held_some read kept is_long held some) all end))
 
 -- the line that is held ends with an LF
 pub ends_with_lf : (known was left : Option (List ℕ)) (read kept : List ℕ) (is_long : Bool) (next : Next) → Held read kept is_long
-    → Consumes known was read → Consumes was left (10 ∷ []) → next ≡ (if is_long then TooLong else Line) → IfSome known (λ octets. Reads octets next kept left)
+    → Consumes known was read → Consumes was left (10 ∷ []) → next ≡ (if is_long then TooLong else Line)
+    → IfSome known (λ octets. Reads octets next kept left)
 ends_with_lf known was left read kept is_long next held before now is =
     subst (λ n. IfSome known (λ octets. Reads octets n kept left)) (sym is)
-    (reads_line known left read kept is_long held (up_to_lf known left read held.alone (Consumes-trans known was left read (10 ∷ []) before now)))
+    (reads_line known left read kept is_long held
+    (up_to_lf known left read held.alone (Consumes-trans known was left read (10 ∷ []) before now)))

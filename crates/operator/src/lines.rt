@@ -30,7 +30,8 @@ pub(crate) fn next_line<R: Wait, L: BufRead>(
 ) -> io::Result<Next>
     ensures bound { length line.new.items ≤ 1024 }
     ensures alone { All (λ octet. octet ≢ 10) line.new.items }
-    ensures known { IfOk result (λ next. IfSome (L.remaining lines.old) (λ octets. Reads octets next line.new.items (L.remaining lines.new))) }
+    ensures known { IfOk result
+        (λ next. IfSome (L.remaining lines.old) (λ octets. Reads octets next line.new.items (L.remaining lines.new))) }
 {
     line.clear();
     let mut is_long = false;
@@ -62,7 +63,8 @@ fn ended(is_long: bool) -> Next
 /// The next octet, `None` at the end. A read that a signal interrupts is tried again.
 fn next_octet<R: Wait, L: BufRead>(rt: &R, lines: &mut L) -> io::Result<Option<u8>>
     ensures some { IfOk result (λ next. IfSome next (λ octet. Consumes (L.remaining lines.old) (L.remaining lines.new) (octet ∷ []))) }
-    ensures end { IfOk result (λ next. IfNone next (Consumes (L.remaining lines.old) (L.remaining lines.new) [] × IsAtEnd (L.remaining lines.new))) }
+    ensures end { IfOk result
+        (λ next. IfNone next (Consumes (L.remaining lines.old) (L.remaining lines.new) [] × IsAtEnd (L.remaining lines.new))) }
 {
     let mut octet = [0];
     'tries: for _ in rt.forever() {
