@@ -17,7 +17,7 @@ import sys
 import termios
 import time
 
-from newsd import GROUP, HOST, SECONDS, article, end_with_parent, long_article, message_id
+from newsd import GROUP, HOST, NO_SUPERBLOCK, SECONDS, article, end_with_parent, long_article, message_id
 from playing import Skipped, main
 
 OTHER_HOST = "other.example"
@@ -274,7 +274,7 @@ def what_can_not_be_imported_into_is_refused(volume):
     directory = os.path.dirname(volume.path)
     write(directory + "/text", b"no volume")
     given = batch([with_lf(text_of(1))])
-    for path, said in (("/none", "E1 Fault: the file isn't there"), ("/text", "E3 NotAVolume")):
+    for path, said in (("/none", "E1 Fault: the file isn't there"), ("/text", NO_SUPERBLOCK)):
         done = volume.run("import", directory + path, given=given)
         assert (done.returncode, done.stdout, done.stderr.decode()) == (1, b"", "newsd: %s\n" % said), done
     volume.make_group()

@@ -12,6 +12,8 @@ GROUP = "x.a"
 GREETING = "200 %s ready, posting permitted" % HOST
 SECONDS = 30
 SERVICE_ENDS = "400 Service ends"
+# what a file is that holds `no volume`
+NO_SUPERBLOCK = "E3 NotAVolume: the file has 9 octets, fewer than the 4,096 of a superblock"
 ESTABLISHED = 1
 LIBC = ctypes.CDLL(None)
 SET_PARENT_DEATH_SIGNAL = 1

@@ -11,7 +11,9 @@ import sys
 import threading
 import time
 
-from newsd import GROUP, HOST, SECONDS, SERVICE_ENDS, Caller, article, end_with_parent, free_port, message_id, octets, settled_octets, wait_until
+from newsd import (
+    GROUP, HOST, NO_SUPERBLOCK, SECONDS, SERVICE_ENDS, Caller, article, end_with_parent, free_port, message_id, octets, settled_octets,
+    wait_until)
 from playing import Skipped, main
 
 # the octets of an overview up to which its group takes articles
@@ -169,7 +171,7 @@ def what_has_no_status_is_refused(volume):
     for words, status, said in (
         (["status", directory + "/none"], 1, "E1 Fault: the file isn't there"),
         (["status", directory + "/none", "--json"], 1, "E1 Fault: the file isn't there"),
-        (["status", directory + "/text"], 1, "E3 NotAVolume"),
+        (["status", directory + "/text"], 1, NO_SUPERBLOCK),
         (["status"], 2, None),
         (["status", volume.path, "more"], 2, None),
     ):

@@ -6,13 +6,13 @@ ghost use Rattle.filedisk.specs.declared.FileDisk.{FileDisk};
 ghost use Rattle.gates.specs.Gates.{WritesBack};
 ghost use Rattle.journal.specs.Journal.{IsReady};
 
+use crate::refusals::refusal_of;
 use counting::CountedDisk;
 use disk::DiskError;
 use filedisk::{FileDisk, FileError, holder};
 use gates::write_gates_back;
-use kernel::OpenError;
 use new_volume::{Plan, device_octets, format as format_device};
-use opening::Opened;
+use opening::{Opened, Refused};
 use printing::CommandError;
 use std::alloc::{AllocError, Global};
 use std::fs::File;
@@ -69,16 +69,12 @@ pub(crate) fn open_counted<R: Files<File = File>>(
     let disk = CountedDisk::new(find(rt, alloc, path)?, syncs);
     match opening::open(alloc, WCache::new(alloc, disk)) {
         Ok(opened) => Ok(opened),
-        Err(refused) => Err(not_opened(refused.error)),
-    }
-}
-
-/// The refusal of an opening.
-fn not_opened(error: OpenError) -> CommandError {
-    match error {
-        OpenError::Fault => CommandError::Fault,
-        OpenError::Memory => CommandError::Memory,
-        OpenError::NotAVolume | OpenError::Damaged => CommandError::NotOpened(error),
+        Err(refused) => {
+            let Refused { disk, error } = refused;
+            // so that the file is no longer locked
+            drop(disk);
+            Err(refusal_of(rt, alloc, path, error))
+        }
     }
 }
 

@@ -1,6 +1,7 @@
 //! Tells the state of a volume.
 
 use crate::files::find;
+use crate::refusals::refusal_of;
 use printing::CommandError;
 use reporting::{VolumeStatus, json_text, table_text};
 use std::alloc::Global;
@@ -36,5 +37,8 @@ fn state_of<R: Files<File = File>>(
     path: &str,
 ) -> Result<VolumeStatus, CommandError> {
     let disk = find(rt, alloc, path)?;
-    state_on(alloc, WCache::new(alloc, disk)).map_err(CommandError::NotOpened)
+    match state_on(alloc, WCache::new(alloc, disk)) {
+        Ok(state) => Ok(state),
+        Err(error) => Err(refusal_of(rt, alloc, path, error)),
+    }
 }

@@ -1,0 +1,43 @@
+//! The refusals of an opening, with what is wrong with the volume.
+
+use filedisk::FileDisk;
+use kernel::OpenError;
+use printing::CommandError;
+use std::alloc::Global;
+use std::fs::File;
+use std::rt::Files;
+
+/// The refusal of the opening of a volume in a file. If it is no volume or is damaged, the file is read once more, to say
+/// what is wrong with it; its device has to be dropped before. Nothing rests on those words.
+pub(crate) fn refusal_of<R: Files<File = File>>(
+    rt: &R,
+    alloc: Global,
+    path: &str,
+    error: OpenError,
+) -> CommandError {
+    match error {
+        OpenError::Fault => CommandError::Fault,
+        OpenError::Memory => CommandError::Memory,
+        OpenError::NotAVolume | OpenError::Damaged => match finding(rt, alloc, path, error) {
+            Some(words) => CommandError::Found(error, words),
+            None => CommandError::NotOpened(error),
+        },
+    }
+}
+
+/// What is wrong with the volume in a file whose opening was refused, if that is found.
+fn finding<R: Files<File = File>>(
+    rt: &R,
+    alloc: Global,
+    path: &str,
+    error: OpenError,
+) -> Option<String> {
+    let Ok(disk) = FileDisk::open_existing(rt, path) else {
+        return None;
+    };
+    match error {
+        OpenError::NotAVolume => findings::no_volume(alloc, disk),
+        OpenError::Damaged => findings::damage(alloc, disk),
+        OpenError::Fault | OpenError::Memory => None,
+    }
+}

@@ -1,0 +1,60 @@
+//! Reads of a device.
+
+use disk::Disk;
+use std::alloc::AllocError;
+use volume_format::layout::BLOCK;
+
+/// The octets of a block.
+pub(crate) type Block = [u8; BLOCK];
+
+/// Why a look ends before all was seen.
+#[derive(Drop)]
+pub(crate) enum Stop {
+    /// This is wrong.
+    Wrong(String),
+    /// A read failed, or memory was refused.
+    Unseen,
+}
+
+impl From<AllocError> for Stop {
+    fn from(_error: AllocError) -> Stop {
+        Stop::Unseen
+    }
+}
+
+/// Fills `into` with the octets of a block of the device from a place in it on.
+pub(crate) fn read<D: Disk>(
+    disk: &mut D,
+    block: u64,
+    at: usize,
+    into: &mut [u8],
+) -> Result<(), Stop> {
+    let start = block.saturating_mul(BLOCK as u64).saturating_add(at as u64);
+    let Some(end) = start.checked_add(into.len() as u64) else {
+        return Err(Stop::Unseen);
+    };
+    if end > disk.len() {
+        return Err(Stop::Unseen);
+    }
+    match disk.read(start, into) {
+        Ok(()) => Ok(()),
+        Err(_) => Err(Stop::Unseen),
+    }
+}
+
+/// The octets of a block of the device.
+pub(crate) fn read_block<D: Disk>(disk: &mut D, block: u64) -> Result<Block, Stop> {
+    let mut octets = [0; BLOCK];
+    read(disk, block, 0, &mut octets)?;
+    Ok(octets)
+}
+
+/// The first of some octets, from a place on, that isn't zero.
+pub(crate) fn first_set(octets: &[u8], from: usize) -> Option<usize> {
+    for at in from..octets.len() {
+        if octets[at] != 0 {
+            return Some(at);
+        }
+    }
+    None
+}

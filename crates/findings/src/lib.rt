@@ -1,0 +1,62 @@
+//! Says in words, for a person alone, what is wrong with a volume whose opening was refused (docs/FORMATS.md). The
+//! device is read once more, and the first thing that breaks a rule is told. Nothing rests on what is said here: the
+//! journal and the kernel refuse an opening, by their contracts, and no function here promises anything.
+#![tactic(auto)]
+
+/// Ends a look: this is wrong.
+macro_rules! wrong {
+    ($alloc:expr; $($text:tt)+) => {
+        return Err(Stop::Wrong(format!(in $alloc; $($text)+)?))
+    };
+}
+
+/// Ends a look with a text if a condition doesn't hold.
+macro_rules! wrong_unless {
+    ($alloc:expr; $holds:expr, $($text:tt)+) => {
+        if !$holds {
+            wrong!($alloc; $($text)+);
+        }
+    };
+}
+
+mod batches;
+mod blocks;
+mod device;
+mod files;
+mod grouped;
+mod owners;
+mod reads;
+mod superblock;
+
+use crate::device::Stop;
+use crate::reads::Volume;
+use disk::Disk;
+use std::alloc::Global;
+
+/// Why a device holds no volume, if an opening said `NotAVolume` (E3): its length, its superblock with the label, or the
+/// descriptor of an open segment. `None` if nothing is found, a read fails or memory is refused.
+pub fn no_volume<D: Disk + Drop>(alloc: Global, disk: D) -> Option<String> {
+    match Volume::open(alloc, disk) {
+        Err(Stop::Wrong(text)) => Some(text),
+        Ok(_) | Err(Stop::Unseen) => None,
+    }
+}
+
+/// What breaks the rule of blocks or the rule of files, if an opening said `Damaged` (E5). `None` if nothing is found, a
+/// read fails or memory is refused. No article is read, so not every break of the rule of files is found.
+pub fn damage<D: Disk + Drop>(alloc: Global, disk: D) -> Option<String> {
+    let Ok(mut volume) = Volume::open(alloc, disk) else {
+        return None;
+    };
+    match look(&mut volume) {
+        Err(Stop::Wrong(text)) => Some(text),
+        Ok(()) | Err(Stop::Unseen) => None,
+    }
+}
+
+/// Looks at the rule of blocks, and then at the rule of files.
+fn look<D: Disk>(volume: &mut Volume<D>) -> Result<(), Stop> {
+    blocks::look(volume)?;
+    let names = owners::look(volume)?;
+    files::look(volume, &names)
+}

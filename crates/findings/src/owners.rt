@@ -1,0 +1,116 @@
+//! Looks at the owners of the blocks, at the bitmap and at the names, where each inode has the form that it has to have.
+
+use crate::device::Stop;
+use crate::grouped::Grouped;
+use crate::reads::{Entry, Record, Volume};
+use disk::Disk;
+use fs_layout::bits::is_set;
+use fs_layout::marks::BLOCK_BITS;
+use std::collections::BTreeMap;
+
+/// The slots of all files, with the numbers of their inodes.
+pub(crate) type Names = BTreeMap<Record, u32>;
+
+/// No inode has this number.
+pub(crate) const NOBODY: u32 = u32::MAX;
+
+/// The blocks of the bitmap.
+const BITMAP_BLOCKS: u32 = 2;
+
+/// Looks at the owners, the bitmap and the names, and answers the names.
+pub(crate) fn look<D: Disk>(volume: &mut Volume<D>) -> Result<Names, Stop> {
+    let mut owners = vec![in volume.alloc; NOBODY; volume.sizes.blocks as usize]?;
+    for number in 0..volume.sizes.inodes {
+        let entry = volume.entry(number)?;
+        if entry.is_file() {
+            claim_all(volume, owners.as_mut_slice(), &entry)?;
+        }
+    }
+    for table in 0..BITMAP_BLOCKS {
+        let bitmap = volume.block(table)?;
+        for bit in 0..BLOCK_BITS {
+            let block = table * BLOCK_BITS as u32 + bit as u32;
+            look_at_mark(volume, owners.as_slice(), block, is_set(&bitmap, bit))?;
+        }
+    }
+    look_at_names(volume)
+}
+
+/// Notes the owner of a file's blocks.
+fn claim_all<D: Disk>(
+    volume: &mut Volume<D>,
+    owners: &mut [u32],
+    entry: &Entry,
+) -> Result<(), Stop> {
+    if entry.indirect() != 0 {
+        claim(volume, owners, entry, entry.indirect())?;
+    }
+    let pointers = volume.pointers(entry)?;
+    for index in 0..entry.block_count() {
+        claim(volume, owners, entry, pointers.get(index))?;
+    }
+    Ok(())
+}
+
+/// Notes the owner of a block, which may have none yet.
+fn claim<D: Disk>(
+    volume: &mut Volume<D>,
+    owners: &mut [u32],
+    entry: &Entry,
+    block: u32,
+) -> Result<(), Stop> {
+    let alloc = volume.alloc;
+    let at = block as usize;
+    if at >= owners.len() {
+        return Err(Stop::Unseen);
+    }
+    let owner = owners[at];
+    if owner == NOBODY {
+        owners[at] = entry.number;
+        return Ok(());
+    }
+    wrong_unless!(alloc; owner != entry.number, "block {block} is owned twice by {entry}");
+    let earlier = volume.entry(owner)?;
+    wrong!(alloc; "block {block} is owned by {earlier} and by {entry}")
+}
+
+/// Looks whether a block is marked as it has to be.
+fn look_at_mark<D: Disk>(
+    volume: &mut Volume<D>,
+    owners: &[u32],
+    block: u32,
+    is_marked: bool,
+) -> Result<(), Stop> {
+    let alloc = volume.alloc;
+    let blocks = Grouped(u64::from(volume.sizes.blocks));
+    let is_front = block < volume.data_start();
+    let Some(owner) = owners.get(block as usize).copied() else {
+        wrong_unless!(alloc; !is_marked, "the bitmap marks block {block}, where there are {blocks} blocks");
+        return Ok(());
+    };
+    let is_owned = owner != NOBODY;
+    wrong_unless!(alloc; !is_marked || is_front || is_owned, "the bitmap marks block {block}, which no file owns");
+    wrong_unless!(alloc; is_marked || !is_front, "the bitmap doesn't mark block {block}, which is before the data");
+    if is_marked || !is_owned {
+        return Ok(());
+    }
+    let entry = volume.entry(owner)?;
+    wrong!(alloc; "the bitmap doesn't mark block {block}, which {entry} owns")
+}
+
+/// Looks for two files of one name, and answers the names.
+fn look_at_names<D: Disk>(volume: &mut Volume<D>) -> Result<Names, Stop> {
+    let mut names = BTreeMap::new(volume.alloc);
+    for number in 0..volume.sizes.inodes {
+        let entry = volume.entry(number)?;
+        if entry.is_file() {
+            let Ok(before) = names.insert(entry.slot, number) else {
+                return Err(Stop::Unseen);
+            };
+            if let Some(other) = before {
+                wrong!(volume.alloc; "inodes {other} and {number} both have the name of {entry}");
+            }
+        }
+    }
+    Ok(names)
+}

@@ -1,0 +1,84 @@
+//! Looks at the length of a device and at its superblock.
+
+use crate::device::{Block, Stop, first_set, read_block};
+use crate::grouped::Grouped;
+use disk::Disk;
+use names::{HOST_LIMIT, is_host};
+use std::alloc::Global;
+use volume_format::layout::{
+    BLOCK, FEWEST_BLOCKS, LABEL_AT, MAGIC, MOST_BLOCKS, ONE_SEGMENT, SEGMENTS, VERSION, home_block,
+    number32,
+};
+
+/// Where the label has the length of its host, and the host.
+const HOST_SIZE_AT: usize = LABEL_AT + 4;
+
+const HOST_AT: usize = LABEL_AT + 5;
+
+const FEWEST_INODES: u32 = 64;
+
+const MOST_INODES: u32 = 32_768;
+
+const INODES_IN_A_BLOCK: u32 = 64;
+
+/// The blocks of a bitmap, and the blocks of data that a volume has at least.
+const FEWEST_OTHERS: u32 = 2 + 256;
+
+/// What a superblock says.
+#[derive(Clone, Copy)]
+pub(crate) struct Sizes {
+    pub blocks: u32,
+    pub segments: u32,
+    pub inodes: u32,
+}
+
+/// Looks at the superblock and the length of a device, and answers the sizes of its volume.
+pub(crate) fn look<D: Disk>(alloc: Global, disk: &mut D) -> Result<Sizes, Stop> {
+    let octets = Grouped(disk.len());
+    wrong_unless!(alloc; disk.len() >= BLOCK as u64, "the file has {octets} octets, fewer than the 4,096 of a superblock");
+    let superblock = read_block(disk, 0)?;
+    let sizes = look_at_front(alloc, &superblock)?;
+    let blocks = home_block(sizes.segments, u64::from(sizes.blocks));
+    let wanted = blocks.saturating_mul(BLOCK as u64);
+    wrong_unless!(alloc; disk.len() == wanted, "the file has {octets} octets, where its superblock asks for {}", Grouped(wanted));
+    look_at_label(alloc, &superblock, sizes)?;
+    Ok(sizes)
+}
+
+/// Looks at what stands before the label.
+fn look_at_front(alloc: Global, superblock: &Block) -> Result<Sizes, Stop> {
+    wrong_unless!(alloc; superblock[..8] == MAGIC[..], "the superblock doesn't begin with XNNTPFS1");
+    let version = number32(superblock, 8);
+    wrong_unless!(alloc; version == VERSION, "the superblock is of version {version}, where this program reads version {VERSION}");
+    let blocks = number32(superblock, 12);
+    let count = u64::from(blocks);
+    wrong_unless!(alloc; FEWEST_BLOCKS <= count && count <= MOST_BLOCKS,
+        "the superblock says {} blocks, where a volume has 1,024 to 65,536", Grouped(count));
+    let segments = number32(superblock, 16);
+    wrong_unless!(alloc; segments == ONE_SEGMENT || segments == SEGMENTS,
+        "the superblock says {segments} segments, where a volume has {ONE_SEGMENT} or {SEGMENTS}");
+    Ok(Sizes {
+        blocks,
+        segments,
+        inodes: number32(superblock, LABEL_AT),
+    })
+}
+
+/// Looks at the label, and at what stands behind its host.
+fn look_at_label(alloc: Global, superblock: &Block, sizes: Sizes) -> Result<(), Stop> {
+    let inodes = sizes.inodes;
+    wrong_unless!(alloc; FEWEST_INODES <= inodes && inodes <= MOST_INODES && inodes % INODES_IN_A_BLOCK == 0,
+        "the label says {} inodes, where a volume has a multiple of 64 from 64 to 32,768", Grouped(u64::from(inodes)));
+    wrong_unless!(alloc; 2 * (inodes / INODES_IN_A_BLOCK) + FEWEST_OTHERS <= sizes.blocks,
+        "the label says {} inodes, for which {} blocks are too few", Grouped(u64::from(inodes)), Grouped(u64::from(sizes.blocks)));
+    let size = superblock[HOST_SIZE_AT] as usize;
+    wrong_unless!(alloc; 1 <= size && size <= HOST_LIMIT,
+        "the label's host has {size} octets, where a host has 1 to {HOST_LIMIT}");
+    let host_end = HOST_AT + size;
+    let host = &superblock[HOST_AT..host_end];
+    wrong_unless!(alloc; is_host(host), "the label's host '{}' is no name of a server", host.escape_ascii());
+    if let Some(at) = first_set(superblock, host_end) {
+        wrong!(alloc; "octet {at} of the superblock isn't zero");
+    }
+    Ok(())
+}

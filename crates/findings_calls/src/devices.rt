@@ -1,0 +1,155 @@
+//! Devices with an empty volume of 1,024 blocks. Its one batch stands in segment 0, which is open: block 1 of the device
+//! is its gate, block 2 its descriptor, block 3 its image of block 0. Segment 1 begins at block 515, and block 0 has its
+//! home at block 4113.
+
+use disk::{Disk, DiskCall, Faults};
+use memdisk::MemDisk;
+use names::is_host;
+use new_volume::{Plan, are_sizes, device_octets, format};
+use std::alloc::Global;
+use std::test::Fail;
+
+/// Octets that are written over a device: the block, the place in it, and the octets.
+type Change = (u64, u64, &'static [u8]);
+
+/// What is said of a device with these changes.
+type Row = (&'static str, &'static [Change], Option<&'static str>);
+
+const UNMARKED: Option<&str> = Some("the bitmap doesn't mark block 0, which is before the data");
+
+/// Images lie over homes, in rising batch number.
+const DAMAGES: &[Row] = &[
+    ("nothing", &[], None),
+    ("a closed segment", &[(1, 0, &[0])], UNMARKED),
+    ("an octet of the home", &[(4113, 0, &[0])], None),
+    (
+        "an octet of the image",
+        &[(3, 125, &[1])],
+        Some("the bitmap marks block 1000, which no file owns"),
+    ),
+    (
+        "a later batch over the image",
+        &[(515, 0, &[1]), (516, 0, &[2]), (516, 16, &[1])],
+        UNMARKED,
+    ),
+    (
+        "an earlier batch below it",
+        &[(515, 0, &[1]), (516, 16, &[1])],
+        None,
+    ),
+    ("no volume", &[(0, 0, &[0])], None),
+];
+
+/// The same for what is no volume.
+const NO_VOLUMES: &[Row] = &[
+    ("nothing", &[], None),
+    ("an octet of the image", &[(3, 125, &[1])], None),
+    (
+        "a count of no images",
+        &[(2, 16, &[0])],
+        Some("open segment 0 counts 0 images, where a batch has 1 to 512"),
+    ),
+    (
+        "a number twice",
+        &[(515, 0, &[1]), (516, 0, &[1]), (516, 16, &[1])],
+        Some("open segments 0 and 1 both have number 1"),
+    ),
+    (
+        "an octet behind the label",
+        &[(0, 148, &[1])],
+        Some("octet 148 of the superblock isn't zero"),
+    ),
+];
+
+/// The rows, as functions, so that no proof of a test reads them.
+fn damages() -> &'static [Row] {
+    DAMAGES
+}
+
+fn no_volumes() -> &'static [Row] {
+    NO_VOLUMES
+}
+
+fn plan() -> Option<Plan<'static>> {
+    let host: &'static [u8] = b"news.example";
+    if !is_host(host) || host.len() > 64 || !are_sizes(1024, 64) {
+        return None;
+    }
+    Some(Plan {
+        host,
+        blocks: 1024,
+        inodes: 64,
+    })
+}
+
+/// A device with an empty volume.
+fn formatted(alloc: Global) -> Result<MemDisk, Fail> {
+    let Some(plan) = plan() else {
+        return Err("no plan")?;
+    };
+    let disk = MemDisk::new(alloc, device_octets(plan.blocks))?;
+    match format(alloc, disk, &plan) {
+        Ok(disk) => Ok(disk),
+        Err(_) => Err("no volume was made")?,
+    }
+}
+
+/// Writes octets over a device.
+fn put(disk: &mut MemDisk, change: &Change) -> Result<(), Fail> {
+    let (block, place, octets) = change;
+    let at = block.saturating_mul(4096).saturating_add(*place);
+    match at.checked_add(octets.len() as u64) {
+        Some(end) if end <= disk.len() => match disk.write(at, octets) {
+            Ok(()) => Ok(()),
+            Err(_) => Err("a write failed")?,
+        },
+        _ => Err("outside the device")?,
+    }
+}
+
+/// A device with an empty volume and these changes.
+fn changed(alloc: Global, changes: &[Change]) -> Result<MemDisk, Fail> {
+    let mut disk = formatted(alloc)?;
+    for change in changes {
+        put(&mut disk, change)?;
+    }
+    Ok(disk)
+}
+
+fn is_said(found: &Option<String>, words: Option<&str>) -> bool {
+    match (found, words) {
+        (Some(found), Some(words)) => found.as_str() == words,
+        (None, None) => true,
+        _ => false,
+    }
+}
+
+#[test]
+fn images_lie_over_homes(rt: HostRuntime) -> Result<(), Fail> {
+    for (name, changes, words) in damages() {
+        let found = findings::damage(rt.alloc(), changed(rt.alloc(), changes)?);
+        assert!(rt; is_said(&found, *words), "{name}: {found:?}");
+    }
+    Ok(())
+}
+
+#[test]
+fn descriptors_of_open_segments(rt: HostRuntime) -> Result<(), Fail> {
+    for (name, changes, words) in no_volumes() {
+        let found = findings::no_volume(rt.alloc(), changed(rt.alloc(), changes)?);
+        assert!(rt; is_said(&found, *words), "{name}: {found:?}");
+    }
+    Ok(())
+}
+
+// Whichever read fails, nothing is said.
+#[test]
+fn a_read_that_fails(rt: HostRuntime) -> Result<(), Fail> {
+    for call in [1, 2, 9, 12, 100] {
+        let mut disk = changed(rt.alloc(), &[(3, 125, &[1])])?;
+        disk.fail_kind(DiskCall::Read, call);
+        let found = findings::damage(rt.alloc(), disk);
+        assert!(rt; is_said(&found, None), "{call}: {found:?}");
+    }
+    Ok(())
+}

@@ -1,0 +1,6 @@
+//! Tests of what is said of a device, by octets that are written over it. The built program has more of them, in
+//! tests/findings.py: there the segments are closed before the blocks are looked at.
+#![tactic(auto)]
+
+#[cfg(test)]
+mod devices;
