@@ -1,8 +1,10 @@
 -- The calls of a batch up to the one that commits it.
-use Rattle.std.proofs.Common.{◌≡◌, ◌≢◌, ◌≤◌, ◌<◌, ◌+◌, ℕ, Bool, false, IsTrue, List, length, refl, sym, ◌∙◌, ap, subst, arith, ◌⊎◌, inl, inr, true, Result, Ok, Err, IfErr}
+use Rattle.std.proofs.Common.{◌≡◌, ◌≢◌, ◌≤◌, ◌<◌, ◌+◌, ◌⊎◌, ℕ, Bool, true, false, IsTrue, List, length, inl, inr, Result, Ok, Err, IfErr}
+use Rattle.std.proofs.Common.{refl, sym, ◌∙◌, ap, subst, arith, ◌↔◌}
+use Rattle.std.proofs.lemmas.Bool.{false≢true}
 use Rattle.disk.specs.Device.{Device}
 use Rattle.journal.specs.Calls.{IsRetried, MakesCall, OnMade, OnRetried, blocks_after}
-use Rattle.journal.specs.Journal.{JournalView, LeavesAdmitted, sizes, with_batch}
+use Rattle.journal.specs.Journal.{IsReady, JournalView, LeavesAdmitted, sizes, with_batch}
 use Rattle.journal.specs.Opening.{IsMore}
 use Rattle.journal.specs.Order.{answer, following, syncs_made, writes_made}
 use Rattle.journal.specs.declared.Next.{Next}
@@ -51,7 +53,8 @@ committed_at n last k counts (CloseGate j) b e = absurd b
 committed_at n last k counts (Finish j) b e = absurd b
 
 -- each other one is followed by one of them, and leaves the blocks
-body_more : (n last : ℕ) (counts : List ℕ) (next : Next) → 1 ≤ n → IsBody n next → answer last counts next ≢ Committed last → IsBody n (following n counts next)
+body_more : (n last : ℕ) (counts : List ℕ) (next : Next) → 1 ≤ n → IsBody n next → answer last counts next ≢ Committed last
+    → IsBody n (following n counts next)
 body_more n last counts Idle some b other = absurd b
 body_more n last counts Descriptor some b other = omega arith
 body_more n last counts (Image i) some b other = after_image (IsBody n) n counts i (λ e. tt) (λ e. omega (arith, b, e))
@@ -63,7 +66,8 @@ body_more n last counts Settle some b other = absurd b
 body_more n last counts (CloseGate j) some b other = absurd b
 body_more n last counts (Finish j) some b other = absurd b
 
-working : {D : Type 0} (journal : JournalView D) (n last : ℕ) (counts : List ℕ) (next : Next) → IsBody n next → answer last counts next ≢ Committed last → blocks_after journal (answer last counts next) ≡ journal.blocks
+working : {D : Type 0} (journal : JournalView D) (n last : ℕ) (counts : List ℕ) (next : Next) → IsBody n next
+    → answer last counts next ≢ Committed last → blocks_after journal (answer last counts next) ≡ journal.blocks
 working journal n last counts Idle b other = absurd b
 working journal n last counts Descriptor b other = refl
 working journal n last counts (Image i) b other = refl
@@ -124,7 +128,10 @@ module _ {D : Type 0} (device : D → Device) (old now new : JournalView D) (so_
         last = call.same.last ∙ so_far.last;
         numbers = call.same.numbers ∙ so_far.numbers;
         images = call.same.images ∙ so_far.images;
-        blocks = λ t. (call.blocks (tells_now t) ∙ ap (λ (q : Progress). blocks_after now q) call.answers ∙ working now (length now.numbers) now.last (sizes now) now.next so_far.body not_yet) ∙ so_far.blocks t;
+        blocks = λ t.
+            (call.blocks (tells_now t) ∙ ap (λ (q : Progress). blocks_after now q) call.answers
+            ∙ working now (length now.numbers) now.last (sizes now) now.next so_far.body not_yet)
+            ∙ so_far.blocks t;
         failures = call.failures.ok ∙ so_far.failures;
       }
 
@@ -151,7 +158,8 @@ module _ {D : Type 0} (device : D → Device) (old now new : JournalView D) (so_
       record {
         tells = call.time.tells ∙ so_far.tells;
         running = call.next.1;
-        next = call.next.0 ∙ ap (λ (n : Next). following (length now.numbers) (sizes now) n) here ∙ sym (λ i. following (length (call.same.numbers i)) (same_sizes now new call.same i) Commit);
+        next = call.next.0 ∙ ap (λ (n : Next). following (length now.numbers) (sizes now) n) here
+            ∙ sym (λ i. following (length (call.same.numbers i)) (same_sizes now new call.same i) Commit);
         label = call.same.label ∙ so_far.label;
         last = call.same.last ∙ so_far.last;
         numbers = call.same.numbers ∙ so_far.numbers;
@@ -163,13 +171,21 @@ module _ {D : Type 0} (device : D → Device) (old now new : JournalView D) (so_
     where
       laid : IsTrue (device old.disk).tells → with_batch now ≡ with_batch old
       laid t = ap (λ (bs : List (List ℕ)). laid_over bs now.numbers now.images) (so_far.blocks t)
-          ∙ (ap (λ (ns : List ℕ). laid_over old.blocks ns now.images) so_far.numbers ∙ ap (λ (xs : List (List ℕ)). laid_over old.blocks old.numbers xs) so_far.images)
+          ∙ (ap (λ (ns : List ℕ). laid_over old.blocks ns now.images) so_far.numbers
+          ∙ ap (λ (xs : List (List ℕ)). laid_over old.blocks old.numbers xs) so_far.images)
 
   pub failed : MakesCall device now new (Err Fault) → (device new.disk).failures ≢ (device old.disk).failures
   failed call = λ same. call.failures.fault refl (same ∙ sym so_far.failures)
 
+-- a journal that runs and isn't ready for a batch has a call to make
+pub has_call : {D : Type 0} (journal : JournalView D) (ready : Bool) → (IsTrue ready ↔ IsReady journal) → ready ≡ false
+    → journal.halted ≡ false → journal.next ≢ Idle
+has_call journal ready exactly is running =
+    λ idle. false≢true (subst (λ (b : Bool). IsTrue b) is (exactly.1 (running, idle)))
+
 -- a call behind the commit that was refused for want of memory
-pub settles_again : {D : Type 0} (device : D → Device) (old now new : JournalView D) (so_far : IsOnTheWay device old now) (moves : now.next ≢ Idle) → IsRetried device now new → IsOnTheWay device old new
+pub settles_again : {D : Type 0} (device : D → Device) (old now new : JournalView D) (so_far : IsOnTheWay device old now)
+    → (moves : now.next ≢ Idle) → IsRetried device now new → IsOnTheWay device old new
 settles_again device old now new so_far moves call = record {
   during = stepped_on device old now new so_far moves (Err Memory) (λ is. absurd (cc)) (λ is. call) (inr refl);
   left = subst IsLeft (sym call.next) so_far.left;
@@ -181,11 +197,14 @@ settles_again device old now new so_far moves call = record {
       (subst (λ (l : List ℕ). length new.numbers + 2 + w ≡ writes_made (length new.numbers) l now.next) (same_sizes now new call.same)
       (is ∙ ap (λ (n : Next). writes_made (length new.numbers) (sizes new) n) call.next))));
   syncs = λ s is. subst (λ (k : ℕ). IsMore s (device old.disk).syncs k) (sym call.refused.syncs)
-      (so_far.syncs s (subst (λ (l : List ℕ). 2 + s ≡ syncs_made l now.next) (same_sizes now new call.same) (is ∙ ap (λ (n : Next). syncs_made (sizes new) n) call.next)));
+      (so_far.syncs s
+      (subst (λ (l : List ℕ). 2 + s ≡ syncs_made l now.next) (same_sizes now new call.same)
+      (is ∙ ap (λ (n : Next). syncs_made (sizes new) n) call.next)));
 }
 
 -- one that did not fail
-pub settles_on : {D : Type 0} (device : D → Device) (old now new : JournalView D) (so_far : IsOnTheWay device old now) (moves : now.next ≢ Idle) (result : Result Progress JournalError) → has_failed result ≡ false
+pub settles_on : {D : Type 0} (device : D → Device) (old now new : JournalView D) (so_far : IsOnTheWay device old now)
+    → (moves : now.next ≢ Idle) (result : Result Progress JournalError) → has_failed result ≡ false
     → OnMade result (MakesCall device now new result) → OnRetried result (IsRetried device now new) → IsOnTheWay device old new
 settles_on device old now new so_far moves (Ok p) good made retried = on_the_way device old now new so_far moves p made
 settles_on device old now new so_far moves (Err Memory) good made retried = settles_again device old now new so_far moves (retried refl)
@@ -194,8 +213,10 @@ settles_on device old now new so_far moves (Err NotAVolume) good made retried = 
 settles_on device old now new so_far moves (Err Halted) good made retried = absurd (cc)
 
 -- and one that did
-pub settling_failed : {D : Type 0} (device : D → Device) (old now new : JournalView D) (so_far : IsOnTheWay device old now) (result : Result Progress JournalError) → has_failed result ≡ true
-    → OnMade result (MakesCall device now new result) → IfErr result (λ error. (error ≡ Fault) ⊎ (error ≡ Memory)) → (device new.disk).failures ≢ (device old.disk).failures
+pub settling_failed : {D : Type 0} (device : D → Device) (old now new : JournalView D) (so_far : IsOnTheWay device old now)
+    → (result : Result Progress JournalError) → has_failed result ≡ true
+    → OnMade result (MakesCall device now new result) → IfErr result (λ error. (error ≡ Fault) ⊎ (error ≡ Memory))
+    → (device new.disk).failures ≢ (device old.disk).failures
 settling_failed device old now new so_far (Ok p) bad made errors = absurd (cc)
 settling_failed device old now new so_far (Err Memory) bad made errors = absurd (cc)
 settling_failed device old now new so_far (Err Fault) bad made errors = λ same. (made refl).failures.fault refl (same ∙ sym so_far.failures)

@@ -15,7 +15,8 @@ pub record Gives (old new : KernelView) (number : ℕ) (before after : List Entr
   pub held : is_held ≡ holds (seat_of new number)
 
 -- a message of a session was served, and then what is ready of the same session was given
-pub record Answers (old new : KernelView) (number : ℕ) (m : Message) (t : ℕ) (before after : List Entry) (answered : Answered) : Type 0 where
+pub record Answers (old new : KernelView) (number : ℕ) (m : Message) (t : ℕ) (before after : List Entry)
+    (answered : Answered) : Type 0 where
   pub served : KernelView
   pub executed : Execs old served number m t (answered.next, answered.mark)
   pub accepted : IsTrue answered.has_accepted ↔ (length old.spool < length served.spool)

@@ -1,9 +1,10 @@
 -- The bits of octets, set and clear.
-use Rattle.std.proofs.Common.{◌≡◌, ◌<◌, ◌≤◌, inl, inr, ℕ, zero, suc, ◌+◌, ◌-◌, ◌*◌, cond, not, Bool, true, false, count_by, List, [], ◌∷◌, get_or, length, refl, sym, ◌∙◌, ap, arith}
+use Rattle.std.proofs.Common.{◌≡◌, ◌<◌, ◌≤◌, inl, inr, ℕ, zero, suc, ◌+◌, ◌-◌, ◌*◌, cond, not, Bool, true, false}
+use Rattle.std.proofs.Common.{count_by, List, [], ◌∷◌, get_or, length, refl, sym, ◌∙◌, ap, arith}
 use Rattle.std.specs.List.{range_with_len}
 use Rattle.std.proofs.lemmas.List.Elements.{All-get_or}
 use Rattle.std.proofs.lemmas.List.FromFn.{length-range_with_len}
-use Rattle.model.specs.Files.{HasRoom, IsFileSystem, first_data, free_blocks, is_marked_used}
+use Rattle.model.specs.Files.{HasRoom, IsFileSystem, free_blocks, is_marked_used}
 use Rattle.model.specs.Stream.{Octets}
 use Rattle.fs_layout.specs.Bits.{bit_of}
 use Rattle.fs_layout.proofs.Counts.{count_cons, count_same, count_split, mark_is_bit}
@@ -14,13 +15,16 @@ count_not p [] = refl
 count_not p (x ∷ xs) =
     either (p x) (count_cons p x xs) (count_cons (λ y. not (p y)) x xs) (count_not p xs)
   where
-    either : (t : Bool) → count_by p (x ∷ xs) ≡ cond t 1 0 + count_by p xs → count_by (λ y. not (p y)) (x ∷ xs) ≡ cond (not t) 1 0 + count_by (λ y. not (p y)) xs → count_by p xs + count_by (λ y. not (p y)) xs ≡ length xs
+    either : (t : Bool) → count_by p (x ∷ xs) ≡ cond t 1 0 + count_by p xs
+        → count_by (λ y. not (p y)) (x ∷ xs) ≡ cond (not t) 1 0 + count_by (λ y. not (p y)) xs
+        → count_by p xs + count_by (λ y. not (p y)) xs ≡ length xs
         → count_by p (x ∷ xs) + count_by (λ y. not (p y)) (x ∷ xs) ≡ suc (length xs)
     either true set clear rest = omega arith
     either false set clear rest = omega arith
 
 -- the bits that aren't clear are set
-pub set_rest : (octets : Octets) (clear : ℕ) → clear ≡ count_by (λ bit. not (bit_of octets bit)) (range_with_len 0 (8 * length octets)) → 8 * length octets - clear ≡ used_in octets
+pub set_rest : (octets : Octets) (clear : ℕ) → clear ≡ count_by (λ bit. not (bit_of octets bit)) (range_with_len 0 (8 * length octets))
+    → 8 * length octets - clear ≡ used_in octets
 set_rest octets clear is =
     let all = count_not (λ bit. bit_of octets bit) (range_with_len 0 (8 * length octets)) in
     let many = length-range_with_len 0 (8 * length octets) in
@@ -29,11 +33,13 @@ set_rest octets clear is =
 -- ---- the two blocks of a bitmap
 
 -- the set bits of a block are the marks of its blocks
-bits_of_block : (blocks : List Octets) (n : ℕ) → length (get_or blocks n []) ≡ 4096 → used_in (get_or blocks n []) ≡ count_by (is_marked_used blocks) (range_with_len (32768 * n) 32768)
+bits_of_block : (blocks : List Octets) (n : ℕ) → length (get_or blocks n []) ≡ 4096
+    → used_in (get_or blocks n []) ≡ count_by (is_marked_used blocks) (range_with_len (32768 * n) 32768)
 bits_of_block blocks n whole =
     let size : 8 * length (get_or blocks n []) ≡ 32768 = omega (arith, whole) in
     ap (λ (k : ℕ). count_by (bit_of (get_or blocks n [])) (range_with_len 0 k)) size
-    ∙ count_same (bit_of (get_or blocks n [])) (is_marked_used blocks) 0 (32768 * n) 32768 (λ i low. ap (bit_of (get_or blocks n [])) (at i) ∙ sym (mark_is_bit blocks n i low))
+    ∙ count_same (bit_of (get_or blocks n [])) (is_marked_used blocks) 0 (32768 * n) 32768
+    (λ i low. ap (bit_of (get_or blocks n [])) (at i) ∙ sym (mark_is_bit blocks n i low))
   where
     at : (i : ℕ) → 0 + i ≡ i
     at i = omega arith
@@ -66,10 +72,14 @@ module _ (inodes : ℕ) (blocks : List Octets) (room : HasRoom inodes blocks) (f
     ])
 
   past_last : (k : ℕ) → length blocks + k ≡ 65536 → count_by (is_marked_used blocks) (range_with_len (0 + length blocks) k) ≡ 0
-  past_last k size = none_in (is_marked_used blocks) (0 + length blocks) k (λ i low. unmarked (0 + length blocks + i) (omega (arith, low, size)) (omega arith))
+  past_last k size =
+      none_in (is_marked_used blocks) (0 + length blocks) k
+      (λ i low. unmarked (0 + length blocks + i) (omega (arith, low, size)) (omega arith))
 
   whole_block : (k : ℕ) → k < 258 → length (get_or blocks k []) ≡ 4096
-  whole_block k low = All-get_or (λ octets. length octets ≡ 4096) blocks k [] (let some = room.room in omega (arith, some, low)) room.blocks_whole
+  whole_block k low =
+      All-get_or (λ octets. length octets ≡ 4096) blocks k []
+      (let some = room.room in omega (arith, some, low)) room.blocks_whole
 
   size : length blocks + (65536 - length blocks) ≡ 65536
   size = let few = room.count_few in omega (arith, few)
@@ -80,7 +90,8 @@ module _ (inodes : ℕ) (blocks : List Octets) (room : HasRoom inodes blocks) (f
       (bits_of_block blocks 0 (whole_block 0 (omega arith)))
       (bits_of_block blocks 1 (whole_block 1 (omega arith)))
       (count_split (is_marked_used blocks) 0 32768 32768)
-      (ap (λ (k : ℕ). count_by (is_marked_used blocks) (range_with_len 0 k)) (sym size) ∙ count_split (is_marked_used blocks) 0 (length blocks) (65536 - length blocks))
+      (ap (λ (k : ℕ). count_by (is_marked_used blocks) (range_with_len 0 k)) (sym size)
+      ∙ count_split (is_marked_used blocks) 0 (length blocks) (65536 - length blocks))
       (past_last (65536 - length blocks) size)
       (count_not (is_marked_used blocks) (range_with_len 0 (length blocks)) ∙ length-range_with_len 0 (length blocks))
 
