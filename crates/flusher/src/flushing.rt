@@ -1,14 +1,13 @@
 //! The flusher: it takes the dirty blocks, writes them to the device without the lock, and reports what is durable.
 
-ghost use Rattle.std.specs.Prelude.{◌≡◌, ◌++◌, ◌∷◌, ◌+◌, ◌*◌, ◌<◌, [], length, true, false, OnOk, OnErr, IfOk, IfErr, IfSome, IfNone, IsTrue};
+ghost use Rattle.std.specs.Prelude.{◌≡◌, ◌++◌, ◌∷◌, ◌+◌, ◌*◌, ◌<◌, [], length, true, false};
+ghost use Rattle.std.specs.Prelude.{OnOk, OnErr, IfOk, IfErr, IfSome, IfNone, IsTrue};
 ghost use Rattle.journal.specs.Journal.{IsDuring, IsIdle, IsReady, LeavesAdmitted, sizes};
 ghost use Rattle.journal.specs.Order.{following};
 ghost use Rattle.journal.specs.declared.Next.{Next};
 ghost use Rattle.flusher.specs.Flush.{Carries, Commits, Failed, HasBegun, HasNotFailed, MayBegin, Turns, has_failed};
 
 use crate::bells::Bells;
-use crate::marks::Marks;
-use crate::tally::Tally;
 use crate::{Gate, Kern};
 use disk::Disk;
 use journal::{Journal, JournalError, Progress};
@@ -17,6 +16,7 @@ use mark::{FlushSeat, Mark};
 use std::sync::Wait;
 use std::thread;
 use thiserror::Error;
+use usage::{Marks, Tally};
 use volume::{BATCH_BLOCKS, BLOCK_SIZE, BatchBuf};
 use volume_format::{are_below, are_distinct};
 

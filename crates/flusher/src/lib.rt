@@ -9,8 +9,6 @@ mod flushing;
 mod gate;
 mod kern;
 mod locked;
-mod marks;
-mod tally;
 
 pub use arrivals::Arrivals;
 pub use bells::{Bell, Bells, Ringing};
@@ -21,5 +19,4 @@ pub use kernel::{
     AdminError, BatchBuf, ExecError, ExpireError, JoinError, Kernel, SESSIONS, Stale, Ticket,
 };
 pub use locked::Locked;
-pub use marks::Marks;
-pub use tally::{Tallied, Tally, VolumeFacts};
+pub use usage::{Marks, Tallied, Tally, VolumeFacts};

@@ -1,6 +1,6 @@
 use Rattle.std.proofs.Common.{rules}
-use Rattle.flusher.proofs.Images.{some_image}
-use Rattle.flusher.proofs.marks.image.Goals as goal
+use Rattle.usage.proofs.Images.{some_image}
+use Rattle.usage.proofs.marks.image.Goals as goal
 
 pub returns-clause-known : goal.returns-clause-known
 returns-clause-known c = λ whole.

@@ -3,7 +3,7 @@ use Rattle.std.proofs.Common.{◌≡◌, ℕ, ◌+◌, ◌-◌, ◌*◌, List, O
 use Rattle.std.specs.Prelude.{◌==◌, position}
 use Rattle.model.specs.Volume.{block}
 use Rattle.volume.specs.Volume.{BatchView}
-use Rattle.flusher.specs.Marks.{image_of}
+use Rattle.usage.specs.Marks.{image_of}
 
 -- the image of the block whose number stands at this place
 pub some_image : (batch : BatchView) (number at : ℕ) (place : Option ℕ) (images numbers : List ℕ)

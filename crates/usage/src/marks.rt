@@ -2,11 +2,11 @@
 
 ghost use Rattle.std.specs.Prelude.{◌≡◌, ◌==◌, ◌+◌, ◌<◌, IfErr, IfOk, IfSome, IsTrue, OnOk, length, option_map, position};
 ghost use Rattle.journal.specs.Journal.{IsReady};
-ghost use Rattle.flusher.specs.Marks.{IsWhole, image_of, marked, marked_after};
+ghost use Rattle.usage.specs.Marks.{IsWhole, image_of, marked, marked_after};
 
+use crate::bitmap::used_blocks;
 use disk::Disk;
 use journal::{Journal, JournalError};
-use usage::used_blocks;
 use volume::{BATCH_BLOCKS, BLOCK_SIZE, BatchBuf};
 
 /// The set bits of each of the bitmap's two blocks, which are the logical blocks 0 and 1 (docs/FORMATS.md).
@@ -25,21 +25,23 @@ impl Marks {
         ensures second { IsTrue (D.device journal.old.disk).tells → IfOk result (λ marks. marks.second ≡ marked journal.old.blocks 1) }
         ensures fault { IfErr result (λ error. error ≡ JournalError.Fault) }
     {
+        // its clauses say that there are two blocks
         let _ = journal.is_idle();
         let first = read_marks(journal, 0)?;
         let second = read_marks(journal, 1)?;
         Ok(Marks { first, second })
     }
 
-    /// The number of used blocks.
-    pub(crate) fn all(self) -> u64
+    /// The number of used blocks of the volume: the set bits of both blocks.
+    pub fn all(self) -> u64
         ensures { result ≡ self.first + self.second }
     {
         u64::from(self.first) + u64::from(self.second)
     }
 
-    /// The marks after a batch: those of its images, where it has a block of the bitmap.
-    pub(crate) fn after(self, batch: &BatchBuf) -> Marks
+    /// The marks after a batch: for each block of the bitmap the set bits of its image in the batch, or those before it
+    /// if the batch does not have that block.
+    pub fn after(self, batch: &BatchBuf) -> Marks
         ensures first { IsWhole batch.now → result.first ≡ marked_after self.first (image_of batch.now 0) }
         ensures second { IsWhole batch.now → result.second ≡ marked_after self.second (image_of batch.now 1) }
     {

@@ -17,7 +17,7 @@ pub struct VolumeFacts<'a> {
     pub inodes: u64,
 }
 
-/// What was counted since a server's start. Every thread may read it; the flusher counts the batches, the device the
+/// What was counted since a server's start. Every thread may read it; `note_batch` counts the batches, the device the
 /// syncs.
 #[derive(Drop)]
 pub struct Tally {
@@ -56,8 +56,9 @@ impl Tally {
         }
     }
 
-    /// Counts a batch that was committed, and the used blocks as of that batch.
-    pub(crate) fn note_batch(&self, marks: Marks) {
+    /// Counts one more batch that was committed, and notes the used blocks as of that batch, which are the sum of these
+    /// marks. `read` tells both from then on. No clause says so, since other threads may change an atomic at any time.
+    pub fn note_batch(&self, marks: Marks) {
         self.used_blocks.store(marks.all(), Ordering::SeqCst);
         self.batches.fetch_add(1, Ordering::SeqCst);
     }
