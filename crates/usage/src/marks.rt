@@ -1,7 +1,7 @@
 //! How many blocks a volume's bitmap marks as used, followed from batch to batch.
 
-ghost use Rattle.std.specs.Prelude.{◌≡◌, ◌==◌, ◌+◌, ◌<◌, IfErr, IfOk, IfSome, IsTrue, OnOk, length, option_map, position};
-ghost use Rattle.journal.specs.Journal.{IsReady};
+ghost use Rattle.std.specs.Prelude.{◌≡◌, ◌==◌, ◌+◌, ◌<◌, IfErr, IfOk, IfSome, IsTrue, OnErr, OnOk, length, option_map, position, true};
+ghost use Rattle.journal.specs.Journal.{CountsFailures, IsReady};
 ghost use Rattle.usage.specs.Marks.{IsWhole, image_of, marked, marked_after};
 
 use crate::bitmap::used_blocks;
@@ -17,13 +17,16 @@ pub struct Marks {
 }
 
 impl Marks {
-    /// The marks of a volume, by two reads of its device. The only refusal is `Fault`, which halts the journal for good.
+    /// The marks of a volume, by two reads of its device. The only refusal is `Fault`, exactly if the device failed; it
+    /// halts the journal for good.
     pub fn read<D: Disk>(journal: &mut Journal<D>) -> Result<Marks, JournalError>
         requires { IsReady journal.old }
         ensures ready { OnOk result (IsReady journal.new) }
         ensures first { IsTrue (D.device journal.old.disk).tells → IfOk result (λ marks. marks.first ≡ marked journal.old.blocks 0) }
         ensures second { IsTrue (D.device journal.old.disk).tells → IfOk result (λ marks. marks.second ≡ marked journal.old.blocks 1) }
         ensures fault { IfErr result (λ error. error ≡ JournalError.Fault) }
+        ensures halts { OnErr result (journal.new.halted ≡ true) }
+        ensures failures { CountsFailures result (D.device journal.old.disk) (D.device journal.new.disk) }
     {
         // its clauses say that there are two blocks
         let _ = journal.is_idle();
@@ -94,6 +97,8 @@ fn read_marks<D: Disk>(journal: &mut Journal<D>, block: u64) -> Result<u32, Jour
     ensures size { journal.new.size ≡ journal.old.size }
     ensures tells { (D.device journal.new.disk).tells ≡ (D.device journal.old.disk).tells }
     ensures fault { IfErr result (λ error. error ≡ JournalError.Fault) }
+    ensures halts { OnErr result (journal.new.halted ≡ true) }
+    ensures failures { CountsFailures result (D.device journal.old.disk) (D.device journal.new.disk) }
 {
     let mut octets = [0; BLOCK_SIZE];
     journal.load(block, &mut octets)?;
