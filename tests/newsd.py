@@ -12,6 +12,8 @@ GROUP = "x.a"
 GREETING = "200 %s ready, posting permitted" % HOST
 SECONDS = 30
 SERVICE_ENDS = "400 Service ends"
+# how a server ends whose device has failed
+FAULT = (1, "newsd: E1 Fault: the device failed\n")
 ESTABLISHED = 1
 LIBC = ctypes.CDLL(None)
 SET_PARENT_DEATH_SIGNAL = 1

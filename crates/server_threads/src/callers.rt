@@ -312,7 +312,7 @@ fn end<R: Net<Listener = TcpListener, Stream = TcpStream> + Clock>(
 }
 
 /// Connects again and again until a caller gets the reply that the service ends.
-pub(crate) fn comes_until_told<R: Net<Listener = TcpListener, Stream = TcpStream> + Clock>(
+fn comes_until_told<R: Net<Listener = TcpListener, Stream = TcpStream> + Clock>(
     rt: &R,
     alloc: Global,
     address: SocketAddr,

@@ -1,6 +1,6 @@
 //! The plays in which the operator stops the server.
 
-use crate::callers::{comes_until_told, post_until_end};
+use crate::callers::post_until_end;
 use crate::gates::Flags;
 use crate::plays::{Served, Stage, changes_on};
 use flusher::NoGate;
@@ -127,18 +127,14 @@ pub(crate) fn stop<
     look(alloc, &flags, play, served, are_good)
 }
 
-/// Does what the callers of a play do: they post until the server ends, or one comes until it learns that the service
-/// ends. It is false if one of them read what it must not.
-fn call<R: Net<Listener = TcpListener, Stream = TcpStream> + Threads + Clock + Sync>(
+/// Does what the callers of a play do: they post until the server ends. It is false if one of them read what it must not.
+fn call<R: Net<Listener = TcpListener, Stream = TcpStream> + Threads + Sync>(
     rt: &R,
     alloc: Global,
     address: SocketAddr,
     flags: &Flags,
     play: StopPlay,
 ) -> bool {
-    if play.failing_sync > 0 {
-        return comes_until_told(rt, alloc, address);
-    }
     play.least == 0 || post_all(rt, alloc, address, flags)
 }
 
