@@ -326,6 +326,46 @@ def a_signal_beside_posters_loses_nothing_acknowledged(volume):
     print("  %d told, %d there" % (len(told), len(there)), flush=True)
 
 
+class Asker:
+    """A caller that asks on and on, as fast as it may, and reads the replies until they end."""
+
+    def __init__(self, server):
+        self.caller, self.replies, self.has_ended = server.call(), [], threading.Event()
+        self.threads = [threading.Thread(target=it, daemon=True) for it in (self.ask, self.read)]
+        for thread in self.threads:
+            thread.start()
+
+    def ask(self):
+        while not self.has_ended.is_set():
+            self.caller.send(b"STAT <9@a.example>\r\n" * 100)
+
+    def read(self):
+        self.replies += self.caller.file
+        self.has_ended.set()
+
+    def end(self):
+        for thread in self.threads:
+            thread.join(SECONDS)
+            assert not thread.is_alive()
+        assert self.has_ended.is_set(), "the connection was reset after %d replies" % len(self.replies)
+        assert set(self.replies) == {b"430 No such article\r\n"}, self.replies[-1]
+        self.caller.close()
+
+
+def who_asks_on_reads_whole_replies_at_a_stop(volume):
+    """The server reads on for a while after the last reply, so its end is no reset."""
+    volume.make_group()
+    with volume.serve() as server:
+        askers = [Asker(server) for _ in range(8)]
+        time.sleep(0.3)
+        start = time.monotonic()
+        assert server.order("stop") == "stopped"
+        for asker in askers:
+            asker.end()
+        assert server.end(SECONDS_OF_A_STOP) == (0, "")
+        print("  stopped in %.2f s" % (time.monotonic() - start), flush=True)
+
+
 def a_stop_waits_for_no_caller(volume):
     """One reads nothing of a long reply, and one has sent a part of an article."""
     volume.make_group()
@@ -425,6 +465,7 @@ TESTS = [
     a_server_that_is_told_to_stop_ends_in_order,
     a_stop_beside_posters_keeps_all_that_was_accepted,
     a_signal_beside_posters_loses_nothing_acknowledged,
+    who_asks_on_reads_whole_replies_at_a_stop,
     a_stop_waits_for_no_caller,
     an_operator_that_reads_nothing_stops_a_server,
     a_device_that_fails_spoils_a_stop,

@@ -310,13 +310,8 @@ fn start_accepting<
 
 /// Reads from the callers whose sessions are closed.
 fn linger<R: Wait + Clock, K, G>(hall: &Hall<'_, R, K, G>) {
-    let Shared {
-        rt,
-        closing,
-        limits,
-        ..
-    } = hall.shared;
-    linger_all(*rt, *closing, limits.linger, &hall.channels.partings)
+    let Shared { rt, limits, .. } = hall.shared;
+    linger_all(*rt, limits.linger, &hall.channels.partings)
 }
 
 /// Starts a session's thread and the one that finishes its writes. It is false if the system cannot start both.

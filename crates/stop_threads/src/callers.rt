@@ -1,7 +1,7 @@
 //! What the callers of a play do.
 
 use crate::props::{Callers, Props};
-use server_plays::{Caller, GREETING, SERVICE_ENDS};
+use server_plays::{Caller, GREETING, SERVICE_ENDS, sleep_until};
 use std::alloc::Global;
 use std::net::{Net, SocketAddr, TcpListener, TcpStream};
 use std::sync::Wait;
@@ -50,6 +50,7 @@ impl<'a, R: Net<Listener = TcpListener, Stream = TcpStream> + Threads + Wait + C
             Callers::None => self.makes_due(),
             Callers::Late => self.props.answers.are(self.rt, 1) && self.makes_due(),
             Callers::Post => self.post_all(),
+            Callers::Ask => self.ask(),
         }
     }
 
@@ -92,6 +93,19 @@ impl<'a, R: Net<Listener = TcpListener, Stream = TcpStream> + Threads + Wait + C
             }
         }
         caller.line().is_empty()
+    }
+
+    /// A caller asks, and asks again while the reply is held. It reads that reply, and then the end and no failure.
+    fn ask(&self) -> bool {
+        let Some(mut caller) = Caller::connect(self.rt, self.alloc, self.address) else {
+            return false;
+        };
+        let is_asked = caller.reads(GREETING)
+            && caller.sends("STAT <8@a.example>\r\n")
+            && sleep_until(self.rt, &self.props.is_held)
+            && caller.sends("STAT <9@a.example>\r\n");
+        self.makes_due();
+        is_asked && caller.reads("430 No such article") && caller.reads_end()
     }
 
     /// Counts an article that was acknowledged.

@@ -8,6 +8,8 @@ mod disks;
 #[cfg(test)]
 mod gates;
 #[cfg(test)]
+mod gates;
+#[cfg(test)]
 mod plays;
 #[cfg(test)]
 mod props;

@@ -2,9 +2,10 @@
 
 use crate::callers::{LEAST, Visit};
 use crate::disks::Lent;
+use crate::gates::Holding;
 use crate::props::{Callers, Props};
 use disk::DiskCall;
-use flusher::{Locked, NoGate};
+use flusher::Locked;
 use mark::Mark;
 use memdisk::{MemDisk, Pick};
 use server::Limits;
@@ -78,10 +79,15 @@ fn serve<
     };
     let answers = props.answers.writer(rt).ok()?;
     let log = silent_log(rt, alloc).ok()?;
+    let gate = Holding {
+        rt,
+        props,
+        callers: play.callers,
+    };
     let setting = Setting {
         listeners: from_ref(listener),
         log: &log,
-        gate: &NoGate,
+        gate: &gate,
         blocks: BLOCKS,
         limits: Limits::standard(),
     };

@@ -15,6 +15,8 @@ pub(crate) enum Callers {
     Late,
     /// Four post one article after another until the server ends. The last lines come once some are acknowledged.
     Post,
+    /// One asks twice. The reply to its first question is held until the server has stopped, so the second is not read.
+    Ask,
 }
 
 /// What the threads of a play share.
@@ -24,6 +26,10 @@ pub(crate) struct Props {
     pub(crate) posted: AtomicU64,
     /// The operator's last lines are due.
     pub(crate) is_due: Arc<AtomicBool, Global>,
+    /// The number of releases that have begun.
+    pub(crate) releases: AtomicU64,
+    /// A session's thread is held.
+    pub(crate) is_held: AtomicBool,
     /// What the operator was answered.
     pub(crate) answers: Lines,
     /// The device, once the server has ended.
@@ -35,6 +41,8 @@ impl Props {
         Ok(Props {
             posted: AtomicU64::new(0),
             is_due: Arc::new(alloc, AtomicBool::new(false))?,
+            releases: AtomicU64::new(0),
+            is_held: AtomicBool::new(false),
             answers: Lines::new(alloc)?,
             place: Mutex::new(None),
         })

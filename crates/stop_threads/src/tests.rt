@@ -67,3 +67,12 @@ fn a_stop_after_a_fault_waits_for_no_caller(rt: HostRuntime) {
     };
     assert_eq!(rt; stop(&rt, rt.alloc(), play), Some(FAILED));
 }
+
+#[test]
+fn a_stop_lets_the_last_reply_arrive(rt: HostRuntime) {
+    let play = Play {
+        callers: Callers::Ask,
+        ..IDLE
+    };
+    assert_eq!(rt; stop(&rt, rt.alloc(), play), Some(STOPPED));
+}
