@@ -2,11 +2,12 @@
 
 use crate::scenes::{Scene, Visit};
 use disk::DiskCall;
-use flusher::{Locked, NoGate};
+use flusher::{ExecError, NoGate};
 use logging::{Log, Verbosity};
 use mark::Mark;
+use model::Message;
 use server::{Limits, ServeError};
-use server_plays::{Lines, Operator, Setting, Stage, listen, new_device, open};
+use server_plays::{Hooked, Hooks, Lines, Operator, Setting, Stage, listen, new_device, open};
 use std::alloc::{AllocError, Global};
 use std::net::{Net, TcpListener, TcpStream};
 use std::sync::atomic::{AtomicBool, Ordering};
@@ -19,6 +20,19 @@ const FEW_BLOCKS: u64 = 1;
 
 /// The limits where a play is about them, in milliseconds.
 const SHORT_MILLIS: u64 = 500;
+
+/// The hooks of a kernel that finds no memory for the line `DATE`.
+#[derive(Drop)]
+struct Forgetful;
+
+impl Hooks for Forgetful {
+    fn refusal_of(&self, message: &Message) -> Option<ExecError> {
+        match message {
+            Message::Line(line) if line.as_slice() == b"DATE".as_slice() => Some(ExecError::Memory),
+            _ => None,
+        }
+    }
+}
 
 /// What a play came to.
 #[derive(Clone, Copy, Debug, PartialEq, Eq)]
@@ -90,7 +104,8 @@ fn run<
     let Ok((mark, flush_seat, seat)) = Mark::new(alloc) else {
         return None;
     };
-    let mut stage = Stage::new(journal, Locked::new(kernel), &mark, flush_seat, seat);
+    let kern = Hooked::new(kernel, Forgetful);
+    let mut stage = Stage::new(journal, kern, &mark, flush_seat, seat);
     if scene == Scene::Fault {
         stage.fail(DiskCall::Sync, 1);
     }

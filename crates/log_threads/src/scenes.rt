@@ -74,6 +74,13 @@ const ROWS: &[Row] = &[
         leaves: Leaves::Breaks,
         tells: " session=5 messages=0 taken=0 refused=0 in=0 out=43 why=failed",
     },
+    // the kernel finds no memory for it
+    Row {
+        sends: "DATE\r\n",
+        reads: &[],
+        leaves: Leaves::Quits,
+        tells: " session=6 messages=0 taken=0 refused=0 in=6 out=43 why=memory",
+    },
 ];
 
 /// What a caller asks for that takes nothing, and how often it sends that.
