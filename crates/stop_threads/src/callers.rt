@@ -41,9 +41,10 @@ impl<'a, R> Drop for Visit<'a, R> {
     }
 }
 
-impl<'a, R: Net<Listener = TcpListener, Stream = TcpStream> + Threads + Wait + Clock + Sync>
-    Visit<'a, R>
-{
+impl<'a, R: Net<Listener = TcpListener, Stream = TcpStream> + Threads + Wait + Clock + Sync> Visit<
+    'a,
+    R,
+> {
     /// Does what the callers of a play do. It is false if one of them read what it must not.
     pub(crate) fn call(&self, callers: Callers) -> bool {
         match callers {

@@ -134,12 +134,7 @@ pub(crate) fn stop<
 }
 
 /// What the server left.
-fn look<R: Wait>(
-    visit: &Visit<'_, R>,
-    play: Play,
-    served: Served,
-    are_good: bool,
-) -> Option<Left> {
+fn look<R: Wait>(visit: &Visit<'_, R>, play: Play, served: Served, are_good: bool) -> Option<Left> {
     let Props {
         posted,
         answers,
