@@ -10,11 +10,10 @@ import termios
 import threading
 import time
 
-from newsd import GREETING, SERVICE_ENDS, Caller, article, settled_octets, wait_until
+from newsd import FAULT, GREETING, SERVICE_ENDS, Caller, article, settled_octets, wait_until
 from playing import Skipped, TooSlow, main, measured
 from syncs import can_trace
 
-FAULT = (1, "newsd: E1 Fault: the device failed\n")
 SYNCS = os.path.join(os.path.dirname(os.path.abspath(__file__)), "syncs.py")
 # the smallest pipe that the system knows
 PIPE_OCTETS = 4096

@@ -14,6 +14,8 @@ SECONDS = 30
 SERVICE_ENDS = "400 Service ends"
 # what a file is that holds `no volume`
 NO_SUPERBLOCK = "E3 NotAVolume: the file has 9 octets, fewer than the 4,096 of a superblock"
+# how a server ends whose device has failed
+FAULT = (1, "newsd: E1 Fault: the device failed\n")
 ESTABLISHED = 1
 LIBC = ctypes.CDLL(None)
 SET_PARENT_DEATH_SIGNAL = 1

@@ -12,8 +12,8 @@ import threading
 import time
 
 from newsd import (
-    GROUP, HOST, NO_SUPERBLOCK, SECONDS, SERVICE_ENDS, Caller, article, end_with_parent, free_port, message_id, octets, settled_octets,
-    wait_until)
+    FAULT, GROUP, HOST, NO_SUPERBLOCK, SECONDS, SERVICE_ENDS, Caller, article, end_with_parent, free_port, message_id, octets,
+    settled_octets, wait_until)
 from playing import Skipped, main
 
 # the octets of an overview up to which its group takes articles
@@ -22,6 +22,11 @@ BLOCK = 4096
 POSTERS = 16
 # a server that is told to stop may wait so long for what is under way
 SECONDS_OF_A_STOP = 10
+# how long nobody calls a server whose device has failed
+SECONDS_WITHOUT_A_CALLER = 1
+# callers that have sent so many lines when the server is told to stop: more than one read takes, and less than a socket holds
+CALLERS_AT_A_STOP = 8
+LINES_AT_A_STOP = 2500
 # the number of a user who may do nothing
 NOBODY = 65534
 LINE = re.compile(r"host (\S+) format (\d+) blocks (\d+) of (\d+) inodes (\d+) of (\d+) sessions (\d+) accepted (\d+) durable (\d+)"
@@ -325,6 +330,22 @@ def a_signal_beside_posters_loses_nothing_acknowledged(volume):
     print("  %d told, %d there" % (len(told), len(there)), flush=True)
 
 
+def a_stop_lets_the_last_replies_arrive(volume):
+    """Callers have sent more than the server reads. It ends their connections after whole replies, and by no reset."""
+    volume.make_group()
+    with volume.serve() as server:
+        callers = [server.call() for _ in range(CALLERS_AT_A_STOP)]
+        for caller in callers:
+            caller.send(b"STAT <9@a.example>\r\n" * LINES_AT_A_STOP)
+        assert server.order("stop") == "stopped"
+        replies = [list(caller.file) for caller in callers]
+        assert server.end(SECONDS_OF_A_STOP) == (0, "")
+        assert all(set(them) <= {b"430 No such article\r\n"} for them in replies), replies
+        print("  %s replies of %d" % ([len(them) for them in replies], LINES_AT_A_STOP), flush=True)
+        for caller in callers:
+            caller.close()
+
+
 def a_stop_waits_for_no_caller(volume):
     """One reads nothing of a long reply, and one has sent a part of an article."""
     volume.make_group()
@@ -359,20 +380,33 @@ def an_operator_that_reads_nothing_stops_a_server(volume):
 
 
 def a_device_that_fails_spoils_a_stop(volume):
-    """The change before it can't be committed, so the server ends as after any fault: at once, or once another caller has come."""
+    """The change before it can't be committed, so the server ends as after any fault, and waits for no further caller."""
     volume.make_group()
     with volume.serve() as server, server.call() as caller:
         assert caller.post(article(1)) == "240 Article received"
         server.have_writes_fail()
         assert [server.order("group x.b y 1000000000 test\nstop"), server.process.stdout.readline()] == ["E1 Fault", b"E1 Fault\n"]
-        try:
-            with server.call() as late:
-                assert late.greeting in ("", SERVICE_ENDS), late.greeting
-        except ConnectionError:
-            pass
-        assert server.end() == (1, "newsd: E1 Fault: the device failed\n")
+        assert server.end(SECONDS_OF_A_STOP) == FAULT
         assert caller.file.read() in (b"", b"400 Service ends\r\n")
     assert "<1@a.example>" in articles_of(volume)
+
+
+def a_stop_ends_a_server_whose_device_has_failed(volume):
+    """Until then the server waits for one more caller, and answers its operator. None comes, and at the stop it waits for none."""
+    volume.make_group()
+    with volume.serve() as server:
+        server.have_writes_fail()
+        assert server.order("group x.b y 1000000000 test") == "E1 Fault"
+        assert server.log().endswith(" event=fault")
+        time.sleep(SECONDS_WITHOUT_A_CALLER)
+        assert server.order("group x.c y 1000000000 test") == "E4 Halted"
+        seen = asked(server)
+        assert (seen["sessions"], seen["durable"]) == (0, 1), seen
+        start = time.monotonic()
+        assert server.order("stop") == "E1 Fault"
+        assert server.end(SECONDS_OF_A_STOP) == FAULT
+        print("  ended in %.2f s" % (time.monotonic() - start), flush=True)
+    assert volume.dump() == ["spool 1", "1 group x.a y"]
 
 
 def a_stop_needs_no_good_device(volume):
@@ -384,7 +418,7 @@ def a_stop_needs_no_good_device(volume):
         server.have_writes_fail()
         answer = server.order("stop")
         status, said = server.end()
-        assert (status, answer, said) in ((0, "stopped", ""), (1, "E1 Fault", "newsd: E1 Fault: the device failed\n")), (status, answer, said)
+        assert (status, answer, said) in ((0, "stopped", ""), (FAULT[0], "E1 Fault", FAULT[1])), (status, answer, said)
         print("  it ended with status %d" % status, flush=True)
     assert articles_of(volume) == {"<1@a.example>"}
 
@@ -411,9 +445,11 @@ TESTS = [
     a_server_that_is_told_to_stop_ends_in_order,
     a_stop_beside_posters_keeps_all_that_was_accepted,
     a_signal_beside_posters_loses_nothing_acknowledged,
+    a_stop_lets_the_last_replies_arrive,
     a_stop_waits_for_no_caller,
     an_operator_that_reads_nothing_stops_a_server,
     a_device_that_fails_spoils_a_stop,
+    a_stop_ends_a_server_whose_device_has_failed,
     a_stop_needs_no_good_device,
     the_end_of_the_operators_lines_ends_nothing,
 ]

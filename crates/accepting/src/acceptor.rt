@@ -76,7 +76,8 @@ impl<'a> Doors<'a> {
         }
     }
 
-    fn are_shut(&self) -> bool {
+    /// Whether no door lets anybody in any more.
+    pub fn are_shut(&self) -> bool {
         self.are_shut.load(Ordering::SeqCst)
     }
 }
@@ -176,7 +177,7 @@ impl<
 > Acceptor<'a, 'b, R, K, G> {
     /// Accepts the callers of a listener until the kernel is halted. A caller that cannot be served gets the reply that
     /// the service ends, and one that is not let in the reply that says so. The first acceptor that finds the kernel
-    /// halted shuts the other doors, too.
+    /// halted shuts the other doors, too, and wakes the flusher's thread.
     pub fn accept_all(&self, listener: &TcpListener) {
         let mut entrance = Entrance::new(listener);
         for _ in self.shared.rt.forever() {
@@ -195,6 +196,7 @@ impl<
                 Ok(()) => {}
                 Err(Over) => {
                     self.doors.shut(self.shared.rt, Some(self.place));
+                    self.shared.bells.flusher.unpark();
                     return;
                 }
             }

@@ -8,4 +8,4 @@ mod lingering;
 
 pub use acceptor::{Acceptor, Doors};
 pub use call::Call;
-pub use lingering::{FAREWELLS, Parting, linger_all, part};
+pub use lingering::{FAREWELLS, Parting, linger_all, part, see_off};

@@ -1,11 +1,11 @@
 //! The callers whose sessions are closed and whose sockets may still hold unread octets: a close before these are read
-//! could discard the last reply. One thread reads them for a while, so that no session's thread waits for them.
+//! could discard the last reply. One thread reads them for a while, so that no session's thread waits for them. At the
+//! server's end each session's thread does that itself.
 
 use crossbeam_channel::{Receiver, Sender, TrySendError};
-use releasing::Closing;
 use std::alloc::Global;
 use std::io::Read;
-use std::net::TcpStream;
+use std::net::{Shutdown, TcpStream};
 use std::sync::{Arc, Wait};
 use std::time::{Clock, Duration, Instant};
 
@@ -47,21 +47,31 @@ pub fn part<R: Wait + Clock>(rt: &R, partings: &Sender<Parting>, stream: Arc<Tcp
     }
 }
 
-/// Reads from these callers until their sockets end, each for a while after its session was closed.
-pub fn linger_all<R: Wait + Clock>(
-    rt: &R,
-    closing: &Closing,
-    linger: Duration,
-    partings: &Receiver<Parting>,
-) {
+/// Reads from these callers until their sockets end, each for this long after its session was closed, until the server
+/// ends.
+pub fn linger_all<R: Wait + Clock>(rt: &R, linger: Duration, partings: &Receiver<Parting>) {
     for _ in rt.forever() {
         let Ok(Parting::Caller(farewell)) = partings.recv(rt) else {
             return;
         };
-        let is_waited_for = !closing.has_begun() && read_within(rt, &farewell, linger);
-        if !is_waited_for {
-            read_at_once(&farewell.stream);
-        }
+        read_out(rt, &farewell, linger);
+    }
+}
+
+/// Ends the sending side of a caller's socket, and reads until the caller ends its own, for this long at most. It is for
+/// a thread to which no further caller comes. If the clock cannot be read, it waits for nothing.
+pub fn see_off<R: Clock>(rt: &R, stream: Arc<TcpStream, Global>, linger: Duration) {
+    let _ = stream.shutdown(Shutdown::Write);
+    match Instant::now(rt) {
+        Ok(since) => read_out(rt, &Farewell { stream, since }, linger),
+        Err(_) => read_at_once(&stream),
+    }
+}
+
+/// Reads until the socket ends, for this long after the session was closed. What has arrived by then is read anyway.
+fn read_out<R: Clock>(rt: &R, farewell: &Farewell, linger: Duration) {
+    if !read_within(rt, farewell, linger) {
+        read_at_once(&farewell.stream);
     }
 }
 

@@ -27,8 +27,8 @@ use std::time::Clock;
 
 /// Serves the callers of some listeners and the operator's lines, until the operator stops the server or a turn of the
 /// flusher is refused. Then callers get the reply that the service ends, what is durable is released, all threads end,
-/// and the result says why: `Ok` after a stop. After a refusal the acceptors end with the next caller of any of them
-/// that is let in.
+/// and the result says why: `Ok` after a stop. After a refusal the server ends with the next caller that is let in, or
+/// once the operator asks for it; a stop that the operator asked for before waits for no caller either.
 pub fn serve<
     R: Net<Listener = TcpListener, Stream = TcpStream>
         + Threads
@@ -236,10 +236,11 @@ fn run<
                 give_up(hall.shared, flusher);
                 Err(ServeError::Memory)
             };
-            wake(hall);
-            if matches!(outcome, Ok(()) | Err(ServeError::Memory)) {
-                hall.doors.shut(*rt, None);
+            wake(hall.shared);
+            if matches!(outcome, Err(ServeError::Fault | ServeError::Halted)) {
+                wait_for_caller_or_stop(hall);
             }
+            hall.doors.shut(*rt, None);
             for acceptor in acceptors {
                 acceptor.join(*rt);
             }
@@ -309,13 +310,8 @@ fn start_accepting<
 
 /// Reads from the callers whose sessions are closed.
 fn linger<R: Wait + Clock, K, G>(hall: &Hall<'_, R, K, G>) {
-    let Shared {
-        rt,
-        closing,
-        limits,
-        ..
-    } = hall.shared;
-    linger_all(*rt, *closing, limits.linger, &hall.channels.partings)
+    let Shared { rt, limits, .. } = hall.shared;
+    linger_all(*rt, limits.linger, &hall.channels.partings)
 }
 
 /// Starts a session's thread and the one that finishes its writes. It is false if the system cannot start both.
@@ -410,17 +406,29 @@ fn give_up<R: Wait, D: Disk + Drop, K: Kern, G>(
     mark.stop(&mut seat);
 }
 
-/// Wakes the threads that wait for the flusher, except the acceptors, which end after one more caller has arrived.
-fn wake<R: Wait, K, G>(hall: &Hall<'_, R, K, G>) {
-    let Shared { rt, bells, .. } = hall.shared;
+/// Wakes the threads that wait for the flusher. The acceptors and the operator's thread go on: they refuse what comes.
+fn wake<R, K, G>(shared: &Shared<'_, R, K, G>) {
+    let Shared { bells, .. } = shared;
     bells.operator.unpark();
     bells.releaser.unpark();
     bells.later.ring();
-    hall.channels.operator.end(*rt);
+}
+
+/// Waits until a caller was told that the service ends, or the operator has asked for the server's end.
+fn wait_for_caller_or_stop<R: Wait, K, G>(hall: &Hall<'_, R, K, G>) {
+    let Shared { rt, bells, .. } = hall.shared;
+    for _ in rt.forever() {
+        if hall.doors.are_shut() || bells.is_stopping() {
+            return;
+        }
+        bells.flusher.park(*rt);
+    }
 }
 
 /// Ends the callers and all threads, after the last caller was accepted.
 fn end<R: Wait, K, G>(hall: &Hall<'_, R, K, G>) {
+    let Shared { rt, .. } = hall.shared;
+    hall.channels.operator.end(*rt);
     hall.shared.close();
-    let _ = hall.channels.parting.send(hall.shared.rt, Parting::End);
+    let _ = hall.channels.parting.send(*rt, Parting::End);
 }

@@ -2,14 +2,11 @@
 
 use crate::kernels::Watch;
 use flusher::{Arrivals, Gate};
-use memdisk::MemDisk;
+use server_plays::{TURNS, turn_until};
 use std::alloc::{AllocError, Global};
 use std::sync::atomic::{AtomicBool, AtomicU64, Ordering};
 use std::sync::{Arc, Mutex, Wait};
 use std::thread::{self, Parker};
-
-/// A test waits for this many turns of one look and one yield, and then fails.
-const TURNS: u32 = 1_000_000;
 
 /// The turns for which the operator's batch is held, and a session's line once its commit has happened.
 const PAUSE: u32 = 1_000;
@@ -34,10 +31,6 @@ pub(crate) struct Flags {
     pub(crate) answered: Arc<AtomicU64>,
     /// The number of releases that have begun.
     releases: AtomicU64,
-    /// The number of articles that were acknowledged to their callers.
-    pub(crate) posted: Arc<AtomicU64>,
-    /// The device, once the server has ended.
-    pub(crate) place: Mutex<Option<MemDisk>>,
 }
 
 impl Flags {
@@ -50,8 +43,6 @@ impl Flags {
             over: AtomicBool::new(false),
             answered: Arc::new(alloc, AtomicU64::new(0))?,
             releases: AtomicU64::new(0),
-            posted: Arc::new(alloc, AtomicU64::new(0))?,
-            place: Mutex::new(None),
         })
     }
 
@@ -61,17 +52,6 @@ impl Flags {
             self.failed.store(true, Ordering::SeqCst);
         }
     }
-}
-
-/// Takes turns until a flag is set. It is false at the limit.
-fn turn_until(flag: &AtomicBool) -> bool {
-    for _ in 0..TURNS {
-        if flag.load(Ordering::SeqCst) {
-            return true;
-        }
-        thread::yield_now();
-    }
-    false
 }
 
 /// What is held, and until when, in a play.
@@ -96,8 +76,8 @@ pub(crate) enum Holds {
 /// The gate of a test, with a seat of its own.
 #[derive(Drop)]
 pub(crate) struct TestGate<'a> {
-    flags: &'a Flags,
-    holds: Holds,
+    pub(crate) flags: &'a Flags,
+    pub(crate) holds: Holds,
     watch: Mutex<Watch<'a>>,
 }
 

@@ -3,15 +3,8 @@
 ghost use Rattle.std.specs.Prelude.{◌≡◌};
 
 use crate::gates::Flags;
-use flusher::{
-    AdminError, Answered, BatchBuf, Counts, ExecError, ExpireError, JoinError, Kern, Kernel,
-    Locked, Stale, Ticket,
-};
 use mark::{Mark, Seat};
-use model::{Message, Mode};
-use names::GroupName;
-use outbox::ReadyBuf;
-use std::alloc::Global;
+use server_plays::Hooks;
 use std::sync::atomic::Ordering;
 use std::sync::{Mutex, Wait};
 
@@ -36,95 +29,29 @@ impl<'a> Watch<'a> {
     }
 }
 
-/// A kernel under its lock. Its `committed` is refused if a seat already shows the ticket's number.
+/// The hooks of a kernel that learns of no commit that a seat already shows, and of none once the server is to end.
 #[derive(Drop)]
-pub(crate) struct Watched<'a> {
-    inner: Locked,
+pub(crate) struct Watching<'a> {
     watch: Mutex<Watch<'a>>,
     flags: &'a Flags,
 }
 
-impl<'a> Watched<'a> {
-    pub(crate) fn new(kernel: Kernel, watch: Watch<'a>, flags: &'a Flags) -> Watched<'a> {
-        Watched {
-            inner: Locked::new(kernel),
+impl<'a> Watching<'a> {
+    pub(crate) fn new(watch: Watch<'a>, flags: &'a Flags) -> Watching<'a> {
+        Watching {
             watch: Mutex::new(watch),
             flags,
         }
     }
 }
 
-impl<'a> Kern for Watched<'a> {
-    fn join<R: Wait>(&self, rt: &R, alloc: Global) -> Result<u64, JoinError> {
-        self.inner.join(rt, alloc)
-    }
-
-    fn mode<R: Wait>(&self, rt: &R, sid: u64) -> Option<Mode> {
-        self.inner.mode(rt, sid)
-    }
-
-    fn answer<R: Wait>(
-        &self,
-        rt: &R,
-        alloc: Global,
-        sid: u64,
-        message: &Message,
-        moment: u64,
-        into: &mut ReadyBuf,
-    ) -> Result<Answered, ExecError> {
-        self.inner.answer(rt, alloc, sid, message, moment, into)
-    }
-
-    fn give_ready<R: Wait>(&self, rt: &R, sid: u64, into: &mut ReadyBuf) -> bool {
-        self.inner.give_ready(rt, sid, into)
-    }
-
-    fn admin<R: Wait>(
-        &self,
-        rt: &R,
-        alloc: Global,
-        name: &GroupName,
-        status: u8,
-        description: &[u8],
-        moment: u64,
-    ) -> Result<u64, AdminError> {
-        self.inner
-            .admin(rt, alloc, name, status, description, moment)
-    }
-
-    fn expire<R: Wait>(&self, rt: &R, name: &GroupName, number: u32) -> Result<u64, ExpireError> {
-        self.inner.expire(rt, name, number)
-    }
-
-    fn leave<R: Wait>(&self, rt: &R, sid: u64) {
-        self.inner.leave(rt, sid);
-    }
-
-    fn take_batch<R: Wait>(&self, rt: &R, into: &mut BatchBuf) -> Option<Ticket> {
-        self.inner.take_batch(rt, into)
-    }
-
-    fn committed<R: Wait>(&self, rt: &R, ticket: Ticket) -> Result<(), Stale> {
+impl<'a> Hooks for Watching<'a> {
+    fn lets_commit<R: Wait>(&self, rt: &R, last: u64) -> bool {
         let durable = self.watch.lock(rt).durable();
-        if durable >= ticket.last() {
+        if durable >= last {
             self.flags.failed.store(true, Ordering::SeqCst);
-            return Err(Stale);
+            return false;
         }
-        if self.flags.over.load(Ordering::SeqCst) {
-            return Err(Stale);
-        }
-        self.inner.committed(rt, ticket)
-    }
-
-    fn halt<R: Wait>(&self, rt: &R) {
-        self.inner.halt(rt);
-    }
-
-    fn halt_if_clean<R: Wait>(&self, rt: &R) -> bool {
-        self.inner.halt_if_clean(rt)
-    }
-
-    fn counts<R: Wait>(&self, rt: &R) -> Counts {
-        self.inner.counts(rt)
+        !self.flags.over.load(Ordering::SeqCst)
     }
 }

@@ -4,14 +4,10 @@
 #[cfg(test)]
 mod callers;
 #[cfg(test)]
-mod disks;
-#[cfg(test)]
 mod gates;
 #[cfg(test)]
 mod kernels;
 #[cfg(test)]
 mod plays;
-#[cfg(test)]
-mod stops;
 #[cfg(test)]
 mod tests;

@@ -2,7 +2,6 @@
 
 use crate::gates::{Holds, gather_until, note_until_quiet};
 use crate::plays::{Outcome, play, raises_after_commit, tell};
-use crate::stops::{Left, StopPlay, stop};
 use flusher::{Arrivals, Stale};
 use server::ServeError;
 use std::sync::atomic::AtomicBool;
@@ -15,18 +14,6 @@ const GOOD: Outcome = Outcome {
     ended: ServeError::Halted,
     answered: 0,
 };
-
-/// A server that ended as it was asked to, and answered `stopped` and LF, with every acknowledged article on its device.
-const STOPPED: Left = Left {
-    is_good: true,
-    answered: 0x7374_6f70_7065_640a,
-    is_acknowledged: true,
-    is_durable: true,
-    is_busy: true,
-};
-
-/// The last eight octets of `E1 Fault` and LF.
-const FAULT: u64 = 0x3120_4661_756c_740a;
 
 /// `3` and LF.
 const SERIAL_THREE: u64 = 0x330a;
@@ -76,43 +63,6 @@ fn a_fault_ends_the_server_though_the_operator_reads_nothing(rt: HostRuntime) {
         ..GOOD
     };
     assert_eq!(rt; play(&rt, rt.alloc(), Holds::Unread), Some(ended));
-}
-
-#[test]
-fn a_server_with_nothing_to_do_stops(rt: HostRuntime) {
-    let play = StopPlay {
-        lines: b"stop\n",
-        least: 0,
-        failing_sync: 0,
-    };
-    assert_eq!(rt; stop(&rt, rt.alloc(), play), Some(STOPPED));
-}
-
-#[test]
-fn a_stop_commits_and_releases_what_callers_post(rt: HostRuntime) {
-    let play = StopPlay {
-        lines: b"stop\nstop\n",
-        least: 10,
-        failing_sync: 0,
-    };
-    assert_eq!(rt; stop(&rt, rt.alloc(), play), Some(STOPPED));
-}
-
-#[test]
-fn a_stop_of_a_device_that_fails_is_a_fault(rt: HostRuntime) {
-    let play = StopPlay {
-        lines: b"group x.c y 1000000000 test\nstop\n",
-        least: 0,
-        failing_sync: 1,
-    };
-    let left = Left {
-        is_good: false,
-        answered: FAULT,
-        is_acknowledged: false,
-        is_durable: false,
-        is_busy: true,
-    };
-    assert_eq!(rt; stop(&rt, rt.alloc(), play), Some(left));
 }
 
 #[test]

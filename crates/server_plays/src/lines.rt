@@ -11,19 +11,19 @@ const WAIT_MILLIS: u32 = 30_000;
 
 /// Lines that were written.
 #[derive(Drop)]
-pub(crate) struct Lines {
+pub struct Lines {
     text: Arc<Mutex<Vec<u8>>, Global>,
 }
 
 impl Lines {
-    pub(crate) fn new(alloc: Global) -> Result<Lines, AllocError> {
+    pub fn new(alloc: Global) -> Result<Lines, AllocError> {
         Ok(Lines {
             text: Arc::new(alloc, Mutex::new(Vec::new(alloc)))?,
         })
     }
 
     /// A writer of these lines.
-    pub(crate) fn writer<R: Wait + Copy>(&self, rt: &R) -> Result<Writer<R>, AllocError> {
+    pub fn writer<R: Wait + Copy>(&self, rt: &R) -> Result<Writer<R>, AllocError> {
         Ok(Writer {
             rt: *rt,
             text: Arc::try_clone(&self.text)?,
@@ -31,7 +31,7 @@ impl Lines {
     }
 
     /// Whether a line with this end comes in time.
-    pub(crate) fn have<R: Wait + Clock>(&self, rt: &R, end: &str) -> bool {
+    pub fn have<R: Wait + Clock>(&self, rt: &R, end: &str) -> bool {
         for _ in 0..WAIT_MILLIS {
             if has_line(self.text.lock(rt).as_slice(), end.as_bytes()) {
                 return true;
@@ -42,7 +42,7 @@ impl Lines {
     }
 
     /// Whether so many lines come in time.
-    pub(crate) fn are<R: Wait + Clock>(&self, rt: &R, count: usize) -> bool {
+    pub fn are<R: Wait + Clock>(&self, rt: &R, count: usize) -> bool {
         for _ in 0..WAIT_MILLIS {
             if line_count(self.text.lock(rt).as_slice()) >= count {
                 return true;
@@ -52,8 +52,13 @@ impl Lines {
         false
     }
 
+    /// Whether this is what was written last.
+    pub fn end_with<R: Wait>(&self, rt: &R, end: &str) -> bool {
+        self.text.lock(rt).as_slice().ends_with(end.as_bytes())
+    }
+
     /// How many lines have this part.
-    pub(crate) fn count<R: Wait>(&self, rt: &R, part: &str) -> usize {
+    pub fn count<R: Wait>(&self, rt: &R, part: &str) -> usize {
         let text = self.text.lock(rt);
         text.split(|octet| *octet == b'\n')
             .filter(|line| has_part(line, part.as_bytes()))
@@ -79,7 +84,7 @@ fn has_part(line: &[u8], part: &[u8]) -> bool {
 
 /// A writer of lines.
 #[derive(Drop)]
-pub(crate) struct Writer<R> {
+pub struct Writer<R> {
     rt: R,
     text: Arc<Mutex<Vec<u8>>, Global>,
 }

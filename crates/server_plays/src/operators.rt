@@ -1,28 +1,25 @@
 //! The operator of a test.
 
+use crate::waits::sleep_until;
 use std::alloc::Global;
 use std::io::{self, BufRead, Read};
 use std::sync::Arc;
-use std::sync::atomic::{AtomicBool, Ordering};
-use std::thread;
-use std::time::{Clock, Duration};
+use std::sync::atomic::AtomicBool;
+use std::time::Clock;
 
-/// The operator waits for the callers for at most this many milliseconds.
-const WAIT_MILLIS: u32 = 60_000;
-
-/// The operator's lines: the first at once, and the last once the callers have left.
-pub(crate) struct Operator<R: Clock + Drop> {
-    pub(crate) rt: R,
-    pub(crate) have_left: Arc<AtomicBool, Global>,
-    pub(crate) first: &'static [u8],
-    pub(crate) last: &'static [u8],
+/// The operator's lines: the first at once, and the last once they are due.
+pub struct Operator<R: Clock + Drop> {
+    pub rt: R,
+    pub is_due: Arc<AtomicBool, Global>,
+    pub first: &'static [u8],
+    pub last: &'static [u8],
 }
 
 impl<R: Clock + Drop> Drop for Operator<R> {
     fn drop(self) {
         let Operator {
             rt: _,
-            have_left: _,
+            is_due: _,
             first: _,
             last: _,
         } = self;
@@ -31,14 +28,8 @@ impl<R: Clock + Drop> Drop for Operator<R> {
 
 impl<R: Clock + Drop> Operator<R> {
     fn wait(&self) {
-        if !self.first.is_empty() {
-            return;
-        }
-        for _ in 0..WAIT_MILLIS {
-            if self.have_left.load(Ordering::SeqCst) {
-                return;
-            }
-            thread::sleep(&self.rt, Duration::from_millis(1));
+        if self.first.is_empty() {
+            sleep_until(&self.rt, &self.is_due);
         }
     }
 }

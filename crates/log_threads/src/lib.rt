@@ -3,12 +3,6 @@
 #![tactic(auto)]
 
 #[cfg(test)]
-mod callers;
-#[cfg(test)]
-mod lines;
-#[cfg(test)]
-mod operators;
-#[cfg(test)]
 mod plays;
 #[cfg(test)]
 mod scenes;

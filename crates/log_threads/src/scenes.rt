@@ -1,8 +1,7 @@
 //! What callers do, and what the log tells of them.
 
-use crate::callers::{Caller, GREETING};
-use crate::lines::Lines;
 use flusher::SESSIONS;
+use server_plays::{Caller, GREETING, Lines, POST, SERVICE_ENDS};
 use std::alloc::Global;
 use std::net::{Net, SocketAddr, TcpListener, TcpStream};
 use std::sync::Wait;
@@ -43,10 +42,6 @@ struct Row {
     tells: &'static str,
 }
 
-const POST: &str =
-    "POST\r\nPath: p!not-for-mail\r\nDate: Sun, 09 Sep 2001 01:46:40 +0000\r\nMessage-ID: <1@a.example>\r\n\
-    From: a@example.org\r\nNewsgroups: x.a\r\nSubject: one\r\n\r\nhi\r\n.\r\n";
-
 /// The calls, one after the other. They come to the two listeners in turn.
 const ROWS: &[Row] = &[
     Row {
@@ -78,6 +73,13 @@ const ROWS: &[Row] = &[
         reads: &[],
         leaves: Leaves::Breaks,
         tells: " session=5 messages=0 taken=0 refused=0 in=0 out=43 why=failed",
+    },
+    // the kernel finds no memory for it
+    Row {
+        sends: "DATE\r\n",
+        reads: &[],
+        leaves: Leaves::Quits,
+        tells: " session=6 messages=0 taken=0 refused=0 in=6 out=43 why=memory",
     },
 ];
 
@@ -147,7 +149,7 @@ impl<'a, R: Net<Listener = TcpListener, Stream = TcpStream> + Wait + Clock> Visi
     /// Whether the second listener tells its next caller that the service ends.
     fn is_told(&self) -> bool {
         match Caller::connect(self.rt, self.alloc, self.addresses[1]) {
-            Some(mut caller) => caller.reads("400 Service ends") && caller.reads_end(),
+            Some(mut caller) => caller.reads(SERVICE_ENDS) && caller.reads_end(),
             None => false,
         }
     }

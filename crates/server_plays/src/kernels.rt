@@ -1,0 +1,113 @@
+//! A kernel in two of whose calls a test has a say.
+
+use flusher::{
+    AdminError, Answered, BatchBuf, Counts, ExecError, ExpireError, JoinError, Kern, Kernel,
+    Locked, Stale, Ticket,
+};
+use model::{Message, Mode};
+use names::GroupName;
+use outbox::ReadyBuf;
+use std::alloc::Global;
+use std::sync::Wait;
+
+/// What a test has a kernel refuse.
+pub trait Hooks {
+    /// Why a message is refused before the kernel sees it. `None` if the kernel answers it.
+    fn refusal_of(&self, _message: &Message) -> Option<ExecError> {
+        None
+    }
+
+    /// Whether the kernel learns that the changes up to this number are committed. Otherwise their ticket is refused.
+    fn lets_commit<R: Wait>(&self, _rt: &R, _last: u64) -> bool {
+        true
+    }
+}
+
+/// A kernel under its lock, and what is refused in its place.
+#[derive(Drop)]
+pub struct Hooked<H> {
+    inner: Locked,
+    hooks: H,
+}
+
+impl<H> Hooked<H> {
+    pub fn new(kernel: Kernel, hooks: H) -> Hooked<H> {
+        Hooked {
+            inner: Locked::new(kernel),
+            hooks,
+        }
+    }
+}
+
+impl<H: Hooks> Kern for Hooked<H> {
+    fn join<R: Wait>(&self, rt: &R, alloc: Global) -> Result<u64, JoinError> {
+        self.inner.join(rt, alloc)
+    }
+
+    fn mode<R: Wait>(&self, rt: &R, sid: u64) -> Option<Mode> {
+        self.inner.mode(rt, sid)
+    }
+
+    fn answer<R: Wait>(
+        &self,
+        rt: &R,
+        alloc: Global,
+        sid: u64,
+        message: &Message,
+        moment: u64,
+        into: &mut ReadyBuf,
+    ) -> Result<Answered, ExecError> {
+        match self.hooks.refusal_of(message) {
+            Some(error) => Err(error),
+            None => self.inner.answer(rt, alloc, sid, message, moment, into),
+        }
+    }
+
+    fn give_ready<R: Wait>(&self, rt: &R, sid: u64, into: &mut ReadyBuf) -> bool {
+        self.inner.give_ready(rt, sid, into)
+    }
+
+    fn admin<R: Wait>(
+        &self,
+        rt: &R,
+        alloc: Global,
+        name: &GroupName,
+        status: u8,
+        description: &[u8],
+        moment: u64,
+    ) -> Result<u64, AdminError> {
+        self.inner
+            .admin(rt, alloc, name, status, description, moment)
+    }
+
+    fn expire<R: Wait>(&self, rt: &R, name: &GroupName, number: u32) -> Result<u64, ExpireError> {
+        self.inner.expire(rt, name, number)
+    }
+
+    fn leave<R: Wait>(&self, rt: &R, sid: u64) {
+        self.inner.leave(rt, sid);
+    }
+
+    fn take_batch<R: Wait>(&self, rt: &R, into: &mut BatchBuf) -> Option<Ticket> {
+        self.inner.take_batch(rt, into)
+    }
+
+    fn committed<R: Wait>(&self, rt: &R, ticket: Ticket) -> Result<(), Stale> {
+        if !self.hooks.lets_commit(rt, ticket.last()) {
+            return Err(Stale);
+        }
+        self.inner.committed(rt, ticket)
+    }
+
+    fn halt<R: Wait>(&self, rt: &R) {
+        self.inner.halt(rt);
+    }
+
+    fn halt_if_clean<R: Wait>(&self, rt: &R) -> bool {
+        self.inner.halt_if_clean(rt)
+    }
+
+    fn counts<R: Wait>(&self, rt: &R) -> Counts {
+        self.inner.counts(rt)
+    }
+}

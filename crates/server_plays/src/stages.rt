@@ -1,0 +1,267 @@
+//! A server over a volume in memory, from its start to its end.
+
+ghost use Rattle.std.specs.Prelude.{◌≡◌};
+ghost use Rattle.journal.specs.Journal.{IsIdle};
+
+use crate::volumes::{HOST, INODES, add_group};
+use disk::{Disk, DiskCall, Faults};
+use flusher::{BatchBuf, Counts, Gate, Kern, Marks, NoGate, Tally, VolumeFacts, flush_turn};
+use journal::Journal;
+use logging::{Log, Verbosity};
+use mark::{FlushSeat, Mark, Seat};
+use server::{Limits, ServeError, Server, serve};
+use std::alloc::{AllocError, Global};
+use std::io::{self, BufRead, Write};
+use std::net::{Net, TcpListener, TcpStream};
+use std::sync::atomic::AtomicU64;
+use std::sync::{Arc, Wait};
+use std::thread::Threads;
+use std::time::Clock;
+
+/// The marks of used blocks that the servers begin with.
+const MARKS: Marks = Marks {
+    first: 0,
+    second: 0,
+};
+
+/// A server that is about to serve a volume.
+#[derive(Drop)]
+pub struct Stage<'a, D: Disk, K> {
+    journal: Journal<D>,
+    kern: K,
+    mark: &'a Mark,
+    flush_seat: FlushSeat,
+    seat: Seat,
+    ghost idle: { IsIdle journal },
+    ghost flushes: { flush_seat.mark ≡ mark.now },
+    ghost looks: { seat.mark ≡ mark.now },
+}
+
+/// How a volume is served.
+pub struct Setting<'a, G> {
+    pub listeners: &'a [TcpListener],
+    pub log: &'a Log,
+    pub gate: &'a G,
+    /// The logical blocks that the server takes the volume to have.
+    pub blocks: u64,
+    pub limits: Limits,
+}
+
+impl<'a, G> Drop for Setting<'a, G> {
+    fn drop(self) {
+        let Setting {
+            listeners: _,
+            log: _,
+            gate: _,
+            blocks: _,
+            limits: _,
+        } = self;
+    }
+}
+
+/// How a server ended, and what its kernel held then.
+#[derive(Clone, Copy)]
+pub struct Served {
+    pub ended: Result<(), ServeError>,
+    pub counts: Counts,
+}
+
+/// A log that nobody reads.
+pub fn silent_log<R: Threads + Wait + Clock + Copy + Send + 'static>(
+    rt: &R,
+    alloc: Global,
+) -> Result<Log, AllocError> {
+    Log::start(rt, alloc, io::sink(), Verbosity::All)
+}
+
+impl<'a, D: Faults, K> Stage<'a, D, K> {
+    /// Makes the device fail at its n-th call of this kind from now on, if n is not 0.
+    pub fn fail(&mut self, kind: DiskCall, n: u64) {
+        self.journal.fail_kind(kind, n);
+    }
+}
+
+impl<'a, D: Disk + Drop, K: Kern + Sync + Drop> Stage<'a, D, K> {
+    pub fn new(
+        journal: Journal<D>,
+        kern: K,
+        mark: &'a Mark,
+        flush_seat: FlushSeat,
+        seat: Seat,
+    ) -> Stage<'a, D, K>
+        requires idle { IsIdle journal }
+        requires flushes { flush_seat.mark ≡ mark.now }
+        requires looks { seat.mark ≡ mark.now }
+    {
+        Stage {
+            journal,
+            kern,
+            mark,
+            flush_seat,
+            seat,
+        }
+    }
+
+    /// Makes the groups `x.a` and `x.b`, and has them durable.
+    pub fn with_groups<R: Wait>(self, rt: &R, alloc: Global) -> Option<Stage<'a, D, K>> {
+        let Stage {
+            mut journal,
+            kern,
+            mark,
+            mut flush_seat,
+            seat,
+        } = self;
+        let Ok(mut batch) = BatchBuf::new(alloc) else {
+            return None;
+        };
+        add_group(rt, alloc, &kern, b"x.a")?;
+        add_group(rt, alloc, &kern, b"x.b")?;
+        let Ok(_) = flush_turn(
+            rt,
+            &mut journal,
+            &kern,
+            mark,
+            &mut flush_seat,
+            &mut batch,
+            &NoGate,
+        ) else {
+            return None;
+        };
+        Some(Stage {
+            journal,
+            kern,
+            mark,
+            flush_seat,
+            seat,
+        })
+    }
+
+    /// Serves callers and the operator's lines to the end.
+    pub fn serve<
+        R: Net<Listener = TcpListener, Stream = TcpStream>
+            + Threads
+            + Wait
+            + Clock
+            + Copy
+            + Send
+            + Sync
+            + 'static,
+        G: Gate + Sync,
+        L: BufRead + Send + Drop + 'static,
+        A: Write + Send + Drop + 'static,
+    >(self, rt: &R, alloc: Global, setting: Setting<'_, G>, (lines, answers): (L, A)) -> Served {
+        let Stage {
+            journal,
+            kern,
+            mark,
+            flush_seat,
+            seat,
+        } = self;
+        let Ok(syncs) = Arc::new(alloc, AtomicU64::new(0)) else {
+            return Served {
+                ended: Err(ServeError::Memory),
+                counts: kern.counts(rt),
+            };
+        };
+        let tally = Tally::new(MARKS, syncs);
+        let parts = Parts {
+            listeners: setting.listeners,
+            log: setting.log,
+            journal,
+            kern: &kern,
+            mark,
+            flush_seat,
+            seat,
+            host: HOST,
+            blocks: setting.blocks,
+            tally: &tally,
+            gate: setting.gate,
+            limits: setting.limits,
+        };
+        let ended = serve_parts(rt, alloc, parts, lines, answers);
+        Served {
+            ended,
+            counts: kern.counts(rt),
+        }
+    }
+}
+
+/// The parts of a server.
+#[derive(Drop)]
+struct Parts<'a, D: Disk, K, G> {
+    listeners: &'a [TcpListener],
+    log: &'a Log,
+    journal: Journal<D>,
+    kern: &'a K,
+    mark: &'a Mark,
+    flush_seat: FlushSeat,
+    seat: Seat,
+    host: &'a [u8],
+    blocks: u64,
+    tally: &'a Tally,
+    gate: &'a G,
+    limits: Limits,
+    ghost idle: { IsIdle journal },
+    ghost flushes: { flush_seat.mark ≡ mark.now },
+    ghost looks: { seat.mark ≡ mark.now },
+}
+
+/// Serves these parts.
+fn serve_parts<
+    R: Net<Listener = TcpListener, Stream = TcpStream>
+        + Threads
+        + Wait
+        + Clock
+        + Copy
+        + Send
+        + Sync
+        + 'static,
+    D: Disk + Drop,
+    K: Kern + Sync,
+    G: Gate + Sync,
+    L: BufRead + Send + Drop + 'static,
+    A: Write + Send + Drop + 'static,
+>(
+    rt: &R,
+    alloc: Global,
+    parts: Parts<'_, D, K, G>,
+    lines: L,
+    answers: A,
+) -> Result<(), ServeError> {
+    let Parts {
+        listeners,
+        log,
+        journal,
+        kern,
+        mark,
+        flush_seat,
+        seat,
+        host,
+        blocks,
+        tally,
+        gate,
+        limits,
+    } = parts;
+    let facts = VolumeFacts {
+        host,
+        format: 1,
+        blocks,
+        inodes: INODES,
+    };
+    let server = Server {
+        listeners,
+        networks: &[],
+        log,
+        journal,
+        kern,
+        mark,
+        flush_seat,
+        seat,
+        facts,
+        marks: MARKS,
+        tally,
+        gate,
+        limits,
+    };
+    serve(rt, alloc, server, lines, answers)
+}

@@ -1,0 +1,67 @@
+//! A volume in memory.
+
+ghost use Rattle.std.specs.Prelude.{IfSome};
+ghost use Rattle.journal.specs.Journal.{IsReady};
+
+use disk::Disk;
+use flusher::{Kern, Kernel};
+use journal::Journal;
+use memdisk::MemDisk;
+use names::{GroupName, is_host};
+use new_volume::{Plan, are_sizes, device_octets, format};
+use std::alloc::Global;
+use std::sync::Wait;
+
+/// The host of the volumes, their logical blocks and their inodes.
+pub(crate) const HOST: &[u8] = b"news.example";
+
+pub const BLOCKS: u64 = 1024;
+
+pub(crate) const INODES: u64 = 64;
+
+/// When the groups are made, in seconds since 1970.
+const MOMENT: u64 = 1_000_000_000;
+
+/// The plan of the volumes.
+fn plan() -> Option<Plan<'static>> {
+    if !is_host(HOST) || !are_sizes(BLOCKS, INODES) {
+        return None;
+    }
+    Some(Plan {
+        host: HOST,
+        blocks: BLOCKS,
+        inodes: INODES,
+    })
+}
+
+/// A device with a new volume.
+pub fn new_device(alloc: Global) -> Option<MemDisk> {
+    let plan = plan()?;
+    let Ok(disk) = MemDisk::new(alloc, device_octets(plan.blocks)) else {
+        return None;
+    };
+    let Ok(disk) = format(alloc, disk, &plan) else {
+        return None;
+    };
+    Some(disk)
+}
+
+/// The volume on a device, opened.
+pub fn open<D: Disk + Drop>(alloc: Global, disk: D) -> Option<(Journal<D>, Kernel)>
+    ensures { IfSome result (λ opened. IsReady opened.0) }
+{
+    let Ok(mut journal) = Journal::open(alloc, disk) else {
+        return None;
+    };
+    match Kernel::open(alloc, &mut journal) {
+        Ok(kernel) => Some((journal, kernel)),
+        Err(_) => None,
+    }
+}
+
+/// Makes a group that takes posts.
+pub fn add_group<K: Kern, R: Wait>(rt: &R, alloc: Global, kern: &K, name: &[u8]) -> Option<()> {
+    let name = GroupName::read(name).ok()?;
+    kern.admin(rt, alloc, &name, b'y', b"test", MOMENT).ok()?;
+    Some(())
+}
