@@ -1,15 +1,18 @@
 #!/usr/bin/env python3
 """System tests of the log of `newsd serve`: the lines of its standard error. logs.py NEWSD [NAME..]"""
 import calendar
+import fcntl
+import os
 import re
 import socket
 import struct
+import subprocess
 import sys
 import threading
 import time
 
 from listening import CALLER, DENIED, SERVER, Link, serving
-from newsd import GREETING, GROUP, SERVICE_ENDS, Caller, article, free_port, message_id, wait_until
+from newsd import GREETING, GROUP, SERVICE_ENDS, Caller, article, end_with_parent, free_port, message_id, wait_until
 from playing import main
 
 LINE = re.compile(r"time=(\d{4}-\d\d-\d\dT\d\d:\d\d:\d\dZ) event=([a-z]+)((?: [a-z]+=[^ ]+)*)")
@@ -313,6 +316,35 @@ def no_line_has_what_a_caller_sent(volume):
             secret + b"\r\n", secret + b"=x event=fault\r\n", b"\x00\xff\x1b[31m" + secret + b"\r\n", secret + b"\ntime=x event=fault\n\r\n",
             b"\"" + secret + b"\"\r\n", b"GROUP " + secret + b"\r\n", b"ARTICLE <" + secret + b"@x.example>\r\n", secret * 200 + b"\r\n",
             b"\r\n", b"\r\r\n\n" + secret + b"\r\n", b"IHAVE <" + secret + b"@x.example>\r\n" + article(secret.decode(), subject=secret.decode()),
+def a_line_that_cannot_be_written_is_counted(volume):
+    """Standard error takes no line while it is full, and none is waited for."""
+    volume.make_group()
+    ends, faults = os.pipe()
+    fcntl.fcntl(faults, fcntl.F_SETPIPE_SZ, 4096)
+    os.set_blocking(faults, False)
+    port = free_port()
+    with open(ends, "rb") as stream:
+        words = [volume.program, "serve", volume.path, "--port", str(port)]
+        with subprocess.Popen(words, stdin=subprocess.PIPE, stdout=subprocess.PIPE, stderr=faults, preexec_fn=end_with_parent) as process:
+            os.close(faults)
+            try:
+                assert process.stdout.readline().startswith(b"listening ")
+                for _ in range(200):
+                    with Caller(port) as caller:
+                        assert caller.ask("QUIT") == "205 Bye"
+                log = Log(stream)
+                wait_until(lambda: log.events("end"))
+                # the next line says how many were lost
+                with Caller(port) as caller:
+                    assert caller.ask("QUIT") == "205 Bye"
+                wait_until(lambda: told(log) == 201)
+                assert log.events("lost"), log.lines
+                print("  %d lines, %s lost" % (len(log.events("end")), [it["lines"] for _, it in log.events("lost")]), flush=True)
+            finally:
+                process.kill()
+        log.reading.join(10)
+
+
             b"POST\r\n" + article(secret.decode() + "1", body=secret.decode()), bytes(range(256)) + b"\r\n", "\u2028\u0085".encode() + b"\r\n",
         ]
         for sending in sendings:
@@ -362,3 +394,4 @@ LONG_ONES = [who_takes_nothing_is_logged_as_stalled]
 
 if __name__ == "__main__":
     sys.exit(main(TESTS, LONG_ONES))
+    a_line_that_cannot_be_written_is_counted,
