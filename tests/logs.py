@@ -223,6 +223,33 @@ def a_nearly_full_volume_is_logged_once(volume):
         assert every == {"inodes": 64, "blocks": 4096}[by] and 10 * used >= 9 * every > 10 * (used - 16), found
 
 
+def a_volume_that_was_nearly_full_is_logged_at_the_start(volume):
+    """Nobody posts to it. It is small: posts are refused before nine tenths of its blocks are used."""
+    small = volume.another("small", blocks=1024, inodes=256)
+    small.make_group()
+    with small.serve(words=["--quiet"]) as server, server.call() as caller:
+        log = Log(server.process.stderr)
+        replies = [caller.post(article(number, body="x" * 40000))[:3] for number in range(100)]
+        assert replies[-1] == "441", replies
+        assert_full_once(log, server)
+    with small.serve(words=["--quiet"]) as server:
+        log = Log(server.process.stderr)
+        log.wait("full", 1)
+        with server.call() as caller:
+            assert caller.post(article(1000))[:3] == "441"
+        assert_full_once(log, server)
+
+
+def assert_full_once(log, server):
+    """The server's log says it, and nothing else, with fewer than 256 blocks free and less than nine tenths of them used."""
+    assert server.order("stop") == "stopped"
+    assert server.process.wait(10) == 0
+    log.reading.join(10)
+    assert [name for name, _ in log.events()] == ["full"], log.lines
+    used, every = (int(it) for it in log.events()[0][1]["blocks"].split("/"))
+    assert every - used < 256 and 10 * used < 9 * every, log.lines
+
+
 def a_quiet_log_has_no_ends(volume):
     volume.make_group()
     with volume.serve(words=["--quiet"]) as server:
@@ -384,6 +411,7 @@ TESTS = [
     a_caller_from_elsewhere_that_is_refused_is_logged,
     a_fault_is_logged,
     a_nearly_full_volume_is_logged_once,
+    a_volume_that_was_nearly_full_is_logged_at_the_start,
     a_quiet_log_has_no_ends,
     a_log_that_nobody_reads_holds_nobody,
     a_server_whose_log_nobody_reads_stops,

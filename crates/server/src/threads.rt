@@ -373,6 +373,7 @@ fn flush<R: Wait + Clock, D: Disk + Drop, K: Kern, G: Gate>(
         bells,
         ..
     } = hall.shared;
+    watching.look();
     let watching = Watching::new(hall.shared, hall.log, flusher.tally, facts);
     let ringing = Ringing {
         bells: *bells,
