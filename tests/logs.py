@@ -316,33 +316,6 @@ def a_log_that_nobody_reads_holds_nobody(volume):
         assert len(set(sessions)) == len(sessions)
 
 
-def told(log):
-    """The ends of sessions that have a line, and the lines that found no room."""
-    return len(log.events("end")) + sum(int(fields["lines"]) for _, fields in log.events("lost"))
-
-
-def a_server_whose_log_nobody_reads_stops(volume):
-    volume.make_group()
-    with volume.serve() as server:
-        for _ in range(2000):
-            with server.call() as caller:
-                assert caller.ask("QUIT") == "205 Bye"
-        start = time.monotonic()
-        assert server.order("stop") == "stopped"
-        assert server.process.wait(10) == 0
-        print("  stopped in %.1f s" % (time.monotonic() - start), flush=True)
-
-
-def no_line_has_what_a_caller_sent(volume):
-    """Whatever octets come, a line has its form and none of them."""
-    volume.make_group()
-    secret = b"s3cr3t"
-    with volume.serve() as server:
-        log = Log(server.process.stderr)
-        sendings = [
-            secret + b"\r\n", secret + b"=x event=fault\r\n", b"\x00\xff\x1b[31m" + secret + b"\r\n", secret + b"\ntime=x event=fault\n\r\n",
-            b"\"" + secret + b"\"\r\n", b"GROUP " + secret + b"\r\n", b"ARTICLE <" + secret + b"@x.example>\r\n", secret * 200 + b"\r\n",
-            b"\r\n", b"\r\r\n\n" + secret + b"\r\n", b"IHAVE <" + secret + b"@x.example>\r\n" + article(secret.decode(), subject=secret.decode()),
 def a_line_that_cannot_be_written_is_counted(volume):
     """Standard error takes no line while it is full, and none is waited for."""
     volume.make_group()
@@ -372,6 +345,33 @@ def a_line_that_cannot_be_written_is_counted(volume):
         log.reading.join(10)
 
 
+def told(log):
+    """The ends of sessions that have a line, and the lines that found no room."""
+    return len(log.events("end")) + sum(int(fields["lines"]) for _, fields in log.events("lost"))
+
+
+def a_server_whose_log_nobody_reads_stops(volume):
+    volume.make_group()
+    with volume.serve() as server:
+        for _ in range(2000):
+            with server.call() as caller:
+                assert caller.ask("QUIT") == "205 Bye"
+        start = time.monotonic()
+        assert server.order("stop") == "stopped"
+        assert server.process.wait(10) == 0
+        print("  stopped in %.1f s" % (time.monotonic() - start), flush=True)
+
+
+def no_line_has_what_a_caller_sent(volume):
+    """Whatever octets come, a line has its form and none of them."""
+    volume.make_group()
+    secret = b"s3cr3t"
+    with volume.serve() as server:
+        log = Log(server.process.stderr)
+        sendings = [
+            secret + b"\r\n", secret + b"=x event=fault\r\n", b"\x00\xff\x1b[31m" + secret + b"\r\n", secret + b"\ntime=x event=fault\n\r\n",
+            b"\"" + secret + b"\"\r\n", b"GROUP " + secret + b"\r\n", b"ARTICLE <" + secret + b"@x.example>\r\n", secret * 200 + b"\r\n",
+            b"\r\n", b"\r\r\n\n" + secret + b"\r\n", b"IHAVE <" + secret + b"@x.example>\r\n" + article(secret.decode(), subject=secret.decode()),
             b"POST\r\n" + article(secret.decode() + "1", body=secret.decode()), bytes(range(256)) + b"\r\n", "\u2028\u0085".encode() + b"\r\n",
         ]
         for sending in sendings:
@@ -414,6 +414,7 @@ TESTS = [
     a_volume_that_was_nearly_full_is_logged_at_the_start,
     a_quiet_log_has_no_ends,
     a_log_that_nobody_reads_holds_nobody,
+    a_line_that_cannot_be_written_is_counted,
     a_server_whose_log_nobody_reads_stops,
     no_line_has_what_a_caller_sent,
 ]
@@ -422,4 +423,3 @@ LONG_ONES = [who_takes_nothing_is_logged_as_stalled]
 
 if __name__ == "__main__":
     sys.exit(main(TESTS, LONG_ONES))
-    a_line_that_cannot_be_written_is_counted,
