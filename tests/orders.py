@@ -23,6 +23,9 @@ POSTERS = 16
 SECONDS_OF_A_STOP = 10
 # how long nobody calls a server whose device has failed
 SECONDS_WITHOUT_A_CALLER = 1
+# callers that have sent so many lines when the server is told to stop: more than one read takes, and less than a socket holds
+CALLERS_AT_A_STOP = 8
+LINES_AT_A_STOP = 2500
 # the number of a user who may do nothing
 NOBODY = 65534
 LINE = re.compile(r"host (\S+) format (\d+) blocks (\d+) of (\d+) inodes (\d+) of (\d+) sessions (\d+) accepted (\d+) durable (\d+)"
@@ -326,44 +329,20 @@ def a_signal_beside_posters_loses_nothing_acknowledged(volume):
     print("  %d told, %d there" % (len(told), len(there)), flush=True)
 
 
-class Asker:
-    """A caller that asks on and on, as fast as it may, and reads the replies until they end."""
-
-    def __init__(self, server):
-        self.caller, self.replies, self.has_ended = server.call(), [], threading.Event()
-        self.threads = [threading.Thread(target=it, daemon=True) for it in (self.ask, self.read)]
-        for thread in self.threads:
-            thread.start()
-
-    def ask(self):
-        while not self.has_ended.is_set():
-            self.caller.send(b"STAT <9@a.example>\r\n" * 100)
-
-    def read(self):
-        self.replies += self.caller.file
-        self.has_ended.set()
-
-    def end(self):
-        for thread in self.threads:
-            thread.join(SECONDS)
-            assert not thread.is_alive()
-        assert self.has_ended.is_set(), "the connection was reset after %d replies" % len(self.replies)
-        assert set(self.replies) == {b"430 No such article\r\n"}, self.replies[-1]
-        self.caller.close()
-
-
-def who_asks_on_reads_whole_replies_at_a_stop(volume):
-    """The server reads on for a while after the last reply, so its end is no reset."""
+def a_stop_lets_the_last_replies_arrive(volume):
+    """Callers have sent more than the server reads. It ends their connections after whole replies, and by no reset."""
     volume.make_group()
     with volume.serve() as server:
-        askers = [Asker(server) for _ in range(8)]
-        time.sleep(0.3)
-        start = time.monotonic()
+        callers = [server.call() for _ in range(CALLERS_AT_A_STOP)]
+        for caller in callers:
+            caller.send(b"STAT <9@a.example>\r\n" * LINES_AT_A_STOP)
         assert server.order("stop") == "stopped"
-        for asker in askers:
-            asker.end()
+        replies = [list(caller.file) for caller in callers]
         assert server.end(SECONDS_OF_A_STOP) == (0, "")
-        print("  stopped in %.2f s" % (time.monotonic() - start), flush=True)
+        assert all(set(them) <= {b"430 No such article\r\n"} for them in replies), replies
+        print("  %s replies of %d" % ([len(them) for them in replies], LINES_AT_A_STOP), flush=True)
+        for caller in callers:
+            caller.close()
 
 
 def a_stop_waits_for_no_caller(volume):
@@ -465,7 +444,7 @@ TESTS = [
     a_server_that_is_told_to_stop_ends_in_order,
     a_stop_beside_posters_keeps_all_that_was_accepted,
     a_signal_beside_posters_loses_nothing_acknowledged,
-    who_asks_on_reads_whole_replies_at_a_stop,
+    a_stop_lets_the_last_replies_arrive,
     a_stop_waits_for_no_caller,
     an_operator_that_reads_nothing_stops_a_server,
     a_device_that_fails_spoils_a_stop,

@@ -124,7 +124,7 @@ fn run<
         blocks: FEW_BLOCKS,
         limits: limits(scene),
     };
-    let served = stage.serve(rt, alloc, &setting, (operator, answers));
+    let served = stage.serve(rt, alloc, setting, (operator, answers));
     log.end(rt);
     Some(served.ended)
 }

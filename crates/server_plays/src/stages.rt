@@ -149,7 +149,7 @@ impl<'a, D: Disk + Drop, K: Kern + Sync + Drop> Stage<'a, D, K> {
         G: Gate + Sync,
         L: BufRead + Send + Drop + 'static,
         A: Write + Send + Drop + 'static,
-    >(self, rt: &R, alloc: Global, setting: &Setting<'_, G>, (lines, answers): (L, A)) -> Served {
+    >(self, rt: &R, alloc: Global, setting: Setting<'_, G>, (lines, answers): (L, A)) -> Served {
         let Stage {
             journal,
             kern,

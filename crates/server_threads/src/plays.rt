@@ -134,7 +134,7 @@ fn serve<
         blocks: BLOCKS,
         limits: Limits::standard(),
     };
-    let served = stage.serve(rt, alloc, &setting, (lines(gate.holds), answers));
+    let served = stage.serve(rt, alloc, setting, (lines(gate.holds), answers));
     log.end(rt);
     served.ended
 }

@@ -8,8 +8,6 @@ mod disks;
 #[cfg(test)]
 mod gates;
 #[cfg(test)]
-mod gates;
-#[cfg(test)]
 mod plays;
 #[cfg(test)]
 mod props;

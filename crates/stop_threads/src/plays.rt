@@ -91,7 +91,7 @@ fn serve<
         blocks: BLOCKS,
         limits: Limits::standard(),
     };
-    let served = stage.serve(rt, alloc, &setting, (operator, answers));
+    let served = stage.serve(rt, alloc, setting, (operator, answers));
     log.end(rt);
     Some(served)
 }
