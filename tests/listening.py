@@ -3,6 +3,7 @@
 import contextlib
 import os
 import shutil
+import signal
 import socket
 import subprocess
 import sys
@@ -14,6 +15,7 @@ DENIED = "502 Access denied"
 # networks for documents (RFC 5737, RFC 3849): the server's side of the link, and the caller's
 SERVER, CALLER, OTHER = "192.0.2.1", "192.0.2.7", "198.51.100.9"
 SERVER_6, CALLER_6 = "2001:db8::1", "2001:db8::7"
+SECONDS_OF_A_STOP = 10
 
 
 def a_server_listens_on_several_endpoints(volume):
@@ -70,7 +72,7 @@ def words_that_are_no_endpoint_or_network_are_refused(volume):
     good = ["--listen", "127.0.0.1:%d" % free_port()]
     for word in ("127.0.0.1", ":1119", "127.0.0.1:", "127.0.0.1:0", "127.0.0.1:65536", "127.0.0.1:1119x", "127.0.0.1:-1", "1119",
                  "localhost:1119", "::1:1119", "[::1]", "[::1]:", "[::1]:0", "[127.0.0.1]:1119", "256.0.0.1:1119", "127.0.0.1 :1119",
-                 "127.1:1119", "", "*:1119", "[::1]:1119 ", "[::g]:1119"):
+                 "127.1:1119", "", "*:1119", "[::1]:1119 ", "[::g]:1119", "[fe80::1%1]:1119", "[::1%0]:1119"):
         for words in (["--listen", word], [*good, "--listen", word]):
             assert_bad(volume, words, word)
     for word in ("", "192.0.2", "192.0.2.0/33", "192.0.2.0/", "192.0.2.0/-1", "192.0.2.0/x", "/24", "2001:db8::/129", "localhost",
@@ -153,6 +155,52 @@ def a_caller_that_is_not_let_in_takes_no_session(volume):
             line = process.stdout.readline().decode()
             assert " sessions 0 " in line and " accepted 1 " in line, line
             assert link.asks(link.near, "127.0.0.1", port, "127.0.0.1") == [GREETING, "205 Bye", ""]
+
+
+def a_stop_ends_listeners_that_nobody_can_call(volume):
+    """Also those of addresses for many machines at once."""
+    for address in ("127.0.0.1", "0.0.0.0", "224.0.0.1", "255.255.255.255"):
+        with serving(volume, ["--listen", "%s:%d" % (address, free_port())], 1) as (process, _):
+            assert_stops(process)
+
+
+def a_stop_needs_no_way_to_a_listener(volume):
+    """Its address was removed, no interface is up, or IPv6 is off."""
+    for words in (["ip", "addr", "del", "%s/24" % SERVER, "dev", "near"], ["ip", "link", "set", "lo", "down"],
+                  ["sh", "-c", "for it in all default lo near; do echo 1 >/proc/sys/net/ipv6/conf/$it/disable_ipv6; done"]):
+        with Link() as link:
+            listens = ["--listen", "%s:%d" % (SERVER, free_port()), "--listen", "0.0.0.0:%d" % free_port(), "--listen", "[::]:%d" % free_port()]
+            with serving(volume, listens, 3, by=link.by) as (process, _):
+                done = subprocess.run([*link.near, *words], capture_output=True, text=True, timeout=SECONDS)
+                if done.returncode:
+                    raise Skipped("that can't be done here: %s: %s" % (words, done.stderr.strip()))
+                assert_stops(process)
+
+
+def a_stop_tells_callers_that_wait(volume):
+    """The process stands still while they come, and while it is told to stop."""
+    volume.make_group()
+    ports = free_port(), free_port()
+    with serving(volume, [word for port in ports for word in ("--listen", "127.0.0.1:%d" % port)], 2) as (process, _):
+        os.kill(process.pid, signal.SIGSTOP)
+        sockets = [socket.create_connection(("127.0.0.1", port), SECONDS) for port in ports for _ in range(50)]
+        process.stdin.write(b"stop\n")
+        process.stdin.flush()
+        os.kill(process.pid, signal.SIGCONT)
+        said = []
+        for caller in sockets:
+            with caller, caller.makefile("rb") as file:
+                said.append(file.read().decode().rstrip("\r\n"))
+        assert set(said) <= {GREETING, SERVICE_ENDS}, said
+        assert process.stdout.readline() == b"stopped\n" and process.wait(SECONDS_OF_A_STOP) == 0
+        print("  %d of %d callers were told" % (said.count(SERVICE_ENDS), len(said)), flush=True)
+
+
+def assert_stops(process):
+    process.stdin.write(b"stop\n")
+    process.stdin.flush()
+    assert process.stdout.readline() == b"stopped\n"
+    assert process.wait(SECONDS_OF_A_STOP) == 0, process.stderr.read()
 
 
 class Link:
@@ -253,6 +301,9 @@ TESTS = [
     an_endpoint_that_is_taken_is_refused,
     callers_from_elsewhere_are_let_in_where_a_network_holds_them,
     a_caller_that_is_not_let_in_takes_no_session,
+    a_stop_ends_listeners_that_nobody_can_call,
+    a_stop_needs_no_way_to_a_listener,
+    a_stop_tells_callers_that_wait,
 ]
 
 

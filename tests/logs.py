@@ -1,15 +1,18 @@
 #!/usr/bin/env python3
 """System tests of the log of `newsd serve`: the lines of its standard error. logs.py NEWSD [NAME..]"""
 import calendar
+import fcntl
+import os
 import re
 import socket
 import struct
+import subprocess
 import sys
 import threading
 import time
 
 from listening import CALLER, DENIED, SERVER, Link, serving
-from newsd import GREETING, GROUP, SERVICE_ENDS, Caller, article, free_port, message_id, wait_until
+from newsd import GREETING, GROUP, SERVICE_ENDS, Caller, article, end_with_parent, free_port, message_id, wait_until
 from playing import main
 
 LINE = re.compile(r"time=(\d{4}-\d\d-\d\dT\d\d:\d\d:\d\dZ) event=([a-z]+)((?: [a-z]+=[^ ]+)*)")
@@ -220,6 +223,33 @@ def a_nearly_full_volume_is_logged_once(volume):
         assert every == {"inodes": 64, "blocks": 4096}[by] and 10 * used >= 9 * every > 10 * (used - 16), found
 
 
+def a_volume_that_was_nearly_full_is_logged_at_the_start(volume):
+    """Nobody posts to it. It is small: posts are refused before nine tenths of its blocks are used."""
+    small = volume.another("small", blocks=1024, inodes=256)
+    small.make_group()
+    with small.serve(words=["--quiet"]) as server, server.call() as caller:
+        log = Log(server.process.stderr)
+        replies = [caller.post(article(number, body="x" * 40000))[:3] for number in range(100)]
+        assert replies[-1] == "441", replies
+        assert_full_once(log, server)
+    with small.serve(words=["--quiet"]) as server:
+        log = Log(server.process.stderr)
+        log.wait("full", 1)
+        with server.call() as caller:
+            assert caller.post(article(1000))[:3] == "441"
+        assert_full_once(log, server)
+
+
+def assert_full_once(log, server):
+    """The server's log says it, and nothing else, with fewer than 256 blocks free and less than nine tenths of them used."""
+    assert server.order("stop") == "stopped"
+    assert server.process.wait(10) == 0
+    log.reading.join(10)
+    assert [name for name, _ in log.events()] == ["full"], log.lines
+    used, every = (int(it) for it in log.events()[0][1]["blocks"].split("/"))
+    assert every - used < 256 and 10 * used < 9 * every, log.lines
+
+
 def a_quiet_log_has_no_ends(volume):
     volume.make_group()
     with volume.serve(words=["--quiet"]) as server:
@@ -284,6 +314,35 @@ def a_log_that_nobody_reads_holds_nobody(volume):
         print("  %d lines, %s lost" % (len(log.events("end")), [fields["lines"] for _, fields in log.events("lost")]), flush=True)
         sessions = [int(fields["session"]) for _, fields in log.events("end")]
         assert len(set(sessions)) == len(sessions)
+
+
+def a_line_that_cannot_be_written_is_counted(volume):
+    """Standard error takes no line while it is full, and none is waited for."""
+    volume.make_group()
+    ends, faults = os.pipe()
+    fcntl.fcntl(faults, fcntl.F_SETPIPE_SZ, 4096)
+    os.set_blocking(faults, False)
+    port = free_port()
+    with open(ends, "rb") as stream:
+        words = [volume.program, "serve", volume.path, "--port", str(port)]
+        with subprocess.Popen(words, stdin=subprocess.PIPE, stdout=subprocess.PIPE, stderr=faults, preexec_fn=end_with_parent) as process:
+            os.close(faults)
+            try:
+                assert process.stdout.readline().startswith(b"listening ")
+                for _ in range(200):
+                    with Caller(port) as caller:
+                        assert caller.ask("QUIT") == "205 Bye"
+                log = Log(stream)
+                wait_until(lambda: log.events("end"))
+                # the next line says how many were lost
+                with Caller(port) as caller:
+                    assert caller.ask("QUIT") == "205 Bye"
+                wait_until(lambda: told(log) == 201)
+                assert log.events("lost"), log.lines
+                print("  %d lines, %s lost" % (len(log.events("end")), [it["lines"] for _, it in log.events("lost")]), flush=True)
+            finally:
+                process.kill()
+        log.reading.join(10)
 
 
 def told(log):
@@ -352,8 +411,10 @@ TESTS = [
     a_caller_from_elsewhere_that_is_refused_is_logged,
     a_fault_is_logged,
     a_nearly_full_volume_is_logged_once,
+    a_volume_that_was_nearly_full_is_logged_at_the_start,
     a_quiet_log_has_no_ends,
     a_log_that_nobody_reads_holds_nobody,
+    a_line_that_cannot_be_written_is_counted,
     a_server_whose_log_nobody_reads_stops,
     no_line_has_what_a_caller_sent,
 ]

@@ -7,8 +7,10 @@ use flusher::{JoinError, Kern};
 use logging::{Event, Log, Refusal};
 use networks::{Network, may_call};
 use releasing::{Shared, give_short_writes};
+use std::alloc::Global;
 use std::io::{self, Write};
 use std::net::{Net, Shutdown, SocketAddr, TcpListener, TcpStream};
+use std::os::fd::OwnedFd;
 use std::sync::atomic::{AtomicBool, Ordering};
 use std::sync::{Arc, Wait};
 use std::thread;
@@ -23,17 +25,16 @@ const ACCESS_DENIED: &[u8] = b"502 Access denied\r\n";
 /// How long an acceptor waits if the system gives it no socket, in milliseconds.
 const PAUSE_MILLIS: u64 = 10;
 
-/// An acceptor is called this often at the end, with a pause between two tries.
-const TRIES: u32 = 100;
-
-/// A call of an acceptor takes at most this many seconds.
-const CALL_SECS: u64 = 1;
+/// The most callers of a listener that are told at the end that the service ends: more than wait at one that std made.
+const WAITING: u32 = 256;
 
 /// The doors of a server: one for each of its listeners.
 pub struct Doors<'a> {
     pub listeners: &'a [TcpListener],
     /// The networks from which callers are let in, besides the loopback networks.
     pub networks: &'a [Network],
+    /// A second handle of each listener, as a stream, since std shuts only streams down.
+    handles: Vec<TcpStream>,
     /// No door lets anybody in any more.
     are_shut: AtomicBool,
 }
@@ -43,36 +44,45 @@ impl<'a> Drop for Doors<'a> {
         let Doors {
             listeners: _,
             networks: _,
+            handles,
             are_shut: _,
         } = self;
+        drop(handles);
     }
 }
 
 impl<'a> Doors<'a> {
-    /// Open doors.
-    pub fn new(listeners: &'a [TcpListener], networks: &'a [Network]) -> Doors<'a> {
-        Doors {
+    /// Open doors. `None` if memory is refused, or a descriptor: each listener takes one more.
+    pub fn new(
+        alloc: Global,
+        listeners: &'a [TcpListener],
+        networks: &'a [Network],
+    ) -> Option<Doors<'a>> {
+        let mut handles = Vec::with_capacity(alloc, listeners.len()).ok()?;
+        for listener in listeners {
+            let handle = OwnedFd::from(listener.try_clone().ok()?);
+            handles.push(TcpStream::from(handle)).ok()?;
+        }
+        Some(Doors {
             listeners,
             networks,
+            handles,
             are_shut: AtomicBool::new(false),
-        }
+        })
     }
 
-    /// Shuts the doors, once, and calls each acceptor except the one with this number, so that it ends. If the system
-    /// gives no socket for such a call, or a listener's address cannot be called, that acceptor ends with its next
-    /// caller from outside.
-    pub fn shut<R: Net<Listener = TcpListener, Stream = TcpStream> + Clock>(
-        &self,
-        rt: &R,
-        own: Option<usize>,
-    ) {
+    /// Shuts the doors, once. The callers that wait are told that the service ends. After that the listeners take no
+    /// caller, and each acceptor ends: on Linux a call of `accept` fails once its listener was shut down, also one that
+    /// waits. So no address has to be called for it.
+    pub fn shut(&self) {
         if self.are_shut.swap(true, Ordering::SeqCst) {
             return;
         }
-        for (place, listener) in self.listeners.iter().enumerate() {
-            if own != Some(place) {
-                knock(rt, listener);
-            }
+        for listener in self.listeners {
+            turn_waiting_away(listener);
+        }
+        for handle in &self.handles {
+            let _ = handle.shutdown(Shutdown::Read);
         }
     }
 
@@ -82,19 +92,16 @@ impl<'a> Doors<'a> {
     }
 }
 
-/// Calls an acceptor.
-fn knock<R: Net<Listener = TcpListener, Stream = TcpStream> + Clock>(
-    rt: &R,
-    listener: &TcpListener,
-) {
-    let Ok(address) = listener.local_addr() else {
+/// Tells the callers that wait at a listener that the service ends. From then on the listener waits for nobody.
+fn turn_waiting_away(listener: &TcpListener) {
+    if listener.set_nonblocking(true).is_err() {
         return;
-    };
-    for _ in 0..TRIES {
-        if TcpStream::connect_timeout(rt, &address, Duration::from_secs(CALL_SECS)).is_ok() {
+    }
+    for _ in 0..WAITING {
+        let Ok((stream, _)) = listener.accept() else {
             return;
-        }
-        thread::sleep(rt, Duration::from_millis(PAUSE_MILLIS));
+        };
+        turn_away(&stream, SERVICE_ENDS);
     }
 }
 
@@ -149,8 +156,6 @@ pub struct Acceptor<'a, 'b, R, K, G> {
     /// What the threads of the server share.
     pub shared: &'b Shared<'a, R, K, G>,
     pub doors: &'b Doors<'a>,
-    /// Which of the listeners is its own.
-    pub place: usize,
     pub log: &'b Log,
     pub calls: Sender<Call>,
 }
@@ -160,7 +165,6 @@ impl<'a, 'b, R, K, G> Drop for Acceptor<'a, 'b, R, K, G> {
         let Acceptor {
             shared: _,
             doors: _,
-            place: _,
             log: _,
             calls,
         } = self;
@@ -195,7 +199,7 @@ impl<
             match self.admit(newcomer, &mut entrance) {
                 Ok(()) => {}
                 Err(Over) => {
-                    self.doors.shut(self.shared.rt, Some(self.place));
+                    self.doors.shut();
                     self.shared.bells.flusher.unpark();
                     return;
                 }

@@ -36,7 +36,6 @@ fn the_log_tells_of_a_refused_caller(rt: HostRuntime) {
 fn a_fault_is_told_and_ends_all_listeners(rt: HostRuntime) {
     let fault = Outcome {
         ended: Err(ServeError::Fault),
-        full: 0,
         ..GOOD
     };
     assert_eq!(rt; play(&rt, rt.alloc(), Scene::Fault), Some(fault));

@@ -208,7 +208,7 @@ pub enum Event {
     Clock,
     /// Nine tenths of the blocks or of the inodes are used.
     Full { blocks: Part, inodes: Part },
-    /// This many lines found no room, because the log was not read.
+    /// This many lines found no room, because the log was not read, or could not be written.
     Lost(u64),
 }
 

@@ -1,7 +1,7 @@
 //! The log, and the thread that writes it.
 //!
 //! That thread may wait for the reader of the log for ever, so it is not joined. No other thread waits for it: a line
-//! that finds no room is counted, and the count is written before the next line.
+//! that finds no room is counted, as is one that cannot be written, and the count is written before the next line.
 
 ghost use Rattle.std.specs.Prelude.{◌<◌, IfSome};
 ghost use Rattle.model.specs.Calendar.{moment_limit};
@@ -34,7 +34,7 @@ pub enum Verbosity {
 pub struct Log {
     verbosity: Verbosity,
     entries: Sender<Entry>,
-    /// The lines that found no room, and of which the log has not told.
+    /// The lines that found no room or could not be written, and of which the log has not told.
     lost: Arc<AtomicU64, Global>,
     /// It is disconnected once the last line is written.
     written: Receiver<()>,
@@ -110,42 +110,78 @@ fn entry(moment: Option<u64>, event: Event) -> Entry
     }
 }
 
+/// What the lines are written to.
+#[derive(Drop)]
+struct Output<F> {
+    faults: F,
+    /// Its last line has no LF, because the rest of it could not be written.
+    is_cut: bool,
+}
+
 impl Writing {
-    /// Writes the lines until there is no further one. A line that cannot be written is left out, since nobody reads it.
+    /// Writes the lines until there is no further one. A line that cannot be written is lost.
     fn write_all<R: Wait + Clock, F: Write + Drop>(self, rt: &R, faults: F) {
-        let mut faults = faults;
+        let mut output = Output {
+            faults,
+            is_cut: false,
+        };
         for _ in rt.forever() {
             let Ok(entry) = self.entries.recv(rt) else {
                 break;
             };
-            self.write_lost(&mut faults, &entry);
-            self.write(&mut faults, &entry);
+            self.write_lost(&mut output, &entry);
+            self.write(&mut output, &entry, 1);
         }
-        self.write_lost(&mut faults, &entry(moment(rt), Event::Lost(0)));
+        self.write_lost(&mut output, &entry(moment(rt), Event::Lost(0)));
     }
 
     /// Says how many lines were lost, if any were. The line has the time of this entry.
-    fn write_lost<F: Write>(&self, faults: &mut F, entry: &Entry) {
+    fn write_lost<F: Write + Drop>(&self, output: &mut Output<F>, entry: &Entry) {
         let lost = self.lost.swap(0, Ordering::SeqCst);
         if lost > 0 {
             let told = Entry {
                 moment: entry.moment,
                 event: Event::Lost(lost),
             };
-            self.write(faults, &told);
+            self.write(output, &told, lost);
         }
     }
 
-    /// Writes the line of an entry. If memory for it is refused, it is lost.
-    fn write<F: Write>(&self, faults: &mut F, entry: &Entry) {
-        match line(self.alloc, entry) {
-            Ok(line) => {
-                let _ = faults.write_all(line.as_slice());
-                let _ = faults.flush();
+    /// Writes the line of an entry. If it is not written whole, or memory for it is refused, so many lines are lost.
+    fn write<F: Write + Drop>(&self, output: &mut Output<F>, entry: &Entry, lines: u64) {
+        let is_written = match line(self.alloc, entry) {
+            Ok(line) => output.write_line(line.as_slice()),
+            Err(AllocError) => false,
+        };
+        if !is_written {
+            self.lost.fetch_add(lines, Ordering::SeqCst);
+        }
+    }
+}
+
+impl<F: Write + Drop> Output<F> {
+    /// Writes a line. It is false if not all of it could be written. Where a part was, the next line begins with an LF.
+    fn write_line(&mut self, line: &[u8]) -> bool {
+        if self.is_cut && !self.rest_of(b"\n").is_empty() {
+            return false;
+        }
+        let rest = self.rest_of(line);
+        self.is_cut = !rest.is_empty() && rest.len() < line.len();
+        rest.is_empty() && self.faults.flush().is_ok()
+    }
+
+    /// Writes octets, and answers those that could not be written.
+    fn rest_of<'a>(&mut self, octets: &'a [u8]) -> &'a [u8] {
+        let mut rest = octets;
+        for _ in 0..octets.len() {
+            match self.faults.write(rest) {
+                Ok(count) if count > 0 => rest = &rest[count..],
+                _ => break,
             }
-            Err(AllocError) => {
-                self.lost.fetch_add(1, Ordering::SeqCst);
+            if rest.is_empty() {
+                break;
             }
         }
+        rest
     }
 }

@@ -15,6 +15,9 @@ const LINES: u32 = 1024;
 /// So many more are noted.
 const MORE: u32 = 10;
 
+/// What is taken of a line that is written in part.
+const FEW: usize = 10;
+
 /// A wait of a test takes at most this many milliseconds.
 const WAIT_MILLIS: u32 = 20_000;
 
@@ -127,6 +130,58 @@ fn has_lines<R: Wait + Clock>(rt: &R, shared: &Shared, lines: usize) -> bool {
         thread::sleep(rt, Duration::from_millis(1));
     }
     false
+}
+
+/// What a log is written to: it takes nothing of the first line, and only a few octets of the next one.
+#[derive(Drop)]
+struct Failing<R> {
+    rt: R,
+    writes: u32,
+    text: Arc<Mutex<Vec<u8>>, Global>,
+}
+
+impl<R: Wait> Write for Failing<R> {
+    fn write(&mut self, octets: &[u8]) -> io::Result<usize> {
+        self.writes = self.writes.saturating_add(1);
+        let taken = match self.writes {
+            1 | 3 => return Err(io::Error::from(io::ErrorKind::WouldBlock)),
+            2 => octets.len().min(FEW),
+            _ => octets.len(),
+        };
+        self.text
+            .lock(&self.rt)
+            .extend_from_slice(&octets[..taken])?;
+        Ok(taken)
+    }
+
+    fn flush(&mut self) -> io::Result<()> {
+        Ok(())
+    }
+}
+
+/// Whether a log tells of a line that could not be written, and ends one that was written in part.
+pub(crate) fn written_in_part<R: Threads + Wait + Clock + Copy + Drop + Send + 'static>(
+    rt: &R,
+    alloc: Global,
+) -> Option<bool> {
+    let text = Arc::new(alloc, Mutex::new(Vec::new(alloc))).ok()?;
+    let failing = Failing {
+        rt: *rt,
+        writes: 0,
+        text: Arc::try_clone(&text).ok()?,
+    };
+    let log = Log::start(rt, alloc, failing, Verbosity::All).ok()?;
+    for event in [Event::Fault, Event::Halted, Event::Clock] {
+        log.note(rt, event);
+    }
+    log.end(rt);
+    let text = text.lock(rt);
+    let mut lines = text.split(|octet| *octet == b'\n');
+    let is_first = lines.next().map(<[u8]>::len) == Some(FEW);
+    let is_second = ends(lines.next(), b" event=halted");
+    let is_third = ends(lines.next(), b" event=lost lines=1");
+    let is_fourth = ends(lines.next(), b" event=clock");
+    Some(is_first && is_second && is_third && is_fourth)
 }
 
 fn ends(line: Option<&[u8]>, end: &[u8]) -> bool {

@@ -1,7 +1,7 @@
 //! The tests of the log.
 
 use crate::lines::{ENDINGS, PARTS, REFUSALS, ROWS, has_its_line};
-use crate::logs::{lines_of, never_read, read_late};
+use crate::logs::{lines_of, never_read, read_late, written_in_part};
 use logging::{Part, Verbosity};
 
 #[test]
@@ -36,6 +36,11 @@ fn nine_tenths_are_nearly_full(rt: HostRuntime) {
 #[test]
 fn a_log_tells_of_lost_lines(rt: HostRuntime) {
     assert_eq!(rt; read_late(&rt, rt.alloc()), Some(true));
+}
+
+#[test]
+fn a_log_tells_of_lines_that_cannot_be_written(rt: HostRuntime) {
+    assert_eq!(rt; written_in_part(&rt, rt.alloc()), Some(true));
 }
 
 #[test]

@@ -75,6 +75,7 @@ const ENDPOINTS: &[(&str, Option<&str>)] = &[
     ("[::1]", None),
     ("[192.0.2.7]:119", None),
     ("[fe80::1%2]:119", None),
+    ("[::1%0]:119", None),
     ("localhost:119", None),
     (" 127.0.0.1:119", None),
     ("127.0.0.1:119 ", None),

@@ -8,8 +8,9 @@ use Rattle.operator.specs.declared.writing.Told.TheVariants.{Serial, Status, Sto
 abbrev pub HasSeenStop : SeatView → Type 0
 HasSeenStop seat = (seat.told ≡ true) × (seat.after_stop ≡ true)
 
--- an answer says no more than what was seen: a serial that is durable, or the flusher's stop
+-- An answer says no more than what was seen: a serial that is durable, or the flusher's stop, after which at least the
+-- accepted changes were durable.
 abbrev pub IsSeen : SeatView → Told → Type 0
 IsSeen seat (Serial serial) = serial ≤ seat.seen
 IsSeen seat (Status status) = Unit {0}
-IsSeen seat Stopped = HasSeenStop seat
+IsSeen seat (Stopped accepted) = HasSeenStop seat × (accepted ≤ seat.seen)

@@ -150,7 +150,8 @@ impl Operator {
 }
 
 /// Does what a line asks for. A serial is answered only if the mark was seen to have reached it. `stopped` and `Fault`
-/// are answered only if the flusher was seen to have stopped and the mark was read after that.
+/// are answered only if the flusher was seen to have stopped and the mark was read after that, and `stopped` only if
+/// that mark reached the number of accepted changes.
 fn answer<R: Wait, K: Kern>(
     service: &Service<'_, R, K>,
     seat: &mut Seat,
@@ -212,8 +213,9 @@ fn stop<R: Wait, K: Kern>(service: &Service<'_, R, K>, seat: &mut Seat) -> Answe
     } = service;
     bells.ask_to_stop();
     let durable = wait_for_stop(*rt, *mark, seat, *bells);
-    if bells.has_stopped() && kern.counts(*rt).accepted <= durable {
-        Ok(Told::Stopped)
+    let accepted = kern.counts(*rt).accepted;
+    if bells.has_stopped() && accepted <= durable {
+        Ok(Told::Stopped { accepted })
     } else {
         Err(Refused::Fault)
     }

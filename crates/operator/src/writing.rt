@@ -60,8 +60,8 @@ pub(crate) enum Told {
     /// The serial of a change that is durable.
     Serial(u64),
     Status(Status),
-    /// The flusher has stopped as it was asked to.
-    Stopped,
+    /// The flusher has stopped as it was asked to, and all changes are durable: so many were accepted.
+    Stopped { accepted: u64 },
 }
 
 impl Display for Told {
@@ -69,7 +69,7 @@ impl Display for Told {
         match self {
             Told::Serial(serial) => write!(f, "{serial}"),
             Told::Status(status) => write!(f, "{status}"),
-            Told::Stopped => f.write_str("stopped"),
+            Told::Stopped { accepted: _ } => f.write_str("stopped"),
         }
     }
 }

@@ -45,7 +45,7 @@ pub enum ServeError {
     /// The device failed.
     #[error("E1 Fault")]
     Fault,
-    /// Memory was refused before the start.
+    /// Memory, a thread or a descriptor was refused before the start.
     #[error("E2 Memory")]
     Memory,
     /// The journal or the kernel was halted before.

@@ -66,6 +66,7 @@ pub fn serve<
         gate,
         limits,
     } = server;
+    let doors = Doors::new(alloc, listeners, networks).ok_or(ServeError::Memory)?;
     let Parts {
         batch,
         writers,
@@ -73,7 +74,6 @@ pub fn serve<
         caller,
         acceptors,
     } = Parts::make(rt, alloc, listeners.len(), lines, answers)?;
-    let doors = Doors::new(listeners, networks);
     let shared = Shared {
         rt,
         alloc,
@@ -240,7 +240,7 @@ fn run<
             if matches!(outcome, Err(ServeError::Fault | ServeError::Halted)) {
                 wait_for_caller_or_stop(hall);
             }
-            hall.doors.shut(*rt, None);
+            hall.doors.shut();
             for acceptor in acceptors {
                 acceptor.join(*rt);
             }
@@ -287,14 +287,13 @@ fn start_accepting<
     caller: Sender<Call>,
     acceptors: &mut Vec<JoinHandle<()>>,
 ) -> bool {
-    for (place, listener) in hall.doors.listeners.iter().enumerate() {
+    for listener in hall.doors.listeners {
         let Ok(calls) = caller.clone() else {
             return false;
         };
         let acceptor = Acceptor {
             shared: hall.shared,
             doors: hall.doors,
-            place,
             log: hall.log,
             calls,
         };
@@ -374,6 +373,7 @@ fn flush<R: Wait + Clock, D: Disk + Drop, K: Kern, G: Gate>(
         ..
     } = hall.shared;
     let watching = Watching::new(hall.shared, hall.log, flusher.tally, facts);
+    watching.look();
     let ringing = Ringing {
         bells: *bells,
         gate: &watching,

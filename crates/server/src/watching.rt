@@ -1,5 +1,8 @@
 //! Tells the log when a volume is nearly full.
 
+ghost use Rattle.std.specs.Prelude.{◌≤◌, ◌<◌, ◌*◌, ◌+◌, ◌⊎◌, ◌↔◌, IsTrue};
+ghost use Rattle.model.specs.Room.{blocks_asked};
+
 use flusher::{Gate, Kern, Tally, VolumeFacts};
 use logging::{Event, Log, Part};
 use releasing::Shared;
@@ -7,8 +10,11 @@ use std::sync::Wait;
 use std::sync::atomic::{AtomicBool, Ordering};
 use std::time::Clock;
 
-/// A gate that looks at a volume after each batch, and then calls the other gate. Once nine tenths of the blocks are
-/// used, and once nine tenths of the inodes are, it tells the log.
+/// A change is refused as `E6 Full` where fewer blocks are free.
+const BLOCKS_ASKED: u64 = 256;
+
+/// A gate that looks at a volume after each batch, and then calls the other gate. It tells the log once when the blocks
+/// are nearly used up, and once when nine tenths of the inodes are used.
 pub(crate) struct Watching<'a, R, K, G> {
     shared: &'a Shared<'a, R, K, G>,
     log: &'a Log,
@@ -50,8 +56,9 @@ impl<'a, R: Wait + Clock, K: Kern, G> Watching<'a, R, K, G> {
         }
     }
 
-    /// Looks at what is used as of the last batch.
-    fn look(&self) {
+    /// Looks at what is used as of the last batch. It is also called before the first one, since a volume may be nearly
+    /// full when it is opened.
+    pub(crate) fn look(&self) {
         let Shared { rt, kern, .. } = self.shared;
         let counts = kern.counts(*rt);
         let blocks = Part {
@@ -62,16 +69,23 @@ impl<'a, R: Wait + Clock, K: Kern, G> Watching<'a, R, K, G> {
             used: counts.inodes,
             all: self.facts.inodes,
         };
-        let is_new = becomes_full(blocks, &self.has_told_blocks);
-        if becomes_full(inodes, &self.has_told_inodes) || is_new {
+        let is_new = is_first(has_few_left(blocks), &self.has_told_blocks);
+        if is_first(inodes.is_nearly_full(), &self.has_told_inodes) || is_new {
             self.log.note(*rt, Event::Full { blocks, inodes });
         }
     }
 }
 
-/// Whether something is nearly full, the first time that it is.
-fn becomes_full(part: Part, has_told: &AtomicBool) -> bool {
-    part.is_nearly_full() && !has_told.swap(true, Ordering::SeqCst)
+/// Whether nine tenths of these blocks are used, or fewer are left than a change asks for.
+fn has_few_left(blocks: Part) -> bool
+    ensures { IsTrue result ↔ ((9 * blocks.all ≤ 10 * blocks.used) ⊎ (blocks.all < blocks.used + blocks_asked)) }
+{
+    blocks.is_nearly_full() || blocks.all.saturating_sub(blocks.used) < BLOCKS_ASKED
+}
+
+/// Whether it is so, the first time that it is.
+fn is_first(is_so: bool, has_told: &AtomicBool) -> bool {
+    is_so && !has_told.swap(true, Ordering::SeqCst)
 }
 
 impl<'a, R: Wait + Clock, K: Kern, G: Gate> Gate for Watching<'a, R, K, G> {
