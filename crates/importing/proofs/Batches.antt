@@ -15,7 +15,8 @@ use Rattle.importing.proofs.Carried.{stands}
 
 -- ---- the blocks after it, said otherwise
 
-pub carries_as : {D : Type 0} (device : D → Device) (old : JournalView D) (after other : List Octets) (new : JournalView D) → (IsTrue (device old.disk).tells → after ≡ other) → Carries device old after new → Carries device old other new
+pub carries_as : {D : Type 0} (device : D → Device) (old : JournalView D) (after other : List Octets) (new : JournalView D)
+    → (IsTrue (device old.disk).tells → after ≡ other) → Carries device old after new → Carries device old other new
 carries_as device old after other new same c = record {
   ready = c.ready;
   tells = c.tells;
@@ -24,7 +25,8 @@ carries_as device old after other new same c = record {
   leaves = λ t image left. subst (λ (bs : List Octets). StandsFor image old.label bs) (same t) (c.leaves t image left);
 }
 
-pub leaves_as : {D : Type 0} (device : D → Device) (old : JournalView D) (after other : List Octets) (new : JournalView D) → (IsTrue (device old.disk).tells → after ≡ other) → LeavesOneOf device old after new → LeavesOneOf device old other new
+pub leaves_as : {D : Type 0} (device : D → Device) (old : JournalView D) (after other : List Octets) (new : JournalView D)
+    → (IsTrue (device old.disk).tells → after ≡ other) → LeavesOneOf device old after new → LeavesOneOf device old other new
 leaves_as device old after other new same since t time image before left =
     ⊎_elim
     (λ (was : (device old.disk).left_since time image). inl was)
@@ -36,7 +38,9 @@ leaves_as device old after other new same since t time image before left =
 
 -- ---- from the moment before it began
 
-module _ {D : Type 0} (device : D → Device) (old begun : JournalView D) (batch : BatchView) (new : JournalView D) (disk : begun.disk ≡ old.disk) (label : begun.label ≡ old.label) (blocks : begun.blocks ≡ old.blocks) (numbers : begun.numbers ≡ batch.numbers) (images : begun.images ≡ blocks_from 0 (length batch.numbers) batch.images) where
+module _ {D : Type 0} (device : D → Device) (old begun : JournalView D) (batch : BatchView) (new : JournalView D)
+    (disk : begun.disk ≡ old.disk) (label : begun.label ≡ old.label) (blocks : begun.blocks ≡ old.blocks)
+    (numbers : begun.numbers ≡ batch.numbers) (images : begun.images ≡ blocks_from 0 (length batch.numbers) batch.images) where
   laid : with_batch begun ≡ after_batch old.blocks batch
   laid = λ i. laid_over (blocks i) (numbers i) (images i)
 
@@ -49,7 +53,8 @@ module _ {D : Type 0} (device : D → Device) (old begun : JournalView D) (batch
     tells = c.tells ∙ ap (λ (d : D). (device d).tells) disk;
     failures = c.failures ∙ ap (λ (d : D). (device d).failures) disk;
     blocks = λ t. c.blocks (tells t) ∙ laid;
-    leaves = λ t image left. subst (λ (s : Octets × List Octets). StandsFor image s.0 s.1) (λ i. (label i, laid i)) (c.leaves (tells t) image left);
+    leaves = λ t image left. subst (λ (s : Octets × List Octets). StandsFor image s.0 s.1) (λ i. (label i, laid i))
+        (c.leaves (tells t) image left);
   }
 
   pub leaves_from : LeavesOneOf device begun (with_batch begun) new → LeavesOneOf device old (after_batch old.blocks batch) new
@@ -57,8 +62,10 @@ module _ {D : Type 0} (device : D → Device) (old begun : JournalView D) (batch
       ⊎_elim
       (λ (was : (device begun.disk).left_since time image). inl (subst (λ (d : D). (device d).left_since time image) disk was))
       (λ (one : StandsFor image begun.label begun.blocks ⊎ StandsFor image begun.label (with_batch begun)). inr (⊎_elim
-      (λ (first : StandsFor image begun.label begun.blocks). inl (subst (λ (s : Octets × List Octets). StandsFor image s.0 s.1) (λ i. (label i, blocks i)) first))
-      (λ (both : StandsFor image begun.label (with_batch begun)). inr (subst (λ (s : Octets × List Octets). StandsFor image s.0 s.1) (λ i. (label i, laid i)) both))
+      (λ (first : StandsFor image begun.label begun.blocks).
+      inl (subst (λ (s : Octets × List Octets). StandsFor image s.0 s.1) (λ i. (label i, blocks i)) first))
+      (λ (both : StandsFor image begun.label (with_batch begun)).
+      inr (subst (λ (s : Octets × List Octets). StandsFor image s.0 s.1) (λ i. (label i, laid i)) both))
       one))
       (since (tells t) time image (subst (λ (d : D). time ≤ (device d).clock) (sym disk) before) left)
 
@@ -70,22 +77,27 @@ module _ {D : Type 0} (device : D → Device) (old begun : JournalView D) (batch
 module _ {D : Type 0} (device : D → Device) (journal : JournalView D) (batch : BatchView) (none : batch.numbers ≡ []) where
   pub nothing_carried : IsReady journal → LeavesAdmitted device journal → Carries device journal (after_batch journal.blocks batch) journal
   nothing_carried ready admitted =
-      let same : after_batch journal.blocks batch ≡ journal.blocks = ap (λ (ns : List ℕ). laid_over journal.blocks ns (blocks_from 0 (length ns) batch.images)) none in
+      let same : after_batch journal.blocks batch ≡ journal.blocks =
+      ap (λ (ns : List ℕ). laid_over journal.blocks ns (blocks_from 0 (length ns) batch.images)) none in
       record {
         ready = ready;
         tells = refl;
         failures = refl;
         blocks = λ t. sym same;
-        leaves = λ t image left. subst (λ (bs : List Octets). StandsFor image journal.label bs) (sym same) (stands journal image ready.1 (admitted t image left));
+        leaves = λ t image left. subst (λ (bs : List Octets). StandsFor image journal.label bs) (sym same)
+            (stands journal image ready.1 (admitted t image left));
       }
 
-pub nothing_since : {D : Type 0} (device : D → Device) (journal : JournalView D) (after : List Octets) → LeavesOneOf device journal after journal
+pub nothing_since : {D : Type 0} (device : D → Device) (journal : JournalView D) (after : List Octets)
+    → LeavesOneOf device journal after journal
 nothing_since device journal after t time image before left = inl left
 
 -- ---- its octets
 
-pub images_whole : (s : SpoolView) (images : List ℕ) → IsSpool s → All (λ n. n < length s.blocks) s.dirty → images ≡ flat_map (λ n. slice_index_or s.blocks n []) s.dirty → length images ≡ 4096 * length s.dirty
+pub images_whole : (s : SpoolView) (images : List ℕ) → IsSpool s → All (λ n. n < length s.blocks) s.dirty
+    → images ≡ flat_map (λ n. slice_index_or s.blocks n []) s.dirty → length images ≡ 4096 * length s.dirty
 images_whole s images sound below is =
     let whole : All (λ n. length (slice_index_or s.blocks n []) ≡ 4096) s.dirty =
-    All-weaker (λ n. n < length s.blocks) (λ n. length (slice_index_or s.blocks n []) ≡ 4096) (λ n low. All-get_or (λ octets. length octets ≡ 4096) s.blocks n [] low sound.room.blocks_whole) s.dirty below in
+    All-weaker (λ n. n < length s.blocks) (λ n. length (slice_index_or s.blocks n []) ≡ 4096)
+    (λ n low. All-get_or (λ octets. length octets ≡ 4096) s.blocks n [] low sound.room.blocks_whole) s.dirty below in
     ap length is ∙ (blocks_from-flat_map (λ n. slice_index_or s.blocks n []) s.dirty whole).0

@@ -1,5 +1,6 @@
 -- The calls of a batch, and what a crash between leaves.
-use Rattle.std.proofs.Common.{◌≡◌, ◌≢◌, ◌⊎◌, inl, inr, ⊎_elim, ◌≤◌, ℕ, ◌+◌, Bool, true, false, if◌then◌else◌, IsTrue, List, length, refl, sym, ◌∙◌, ap, subst, arith, Ok, Err, Result, IfErr}
+use Rattle.std.proofs.Common.{◌≡◌, ◌≢◌, ◌⊎◌, inl, inr, ⊎_elim, ◌≤◌, ℕ, ◌+◌, Bool, true, false, if◌then◌else◌, IsTrue, List, length, refl}
+use Rattle.std.proofs.Common.{sym, ◌∙◌, ap, subst, arith, Ok, Err, Result, IfErr}
 use Rattle.std.proofs.lemmas.Bool.{true≢false}
 use Rattle.disk.specs.Device.{Device}
 use Rattle.journal.specs.Calls.{IsRetried, MakesCall, OnMade, OnRetried}
@@ -30,14 +31,22 @@ IsEither old now = (now.blocks ≡ old.blocks) ⊎ ((now.blocks ≡ with_batch o
 same_laid : {D : Type 0} (old now : JournalView D) → IsSameBatch old now → now.blocks ≡ old.blocks → with_batch now ≡ with_batch old
 same_laid old now same blocks = λ i. laid_over (blocks i) (same.numbers i) (same.images i)
 
-pub one_of : {D : Type 0} (old now : JournalView D) (image : List ℕ) → IsSameBatch old now → IsEither old now → Admits now image → IsOneOf old image
-one_of old now image same (inl before) (inl stands) = inl (subst (λ (l : List ℕ). StandsFor image l old.blocks) same.label (subst (λ (bs : List (List ℕ)). StandsFor image now.label bs) before stands))
-one_of old now image same (inl before) (inr commits) = inr (subst (λ (l : List ℕ). StandsFor image l (with_batch old)) same.label (subst (λ (bs : List (List ℕ)). StandsFor image now.label bs) (same_laid old now same before) commits.1))
-one_of old now image same (inr after) (inl stands) = inr (subst (λ (l : List ℕ). StandsFor image l (with_batch old)) same.label (subst (λ (bs : List (List ℕ)). StandsFor image now.label bs) after.0 stands))
+pub one_of : {D : Type 0} (old now : JournalView D) (image : List ℕ) → IsSameBatch old now → IsEither old now → Admits now image
+    → IsOneOf old image
+one_of old now image same (inl before) (inl stands) =
+    inl (subst (λ (l : List ℕ). StandsFor image l old.blocks) same.label
+    (subst (λ (bs : List (List ℕ)). StandsFor image now.label bs) before stands))
+one_of old now image same (inl before) (inr commits) =
+    inr (subst (λ (l : List ℕ). StandsFor image l (with_batch old)) same.label
+    (subst (λ (bs : List (List ℕ)). StandsFor image now.label bs) (same_laid old now same before) commits.1))
+one_of old now image same (inr after) (inl stands) =
+    inr (subst (λ (l : List ℕ). StandsFor image l (with_batch old)) same.label
+    (subst (λ (bs : List (List ℕ)). StandsFor image now.label bs) after.0 stands))
 one_of old now image same (inr after) (inr commits) = absurd (after.1 commits.0)
 
 -- which of the two they are is told by the next call
-by_next : {D : Type 0} (old now : JournalView D) (next : Next) → now.next ≡ next → now.blocks ≡ (if is_to_commit next then old.blocks else with_batch old) → IsEither old now
+by_next : {D : Type 0} (old now : JournalView D) (next : Next) → now.next ≡ next
+    → now.blocks ≡ (if is_to_commit next then old.blocks else with_batch old) → IsEither old now
 by_next old now Idle is blocks = inr (blocks, λ e. let both : Idle ≡ Commit = sym is ∙ e in cc)
 by_next old now Descriptor is blocks = inl blocks
 by_next old now (Image i) is blocks = inl blocks
@@ -68,7 +77,8 @@ pub record IsCarrying {D : Type 0} (device : D → Device) (old now : JournalVie
   pub way : IsOnTheWay device old now
   pub since : LeavesOneOf device old (with_batch old) now
 
-pub begins : {D : Type 0} (device : D → Device) (journal : JournalView D) → IsOnTheWay device journal journal → IsCarrying device journal journal
+pub begins : {D : Type 0} (device : D → Device) (journal : JournalView D) → IsOnTheWay device journal journal
+    → IsCarrying device journal journal
 begins device journal way = record { way = way; since = λ t time image before left. inl left }
 
 module _ {D : Type 0} (device : D → Device) (old now new : JournalView D) (so_far : IsCarrying device old now) where
@@ -76,14 +86,16 @@ module _ {D : Type 0} (device : D → Device) (old now new : JournalView D) (so_
   tells t = subst (λ (b : Bool). IsTrue b) (sym so_far.way.time.tells) t
 
   -- one call more, whatever it answered
-  since_then : IsSameBatch old new → (IsTrue (device old.disk).tells → IsEither old new) → LeftAdmitted device now new → LeavesOneOf device old (with_batch old) new
+  since_then : IsSameBatch old new → (IsTrue (device old.disk).tells → IsEither old new) → LeftAdmitted device now new
+      → LeavesOneOf device old (with_batch old) new
   since_then same either more t time image before left =
       ⊎_elim
       (λ (was : (device now.disk).left_since time image). so_far.since t time image before was)
       (λ (admits : Admits new image). inr (one_of old new image same (either t) admits))
       (more (tells t) time image (omega (arith, before, so_far.way.time.later)) left)
 
-  pub goes_on : (flies : now.next ≢ Idle) (p : Progress) → MakesCall device now new (Ok p) → LeftAdmitted device now new → IsCarrying device old new
+  pub goes_on : (flies : now.next ≢ Idle) (p : Progress) → MakesCall device now new (Ok p) → LeftAdmitted device now new
+      → IsCarrying device old new
   goes_on flies p call more =
       let way = one_more device old now new so_far.way flies p call in
       record { way = way; since = since_then way.same (λ t. by_next old new new.next refl (way.blocks t)) more }
@@ -96,7 +108,8 @@ module _ {D : Type 0} (device : D → Device) (old now new : JournalView D) (so_
     blocks : new.blocks ≡ now.blocks
     blocks = call.blocks (tells t)
 
-    go : (b : Bool) → is_to_commit now.next ≡ b → now.blocks ≡ (if is_to_commit now.next then old.blocks else with_batch old) → IsEither old new
+    go : (b : Bool) → is_to_commit now.next ≡ b → now.blocks ≡ (if is_to_commit now.next then old.blocks else with_batch old)
+        → IsEither old new
     go true is here = inl (blocks ∙ here ∙ ap (λ (b : Bool). if b then old.blocks else with_batch old) is)
     go false is here = inr (
       blocks ∙ here ∙ ap (λ (b : Bool). if b then old.blocks else with_batch old) is,
@@ -105,33 +118,47 @@ module _ {D : Type 0} (device : D → Device) (old now new : JournalView D) (so_
 
   retried : IsRetried device now new → IsTrue (device old.disk).tells → IsEither old new
   retried call t = by_next old new new.next refl
-      (call.blocks (tells t) ∙ so_far.way.blocks t ∙ ap (λ (n : Next). if is_to_commit n then old.blocks else with_batch old) (sym call.next))
+      (call.blocks (tells t) ∙ so_far.way.blocks t
+      ∙ ap (λ (n : Next). if is_to_commit n then old.blocks else with_batch old) (sym call.next))
 
   -- a call that the device refused
-  pub refused : (flies : now.next ≢ Idle) (error : JournalError) → OnMade {T = Progress} (Err error) (MakesCall device now new (Err error)) → OnRetried {T = Progress} (Err error) (IsRetried device now new) → (error ≡ Fault) ⊎ (error ≡ Memory) → LeftAdmitted device now new → LeavesOneOf device old (with_batch old) new
+  pub refused : (flies : now.next ≢ Idle) (error : JournalError)
+      → OnMade {T = Progress} (Err error) (MakesCall device now new (Err error))
+      → OnRetried {T = Progress} (Err error) (IsRetried device now new) → (error ≡ Fault) ⊎ (error ≡ Memory)
+      → LeftAdmitted device now new → LeavesOneOf device old (with_batch old) new
   refused flies error made again (inl is) more =
-      let call : MakesCall {D = D} device now new (Err Fault) = subst (λ (e : JournalError). MakesCall {D = D} device now new (Err e)) is (made is) in
+      let call : MakesCall {D = D} device now new (Err Fault) =
+      subst (λ (e : JournalError). MakesCall {D = D} device now new (Err e)) is (made is) in
       since_then (same_then old now new so_far.way.same call.same) (at_a_fault flies call) more
-  refused flies error made again (inr is) more = since_then (same_then old now new so_far.way.same (again is).same) (retried (again is)) more
+  refused flies error made again (inr is) more =
+      since_then (same_then old now new so_far.way.same (again is).same) (retried (again is)) more
 
   -- it leaves a journal that can begin no batch, of the same volume
-  pub stops : (flies : now.next ≢ Idle) (error : JournalError) → OnMade {T = Progress} (Err error) (MakesCall device now new (Err error)) → OnRetried {T = Progress} (Err error) (IsRetried device now new) → (error ≡ Fault) ⊎ (error ≡ Memory) → IsReady new → ⊥
+  pub stops : (flies : now.next ≢ Idle) (error : JournalError)
+      → OnMade {T = Progress} (Err error) (MakesCall device now new (Err error))
+      → OnRetried {T = Progress} (Err error) (IsRetried device now new) → (error ≡ Fault) ⊎ (error ≡ Memory) → IsReady new → ⊥
   stops flies error made again (inl is) ready = true≢false (sym ((made is).halts is).0 ∙ ready.0)
   stops flies error made again (inr is) ready = flies (sym (again is).next ∙ ready.1)
 
-  pub same_volume : (error : JournalError) → OnMade {T = Progress} (Err error) (MakesCall device now new (Err error)) → OnRetried {T = Progress} (Err error) (IsRetried device now new) → (error ≡ Fault) ⊎ (error ≡ Memory) → IsSameVolume old new
-  same_volume error made again (inl is) = record { label = (made is).same.label ∙ so_far.way.same.label; size = (made is).same.size ∙ so_far.way.same.size }
-  same_volume error made again (inr is) = record { label = (again is).same.label ∙ so_far.way.same.label; size = (again is).same.size ∙ so_far.way.same.size }
+  pub same_volume : (error : JournalError) → OnMade {T = Progress} (Err error) (MakesCall device now new (Err error))
+      → OnRetried {T = Progress} (Err error) (IsRetried device now new) → (error ≡ Fault) ⊎ (error ≡ Memory) → IsSameVolume old new
+  same_volume error made again (inl is) =
+      record { label = (made is).same.label ∙ so_far.way.same.label; size = (made is).same.size ∙ so_far.way.same.size }
+  same_volume error made again (inr is) =
+      record { label = (again is).same.label ∙ so_far.way.same.label; size = (again is).same.size ∙ so_far.way.same.size }
 
 -- ---- at the end
 
-pub stands : {D : Type 0} (journal : JournalView D) (image : List ℕ) → journal.next ≡ Idle → Admits journal image → StandsFor image journal.label journal.blocks
+pub stands : {D : Type 0} (journal : JournalView D) (image : List ℕ) → journal.next ≡ Idle → Admits journal image
+    → StandsFor image journal.label journal.blocks
 stands journal image idle (inl is) = is
 stands journal image idle (inr commits) = absurd (let both : Idle ≡ Commit = sym idle ∙ commits.0 in cc)
 
-pub carries : {D : Type 0} (device : D → Device) (old now : JournalView D) → IsCarrying device old now → IsReady now → LeavesAdmitted device now → Carries device old (with_batch old) now
+pub carries : {D : Type 0} (device : D → Device) (old now : JournalView D) → IsCarrying device old now → IsReady now
+    → LeavesAdmitted device now → Carries device old (with_batch old) now
 carries device old now so_far ready admitted =
-    let blocks : IsTrue (device old.disk).tells → now.blocks ≡ with_batch old = λ t. so_far.way.blocks t ∙ ap (λ (g : Next). if is_to_commit g then old.blocks else with_batch old) ready.1 in
+    let blocks : IsTrue (device old.disk).tells → now.blocks ≡ with_batch old =
+    λ t. so_far.way.blocks t ∙ ap (λ (g : Next). if is_to_commit g then old.blocks else with_batch old) ready.1 in
     record {
       ready = ready;
       tells = so_far.way.time.tells;

@@ -14,7 +14,8 @@ use Rattle.importing.specs.Opening.{IsLoaded, IsOpened}
 use Rattle.importing.specs.Saved.{IsSaved, IsTied, StoreView}
 use Rattle.importing.proofs.Carried.{stands}
 
-module _ {D : Type 0} (device : D → Device) (one two : JournalView D) (spool : SpoolView) (loaded : IsLoaded device one spool) (reads : OnlyReads device one two) where
+module _ {D : Type 0} (device : D → Device) (one two : JournalView D) (spool : SpoolView) (loaded : IsLoaded device one spool)
+    (reads : OnlyReads device one two) where
   tells_one : IsTrue (device two.disk).tells → IsTrue (device one.disk).tells
   tells_one t = subst IsTrue reads.time.tells t
 
@@ -22,7 +23,8 @@ module _ {D : Type 0} (device : D → Device) (one two : JournalView D) (spool :
   blocks_two t = reads.blocks (tells_one t) ∙ sym (loaded.blocks (tells_one t))
 
   labelled_two : IsLabel two.label two.size spool.inodes spool.host
-  labelled_two = subst (λ (t : Octets × ℕ). IsLabel t.0 t.1 spool.inodes spool.host) (λ i. (sym reads.same.label i, sym reads.same.size i)) loaded.labelled
+  labelled_two = subst (λ (t : Octets × ℕ). IsLabel t.0 t.1 spool.inodes spool.host)
+      (λ i. (sym reads.same.label i, sym reads.same.size i)) loaded.labelled
 
   pub tied_opened : IsTied device two spool (length spool.changes)
   tied_opened = record {
@@ -31,13 +33,16 @@ module _ {D : Type 0} (device : D → Device) (one two : JournalView D) (spool :
     size = loaded.size ∙ sym reads.same.size;
     durable_within = omega arith;
     behind = λ ready t. record {
-      agrees = record { count = ap length (blocks_two t); same = λ k none. ap (λ (bs : List Octets). slice_index_or bs k []) (blocks_two t) };
-      holds = subst (λ (bs : List Octets). Holds spool.host spool.inodes bs (take (length spool.changes) spool.changes)) (sym (blocks_two t))
+      agrees =
+          record { count = ap length (blocks_two t); same = λ k none. ap (λ (bs : List Octets). slice_index_or bs k []) (blocks_two t) };
+      holds =
+          subst (λ (bs : List Octets). Holds spool.host spool.inodes bs (take (length spool.changes) spool.changes)) (sym (blocks_two t))
           (subst (Holds spool.host spool.inodes spool.blocks) (sym (take-length spool.changes)) loaded.holds);
     };
   }
 
-  saved_opened : IsReady two → LeavesAdmitted device two → IsSaved device (record { journal = two; spool = spool; durable = length spool.changes })
+  saved_opened : IsReady two → LeavesAdmitted device two
+      → IsSaved device (record { journal = two; spool = spool; durable = length spool.changes })
   saved_opened ready admitted = record {
     ready = ready;
     all = refl;
@@ -52,14 +57,17 @@ module _ {D : Type 0} (device : D → Device) (one two : JournalView D) (spool :
     };
   }
 
-  pub opened : (first : D) → Opens device first one → IsReady two → LeavesAdmitted device two → (device two.disk).failures ≡ (device one.disk).failures → IsOpened device first (record { journal = two; spool = spool; durable = length spool.changes })
+  pub opened : (first : D) → Opens device first one → IsReady two → LeavesAdmitted device two
+      → (device two.disk).failures ≡ (device one.disk).failures
+      → IsOpened device first (record { journal = two; spool = spool; durable = length spool.changes })
   opened first opens ready admitted failures = record {
     saved = saved_opened ready admitted;
     stands = λ t. record {
       label = one.label;
       inodes = spool.inodes;
       blocks = spool.blocks;
-      volume = subst (λ (bs : List Octets). StandsFor (device first).content one.label bs) (sym (loaded.blocks (subst IsTrue (sym opens.time.tells) t))) (opens.stands t);
+      volume = subst (λ (bs : List Octets). StandsFor (device first).content one.label bs)
+          (sym (loaded.blocks (subst IsTrue (sym opens.time.tells) t))) (opens.stands t);
       labelled = subst (λ (n : ℕ). IsLabel one.label n spool.inodes spool.host) (sym loaded.size) loaded.labelled;
       held = loaded.holds;
     };

@@ -1,5 +1,6 @@
 -- What a store keeps while texts are filed and batches are written.
-use Rattle.std.proofs.Common.{◌≡◌, ◌⊎◌, inl, inr, ⊎_elim, ◌≤◌, ℕ, ◌+◌, Bool, true, false, IsTrue, List, [], ◌∷◌, length, refl, sym, ◌∙◌, ap, subst, arith}
+use Rattle.std.proofs.Common.{◌≡◌, ◌⊎◌, inl, inr, ⊎_elim, ◌≤◌, ℕ, ◌+◌, Bool, true, false, IsTrue, List, [], ◌∷◌, length, refl, sym, ◌∙◌, ap}
+use Rattle.std.proofs.Common.{subst, arith}
 use Rattle.std.specs.Prelude.{◌++◌, bytes_eq, slice_index_or, take, Result, Ok, Err, IfOk, OnErr}
 use Rattle.std.specs.List.{Contains}
 use Rattle.std.proofs.Math.Seq.{take-length}
@@ -24,27 +25,36 @@ use Rattle.importing.specs.declared.outcome.Refused.TheVariants.{NotAnArticle, O
 -- ---- a text is filed
 
 -- blocks that agree outside the dirty ones before a change agree outside those after it
-agrees_on : (base old new : List Octets) (before after : List ℕ) → Dirties old new before after → AgreeOutside before base old → AgreeOutside after base new
+agrees_on : (base old new : List Octets) (before after : List ℕ) → Dirties old new before after → AgreeOutside before base old
+    → AgreeOutside after base new
 agrees_on base old new before after changed agrees = record { count = agrees.count ∙ sym changed.size; same = same } where
-  by_test : (k : ℕ) → ¬ (Contains after k) → (b : Bool) → bytes_eq (slice_index_or old k []) (slice_index_or new k []) ≡ b → slice_index_or old k [] ≡ slice_index_or new k []
+  by_test : (k : ℕ) → ¬ (Contains after k) → (b : Bool) → bytes_eq (slice_index_or old k []) (slice_index_or new k []) ≡ b
+      → slice_index_or old k [] ≡ slice_index_or new k []
   by_test k none true is = (bytes_eq-Decides (slice_index_or old k []) (slice_index_or new k [])).0 is
-  by_test k none false is = absurd (none ((changed.exactly k).1 (inr (λ same. true≢false (sym ((bytes_eq-Decides (slice_index_or old k []) (slice_index_or new k [])).1 same) ∙ is)))))
+  by_test k none false is =
+      absurd (none ((changed.exactly k).1
+      (inr (λ same. true≢false (sym ((bytes_eq-Decides (slice_index_or old k []) (slice_index_or new k [])).1 same) ∙ is)))))
 
   same : (k : ℕ) → ¬ (Contains after k) → slice_index_or base k [] ≡ slice_index_or new k []
-  same k none = agrees.same k (λ was. none ((changed.exactly k).1 (inl was))) ∙ by_test k none (bytes_eq (slice_index_or old k []) (slice_index_or new k [])) refl
+  same k none = agrees.same k (λ was. none ((changed.exactly k).1 (inl was)))
+      ∙ by_test k none (bytes_eq (slice_index_or old k []) (slice_index_or new k [])) refl
 
-module _ {D : Type 0} (device : D → Device) (journal : JournalView D) (old new : SpoolView) (durable : ℕ) (tied : IsTied device journal old durable) (room : length old.dirty ≤ 256) where
+module _ {D : Type 0} (device : D → Device) (journal : JournalView D) (old new : SpoolView) (durable : ℕ)
+    (tied : IsTied device journal old durable) (room : length old.dirty ≤ 256) where
   adds : (c : Change) → Adds old new c → IsTied device journal new durable
   adds c added =
-      let more : take durable new.changes ≡ take durable old.changes = ap (take durable) added.changes ∙ take-append-le durable old.changes (c ∷ []) tied.durable_within in
+      let more : take durable new.changes ≡ take durable old.changes =
+      ap (take durable) added.changes ∙ take-append-le durable old.changes (c ∷ []) tied.durable_within in
       record {
         few = omega (arith, added.dirties.few, room);
-        labelled = subst (λ (t : ℕ × Octets). IsLabel journal.label journal.size t.0 t.1) (λ i. (sym added.inodes i, sym added.host i)) tied.labelled;
+        labelled = subst (λ (t : ℕ × Octets). IsLabel journal.label journal.size t.0 t.1)
+            (λ i. (sym added.inodes i, sym added.host i)) tied.labelled;
         size = added.dirties.size ∙ tied.size;
         durable_within = omega (arith, tied.durable_within, ap length added.changes, length-append old.changes (c ∷ []));
         behind = λ ready tells. let was = tied.behind ready tells in record {
           agrees = agrees_on journal.blocks old.blocks new.blocks old.dirty new.dirty added.dirties was.agrees;
-          holds = subst (λ (t : Octets × (ℕ × List Change)). Holds t.0 t.1.0 journal.blocks t.1.1) (λ i. (sym added.host i, (sym added.inodes i, sym more i))) was.holds;
+          holds = subst (λ (t : Octets × (ℕ × List Change)). Holds t.0 t.1.0 journal.blocks t.1.1)
+              (λ i. (sym added.host i, (sym added.inodes i, sym more i))) was.holds;
         };
       }
 
@@ -60,18 +70,21 @@ module _ {D : Type 0} (device : D → Device) (journal : JournalView D) (old new
   becomes text moment (Refused (NotAnArticle c)) is = stays is.1
 
   -- whatever is answered
-  pub files : {E : Type 0} (text : Octets) (moment : ℕ) (result : Result Outcome E) → IfOk result (λ outcome. Becomes old new text moment outcome) → OnErr result (new ≡ old) → IsTied device journal new durable
+  pub files : {E : Type 0} (text : Octets) (moment : ℕ) (result : Result Outcome E)
+      → IfOk result (λ outcome. Becomes old new text moment outcome) → OnErr result (new ≡ old) → IsTied device journal new durable
   files text moment (Ok outcome) ok err = becomes text moment outcome ok
   files text moment (Err error) ok err = stays err
 
 -- ---- a batch is written
 
-module _ {D : Type 0} (device : D → Device) (old new : JournalView D) (spool : SpoolView) (durable : ℕ) (tied : IsTied device old spool durable) (same : IsSameVolume old new) where
+module _ {D : Type 0} (device : D → Device) (old new : JournalView D) (spool : SpoolView) (durable : ℕ)
+    (tied : IsTied device old spool durable) (same : IsSameVolume old new) where
   abbrev clean : SpoolView
   clean = record spool { dirty = [] }
 
   labelled_now : IsLabel new.label new.size spool.inodes spool.host
-  labelled_now = subst (λ (t : Octets × ℕ). IsLabel t.0 t.1 spool.inodes spool.host) (λ i. (sym same.label i, sym same.size i)) tied.labelled
+  labelled_now =
+      subst (λ (t : Octets × ℕ). IsLabel t.0 t.1 spool.inodes spool.host) (λ i. (sym same.label i, sym same.size i)) tied.labelled
 
   -- it failed
   pub stopped : (IsReady new → ⊥) → IsTied device new clean durable
@@ -108,16 +121,19 @@ module _ {D : Type 0} (device : D → Device) (old new : JournalView D) (spool :
     held = sound.held;
   }
 
-  pub saved : Carries device old spool.blocks new → IsSpool spool → IsSaved device (record { journal = new; spool = clean; durable = length spool.changes })
+  pub saved : Carries device old spool.blocks new → IsSpool spool
+      → IsSaved device (record { journal = new; spool = clean; durable = length spool.changes })
   saved carried sound = record {
     ready = carried.ready;
     all = refl;
     clean = refl;
-    leaves = λ tells image left. let told = subst (λ (b : Bool). IsTrue b) carried.tells tells in all_stand sound image (carried.leaves told image left);
+    leaves = λ tells image left. let told = subst (λ (b : Bool). IsTrue b) carried.tells tells in
+        all_stand sound image (carried.leaves told image left);
   }
 
   -- before that a crash leaves the changes that were durable, or all
-  pub prefix : IsReady old → LeavesOneOf device old spool.blocks new → IsSpool spool → (after : StoreView D) → after.journal ≡ new → LeavesPrefix device (record { journal = old; spool = spool; durable = durable }) after
+  pub prefix : IsReady old → LeavesOneOf device old spool.blocks new → IsSpool spool → (after : StoreView D) → after.journal ≡ new
+      → LeavesPrefix device (record { journal = old; spool = spool; durable = durable }) after
   prefix ready since sound after is tells t image before left =
       let behind = tied.behind ready tells in
       let left_new = subst (λ (j : JournalView D). (device j.disk).left_since t image) is left in

@@ -1,12 +1,15 @@
 -- What becomes of a carried text, by its tests.
-use Rattle.std.proofs.Common.{◌≡◌, ◌⊎◌, inl, inr, ℕ, zero, suc, ◌<◌, arith, List, [], ◌∷◌, length, refl, sym, ◌∙◌, ap, subst, Bool, true, false}
-use Rattle.std.specs.Prelude.{◌==◌, ◌||◌, ◌++◌, find, filter, codes, if◌then◌else◌, Option, Some, None, option_map, option_and_then, unwrap_or, bytes_eq}
+use Rattle.std.proofs.Common.{◌≡◌, ◌⊎◌, inl, inr, ℕ, zero, suc, ◌<◌, arith, List, [], ◌∷◌, length, refl, sym, ◌∙◌, ap, subst, Bool, true}
+use Rattle.std.proofs.Common.{false}
+use Rattle.std.specs.Prelude.{◌==◌, ◌||◌, ◌++◌, find, filter, codes, if◌then◌else◌, Option, Some, None, option_map, option_and_then}
+use Rattle.std.specs.Prelude.{unwrap_or, bytes_eq}
 use Rattle.std.specs.List.{list_any}
 use Rattle.std.specs.Option.{option_or}
 use Rattle.std.proofs.lemmas.Bool.{true≢false}
 use Rattle.std.proofs.lemmas.Slice.Eq.{bytes_eq-Decides}
 use Rattle.model.specs.Answer.{accepted, groups_here, has_other_id, id_here, no_group_here, spool_outcome, transfer_outcome}
-use Rattle.model.specs.Article.{Carried, Cause, added_fields, cause, cause_but_long, field_count, fields, groups_of, id, id_in_field, is_blank_field, is_named, lacks_field, long_cause, needed_fields, own_id, written_fields}
+use Rattle.model.specs.Article.{Carried, Cause, added_fields, cause, cause_but_long, field_count, fields, groups_of, id, id_in_field}
+use Rattle.model.specs.Article.{is_blank_field, is_named, lacks_field, long_cause, needed_fields, own_id, written_fields}
 use Rattle.model.specs.Calendar.{moment_limit}
 use Rattle.model.specs.Lawful.{MayFile}
 use Rattle.model.specs.Names.{is_of_host}
@@ -39,13 +42,15 @@ unfolding cause
 has_id text carried none =
     let counts : Octets → Bool = λ name. field_count name text == 0 in
     let there = (no_cause Carried text (none_first (cause_but_long Carried text) (long_cause Carried text) carried)).there in
-    let needed = (or_false (list_any counts (needed_fields Carried)) (list_any (is_blank_field text) (written_fields ++ added_fields)) there).0 in
+    let needed =
+    (or_false (list_any counts (needed_fields Carried)) (list_any (is_blank_field text) (written_fields ++ added_fields)) there).0 in
     let after_from = (any_false counts (codes "From") (codes "Newsgroups" ∷ codes "Subject" ∷ added_fields) needed).1 in
     let after_groups = (any_false counts (codes "Newsgroups") (codes "Subject" ∷ added_fields) after_from).1 in
     let after_subject = (any_false counts (codes "Subject") added_fields after_groups).1 in
     let after_date = (any_false counts (codes "Date") (codes "Message-ID" ∷ codes "Path" ∷ []) after_subject).1 in
     let has = (any_false counts (codes "Message-ID") (codes "Path" ∷ []) after_date).0 in
-    let missing = field_counted (codes "Message-ID") text (none_mapped id_in_field (find (is_named (codes "Message-ID")) (fields text)) none) in
+    let missing =
+    field_counted (codes "Message-ID") text (none_mapped id_in_field (find (is_named (codes "Message-ID")) (fields text)) none) in
     true≢false (sym missing ∙ has)
 
 -- ---- the outcome of its transfer
@@ -64,29 +69,37 @@ same_own own text is =
     ap (λ (o : Option Octets). unwrap_or (option_map (λ other. if bytes_eq other own then false else true) o) true) is
     ∙ ap (λ (b : Bool). if b then false else true) ((bytes_eq-Decides own own).1 refl)
 
-pub by_spool : (S : Spool) (text own : Octets) → cause Carried text ≡ None → own_id text ≡ Some own → transfer_outcome S (id text) text ≡ spool_outcome (by_id S own) (groups_here S text) None
+pub by_spool : (S : Spool) (text own : Octets) → cause Carried text ≡ None → own_id text ≡ Some own
+    → transfer_outcome S (id text) text ≡ spool_outcome (by_id S own) (groups_here S text) None
 by_spool S text own carried is =
     ap (λ (i : Octets). transfer_outcome S i text) (own_is text own is)
     ∙ transfer_filed S own text carried (same_own own text is)
     ∙ ap (λ (o : Option Octets). spool_outcome (option_and_then (by_id S) o) (groups_here S text) None) is
 
-pub is_here_by : (S : Spool) (text own : Octets) (a : NewsArticle) → cause Carried text ≡ None → own_id text ≡ Some own → by_id S own ≡ Some a → transfer_outcome S (id text) text ≡ id_here a
-is_here_by S text own a carried is found = by_spool S text own carried is ∙ ap (λ (o : Option NewsArticle). spool_outcome o (groups_here S text) None) found
+pub is_here_by : (S : Spool) (text own : Octets) (a : NewsArticle) → cause Carried text ≡ None → own_id text ≡ Some own
+    → by_id S own ≡ Some a → transfer_outcome S (id text) text ≡ id_here a
+is_here_by S text own a carried is found =
+    by_spool S text own carried is ∙ ap (λ (o : Option NewsArticle). spool_outcome o (groups_here S text) None) found
 
-pub nowhere : (S : Spool) (text own : Octets) → cause Carried text ≡ None → own_id text ≡ Some own → by_id S own ≡ None → groups_here S text ≡ [] → transfer_outcome S (id text) text ≡ no_group_here
+pub nowhere : (S : Spool) (text own : Octets) → cause Carried text ≡ None → own_id text ≡ Some own → by_id S own ≡ None
+    → groups_here S text ≡ [] → transfer_outcome S (id text) text ≡ no_group_here
 nowhere S text own carried is new none =
-    by_spool S text own carried is ∙ ap (λ (o : Option NewsArticle). spool_outcome o (groups_here S text) None) new ∙ ap (λ (here : List Octets). spool_outcome None here None) none
+    by_spool S text own carried is ∙ ap (λ (o : Option NewsArticle). spool_outcome o (groups_here S text) None) new
+    ∙ ap (λ (here : List Octets). spool_outcome None here None) none
 
 some_groups : (here : List Octets) → 0 < length here → spool_outcome None here None ≡ accepted here
 some_groups [] some = absurd (omega arith)
 some_groups (g ∷ here) some = refl
 
-pub is_accepted : (S : Spool) (text own : Octets) (groups : List Octets) → cause Carried text ≡ None → own_id text ≡ Some own → by_id S own ≡ None → groups ≡ groups_here S text → 0 < length groups → transfer_outcome S (id text) text ≡ accepted groups
+pub is_accepted : (S : Spool) (text own : Octets) (groups : List Octets) → cause Carried text ≡ None → own_id text ≡ Some own
+    → by_id S own ≡ None → groups ≡ groups_here S text → 0 < length groups → transfer_outcome S (id text) text ≡ accepted groups
 is_accepted S text own groups carried is new are some =
     by_spool S text own carried is ∙ ap (λ (o : Option NewsArticle). spool_outcome o (groups_here S text) None) new
     ∙ ap (λ (here : List Octets). spool_outcome None here None) (sym are) ∙ some_groups groups some
 
-pub may_file : (host : Octets) (S : Spool) (text own : Octets) (groups : List Octets) (moment : ℕ) → cause Carried text ≡ None → own_id text ≡ Some own → is_of_host host own ≡ false → by_id S own ≡ None → groups ≡ groups_here S text → 0 < length groups → moment < moment_limit
+pub may_file : (host : Octets) (S : Spool) (text own : Octets) (groups : List Octets) (moment : ℕ) → cause Carried text ≡ None
+    → own_id text ≡ Some own → is_of_host host own ≡ false → by_id S own ≡ None → groups ≡ groups_here S text → 0 < length groups
+    → moment < moment_limit
     → MayFile host S text groups moment
 may_file host S text own groups moment carried is foreign new are some early =
     let same = own_is text own is in
@@ -109,7 +122,9 @@ pub has_room : (full : Bool) → (if full then Some file.Full else None) ≡ Non
 has_room true none = absurd (cc)
 has_room false none = refl
 
-pub lacks_room : (full : Bool) (e : FileError) → e ≡ file.Full → ((e ≡ file.Memory) × ((if full then Some file.Full else None) ≡ None)) ⊎ ((if full then Some file.Full else None) ≡ Some e) → full ≡ true
+pub lacks_room : (full : Bool) (e : FileError) → e ≡ file.Full
+    → ((e ≡ file.Memory) × ((if full then Some file.Full else None) ≡ None)) ⊎ ((if full then Some file.Full else None) ≡ Some e)
+    → full ≡ true
 lacks_room true e is either = refl
 lacks_room false e is (inl other) = absurd (let both : file.Full ≡ file.Memory = sym is ∙ other.0 in cc)
 lacks_room false e is (inr same) = absurd (cc)

@@ -28,9 +28,12 @@ IsOffered s text = is_of_host s.host (id text) ≡ false
 abbrev pub Becomes : SpoolView → SpoolView → Octets → ℕ → Outcome → Type 0
 Becomes old new text moment (Filed serial) =
     IsOffered old text × (serial ≡ length old.changes + 1)
-    × ((groups : List Octets) × (transferred old text ≡ answers.accepted groups) × (is_full_for old (Article text groups moment) ≡ false) × Adds old new (Article text groups moment))
+    × ((groups : List Octets) × (transferred old text ≡ answers.accepted groups)
+    × (is_full_for old (Article text groups moment) ≡ false) × Adds old new (Article text groups moment))
 Becomes old new text moment Full =
-    IsOffered old text × ((groups : List Octets) × (transferred old text ≡ answers.accepted groups) × (is_full_for old (Article text groups moment) ≡ true)) × (new ≡ old)
+    IsOffered old text
+    × ((groups : List Octets) × (transferred old text ≡ answers.accepted groups) × (is_full_for old (Article text groups moment) ≡ true))
+    × (new ≡ old)
 Becomes old new text moment Here = IsOffered old text × ((a : NewsArticle) × (transferred old text ≡ answers.id_here a)) × (new ≡ old)
 Becomes old new text moment NoGroup = IsOffered old text × (transferred old text ≡ answers.no_group_here) × (new ≡ old)
 Becomes old new text moment (Refused OwnId) = (cause Carried text ≡ None) × has_own_id old text × (new ≡ old)

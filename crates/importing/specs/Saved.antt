@@ -32,13 +32,15 @@ pub record IsSaved {D : Type 0} (device : D → Device) (store : StoreView D) : 
   pub ready : IsReady store.journal
   pub all : store.durable ≡ length store.spool.changes
   pub clean : store.spool.dirty ≡ []
-  pub leaves : IsTrue (device store.journal.disk).tells → (image : Octets) → (device store.journal.disk).may_leave image → Stands store.spool.host image store.spool.changes
+  pub leaves : IsTrue (device store.journal.disk).tells → (image : Octets) → (device store.journal.disk).may_leave image
+      → Stands store.spool.host image store.spool.changes
 
 -- a crash at a moment since the call began might have left what it might have left before, or an image that stands for
 -- the changes that were durable, or one that stands for all changes
 abbrev pub LeavesPrefix : {D : Type 0} → (D → Device) → StoreView D → StoreView D → Type 0
 LeavesPrefix device old new =
-    IsTrue (device old.journal.disk).tells → (t : ℕ) (image : Octets) → t ≤ (device old.journal.disk).clock → (device new.journal.disk).left_since t image
+    IsTrue (device old.journal.disk).tells → (t : ℕ) (image : Octets) → t ≤ (device old.journal.disk).clock
+    → (device new.journal.disk).left_since t image
     → (device old.journal.disk).left_since t image
     ⊎ (Stands old.spool.host image (take old.durable old.spool.changes) ⊎ Stands old.spool.host image old.spool.changes)
 

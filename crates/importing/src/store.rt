@@ -62,8 +62,10 @@ impl<D: Disk + Drop> Store<D> {
     /// `NotAVolume` (E3) and `Damaged` (E5) as for a server.
     pub fn open(alloc: Global, disk: D) -> Result<Store<D>, OpenError>
         ensures ok { IfOk result (IsOpened D.device disk) }
-        ensures no_volume { IfErr result (λ error. error ≡ OpenError.NotAVolume → IsTrue (D.device disk).tells → IsNoNewsVolume (D.device disk).content) }
-        ensures damaged { IfErr result (λ error. error ≡ OpenError.Damaged → IsTrue (D.device disk).tells → IsDamagedVolume (D.device disk).content) }
+        ensures no_volume { IfErr result
+            (λ error. error ≡ OpenError.NotAVolume → IsTrue (D.device disk).tells → IsNoNewsVolume (D.device disk).content) }
+        ensures damaged { IfErr result
+            (λ error. error ≡ OpenError.Damaged → IsTrue (D.device disk).tells → IsDamagedVolume (D.device disk).content) }
     {
         let Ok(batch) = BatchBuf::new(alloc) else {
             return Err(OpenError::Memory);
@@ -134,7 +136,8 @@ impl<D: Disk> Store<D> {
         ensures ok { OnOk result (IsSaved D.device self.new) }
         ensures spool { self.new.spool ≡ record self.old.spool { dirty = self.new.spool.dirty } }
         ensures prefix { LeavesPrefix D.device self.old self.new }
-        ensures fault { IfErr result (λ error. error ≡ JournalError.Fault → (D.device self.new.journal.disk).failures ≢ (D.device self.old.journal.disk).failures) }
+        ensures fault { IfErr result
+            (λ error. error ≡ JournalError.Fault → (D.device self.new.journal.disk).failures ≢ (D.device self.old.journal.disk).failures) }
         ensures halted { IfErr result (λ error. error ≡ JournalError.Halted → (IsReady self.old.journal → ⊥) × (self.new ≡ self.old)) }
         ensures refused { (IsReady self.old.journal → ⊥) → result ≡ Err JournalError.Halted }
     {

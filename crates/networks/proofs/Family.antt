@@ -4,7 +4,8 @@ use Rattle.std.proofs.lemmas.Bool.{false≢true, false_from_ne_true}
 use Rattle.std.proofs.lemmas.Slice.Eq.{bytes_eq-Decides}
 use Rattle.std.specs.declared.net.ip_addr.IpAddr.{IpAddr}
 use Rattle.std.specs.declared.net.ip_addr.IpAddr.TheVariants.{V4, V6}
-use Rattle.std.specs.Net.Addr.{ipv4_octets, ipv6_octets, ipv6_segments, is_ipv4, HasPrefix, MatchIp, IsCanonicalOf, IsLoopbackV4, IsLoopbackV6}
+use Rattle.std.specs.Net.Addr.{ipv4_octets, ipv6_octets, ipv6_segments, is_ipv4, HasPrefix, MatchIp, IsCanonicalOf, IsLoopbackV4}
+use Rattle.std.specs.Net.Addr.{IsLoopbackV6}
 use Rattle.networks.specs.Addresses.{octets_of_ip, caller_octets, is_ipv4_caller}
 use Rattle.networks.specs.Networks.{IsLoopback}
 

@@ -1,5 +1,6 @@
 -- The first bits of octets: those of whole octets, and the highest of the next.
-use Rattle.std.proofs.Common.{◌≡◌, ℕ, suc, zero, ◌+◌, ◌-◌, ◌*◌, ◌/◌, ◌%◌, ◌^◌, ◌<◌, ◌≤◌, List, [], ◌∷◌, ◌++◌, length, get_or, take, drop, min, refl, sym, ap, ◌∙◌, arith}
+use Rattle.std.proofs.Common.{◌≡◌, ℕ, suc, zero, ◌+◌, ◌-◌, ◌*◌, ◌/◌, ◌%◌, ◌^◌, ◌<◌, ◌≤◌, List, [], ◌∷◌, ◌++◌, length, get_or, take, drop}
+use Rattle.std.proofs.Common.{min, refl, sym, ap, ◌∙◌, arith}
 use Rattle.std.proofs.lemmas.List.{take-append-le, length-take}
 use Rattle.networks.specs.Addresses.{octet_bits, bits_of}
 
@@ -8,7 +9,8 @@ abbrev pub Octets : List ℕ → Type 0
 Octets a = (k : ℕ) → get_or a k 0 < 2 ^ 8
 
 -- the first bits are those of the first octets, and some of the next octet's
-take-bits : (w l : ℕ) (a : List ℕ) → l < 8 → w * 8 + l ≤ 8 * length a → take (w * 8 + l) (bits_of a) ≡ bits_of (take w a) ++ take l (octet_bits (get_or a w 0))
+take-bits : (w l : ℕ) (a : List ℕ) → l < 8 → w * 8 + l ≤ 8 * length a
+    → take (w * 8 + l) (bits_of a) ≡ bits_of (take w a) ++ take l (octet_bits (get_or a w 0))
 take-bits zero zero a small within = refl
 take-bits zero (suc l) [] small within = absurd (omega (arith, within))
 take-bits zero (suc l) (x ∷ a) small within =
@@ -35,7 +37,8 @@ parts_of_joined (x ∷ p) (y ∷ q) s t lengths e =
     (cc, rest.1)
 
 -- the first bits of an octet are those of its quotient by a power of two
-quotient_from_bits : (l x y : ℕ) → l < 8 → x < 2 ^ 8 → y < 2 ^ 8 → take l (octet_bits x) ≡ take l (octet_bits y) → x / 2 ^ (8 - l) ≡ y / 2 ^ (8 - l)
+quotient_from_bits : (l x y : ℕ) → l < 8 → x < 2 ^ 8 → y < 2 ^ 8 → take l (octet_bits x) ≡ take l (octet_bits y)
+    → x / 2 ^ (8 - l) ≡ y / 2 ^ (8 - l)
 quotient_from_bits zero x y small fits fits' e = omega arith
 quotient_from_bits (suc zero) x y small fits fits' e =
     let s1 : x / 128 ≡ y / 128 = ap (λ l. get_or l 0 0) e in
@@ -199,16 +202,20 @@ bits-injective (x ∷ a) (y ∷ b) lengths e =
     cc
 
 -- the same first bits are the same first octets, and the same quotients of the next octets
-pub octets_from_bits : (w l : ℕ) (a b : List ℕ) → l < 8 → Octets a → Octets b → length a ≡ length b → w * 8 + l ≤ 8 * length a → take (w * 8 + l) (bits_of a) ≡ take (w * 8 + l) (bits_of b) → (take w a ≡ take w b) × (get_or a w 0 / 2 ^ (8 - l) ≡ get_or b w 0 / 2 ^ (8 - l))
+pub octets_from_bits : (w l : ℕ) (a b : List ℕ) → l < 8 → Octets a → Octets b → length a ≡ length b → w * 8 + l ≤ 8 * length a
+    → take (w * 8 + l) (bits_of a) ≡ take (w * 8 + l) (bits_of b)
+    → (take w a ≡ take w b) × (get_or a w 0 / 2 ^ (8 - l) ≡ get_or b w 0 / 2 ^ (8 - l))
 octets_from_bits w l a b small fits fits' lengths within e =
     let joined = sym (take-bits w l a small within) ∙ e ∙ take-bits w l b small (omega arith) in
     let taken : length (take w a) ≡ length (take w b) = length-take w a ∙ ap (λ n. min w n) lengths ∙ sym (length-take w b) in
     let parts =
-    parts_of_joined (bits_of (take w a)) (bits_of (take w b)) _ _ (omega (arith, length-bits (take w a), length-bits (take w b), taken)) joined
+    parts_of_joined (bits_of (take w a)) (bits_of (take w b)) _ _
+    (omega (arith, length-bits (take w a), length-bits (take w b), taken)) joined
     in
     (bits-injective (take w a) (take w b) taken parts.0, quotient_from_bits l _ _ small (fits w) (fits' w) parts.1)
 
-pub bits_from_octets : (w l : ℕ) (a b : List ℕ) → l < 8 → length a ≡ length b → w * 8 + l ≤ 8 * length a → take w a ≡ take w b → take l (octet_bits (get_or a w 0)) ≡ take l (octet_bits (get_or b w 0)) → take (w * 8 + l) (bits_of a) ≡ take (w * 8 + l) (bits_of b)
+pub bits_from_octets : (w l : ℕ) (a b : List ℕ) → l < 8 → length a ≡ length b → w * 8 + l ≤ 8 * length a → take w a ≡ take w b
+    → take l (octet_bits (get_or a w 0)) ≡ take l (octet_bits (get_or b w 0)) → take (w * 8 + l) (bits_of a) ≡ take (w * 8 + l) (bits_of b)
 bits_from_octets w l a b small lengths within front next =
     let first = take-bits w l a small within in
     let second = take-bits w l b small (omega arith) in

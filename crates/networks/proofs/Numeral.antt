@@ -2,7 +2,8 @@
 use Rattle.std.proofs.Common.{◌≡◌, ℕ, suc, zero, ◌^◌, ◌<◌, ◌≤◌, List, length, get_or, take, decimal, sym, ap, ◌∙◌, subst, lit≤, arith}
 use Rattle.std.specs.Int.{IsInRange}
 use Rattle.std.specs.Str.Parse.{AllDigits, digits_value}
-use Rattle.std.proofs.lemmas.Fmt.{decimal_digit, decimal_is_IsNumeral, decimal_nonempty, first_decimal, length-decimal-le, decimal-digits_value}
+use Rattle.std.proofs.lemmas.Fmt.{decimal_digit, decimal_is_IsNumeral, decimal_nonempty, first_decimal, length-decimal-le}
+use Rattle.std.proofs.lemmas.Fmt.{decimal-digits_value}
 use Rattle.std.proofs.lemmas.Int.Digits.{digits_value-lt}
 use Rattle.std.proofs.lemmas.List.{length-take}
 use Rattle.std.proofs.lemmas.Str.Parse.{IsNumeralModel, digit_at, numerals_by_value, tells_digits}
@@ -55,5 +56,6 @@ own : IsNumeralModel (AllDigits 10) (digits_value 10)
 own = numerals_by_value (AllDigits 10) tells_digits
 
 -- digits with no leading zero are what `decimal` writes of their value
-pub decimal_of_digits : (text : List ℕ) → AllDigits 10 text → 0 < length text → length text ≤ 3 → (get_or text 0 0 ≡ 48 → length text ≡ 1) → text ≡ decimal (digits_value 10 text)
+pub decimal_of_digits : (text : List ℕ) → AllDigits 10 text → 0 < length text → length text ≤ 3 → (get_or text 0 0 ≡ 48 → length text ≡ 1)
+    → text ≡ decimal (digits_value 10 text)
 decimal_of_digits text all some few lone = sym (decimal-digits_value own text all some lone (omega (arith, value_below text all few)))

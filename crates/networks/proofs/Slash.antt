@@ -1,5 +1,6 @@
 -- Where the slash stands in the text of a network.
-use Rattle.std.proofs.Common.{◌≡◌, ℕ, suc, ◌+◌, ◌-◌, ◌<◌, ◌≤◌, List, [], ◌∷◌, ◌++◌, length, get_or, take, drop, decimal, refl, sym, ap, subst, ◌∙◌, append_assoc, add-one, length-append, inl, inr, lit≤, arith}
+use Rattle.std.proofs.Common.{◌≡◌, ℕ, suc, ◌+◌, ◌-◌, ◌<◌, ◌≤◌, List, [], ◌∷◌, ◌++◌, length, get_or, take, drop, decimal, refl, sym, ap}
+use Rattle.std.proofs.Common.{subst, ◌∙◌, append_assoc, add-one, length-append, inl, inr, lit≤, arith}
 use Rattle.std.proofs.lemmas.List.{take-append-drop}
 use Rattle.std.proofs.Math.Seq.{get_or-append_seam, get_or-append_right, take-append_seam, drop-append-add, drop-cons}
 use Rattle.std.specs.Prelude.{codes}
@@ -25,21 +26,24 @@ length_of : (text ip : List ℕ) (n : ℕ) → text ≡ ip ++ (47 ∷ decimal n)
 length_of text ip n e = ap length e ∙ length-append ip (47 ∷ decimal n)
 
 -- a text without a slash names no network but by an address
-pub none_without_slash : (text : List ℕ) → ((a : IpAddr) → ¬ (IsIpText text a)) → ((i : ℕ) → i < length text → get_or text i 0 ≡ 47 → ⊥) → (a : IpAddr) (bits : ℕ) → ¬ (IsNetworkText text a bits)
+pub none_without_slash : (text : List ℕ) → ((a : IpAddr) → ¬ (IsIpText text a)) → ((i : ℕ) → i < length text → get_or text i 0 ≡ 47 → ⊥)
+    → (a : IpAddr) (bits : ℕ) → ¬ (IsNetworkText text a bits)
 none_without_slash text none no_slash a bits (inl h) = none a h.0
 none_without_slash text none no_slash a bits (inr h) =
     let e = regrouped text h.0 bits h.1 in
     no_slash (length h.0) (omega (arith, length_of text h.0 bits e)) (slash_at text h.0 bits e)
 
 -- the last slash stands before the length
-slash_is_last : (text ip : List ℕ) (k n : ℕ) → k < length text → get_or text k 0 ≡ 47 → ((i : ℕ) → k < i → i < length text → get_or text i 0 ≡ 47 → ⊥) → n ≤ 128 → text ≡ ip ++ (47 ∷ decimal n) → length ip ≡ k
+slash_is_last : (text ip : List ℕ) (k n : ℕ) → k < length text → get_or text k 0 ≡ 47
+    → ((i : ℕ) → k < i → i < length text → get_or text i 0 ≡ 47 → ⊥) → n ≤ 128 → text ≡ ip ++ (47 ∷ decimal n) → length ip ≡ k
 slash_is_last text ip k n within here last small e =
     let size = length_of text ip n e in
     let not_after : k < length ip → ⊥ = λ after. last (length ip) after (omega (arith, size)) (slash_at text ip n e) in
     let not_before : length ip < k → ⊥ =
     λ before.
     let j = k - length ip - 1 in
-    let digits_at : get_or text k 0 ≡ get_or (47 ∷ decimal n) (k - length ip) 0 = ap (λ t. get_or t k 0) e ∙ get_or-append_right ip (47 ∷ decimal n) k 0 (omega arith) in
+    let digits_at : get_or text k 0 ≡ get_or (47 ∷ decimal n) (k - length ip) 0 =
+    ap (λ t. get_or t k 0) e ∙ get_or-append_right ip (47 ∷ decimal n) k 0 (omega arith) in
     let index : k - length ip ≡ suc j = omega arith in
     let digit : get_or text k 0 ≡ get_or (decimal n) j 0 = digits_at ∙ ap (λ i. get_or (47 ∷ decimal n) i 0) index in
     omega (arith, digit_of_decimal (decimal n) n j small refl (omega (arith, size)), digit, here)
@@ -47,7 +51,9 @@ slash_is_last text ip k n within here last small e =
     omega (arith, not_after, not_before)
 
 -- so the text is cut there
-pub cut_at_slash : (text ip : List ℕ) (k n : ℕ) → k < length text → get_or text k 0 ≡ 47 → ((i : ℕ) → k < i → i < length text → get_or text i 0 ≡ 47 → ⊥) → n ≤ 128 → text ≡ ip ++ codes "/" ++ decimal n → (take k text ≡ ip) × (drop (k + 1) text ≡ decimal n)
+pub cut_at_slash : (text ip : List ℕ) (k n : ℕ) → k < length text → get_or text k 0 ≡ 47
+    → ((i : ℕ) → k < i → i < length text → get_or text i 0 ≡ 47 → ⊥) → n ≤ 128 → text ≡ ip ++ codes "/" ++ decimal n
+    → (take k text ≡ ip) × (drop (k + 1) text ≡ decimal n)
 cut_at_slash text ip k n within here last small spelled =
     let e = regrouped text ip n spelled in
     let same : length ip ≡ k = slash_is_last text ip k n within here last small e in (
@@ -56,7 +62,8 @@ cut_at_slash text ip k n within here last small spelled =
     )
 
 -- the parts on both sides of a slash are the text
-pub joined_at_slash : (text : List ℕ) (k n : ℕ) → k < length text → get_or text k 0 ≡ 47 → drop (k + 1) text ≡ decimal n → text ≡ take k text ++ codes "/" ++ decimal n
+pub joined_at_slash : (text : List ℕ) (k n : ℕ) → k < length text → get_or text k 0 ≡ 47 → drop (k + 1) text ≡ decimal n
+    → text ≡ take k text ++ codes "/" ++ decimal n
 joined_at_slash text k n within here rest =
     let whole = drop-cons text k 0 within in
     let rest' : drop (suc k) text ≡ decimal n = ap (λ j. drop j text) (sym (add-one k)) ∙ rest in
@@ -64,7 +71,10 @@ joined_at_slash text k n within here rest =
     sym (take-append-drop k text) ∙ ap (λ t. take k text ++ t) tail ∙ sym (append_assoc (take k text) (47 ∷ []) (decimal n))
 
 -- at the last slash a text names no network whose parts are not what they should be
-pub none_at_slash : (text : List ℕ) (k : ℕ) → k < length text → get_or text k 0 ≡ 47 → ((i : ℕ) → k < i → i < length text → get_or text i 0 ≡ 47 → ⊥) → ((a : IpAddr) → ¬ (IsIpText text a)) → ((a : IpAddr) (n : ℕ) → IsIpText (take k text) a → n ≤ width_of a → ¬ (drop (k + 1) text ≡ decimal n)) → (a : IpAddr) (bits : ℕ) → ¬ (IsNetworkText text a bits)
+pub none_at_slash : (text : List ℕ) (k : ℕ) → k < length text → get_or text k 0 ≡ 47
+    → ((i : ℕ) → k < i → i < length text → get_or text i 0 ≡ 47 → ⊥) → ((a : IpAddr) → ¬ (IsIpText text a))
+    → ((a : IpAddr) (n : ℕ) → IsIpText (take k text) a → n ≤ width_of a → ¬ (drop (k + 1) text ≡ decimal n))
+    → (a : IpAddr) (bits : ℕ) → ¬ (IsNetworkText text a bits)
 none_at_slash text k within here last none parts a bits (inl h) = none a h.0
 none_at_slash text k within here last none parts a bits (inr h) =
     let cut = cut_at_slash text h.0 k bits within here last (omega (arith, h.3, width_small a)) h.1 in

@@ -16,7 +16,11 @@ abbrev pub words : Octets → Data
 words octets = string (utf8_lossy octets)
 
 abbrev pub share_data : Share → Data
-share_data s = object (member (codes "all") (natural s.all) (member (codes "free") (natural (s.all - s.used)) (member (codes "used") (natural s.used) no_members)))
+share_data s =
+    object (member (codes "all") (natural s.all)
+    (member (codes "free") (natural (s.all - s.used))
+    (member (codes "used") (natural s.used)
+    no_members)))
 
 -- the octets of an overview, and those up to which its group takes articles
 abbrev pub overview_data : ℕ → Data

@@ -29,7 +29,8 @@ fact name known = left 10 name ++ known ++ 10 ∷ []
 
 abbrev pub share_text : Share → Octets
 share_text s =
-    decimal s.all ++ codes ": " ++ decimal s.used ++ codes " used, " ++ decimal (s.all - s.used) ++ codes " free, " ++ in_per_cent s.used s.all ++ codes " used"
+    decimal s.all ++ codes ": " ++ decimal s.used ++ codes " used, " ++ decimal (s.all - s.used) ++ codes " free, "
+    ++ in_per_cent s.used s.all ++ codes " used"
 
 abbrev pub facts : VolumeStatus → Octets
 facts s =

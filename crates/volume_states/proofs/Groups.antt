@@ -10,8 +10,10 @@ use Rattle.volume_states.specs.State.{group_status, of_index}
 
 pub of_group : (S : Spool) (g : NewsGroup) → of_index (group_index S g) ≡ group_status S g
 of_group S g =
-    let filed : length (map (λ (a : NewsArticle). a.serial) (filed_in S g.name)) ≡ high S g.name = length-map (filed_in S g.name) (λ (a : NewsArticle). a.serial) in
-    let here : length (map (λ (a : NewsArticle). a.serial) (filed_in S g.name)) - (low S g.name - 1) ≡ count (contents S g.name) = omega (arith, filed) in
+    let filed : length (map (λ (a : NewsArticle). a.serial) (filed_in S g.name)) ≡ high S g.name =
+    length-map (filed_in S g.name) (λ (a : NewsArticle). a.serial) in
+    let here : length (map (λ (a : NewsArticle). a.serial) (filed_in S g.name)) - (low S g.name - 1) ≡ count (contents S g.name) =
+    omega (arith, filed) in
     let size : end_of (group_index S g) ≡ length (overview_file S g.name) = overview_size S g in
     λ i. record { name = g.name; low = low S g.name; high = filed i; count = here i; status = g.status; overview = size i }
 

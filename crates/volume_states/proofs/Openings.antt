@@ -15,7 +15,8 @@ use Rattle.reporting.specs.declared.state.VolumeStatus.{VolumeStatus}
 use Rattle.volume_states.specs.Told.{IsStateIn, IsStateOf}
 
 module _ {D : Type 0} (device : D → Device) (first : D) (one : JournalView D) (r : Result VolumeStatus OpenError) where
-  pub told : Opens device first one → (IsTrue (device one.disk).tells → IfOk r (IsStateIn one.label one.size one.blocks)) → IsTrue (device first).tells → IfOk r (IsStateOf (device first).content)
+  pub told : Opens device first one → (IsTrue (device one.disk).tells → IfOk r (IsStateIn one.label one.size one.blocks))
+      → IsTrue (device first).tells → IfOk r (IsStateOf (device first).content)
   told o its tells =
       let tells_one : IsTrue (device one.disk).tells = subst IsTrue (sym o.time.tells) tells in
       IfOk-weaker r (IsStateIn one.label one.size one.blocks) (IsStateOf (device first).content)
@@ -27,8 +28,10 @@ module _ {D : Type 0} (device : D → Device) (first : D) (one : JournalView D) 
       })
       (its tells_one)
 
-  pub missed : Opens device first one → IfErr r (λ e. e ≡ NotAVolume → IsNoLabel one.label one.size) → IsTrue (device first).tells → IfErr r (λ e. e ≡ NotAVolume → IsNoNewsVolume (device first).content)
+  pub missed : Opens device first one → IfErr r (λ e. e ≡ NotAVolume → IsNoLabel one.label one.size) → IsTrue (device first).tells
+      → IfErr r (λ e. e ≡ NotAVolume → IsNoNewsVolume (device first).content)
   missed o its tells = IfErr-weaker r _ _ (λ e never is. no_label device first one o (never is) tells) its
 
-  pub found_damage : Opens device first one → IfErr r (λ e. e ≡ Damaged → IsDamaged device one) → IsTrue (device first).tells → IfErr r (λ e. e ≡ Damaged → IsDamagedVolume (device first).content)
+  pub found_damage : Opens device first one → IfErr r (λ e. e ≡ Damaged → IsDamaged device one) → IsTrue (device first).tells
+      → IfErr r (λ e. e ≡ Damaged → IsDamagedVolume (device first).content)
   found_damage o its tells = IfErr-weaker r _ _ (λ e damaged is. is_damaged device first one o (damaged is) tells) its

@@ -25,7 +25,8 @@ use volume::{Blocks, Volume};
 /// lawful spool of the label's host.
 pub fn state_on<D: Disk + Drop>(alloc: Global, disk: D) -> Result<VolumeStatus, OpenError>
     ensures told { IsTrue (D.device disk).tells → IfOk result (IsStateOf (D.device disk).content) }
-    ensures no_volume { IsTrue (D.device disk).tells → IfErr result (λ e. e ≡ OpenError.NotAVolume → IsNoNewsVolume (D.device disk).content) }
+    ensures no_volume { IsTrue (D.device disk).tells
+        → IfErr result (λ e. e ≡ OpenError.NotAVolume → IsNoNewsVolume (D.device disk).content) }
     ensures damaged { IsTrue (D.device disk).tells → IfErr result (λ e. e ≡ OpenError.Damaged → IsDamagedVolume (D.device disk).content) }
 {
     let mut journal = match Journal::open(alloc, disk) {
@@ -38,7 +39,8 @@ pub fn state_on<D: Disk + Drop>(alloc: Global, disk: D) -> Result<VolumeStatus, 
 /// The state of the volume in a journal that was just opened.
 fn state_in<D: Disk>(alloc: Global, journal: &mut Journal<D>) -> Result<VolumeStatus, OpenError>
     requires { IsReady journal.old }
-    ensures told { IsTrue (D.device journal.old.disk).tells → IfOk result (IsStateIn journal.old.label journal.old.size journal.old.blocks) }
+    ensures told { IsTrue (D.device journal.old.disk).tells
+        → IfOk result (IsStateIn journal.old.label journal.old.size journal.old.blocks) }
     ensures no_label { IfErr result (λ e. e ≡ OpenError.NotAVolume → IsNoLabel journal.old.label journal.old.size) }
     ensures damaged { IfErr result (λ e. e ≡ OpenError.Damaged → IsDamaged D.device journal.old) }
 {

@@ -123,10 +123,13 @@ const INODES_OF_MEMORY: Word = Word {
 const SERVING: &str = "\
 Prints `listening ADDRESS:PORT` for each address, that of --port first. One server at a time serves a volume. \
 A caller from 127.0.0.0/8 or ::1 is always let in, any other only from a network of --allow. Else it is told `502 Access denied`. \
-At most 64 sessions are served at one time; the next caller is told `400 Service ends`. Copy the volume for a backup while the server is stopped.
+At most 64 sessions are served at one time; the next caller is told `400 Service ends`. \
+Copy the volume for a backup while the server is stopped.
 
-Each line `group NAME STATUS MOMENT DESCRIPTION` of standard input makes a group, and each line `expire NAME N` takes the \
-articles of a group up to that number out of it; the serial is printed once it is durable, or the refusal. Where the device fails, the next caller is told `400 Service ends` and the server ends with `E1 Fault`, status 1. \
+Standard input takes lines of four kinds. `group NAME STATUS MOMENT DESCRIPTION` makes a group, and `expire NAME N` takes the \
+articles of a group up to that number out of it; the serial is printed once it is durable, or the refusal. `status` prints the \
+state of the volume and of the server on one line. `stop` commits what was accepted, prints `stopped` and ends the server with \
+status 0. Where the device fails, the next caller is told `400 Service ends` and the server ends with `E1 Fault`, status 1. \
 Serve the volume again then: what was acknowledged is there. The same holds after the process was killed.";
 
 /// What `import` does, in short.

@@ -12,27 +12,42 @@ calls-init g c = begins g.D.Disk.device _ (begun g.D.Disk.device _ c.requires.ru
 
 pub calls-smaller : goal.calls-smaller
 calls-smaller g c =
-    let flies : IsIdle c.calls.journal → ⊥ = λ idle. false≢true (subst (λ (b : Bool). IsTrue b) c.calls-test.true (c.is_idle.ensures.idle.1 (c.calls.invariant.way.running, idle))) in
-    fewer g.D.Disk.device _ _ _ c.calls.invariant.way flies c.in_ok-step.field-0 (c.in_ok-step.ensures.call c.calls.invariant.way.running flies)
+    let flies : IsIdle c.calls.journal → ⊥ =
+    λ idle. false≢true (subst (λ (b : Bool). IsTrue b) c.calls-test.true
+    (c.is_idle.ensures.idle.1 (c.calls.invariant.way.running, idle))) in
+    fewer g.D.Disk.device _ _ _ c.calls.invariant.way flies c.in_ok-step.field-0
+    (c.in_ok-step.ensures.call c.calls.invariant.way.running flies)
 
 pub calls-preserved : goal.calls-preserved
 calls-preserved g c =
-    let flies : IsIdle c.calls.journal → ⊥ = λ idle. false≢true (subst (λ (b : Bool). IsTrue b) c.calls-test.true (c.is_idle.ensures.idle.1 (c.calls.invariant.way.running, idle))) in
-    goes_on g.D.Disk.device _ _ _ c.calls.invariant flies c.in_ok-step.field-0 (c.in_ok-step.ensures.call c.calls.invariant.way.running flies) c.in_ok-step.ensures.since
+    let flies : IsIdle c.calls.journal → ⊥ =
+    λ idle. false≢true (subst (λ (b : Bool). IsTrue b) c.calls-test.true
+    (c.is_idle.ensures.idle.1 (c.calls.invariant.way.running, idle))) in
+    goes_on g.D.Disk.device _ _ _ c.calls.invariant flies c.in_ok-step.field-0
+    (c.in_ok-step.ensures.call c.calls.invariant.way.running flies) c.in_ok-step.ensures.since
 
 pub returns-in_err-step-clause-err : goal.returns-in_err-step-clause-err
 returns-in_err-step-clause-err g c =
-    let flies : IsIdle c.calls.journal → ⊥ = λ idle. false≢true (subst (λ (b : Bool). IsTrue b) c.calls-test.true (c.is_idle.ensures.idle.1 (c.calls.invariant.way.running, idle))) in
+    let flies : IsIdle c.calls.journal → ⊥ =
+    λ idle. false≢true (subst (λ (b : Bool). IsTrue b) c.calls-test.true
+    (c.is_idle.ensures.idle.1 (c.calls.invariant.way.running, idle))) in
     let running = c.calls.invariant.way.running in
     let p = err_from_is_err_and c.from_residual.result c.from_residual.ensures.1 in
-    subst (λ (r : Result (Unit {0}) JournalError). IfErr r (λ error. IsCaused error (g.D.Disk.device c.args.journal.now.disk) (g.D.Disk.device c.step.new.self.disk))) (ap Err (sym p.2) ∙ sym p.1)
-    (caused_by g.D.Disk.device _ _ _ c.calls.invariant.way flies _ (rw c.in_err-step.was at c.step.ensures.call running flies) (rw c.in_err-step.was at c.step.ensures.retried running flies) (rw c.in_err-step.was at c.step.ensures.no_other running))
+    subst (λ (r : Result (Unit {0}) JournalError).
+    IfErr r (λ error. IsCaused error (g.D.Disk.device c.args.journal.now.disk) (g.D.Disk.device c.step.new.self.disk)))
+    (ap Err (sym p.2) ∙ sym p.1)
+    (caused_by g.D.Disk.device _ _ _ c.calls.invariant.way flies _ (rw c.in_err-step.was at c.step.ensures.call running flies)
+    (rw c.in_err-step.was at c.step.ensures.retried running flies) (rw c.in_err-step.was at c.step.ensures.no_other running))
 
 pub returns-in_err-step-clause-since : goal.returns-in_err-step-clause-since
 returns-in_err-step-clause-since g c =
-    let flies : IsIdle c.calls.journal → ⊥ = λ idle. false≢true (subst (λ (b : Bool). IsTrue b) c.calls-test.true (c.is_idle.ensures.idle.1 (c.calls.invariant.way.running, idle))) in
+    let flies : IsIdle c.calls.journal → ⊥ =
+    λ idle. false≢true (subst (λ (b : Bool). IsTrue b) c.calls-test.true
+    (c.is_idle.ensures.idle.1 (c.calls.invariant.way.running, idle))) in
     let running = c.calls.invariant.way.running in
-    refused g.D.Disk.device _ _ _ c.calls.invariant flies _ (rw c.in_err-step.was at c.step.ensures.call running flies) (rw c.in_err-step.was at c.step.ensures.retried running flies) (rw c.in_err-step.was at c.step.ensures.no_other running) c.step.ensures.since
+    refused g.D.Disk.device _ _ _ c.calls.invariant flies _ (rw c.in_err-step.was at c.step.ensures.call running flies)
+    (rw c.in_err-step.was at c.step.ensures.retried running flies)
+    (rw c.in_err-step.was at c.step.ensures.no_other running) c.step.ensures.since
 
 pub returns-clause-ok : goal.returns-clause-ok
 returns-clause-ok g c = carries g.D.Disk.device _ _ c.calls.invariant (c.is_idle.ensures.idle.0 c.calls-test.false) c.is_idle.ensures.now
@@ -42,17 +57,23 @@ returns-clause-since g c = c.calls.invariant.since
 
 pub returns-in_err-step-clause-stopped : goal.returns-in_err-step-clause-stopped
 returns-in_err-step-clause-stopped g c =
-    let flies : IsIdle c.calls.journal → ⊥ = λ idle. false≢true (subst (λ (b : Bool). IsTrue b) c.calls-test.true (c.is_idle.ensures.idle.1 (c.calls.invariant.way.running, idle))) in
+    let flies : IsIdle c.calls.journal → ⊥ =
+    λ idle. false≢true (subst (λ (b : Bool). IsTrue b) c.calls-test.true
+    (c.is_idle.ensures.idle.1 (c.calls.invariant.way.running, idle))) in
     let running = c.calls.invariant.way.running in
     let p = err_from_is_err_and c.from_residual.result c.from_residual.ensures.1 in
     subst (λ (r : Result (Unit {0}) JournalError). OnErr r (IsReady c.step.new.self → ⊥)) (ap Err (sym p.2) ∙ sym p.1)
-    (stops g.D.Disk.device _ _ _ c.calls.invariant flies _ (rw c.in_err-step.was at c.step.ensures.call running flies) (rw c.in_err-step.was at c.step.ensures.retried running flies) (rw c.in_err-step.was at c.step.ensures.no_other running))
+    (stops g.D.Disk.device _ _ _ c.calls.invariant flies _ (rw c.in_err-step.was at c.step.ensures.call running flies)
+    (rw c.in_err-step.was at c.step.ensures.retried running flies) (rw c.in_err-step.was at c.step.ensures.no_other running))
 
 pub returns-in_err-step-clause-same : goal.returns-in_err-step-clause-same
 returns-in_err-step-clause-same g c =
-    let flies : IsIdle c.calls.journal → ⊥ = λ idle. false≢true (subst (λ (b : Bool). IsTrue b) c.calls-test.true (c.is_idle.ensures.idle.1 (c.calls.invariant.way.running, idle))) in
+    let flies : IsIdle c.calls.journal → ⊥ =
+    λ idle. false≢true (subst (λ (b : Bool). IsTrue b) c.calls-test.true
+    (c.is_idle.ensures.idle.1 (c.calls.invariant.way.running, idle))) in
     let running = c.calls.invariant.way.running in
-    same_volume g.D.Disk.device _ _ _ c.calls.invariant _ (rw c.in_err-step.was at c.step.ensures.call running flies) (rw c.in_err-step.was at c.step.ensures.retried running flies) (rw c.in_err-step.was at c.step.ensures.no_other running)
+    same_volume g.D.Disk.device _ _ _ c.calls.invariant _ (rw c.in_err-step.was at c.step.ensures.call running flies)
+    (rw c.in_err-step.was at c.step.ensures.retried running flies) (rw c.in_err-step.was at c.step.ensures.no_other running)
 
 pub returns-clause-same : goal.returns-clause-same
 returns-clause-same g c = record { label = c.calls.invariant.way.same.label; size = c.calls.invariant.way.same.size }

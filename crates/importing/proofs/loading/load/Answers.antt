@@ -6,7 +6,8 @@ use Rattle.importing.proofs.loading.load.Goals as goal
 
 pub spool_in-requires-clause-room : goal.spool_in-requires-clause-room
 spool_in-requires-clause-room g c =
-    let labelled : IsLabel c.args.journal.now.label c.args.journal.now.size c.in-Some.label.inodes c.in-Some.label.host.now = search rules in
+    let labelled : IsLabel c.args.journal.now.label c.args.journal.now.size c.in-Some.label.inodes c.in-Some.label.host.now =
+    search rules in
     let count : length c.in-Ok-loaded.volume.cache ≡ c.args.journal.now.size = c.in-Ok-loaded.ensures.count in
     record {
       some = labelled.some;
@@ -14,12 +15,14 @@ spool_in-requires-clause-room g c =
       whole = labelled.whole;
       room = omega (arith, labelled.room, labelled.whole, count);
       count_few = omega (arith, count, c.is_idle.ensures.few);
-      blocks_whole = subst (λ (blocks : List (List ℕ)). All (λ octets. length octets ≡ 4096) blocks) c.in-Ok-loaded.ensures.seen c.len-count.ensures.whole;
+      blocks_whole = subst (λ (blocks : List (List ℕ)). All (λ octets. length octets ≡ 4096) blocks) c.in-Ok-loaded.ensures.seen
+          c.len-count.ensures.whole;
     }
 
 pub returns-in-Ok-loaded-clause-damaged : goal.returns-in-Ok-loaded-clause-damaged
 returns-in-Ok-loaded-clause-damaged g c =
-    let labelled : IsLabel c.args.journal.now.label c.args.journal.now.size c.in-Some.label.inodes c.in-Some.label.host.now = search rules in
+    let labelled : IsLabel c.args.journal.now.label c.args.journal.now.size c.in-Some.label.inodes c.in-Some.label.host.now =
+    search rules in
     let named : c.new.result ≡ c.in-Some.label.host.now = search rules in
     IfErr-weaker c.spool_in.result _ _
     (λ error none is. record {
@@ -27,6 +30,8 @@ returns-in-Ok-loaded-clause-damaged g c =
       host = c.in-Some.label.host.now;
       labelled = labelled;
       holds_none = λ t S holds.
-          none is S (subst (λ (bs : List (List ℕ)). Holds c.new.result c.in-Some.label.inodes bs S) (sym (c.in-Ok-loaded.ensures.blocks t)) (subst (λ (h : List ℕ). Holds h c.in-Some.label.inodes c.args.journal.now.blocks S) (sym named) holds));
+          none is S (subst (λ (bs : List (List ℕ)). Holds c.new.result c.in-Some.label.inodes bs S)
+          (sym (c.in-Ok-loaded.ensures.blocks t))
+          (subst (λ (h : List ℕ). Holds h c.in-Some.label.inodes c.args.journal.now.blocks S) (sym named) holds));
     })
     c.spool_in.ensures.damaged

@@ -12,7 +12,8 @@ returns-then-left-eq0 c =
     let b = c.args.b.now in
     let parts : n / 8 * 8 + n % 8 ≡ n = omega arith in
     let front = (bytes_eq-Decides (take (n / 8) a) (take (n / 8) b)).0 (sym c.eq.ensures ∙ c.if-eq.true) in
-    let none : take (n % 8) (octet_bits (get_or a (n / 8) 0)) ≡ take (n % 8) (octet_bits (get_or b (n / 8) 0)) = rw c.if-left-eq0.true refl in (
+    let none : take (n % 8) (octet_bits (get_or a (n / 8) 0)) ≡ take (n % 8) (octet_bits (get_or b (n / 8) 0)) =
+    rw c.if-left-eq0.true refl in (
       λ _. subst (λ m. take m (bits_of a) ≡ take m (bits_of b)) parts
           (bits_from_octets (n / 8) (n % 8) a b (omega arith) c.requires.same_family (omega arith) front none),
       λ _. eq-eqb _ _ c.if-left-eq0.true,
@@ -29,7 +30,8 @@ returns-else-left-eq0 c =
           (bits_from_octets (n / 8) (n % 8) a b (omega arith) c.requires.same_family (omega arith) front
           (bits_from_quotient (n % 8) _ _ (omega arith) (eqb-true _ _ t))),
       λ e. eq-eqb _ _
-          (octets_from_bits (n / 8) (n % 8) a b (omega arith) (λ k. omega (arith, c.type_inv.a k)) (λ k. omega (arith, c.type_inv.b k)) c.requires.same_family (omega arith)
+          (octets_from_bits (n / 8) (n % 8) a b (omega arith) (λ k. omega (arith, c.type_inv.a k))
+          (λ k. omega (arith, c.type_inv.b k)) c.requires.same_family (omega arith)
           (subst (λ m. take m (bits_of a) ≡ take m (bits_of b)) (sym parts) e)).1,
     )
 
@@ -42,6 +44,7 @@ returns-else-eq c =
       λ t. absurd (false≢true (sym c.if-eq.false ∙ t)),
       λ e. c.eq.ensures
           ∙ (bytes_eq-Decides (take (n / 8) a) (take (n / 8) b)).1
-          (octets_from_bits (n / 8) (n % 8) a b (omega arith) (λ k. omega (arith, c.type_inv.a k)) (λ k. omega (arith, c.type_inv.b k)) c.requires.same_family (omega arith)
+          (octets_from_bits (n / 8) (n % 8) a b (omega arith) (λ k. omega (arith, c.type_inv.a k))
+          (λ k. omega (arith, c.type_inv.b k)) c.requires.same_family (omega arith)
           (subst (λ m. take m (bits_of a) ≡ take m (bits_of b)) (sym parts) e)).0,
     )

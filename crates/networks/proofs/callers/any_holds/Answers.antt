@@ -16,6 +16,12 @@ loop-network-preserved c =
 
 pub returns-then-contains : goal.returns-then-contains
 returns-then-contains c = (
-  λ _. (c.loop-network.network-index, c.network-item.result, c.loop-network-test.true, sym c.network-item.is, c.contains.ensures.0 c.if-contains.true),
+  λ _. (
+    c.loop-network.network-index,
+    c.network-item.result,
+    c.loop-network-test.true,
+    sym c.network-item.is,
+    c.contains.ensures.0 c.if-contains.true,
+  ),
   λ _. refl,
 )

@@ -10,6 +10,8 @@ returns-else-port-ne0-clause-none c =
     λ e h.
     let same : c.in-Ok.endpoint ≡ e = IsSocketText_unique c.args.text.now c.in-Ok.endpoint e c.in-Ok.ensures.value h.0 in
     elim c.else-port-ne0.branch [
-      | else-port-ne0-via-then-port-ne0+else-has_no_zone w ↦ false≢true (sym w.if-has_no_zone.false ∙ w.has_no_zone.ensures.1 (ap socket_scope_id same ∙ h.2))
-      | else-port-ne0-via-else-port-ne0 w ↦ let port : socket_port e ≡ c.port.result = ap socket_port (sym same) ∙ sym c.port.ensures in h.1 (omega (arith, port, w.if-port-ne0.false))
+      | else-port-ne0-via-then-port-ne0+else-has_no_zone w ↦
+          false≢true (sym w.if-has_no_zone.false ∙ w.has_no_zone.ensures.1 (ap socket_scope_id same ∙ h.2))
+      | else-port-ne0-via-else-port-ne0 w ↦ let port : socket_port e ≡ c.port.result =
+          ap socket_port (sym same) ∙ sym c.port.ensures in h.1 (omega (arith, port, w.if-port-ne0.false))
     ]

@@ -6,7 +6,9 @@ use Rattle.std.proofs.lemmas.List.{take_all}
 use Rattle.std.proofs.lemmas.Str.{digit_value_digit}
 use Rattle.networks.proofs.Numeral.{shape, digit_of_decimal, value_of_decimal, front_below, decimal_of_digits}
 use Rattle.networks.proofs.numerals.read_length.Goals as goal
-use Rattle.networks.proofs.numerals.read_length.Goals.{then-is_empty-via-then-is_empty, then-is_empty-via-else-is_empty+then-numeral-gt3, else-numeral-eq48-via-then-numeral-eq48+else-numeral-gt1, else-numeral-eq48-via-else-numeral-eq48}
+use Rattle.networks.proofs.numerals.read_length.Goals.{then-is_empty-via-then-is_empty, then-is_empty-via-else-is_empty+then-numeral-gt3}
+use Rattle.networks.proofs.numerals.read_length.Goals.{else-numeral-eq48-via-then-numeral-eq48+else-numeral-gt1}
+use Rattle.networks.proofs.numerals.read_length.Goals.{else-numeral-eq48-via-else-numeral-eq48}
 
 pub returns-then-is_empty-clause-none : goal.returns-then-is_empty-clause-none
 returns-then-is_empty-clause-none c =
@@ -26,16 +28,28 @@ returns-then-numeral-gt1-clause-none c =
 pub returns-then-not-is_ascii_digit-clause-none : goal.returns-then-not-is_ascii_digit-clause-none
 returns-then-not-is_ascii_digit-clause-none c =
     λ n small e.
-    let digit = digit_of_decimal c.args.numeral.now n c.loop-digit.digit-index (omega (arith, small, c.requires)) e c.loop-digit-test.true in
+    let digit =
+    digit_of_decimal c.args.numeral.now n c.loop-digit.digit-index (omega (arith, small, c.requires)) e c.loop-digit-test.true in
     ⊎_elim (λ low. omega (arith, low, digit.0)) (λ high. omega (arith, high, digit.1)) c.if-not-is_ascii_digit.ensures.cases
 
 pub overflow_mul-number : goal.overflow_mul-number
 overflow_mul-number c =
-    omega (arith, c.loop-digit.invariant.value, front_below c.args.numeral.now c.loop-digit.digit-index c.loop-digit.invariant.digits c.if-numeral-gt3.false)
+    omega (
+      arith,
+      c.loop-digit.invariant.value,
+      front_below c.args.numeral.now c.loop-digit.digit-index c.loop-digit.invariant.digits
+          c.if-numeral-gt3.false,
+    )
 
 pub overflow_add-number : goal.overflow_add-number
 overflow_add-number c =
-    omega (arith, c.from.ensures, c.if-not-is_ascii_digit.ensures.cases.1, c.loop-digit.invariant.value, front_below c.args.numeral.now c.loop-digit.digit-index c.loop-digit.invariant.digits c.if-numeral-gt3.false)
+    omega (
+      arith,
+      c.from.ensures,
+      c.if-not-is_ascii_digit.ensures.cases.1,
+      c.loop-digit.invariant.value,
+      front_below c.args.numeral.now c.loop-digit.digit-index c.loop-digit.invariant.digits c.if-numeral-gt3.false,
+    )
 
 pub loop-digit-preserved : goal.loop-digit-preserved
 loop-digit-preserved c =
@@ -43,7 +57,13 @@ loop-digit-preserved c =
     let i = c.loop-digit.digit-index in
     record {
       digits = digits_more 10 text i c.loop-digit-test.true c.loop-digit.invariant.digits c.if-not-is_ascii_digit.ensures.bound;
-      value = omega (arith, digits_value_more 10 text i c.loop-digit-test.true, digit_value_digit (get_or text i 0) c.if-not-is_ascii_digit.ensures.cases, c.from.ensures, c.loop-digit.invariant.value);
+      value = omega (
+        arith,
+        digits_value_more 10 text i c.loop-digit-test.true,
+        digit_value_digit (get_or text i 0) c.if-not-is_ascii_digit.ensures.cases,
+        c.from.ensures,
+        c.loop-digit.invariant.value,
+      );
     }
 
 pub returns-then-number-limit-clause-none : goal.returns-then-number-limit-clause-none
@@ -51,7 +71,14 @@ returns-then-number-limit-clause-none c =
     λ n small e.
     let text = c.args.numeral.now in
     let whole : take c.loop-digit.digit-index text ≡ text = take_all c.loop-digit.digit-index text (omega arith) in
-    omega (arith, c.if-number-limit.true, small, c.loop-digit.invariant.value, ap (digits_value 10) whole, value_of_decimal text n (omega (arith, small, c.requires)) e)
+    omega (
+      arith,
+      c.if-number-limit.true,
+      small,
+      c.loop-digit.invariant.value,
+      ap (digits_value 10) whole,
+      value_of_decimal text n (omega (arith, small, c.requires)) e,
+    )
 
 pub returns-else-number-limit-clause-found : goal.returns-else-number-limit-clause-found
 returns-else-number-limit-clause-found c =

@@ -3,4 +3,5 @@ use Rattle.std.specs.Str.Parse.{AllDigits, digits_value}
 use Rattle.networks.proofs.numerals.read_length.Given as goal
 
 abbrev pub invariant-loop-digit : goal.invariant-loop-digit
-invariant-loop-digit l = record { digits : AllDigits 10 (take l.digit-index l.numeral); value : l.number ≡ digits_value 10 (take l.digit-index l.numeral) }
+invariant-loop-digit l =
+    record { digits : AllDigits 10 (take l.digit-index l.numeral); value : l.number ≡ digits_value 10 (take l.digit-index l.numeral) }

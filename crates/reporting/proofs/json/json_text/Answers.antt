@@ -7,4 +7,5 @@ use Rattle.reporting.proofs.json.json_text.Goals as goal
 pub returns : goal.returns
 returns c =
     let is = c.in_ok-status_value.ensures in
-    IfOk-weaker c.to_string.result _ _ (λ text its. its (ap has_float is ∙ no_float c.args.status.now) ∙ ap compact_text is) c.to_string.ensures.text
+    IfOk-weaker c.to_string.result _ _ (λ text its. its (ap has_float is ∙ no_float c.args.status.now) ∙ ap compact_text is)
+    c.to_string.ensures.text

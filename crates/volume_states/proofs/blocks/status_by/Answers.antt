@@ -21,5 +21,6 @@ returns g c =
       blocks_are = c.block_share.ensures;
       inodes_are = c.inode_share.ensures;
       changes_are = c.len.ensures its.changes its.indexed;
-      groups_are = c.in_ok-groups.ensures ∙ ap (map of_index) (c.groups.ensures.spool its.changes its.indexed) ∙ of_groups its.changes (groups its.changes);
+      groups_are = c.in_ok-groups.ensures ∙ ap (map of_index) (c.groups.ensures.spool its.changes its.indexed)
+          ∙ of_groups its.changes (groups its.changes);
     }

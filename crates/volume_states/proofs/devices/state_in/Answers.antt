@@ -7,7 +7,8 @@ use Rattle.volume_states.proofs.devices.state_in.Goals as goal
 
 pub state_over-requires : goal.state_over-requires
 state_over-requires g c =
-    let labelled : IsLabel c.args.journal.now.label c.args.journal.now.size c.in-Some.label.inodes c.in-Some.label.host.now = search rules in
+    let labelled : IsLabel c.args.journal.now.label c.args.journal.now.size c.in-Some.label.inodes c.in-Some.label.host.now =
+    search rules in
     let count : length c.in-Ok-loaded.volume.cache ≡ c.args.journal.now.size = c.in-Ok-loaded.ensures.count in
     let seen : c.in-Ok-loaded.volume.seen ≡ c.in-Ok-loaded.volume.cache = c.in-Ok-loaded.ensures.seen in
     let many : length c.in-Ok-loaded.volume.seen ≡ length c.in-Ok-loaded.volume.cache = λ i. length (seen i) in
@@ -22,21 +23,25 @@ state_over-requires g c =
 
 pub returns-in-Ok-loaded-clause-told : goal.returns-in-Ok-loaded-clause-told
 returns-in-Ok-loaded-clause-told g c = λ tells.
-    let labelled : IsLabel c.args.journal.now.label c.args.journal.now.size c.in-Some.label.inodes c.in-Some.label.host.now = search rules in
+    let labelled : IsLabel c.args.journal.now.label c.args.journal.now.size c.in-Some.label.inodes c.in-Some.label.host.now =
+    search rules in
     let named : c.deref.result.now ≡ c.in-Some.label.host.now = search rules in
-    let blocks : c.in-Ok-loaded.volume.seen ≡ c.args.journal.now.blocks = c.in-Ok-loaded.ensures.seen ∙ c.in-Ok-loaded.ensures.blocks tells in
+    let blocks : c.in-Ok-loaded.volume.seen ≡ c.args.journal.now.blocks =
+    c.in-Ok-loaded.ensures.seen ∙ c.in-Ok-loaded.ensures.blocks tells in
     IfOk-weaker c.state_over.result _ _
     (λ s is. record {
       inodes = c.in-Some.label.inodes;
       host = c.in-Some.label.host.now;
       labelled = labelled;
-      state = subst (λ (h : List ℕ). IsStatusOf h c.in-Some.label.inodes c.args.journal.now.blocks s) named (subst (λ (bs : List (List ℕ)). IsStatusOf c.deref.result.now c.in-Some.label.inodes bs s) blocks is);
+      state = subst (λ (h : List ℕ). IsStatusOf h c.in-Some.label.inodes c.args.journal.now.blocks s) named
+          (subst (λ (bs : List (List ℕ)). IsStatusOf c.deref.result.now c.in-Some.label.inodes bs s) blocks is);
     })
     c.state_over.ensures.ok
 
 pub returns-in-Ok-loaded-clause-damaged : goal.returns-in-Ok-loaded-clause-damaged
 returns-in-Ok-loaded-clause-damaged g c =
-    let labelled : IsLabel c.args.journal.now.label c.args.journal.now.size c.in-Some.label.inodes c.in-Some.label.host.now = search rules in
+    let labelled : IsLabel c.args.journal.now.label c.args.journal.now.size c.in-Some.label.inodes c.in-Some.label.host.now =
+    search rules in
     let named : c.deref.result.now ≡ c.in-Some.label.host.now = search rules in
     IfErr-weaker c.state_over.result _ _
     (λ error none is. record {
@@ -44,7 +49,9 @@ returns-in-Ok-loaded-clause-damaged g c =
       host = c.in-Some.label.host.now;
       labelled = labelled;
       holds_none = λ tells S holds.
-          let blocks : c.in-Ok-loaded.volume.seen ≡ c.args.journal.now.blocks = c.in-Ok-loaded.ensures.seen ∙ c.in-Ok-loaded.ensures.blocks tells in
-          none is S (subst (λ (bs : List (List ℕ)). Holds c.deref.result.now c.in-Some.label.inodes bs S) (sym blocks) (subst (λ (h : List ℕ). Holds h c.in-Some.label.inodes c.args.journal.now.blocks S) (sym named) holds));
+          let blocks : c.in-Ok-loaded.volume.seen ≡ c.args.journal.now.blocks =
+          c.in-Ok-loaded.ensures.seen ∙ c.in-Ok-loaded.ensures.blocks tells in
+          none is S (subst (λ (bs : List (List ℕ)). Holds c.deref.result.now c.in-Some.label.inodes bs S) (sym blocks)
+          (subst (λ (h : List ℕ). Holds h c.in-Some.label.inodes c.args.journal.now.blocks S) (sym named) holds));
     })
     c.state_over.ensures.damaged

@@ -7,13 +7,16 @@ use Rattle.importing.proofs.store.Store.open.Goals as goal
 
 pub returns-in-Err-clause-no_volume : goal.returns-in-Err-clause-no_volume
 returns-in-Err-clause-no_volume g c missed tells =
-    no_volume (g.D.Disk.device c.args.disk).content (c.in-Err.ensures.err.no_volume (journal_missed c.in-Err.refused.error c.open_error.result c.open_error.ensures missed) tells)
+    no_volume (g.D.Disk.device c.args.disk).content
+    (c.in-Err.ensures.err.no_volume (journal_missed c.in-Err.refused.error c.open_error.result c.open_error.ensures missed) tells)
 
 pub returns-in-Err-load-clause-no_volume : goal.returns-in-Err-load-clause-no_volume
-returns-in-Err-load-clause-no_volume g c missed tells = no_label g.D.Disk.device c.args.disk c.in-Ok-open.journal c.in-Ok-open.ensures.ok (c.in-Err-load.ensures.no_label missed) tells
+returns-in-Err-load-clause-no_volume g c missed tells =
+    no_label g.D.Disk.device c.args.disk c.in-Ok-open.journal c.in-Ok-open.ensures.ok (c.in-Err-load.ensures.no_label missed) tells
 
 pub returns-in-Err-load-clause-damaged : goal.returns-in-Err-load-clause-damaged
-returns-in-Err-load-clause-damaged g c damaged tells = is_damaged g.D.Disk.device c.args.disk c.in-Ok-open.journal c.in-Ok-open.ensures.ok (c.in-Err-load.ensures.damaged damaged) tells
+returns-in-Err-load-clause-damaged g c damaged tells =
+    is_damaged g.D.Disk.device c.args.disk c.in-Ok-open.journal c.in-Ok-open.ensures.ok (c.in-Err-load.ensures.damaged damaged) tells
 
 pub invariant_of-result : goal.invariant_of-result
 invariant_of-result g c =
@@ -22,5 +25,7 @@ invariant_of-result g c =
 
 pub returns-in-Ok-load-clause-ok : goal.returns-in-Ok-load-clause-ok
 returns-in-Ok-load-clause-ok g c =
-    subst (λ (n : ℕ). IsOpened g.D.Disk.device c.args.disk (record { journal = c.load.new.journal; spool = c.in-Ok-load.spool; durable = n })) (sym c.len.ensures)
-    (opened g.D.Disk.device c.in-Ok-open.journal c.load.new.journal c.in-Ok-load.spool c.in-Ok-load.ensures.ok c.load.ensures.reads c.args.disk c.in-Ok-open.ensures.ok c.in-Ok-load.ensures.ready c.is_idle-idle.ensures.now c.in-Ok-load.ensures.failures)
+    subst (λ (n : ℕ). IsOpened g.D.Disk.device c.args.disk
+    (record { journal = c.load.new.journal; spool = c.in-Ok-load.spool; durable = n })) (sym c.len.ensures)
+    (opened g.D.Disk.device c.in-Ok-open.journal c.load.new.journal c.in-Ok-load.spool c.in-Ok-load.ensures.ok c.load.ensures.reads
+    c.args.disk c.in-Ok-open.ensures.ok c.in-Ok-load.ensures.ready c.is_idle-idle.ensures.now c.in-Ok-load.ensures.failures)

@@ -51,5 +51,14 @@ returns-in-Some-read_length-clause-found c =
     let at = rfind_char 47 text (Some k) c.in-Some.ensures.cases (lit< tt) in
     let octets = c.as_bytes-octets.result.now in
     let rest = take_all (length octets - (k + 1)) (drop (k + 1) octets) (omega (arith, length-drop (k + 1) octets)) in
-    let found = c.in-Some-read_length.ensures.found in
-    (own, n, inr (take k text, joined_at_slash text k n at.0 at.1 (ap (drop (k + 1)) (sym same) ∙ sym rest ∙ found.0), front, subst (λ w. n ≤ w) c.width-2.ensures found.1), c.of-in-Some-read_length.ensures)
+    let found = c.in-Some-read_length.ensures.found in (
+      own,
+      n,
+      inr (
+        take k text,
+        joined_at_slash text k n at.0 at.1 (ap (drop (k + 1)) (sym same) ∙ sym rest ∙ found.0),
+        front,
+        subst (λ w. n ≤ w) c.width-2.ensures found.1,
+      ),
+      c.of-in-Some-read_length.ensures,
+    )
