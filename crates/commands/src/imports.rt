@@ -4,7 +4,7 @@ ghost use Rattle.std.specs.Prelude.{◌<◌};
 ghost use Rattle.model.specs.Calendar.{moment_limit};
 
 use crate::files::find;
-use importing::{Counts, ImportError, Place, Refused, Report, Store, Watcher};
+use importing::{Counts, ImportError, Place, Report, Store, Watcher};
 use printing::CommandError;
 use std::alloc::Global;
 use std::fs::File;
@@ -74,9 +74,9 @@ impl<'a, R: Clock, F: Write> Watcher for Teller<'a, R, F> {
         }
     }
 
-    fn refused(&mut self, place: Place, why: Refused) -> io::Result<()> {
+    fn refused(&mut self, place: Place, cause: &'static str) -> io::Result<()> {
         self.erase()?;
-        writeln!(self.faults, "newsd: {place}: {why}")
+        writeln!(self.faults, "newsd: {place}: {cause}")
     }
 
     fn progress(&mut self, octets: u64, counts: &Counts) -> io::Result<()> {
@@ -109,11 +109,11 @@ pub fn import<R: Files<File = File> + Clock, I: Read, F: Write>(
     };
     let mut teller = Teller::new(rt, faults, is_terminal)?;
     let imported = importing::import(alloc, &mut store, input, &mut teller);
-    teller.erase()?;
+    // a line of progress that can't be erased is no reason to keep the report back
+    let _ = teller.erase();
     match imported {
         Ok(report) => Ok(report),
         Err(ImportError::Memory) => Err(CommandError::Memory),
         Err(ImportError::Device(error)) => Err(CommandError::from(error)),
-        Err(ImportError::Stream(error)) => Err(CommandError::from(error)),
     }
 }
