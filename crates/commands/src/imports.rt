@@ -5,6 +5,7 @@ ghost use Rattle.model.specs.Calendar.{moment_limit};
 
 use crate::files::find;
 use importing::{Counts, ImportError, Place, Report, Store, Watcher};
+use logging::moment;
 use printing::CommandError;
 use std::alloc::Global;
 use std::fs::File;
@@ -13,11 +14,11 @@ use std::rt::Files;
 use std::time::{Clock, Duration, Instant};
 use wcache::WCache;
 
-/// The first second that is too late for a moment.
-const MOMENT_LIMIT: u64 = 253_402_300_800;
-
 /// The seconds between two lines of progress.
 const PAUSE_SECS: u64 = 1;
+
+/// What is said of a clock that gives no time.
+const CLOCK: &str = "newsd: the clock gives no time from 1970 to 9999: the articles are dated 1970";
 
 /// Erases a line of a terminal.
 const ERASE: &str = "\r\x1b[K";
@@ -29,6 +30,8 @@ struct Teller<'a, R, F> {
     faults: &'a mut F,
     /// What is said goes to a terminal.
     is_terminal: bool,
+    /// It was said that the clock gives no time.
+    is_clock_told: bool,
     start: Instant,
     /// The time since the start at which the next line of progress is due.
     due: Duration,
@@ -41,6 +44,7 @@ impl<'a, R: Clock, F: Write> Teller<'a, R, F> {
             rt,
             faults,
             is_terminal,
+            is_clock_told: false,
             due: Duration::from_secs(PAUSE_SECS),
         })
     }
@@ -51,6 +55,17 @@ impl<'a, R: Clock, F: Write> Teller<'a, R, F> {
             write!(self.faults, "{ERASE}")?;
         }
         self.faults.flush()
+    }
+
+    /// Says once that the clock gives no time. If it can't be said, the import goes on: what is refused is said then,
+    /// or ends it.
+    fn tell_of_clock(&mut self) {
+        if self.is_clock_told {
+            return;
+        }
+        self.is_clock_told = true;
+        let _ = self.erase();
+        let _ = writeln!(self.faults, "{CLOCK}");
     }
 
     /// Writes the line of progress.
@@ -66,11 +81,14 @@ impl<'a, R: Clock, F: Write> Teller<'a, R, F> {
 }
 
 impl<'a, R: Clock, F: Write> Watcher for Teller<'a, R, F> {
-    /// 1970 if the clock gives no time from 1970 to 9999.
+    /// 1970 if the clock gives no time from 1970 to 9999, which is said once.
     fn moment(&mut self) -> u64 {
-        match self.rt.since_1970() {
-            Ok(since) if since.as_secs() < MOMENT_LIMIT => since.as_secs(),
-            _ => 0,
+        match moment(self.rt) {
+            Some(moment) => moment,
+            None => {
+                self.tell_of_clock();
+                0
+            }
         }
     }
 
