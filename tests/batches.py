@@ -16,8 +16,9 @@ import subprocess
 import sys
 import termios
 import time
+import tty
 
-from newsd import GROUP, HOST, NO_SUPERBLOCK, SECONDS, article, end_with_parent, long_article, message_id
+from newsd import GROUP, HOST, NO_SUPERBLOCK, SECONDS, article, end_with_parent, long_article, message_id, wait_until
 from playing import Skipped, main
 
 OTHER_HOST = "other.example"
@@ -249,7 +250,7 @@ def a_full_volume_ends_an_import(volume):
     """What was filed before is durable. The same batch goes on in a larger volume."""
     texts = [with_lf(text_of(number)) for number in range(80)]
     larger = [with_lf(long_article(number, 200_000)[:-3]) for number in range(30)]
-    for name, batched in (("inodes", texts), ("blocks", larger)):
+    for name, batched, lacking in (("inodes", texts, "no inode is free"), ("blocks", larger, "fewer than 256 blocks are free")):
         small = volume.another(name, blocks=1024, inodes=64)
         small.make_group()
         done = imported(small, batch(batched))
@@ -257,7 +258,7 @@ def a_full_volume_ends_an_import(volume):
         octet = len(batch(batched[:len(there)]))
         assert 0 < len(there) < len(batched), there
         assert (done.returncode, done.stdout.decode()) == (1, counts(filed=len(there))), done
-        assert done.stderr.decode() == "newsd: E6 Full: article %d at octet %d\n" % (len(there) + 1, octet), done
+        assert done.stderr.decode() == "newsd: E6 Full: article %d at octet %d: %s\n" % (len(there) + 1, octet, lacking), done
         assert small.export() == batch(batched[:len(there)])
         # articles for which no room is wanted don't end it
         again = imported(small, batch([*batched[:3], batched[0].replace(b"Newsgroups: x.a", b"Newsgroups: x.b")]))
@@ -268,6 +269,57 @@ def a_full_volume_ends_an_import(volume):
     larger_one.make_group()
     import_whole(larger_one, batch(texts), filed=len(texts))
     assert larger_one.export() == batch(texts)
+
+
+def a_full_group_ends_no_import(volume):
+    """Its articles are refused, also those for other groups too. The others are filed, before them and after them."""
+    make_groups(volume)
+    references = b"References: " + b" ".join(b"<%s@a.example>" % (b"r" * 200) for _ in range(36))
+    large = [with_lf(text_of(number)).replace(b"\n\n", b"\n" + references + b"\n\n", 1) for number in range(560)]
+    both = large[-1].replace(b"Newsgroups: x.a", b"Newsgroups: x.b,x.a").replace(b"<559@", b"<both@")
+    others = [with_lf(text_of("other%d" % number)).replace(b"Newsgroups: x.a", b"Newsgroups: x.b") for number in range(4)]
+    done = imported(volume, batch([*large, others[0], both, *others[1:]]))
+    there = ids_of(volume)
+    filed = len(there) - len(others)
+    assert 500 < filed < len(large) and there[filed:] == [message_id("other%d" % number) for number in range(4)], there
+    refused = [*enumerate(large, 1)][filed:] + [(len(large) + 2, both)]
+    assert (done.returncode, done.stdout.decode()) == (1, counts(filed=len(there), refused=len(refused))), done
+    places = {number: len(batch([*large, others[0]][:number - 1])) for number, _ in refused}
+    said = ["newsd: article %d at octet %d: one of its groups takes no more articles (E6 Full)" % it for it in places.items()]
+    assert done.stderr.decode().splitlines() == said, done.stderr
+    # one of the full group that comes first keeps none back
+    done = imported(volume, batch([both, with_lf(text_of("last")).replace(b"Newsgroups: x.a", b"Newsgroups: x.b")]))
+    assert (done.returncode, done.stdout.decode()) == (1, counts(filed=1, refused=1)), done
+
+
+def a_stream_that_fails_ends_an_import(volume):
+    """What was filed before is durable and counted. The batch can't be read further, or a refusal not be written."""
+    volume.make_group()
+    texts = [with_lf(text_of(number)) for number in range(5)]
+    shown, terminal = pty.openpty()
+    tty.setraw(terminal)
+    words = [volume.program, "import", volume.path]
+    written = batch(texts[:2])
+    os.write(shown, written)
+    wait_until(lambda: unread(terminal) == len(written))
+    process = subprocess.Popen(words, stdin=terminal, stdout=subprocess.PIPE, stderr=subprocess.PIPE, preexec_fn=end_with_parent)
+    wait_until(lambda: unread(terminal) == 0)
+    # a read of a terminal whose other end is closed fails
+    os.close(shown)
+    os.close(terminal)
+    said, faults = (octets.decode() for octets in process.communicate(timeout=SECONDS))
+    assert (process.returncode, said) == (1, counts(filed=2)), (process.returncode, said, faults)
+    assert faults.startswith("newsd: octet %d: " % len(written)) and faults.count("\n") == 1, faults
+    assert ids_of(volume) == [message_id(0), message_id(1)]
+    with open("/dev/full", "w") as full:
+        done = subprocess.run(words, input=batch([*texts[:4], b"x\n", texts[4]]), stdout=subprocess.PIPE, stderr=full, timeout=SECONDS)
+    assert (done.returncode, done.stdout.decode()) == (1, counts(filed=2, here=2, refused=1)), done
+    assert ids_of(volume) == [message_id(number) for number in range(4)]
+
+
+def unread(terminal):
+    """The octets that can be read from it."""
+    return struct.unpack("i", fcntl.ioctl(terminal, termios.FIONREAD, b"\0" * 4))[0]
 
 
 def what_can_not_be_imported_into_is_refused(volume):
@@ -521,6 +573,8 @@ TESTS = [
     each_article_has_an_outcome,
     what_is_no_batch_ends_an_import,
     a_full_volume_ends_an_import,
+    a_full_group_ends_no_import,
+    a_stream_that_fails_ends_an_import,
     what_can_not_be_imported_into_is_refused,
     a_batch_comes_in_any_pieces,
     a_device_that_fails_ends_an_import,

@@ -5,7 +5,8 @@ ghost use Rattle.model.specs.Calendar.{moment_limit};
 
 use crate::files::find;
 use crate::refusals::refusal_of;
-use importing::{Counts, ImportError, Place, Refused, Report, Store, Watcher};
+use importing::{Counts, ImportError, Place, Report, Store, Watcher};
+use logging::moment;
 use printing::CommandError;
 use std::alloc::Global;
 use std::fs::File;
@@ -14,11 +15,11 @@ use std::rt::Files;
 use std::time::{Clock, Duration, Instant};
 use wcache::WCache;
 
-/// The first second that is too late for a moment.
-const MOMENT_LIMIT: u64 = 253_402_300_800;
-
 /// The seconds between two lines of progress.
 const PAUSE_SECS: u64 = 1;
+
+/// What is said of a clock that gives no time.
+const CLOCK: &str = "newsd: the clock gives no time from 1970 to 9999: the articles are dated 1970";
 
 /// Erases a line of a terminal.
 const ERASE: &str = "\r\x1b[K";
@@ -30,6 +31,8 @@ struct Teller<'a, R, F> {
     faults: &'a mut F,
     /// What is said goes to a terminal.
     is_terminal: bool,
+    /// It was said that the clock gives no time.
+    is_clock_told: bool,
     start: Instant,
     /// The time since the start at which the next line of progress is due.
     due: Duration,
@@ -42,6 +45,7 @@ impl<'a, R: Clock, F: Write> Teller<'a, R, F> {
             rt,
             faults,
             is_terminal,
+            is_clock_told: false,
             due: Duration::from_secs(PAUSE_SECS),
         })
     }
@@ -52,6 +56,17 @@ impl<'a, R: Clock, F: Write> Teller<'a, R, F> {
             write!(self.faults, "{ERASE}")?;
         }
         self.faults.flush()
+    }
+
+    /// Says once that the clock gives no time. If it can't be said, the import goes on: what is refused is said then,
+    /// or ends it.
+    fn tell_of_clock(&mut self) {
+        if self.is_clock_told {
+            return;
+        }
+        self.is_clock_told = true;
+        let _ = self.erase();
+        let _ = writeln!(self.faults, "{CLOCK}");
     }
 
     /// Writes the line of progress.
@@ -67,17 +82,20 @@ impl<'a, R: Clock, F: Write> Teller<'a, R, F> {
 }
 
 impl<'a, R: Clock, F: Write> Watcher for Teller<'a, R, F> {
-    /// 1970 if the clock gives no time from 1970 to 9999.
+    /// 1970 if the clock gives no time from 1970 to 9999, which is said once.
     fn moment(&mut self) -> u64 {
-        match self.rt.since_1970() {
-            Ok(since) if since.as_secs() < MOMENT_LIMIT => since.as_secs(),
-            _ => 0,
+        match moment(self.rt) {
+            Some(moment) => moment,
+            None => {
+                self.tell_of_clock();
+                0
+            }
         }
     }
 
-    fn refused(&mut self, place: Place, why: Refused) -> io::Result<()> {
+    fn refused(&mut self, place: Place, cause: &'static str) -> io::Result<()> {
         self.erase()?;
-        writeln!(self.faults, "newsd: {place}: {why}")
+        writeln!(self.faults, "newsd: {place}: {cause}")
     }
 
     fn progress(&mut self, octets: u64, counts: &Counts) -> io::Result<()> {
@@ -110,11 +128,11 @@ pub fn import<R: Files<File = File> + Clock, I: Read, F: Write>(
     };
     let mut teller = Teller::new(rt, faults, is_terminal)?;
     let imported = importing::import(alloc, &mut store, input, &mut teller);
-    teller.erase()?;
+    // a line of progress that can't be erased is no reason to keep the report back
+    let _ = teller.erase();
     match imported {
         Ok(report) => Ok(report),
         Err(ImportError::Memory) => Err(CommandError::Memory),
         Err(ImportError::Device(error)) => Err(CommandError::from(error)),
-        Err(ImportError::Stream(error)) => Err(CommandError::from(error)),
     }
 }

@@ -3,3 +3,4 @@ pub mod Carried
 pub mod Tied
 pub mod Batches
 pub mod Opened
+pub mod Rooms

@@ -96,6 +96,18 @@ module _ {D : Type 0} (device : D → Device) (old new : JournalView D) (spool :
     behind = λ ready tells. absurd (never ready);
   }
 
+  -- the device was only read
+  pub read : IsReady old → (device new.disk).tells ≡ (device old.disk).tells → (IsTrue (device old.disk).tells → new.blocks ≡ old.blocks)
+      → IsTied device new spool durable
+  read ready tells blocks = record {
+    few = tied.few;
+    labelled = labelled_now;
+    size = tied.size ∙ sym same.size;
+    durable_within = tied.durable_within;
+    behind = λ _ told. let was = subst (λ (b : Bool). IsTrue b) tells told in
+        subst (λ (bs : List Octets). IsBehind bs spool durable) (sym (blocks was)) (tied.behind ready was);
+  }
+
   -- it was carried to its end
   pub written : Carries device old spool.blocks new → IsSpool spool → IsTied device new clean (length spool.changes)
   written carried sound = record {

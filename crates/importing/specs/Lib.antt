@@ -1,3 +1,4 @@
 pub mod Filing
+pub mod Room
 pub mod Saved
 pub mod Opening

@@ -4,7 +4,7 @@ ghost use Rattle.std.specs.Prelude.{◌<◌, OnOk};
 ghost use Rattle.model.specs.Calendar.{moment_limit};
 ghost use Rattle.importing.specs.Saved.{IsSaved};
 
-use crate::outcome::{Outcome, Refused};
+use crate::outcome::{Lack, Outcome};
 use crate::store::Store;
 use disk::Disk;
 use journal::JournalError;
@@ -16,6 +16,9 @@ use thiserror::Error;
 
 /// The most octets that are read at once.
 const PIECE: usize = 65_536;
+
+/// Why a text is refused for which the volume has room, and one of its groups has none.
+const FULL_GROUP: &str = "one of its groups takes no more articles (E6 Full)";
 
 /// Where a text stands in its batch.
 #[derive(Clone, Copy, Debug, PartialEq, Eq, Error)]
@@ -54,14 +57,13 @@ impl Counts {
             .saturating_add(self.refused)
     }
 
-    /// Counts a text. One for which there is no room isn't counted.
+    /// Counts a text. One for which there is no room counts as refused.
     fn add(&mut self, outcome: Outcome) {
         let count = match outcome {
             Outcome::Filed(_) => &mut self.filed,
             Outcome::Here => &mut self.here,
             Outcome::NoGroup => &mut self.no_group,
-            Outcome::Refused(_) => &mut self.refused,
-            Outcome::Full => return,
+            Outcome::Refused(_) | Outcome::Full => &mut self.refused,
         };
         *count = count.saturating_add(1);
     }
@@ -78,18 +80,21 @@ impl Display for Counts {
 }
 
 /// Why an import stopped before the end of its batch.
-#[derive(Clone, Copy, Debug, PartialEq, Eq, Error)]
+#[derive(Debug, Drop, Error)]
 pub enum Stop {
-    /// There is no room for the text here.
-    #[error("E6 Full: {0}")]
-    Full(Place),
+    /// The volume has no room for the text here, nor for any other.
+    #[error("E6 Full: {0}: {1}")]
+    Full(Place, Lack),
     /// The octets are no batch from here on.
     #[error("E14 Bad: {0}")]
     NotABatch(Refusal),
+    /// At this octet the batch could not be read, or the watcher not told.
+    #[error("octet {0}: {1}")]
+    Stream(u64, io::Error),
 }
 
 /// What an import did. All that it filed is durable.
-#[derive(Clone, Copy, Debug, PartialEq, Eq)]
+#[derive(Debug, Drop)]
 pub struct Report {
     pub counts: Counts,
     /// `None` if it came to the end of its batch.
@@ -105,9 +110,6 @@ pub enum ImportError {
     /// The device failed, or had failed before.
     #[error("{0}")]
     Device(JournalError),
-    /// The batch could not be read, or the watcher not told.
-    #[error("{0}")]
-    Stream(io::Error),
 }
 
 impl From<AllocError> for ImportError {
@@ -125,24 +127,14 @@ impl From<JournalError> for ImportError {
     }
 }
 
-impl From<io::Error> for ImportError {
-    /// A stream error for want of memory counts as any other refusal of memory.
-    fn from(error: io::Error) -> ImportError {
-        match error.kind() {
-            ErrorKind::OutOfMemory => ImportError::Memory,
-            _ => ImportError::Stream(error),
-        }
-    }
-}
-
 /// Who gives an import the time, and is told what it does.
 pub trait Watcher {
     /// The moment of what is filed now, in seconds since 1970.
     fn moment(&mut self) -> u64
         ensures { result < moment_limit };
 
-    /// A text was refused.
-    fn refused(&mut self, place: Place, why: Refused) -> io::Result<()>;
+    /// The text at this place was refused, for this cause in words.
+    fn refused(&mut self, place: Place, cause: &'static str) -> io::Result<()>;
 
     /// So many octets of the batch were read, and the texts in them were filed.
     fn progress(&mut self, octets: u64, counts: &Counts) -> io::Result<()>;
@@ -177,8 +169,10 @@ impl Batch {
     }
 }
 
-/// Files the texts of a batch, in order, each at the moment at which its last octet was read. What it filed is durable
-/// when it ends with a report. A failure leaves the first texts of it: a crash at any moment would leave the same.
+/// Files the texts of a batch, in order, each at the moment at which its last octet was read. It ends with a report at
+/// the end of the batch, and also where the batch stops being one, where a stream fails, or where the volume has no room
+/// for a text; what it filed is durable then. Where only one of a text's groups is full, the text is refused.
+/// A failure leaves the first texts: a crash at any moment would leave the same.
 pub fn import<D: Disk, I: Read, W: Watcher>(
     alloc: Global,
     store: &mut Store<D>,
@@ -210,7 +204,10 @@ fn file_all<D: Disk, I: Read, W: Watcher>(
     let mut piece = vec![in alloc; 0; PIECE]?;
     let mut octets: u64 = 0;
     for _ in 0..u64::MAX {
-        let read = input.read(&mut piece)?;
+        let read = match input.read(&mut piece) {
+            Ok(read) => read,
+            Err(error) => return stream_stop(octets, error),
+        };
         if read == 0 {
             break;
         }
@@ -220,9 +217,20 @@ fn file_all<D: Disk, I: Read, W: Watcher>(
             return Ok(stop);
         }
         octets = octets.saturating_add(read as u64);
-        watcher.progress(octets, &batch.counts)?;
+        if let Err(error) = watcher.progress(octets, &batch.counts) {
+            return stream_stop(octets, error);
+        }
     }
     Ok(batch.end())
+}
+
+/// Why the import stops where a stream failed at this octet. What failed for want of memory counts as any other refusal
+/// of memory.
+fn stream_stop(octet: u64, error: io::Error) -> Result<Option<Stop>, ImportError> {
+    match error.kind() {
+        ErrorKind::OutOfMemory => Err(ImportError::Memory),
+        _ => Ok(Some(Stop::Stream(octet, error))),
+    }
 }
 
 /// Files the texts of which all octets have been read. Answers why the import stops, if it does.
@@ -243,12 +251,44 @@ fn file_ready<D: Disk, W: Watcher>(
         };
         store.make_room()?;
         let outcome = store.file(alloc, &text, moment)?;
-        batch.counts.add(outcome);
-        match outcome {
-            Outcome::Full => return Ok(Some(Stop::Full(place))),
-            Outcome::Refused(why) => watcher.refused(place, why)?,
-            _ => {}
+        let stop = note(store, &mut batch.counts, watcher, place, outcome)?;
+        if stop.is_some() {
+            return Ok(stop);
         }
     }
     Ok(None)
+}
+
+/// Counts what became of a text, and tells the watcher if it was refused. Answers why the import stops, if it does.
+fn note<D: Disk, W: Watcher>(
+    store: &mut Store<D>,
+    counts: &mut Counts,
+    watcher: &mut W,
+    place: Place,
+    outcome: Outcome,
+) -> Result<Option<Stop>, ImportError> {
+    let cause = match outcome {
+        Outcome::Refused(why) => Some(why.words()),
+        Outcome::Full => match lack(store)? {
+            Some(lack) => return Ok(Some(Stop::Full(place, lack))),
+            None => Some(FULL_GROUP),
+        },
+        Outcome::Filed(_) | Outcome::Here | Outcome::NoGroup => None,
+    };
+    counts.add(outcome);
+    let Some(cause) = cause else {
+        return Ok(None);
+    };
+    match watcher.refused(place, cause) {
+        Ok(()) => Ok(None),
+        Err(error) => stream_stop(place.octet, error),
+    }
+}
+
+/// What the volume has too little of for any text, once all that was filed is durable.
+fn lack<D: Disk>(store: &mut Store<D>) -> Result<Option<Lack>, JournalError> {
+    match store.commit() {
+        Ok(()) => store.lack(),
+        Err(error) => Err(error),
+    }
 }

@@ -1,16 +1,18 @@
 //! Files the texts of a batch in a volume that no server serves, as transfers (IHAVE) would be, and makes them durable.
-//! `specs/Filing.antt` says what becomes of a text, `specs/Saved.antt` what a crash leaves.
+//! `specs/Filing.antt` says what becomes of a text, `specs/Room.antt` when a volume has no room for any, `specs/Saved.antt`
+//! what a crash leaves.
 #![tactic(auto)]
 
 mod batch;
 mod carrying;
 mod loading;
 mod outcome;
+mod room;
 mod store;
 mod transfer;
 mod writing;
 
 pub use batch::{Counts, ImportError, Place, Report, Stop, Watcher, import};
-pub use outcome::{Outcome, Refused};
+pub use outcome::{Lack, Outcome, Refused};
 pub use store::Store;
 pub use transfer::file_text;

@@ -2,6 +2,7 @@
 
 use article::Cause;
 use std::fmt::{self, Display, Formatter};
+use thiserror::Error;
 
 /// What became of a text that was to be filed.
 #[derive(Clone, Copy, Debug, PartialEq, Eq)]
@@ -14,8 +15,19 @@ pub enum Outcome {
     NoGroup,
     /// It is refused.
     Refused(Refused),
-    /// There is no room for it.
+    /// There is no room for it, in the volume or in a file of one of its groups. `Store::lack` tells which.
     Full,
+}
+
+/// What a volume has too little of for any text.
+#[derive(Clone, Copy, Debug, PartialEq, Eq, Error)]
+pub enum Lack {
+    /// Fewer than 256 blocks are free.
+    #[error("fewer than 256 blocks are free")]
+    Blocks,
+    /// No inode is free.
+    #[error("no inode is free")]
+    Inodes,
 }
 
 /// Why a text is refused.

@@ -1,16 +1,19 @@
 //! A volume that no server serves, to which texts are added.
 
-ghost use Rattle.std.specs.Prelude.{◌≡◌, ◌≢◌, ◌<◌, ◌≤◌, [], IfErr, IfOk, IsTrue, OnErr, OnOk, length};
+ghost use Rattle.std.specs.Prelude.{◌≡◌, ◌≢◌, ◌+◌, ◌<◌, ◌≤◌, [], IfErr, IfOk, IsTrue, OnErr, OnOk, length};
 ghost use Rattle.journal.specs.Journal.{IsCaused, IsReady};
 ghost use Rattle.model.specs.Calendar.{moment_limit};
+ghost use Rattle.model.specs.Files.{free_blocks};
 ghost use Rattle.opening.specs.Standing as standing;
 ghost use Rattle.opening.specs.Standing.{IsDamagedVolume, IsNoNewsVolume};
 ghost use Rattle.rnews.specs.LineEnds as ends;
 ghost use Rattle.importing.specs.Filing.{Becomes};
 ghost use Rattle.importing.specs.Opening.{IsOpened};
+ghost use Rattle.importing.specs.Room.{lack_of};
 
 use crate::loading::load;
-use crate::outcome::Outcome;
+use crate::outcome::{Lack, Outcome};
+use crate::room::{blocks_used, lack_by};
 use crate::transfer::file_text;
 use crate::writing::write;
 use disk::Disk;
@@ -150,6 +153,32 @@ impl<D: Disk> Store<D> {
         self.durable = self.spool.len();
         self.spool.kept();
         Ok(())
+    }
+
+    /// What the volume has too little of for any text: fewer than 256 blocks are free, or no inode. `None` if there is
+    /// enough of both; then a text for which there is no room has a group whose files are full. All changes must be
+    /// durable, since the free blocks are counted by the bitmap on the device. The only refusal is `Fault` (E1).
+    pub fn lack(&mut self) -> Result<Option<Lack>, JournalError>
+        requires { IsSaved D.device self.old }
+        ensures value { IsTrue (D.device self.new.journal.disk).tells → IfOk result (λ lack. lack ≡ lack_of self.new.spool) }
+        ensures spool { self.new.spool ≡ self.old.spool }
+        ensures durable { self.new.durable ≡ self.old.durable }
+    {
+        let used = self.blocks_used()?;
+        Ok(lack_by(&self.spool, used))
+    }
+
+    /// The number of used blocks of a volume whose changes are all durable.
+    fn blocks_used(&mut self) -> Result<u64, JournalError>
+        requires { IsSaved D.device self.old }
+        ensures value { IsTrue (D.device self.new.journal.disk).tells
+            → IfOk result (λ used. used + free_blocks self.new.spool.blocks ≡ length self.new.spool.blocks) }
+        ensures spool { self.new.spool ≡ self.old.spool }
+        ensures durable { self.new.durable ≡ self.old.durable }
+    {
+        // its clauses state that the blocks hold the changes
+        self.spool.kept();
+        blocks_used(&mut self.journal)
     }
 
     /// The device, as the store leaves it.

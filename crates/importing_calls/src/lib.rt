@@ -1,10 +1,12 @@
-//! What becomes of the texts of a batch, and what a failing device leaves of them.
+//! What becomes of the texts of a batch, and what a failing device or stream leaves of them.
 #![tactic(auto)]
 
 #[cfg(test)]
 mod devices;
 #[cfg(test)]
 mod outcomes;
+#[cfg(test)]
+mod streams;
 #[cfg(test)]
 mod volumes;
 #[cfg(test)]

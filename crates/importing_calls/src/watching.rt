@@ -4,9 +4,9 @@ ghost use Rattle.std.specs.Prelude.{◌<◌};
 ghost use Rattle.model.specs.Calendar.{moment_limit};
 
 use disk::Disk;
-use importing::{Counts, ImportError, Place, Refused, Report, Store, Watcher, import};
+use importing::{Counts, ImportError, Place, Report, Store, Watcher, import};
 use std::alloc::Global;
-use std::io;
+use std::io::{self, ErrorKind, Read};
 use std::test::Fail;
 
 /// The moment of all texts, in seconds since 1970.
@@ -17,6 +17,8 @@ const MOMENT: u64 = 1_000_000_000;
 pub(crate) struct Log {
     alloc: Global,
     text: String,
+    /// It can't be told of a refusal.
+    is_deaf: bool,
 }
 
 impl Log {
@@ -24,6 +26,16 @@ impl Log {
         Log {
             alloc,
             text: String::new(alloc),
+            is_deaf: false,
+        }
+    }
+
+    /// A log that can't be told of a refusal.
+    pub(crate) fn deaf(alloc: Global) -> Log {
+        Log {
+            alloc,
+            text: String::new(alloc),
+            is_deaf: true,
         }
     }
 
@@ -32,7 +44,7 @@ impl Log {
         let Log { alloc, mut text } = self;
         let counts = format!(in alloc; "{}\n", report.counts)?;
         text.push_str(&counts)?;
-        if let Some(stop) = report.stop {
+        if let Some(stop) = &report.stop {
             let said = format!(in alloc; "{stop}\n")?;
             text.push_str(&said)?;
         }
@@ -45,8 +57,11 @@ impl Watcher for Log {
         MOMENT
     }
 
-    fn refused(&mut self, place: Place, why: Refused) -> io::Result<()> {
-        let said = format!(in self.alloc; "{place}: {why}\n")?;
+    fn refused(&mut self, place: Place, cause: &'static str) -> io::Result<()> {
+        if self.is_deaf {
+            return Err(io::Error::from(ErrorKind::BrokenPipe));
+        }
+        let said = format!(in self.alloc; "{place}: {cause}\n")?;
         self.text.push_str(&said)?;
         Ok(())
     }
@@ -62,12 +77,20 @@ pub(crate) fn said<D: Disk>(
     store: &mut Store<D>,
     batch: &[u8],
 ) -> Result<String, Fail> {
-    let mut log = Log::new(alloc);
     let mut input = batch;
-    match import(alloc, store, &mut input, &mut log) {
+    said_to(alloc, store, &mut input, Log::new(alloc))
+}
+
+/// Imports a batch from a reader and answers all that it said to the log.
+pub(crate) fn said_to<D: Disk, I: Read>(
+    alloc: Global,
+    store: &mut Store<D>,
+    input: &mut I,
+    mut log: Log,
+) -> Result<String, Fail> {
+    match import(alloc, store, input, &mut log) {
         Ok(report) => log.with_report(&report),
         Err(ImportError::Memory) => Err("E2 Memory")?,
         Err(ImportError::Device(error)) => Err(error)?,
-        Err(ImportError::Stream(error)) => Err(error)?,
     }
 }

@@ -107,14 +107,14 @@ pub fn import<R: Files<File = File> + Clock, I: BufRead, W: Write, F: Write>(
         Ok(report) => report,
         Err(error) => return fail(faults, &Failure::Command(error)),
     };
-    if let Err(error) = print_counts(&report.counts, output) {
+    let printed = print_counts(&report.counts, output);
+    if let Some(stop) = &report.stop {
+        let _ = writeln!(faults, "newsd: {stop}");
+    }
+    if let Err(error) = printed {
         return fail(faults, &Failure::from(error));
     }
-    if let Some(stop) = report.stop {
-        let _ = writeln!(faults, "newsd: {stop}");
-        return REFUSED;
-    }
-    if report.counts.refused == 0 {
+    if report.stop.is_none() && report.counts.refused == 0 {
         DONE
     } else {
         REFUSED

@@ -1,0 +1,96 @@
+-- What a volume has too little of, by its used blocks and its files.
+use Rattle.std.proofs.Common.{◌≡◌, ℕ, ◌+◌, ◌-◌, ◌*◌, ◌<◌, ◌≤◌, Bool, true, false, List, [], length, refl, sym, ◌∙◌, ap, subst, arith}
+use Rattle.std.specs.Prelude.{if◌then◌else◌, nat_lt, slice_index_or, Option, Some, None}
+use Rattle.std.proofs.lemmas.Bool.{le-ltb, lt-ltb, true≢false}
+use Rattle.std.proofs.lemmas.List.FromFn.{length-map-range_with_len}
+use Rattle.std.proofs.lemmas.List.Sorted.{length_permutation, sum_by-IsPermutation}
+use Rattle.model.specs.Files.{File, file_at, first_data, free_blocks, table}
+use Rattle.model.specs.Room.{blocks_for}
+use Rattle.model.specs.Spool.{groups}
+use Rattle.model.specs.SpoolFiles.{files_of}
+use Rattle.model.specs.Stream.{Octets}
+use Rattle.model.proofs.Counting.{free_is_beside}
+use Rattle.model.proofs.HoldsOne.{there_few}
+use Rattle.model.proofs.Opening.{files_counted}
+use Rattle.spool_files.specs.View.{IsSpool, SpoolView}
+use Rattle.usage.proofs.Counted.{bits_used}
+use Rattle.usage.specs.Usage.{used_in}
+use Rattle.volume.specs.Volume.{AgreeOutside}
+use Rattle.importing.specs.Room.{free_blocks_of, free_inodes_of, lack_of}
+use Rattle.importing.specs.declared.outcome.Lack.{Lack}
+use Rattle.importing.specs.declared.outcome.Lack.TheVariants.{Blocks, Inodes}
+
+-- ---- the first of two that is lacking
+
+abbrev first_of : Bool → Bool → Option Lack
+first_of b i = if b then Some Blocks else if i then Some Inodes else None
+
+few_blocks : (b i : Bool) → b ≡ true → Some Blocks ≡ first_of b i
+few_blocks true i is = refl
+few_blocks false i is = absurd (true≢false (sym is))
+
+few_inodes : (b i : Bool) → b ≡ false → i ≡ true → Some Inodes ≡ first_of b i
+few_inodes true i some is = absurd (true≢false some)
+few_inodes false true some is = refl
+few_inodes false false some is = absurd (true≢false (sym is))
+
+enough_of_both : (b i : Bool) → b ≡ false → i ≡ false → None ≡ first_of b i
+enough_of_both true i some none = absurd (true≢false some)
+enough_of_both false true some none = absurd (true≢false none)
+enough_of_both false false some none = refl
+
+module _ (s : SpoolView) (sound : IsSpool s) where
+  files_counted_in : length (files_of s.changes) ≤ s.inodes
+  files_counted_in =
+      omega (
+        arith,
+        length_permutation sound.held.files (files_of s.changes) sound.held.same,
+        ap (λ (fs : List File). length fs) sound.held.held.contents,
+        there_few (table s.inodes s.blocks),
+        length-map-range_with_len (λ k. file_at s.inodes s.blocks k) 0 s.inodes,
+      )
+
+  pub few_files : length s.changes + 2 * length (groups s.changes) ≤ 32768
+  few_files = omega (arith, files_counted_in, files_counted s.changes, sound.room.few)
+
+  blocks_beside : free_blocks s.blocks ≡ free_blocks_of s
+  blocks_beside =
+      (free_is_beside s.inodes s.blocks sound.held.files sound.room sound.held.held).blocks_are
+      ∙ ap (λ (n : ℕ). length s.blocks - (first_data s.inodes + n))
+      (sym (sum_by-IsPermutation (λ (f : File). blocks_for (length f.content)) sound.held.files (files_of s.changes) sound.held.same))
+
+  module _ (used : ℕ) (counted : used + free_blocks s.blocks ≡ length s.blocks) where
+    free_is : free_blocks_of s ≡ length s.blocks - used
+    free_is = sym blocks_beside ∙ omega (arith, counted)
+
+    pub lacks_blocks : length s.blocks - used < 256 → Some Blocks ≡ lack_of s
+    lacks_blocks few =
+        few_blocks (nat_lt (free_blocks_of s) 256) (nat_lt (free_inodes_of s) 1)
+        (lt-ltb (free_blocks_of s) 256 (subst (λ (n : ℕ). n < 256) (sym free_is) few))
+
+    module _ (enough : 256 ≤ length s.blocks - used) where
+      some_blocks : nat_lt (free_blocks_of s) 256 ≡ false
+      some_blocks = le-ltb (free_blocks_of s) 256 (subst (λ (n : ℕ). 256 ≤ n) (sym free_is) enough)
+
+      pub lacks_inodes : s.inodes ≤ length (files_of s.changes) → Some Inodes ≡ lack_of s
+      lacks_inodes all =
+          few_inodes (nat_lt (free_blocks_of s) 256) (nat_lt (free_inodes_of s) 1) some_blocks
+          (lt-ltb (free_inodes_of s) 1 (omega (arith, all)))
+
+      pub lacks_nothing : length (files_of s.changes) < s.inodes → None ≡ lack_of s
+      lacks_nothing some =
+          enough_of_both (nat_lt (free_blocks_of s) 256) (nat_lt (free_inodes_of s) 1) some_blocks
+          (le-ltb (free_inodes_of s) 1 (omega (arith, some)))
+
+-- ---- where no block is dirty, the bitmap on the device is that of the spool
+
+pub used_are : (s : SpoolView) (blocks : List Octets) (used : ℕ) → IsSpool s → s.dirty ≡ [] → AgreeOutside s.dirty blocks s.blocks
+    → used ≡ used_in (slice_index_or blocks 0 []) + used_in (slice_index_or blocks 1 [])
+    → used + free_blocks s.blocks ≡ length s.blocks
+used_are s blocks used sound clean agrees is =
+    let all : AgreeOutside [] blocks s.blocks = subst (λ (ns : List ℕ). AgreeOutside ns blocks s.blocks) clean agrees in
+    let first : used_in (slice_index_or blocks 0 []) ≡ used_in (slice_index_or s.blocks 0 []) =
+    ap used_in (all.same 0 (λ has. omega (arith, has.1))) in
+    let second : used_in (slice_index_or blocks 1 []) ≡ used_in (slice_index_or s.blocks 1 []) =
+    ap used_in (all.same 1 (λ has. omega (arith, has.1))) in
+    omega (arith, is, first, second, bits_used s.inodes s.blocks sound.room sound.held.held.rule)

@@ -1,0 +1,68 @@
+//! What a volume has too little of for a text.
+
+ghost use Rattle.std.specs.Prelude.{◌≡◌, ◌+◌, ◌<◌, [], IfOk, IsTrue, OnOk, length, slice_index_or};
+ghost use Rattle.journal.specs.Journal.{IsReady};
+ghost use Rattle.model.specs.Files.{free_blocks};
+ghost use Rattle.usage.specs.Usage.{used_in};
+ghost use Rattle.importing.specs.Room.{lack_of};
+
+use crate::outcome::Lack;
+use disk::Disk;
+use journal::{Journal, JournalError};
+use lookups::LookUps;
+use spool_files::Spool;
+use usage::{inodes_used, used_blocks};
+use volume::BLOCK_SIZE;
+
+/// A change is made only if this many blocks are free.
+const BLOCKS_ASKED: u64 = 256;
+
+/// What the volume has too little of for any text, where so many of its blocks are used. `None` if it has enough.
+pub(crate) fn lack_by(spool: &Spool, used: u64) -> Option<Lack>
+    ensures { used + free_blocks spool.now.blocks ≡ length spool.now.blocks → result ≡ lack_of spool.now }
+{
+    // its clauses state that the inodes suffice for the files
+    spool.kept();
+    let free = u64::from(spool.blocks()).saturating_sub(used);
+    if free < BLOCKS_ASKED {
+        return Some(Lack::Blocks);
+    }
+    if u64::from(spool.inodes()) <= inodes_used(spool.len(), spool.group_count() as u64) {
+        return Some(Lack::Inodes);
+    }
+    None
+}
+
+/// The number of used blocks, by two reads of the bitmap on the device: the logical blocks 0 and 1 (docs/FORMATS.md).
+/// The only refusal is `Fault`, which halts the journal for good.
+pub(crate) fn blocks_used<D: Disk>(journal: &mut Journal<D>) -> Result<u64, JournalError>
+    requires { IsReady journal.old }
+    ensures label { journal.new.label ≡ journal.old.label }
+    ensures size { journal.new.size ≡ journal.old.size }
+    ensures tells { (D.device journal.new.disk).tells ≡ (D.device journal.old.disk).tells }
+    ensures blocks { IsTrue (D.device journal.old.disk).tells → journal.new.blocks ≡ journal.old.blocks }
+    ensures value { IsTrue (D.device journal.old.disk).tells
+        → IfOk result (λ used. used ≡ used_in (slice_index_or journal.old.blocks 0 []) + used_in (slice_index_or journal.old.blocks 1 [])) }
+{
+    // its clauses state that there are two blocks
+    let _idle = journal.is_idle();
+    let first = used_in_block(journal, 0)?;
+    let second = used_in_block(journal, 1)?;
+    Ok(u64::from(first) + u64::from(second))
+}
+
+/// The number of blocks that a block of the bitmap on the device marks as used.
+fn used_in_block<D: Disk>(journal: &mut Journal<D>, block: u64) -> Result<u32, JournalError>
+    requires ready { IsReady journal.old }
+    requires below { block < journal.old.size }
+    ensures ready { OnOk result (IsReady journal.new) }
+    ensures label { journal.new.label ≡ journal.old.label }
+    ensures size { journal.new.size ≡ journal.old.size }
+    ensures tells { (D.device journal.new.disk).tells ≡ (D.device journal.old.disk).tells }
+    ensures blocks { IsTrue (D.device journal.old.disk).tells → journal.new.blocks ≡ journal.old.blocks }
+    ensures value { IsTrue (D.device journal.old.disk).tells → IfOk result (λ used. used ≡ used_in (slice_index_or journal.old.blocks block [])) }
+{
+    let mut octets = [0; BLOCK_SIZE];
+    journal.load(block, &mut octets)?;
+    Ok(used_blocks(&octets))
+}
