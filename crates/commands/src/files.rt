@@ -74,7 +74,7 @@ pub(crate) fn open_counted<R: Files<File = File>>(
 }
 
 /// The refusal of an opening.
-fn not_opened(error: OpenError) -> CommandError {
+pub(crate) fn not_opened(error: OpenError) -> CommandError {
     match error {
         OpenError::Fault => CommandError::Fault,
         OpenError::Memory => CommandError::Memory,

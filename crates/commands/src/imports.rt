@@ -3,7 +3,7 @@
 ghost use Rattle.std.specs.Prelude.{◌<◌};
 ghost use Rattle.model.specs.Calendar.{moment_limit};
 
-use crate::files::find;
+use crate::files::{find, not_opened};
 use importing::{Counts, ImportError, Place, Refused, Report, Store, Watcher};
 use printing::CommandError;
 use std::alloc::Global;
@@ -105,7 +105,7 @@ pub fn import<R: Files<File = File> + Clock, I: Read, F: Write>(
     let disk = find(rt, alloc, path)?;
     let mut store = match Store::open(alloc, WCache::new(alloc, disk)) {
         Ok(store) => store,
-        Err(error) => return Err(CommandError::NotOpened(error)),
+        Err(error) => return Err(not_opened(error)),
     };
     let mut teller = Teller::new(rt, faults, is_terminal)?;
     let imported = importing::import(alloc, &mut store, input, &mut teller);

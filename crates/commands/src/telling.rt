@@ -1,6 +1,6 @@
 //! Tells the state of a volume.
 
-use crate::files::find;
+use crate::files::{find, not_opened};
 use printing::CommandError;
 use reporting::{VolumeStatus, json_text, table_text};
 use std::alloc::Global;
@@ -36,5 +36,5 @@ fn state_of<R: Files<File = File>>(
     path: &str,
 ) -> Result<VolumeStatus, CommandError> {
     let disk = find(rt, alloc, path)?;
-    state_on(alloc, WCache::new(alloc, disk)).map_err(CommandError::NotOpened)
+    state_on(alloc, WCache::new(alloc, disk)).map_err(not_opened)
 }
