@@ -85,16 +85,16 @@ def the_ten_commands_serve_a_group(volume):
 
 
 def a_volume_is_moved_to_a_larger_one(volume):
-    """By the commands of the page. Articles that were named here are among those that are moved."""
+    """By the commands of the page. Articles that were named here are among those that are moved, and a group is called like an option."""
     place = place_of(volume)
-    for name, status in ((GROUP, "y"), ("x.b", "n")):
-        volume.run("group", volume.path, name, status, "1000000000", "test").check_returncode()
+    for name, status in ((GROUP, "y"), ("x.b", "n"), ("-x.c", "y")):
+        volume.run("group", volume.path, "--", name, status, "1000000000", "test").check_returncode()
     with volume.serve() as server, server.call() as caller:
         for number in range(1, 4):
             assert caller.post(article(number)) == "240 Article received"
         assert caller.post(b"From: a@example.org\r\nNewsgroups: x.b,x.a\r\nSubject: named here\r\n\r\nhi\r\n.\r\n") == "441 Article not accepted"
         assert caller.post(b"From: a@example.org\r\nNewsgroups: x.a\r\nSubject: named here\r\n\r\nhi\r\n.\r\n") == "240 Article received"
-        assert server.order("expire x.a 1") == "7"
+        assert server.order("expire x.a 1") == "8"
     os.symlink(volume.program, place + "/newsd")
     os.symlink(volume.path, place + "/news.volume")
     commands = COMMANDS.findall(read(PAGE))[1]
@@ -102,11 +102,11 @@ def a_volume_is_moved_to_a_larger_one(volume):
     given = dict(os.environ, PATH="%s:%s" % (place, os.environ["PATH"]))
     words = ["bash", "-e", "-o", "pipefail", "-c", commands]
     done = subprocess.run(words, cwd=place, env=given, capture_output=True, text=True, stdin=subprocess.DEVNULL, timeout=SECONDS_OF_THE_TEN)
-    assert (done.returncode, done.stdout, done.stderr) == (0, "1\n2\nfiled 3\nhere 0\nno group 0\nrefused 0\n", ""), done
+    assert (done.returncode, done.stdout, done.stderr) == (0, "1\n2\n3\nfiled 3\nhere 0\nno group 0\nrefused 0\n", ""), done
     larger = volume.run("dump", place + "/larger.volume").stdout.decode().splitlines()
-    named = "<6@%s>" % HOST
-    assert larger == ["spool 5", "1 group x.a y", "2 group x.b n", "3 article <2@a.example> x.a", "4 article <3@a.example> x.a",
-                      "5 article %s x.a" % named], larger
+    named = "<7@%s>" % HOST
+    assert larger == ["spool 6", "1 group x.a y", "2 group x.b n", "3 group -x.c y", "4 article <2@a.example> x.a",
+                      "5 article <3@a.example> x.a", "6 article %s x.a" % named], larger
     assert volume.run("export", place + "/larger.volume").stdout == volume.export()
 
 

@@ -1,5 +1,6 @@
 #!/usr/bin/env python3
 """System tests of the commands over a volume in a file, and of its largest sizes. volumes.py NEWSD [NAME..]"""
+import os
 import struct
 import sys
 
@@ -8,12 +9,15 @@ from playing import Skipped, main
 from syncs import count_calls
 
 MOMENT = 1000000000
+FAILED = "E1 Fault: the device failed"
 
 
 def what_can_not_be_served_is_refused(volume):
     directory = volume.path.rsplit("/", 1)[0]
     with open(directory + "/text", "w") as text:
         text.write("no volume")
+    pipe = directory + "/pipe"
+    os.mkfifo(pipe)
     for words, status, said in (
         (["serve", directory, "--port", "1"], 1, "E1 Fault: the file can't be opened: is a directory"),
         (["dump", directory + "/none"], 1, "E1 Fault: the file isn't there"),
@@ -44,6 +48,7 @@ def what_can_not_be_served_is_refused(volume):
         (["export", directory + "/none"], 1, "E1 Fault: the file isn't there"),
         (["export", directory + "/text", "x.a"], 1, NO_SUPERBLOCK),
         (["export"], 2, None),
+        *(([word, path], 1, FAILED) for word in ("dump", "status", "export", "import") for path in ("/dev/zero", pipe)),
     ):
         done = volume.run(*words)
         assert done.returncode == status and done.stdout == b"", (words, done)

@@ -9,29 +9,58 @@ use std::rt::Files;
 /// Where Linux lists the locks of files, one a line: `1: FLOCK  ADVISORY  WRITE 1234 fe:00:2302187 0 EOF` (proc_locks(5)).
 const LOCKS: &str = "/proc/locks";
 
+/// A file as the list of locks names it. Files of two devices may have one inode number.
+#[derive(Clone, Copy, PartialEq, Eq)]
+pub(crate) struct Node {
+    pub(crate) major: u64,
+    pub(crate) minor: u64,
+    pub(crate) inode: u64,
+}
+
+impl Node {
+    /// The file with this inode on the device of this number, whose hexadecimal digits are `MMMMMmmmmmmMMMmm`: those of
+    /// the major and of the minor number, each in two parts (makedev(3)).
+    pub(crate) fn new(device: u64, inode: u64) -> Node {
+        Node {
+            major: (device >> 8) & 0xfff | (device >> 32) & 0xffff_f000,
+            minor: device & 0xff | (device >> 12) & 0xffff_ff00,
+            inode,
+        }
+    }
+
+    /// Reads `MAJOR:MINOR:INODE`, of which the first two are in hexadecimal.
+    fn read(text: &str) -> Option<Node> {
+        let mut numbers = text.split(':');
+        Some(Node {
+            major: u64::from_str_radix(numbers.next()?, 16).ok()?,
+            minor: u64::from_str_radix(numbers.next()?, 16).ok()?,
+            inode: numbers.next()?.parse::<u64>().ok()?,
+        })
+    }
+}
+
 /// The process that holds the lock of the file at `path`, if the system tells.
 pub fn holder<R: Files<File = File>>(rt: &R, alloc: Global, path: &str) -> Option<u32> {
-    let inode = fs::metadata(rt, path).ok()?.ino();
+    let metadata = fs::metadata(rt, path).ok()?;
     let mut locks = String::new(alloc);
     let _ = File::open(rt, LOCKS).ok()?.read_to_string(&mut locks).ok()?;
-    holder_in(locks.as_str(), inode)
+    holder_in(locks.as_str(), Node::new(metadata.dev(), metadata.ino()))
 }
 
-/// The process that holds the lock of the file with this inode, by a list of locks.
-pub(crate) fn holder_in(locks: &str, inode: u64) -> Option<u32> {
-    locks.lines().find_map(|line| holder_by(line, inode))
+/// The process that holds the lock of this file, by a list of locks.
+pub(crate) fn holder_in(locks: &str, node: Node) -> Option<u32> {
+    locks.lines().find_map(|line| holder_by(line, node))
 }
 
-/// The process of a line, if it holds the lock of the file with this inode. A process that waits for a lock has an
-/// arrow behind the line's number, and one that isn't seen from here has the number 0.
-fn holder_by(line: &str, inode: u64) -> Option<u32> {
+/// The process of a line, if it holds the lock of this file. A process that waits for a lock has an arrow behind the
+/// line's number, and one that isn't seen from here has the number 0.
+fn holder_by(line: &str, node: Node) -> Option<u32> {
     let mut words = line.split_ascii_whitespace();
     if words.nth(1)? != "FLOCK" {
         return None;
     }
     let process = words.nth(2)?.parse::<u32>().ok()?;
-    let (_, of_file) = words.next()?.rsplit_once(':')?;
-    if process == 0 || of_file.parse::<u64>().ok()? != inode {
+    if process == 0 || Node::read(words.next()?)? != node {
         return None;
     }
     Some(process)

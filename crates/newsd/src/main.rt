@@ -1,9 +1,19 @@
 //! `newsd`, a Usenet server that releases no reply before the changes that it depends on are on disk.
 #![tactic(auto)]
 
+mod closed;
+
+use closed::{ClosedStreams, NULL_DEVICE};
 use program::{Failure, Outcome, Streams, fail, import, run, serve};
-use std::io::{BufReader, BufWriter, IsTerminal, StdinLock, Stdout};
+use std::alloc::Global;
+use std::fs::File;
+use std::io::{BufReader, BufWriter, IsTerminal, Stderr, StdinLock, Stdout, Write};
+use std::net::{Net, TcpListener, TcpStream};
 use std::process::ExitCode;
+use std::rt::Files;
+use std::sync::Wait;
+use std::thread::Threads;
+use std::time::Clock;
 
 /// What the program starts with.
 #[derive(Drop)]
@@ -26,47 +36,59 @@ impl Start {
 }
 
 fn main(rt: HostRuntime) -> ExitCode {
-    let alloc = rt.alloc();
     let mut faults = rt.stderr();
-    let status = match Start::new(&rt) {
-        Ok(start) => {
-            let Start {
-                words,
-                mut input,
-                mut output,
-            } = start;
-            match run(
-                &rt,
-                alloc,
-                words.as_slice(),
-                &mut input,
-                &mut output,
-                &mut faults,
-            ) {
-                Outcome::Ends(status) => status,
-                Outcome::Imports(path) => {
-                    let is_terminal = faults.is_terminal();
-                    import(
-                        &rt,
-                        alloc,
-                        path,
-                        &mut input,
-                        &mut output,
-                        &mut faults,
-                        is_terminal,
-                    )
-                }
-                Outcome::Serves(service) => {
-                    let streams = Streams {
-                        lines: input,
-                        answers: output,
-                        faults: rt.stderr(),
-                    };
-                    serve(&rt, alloc, &service, streams, &mut faults)
-                }
-            }
+    let _closed = match ClosedStreams::hold(&rt) {
+        Ok(closed) => closed,
+        Err(error) => {
+            let _ = writeln!(faults, "newsd: {NULL_DEVICE}: {error}");
+            return ExitCode::FAILURE;
         }
+    };
+    let status = match Start::new(&rt) {
+        Ok(start) => carry_out(&rt, rt.alloc(), start, &mut faults, rt.stderr()),
         Err(failure) => fail(&mut faults, &failure),
     };
     ExitCode::from(status)
+}
+
+/// Does what the words ask for, and answers the status. A server's log goes to `log`.
+fn carry_out<
+    R: Files<File = File>
+        + Net<Listener = TcpListener, Stream = TcpStream>
+        + Threads
+        + Wait
+        + Clock
+        + Copy
+        + Send
+        + Sync
+        + 'static,
+>(rt: &R, alloc: Global, start: Start, faults: &mut Stderr, log: Stderr) -> u8 {
+    let Start {
+        words,
+        mut input,
+        mut output,
+    } = start;
+    match run(rt, alloc, words.as_slice(), &mut input, &mut output, faults) {
+        Outcome::Ends(status) => status,
+        Outcome::Imports(path) => {
+            let is_terminal = faults.is_terminal();
+            import(
+                rt,
+                alloc,
+                path,
+                &mut input,
+                &mut output,
+                faults,
+                is_terminal,
+            )
+        }
+        Outcome::Serves(service) => {
+            let streams = Streams {
+                lines: input,
+                answers: output,
+                faults: log,
+            };
+            serve(rt, alloc, &service, streams, faults)
+        }
+    }
 }

@@ -53,9 +53,18 @@ pub fn run<'a, R: Files<File = File> + Wait, S: AsStr, I: BufRead, W: Write, F: 
         },
         Err(failure) => fail(faults, &failure),
     };
-    let _ = output.flush();
+    let status = flush(status, output, faults);
     let _ = faults.flush();
     Outcome::Ends(status)
+}
+
+/// Flushes the output of a command, and answers the status with which the program ends: that of the command, but
+/// `REFUSED`, with the refusal on `faults`, if the command was done and its output can't be written.
+fn flush<W: Write, F: Write>(status: u8, output: &mut W, faults: &mut F) -> u8 {
+    match output.flush() {
+        Err(error) if status == DONE => fail(faults, &Failure::from(error)),
+        _ => status,
+    }
 }
 
 /// Serves a volume until the operator stops the server or its device fails, and answers the status. The log goes to a
