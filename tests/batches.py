@@ -29,7 +29,14 @@ LONGEST_HEADER = 8192
 MANY, VOLUMES, KILLS_EACH = 1000, 4, 5
 # a volume with room for them is small, and soon made and opened
 SMALL = {"blocks": 2048, "inodes": 1088}
-KINDS = ("filed", "here", "no group", "refused")
+KINDS = ("filed", "here", "no group")
+FULL_GROUP = "one of its groups takes no more articles (E6 Full)"
+NO_END = "no empty line follows the header"
+# the causes for which an article is refused, in the order in which they are counted
+CAUSES = (
+    "it holds NUL or a single CR, or its last line has no end", NO_END, "a line of the header is no field", "a field occurs twice",
+    "a mandatory field is missing", "the message-id isn't valid", "its groups aren't 1 to 16 different group names",
+    "its header has more than 8192 octets, or the article more than 262144", "the message-id is one of this host's own", FULL_GROUP)
 # what begins a line of progress in the place of the last one, and the line
 ERASE = "\r\x1b[K"
 PROGRESS = re.compile(r"(\d+) articles, (\d+) octets, (\d+) articles a second")
@@ -176,7 +183,7 @@ def each_article_has_an_outcome(volume):
         (plain.replace(b"hi", b"h\0i"), "refused", "it holds NUL or a single CR, or its last line has no end"),
         (plain.replace(b"hi", b"h\ri"), "refused", "it holds NUL or a single CR, or its last line has no end"),
         (with_lf(text_of(4))[:-1], "refused", "it holds NUL or a single CR, or its last line has no end"),
-        (b"\n".join(lines[:lines.index(b"")]) + b"\n", "refused", "no empty line follows the header"),
+        (b"\n".join(lines[:lines.index(b"")]) + b"\n", "refused", NO_END),
         (b"no field\n" + plain, "refused", "a line of the header is no field"),
         (b"Subject: two\n" + plain, "refused", "a field occurs twice"),
         (plain.replace(b"From: a@example.org\n", b""), "refused", "a mandatory field is missing"),
@@ -198,7 +205,6 @@ def each_article_has_an_outcome(volume):
         other.make_group()
         texts = [row[0].replace(b"\n", ends) for row in rows]
         done = imported(other, batch(texts))
-        assert (done.returncode, done.stdout.decode()) == (1, counts(*(sum(row[1] == kind for row in rows) for kind in KINDS))), done
         said, octet = [], 0
         for number, (text, row) in enumerate(zip(texts, rows), 1):
             if row[1] == "refused":
@@ -206,6 +212,8 @@ def each_article_has_an_outcome(volume):
             octet += len(batch([text]))
         heard = done.stderr.decode().splitlines()
         assert len(heard) == len(said), heard
+        causes = [line.split(": ", 2)[2] for line in heard]
+        assert (done.returncode, done.stdout.decode()) == (1, counts(*(sum(row[1] == kind for row in rows) for kind in KINDS), causes)), done
         for line, wanted in zip(heard, said):
             assert line == wanted or wanted.endswith(": None") and line.startswith(wanted[:-4]), (line, wanted)
         assert ids_of(other) == [message_id(number) for number in (1, 3, 6, 8)]
@@ -283,13 +291,13 @@ def a_full_group_ends_no_import(volume):
     filed = len(there) - len(others)
     assert 500 < filed < len(large) and there[filed:] == [message_id("other%d" % number) for number in range(4)], there
     refused = [*enumerate(large, 1)][filed:] + [(len(large) + 2, both)]
-    assert (done.returncode, done.stdout.decode()) == (1, counts(filed=len(there), refused=len(refused))), done
+    assert (done.returncode, done.stdout.decode()) == (1, counts(filed=len(there), causes=[FULL_GROUP] * len(refused))), done
     places = {number: len(batch([*large, others[0]][:number - 1])) for number, _ in refused}
-    said = ["newsd: article %d at octet %d: one of its groups takes no more articles (E6 Full)" % it for it in places.items()]
+    said = ["newsd: article %d at octet %d: %s" % (*it, FULL_GROUP) for it in places.items()]
     assert done.stderr.decode().splitlines() == said, done.stderr
     # one of the full group that comes first keeps none back
     done = imported(volume, batch([both, with_lf(text_of("last")).replace(b"Newsgroups: x.a", b"Newsgroups: x.b")]))
-    assert (done.returncode, done.stdout.decode()) == (1, counts(filed=1, refused=1)), done
+    assert (done.returncode, done.stdout.decode()) == (1, counts(filed=1, causes=[FULL_GROUP])), done
 
 
 def a_stream_that_fails_ends_an_import(volume):
@@ -313,7 +321,7 @@ def a_stream_that_fails_ends_an_import(volume):
     assert ids_of(volume) == [message_id(0), message_id(1)]
     with open("/dev/full", "w") as full:
         done = subprocess.run(words, input=batch([*texts[:4], b"x\n", texts[4]]), stdout=subprocess.PIPE, stderr=full, timeout=SECONDS)
-    assert (done.returncode, done.stdout.decode()) == (1, counts(filed=2, here=2, refused=1)), done
+    assert (done.returncode, done.stdout.decode()) == (1, counts(filed=2, here=2, causes=[NO_END])), done
     assert ids_of(volume) == [message_id(number) for number in range(4)]
 
 
@@ -508,9 +516,10 @@ def import_whole(volume, written, **counted):
     assert (done.returncode, done.stdout.decode(), done.stderr.decode()) == (0, counts(**counted), ""), done
 
 
-def counts(filed=0, here=0, no_group=0, refused=0):
-    """What an import says at its end."""
-    return "filed %d\nhere %d\nno group %d\nrefused %d\n" % (filed, here, no_group, refused)
+def counts(filed=0, here=0, no_group=0, causes=()):
+    """What an import says at its end. There is a cause for each article that was refused."""
+    by_cause = ["  %d %s\n" % (causes.count(it), it) for it in CAUSES if it in causes]
+    return "filed %d\nhere %d\nno group %d\nrefused %d\n" % (filed, here, no_group, len(causes)) + "".join(by_cause)
 
 
 def ids_of(volume):

@@ -120,7 +120,7 @@ def a_batch_is_filed_or_refused(volume):
         ((INPUT,), BATCH, 1, "", BAD_DESCRIPTOR, none),
         ((OUTPUT,), BATCH, 1, "", BAD_DESCRIPTOR, both),
         ((FAULTS,), BATCH, 0, COUNTS % (2, 0), "", both),
-        ((FAULTS,), MIXED, 1, "", "", first),
+        ((FAULTS,), MIXED, 1, COUNTS % (1, 1) + "  1 no empty line follows the header\n", "", first),
         ((INPUT, OUTPUT, FAULTS), BATCH, 1, "", "", none),
     ):
         write(volume.path, before)

@@ -4,7 +4,7 @@ ghost use Rattle.std.specs.Prelude.{◌<◌, OnOk};
 ghost use Rattle.model.specs.Calendar.{moment_limit};
 ghost use Rattle.importing.specs.Saved.{IsSaved};
 
-use crate::outcome::{Lack, Outcome};
+use crate::outcome::{CAUSES, FULL_GROUP, Lack, Outcome, words_at};
 use crate::store::Store;
 use disk::Disk;
 use journal::JournalError;
@@ -16,9 +16,6 @@ use thiserror::Error;
 
 /// The most octets that are read at once.
 const PIECE: usize = 65_536;
-
-/// Why a text is refused for which the volume has room, and one of its groups has none.
-const FULL_GROUP: &str = "one of its groups takes no more articles (E6 Full)";
 
 /// Where a text stands in its batch.
 #[derive(Clone, Copy, Debug, PartialEq, Eq, Error)]
@@ -38,6 +35,8 @@ pub struct Counts {
     pub here: u64,
     pub no_group: u64,
     pub refused: u64,
+    /// The refused ones by their causes.
+    by_cause: [u64; CAUSES],
 }
 
 impl Counts {
@@ -47,6 +46,7 @@ impl Counts {
         here: 0,
         no_group: 0,
         refused: 0,
+        by_cause: [0; CAUSES],
     };
 
     /// The number of texts.
@@ -57,25 +57,39 @@ impl Counts {
             .saturating_add(self.refused)
     }
 
-    /// Counts a text. One for which there is no room counts as refused.
+    /// Counts a text that was not refused.
     fn add(&mut self, outcome: Outcome) {
         let count = match outcome {
             Outcome::Filed(_) => &mut self.filed,
             Outcome::Here => &mut self.here,
             Outcome::NoGroup => &mut self.no_group,
-            Outcome::Refused(_) | Outcome::Full => &mut self.refused,
+            Outcome::Refused(_) | Outcome::Full => return,
         };
         *count = count.saturating_add(1);
+    }
+
+    /// Counts a text that was refused for the cause at this place.
+    fn refuse(&mut self, cause: usize)
+        requires { cause < 10 }
+    {
+        self.refused = self.refused.saturating_add(1);
+        self.by_cause[cause] = self.by_cause[cause].saturating_add(1);
     }
 }
 
 impl Display for Counts {
-    /// Four lines, the last without its end.
+    /// Four lines, and one more for each cause for which a text was refused. The last is without its end.
     fn fmt<W: fmt::Write>(&self, f: &mut Formatter<W>) -> fmt::Result {
         writeln!(f, "filed {}", self.filed)?;
         writeln!(f, "here {}", self.here)?;
         writeln!(f, "no group {}", self.no_group)?;
-        write!(f, "refused {}", self.refused)
+        write!(f, "refused {}", self.refused)?;
+        for (cause, count) in self.by_cause.iter().enumerate() {
+            if *count > 0 {
+                write!(f, "\n  {count} {}", words_at(cause))?;
+            }
+        }
+        Ok(())
     }
 }
 
@@ -268,18 +282,18 @@ fn note<D: Disk, W: Watcher>(
     outcome: Outcome,
 ) -> Result<Option<Stop>, ImportError> {
     let cause = match outcome {
-        Outcome::Refused(why) => Some(why.words()),
+        Outcome::Refused(why) => why.place(),
         Outcome::Full => match lack(store)? {
             Some(lack) => return Ok(Some(Stop::Full(place, lack))),
-            None => Some(FULL_GROUP),
+            None => FULL_GROUP,
         },
-        Outcome::Filed(_) | Outcome::Here | Outcome::NoGroup => None,
+        Outcome::Filed(_) | Outcome::Here | Outcome::NoGroup => {
+            counts.add(outcome);
+            return Ok(None);
+        }
     };
-    counts.add(outcome);
-    let Some(cause) = cause else {
-        return Ok(None);
-    };
-    match watcher.refused(place, cause) {
+    counts.refuse(cause);
+    match watcher.refused(place, words_at(cause)) {
         Ok(()) => Ok(None),
         Err(error) => stream_stop(place.octet, error),
     }

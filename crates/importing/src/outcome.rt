@@ -1,7 +1,8 @@
 //! What became of a text.
 
+ghost use Rattle.std.specs.Prelude.{◌<◌};
+
 use article::Cause;
-use std::fmt::{self, Display, Formatter};
 use thiserror::Error;
 
 /// What became of a text that was to be filed.
@@ -40,31 +41,42 @@ pub enum Refused {
 }
 
 impl Refused {
-    /// The refusal in words for a person.
-    pub fn words(self) -> &'static str {
+    /// Its place among all causes for which an import refuses a text.
+    pub(crate) fn place(self) -> usize
+        ensures { result < 10 }
+    {
         match self {
-            Refused::OwnId => "the message-id is one of this host's own",
-            Refused::NotAnArticle(cause) => words_of(cause),
+            Refused::NotAnArticle(Cause::Octets) => 0,
+            Refused::NotAnArticle(Cause::NoEnd) => 1,
+            Refused::NotAnArticle(Cause::Field) => 2,
+            Refused::NotAnArticle(Cause::Twice) => 3,
+            Refused::NotAnArticle(Cause::Missing) => 4,
+            Refused::NotAnArticle(Cause::Id) => 5,
+            Refused::NotAnArticle(Cause::Groups) => 6,
+            Refused::NotAnArticle(Cause::Long) => 7,
+            Refused::OwnId => 8,
         }
     }
 }
 
-impl Display for Refused {
-    fn fmt<W: fmt::Write>(&self, f: &mut Formatter<W>) -> fmt::Result {
-        f.write_str(self.words())
-    }
-}
+/// The number of the causes for which an import refuses a text.
+pub(crate) const CAUSES: usize = 10;
 
-/// The causes in words, in the order of the tests.
-fn words_of(cause: Cause) -> &'static str {
-    match cause {
-        Cause::Octets => "it holds NUL or a single CR, or its last line has no end",
-        Cause::NoEnd => "no empty line follows the header",
-        Cause::Field => "a line of the header is no field",
-        Cause::Twice => "a field occurs twice",
-        Cause::Missing => "a mandatory field is missing",
-        Cause::Id => "the message-id isn't valid",
-        Cause::Groups => "its groups aren't 1 to 16 different group names",
-        Cause::Long => "its header has more than 8192 octets, or the article more than 262144",
+/// The last of these causes: the volume has room for the text, and one of its groups has none.
+pub(crate) const FULL_GROUP: usize = 9;
+
+/// The cause at a place, in words for a person. Those of an article come first, in the order of the tests.
+pub(crate) fn words_at(place: usize) -> &'static str {
+    match place {
+        0 => "it holds NUL or a single CR, or its last line has no end",
+        1 => "no empty line follows the header",
+        2 => "a line of the header is no field",
+        3 => "a field occurs twice",
+        4 => "a mandatory field is missing",
+        5 => "the message-id isn't valid",
+        6 => "its groups aren't 1 to 16 different group names",
+        7 => "its header has more than 8192 octets, or the article more than 262144",
+        8 => "the message-id is one of this host's own",
+        _ => "one of its groups takes no more articles (E6 Full)",
     }
 }

@@ -49,7 +49,7 @@ fn a_refusal_that_cannot_be_told_ends_an_import(rt: HostRuntime) -> Result<(), F
     let found = said_to(alloc, &mut store, &mut input, Log::deaf(alloc))?;
     assert_eq!(rt;
         found.as_str(),
-        "filed 1\nhere 0\nno group 0\nrefused 1\noctet 138: broken pipe\n"
+        "filed 1\nhere 0\nno group 0\nrefused 1\n  1 no empty line follows the header\noctet 138: broken pipe\n"
     );
     assert_eq!(rt; store.len(), (3, 3));
     Ok(())

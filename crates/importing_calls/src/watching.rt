@@ -41,7 +41,11 @@ impl Log {
 
     /// What was said, and the report after it.
     pub(crate) fn with_report(self, report: &Report) -> Result<String, Fail> {
-        let Log { alloc, mut text } = self;
+        let Log {
+            alloc,
+            mut text,
+            is_deaf: _,
+        } = self;
         let counts = format!(in alloc; "{}\n", report.counts)?;
         text.push_str(&counts)?;
         if let Some(stop) = &report.stop {
