@@ -117,7 +117,7 @@ def a_batch_is_filed_or_refused(volume):
     both = ["spool 3", *first[1:], "3 article <2@a.example> x.a"]
     for closed, given, status, output, faults, dumped in (
         ((), BATCH, 0, COUNTS % (2, 0), "", both),
-        ((INPUT,), BATCH, 1, "", BAD_DESCRIPTOR, none),
+        ((INPUT,), BATCH, 1, COUNTS % (0, 0), BAD_DESCRIPTOR.replace("newsd:", "newsd: octet 0:"), none),
         ((OUTPUT,), BATCH, 1, "", BAD_DESCRIPTOR, both),
         ((FAULTS,), BATCH, 0, COUNTS % (2, 0), "", both),
         ((FAULTS,), MIXED, 1, COUNTS % (1, 1) + "  1 no empty line follows the header\n", "", first),

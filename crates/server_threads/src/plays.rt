@@ -73,13 +73,13 @@ fn make_stage<'a, R: Wait>(
     rt: &R,
     alloc: Global,
     mark: &'a Mark,
-    (flush_seat, seat): (FlushSeat, Seat),
+    seats: (FlushSeat, Seat),
     flags: &'a Flags,
 ) -> Option<Watched<'a>>
-    requires flushes { flush_seat.mark ≡ mark.now }
-    requires looks { seat.mark ≡ mark.now }
+    requires flushes { seats.0.mark ≡ mark.now }
+    requires looks { seats.1.mark ≡ mark.now }
 {
-    let mut seat = seat;
+    let (flush_seat, mut seat) = seats;
     let (journal, kernel) = open(alloc, new_device(alloc)?)?;
     let watch = Watch::new(mark, mark.another(&mut seat));
     let kern = Hooked::new(kernel, Watching::new(watch, flags));
