@@ -70,10 +70,10 @@ def without_descriptors_a_caller_is_told(volume):
     """Wherever the descriptors end: at the caller's own, or at a further one of the same caller."""
     volume.make_group()
     with volume.serve() as server:
-        # whoever is greeted finds that the server has all that it keeps
+        # a greeted caller finds that the server has all that it keeps; the acceptor gives up one of them to refuse a caller
         with server.call():
-            at_rest = server.descriptors() - 1
-        wait_until(lambda: server.descriptors() == at_rest)
+            at_rest = server.descriptors() - 2
+        wait_until(lambda: server.descriptors() == at_rest + 1)
         for more in range(3, 7):
             server.limit_descriptors(at_rest + more)
             served = call_until_refused(server, more)

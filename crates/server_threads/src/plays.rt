@@ -86,6 +86,35 @@ fn make_stage<'a, R: Wait>(
     Stage::new(journal, kern, mark, flush_seat, seat).with_groups(rt, alloc)
 }
 
+/// A server that is about to serve, and what its gate sees. The gate is made where the server runs.
+#[derive(Drop)]
+struct Scene<'a> {
+    stage: Watched<'a>,
+    watch: Watch<'a>,
+    flags: &'a Flags,
+}
+
+/// A server that is about to serve, with a seat for its gate.
+fn make_scene<'a, R: Wait>(
+    rt: &R,
+    alloc: Global,
+    mark: &'a Mark,
+    seats: (FlushSeat, Seat),
+    flags: &'a Flags,
+) -> Option<Scene<'a>>
+    requires flushes { seats.0.mark ≡ mark.now }
+    requires looks { seats.1.mark ≡ mark.now }
+{
+    let (flush_seat, mut seat) = seats;
+    let watch = Watch::new(mark, mark.another(&mut seat));
+    let stage = make_stage(rt, alloc, mark, (flush_seat, seat), flags)?;
+    Some(Scene {
+        stage,
+        watch,
+        flags,
+    })
+}
+
 /// Makes the device fail at its next sync or its next write, if the play is about a fault.
 fn plan_fault(stage: &mut Watched<'_>, holds: Holds) {
     match holds {
@@ -117,24 +146,30 @@ fn serve<
 >(
     rt: &R,
     alloc: Global,
-    stage: Watched<'_>,
+    scene: Scene<'_>,
     listener: &TcpListener,
-    gate: &TestGate<'_>,
+    holds: Holds,
 ) -> Result<(), ServeError> {
+    let Scene {
+        stage,
+        watch,
+        flags,
+    } = scene;
+    let gate = TestGate::new(flags, holds, watch);
     let log = silent_log(rt, alloc)?;
     let answers = Answers {
         rt: *rt,
-        answered: Arc::try_clone(&gate.flags.answered)?,
-        is_read: gate.holds != Holds::Unread,
+        answered: Arc::try_clone(&flags.answered)?,
+        is_read: holds != Holds::Unread,
     };
     let setting = Setting {
         listeners: from_ref(listener),
         log: &log,
-        gate,
+        gate: &gate,
         blocks: BLOCKS,
         limits: Limits::standard(),
     };
-    let served = stage.serve(rt, alloc, setting, (lines(gate.holds), answers));
+    let served = stage.serve(rt, alloc, setting, (lines(holds), answers));
     log.end(rt);
     served.ended
 }
@@ -184,17 +219,16 @@ pub(crate) fn play<
         + 'static,
 >(rt: &R, alloc: Global, holds: Holds) -> Option<Outcome> {
     let flags = Flags::new(alloc).ok()?;
-    let Ok((mark, flush_seat, mut seat)) = Mark::new(alloc) else {
+    let Ok((mark, flush_seat, seat)) = Mark::new(alloc) else {
         return None;
     };
-    let gate = TestGate::new(&flags, holds, Watch::new(&mark, mark.another(&mut seat)));
-    let mut stage = make_stage(rt, alloc, &mark, (flush_seat, seat), &flags)?;
-    plan_fault(&mut stage, holds);
+    let mut scene = make_scene(rt, alloc, &mark, (flush_seat, seat), &flags)?;
+    plan_fault(&mut scene.stage, holds);
     let listener = listen(rt)?;
     let address = listener.local_addr().ok()?;
     let (ended, is_read) = join(
         rt,
-        || serve(rt, alloc, stage, &listener, &gate),
+        || serve(rt, alloc, scene, &listener, holds),
         || call(rt, alloc, address, &flags, holds),
     );
     Some(Outcome {
