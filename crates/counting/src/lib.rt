@@ -28,7 +28,9 @@ impl<D: Disk> CountedDisk<D> {
 impl<D: Disk> Disk for CountedDisk<D> {
     ghost device = { λ counted. D.device counted.disk };
 
-    ghost grows = { D.grows };
+    ghost write_grows = { D.write_grows };
+
+    ghost sync_grows = { D.sync_grows };
 
     fn len(&self) -> u64 {
         self.disk.len()

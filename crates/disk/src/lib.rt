@@ -30,8 +30,11 @@ pub trait Disk {
     /// What the device is at this moment.
     ghost device: { Self → Device };
 
-    /// Whether its calls take memory. If they do not, none is refused for want of it.
-    ghost grows: { Bool };
+    /// Whether a write takes memory. If it does not, none is refused for want of it.
+    ghost write_grows: { Bool };
+
+    /// Whether a sync takes memory. If it does not, none is refused for want of it.
+    ghost sync_grows: { Bool };
 
     /// The number of octets of the device.
     fn len(&self) -> u64
@@ -51,7 +54,7 @@ pub trait Disk {
         ensures no_memory { IfErr result (λ error. error ≡ DiskError.Fault) };
 
     /// Writes the octets from `at` on. The range must lie within the device. Until a good sync, a crash may leave any
-    /// octets there, even after a fault. `Memory` comes only from a device that grows, and has no effect.
+    /// octets there, even after a fault. `Memory` comes only from a device whose writes grow, and has no effect.
     fn write(&mut self, at: u64, from: &[u8]) -> Result<(), DiskError>
         requires { at + length from.now ≤ (device self.old).size }
         ensures content { IsTrue (device self.old).tells → OnOk result ((device self.new).content ≡ overwritten at from.now (device self.old).content) }
@@ -61,10 +64,10 @@ pub trait Disk {
         ensures call { OnAsked result (IsWrite (device self.old) (device self.new)) }
         ensures cause { HasCause result (device self.old) (device self.new) }
         ensures refused { OnRefused result (device self.old) (device self.new) }
-        ensures memory { IfErr result (λ error. error ≡ DiskError.Memory → IsTrue grows) };
+        ensures memory { IfErr result (λ error. error ≡ DiskError.Memory → IsTrue write_grows) };
 
     /// Makes the content durable: after `Ok` a crash leaves exactly what a read gives. `Fault` makes nothing durable.
-    /// `Memory` comes only from a device that grows, and has no effect.
+    /// `Memory` comes only from a device whose syncs grow, and has no effect.
     fn sync(&mut self) -> Result<(), DiskError>
         ensures durable { IsTrue (device self.old).tells → OnOk result (LeavesOnly (device self.new) (device self.old).content) }
         ensures content { IsTrue (device self.old).tells → OnOk result ((device self.new).content ≡ (device self.old).content) }
@@ -74,7 +77,7 @@ pub trait Disk {
         ensures call { OnAsked result (IsSync (device self.old) (device self.new)) }
         ensures cause { HasCause result (device self.old) (device self.new) }
         ensures refused { OnRefused result (device self.old) (device self.new) }
-        ensures memory { IfErr result (λ error. error ≡ DiskError.Memory → IsTrue grows) };
+        ensures memory { IfErr result (λ error. error ≡ DiskError.Memory → IsTrue sync_grows) };
 
     /// Each image has as many octets as the device.
     ghost image_size: { (d : Self) (c : List ℕ) → IsTrue (device d).tells → (device d).may_leave c → length c ≡ (device d).size };

@@ -156,7 +156,9 @@ impl Disk for FileDisk {
 
     ghost device = { file_device };
 
-    ghost grows = { false };
+    ghost write_grows = { false };
+
+    ghost sync_grows = { false };
 
     fn len(&self) -> u64 {
         self.len

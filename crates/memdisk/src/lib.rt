@@ -175,7 +175,9 @@ impl Disk for MemDisk {
 
     ghost device = { memory_device };
 
-    ghost grows = { false };
+    ghost write_grows = { false };
+
+    ghost sync_grows = { false };
 
     fn len(&self) -> u64 {
         self.present.len() as u64

@@ -74,13 +74,16 @@ impl<D: Disk> WCache<D> {
 }
 
 impl<D: Disk> Disk for WCache<D> {
-    ghost use Rattle.std.specs.Prelude.{true};
+    ghost use Rattle.std.specs.Prelude.{true, ◌||◌};
     ghost use Rattle.wcache.specs.Cache.{cache_device};
     ghost use Rattle.wcache.specs.Laws.{cache_counts_content, cache_counts_now, cache_image_size, cache_only_now};
 
     ghost device = { cache_device D.device };
 
-    ghost grows = { true };
+    ghost write_grows = { true };
+
+    // a sync takes no memory of its own
+    ghost sync_grows = { D.write_grows || D.sync_grows };
 
     fn len(&self) -> u64 {
         self.len
@@ -133,7 +136,7 @@ impl<D: Disk> Disk for WCache<D> {
 
     /// Gives the device below, in rising place, one write for each longest run of collected octets within a block of
     /// 4,096. Then it asks one sync. It stops at the first of these calls that is refused. The collected octets are
-    /// discarded only after `Ok`. It takes no memory of its own.
+    /// discarded only after `Ok`. It takes no memory of its own: `Memory` comes only from the device below.
     fn sync(&mut self) -> Result<(), DiskError>
         ensures calls { Makes D.device (calls_of self.old.collected) result self.old.disk self.new.disk }
         ensures forgets { OnOk result (self.new.collected ≡ replicate (length self.old.collected) None) }
@@ -146,7 +149,7 @@ impl<D: Disk> Disk for WCache<D> {
         ensures call { OnAsked result (IsSync (cache_device D.device self.old) (cache_device D.device self.new)) }
         ensures cause { HasCause result (cache_device D.device self.old) (cache_device D.device self.new) }
         ensures refused { OnRefused result (cache_device D.device self.old) (cache_device D.device self.new) }
-        ensures memory { IfErr result (λ error. error ≡ DiskError.Memory → IsTrue true) }
+        ensures memory { IfErr result (λ error. error ≡ DiskError.Memory → IsTrue (D.write_grows || D.sync_grows)) }
     {
         match give_and_sync(&mut self.disk, &self.collected) {
             Ok(()) => {

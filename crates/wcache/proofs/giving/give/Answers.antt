@@ -29,8 +29,8 @@ loop-block-preserved g c =
     c.give_slot.ensures.size
     (c.in-Ok.ensures.makes (cells_of t (4096 * c.blocks-block-end.result) c.loop-block.block fits) (cells_size t (4096 * c.blocks-block-end.result) c.loop-block.block fits) (cells_at t (4096 * c.blocks-block-end.result) c.loop-block.block fits))
 
-pub returns-in-Err : goal.returns-in-Err
-returns-in-Err g c n none =
+pub returns-in-Err-clause-makes : goal.returns-in-Err-clause-makes
+returns-in-Err-clause-makes g c n none =
     let fits : 4096 * c.loop-block.block + 4096 ≤ 4096 * c.blocks-block-end.result = omega (arith, c.loop-block-test.true) in
     let t = taken c.args.collected.now in
     subst (λ (runs : List Run). Makes g.D.Disk.device (writes_of runs) (Err c.in-Err.error) c.args.disk.now c.give_slot.new.disk) (same_runs t (4096 * c.blocks-block-end.result) n c.blocks-block-end.ensures.past none)
@@ -38,8 +38,8 @@ returns-in-Err g c n none =
     (subst (λ (runs : List Run). IsGivingTo g.D.Disk.device (writes_of (runs_from 0 (places t (4096 * c.blocks-block-end.result)))) (writes_of runs) c.args.disk.now c.loop-block.disk) (cells_split t (4096 * c.blocks-block-end.result) c.loop-block.block fits) c.loop-block.invariant)
     (c.in-Err.ensures.makes (cells_of t (4096 * c.blocks-block-end.result) c.loop-block.block fits) (cells_size t (4096 * c.blocks-block-end.result) c.loop-block.block fits) (cells_at t (4096 * c.blocks-block-end.result) c.loop-block.block fits)))
 
-pub returns : goal.returns
-returns g c n none =
+pub returns-clause-makes : goal.returns-clause-makes
+returns-clause-makes g c n none =
     let t = taken c.args.collected.now in
     subst (λ (runs : List Run). Makes g.D.Disk.device (writes_of runs) (Ok tt) c.args.disk.now c.loop-block.disk) (same_runs t (4096 * c.blocks-block-end.result) n c.blocks-block-end.ensures.past none)
     (giving_done g.D.Disk.device _ (runs_from (4096 * c.loop-block.block) (drop (4096 * c.loop-block.block) (places t (4096 * c.blocks-block-end.result)))) _ _ (no_more t (4096 * c.blocks-block-end.result) (4096 * c.loop-block.block) (omega (arith, c.loop-block-test.false))) c.loop-block.invariant)
