@@ -1,5 +1,5 @@
 -- How much room a change asks for, and how many blocks it changes.
-use Rattle.std.proofs.Common.{◌≡◌, ◌≤◌, ℕ, zero, suc, ◌+◌, ◌*◌, ◌/◌, ◌%◌, List, [], ◌∷◌, ◌++◌, length, refl, sym, ◌∙◌, ap, arith, Bool, true, false, cond, length-append}
+use Rattle.std.proofs.Common.{◌≡◌, ◌≤◌, ℕ, zero, suc, ◌+◌, ◌*◌, ◌/◌, ◌%◌, List, [], ◌∷◌, ◌++◌, length, refl, sym, ◌∙◌, ap, arith, Bool, true, false, cond, eqb, length-append}
 use Rattle.std.specs.Prelude.{flat_map, filter, filter_map, find, zip, bytes_eq, is_some, nat_lt, nat_le, ◌-◌, ◌&&◌, ◌||◌, Option, Some, None}
 use Rattle.std.specs.List.{Contains, list_all, list_any, sum_by}
 use Rattle.std.proofs.lemmas.Bool.{and_parts, or_parts, leb-true, ltb-false, le-ltb, false≢true}
@@ -13,7 +13,8 @@ use Rattle.model.specs.Article.{Carried, are_distinct, cause, groups_of}
 use Rattle.model.specs.Spool.{Spool, entries_from, NewsArticle, NewsGroup, group_made, is_name, filed_in, group_named, groups, entries, is_here}
 use Rattle.model.specs.Records.{group_record, article_record, expiry_record}
 use Rattle.model.specs.SpoolFiles.{numbers_name, overview_name, number_record, number_records, numbers_of, numbers_file, overview_file, overview_lines, change_file, next_line, next_record, FileCall, Create, Append, filing_calls, files_of, making_calls}
-use Rattle.model.specs.Room.{blocks_asked, blocks_changed, blocks_filed, blocks_for, blocks_taken, extends_large, files_made, free_blocks_beside, free_inodes_beside, has_all_groups, is_full_for, is_large, largest_file, octets_asked}
+use Rattle.model.specs.Files.{indirect_for}
+use Rattle.model.specs.Room.{blocks_appended, blocks_asked, blocks_changed, blocks_filed, blocks_for, blocks_for_more, blocks_fresh, blocks_taken, content_blocks, extends_large, files_made, free_blocks_beside, free_inodes_beside, has_all_groups, is_full_for, is_large, largest_file, octets_asked, pointers_put}
 use Rattle.model.specs.Lawful.{MayFile, IsLawfulAfter, IsLawful}
 use Rattle.model.specs.Laws.Room.{ChangesAskFew, FilesGrowByBlocks, NotFullHasRoom}
 use Rattle.model.specs.declared.change.Change.TheVariants.{Group, Article, Expire}
@@ -23,22 +24,25 @@ use Rattle.model.proofs.LineSizes.{line_short}
 
 -- ---- blocks of a size
 
-indirect_most : (size : ℕ) → cond (nat_lt 40960 size) 1 0 ≤ 1
-indirect_most size = by_test (nat_lt 40960 size) where
+-- a double-indirect block if there are two blocks of pointers or more
+double_one : (n : ℕ) → cond (nat_lt 1 n) 1 0 ≤ 1
+double_one n = by_test (nat_lt 1 n) where
   by_test : (b : Bool) → cond b 1 0 ≤ 1
   by_test true = omega arith
   by_test false = omega arith
 
-blocks_most : (size : ℕ) → blocks_for size ≤ (size + 4095) / 4096 + 1
-blocks_most size = omega (arith, indirect_most size)
+double_none : (n : ℕ) → n ≤ 1 → ◌≡◌ {A = ℕ} (cond (nat_lt 1 n) 1 0) 0
+double_none n few = ap (λ (b : Bool). cond b 1 0) (le-ltb 1 n few)
 
-small_blocks : (size : ℕ) → size ≤ 40960 → blocks_for size ≡ (size + 4095) / 4096
-small_blocks size small =
-    let none : blocks_for size ≡ (size + 4095) / 4096 + 0 = ap (λ (b : Bool). (size + 4095) / 4096 + cond b 1 0) (le-ltb 40960 size small) in
-    omega arith
+-- a file of at most 1,034 blocks
+middle_blocks : (size : ℕ) → size ≤ 4235264 → blocks_for size ≤ content_blocks size + 1
+middle_blocks size small = omega (arith, small, double_none (indirect_for (content_blocks size)) (omega (arith, small)))
+
+small_blocks : (size : ℕ) → size ≤ 40960 → blocks_for size ≡ content_blocks size
+small_blocks size small = omega (arith, small, double_none (indirect_for (content_blocks size)) (omega (arith, small)))
 
 pub files_grow_by_blocks : FilesGrowByBlocks
-files_grow_by_blocks size more = omega (arith, blocks_most (size + more))
+files_grow_by_blocks size more = omega (arith, double_one (indirect_for (content_blocks (size + more))))
 
 -- ---- sizes of records
 
@@ -135,28 +139,54 @@ numbers_whole : (filed : List NewsArticle) → length (numbers_of filed) % 16 �
 unfolding numbers_of
 numbers_whole filed = omega (arith, records_size 0 (zip filed (overview_lines filed)))
 
+-- ---- blocks of pointers that are written
+
+put_most : (fresh end : ℕ) → pointers_put fresh end ≤ 2 + (fresh + 1022) / 1024
+put_most fresh end = by_tests (eqb fresh 0) (nat_lt 4235264 end) (nat_lt 40960 end) where
+  by_tests : (none huge large : Bool) → cond none 0 (cond huge (2 + (fresh + 1022) / 1024) (cond large 1 0)) ≤ 2 + (fresh + 1022) / 1024
+  by_tests true huge large = omega arith
+  by_tests false true large = omega arith
+  by_tests false false true = omega arith
+  by_tests false false false = omega arith
+
+put_one : (fresh end : ℕ) → fresh ≤ 1 → pointers_put fresh end ≤ 2
+put_one fresh end few = omega (arith, few, put_most fresh end)
+
+put_two : (fresh end : ℕ) → fresh ≤ 2 → pointers_put fresh end ≤ 3
+put_two fresh end few = omega (arith, few, put_most fresh end)
+
 -- ---- one group
 
 module _ (S : Spool) (text : Octets) (few : length S ≤ 32768) (carried : cause Carried text ≡ None) where
   short_line : (g : Octets) → length (next_line S text g) ≤ 8191
   short_line g = line_short (length (filed_in S g) + 1) text (omega (arith, high_few S g, few)) carried
 
-  filed_blocks : (g : Octets) → blocks_filed S text g ≤ 8
-  filed_blocks g =
+  filed_numbers : (g : Octets) → blocks_appended (length (numbers_file S g)) (length (next_record S text g)) ≤ 4
+  filed_numbers g =
+      let size = number_size (length S + 1) (length (overview_file S g)) (next_line S text g) in
+      omega (
+        arith,
+        size,
+        numbers_whole (filed_in S g),
+        put_one (blocks_fresh (length (numbers_file S g)) (length (next_record S text g))) (length (numbers_file S g) + length (next_record S text g)) (omega (arith, size)),
+      )
+
+  filed_overview : (g : Octets) → blocks_appended (length (overview_file S g)) (length (next_line S text g)) ≤ 7
+  filed_overview g =
       omega (
         arith,
         short_line g,
-        number_size (length S + 1) (length (overview_file S g)) (next_line S text g),
-        numbers_whole (filed_in S g),
-        indirect_most (length (numbers_file S g) + length (next_record S text g)),
-        indirect_most (length (overview_file S g) + length (next_line S text g)),
+        put_two (blocks_fresh (length (overview_file S g)) (length (next_line S text g))) (length (overview_file S g) + length (next_line S text g)) (omega (arith, short_line g)),
       )
 
-  all_filed : (gs : List Octets) → sum_by (blocks_filed S text) gs ≤ 8 * length gs
+  filed_blocks : (g : Octets) → blocks_filed S text g ≤ 11
+  filed_blocks g = omega (arith, filed_numbers g, filed_overview g)
+
+  all_filed : (gs : List Octets) → sum_by (blocks_filed S text) gs ≤ 11 * length gs
   all_filed [] = omega arith
   all_filed (g ∷ gs) = omega (arith, sum_by-cons (blocks_filed S text) g gs, filed_blocks g, all_filed gs)
 
-  filing_taken : (gs : List Octets) → sum_by blocks_taken (flat_map (filing_calls S text) gs) ≤ 5 * length gs
+  filing_taken : (gs : List Octets) → sum_by blocks_taken (flat_map (filing_calls S text) gs) ≤ 7 * length gs
   filing_taken [] = omega arith
   filing_taken (g ∷ gs) =
       let first : FileCall = Append (numbers_name g) (next_record S text g) in
@@ -170,7 +200,7 @@ module _ (S : Spool) (text : Octets) (few : length S ≤ 32768) (carried : cause
         number_size (length S + 1) (length (overview_file S g)) (next_line S text g),
       )
 
-making_taken : (name octets : Octets) (more : List FileCall) → sum_by blocks_taken (making_calls name octets ++ more) ≡ (length octets + 4095) / 4096 + 1 + sum_by blocks_taken more
+making_taken : (name octets : Octets) (more : List FileCall) → sum_by blocks_taken (making_calls name octets ++ more) ≡ blocks_for_more (length octets) + sum_by blocks_taken more
 making_taken name octets more = omega (arith, sum_by-cons blocks_taken (Create name) (Append name octets ∷ more), sum_by-cons blocks_taken (Append name octets) more)
 
 two_created : (first second : Octets) → sum_by blocks_taken (Create first ∷ Create second ∷ []) ≡ 0
@@ -198,12 +228,12 @@ changes_ask_few host S (Article text gs moment) few lawful may =
       blocks = omega (arith, making_taken its.name its.content (flat_map (filing_calls S text) gs), filing_taken S text few may.carried gs, groups_few.count, size);
       made = size;
       lines = λ text' g gs' m same. let one : text' ≡ text = cc in omega (arith, ap (λ (t : Octets). length (next_line S t g)) one, short_line S text few may.carried g);
-      changed = omega (arith, blocks_most (length its.content), all_filed S text few may.carried gs, groups_few.count, size);
+      changed = omega (arith, middle_blocks (length its.content) (omega (arith, size)), all_filed S text few may.carried gs, groups_few.count, size);
     }
 changes_ask_few host S (Expire group number) few lawful may =
     let its = change_file (record { serial = length S + 1; change = Expire group number }) in
     let size : length its.content ≤ 53 = omega (arith, expiry_size (length S + 1) number group, here_short host S group lawful may.here) in
-    let calls : sum_by blocks_taken (making_calls its.name its.content) ≡ (length its.content + 4095) / 4096 + 1 =
+    let calls : sum_by blocks_taken (making_calls its.name its.content) ≡ blocks_for_more (length its.content) =
     omega (arith, sum_by-cons blocks_taken (Create its.name) (Append its.name its.content ∷ []), sum_by-cons blocks_taken (Append its.name its.content) []) in
     record {
       blocks = omega (arith, calls, size);

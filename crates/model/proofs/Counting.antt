@@ -10,8 +10,8 @@ use Rattle.std.proofs.lemmas.List.FromFn.{length-range_with_len}
 use Rattle.std.proofs.lemmas.List.Sums.{sum_by-cons, sum_by-append}
 use Rattle.model.specs.Stream.{Octets}
 use Rattle.model.specs.Volume.{AreDistinct}
-use Rattle.model.specs.Files.{File, HasRoom, IsFile, IsFree, IsFileSystem, content_of, entry, file_at, files_in, first_data, free_blocks, indirect_pointer, is_marked_used, kind, name_in, owned, size, slot_of, table, IsUsed}
-use Rattle.model.specs.Room.{blocks_for, blocks_of_files}
+use Rattle.model.specs.Files.{File, HasRoom, IsFile, IsFree, IsFileSystem, content_of, entry, file_at, files_in, first_data, double_pointer, free_blocks, indirect_for, is_marked_used, kind, name_in, owned, size, slot_of, table, IsUsed}
+use Rattle.model.specs.Room.{blocks_for, blocks_of_files, content_blocks}
 use Rattle.model.specs.Laws.Room.{FreeIsBeside}
 use Rattle.model.proofs.Owning.{free_kind, free_owns, owned_with, owned_without, content_size}
 
@@ -237,15 +237,15 @@ module _ (inodes : ℕ) (blocks : List Octets) (fs : IsFileSystem inodes blocks)
       let e = entry inodes blocks k in
       let octets : length (content_of blocks e) ≡ size e = content_size blocks e room.blocks_whole (λ b has. (fs.within k b low has).1) in
       let same : blocks_for (length (content_of blocks e)) ≡ blocks_for (size e) = ap blocks_for octets in
-      elim (cases_lt 40960 (size e)) [
+      elim (cases_lt 1 (indirect_for (content_blocks (size e)))) [
         | inl large ↦
-            let more : blocks_for (size e) ≡ (size e + 4095) / 4096 + 1 = ap (λ (b : Bool). (size e + 4095) / 4096 + cond b 1 0) (lt-ltb 40960 (size e) large) in
-            omega (arith, owned_with e (file.indirect_where.0 (omega arith)), same, more)
+            let more : blocks_for (size e) ≡ content_blocks (size e) + (indirect_for (content_blocks (size e)) + 1) = ap (λ (b : Bool). content_blocks (size e) + (indirect_for (content_blocks (size e)) + cond b 1 0)) (lt-ltb 1 (indirect_for (content_blocks (size e))) large) in
+            omega (arith, owned_with e (file.double_where.0 large), same, more)
         | inr small ↦
-            let more : blocks_for (size e) ≡ (size e + 4095) / 4096 + 0 = ap (λ (b : Bool). (size e + 4095) / 4096 + cond b 1 0) (le-ltb 40960 (size e) small) in
-            elim (cases_eq (indirect_pointer e) 0) [
+            let more : blocks_for (size e) ≡ content_blocks (size e) + (indirect_for (content_blocks (size e)) + 0) = ap (λ (b : Bool). content_blocks (size e) + (indirect_for (content_blocks (size e)) + cond b 1 0)) (le-ltb 1 (indirect_for (content_blocks (size e))) small) in
+            elim (cases_eq (double_pointer e) 0) [
               | inl none ↦ omega (arith, owned_without e none, same, more)
-              | inr some ↦ absurd (let many = file.indirect_where.1 some in omega arith)
+              | inr some ↦ absurd (let over = file.double_where.1 some in omega (arith, over, small))
             ]
       ]
 

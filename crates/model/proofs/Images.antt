@@ -1,8 +1,13 @@
 -- An image stands for one spool.
-use Rattle.std.proofs.Common.{◌≡◌, ◌-◌, ℕ, List, length, replicate, sym, ◌∙◌, subst, arith}
+use Rattle.std.proofs.Common.{◌≡◌, ◌⊎◌, inl, inr, ◌≤◌, ◌-◌, ℕ, Bool, true, false, cond, eqb, List, [], length, get_or, replicate, refl, sym, ◌∙◌, subst, arith}
+use Rattle.std.proofs.lemmas.List.Elements.{All-nil}
 use Rattle.model.specs.Stream.{Octets}
-use Rattle.model.specs.Layout.{IsLabel, Holds}
-use Rattle.model.specs.Laws.Layout.{ImagesStandForOne, VersionIsOne, EmptyVolumesStand}
+use Rattle.model.specs.Files.{File}
+use Rattle.model.specs.Layout.{AreOfFormat, IsLabel, Holds}
+use Rattle.model.specs.Spool.{entries}
+use Rattle.model.specs.SpoolFiles.{files_of}
+use Rattle.model.specs.Laws.Layout.{ImagesStandForOne, VersionIsOne, EmptyVolumesStand, FormatsMayRise}
+use Rattle.model.specs.Volume.{StandsFor, block, format_in}
 use Rattle.model.proofs.HoldsOne.{empty_none, holds_one}
 use Rattle.model.proofs.Strings.{counted_split, little_split}
 
@@ -20,11 +25,15 @@ images_one host other image S R a b =
     let blocks : b.blocks ≡ a.blocks = sym b.volume.has_blocks ∙ a.volume.has_blocks in
     let label : IsLabel a.label (length a.blocks) b.inodes other = subst (λ (p : Octets × List Octets). IsLabel p.0 (length p.1) b.inodes other) (λ i. (sym labels i, blocks i)) b.labelled in
     let same = label_says a.label (length a.blocks) a.inodes b.inodes host other a.labelled label in
-    let held : Holds other a.inodes a.blocks R = subst (λ (p : ℕ × List Octets). Holds other p.0 p.1 R) (λ i. (sym same.0 i, blocks i)) b.held in
-    (same.1, holds_one host other a.inodes a.blocks S R a.labelled.few a.held held)
+    let held : Holds other a.inodes a.blocks R = subst (λ (p : ℕ × List Octets). Holds other p.0 p.1 R) (λ i. (sym same.0 i, blocks i)) b.held.held in
+    (same.1, holds_one host other a.inodes a.blocks S R a.labelled.few a.held.held held)
 
 pub version_one : VersionIsOne
 version_one host image S a = a.volume.has_superblock.version_is
+
+none_of_format : AreOfFormat 1 (files_of [])
+unfolding files_of entries
+none_of_format first = All-nil (λ (file : File). length file.content ≤ 4235264)
 
 pub empty_stands : EmptyVolumesStand
 empty_stands host image label inodes blocks volume labelled rule empty = record {
@@ -33,5 +42,35 @@ empty_stands host image label inodes blocks volume labelled rule empty = record 
   blocks = blocks;
   volume = volume;
   labelled = labelled;
-  held = empty_none host inodes blocks rule empty;
+  held = record { held = empty_none host inodes blocks rule empty; of_format = λ first. none_of_format refl };
 }
+
+-- a format
+one_or_two : (x : List ℕ) → (format_in x ≡ 1) ⊎ (format_in x ≡ 2)
+one_or_two x = by_test (eqb (get_or x 148 0) 2) where
+  chosen : Bool → ℕ
+  chosen b = cond b 2 1
+
+  by_test : (b : Bool) → (chosen b ≡ 1) ⊎ (chosen b ≡ 2)
+  by_test true = inr refl
+  by_test false = inl refl
+
+-- a format is 1 if it is at most a format that is 1
+pub no_less : (x y : List ℕ) → format_in x ≤ format_in y → format_in y ≡ 1 → format_in x ≡ 1
+no_less x y le is = elim (one_or_two x) [
+  | inl one ↦ one
+  | inr two ↦ absurd (omega (arith, le, is, two))
+]
+
+pub rise_stands : FormatsMayRise
+rise_stands host old new label blocks S volume same le s =
+    let labels : s.label ≡ label = sym s.volume.has_label ∙ volume.has_label in
+    let its_blocks : s.blocks ≡ blocks = sym s.volume.has_blocks ∙ volume.has_blocks in
+    record {
+      label = s.label;
+      inodes = s.inodes;
+      blocks = s.blocks;
+      volume = subst (λ (p : Octets × List Octets). StandsFor new p.0 p.1) (λ i. (sym labels i, sym its_blocks i)) same;
+      labelled = s.labelled;
+      held = record { held = s.held.held; of_format = λ first. s.held.of_format (no_less (block 0 old) (block 0 new) le first) };
+    }

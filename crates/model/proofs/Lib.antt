@@ -26,6 +26,8 @@ pub mod ServiceLaws
 pub mod NewsLaws
 pub mod Joined
 pub mod Owning
+pub mod Formats
+pub mod Sizes
 pub mod HoldsOne
 pub mod Inodes
 pub mod Filing

@@ -8,7 +8,7 @@ use Rattle.std.proofs.lemmas.Bool.{cases_lt, ne_eqb, eq-eqb}
 use Rattle.byteorder.specs.Endian.{little_from}
 use Rattle.model.specs.Stream.{Octets}
 use Rattle.model.specs.Volume.{number_at}
-use Rattle.model.specs.Files.{Entry, IsFree, kind, size, block_count, indirect_pointer, indirect_blocks, pointer, owned, content_of}
+use Rattle.model.specs.Files.{Entry, IsFree, kind, size, block_count, double_blocks, double_pointer, indirect_blocks, indirect_count, indirect_for, indirect_pointer, pointer, owned, content_of}
 
 -- ---- zeros
 
@@ -34,38 +34,45 @@ free_kind e free = zero_number 0 4 e.inode free.inode_zeros
 
 pub free_owns : (e : Entry) → IsFree e → owned e ≡ []
 free_owns e free =
-    let no_indirect = zero_number 52 4 e.inode free.inode_zeros in
+    let no_double = zero_number 56 4 e.inode free.inode_zeros in
     let no_size = zero_number 4 8 e.inode free.inode_zeros in
-    ap (λ (n : ℕ). cond (eqb n 0) [] (n ∷ []) ++ map (λ i. pointer e i) (range_with_len 0 (block_count e))) no_indirect
-    ∙ ap (λ (n : ℕ). map (λ i. pointer e i) (range_with_len 0 ((n + 4095) / 4096))) no_size
+    ap (λ (n : ℕ). cond (eqb n 0) [] (n ∷ []) ++ (indirect_blocks e ++ map (λ i. pointer e i) (range_with_len 0 (block_count e)))) no_double
+    ∙ ap (λ (n : ℕ). map (λ p. indirect_pointer e p) (range_with_len 0 (indirect_for ((n + 4095) / 4096))) ++ map (λ i. pointer e i) (range_with_len 0 ((n + 4095) / 4096))) no_size
 
 -- ---- how many blocks
 
-no_indirect : (e : Entry) → indirect_pointer e ≡ 0 → length (indirect_blocks e) ≡ 0
-no_indirect e none = ap (λ (b : Bool). length (cond b [] (indirect_pointer e ∷ []))) (eq-eqb (indirect_pointer e) 0 none)
+no_double : (e : Entry) → double_pointer e ≡ 0 → length (double_blocks e) ≡ 0
+no_double e none = ap (λ (b : Bool). length (cond b [] (double_pointer e ∷ []))) (eq-eqb (double_pointer e) 0 none)
 
-one_indirect : (e : Entry) → indirect_pointer e ≢ 0 → length (indirect_blocks e) ≡ 1
-one_indirect e some = ap (λ (b : Bool). length (cond b [] (indirect_pointer e ∷ []))) (ne_eqb (indirect_pointer e) 0 some)
+one_double : (e : Entry) → double_pointer e ≢ 0 → length (double_blocks e) ≡ 1
+one_double e some = ap (λ (b : Bool). length (cond b [] (double_pointer e ∷ []))) (ne_eqb (double_pointer e) 0 some)
 
-pub owned_count : (e : Entry) → length (owned e) ≡ length (indirect_blocks e) + block_count e
+pub owned_count : (e : Entry) → length (owned e) ≡ length (double_blocks e) + indirect_count e + block_count e
 owned_count e =
-    let pointers = map (λ i. pointer e i) (range_with_len 0 (block_count e)) in
-    omega (arith, length-append (indirect_blocks e) pointers, length-map-range_with_len (λ i. pointer e i) 0 (block_count e))
+    let its_pointers = map (λ i. pointer e i) (range_with_len 0 (block_count e)) in
+    omega (
+      arith,
+      length-append (double_blocks e) (indirect_blocks e ++ its_pointers),
+      length-append (indirect_blocks e) its_pointers,
+      length-map-range_with_len (λ i. pointer e i) 0 (block_count e),
+      length-map-range_with_len (λ p. indirect_pointer e p) 0 (indirect_count e),
+    )
 
-pub owned_without : (e : Entry) → indirect_pointer e ≡ 0 → length (owned e) ≡ block_count e
-owned_without e none = omega (arith, owned_count e, no_indirect e none)
+pub owned_without : (e : Entry) → double_pointer e ≡ 0 → length (owned e) ≡ block_count e + indirect_count e
+owned_without e none = omega (arith, owned_count e, no_double e none)
 
-pub owned_with : (e : Entry) → indirect_pointer e ≢ 0 → length (owned e) ≡ block_count e + 1
-owned_with e some = omega (arith, owned_count e, one_indirect e some)
+pub owned_with : (e : Entry) → double_pointer e ≢ 0 → length (owned e) ≡ block_count e + indirect_count e + 1
+owned_with e some = omega (arith, owned_count e, one_double e some)
 
 -- ---- how many octets
 
 owns_pointer : (e : Entry) (i : ℕ) → i < block_count e → Contains (owned e) (pointer e i)
 owns_pointer e i low =
-    Contains-append_right (indirect_blocks e) (map (λ i. pointer e i) (range_with_len 0 (block_count e))) (pointer e i)
+    Contains-append_right (double_blocks e) (indirect_blocks e ++ map (λ i. pointer e i) (range_with_len 0 (block_count e))) (pointer e i)
+    (Contains-append_right (indirect_blocks e) (map (λ i. pointer e i) (range_with_len 0 (block_count e))) (pointer e i)
     (subst (λ (n : ℕ). Contains (map (λ i. pointer e i) (range_with_len 0 (block_count e))) n)
     (get_or-map-range_with_len (λ i. pointer e i) 0 (block_count e) i i 0 low (omega arith))
-    (Contains-get_or (map (λ i. pointer e i) (range_with_len 0 (block_count e))) i 0 (omega (arith, length-map-range_with_len (λ i. pointer e i) 0 (block_count e)))))
+    (Contains-get_or (map (λ i. pointer e i) (range_with_len 0 (block_count e))) i 0 (omega (arith, length-map-range_with_len (λ i. pointer e i) 0 (block_count e))))))
 
 joined_size : (f : ℕ → Octets) (a n : ℕ) → ((i : ℕ) → a ≤ i → i < a + n → length (f i) ≡ 4096) → length (flat_map f (range_with_len a n)) ≡ 4096 * n
 joined_size f a zero whole = refl

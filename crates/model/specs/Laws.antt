@@ -8,5 +8,6 @@ pub mod Spools
 pub mod Service
 pub mod SpoolFiles
 pub mod Room
+pub mod Formats
 pub mod Layout
 pub mod Indexed

@@ -1,23 +1,31 @@
 -- How much room a spool's files leave, and when the spool is full. All of it is this project's own layout and rule
 -- (docs/FORMATS.md).
-use Rattle.std.specs.Prelude.{ℕ, ◌+◌, ◌-◌, ◌/◌, ◌%◌, Bool, false, ◌||◌, nat_le, nat_lt, if◌then◌else◌, List, length, Option, Some, None}
+use Rattle.std.specs.Prelude.{ℕ, ◌+◌, ◌-◌, ◌*◌, ◌/◌, ◌%◌, ◌==◌, Bool, false, ◌||◌, nat_le, nat_lt, if◌then◌else◌, List, length, Option, Some, None}
 use Rattle.std.specs.List.{list_any, sum_by}
 use Rattle.model.specs.Stream.{Octets}
-use Rattle.model.specs.Files.{File, first_data}
+use Rattle.model.specs.Files.{File, first_data, indirect_for}
 use Rattle.model.specs.Spool.{Spool, groups}
 use Rattle.model.specs.SpoolFiles.{FileCall, Create, Append, change_file, files_of, next_line, next_record, numbers_file, overview_file}
 use Rattle.model.specs.declared.change.Change.{Change}
 use Rattle.model.specs.declared.change.Change.TheVariants.{Group, Article, Expire}
 
--- the octets of the largest file: 10 blocks through its inode and 1,024 through its indirect block
+-- the octets of the largest file of format 2: those of 65,536 blocks
 abbrev pub largest_file : ℕ
-largest_file = 4_235_264
+largest_file = 268_435_456
 
 -- ---- free blocks and inodes
 
--- the blocks that a file of this many octets owns: those of its octets, and an indirect block if there are more than 10
+-- the number of blocks that this many octets take
+abbrev pub content_blocks : ℕ → ℕ
+content_blocks size = (size + 4095) / 4096
+
+-- the number of blocks of pointers to this many blocks, with the double-indirect block if there is more than one of them
+abbrev pub pointer_blocks : ℕ → ℕ
+pointer_blocks count = indirect_for count + (if nat_lt 1 (indirect_for count) then 1 else 0)
+
+-- the blocks that a file of this many octets owns: those of its octets, and those that point to them
 abbrev pub blocks_for : ℕ → ℕ
-blocks_for size = (size + 4095) / 4096 + (if nat_lt 40960 size then 1 else 0)
+blocks_for size = content_blocks size + pointer_blocks (content_blocks size)
 
 abbrev pub blocks_of_files : List File → ℕ
 blocks_of_files files = sum_by (λ f. blocks_for (length f.content)) files
@@ -76,10 +84,15 @@ is_full blocks inodes S (Some c) = is_full_for blocks inodes S c
 
 -- ---- what a change asks for
 
--- the most blocks that a call takes: one for each 4,096 octets, and an indirect block
+-- the most blocks that this many more octets take: one for each 4,096 of them, a block of pointers for each 1,024 of these and one
+-- more, and a double-indirect block
+abbrev pub blocks_for_more : ℕ → ℕ
+blocks_for_more more = content_blocks more + content_blocks more / 1024 + 2
+
+-- the most blocks that a call takes
 abbrev pub blocks_taken : FileCall → ℕ
 blocks_taken (Create name) = 0
-blocks_taken (Append name octets) = (length octets + 4095) / 4096 + 1
+blocks_taken (Append name octets) = blocks_for_more (length octets)
 
 -- ---- what a change changes
 
@@ -87,9 +100,20 @@ blocks_taken (Append name octets) = (length octets + 4095) / 4096 + 1
 abbrev pub blocks_spanned : ℕ → ℕ → ℕ
 blocks_spanned size more = (size % 4096 + more + 4095) / 4096
 
--- octets appended to a file change its inode, the blocks that get them, and the indirect block if the file then has one
+-- the number of blocks that the file gets
+abbrev pub blocks_fresh : ℕ → ℕ → ℕ
+blocks_fresh size more = content_blocks (size + more) - content_blocks size
+
+-- the most blocks that name this many fresh blocks of a file that then ends there: none, the only block of pointers, or those that
+-- the fresh ones may lie in and the double-indirect block
+abbrev pub pointers_put : ℕ → ℕ → ℕ
+pointers_put fresh end =
+    if fresh == 0 then 0
+    else (if nat_lt 4235264 end then 2 + (fresh + 1022) / 1024 else (if nat_lt 40960 end then 1 else 0))
+
+-- octets appended to a file change its inode, the blocks that get them, and those that name the fresh ones
 abbrev pub blocks_appended : ℕ → ℕ → ℕ
-blocks_appended size more = 1 + blocks_spanned size more + (if nat_lt 40960 (size + more) then 1 else 0)
+blocks_appended size more = 1 + blocks_spanned size more + pointers_put (blocks_fresh size more) (size + more)
 
 -- a new file changes a block of inodes, one of the directory, and the blocks that it gets
 abbrev pub blocks_made : ℕ → ℕ
@@ -114,6 +138,6 @@ blocks_changed S (Expire group number) =
     bitmap_blocks + blocks_made (length (change_file (record { serial = length S + 1; change = Expire group number })).content)
 
 -- the most blocks that a change alters: 2 of the bitmap; of an article 1 with its inode, 1 with its slot, 65 with its
--- octets and an indirect one; for each of 16 groups 3 for its numbers and 5 for its overview
+-- octets and one of pointers; for each of 16 groups 4 for its numbers and 7 for its overview
 abbrev pub most_changed : ℕ
-most_changed = 198
+most_changed = 246

@@ -1,7 +1,8 @@
 //! Laws of the spool in files. Each function does nothing, and its contract is the law.
 
+ghost use Rattle.model.specs.Laws.Formats.{FilesOfFormatOne, ReadAsFormatOne, SizesBoundFiles};
 ghost use Rattle.model.specs.Laws.Indexed.{ArticlesGrow, EmptyIndex, ExpiriesGrow, ExpiriesRise, FiledRise, GroupsGrow, LinesStand, NotesGrow, NumbersAreWhole};
-ghost use Rattle.model.specs.Laws.Layout.{EmptyVolumesStand, ImagesStandForOne, VersionIsOne};
+ghost use Rattle.model.specs.Laws.Layout.{EmptyVolumesStand, FormatsMayRise, ImagesStandForOne, VersionIsOne};
 ghost use Rattle.model.specs.Laws.Room.{ChangesAskFew, FilesGrowByBlocks, FreeIsBeside, NotFullHasRoom};
 ghost use Rattle.model.specs.Laws.SpoolFiles.{AppendsToOne, BlocksHoldOne, ChangesAreCounted, ChangesAreFew, ChangesAreRead, CreatesOne, EmptyHoldsNone, FilesAreByKind, FilesAreCounted, FilesGrow, FilesMakeSpool, FrontsAreRead, SpoolsGrow};
 
@@ -60,6 +61,16 @@ pub fn images_stand_for_one_spool()
     ensures one { ImagesStandForOne }
     ensures version { VersionIsOne }
     ensures empty { EmptyVolumesStand }
+    ensures formats { FormatsMayRise }
+{}
+
+/// A file system of format 1, defined on its own, is one of both formats without a file of more than 4,235,264 octets.
+/// The same inodes are files, own the same blocks and have the same content. For any size, no file has more octets
+/// exactly if no inode says that its file has more.
+pub fn format_one_is_as_it_was()
+    ensures files { FilesOfFormatOne }
+    ensures read { ReadAsFormatOne }
+    ensures sizes { SizesBoundFiles }
 {}
 
 /// What is sorted in the index, and where it is found.

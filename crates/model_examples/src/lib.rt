@@ -3,6 +3,7 @@
 
 ghost use Rattle.model_examples.specs.Commands.{ClosedGroup, EmptyGroup, Injection, NewGroups, OfferedTwice, OtherGroup, Overviews, PostThenGroup, PostedTwice, Walk, Wildmats};
 ghost use Rattle.model_examples.specs.Expiry.{CurrentIsTakenOut, EachAlone, IdsAreRemembered, Lost, MayOnlyOnce, NextNumber, NumbersGoOn, ShowsWhatIsIn, Stored, TwoGroups};
+ghost use Rattle.model_examples.specs.Formats.{Gates, Rows, Steps, Walks};
 ghost use Rattle.model_examples.specs.Least.{BelowByNumber, BelowCurrent, FoundByNumber, GoneById};
 ghost use Rattle.model_examples.specs.Numbers.{BelowTheLowest, ByNumber};
 
@@ -47,4 +48,12 @@ pub fn least()
     ensures below_by_number { BelowByNumber }
     ensures below_current { BelowCurrent }
     ensures found_by_number { FoundByNumber }
+{}
+
+/// Examples of the two formats: the gate, the blocks that files own, and pointers.
+pub fn formats()
+    ensures gates { Gates }
+    ensures rows { Rows }
+    ensures steps { Steps }
+    ensures walks { Walks }
 {}

@@ -11,7 +11,7 @@ use Rattle.segments.specs.Images.{IsCarried, IsInside, IsOpenIn, SameBut, open_b
 use Rattle.segments.proofs.Laying.{all_append, last_again}
 use Rattle.segments.proofs.Ordering.{greatest_last, least_first}
 use Rattle.segments.proofs.Places.{before, behind, distinct_of, each_of, filter_same, map_same, NotIn, once_less, once_more, once_of, with_place, without_place}
-use Rattle.segments.proofs.Standing.{are_open_kept, batch_same, count_same, held_same, home_same, home_size_same, label_same, batches_same, stands_over, superblock_same, valid_open}
+use Rattle.segments.proofs.Standing.{are_open_kept, batch_same, count_same, head_same, held_same, home_same, home_size_same, label_same, batches_same, stands_over, superblock_same, valid_open}
 
 -- numbers of batches on one side of another
 below_all : (x : List ℕ) (n : ℕ) (ss : List ℕ) → All (λ s. (batch_in s x).number < n) ss → AreBelow n (map (λ s. batch_in s x) ss)
@@ -80,7 +80,7 @@ module _ (x c label : List ℕ) (blocks : List (List ℕ)) (m : ℕ) (stands : S
   zeroth = same.same 0 (λ e. absurd (omega (arith, e)))
 
   homes : home c ≡ home x
-  homes = home_same x c zeroth same.size (λ k low. same.same (home_place (segment_count x) k) (λ e. absurd (omega (arith, e, within))))
+  homes = home_same x c (head_same x c zeroth same.size) (λ k low. same.same (home_place (segment_count x) k) (λ e. absurd (omega (arith, e, within))))
 
   other_gate : (s : ℕ) → s ≢ m → is_open s c ≡ is_open s x
   other_gate s other = ap (λ (b : List ℕ). eqb (get_or b 0 0) 1) (same.same (gate_place s) (λ e. absurd (omega (arith, e, other))))
@@ -98,15 +98,15 @@ module _ (x c label : List ℕ) (blocks : List (List ℕ)) (m : ℕ) (stands : S
   pub gate_kept : is_open m c ≡ is_open m x → StandsFor c label blocks
   gate_kept is =
       subst (λ (bs : List (List ℕ)). StandsFor c label bs) (ap (λ (h : List (List ℕ)). all_laid_over h (open_batches x)) homes ∙ stands.has_blocks)
-      (stands_over x c label blocks stands zeroth same.size (gates_kept is) (λ s opened k here. inside s k here))
+      (stands_over x c label blocks stands (head_same x c zeroth same.size) (gates_kept is) (λ s opened k here. inside s k here))
 
   -- with the segments in memory
   pub held_kept : is_open m c ≡ is_open m x → (held : List Held) → AreOpen held x → AreOpen held c
-  held_kept is held are = are_open_kept x c label blocks stands zeroth same.size (gates_kept is) (λ s opened k here. inside s k here) held are
+  held_kept is held are = are_open_kept x c label blocks stands (head_same x c zeroth same.size) (gates_kept is) (λ s opened k here. inside s k here) held are
 
   pub carried_kept : is_open m c ≡ is_open m x → IsCarried x → IsCarried c
   carried_kept is carried closed left all =
-      let same_batches = batches_same x c label blocks stands zeroth same.size (gates_kept is) (λ s opened k here. inside s k here) in
+      let same_batches = batches_same x c label blocks stands (head_same x c zeroth same.size) (gates_kept is) (λ s opened k here. inside s k here) in
       ap (λ (h : List (List ℕ)). all_laid_over h left) homes ∙ carried closed left (all ∙ same_batches) ∙ sym homes
 
   its_batch : (s : ℕ) → IsDescriptor (home_size x) (block (descriptor_place s) x) → batch_in s c ≡ batch_in s x

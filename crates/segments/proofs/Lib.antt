@@ -9,3 +9,4 @@ pub mod Sorting
 pub mod Standing
 pub mod Whole
 pub mod Writing
+pub mod Formats

@@ -1,12 +1,15 @@
 -- What an image stands for, by what it has in common with another.
-use Rattle.std.proofs.Common.{◌≡◌, ◌≢◌, inl, inr, ◌<◌, ◌≤◌, ltb, if◌then◌else◌, ℕ, zero, suc, ◌+◌, ◌*◌, eqb, Bool, true, false, List, [], ◌∷◌, length, get_or, map, refl, sym, ◌∙◌, ap, subst, arith}
+use Rattle.std.proofs.Common.{◌≡◌, ◌≢◌, ◌⊎◌, inl, inr, ◌<◌, ◌≤◌, drop, length-drop, length-take, ltb, if◌then◌else◌, ℕ, zero, suc, ◌+◌, ◌*◌, eqb, Bool, true, false, List, [], ◌∷◌, length, get_or, map, refl, sym, ◌∙◌, ap, subst, arith}
 use Rattle.std.specs.List.{All, filter, range_with_len}
 use Rattle.std.proofs.lemmas.Bool.{cases_eq, cases_lt}
-use Rattle.std.proofs.lemmas.List.{get_or_past}
-use Rattle.std.proofs.lemmas.List.Elements.{All-nil}
+use Rattle.std.proofs.lemmas.List.{get_or-drop, get_or_past}
+use Rattle.std.proofs.lemmas.List.Elements.{All-from_get_or, All-get_or, All-nil}
 use Rattle.std.proofs.lemmas.List.FromFn.{length-map-range_with_len}
-use Rattle.disk.specs.Image.{part}
-use Rattle.model.specs.Volume.{AreDistinct, Batch, IsDescriptor, IsSuperblock, StandsFor, all_laid_over, batch_in, block, blocks_from, descriptor_place, gate_place, home, home_place, home_size, image_place, insert, is_open, label_of, listed, number_at, open_segments, rising, segment_count}
+use Rattle.byteorder.specs.Endian.{little_number}
+use Rattle.byteorder.specs.Numbers.{little_from-take}
+use Rattle.disk.specs.Image.{Torn, part}
+use Rattle.disk.proofs.Images.{get_or-part, part-torn_apart, same_parts}
+use Rattle.model.specs.Volume.{AreDistinct, Batch, IsDescriptor, IsSuperblock, StandsFor, all_laid_over, batch_in, block, blocks_from, descriptor_place, format_at, gate_place, home, home_place, home_size, image_place, insert, is_open, label_of, listed, number_at, open_segments, rising, segment_count}
 use Rattle.segments.specs.Batches.{AgreeBut, AreFull, HaveNone}
 use Rattle.segments.specs.Held.{AreHeld, AreOpen, Held}
 use Rattle.segments.specs.Images.{IsHomeOfOpen, IsInside, IsOpenIn, SameBut, open_batches}
@@ -15,6 +18,10 @@ use Rattle.segments.proofs.Laying.{all_same}
 use Rattle.segments.proofs.Places.{each_at, each_of, filter_same, map_same}
 
 -- ---- the superblock and the home
+
+number_at-part : (at n : ℕ) (octets : List ℕ) → number_at at n octets ≡ little_number n (part at n octets)
+unfolding number_at
+number_at-part at n octets = sym (little_from-take 0 n n (drop at octets) (omega arith))
 
 module _ (x c : List ℕ) (zeroth : block 0 c ≡ block 0 x) (size : length c ≡ length x) where
   pub count_same : segment_count c ≡ segment_count x
@@ -29,6 +36,21 @@ module _ (x c : List ℕ) (zeroth : block 0 c ≡ block 0 x) (size : length c �
   pub superblock_same : IsSuperblock (block 0 x) (length x) → IsSuperblock (block 0 c) (length c)
   superblock_same valid = subst (λ (b : List ℕ). IsSuperblock b (length c)) (sym zeroth) (subst (λ (n : ℕ). IsSuperblock (block 0 x) n) (sym size) valid)
 
+-- what the superblock says of the rest is the same
+pub record IsSameHead (x c : List ℕ) : Type 0 where
+  pub count : segment_count c ≡ segment_count x
+  pub size : home_size c ≡ home_size x
+  pub label : label_of c ≡ label_of x
+  pub superblock : IsSuperblock (block 0 x) (length x) → IsSuperblock (block 0 c) (length c)
+
+pub head_same : (x c : List ℕ) → block 0 c ≡ block 0 x → length c ≡ length x → IsSameHead x c
+head_same x c zeroth size = record {
+  count = count_same x c zeroth size;
+  size = home_size_same x c zeroth size;
+  label = label_same x c zeroth size;
+  superblock = superblock_same x c zeroth size;
+}
+
 pub length-home : (x : List ℕ) → length (home x) ≡ home_size x
 length-home x = length-blocks_from (home_place (segment_count x) 0) (home_size x) x
 
@@ -38,10 +60,10 @@ at_home s k = omega arith
 pub get_or-home : (x : List ℕ) (k : ℕ) → k < home_size x → get_or (home x) k [] ≡ block (home_place (segment_count x) k) x
 get_or-home x k within = get_or-blocks_from (home_place (segment_count x) 0) (home_size x) k x within ∙ ap (λ (n : ℕ). block n x) (at_home (segment_count x) k)
 
-pub home_same : (x c : List ℕ) → block 0 c ≡ block 0 x → length c ≡ length x → ((k : ℕ) → k < home_size x → block (home_place (segment_count x) k) c ≡ block (home_place (segment_count x) k) x) → home c ≡ home x
-home_same x c zeroth size same =
-    ap (λ (s : ℕ). blocks_from (home_place s 0) (home_size c) c) (count_same x c zeroth size)
-    ∙ ap (λ (n : ℕ). blocks_from (home_place (segment_count x) 0) n c) (home_size_same x c zeroth size)
+pub home_same : (x c : List ℕ) → IsSameHead x c → ((k : ℕ) → k < home_size x → block (home_place (segment_count x) k) c ≡ block (home_place (segment_count x) k) x) → home c ≡ home x
+home_same x c head same =
+    ap (λ (s : ℕ). blocks_from (home_place s 0) (home_size c) c) head.count
+    ∙ ap (λ (n : ℕ). blocks_from (home_place (segment_count x) 0) n c) head.size
     ∙ blocks_from_same (home_place (segment_count x) 0) (home_place (segment_count x) 0) (home_size x) c x
     (λ k within. ap (λ (n : ℕ). block n c) (at_home (segment_count x) k) ∙ same k within ∙ ap (λ (n : ℕ). block n x) (sym (at_home (segment_count x) k)))
 
@@ -119,12 +141,12 @@ pub valid_open : (x label : List ℕ) (blocks : List (List ℕ)) → StandsFor x
 valid_open x label blocks stands s opened =
     each_at (λ s. IsDescriptor (home_size x) (block (descriptor_place s) x)) (λ s. is_open s x) 0 (segment_count x) stands.has_batches s (omega arith) (omega (arith, opened.0)) opened.1
 
-module _ (x c label : List ℕ) (blocks : List (List ℕ)) (stands : StandsFor x label blocks) (zeroth : block 0 c ≡ block 0 x) (size : length c ≡ length x)
+module _ (x c label : List ℕ) (blocks : List (List ℕ)) (stands : StandsFor x label blocks) (head : IsSameHead x c)
     (gates : (s : ℕ) → s < segment_count x → is_open s c ≡ is_open s x)
     (inside : (s : ℕ) → IsOpenIn s x → (k : ℕ) → IsInside s k → block k c ≡ block k x) where
   pub open_same : open_segments c ≡ open_segments x
   open_same =
-      ap (λ (n : ℕ). filter (λ s. is_open s c) (range_with_len 0 n)) (count_same x c zeroth size)
+      ap (λ (n : ℕ). filter (λ s. is_open s c) (range_with_len 0 n)) head.count
       ∙ filter_same (λ s. is_open s c) (λ s. is_open s x) 0 (segment_count x) (λ s low high. gates s (omega (arith, high)))
 
   each_batch : (s : ℕ) → IsOpenIn s x → batch_in s c ≡ batch_in s x
@@ -143,22 +165,22 @@ module _ (x c label : List ℕ) (blocks : List (List ℕ)) (stands : StandsFor x
   pub are_open_kept : (held : List Held) → AreOpen held x → AreOpen held c
   are_open_kept held are = record {
     batches = batches_same ∙ are.batches;
-    each = held_same x c held (λ s opened. ((omega (arith, opened.0, count_same x c zeroth size), gates s opened.0 ∙ opened.1), each_batch s opened)) are.each;
-    all = λ s opened. let there : s < segment_count x = omega (arith, opened.0, count_same x c zeroth size) in are.all s (there, sym (gates s there) ∙ opened.1);
+    each = held_same x c held (λ s opened. ((omega (arith, opened.0, head.count), gates s opened.0 ∙ opened.1), each_batch s opened)) are.each;
+    all = λ s opened. let there : s < segment_count x = omega (arith, opened.0, head.count) in are.all s (there, sym (gates s there) ∙ opened.1);
     rise = are.rise;
   }
 
   -- whatever the home
   pub stands_over : StandsFor c label (all_laid_over (home c) (open_batches x))
   stands_over = record {
-    has_superblock = superblock_same x c zeroth size stands.has_superblock;
-    has_label = label_same x c zeroth size ∙ stands.has_label;
+    has_superblock = head.superblock stands.has_superblock;
+    has_label = head.label ∙ stands.has_label;
     has_batches =
         subst (λ (ss : List ℕ). All (λ s. IsDescriptor (home_size c) (block (descriptor_place s) c)) ss) (sym open_same)
         (each_of (λ s. IsDescriptor (home_size c) (block (descriptor_place s) c)) (λ s. is_open s x) 0 (segment_count x)
         (λ s low high is.
         let opened : IsOpenIn s x = (omega (arith, high), is) in
-        subst (λ (n : ℕ). IsDescriptor n (block (descriptor_place s) c)) (sym (home_size_same x c zeroth size))
+        subst (λ (n : ℕ). IsDescriptor n (block (descriptor_place s) c)) (sym head.size)
         (subst (λ (b : List ℕ). IsDescriptor (home_size x) b) (sym (inside s opened (descriptor_place s) (omega arith, omega arith))) (valid_open x label blocks stands s opened))));
     has_order = subst (λ (ns : List ℕ). AreDistinct ns) (sym (map_open (λ b. b.number))) stands.has_order;
     has_blocks = ap (all_laid_over (home c)) batches_same;
@@ -188,15 +210,15 @@ module _ (x c label : List ℕ) (blocks : List (List ℕ)) (m : ℕ) (stands : S
   unread_inside s opened k here = same.same k (λ e. absurd (unread_apart s k opened here e))
 
   pub unread_home : home c ≡ home x
-  unread_home = home_same x c unread_zeroth same.size (λ k low. same.same (home_place (segment_count x) k) (λ e. absurd (omega (arith, e.1, within))))
+  unread_home = home_same x c (head_same x c unread_zeroth same.size) (λ k low. same.same (home_place (segment_count x) k) (λ e. absurd (omega (arith, e.1, within))))
 
   pub unread : StandsFor c label blocks
   unread =
       subst (λ (bs : List (List ℕ)). StandsFor c label bs) (ap (λ (h : List (List ℕ)). all_laid_over h (open_batches x)) unread_home ∙ stands.has_blocks)
-      (stands_over x c label blocks stands unread_zeroth same.size unread_gates unread_inside)
+      (stands_over x c label blocks stands (head_same x c unread_zeroth same.size) unread_gates unread_inside)
 
   pub unread_open : (held : List Held) → AreOpen held x → AreOpen held c
-  unread_open = are_open_kept x c label blocks stands unread_zeroth same.size unread_gates unread_inside
+  unread_open = are_open_kept x c label blocks stands (head_same x c unread_zeroth same.size) unread_gates unread_inside
 
 -- torn homes of blocks of which an open segment has an image
 module _ (x c label : List ℕ) (blocks : List (List ℕ)) (stands : StandsFor x label blocks) (same : SameBut (IsHomeOfOpen x) x c) where
@@ -230,10 +252,76 @@ module _ (x c label : List ℕ) (blocks : List (List ℕ)) (stands : StandsFor x
   pub torn : StandsFor c label blocks
   torn =
       subst (λ (bs : List (List ℕ)). StandsFor c label bs) (all_same (open_batches x) (home x) (home c) (full_open x) torn_agree ∙ stands.has_blocks)
-      (stands_over x c label blocks stands torn_zeroth same.size torn_gates torn_inside)
+      (stands_over x c label blocks stands (head_same x c torn_zeroth same.size) torn_gates torn_inside)
 
   pub torn_open : (held : List Held) → AreOpen held x → AreOpen held c
-  torn_open = are_open_kept x c label blocks stands torn_zeroth same.size torn_gates torn_inside
+  torn_open = are_open_kept x c label blocks stands (head_same x c torn_zeroth same.size) torn_gates torn_inside
+
+-- the gate of the format is not read
+module _ (x c label : List ℕ) (blocks : List (List ℕ)) (stands : StandsFor x label blocks) (tears : Torn format_at 1 x c) where
+  zeroth_size : length (block 0 c) ≡ length (block 0 x)
+  zeroth_size = omega (arith, length-take 4096 (drop 0 c), length-take 4096 (drop 0 x), length-drop 0 c, length-drop 0 x, tears.size)
+
+  octet_kept : (k : ℕ) → k ≢ 148 → k < 4096 → get_or (block 0 c) k 0 ≡ get_or (block 0 x) k 0
+  octet_kept k other within =
+      let from_c : get_or (block 0 c) k 0 ≡ get_or c (0 + k) 0 = get_or-part 0 4096 c k 0 within in
+      let from_x : get_or (block 0 x) k 0 ≡ get_or x (0 + k) 0 = get_or-part 0 4096 x k 0 within in
+      from_c ∙ elim (cases_lt k 148) [
+        | inl below ↦ tears.below (0 + k) (omega (arith, below))
+        | inr above ↦ tears.above (0 + k) (omega (arith, above, other))
+      ] ∙ sym from_x
+
+  part_kept : (at n : ℕ) → (at + n ≤ 148) ⊎ (149 ≤ at) → at + n ≤ 4096 → part at n (block 0 c) ≡ part at n (block 0 x)
+  part_kept at n apart within = same_parts 0 at n (block 0 x) (block 0 c) zeroth_size (λ k low high. octet_kept k (elim apart [ inl before ↦ (λ is. absurd (omega (arith, before, high, is))) | inr behind ↦ (λ is. absurd (omega (arith, behind, low, is))) ]) (omega arith))
+
+  number_kept : (at n : ℕ) → at + n ≤ 148 → number_at at n (block 0 c) ≡ number_at at n (block 0 x)
+  number_kept at n low =
+      number_at-part at n (block 0 c) ∙ ap (λ (ys : List ℕ). little_number n ys) (part_kept at n (inl low) (omega arith)) ∙ sym (number_at-part at n (block 0 x))
+
+  zeros_kept : All (λ o. o ≡ 0) (drop 149 (block 0 x)) → All (λ o. o ≡ 0) (drop 149 (block 0 c))
+  zeros_kept zeros = All-from_get_or (λ o. o ≡ 0) (drop 149 (block 0 c)) 0 each where
+    each : (k : ℕ) → k < length (drop 149 (block 0 c)) → get_or (drop 149 (block 0 c)) k 0 ≡ 0
+    each k within =
+        let few : 149 + k < 4096 = omega (arith, within, length-drop 149 (block 0 c), length-take 4096 (drop 0 c)) in
+        let there : k < length (drop 149 (block 0 x)) = omega (arith, within, length-drop 149 (block 0 c), length-drop 149 (block 0 x), zeroth_size) in
+        get_or-drop 149 (block 0 c) k 0 ∙ octet_kept (149 + k) (λ is. absurd (omega (arith, is))) few ∙ sym (get_or-drop 149 (block 0 x) k 0) ∙ All-get_or (λ o. o ≡ 0) (drop 149 (block 0 x)) k 0 there zeros
+
+  superblock_kept : IsSuperblock (block 0 x) (length x) → IsSuperblock (block 0 c) (length c)
+  superblock_kept valid =
+      let blocks_are = number_kept 12 4 (omega arith) in
+      let segments_are = number_kept 16 4 (omega arith) in
+      record {
+        begins = part_kept 0 8 (inl (omega arith)) (omega arith) ∙ valid.begins;
+        version_is = number_kept 8 4 (omega arith) ∙ valid.version_is;
+        low = omega (arith, valid.low, blocks_are);
+        high = omega (arith, valid.high, blocks_are);
+        segments = subst (λ (n : ℕ). (n ≡ 1) ⊎ (n ≡ 8)) (sym segments_are) valid.segments;
+        zeros = zeros_kept valid.zeros;
+        exactly = omega (arith, valid.exactly, blocks_are, segments_are, tears.size);
+      }
+
+  head_kept : IsSameHead x c
+  head_kept = record { count = number_kept 16 4 (omega arith); size = number_kept 12 4 (omega arith); label = part_kept 20 128 (inl (omega arith)) (omega arith); superblock = superblock_kept }
+
+  block_kept : (k : ℕ) → 0 < k → block k c ≡ block k x
+  block_kept k some = part-torn_apart 148 1 x c tears (4096 * k) 4096 (inr (omega arith))
+
+  format_gates : (s : ℕ) → s < segment_count x → is_open s c ≡ is_open s x
+  format_gates s there = gate_same s x c (block_kept (gate_place s) (omega arith))
+
+  format_inside : (s : ℕ) → IsOpenIn s x → (k : ℕ) → IsInside s k → block k c ≡ block k x
+  format_inside s opened k here = block_kept k (omega (arith, here.0))
+
+  format_home : home c ≡ home x
+  format_home = home_same x c head_kept (λ k low. block_kept (home_place (segment_count x) k) (omega arith))
+
+  pub format_unread : StandsFor c label blocks
+  format_unread =
+      subst (λ (bs : List (List ℕ)). StandsFor c label bs) (ap (λ (h : List (List ℕ)). all_laid_over h (open_batches x)) format_home ∙ stands.has_blocks)
+      (stands_over x c label blocks stands head_kept format_gates format_inside)
+
+  pub format_open : (held : List Held) → AreOpen held x → AreOpen held c
+  format_open = are_open_kept x c label blocks stands head_kept format_gates format_inside
 
 -- ---- no open segment
 

@@ -4,8 +4,10 @@
 
 ghost use Rattle.std.specs.Prelude.{◌≡◌, ◌≢◌, ◌⊎◌, ◌<◌, ◌≤◌, ◌+◌, ◌*◌, ◌++◌, ℕ, List, [], ◌∷◌, false, true, length, slice_index, slice_index_or};
 ghost use Rattle.std.specs.List.{All};
-ghost use Rattle.disk.specs.Image.{overwritten};
-ghost use Rattle.model.specs.Volume.{Batch, IsDescriptor, IsSuperblock, StandsFor, all_laid_over, batch_in, block, descriptor_place, gate_place, home, home_place, home_size, is_open, label_of, laid_over, logical_blocks, number_at, segment_count};
+ghost use Rattle.disk.specs.Image.{Torn, overwritten};
+ghost use Rattle.model.specs.News.{Stands};
+ghost use Rattle.model.specs.Spool.{Spool};
+ghost use Rattle.model.specs.Volume.{Batch, IsDescriptor, IsSuperblock, StandsFor, all_laid_over, batch_in, block, descriptor_place, format_at, format_number, gate_place, home, home_place, home_size, is_open, label_of, laid_over, logical_blocks, number_at, segment_count};
 ghost use Rattle.segments.specs.Held.{AreOpen, HaveLess, Held, IsHomeOfHeld, IsHomeOnTheWay, IsWrittenIn, batch_of, batches_of, held_in};
 ghost use Rattle.segments.specs.Images.{IsCarried, IsHomeOfOpen, IsInside, IsOpenIn, SameBut, open_batches};
 
@@ -24,6 +26,20 @@ pub fn a_volume_is_judged_by_its_segments()
         → (batch_in s image).number ≢ (batch_in t image).number }
     ensures stands { (image : List ℕ) → IsSuperblock (block 0 image) (length image) → ((s : ℕ) → IsOpenIn s image → IsDescriptor (home_size image) (block (descriptor_place s) image))
         → ((s t : ℕ) → IsOpenIn s image → IsOpenIn t image → s ≢ t → (batch_in s image).number ≢ (batch_in t image).number) → StandsFor image (label_of image) (logical_blocks image) }
+{}
+
+/// The gate of the format is not read. So a crash while it is opened leaves the same blocks.
+pub fn the_gate_of_the_format_is_not_read()
+    ensures stands { (old new label : List ℕ) (blocks : List (List ℕ)) → StandsFor old label blocks → Torn format_at 1 old new → StandsFor new label blocks }
+    ensures open { (old new label : List ℕ) (blocks : List (List ℕ)) (held : List Held) → StandsFor old label blocks → Torn format_at 1 old new → AreOpen held old → AreOpen held new }
+{}
+
+/// So an image stands for the same spool after the gate of its format is opened, and has format 2. An image of format 1
+/// also stands for the same spool after a crash during that write, whatever the crash leaves of the gate.
+pub fn an_opened_format_keeps_the_spool()
+    ensures opened { (host image : List ℕ) (S : Spool) → Stands host image S
+        → Stands host (overwritten format_at (2 ∷ []) image) S × (format_number (overwritten format_at (2 ∷ []) image) ≡ 2) }
+    ensures torn { (host old new : List ℕ) (S : Spool) → Stands host old S → format_number old ≡ 1 → Torn format_at 1 old new → Stands host new S }
 {}
 
 /// A closed segment is not read. So a crash while its descriptor and images are written leaves the volume as it was.

@@ -1,14 +1,14 @@
 -- What the writes of a new volume leave.
-use Rattle.std.proofs.Common.{◌≡◌, ◌⊎◌, inl, inr, ◌<◌, ◌≤◌, ℕ, ◌+◌, ◌-◌, ◌*◌, false, eqb, List, [], length, get_or, take, drop, replicate, sym, ◌∙◌, ap, subst, arith}
+use Rattle.std.proofs.Common.{◌≡◌, ◌⊎◌, inl, inr, ◌<◌, ◌≤◌, ℕ, ◌+◌, ◌-◌, ◌*◌, false, cond, eqb, List, [], ◌∷◌, length, get_or, take, drop, replicate, sym, ◌∙◌, ap, subst, arith}
 use Rattle.std.specs.List.{All}
 use Rattle.std.proofs.lemmas.Bool.{cases_eq}
 use Rattle.std.proofs.lemmas.List.{ext_get_or, get_or-drop, get_or-replicate, length-replicate}
 use Rattle.std.proofs.lemmas.List.Elements.{All-from_get_or, All-get_or}
 use Rattle.byteorder.specs.Endian.{little_bytes}
 use Rattle.disk.specs.Image.{part, overwritten}
-use Rattle.disk.proofs.Images.{length-overwritten, overwritten_above, part-overwritten, part-overwritten_apart}
+use Rattle.disk.proofs.Images.{length-overwritten, overwritten_above, overwritten_inside, part-overwritten, part-overwritten_apart}
 use Rattle.volume_format.specs.Formatting.{zero_block, zeroed}
-use Rattle.model.specs.Volume.{block, gate_place, home, home_place, home_size, IsSuperblock, is_open, label_of, magic, number_at, open_segments, segment_count, StandsFor}
+use Rattle.model.specs.Volume.{block, format_in, format_number, gate_place, home, home_place, home_size, IsSuperblock, is_open, label_of, magic, number_at, open_segments, segment_count, StandsFor}
 use Rattle.segments.proofs.Blocks.{overwritten_same, block-overwritten}
 use Rattle.volume_format.proofs.Numbers.{number_at_apart, number_at_written}
 use Rattle.segments.proofs.Standing.{get_or-home, length-home, none_are_open, stands_bare}
@@ -24,7 +24,7 @@ is_zero_block xs size zero =
     ∙ ap (λ (n : ℕ). replicate n 0) size
 
 -- the superblock, written part by part
-module _ (old label : List ℕ) (segments blocks : ℕ) (counts : (segments ≡ 1) ⊎ (segments ≡ 8)) (whole : length old ≡ 4096) (zero : All IsZero old) (label_size : length label ≡ 128) (low : 1024 ≤ blocks) (high : blocks ≤ 65536) where
+module _ (old label : List ℕ) (segments blocks gate : ℕ) (counts : (segments ≡ 1) ⊎ (segments ≡ 8)) (whole : length old ≡ 4096) (zero : All IsZero old) (label_size : length label ≡ 128) (low : 1024 ≤ blocks) (high : blocks ≤ 65536) where
   abbrev first : List ℕ
   first = overwritten 0 magic old
 
@@ -37,8 +37,11 @@ module _ (old label : List ℕ) (segments blocks : ℕ) (counts : (segments ≡ 
   abbrev fourth : List ℕ
   fourth = overwritten 16 (little_bytes 4 segments) third
 
+  abbrev fifth : List ℕ
+  fifth = overwritten 20 label fourth
+
   abbrev pub superblock : List ℕ
-  superblock = overwritten 20 label fourth
+  superblock = overwritten 148 (gate ∷ []) fifth
 
   size1 : length first ≡ 4096
   size1 = length-overwritten 0 magic old (omega (arith, whole)) ∙ whole
@@ -55,12 +58,16 @@ module _ (old label : List ℕ) (segments blocks : ℕ) (counts : (segments ≡ 
   fits : 20 + length label ≤ length fourth
   fits = omega (arith, size4, label_size)
 
+  size5 : length fifth ≡ 4096
+  size5 = length-overwritten 20 label fourth fits ∙ size4
+
   pub length-superblock : length superblock ≡ 4096
-  length-superblock = length-overwritten 20 label fourth fits ∙ size4
+  length-superblock = length-overwritten 148 (gate ∷ []) fifth (omega (arith, size5)) ∙ size5
 
   begins : take 8 superblock ≡ magic
   begins =
-      part-overwritten_apart 20 label fourth fits 0 8 (inl (omega arith))
+      part-overwritten_apart 148 (gate ∷ []) fifth (omega (arith, size5)) 0 8 (inl (omega arith))
+      ∙ part-overwritten_apart 20 label fourth fits 0 8 (inl (omega arith))
       ∙ part-overwritten_apart 16 (little_bytes 4 segments) third (omega (arith, size3)) 0 8 (inl (omega arith))
       ∙ part-overwritten_apart 12 (little_bytes 4 blocks) second (omega (arith, size2)) 0 8 (inl (omega arith))
       ∙ part-overwritten_apart 8 (little_bytes 4 1) first (omega (arith, size1)) 0 8 (inl (omega arith))
@@ -68,14 +75,16 @@ module _ (old label : List ℕ) (segments blocks : ℕ) (counts : (segments ≡ 
 
   version_is : number_at 8 4 superblock ≡ 1
   version_is =
-      number_at_apart 20 label fourth fits 8 4 (inl (omega arith))
+      number_at_apart 148 (gate ∷ []) fifth (omega (arith, size5)) 8 4 (inl (omega arith))
+      ∙ number_at_apart 20 label fourth fits 8 4 (inl (omega arith))
       ∙ number_at_apart 16 (little_bytes 4 segments) third (omega (arith, size3)) 8 4 (inl (omega arith))
       ∙ number_at_apart 12 (little_bytes 4 blocks) second (omega (arith, size2)) 8 4 (inl (omega arith))
       ∙ number_at_written 8 4 1 first (omega (arith, size1)) (omega arith)
 
   pub blocks_are : number_at 12 4 superblock ≡ blocks
   blocks_are =
-      number_at_apart 20 label fourth fits 12 4 (inl (omega arith))
+      number_at_apart 148 (gate ∷ []) fifth (omega (arith, size5)) 12 4 (inl (omega arith))
+      ∙ number_at_apart 20 label fourth fits 12 4 (inl (omega arith))
       ∙ number_at_apart 16 (little_bytes 4 segments) third (omega (arith, size3)) 12 4 (inl (omega arith))
       ∙ number_at_written 12 4 blocks second (omega (arith, size2)) (omega (arith, high))
 
@@ -87,26 +96,33 @@ module _ (old label : List ℕ) (segments blocks : ℕ) (counts : (segments ≡ 
 
   pub segments_are : number_at 16 4 superblock ≡ segments
   segments_are =
-      number_at_apart 20 label fourth fits 16 4 (inl (omega arith))
+      number_at_apart 148 (gate ∷ []) fifth (omega (arith, size5)) 16 4 (inl (omega arith))
+      ∙ number_at_apart 20 label fourth fits 16 4 (inl (omega arith))
       ∙ number_at_written 16 4 segments third (omega (arith, size3)) (omega (arith, few))
 
   pub label_is : part 20 128 superblock ≡ label
-  label_is = ap (λ (n : ℕ). part 20 n superblock) (sym label_size) ∙ part-overwritten 20 label fourth fits
+  label_is =
+      part-overwritten_apart 148 (gate ∷ []) fifth (omega (arith, size5)) 20 128 (inl (omega arith))
+      ∙ ap (λ (n : ℕ). part 20 n fifth) (sym label_size) ∙ part-overwritten 20 label fourth fits
+
+  pub gate_is : get_or superblock 148 0 ≡ gate
+  gate_is = overwritten_inside 148 (gate ∷ []) fifth (omega (arith, size5)) 148 0 (omega arith) (omega arith)
 
   -- the octets behind those that are used
-  zeros_stay : All IsZero (drop 148 superblock)
-  zeros_stay = All-from_get_or IsZero (drop 148 superblock) 0 each
+  zeros_stay : All IsZero (drop 149 superblock)
+  zeros_stay = All-from_get_or IsZero (drop 149 superblock) 0 each
     where
-      each : (i : ℕ) → i < length (drop 148 superblock) → IsZero (get_or (drop 148 superblock) i 0)
+      each : (i : ℕ) → i < length (drop 149 superblock) → IsZero (get_or (drop 149 superblock) i 0)
       each i within =
-          let inside : 148 + i < length old = omega (arith, Rattle.std.proofs.Common.length-drop 148 superblock, length-superblock, whole) in
-          get_or-drop 148 superblock i 0
-          ∙ overwritten_above 20 label fourth fits (148 + i) 0 (omega (arith, label_size))
-          ∙ overwritten_above 16 (little_bytes 4 segments) third (omega (arith, size3)) (148 + i) 0 (omega arith)
-          ∙ overwritten_above 12 (little_bytes 4 blocks) second (omega (arith, size2)) (148 + i) 0 (omega arith)
-          ∙ overwritten_above 8 (little_bytes 4 1) first (omega (arith, size1)) (148 + i) 0 (omega arith)
-          ∙ overwritten_above 0 magic old (omega (arith, whole)) (148 + i) 0 (omega arith)
-          ∙ All-get_or IsZero old (148 + i) 0 inside zero
+          let inside : 149 + i < length old = omega (arith, Rattle.std.proofs.Common.length-drop 149 superblock, length-superblock, whole) in
+          get_or-drop 149 superblock i 0
+          ∙ overwritten_above 148 (gate ∷ []) fifth (omega (arith, size5)) (149 + i) 0 (omega arith)
+          ∙ overwritten_above 20 label fourth fits (149 + i) 0 (omega (arith, label_size))
+          ∙ overwritten_above 16 (little_bytes 4 segments) third (omega (arith, size3)) (149 + i) 0 (omega arith)
+          ∙ overwritten_above 12 (little_bytes 4 blocks) second (omega (arith, size2)) (149 + i) 0 (omega arith)
+          ∙ overwritten_above 8 (little_bytes 4 1) first (omega (arith, size1)) (149 + i) 0 (omega arith)
+          ∙ overwritten_above 0 magic old (omega (arith, whole)) (149 + i) 0 (omega arith)
+          ∙ All-get_or IsZero old (149 + i) 0 inside zero
 
   pub superblock_valid : IsSuperblock superblock (4096 * home_place segments blocks)
   superblock_valid = record {
@@ -194,3 +210,17 @@ none_formatted segments blocks octets super old new size whole zero super_size s
 pub counted_formatted : (segments : ℕ) (super old new : List ℕ) → 4096 ≤ length old → length super ≡ 4096 → number_at 16 4 super ≡ segments → new ≡ overwritten 0 super old → segment_count new ≡ segments
 counted_formatted segments super old new size super_size segments_are is =
     ap segment_count is ∙ ap (number_at 16 4) (block-overwritten 0 super old super_size (omega (arith, super_size, size))) ∙ segments_are
+
+-- the format of the volume
+pub format_formatted : (format : ℕ) (super old new : List ℕ) → 4096 ≤ length old → length super ≡ 4096 → format_in super ≡ format → new ≡ overwritten 0 super old → format_number new ≡ format
+format_formatted format super old new size super_size format_is is =
+    ap format_number is ∙ ap format_in (block-overwritten 0 super old super_size (omega (arith, super_size, size))) ∙ format_is
+
+-- the octet at the gate says the format
+gate_for : ℕ → ℕ
+gate_for format = cond (eqb format 2) 2 0
+
+pub told_by_gate : (format : ℕ) (super : List ℕ) → (format ≡ 1) ⊎ (format ≡ 2) → get_or super 148 0 ≡ cond (eqb format 2) 2 0 → format_in super ≡ format
+unfolding gate_for
+told_by_gate format super (inl one) is = ap (λ (n : ℕ). cond (eqb n 2) 2 1) (is ∙ ap gate_for one) ∙ sym one
+told_by_gate format super (inr two) is = ap (λ (n : ℕ). cond (eqb n 2) 2 1) (is ∙ ap gate_for two) ∙ sym two

@@ -4,7 +4,7 @@ ghost use Rattle.std.specs.Prelude.{◌≡◌, ◌^◌, ◌⊎◌, ◌+◌, ◌*
 ghost use Rattle.std.specs.List.{All};
 ghost use Rattle.disk.specs.Device.{Elapses, LeavesOnly};
 ghost use Rattle.disk.specs.Image.{overwritten};
-ghost use Rattle.model.specs.Volume.{StandsFor, block, home_place, open_segments, segment_count};
+ghost use Rattle.model.specs.Volume.{StandsFor, block, format_number, home_place, open_segments, segment_count};
 ghost use Rattle.volume_format.specs.Formatting.{CountsFaults, zeroed};
 
 use crate::FormatError;
@@ -13,8 +13,8 @@ use crate::superblock::describe_in;
 use disk::{Disk, DiskError};
 use std::alloc::{AllocError, Global};
 
-/// Writes a volume of zeroed logical blocks with this label and eight closed segments, and syncs. `label` has 128
-/// octets, which the journal does not read. The volume has 1,024 to 65,536 blocks.
+/// Writes a volume of zeroed logical blocks with this label, eight closed segments and this format, and syncs. `label`
+/// has 128 octets, which the journal does not read. The volume has 1,024 to 65,536 blocks. `format` is 1 or 2.
 ///
 /// `Fault` or `Memory` may leave anything on the device.
 pub fn format<D: Disk>(
@@ -22,19 +22,22 @@ pub fn format<D: Disk>(
     disk: &mut D,
     blocks: u64,
     label: &[u8],
+    format: u32,
 ) -> Result<(), FormatError>
     requires low { 1024 ≤ blocks }
     requires high { blocks ≤ 65536 }
     requires label { length label.now ≡ 128 }
+    requires format { (format ≡ 1) ⊎ (format ≡ 2) }
     requires size { (D.device disk.old).size ≡ 4096 * home_place 8 blocks }
     ensures volume { IsTrue (D.device disk.old).tells → OnOk result (StandsFor (D.device disk.new).content label.now (zeroed blocks)) }
     ensures count { IsTrue (D.device disk.old).tells → OnOk result (segment_count (D.device disk.new).content ≡ 8) }
+    ensures format { IsTrue (D.device disk.old).tells → OnOk result (format_number (D.device disk.new).content ≡ format) }
     ensures synced { IsTrue (D.device disk.old).tells → OnOk result (LeavesOnly (D.device disk.new) (D.device disk.new).content) }
     ensures closed { IsTrue (D.device disk.old).tells → OnOk result (open_segments (D.device disk.new).content ≡ []) }
     ensures time { Elapses (D.device disk.old) (D.device disk.new) }
     ensures failures { CountsFaults result (D.device disk.old) (D.device disk.new) }
 {
-    format_with(alloc, disk, SEGMENTS, blocks, label)
+    format_with(alloc, disk, SEGMENTS, blocks, label, format)
 }
 
 /// Does the same with 1 segment or 8.
@@ -44,21 +47,24 @@ pub fn format_with<D: Disk>(
     segments: u32,
     blocks: u64,
     label: &[u8],
+    format: u32,
 ) -> Result<(), FormatError>
     requires segments { (segments ≡ 1) ⊎ (segments ≡ 8) }
     requires low { 1024 ≤ blocks }
     requires high { blocks ≤ 65536 }
     requires label { length label.now ≡ 128 }
+    requires format { (format ≡ 1) ⊎ (format ≡ 2) }
     requires size { (D.device disk.old).size ≡ 4096 * home_place segments blocks }
     ensures volume { IsTrue (D.device disk.old).tells → OnOk result (StandsFor (D.device disk.new).content label.now (zeroed blocks)) }
     ensures count { IsTrue (D.device disk.old).tells → OnOk result (segment_count (D.device disk.new).content ≡ segments) }
+    ensures format { IsTrue (D.device disk.old).tells → OnOk result (format_number (D.device disk.new).content ≡ format) }
     ensures synced { IsTrue (D.device disk.old).tells → OnOk result (LeavesOnly (D.device disk.new) (D.device disk.new).content) }
     ensures closed { IsTrue (D.device disk.old).tells → OnOk result (open_segments (D.device disk.new).content ≡ []) }
     ensures time { Elapses (D.device disk.old) (D.device disk.new) }
     ensures failures { CountsFaults result (D.device disk.old) (D.device disk.new) }
 {
     match zeros(alloc, BLOCK) {
-        Ok(octets) => write_volume(disk, segments, blocks, label, octets),
+        Ok(octets) => write_volume(disk, segments, blocks, label, format, octets),
         Err(_) => Err(FormatError::Memory),
     }
 }
@@ -69,24 +75,27 @@ fn write_volume<D: Disk>(
     segments: u32,
     blocks: u64,
     label: &[u8],
+    format: u32,
     mut octets: Vec<u8>,
 ) -> Result<(), FormatError>
     requires segments { (segments ≡ 1) ⊎ (segments ≡ 8) }
     requires low { 1024 ≤ blocks }
     requires high { blocks ≤ 65536 }
     requires label { length label.now ≡ 128 }
+    requires format { (format ≡ 1) ⊎ (format ≡ 2) }
     requires size { (D.device disk.old).size ≡ 4096 * home_place segments blocks }
     requires whole { length octets.items ≡ 4096 }
     requires zero { All (λ octet. octet ≡ 0) octets.items }
     ensures volume { IsTrue (D.device disk.old).tells → OnOk result (StandsFor (D.device disk.new).content label.now (zeroed blocks)) }
     ensures count { IsTrue (D.device disk.old).tells → OnOk result (segment_count (D.device disk.new).content ≡ segments) }
+    ensures format { IsTrue (D.device disk.old).tells → OnOk result (format_number (D.device disk.new).content ≡ format) }
     ensures synced { IsTrue (D.device disk.old).tells → OnOk result (LeavesOnly (D.device disk.new) (D.device disk.new).content) }
     ensures closed { IsTrue (D.device disk.old).tells → OnOk result (open_segments (D.device disk.new).content ≡ []) }
     ensures time { Elapses (D.device disk.old) (D.device disk.new) }
     ensures failures { CountsFaults result (D.device disk.old) (D.device disk.new) }
 {
     write_blocks(disk, home_block(segments, blocks), octets.as_slice())?;
-    describe_in(&mut octets, segments, blocks as u32, label);
+    describe_in(&mut octets, segments, blocks as u32, label, format);
     write_part(disk, 0, octets.as_slice())?;
     sync_last(disk)
 }

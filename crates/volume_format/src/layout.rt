@@ -26,10 +26,16 @@ pub const MOST_BLOCKS: u64 = 65536;
 pub const MAGIC: [u8; 8] = [0x58, 0x4e, 0x4e, 0x54, 0x50, 0x46, 0x53, 0x31];
 
 pub const VERSION: u32 = 1;
-/// Where the label begins in the superblock. It ends the octets that are used; those after it are zero.
+/// Where the label begins in the superblock. The octet after it is the gate of the format.
 pub const LABEL_AT: usize = 20;
 
-pub const SUPERBLOCK_USED: usize = 148;
+pub const FORMAT_AT: usize = 148;
+/// The gate of the format ends the octets that are used; those after it are zero.
+pub const SUPERBLOCK_USED: usize = 149;
+/// The octet at the gate of a volume of format 2, and the one that a new volume of format 1 gets.
+pub const IS_FORMAT_2: u8 = 2;
+
+pub const IS_FORMAT_1: u8 = 0;
 /// The first octet of an open gate, and that of a closed one as the journal writes it.
 pub const OPEN: u8 = 1;
 

@@ -1,17 +1,24 @@
 //! Reads and writes the superblock.
 
-ghost use Rattle.std.specs.Prelude.{◌≡◌, ◌↔◌, ◌⊎◌, ◌*◌, ◌≤◌, IfSome, IsNone, IsTrue, drop, length, take};
+ghost use Rattle.std.specs.Prelude.{◌≡◌, ◌↔◌, ◌⊎◌, ◌==◌, ◌*◌, ◌≤◌, IfSome, IsNone, IsTrue, drop, if◌then◌else◌, length, take};
 ghost use Rattle.std.specs.List.{All};
 ghost use Rattle.disk.specs.Image.{part};
-ghost use Rattle.model.specs.Volume.{IsSuperblock, home_place, magic, number_at};
+ghost use Rattle.model.specs.Volume.{IsSuperblock, format_in, home_place, magic, number_at};
 
 use crate::layout::{
-    FEWEST_BLOCKS, LABEL_AT, MAGIC, MOST_BLOCKS, ONE_SEGMENT, SEGMENTS, SUPERBLOCK_USED, VERSION,
-    home_block, number32, put_octets, put32, start_of,
+    FEWEST_BLOCKS, FORMAT_AT, IS_FORMAT_1, IS_FORMAT_2, LABEL_AT, MAGIC, MOST_BLOCKS, ONE_SEGMENT,
+    SEGMENTS, SUPERBLOCK_USED, VERSION, home_block, number32, put_octets, put32, start_of,
 };
 
 /// Turns a block of zeros into a superblock.
-pub(crate) fn describe_in(octets: &mut Vec<u8>, segments: u32, blocks: u32, label: &[u8])
+pub(crate) fn describe_in(
+    octets: &mut Vec<u8>,
+    segments: u32,
+    blocks: u32,
+    label: &[u8],
+    format: u32,
+)
+    requires format { (format ≡ 1) ⊎ (format ≡ 2) }
     requires segments { (segments ≡ 1) ⊎ (segments ≡ 8) }
     requires low { 1024 ≤ blocks }
     requires high { blocks ≤ 65536 }
@@ -22,12 +29,14 @@ pub(crate) fn describe_in(octets: &mut Vec<u8>, segments: u32, blocks: u32, labe
     ensures blocks { number_at 12 4 octets.new.items ≡ blocks }
     ensures segments { number_at 16 4 octets.new.items ≡ segments }
     ensures label { part 20 128 octets.new.items ≡ label.now }
+    ensures format { format_in octets.new.items ≡ format }
     ensures size { length octets.new.items ≡ 4096 }
 {
-    describe_volume(octets.as_mut_slice(), segments, blocks, label);
+    describe_volume(octets.as_mut_slice(), segments, blocks, label, format);
 }
 
-fn describe_volume(octets: &mut [u8], segments: u32, blocks: u32, label: &[u8])
+fn describe_volume(octets: &mut [u8], segments: u32, blocks: u32, label: &[u8], format: u32)
+    requires format { (format ≡ 1) ⊎ (format ≡ 2) }
     requires segments { (segments ≡ 1) ⊎ (segments ≡ 8) }
     requires low { 1024 ≤ blocks }
     requires high { blocks ≤ 65536 }
@@ -38,6 +47,7 @@ fn describe_volume(octets: &mut [u8], segments: u32, blocks: u32, label: &[u8])
     ensures blocks { number_at 12 4 octets.new ≡ blocks }
     ensures segments { number_at 16 4 octets.new ≡ segments }
     ensures label { part 20 128 octets.new ≡ label.now }
+    ensures format { format_in octets.new ≡ format }
     ensures size { length octets.new ≡ 4096 }
 {
     put_octets(octets, 0, &MAGIC);
@@ -45,6 +55,31 @@ fn describe_volume(octets: &mut [u8], segments: u32, blocks: u32, label: &[u8])
     put32(octets, 12, blocks);
     put32(octets, 16, segments);
     put_octets(octets, LABEL_AT, label);
+    put_octets(octets, FORMAT_AT, &[gate_of(format)]);
+}
+
+// The octet at the gate of a new volume of this format.
+fn gate_of(format: u32) -> u8
+    ensures { result ≡ (if format == 2 then 2 else 0) }
+{
+    if format == 2 {
+        IS_FORMAT_2
+    } else {
+        IS_FORMAT_1
+    }
+}
+
+/// The format that a superblock says: 2 if the gate of the format is 2, else 1.
+pub fn read_format(octets: &[u8]) -> u32
+    requires { 149 ≤ length octets.now }
+    ensures format { result ≡ format_in octets.now }
+    ensures some { (result ≡ 1) ⊎ (result ≡ 2) }
+{
+    if octets[FORMAT_AT] == IS_FORMAT_2 {
+        2
+    } else {
+        1
+    }
 }
 
 /// The numbers of logical blocks and segments of a volume.
@@ -94,8 +129,8 @@ fn has_magic(octets: &[u8]) -> bool
 }
 
 fn has_zeros(octets: &[u8]) -> bool
-    requires { 148 ≤ length octets.now }
-    ensures { IsTrue result ↔ All (λ octet. octet ≡ 0) (drop 148 octets.now) }
+    requires { 149 ≤ length octets.now }
+    ensures { IsTrue result ↔ All (λ octet. octet ≡ 0) (drop 149 octets.now) }
 {
     for at in SUPERBLOCK_USED..octets.len() {
         if octets[at] != 0 {

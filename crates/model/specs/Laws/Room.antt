@@ -4,7 +4,7 @@ use Rattle.std.specs.List.{Contains, sum_by}
 use Rattle.model.specs.Stream.{Octets}
 use Rattle.model.specs.Files.{File, HasRoom, HoldsFiles, free_blocks, free_inodes}
 use Rattle.model.specs.Lawful.{IsLawful, MayFollow}
-use Rattle.model.specs.Room.{blocks_changed, blocks_for, blocks_taken, files_made, free_blocks_beside, free_inodes_beside, is_full, largest_file, most_changed}
+use Rattle.model.specs.Room.{blocks_changed, blocks_for, blocks_for_more, blocks_taken, files_made, free_blocks_beside, free_inodes_beside, is_full, largest_file, most_changed}
 use Rattle.model.specs.Spool.{Spool}
 use Rattle.model.specs.SpoolFiles.{change_calls, change_file, files_of, next_line, next_record, numbers_file, overview_file}
 use Rattle.model.specs.declared.change.Change.{Change}
@@ -18,14 +18,14 @@ pub record IsBeside (inodes : ℕ) (blocks : List Octets) (files : List File) : 
 abbrev pub FreeIsBeside : Type 0
 FreeIsBeside = (inodes : ℕ) (blocks : List Octets) (files : List File) → HasRoom inodes blocks → HoldsFiles inodes blocks files → IsBeside inodes blocks files
 
--- A file that gets this many more octets takes at most one block for each 4,096 of them and an indirect block.
+-- A file that gets this many more octets takes at most one block for each 4,096 of them, and the blocks that point to these.
 abbrev pub FilesGrowByBlocks : Type 0
-FilesGrowByBlocks = (size more : ℕ) → blocks_for (size + more) ≤ blocks_for size + ((more + 4095) / 4096 + 1)
+FilesGrowByBlocks = (size more : ℕ) → blocks_for (size + more) ≤ blocks_for size + blocks_for_more more
 
 -- a change asks for few blocks, and each file that it makes or extends gets few octets
 pub record AsksFew (S : Spool) (c : Change) : Type 0 where
-  -- 66 for an article and 5 for each of its groups
-  pub blocks : sum_by blocks_taken (change_calls S c) ≤ 146
+  -- 67 for an article and 7 for each of its groups
+  pub blocks : sum_by blocks_taken (change_calls S c) ≤ 179
   -- a head of at most 677 octets, and the text
   pub made : length (change_file (record { serial = length S + 1; change = c })).content ≤ 262_821
   -- fewer than the 12,288 octets that the overview has room for
