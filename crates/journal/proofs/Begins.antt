@@ -177,6 +177,8 @@ module _ (device : Device) (blocks : ℕ) (superblock : List ℕ) (room after : 
             );
             same = λ runs c left. told.same refl c left;
           };
+      format_is = λ t runs. kept.format_is t refl;
+      formats = kept.formats;
     }
       where
         stands_at : {label : List ℕ} {bs more : List (List ℕ)} (c : List ℕ) → IsAdmitted Idle label bs more c → StandsFor c label bs

@@ -10,7 +10,7 @@ use Rattle.journal.specs.Flight.{Flight, all_of, flight_in, held_at, none_held, 
 use Rattle.journal.specs.Inside.{IsLive, IsOrdered, IsWithin, Holds, Touched, IsAdmitted, IsKept, IsTold, blocks_without}
 use Rattle.journal.specs.Calls.{Does, Writes, Syncs, call_at}
 use Rattle.journal.specs.Order.{at_fault, following}
-use Rattle.model.specs.Volume.{descriptor_place, gate_place, home_place, home_size, image_place, laid_over, logical_blocks, segment_count}
+use Rattle.model.specs.Volume.{descriptor_place, format_in, format_number, gate_place, home_place, home_size, image_place, laid_over, logical_blocks, segment_count}
 use Rattle.journal.specs.declared.Next.{Next}
 use Rattle.journal.specs.declared.Next.TheVariants.{Idle, Descriptor, Image, Seal, OpenGate, Commit, Home, Settle, CloseGate, Finish}
 use Rattle.std.proofs.lemmas.Bool.{true≢false}
@@ -18,7 +18,7 @@ use Rattle.std.proofs.Math.Seq.{drop-length}
 use Rattle.journal.proofs.Admitted.{Bears, committed, shut_already}
 use Rattle.journal.proofs.Contents.{holds_closed, holds_descriptor, holds_first, holds_home, holds_image, holds_opened, holds_settled}
 use Rattle.journal.proofs.Flights.{after_commit, after_gate, after_home, after_image, last_where, left_where, length-sizes, less_before, size_at, sizes_some, sound_all, there_of, within_commit, within_gate, within_home, within_image}
-use Rattle.journal.proofs.Transitions.{admitted_after, told_after, told_failed, without_same, image_torn, images_synced}
+use Rattle.journal.proofs.Transitions.{admitted_after, told_after, told_failed, untouched_zero, without_same, image_torn, images_synced}
 
 -- the logical blocks after a good call, by what they were before
 abbrev pub blocks_then : Next → List (List ℕ) → List (List ℕ) → List (List ℕ)
@@ -45,7 +45,7 @@ module _ (old new : Device) (blocks : ℕ) (superblock : List ℕ) (room : List 
   pub record IsAfter (g : Next) (h : Bool) (without : List (List ℕ)) : Type 0 where
     pub is_kept : IsKept new blocks superblock g h room filled is_last
     pub is_without : IsTrue old.tells → blocks_without m g new.content ≡ without
-    pub is_since : IsTrue old.tells → (t : ℕ) (c : List ℕ) → t ≤ old.clock → new.left_since t c → old.left_since t c ⊎ IsAdmitted g (part 20 128 superblock) (blocks_without m g new.content) (laid_over (blocks_without m g new.content) f.batch.numbers f.batch.images) c
+    pub is_since : IsTrue old.tells → (t : ℕ) (c : List ℕ) → t ≤ old.clock → new.left_since t c → old.left_since t c ⊎ (IsAdmitted g (part 20 128 superblock) (blocks_without m g new.content) (laid_over (blocks_without m g new.content) f.batch.numbers f.batch.images) c × (format_in superblock ≤ format_number c))
 
   -- a write, good or failed
   record HasWritten (at : ℕ) (written : List ℕ) (h : Bool) : Type 0 where
@@ -91,16 +91,25 @@ module _ (old new : Device) (blocks : ℕ) (superblock : List ℕ) (room : List 
             let t = told_new tells in
             let told = was.told t in
             told_after f old.content (part 20 128 superblock) told.stands (there t) told.count (staged_in t) new blocks g h told.size (bears t) (λ c now. same t c (left t c now)) (law tells) (holds t);
+        format_is = λ tells runs. format_same (told_new tells) new.content (now (told_new tells));
+        formats = λ tells c left_now. bound (told_new tells) c (same (told_new tells) c (left (told_new tells) c left_now));
       };
       is_without = λ t. without_same f old.content (part 20 128 superblock) (was.told t).stands (there t) (was.told t).count (staged_in t) g new.content (bears t) (now t) ∙ is t;
       is_since = λ t time c before gone.
           ⊎_elim (λ earlier. inl earlier)
-          (λ p. inr (admitted_after f old.content (part 20 128 superblock) (was.told t).stands (there t) (was.told t).count (staged_in t) g new.content (bears t) (now t) c (same t c p)))
+          (λ p. inr (admitted_after f old.content (part 20 128 superblock) (was.told t).stands (there t) (was.told t).count (staged_in t) g new.content (bears t) (now t) c (same t c p), bound t c (same t c p)))
           (since t time c before gone);
     }
       where
         told_new : IsTrue new.tells → IsTrue old.tells
         told_new tells = subst (λ (b : Bool). IsTrue b) time.tells tells
+
+        -- the superblock isn't touched
+        format_same : IsTrue old.tells → (c : List ℕ) → SameBut (Touched f g) old.content c → format_number c ≡ format_in superblock
+        format_same t c alike = ap format_in (alike.same 0 (untouched_zero f g)) ∙ was.format_is t refl
+
+        bound : IsTrue old.tells → (c : List ℕ) → SameBut (Touched f g) old.content c → format_in superblock ≤ format_number c
+        bound t c alike = omega (arith, format_same t c alike)
 
         now : (t : IsTrue old.tells) → SameBut (Touched f g) old.content new.content
         now t = same t new.content (left t new.content (law (subst (λ (b : Bool). IsTrue b) (sym time.tells) t)))
@@ -212,6 +221,8 @@ module _ (old new : Device) (blocks : ℕ) (superblock : List ℕ) (room : List 
     order = was.order;
     described = λ e. absurd (other e);
     told = λ tells. (no_more s was left (subst (λ (b : Bool). IsTrue b) time.tells tells)).0;
+    format_is = λ tells runs. absurd (true≢false runs);
+    formats = λ tells c left_now. let t = subst (λ (b : Bool). IsTrue b) time.tells tells in was.formats t c (left t c left_now);
   }
 
   after_failed_sync : {T E : Type 0} (e : E) (s : Next) → s ≢ Descriptor → Was s → Syncs {T = T} {E = E} (Err e) old new → IsAfter s true (without_at s old)

@@ -1,14 +1,12 @@
 -- Calls after the commit, one after the other.
 use Rattle.std.proofs.Common.{◌≡◌, ◌≢◌, ◌⊎◌, inl, inr, ⊎_elim, ◌<◌, ◌≤◌, ℕ, ◌+◌, ◌-◌, ◌%◌, ◌^◌, if◌then◌else◌, Bool, true, false, eqb, IsTrue, List, [], ◌∷◌, ◌++◌, length, refl, sym, ◌∙◌, ap, subst, arith, Result, Ok, Err, IfErr}
 use Rattle.std.specs.List.{sum}
-use Rattle.std.proofs.Math.Nat.{mod-add-mod, mod-mod}
 use Rattle.std.proofs.lemmas.Bool.{cond_both}
-use Rattle.disk.specs.Device.{Device, IsSync, IsWrite, one_more}
-use Rattle.segments.specs.Held.{Held}
+use Rattle.disk.specs.Device.{Device}
 use Rattle.journal.specs.Flight.{counts_of}
-use Rattle.journal.specs.Inside.{IsAdmitted}
-use Rattle.journal.specs.Calls.{Does, IsRetried, MakesCall, OnMade, OnRetried, blocks_after, call_at}
-use Rattle.journal.specs.Journal.{JournalView, IsCaused, IsDuring, IsSameBatch, LeavesAdmitted, all_held, calls, sizes, with_batch}
+use Rattle.journal.specs.Inside.{IsAdmitted, IsVolume}
+use Rattle.journal.specs.Calls.{IsRetried, MakesCall, OnMade, OnRetried, blocks_after}
+use Rattle.journal.specs.Journal.{Admits, JournalView, IsCaused, IsDuring, IsSameBatch, LeavesAdmitted, all_held, calls, sizes, with_batch}
 use Rattle.journal.specs.Opening.{IsMore}
 use Rattle.journal.specs.Order.{all_calls, answer, at_fault, calls_made, following, is_sync, syncs_made, writes_made}
 use Rattle.model.specs.Volume.{StandsFor, descriptor_of}
@@ -18,6 +16,7 @@ use Rattle.journal.specs.declared.Progress.{Progress}
 use Rattle.journal.specs.declared.Progress.TheVariants.{Working, Idle as Ended}
 use Rattle.journal.specs.declared.JournalError.{JournalError}
 use Rattle.journal.specs.declared.JournalError.TheVariants.{Fault, Memory}
+use Rattle.journal.proofs.Counting.{Asks, asks_by, one_count, same_count}
 use Rattle.journal.proofs.Flights.{after_commit, after_gate, after_home}
 use Rattle.journal.proofs.Order.{one_more_call, one_more_sync, one_more_write, syncs_where}
 
@@ -130,6 +129,7 @@ blocks_same device old new (Err e) checkpoint call t = call.blocks t
 pub same_then : {D : Type 0} (a b c : JournalView D) → IsSameBatch a b → IsSameBatch b c → IsSameBatch a c
 same_then a b c first second = record {
   label = second.label ∙ first.label;
+  format = second.format ∙ first.format;
   size = second.size ∙ first.size;
   segments = second.segments ∙ first.segments;
   held = second.held ∙ first.held;
@@ -142,7 +142,7 @@ same_then a b c first second = record {
 }
 
 pub same_itself : {D : Type 0} (a : JournalView D) → IsSameBatch a a
-same_itself a = record { label = refl; size = refl; segments = refl; held = refl; place = refl; number = refl; last = refl; numbers = refl; images = refl; is_last = refl }
+same_itself a = record { label = refl; format = refl; size = refl; segments = refl; held = refl; place = refl; number = refl; last = refl; numbers = refl; images = refl; is_last = refl }
 
 -- the same batch has the same images to be carried home
 pub same_sizes : {D : Type 0} (old new : JournalView D) → IsSameBatch old new → sizes new ≡ sizes old
@@ -169,13 +169,15 @@ during_then device old mid new result so_far checkpoint call = record {
     same_blocks : IsTrue (device old.disk).tells → new.blocks ≡ old.blocks
     same_blocks t = blocks_same device mid new result checkpoint call (mid_tells t) ∙ so_far.blocks t
 
-    admitted : IsTrue (device old.disk).tells → (c : List ℕ) → IsAdmitted new.next new.label new.blocks (with_batch new) c → StandsFor c old.label old.blocks
+    admitted : IsTrue (device old.disk).tells → (c : List ℕ) → Admits new c → IsVolume old.format old.label old.blocks c
     admitted t c left =
-        let s = stands new.next new.label new.blocks (with_batch new) c (next_not_commit device mid new result checkpoint call) left in
-        subst (λ (bs : List (List ℕ)). StandsFor c old.label bs) (same_blocks t) (subst (λ (l : List ℕ). StandsFor c l new.blocks) (call.same.label ∙ so_far.same.label) s)
+        let s = stands new.next new.label new.blocks (with_batch new) c (next_not_commit device mid new result checkpoint call) left.0 in (
+          subst (λ (bs : List (List ℕ)). StandsFor c old.label bs) (same_blocks t) (subst (λ (l : List ℕ). StandsFor c l new.blocks) (call.same.label ∙ so_far.same.label) s),
+          omega (arith, left.1, call.same.format, so_far.same.format),
+        )
 
 -- before the first call
-pub during_start : {D : Type 0} (device : D → Device) (old : JournalView D) → (IsTrue (device old.disk).tells → (c : List ℕ) → (device old.disk).may_leave c → StandsFor c old.label old.blocks) → IsDuring device old old
+pub during_start : {D : Type 0} (device : D → Device) (old : JournalView D) → (IsTrue (device old.disk).tells → (c : List ℕ) → (device old.disk).may_leave c → IsVolume old.format old.label old.blocks c) → IsDuring device old old
 during_start device old now = record {
   tells = refl;
   size = refl;
@@ -187,32 +189,6 @@ during_start device old now = record {
 }
 
 -- ---- how many calls were made
-
-same_count : (n a b c : ℕ) → IsMore n a b → c ≡ b → IsMore n a c
-same_count n a b c more is = ap (λ (x : ℕ). x % 2 ^ 64) is ∙ more
-
-one_count : (n a b c : ℕ) → IsMore n a b → c ≡ one_more b → IsMore (n + 1) a c
-one_count n a b c more is =
-    ap (λ (x : ℕ). x % 2 ^ 64) is ∙ mod-mod (b + 1) (2 ^ 64) ∙ sym (mod-add-mod b (2 ^ 64) 1) ∙ ap (λ (x : ℕ). (x + 1) % 2 ^ 64) more ∙ mod-add-mod (a + n) (2 ^ 64) 1
-    ∙ ap (λ (x : ℕ). x % 2 ^ 64) (omega arith)
-
--- the counts of a call by its kind
-Asks : Bool → Device → Device → Type 0
-Asks true old new = IsSync old new
-Asks false old new = IsWrite old new
-
-asks_by : (next : Next) (segments : ℕ) (held : List Held) (place : ℕ) (descriptor : List ℕ) (images : List (List ℕ)) (p : Progress) (old new : Device) → Does {T = Progress} {E = JournalError} (call_at next segments held place descriptor images) (Ok p) old new → next ≢ Idle → Asks (is_sync next) old new
-unfolding Asks
-asks_by Idle segments held place descriptor images p old new did flies = absurd (flies refl)
-asks_by Descriptor segments held place descriptor images p old new did flies = did.asks
-asks_by (Image i) segments held place descriptor images p old new did flies = did.asks
-asks_by Seal segments held place descriptor images p old new did flies = did.asks
-asks_by OpenGate segments held place descriptor images p old new did flies = did.asks
-asks_by Commit segments held place descriptor images p old new did flies = did.asks
-asks_by (Home j i) segments held place descriptor images p old new did flies = did.asks
-asks_by Settle segments held place descriptor images p old new did flies = did.asks
-asks_by (CloseGate j) segments held place descriptor images p old new did flies = did.asks
-asks_by (Finish j) segments held place descriptor images p old new did flies = did.asks
 
 -- after the commit n + 2 writes and 2 syncs were made
 enough_made : (n : ℕ) (sizes : List ℕ) (next : Next) → IsCheckpoint next → (n + 2 ≤ writes_made n sizes next) × (2 ≤ syncs_made sizes next)
@@ -228,7 +204,6 @@ enough_made n sizes (CloseGate j) c = (omega arith, omega arith)
 enough_made n sizes (Finish j) c = (omega arith, omega arith)
 
 more_writes : (n : ℕ) (sizes : List ℕ) (w : ℕ) (next : Next) (old now new : Device) → next ≢ Idle → IsCheckpoint next → Asks (is_sync next) now new → n + 2 + w ≡ writes_made n sizes (following n sizes next) → ((v : ℕ) → n + 2 + v ≡ writes_made n sizes next → IsMore v old.writes now.writes) → IsMore w old.writes new.writes
-unfolding Asks
 more_writes n sizes w next old now new flies checkpoint asks is so_far = go (is_sync next) asks (is ∙ one_more_write n sizes next flies)
   where
     go : (b : Bool) → Asks b now new → n + 2 + w ≡ (if b then writes_made n sizes next else writes_made n sizes next + 1) → IsMore w old.writes new.writes
@@ -241,7 +216,6 @@ more_writes n sizes w next old now new flies checkpoint asks is so_far = go (is_
         subst (λ (m : ℕ). IsMore m old.writes new.writes) sum (one_count v old.writes now.writes new.writes (so_far v before) asked.writes)
 
 more_syncs : (n : ℕ) (sizes : List ℕ) (s : ℕ) (next : Next) (old now new : Device) → next ≢ Idle → IsCheckpoint next → Asks (is_sync next) now new → 2 + s ≡ syncs_made sizes (following n sizes next) → ((r : ℕ) → 2 + r ≡ syncs_made sizes next → IsMore r old.syncs now.syncs) → IsMore s old.syncs new.syncs
-unfolding Asks
 more_syncs n sizes s next old now new flies checkpoint asks is so_far = go (is_sync next) asks (is ∙ one_more_sync n sizes next flies)
   where
     go : (b : Bool) → Asks b now new → 2 + s ≡ (if b then syncs_made sizes next + 1 else syncs_made sizes next) → IsMore s old.syncs new.syncs
@@ -301,7 +275,7 @@ module _ {D : Type 0} (device : D → Device) (old now new : JournalView D) (so_
   counted : (p : Progress) → MakesCall device now new (Ok p) → ((w : ℕ) → length new.numbers + 2 + w ≡ writes_made (length new.numbers) (sizes new) new.next → IsMore w (device old.disk).writes (device new.disk).writes)
       × ((s : ℕ) → 2 + s ≡ syncs_made (sizes new) new.next → IsMore s (device old.disk).syncs (device new.disk).syncs)
   counted p call =
-      let asks = asks_by now.next now.segments (all_held now) now.place (descriptor_of now.number now.last now.numbers) now.images p (device now.disk) (device new.disk) call.does flies in
+      let asks = asks_by Progress JournalError now.next now.segments (all_held now) now.place (descriptor_of now.number now.last now.numbers) now.images p (device now.disk) (device new.disk) call.does flies in
       let n = length now.numbers in
       let size : length new.numbers ≡ n = ap length call.same.numbers in
       let same = same_sizes now new call.same in (
@@ -336,7 +310,7 @@ module _ {D : Type 0} (device : D → Device) (old now new : JournalView D) (so_
 pub at_start : {D : Type 0} (device : D → Device) (journal : JournalView D) → IsLeft journal.next → journal.next ≢ Commit → writes_made (length journal.numbers) (sizes journal) journal.next ≡ length journal.numbers + 2 → syncs_made (sizes journal) journal.next ≡ 2
     → journal.halted ≡ false → LeavesAdmitted device journal → IsOnTheWay device journal journal
 at_start device journal left other writes syncs running now = record {
-  during = during_start device journal (λ t c still. stands journal.next journal.label journal.blocks (with_batch journal) c other (now t c still));
+  during = during_start device journal (λ t c still. let admits = now t c still in (stands journal.next journal.label journal.blocks (with_batch journal) c other admits.0, admits.1));
   left = left;
   running = running;
   failures = refl;

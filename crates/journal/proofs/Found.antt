@@ -1,5 +1,5 @@
 -- What an opening finds.
-use Rattle.std.proofs.Common.{◌≡◌, ◌≢◌, ◌⊎◌, inl, inr, ⊎_elim, ◌<◌, ◌≤◌, ℕ, ◌+◌, ◌*◌, ◌%◌, ◌^◌, [], ◌∷◌, suc, Bool, true, false, IsTrue, List, length, get_or, map, take, refl, sym, ◌∙◌, ap, subst, arith, Result, Ok, Err, IfOk, IfErr, MatchResult}
+use Rattle.std.proofs.Common.{◌≡◌, ◌≢◌, ◌⊎◌, inl, inr, ⊎_elim, ◌<◌, ◌≤◌, ℕ, ◌+◌, ◌*◌, ◌%◌, ◌^◌, [], ◌∷◌, suc, Bool, true, false, IsTrue, List, length, get_or, map, take, cond, refl, sym, ◌∙◌, ap, subst, arith, Result, Ok, Err, IfOk, IfErr, MatchResult}
 use Rattle.std.specs.List.{filter, range_with_len, sum}
 use Rattle.std.proofs.lemmas.List.{get_or-take, length-map, length-take-le, map_more}
 use Rattle.std.proofs.lemmas.List.FromFn.{length-range_with_len}
@@ -14,13 +14,13 @@ use Rattle.segments.proofs.Sorting.{all_found, found_open}
 use Rattle.journal_segments.specs.Staged.{IsStaged, Staged, held_as, none_staged, staged_at}
 use Rattle.journal.specs.Flight.{Flight, all_of, counts_of, flight_in, sizes_of}
 use Rattle.journal_segments.specs.Found.{IsQuiet, IsStill}
-use Rattle.journal.specs.Inside.{IsFound, IsKept, IsSynced, LeftAs, Touched}
+use Rattle.journal.specs.Inside.{IsFound, IsKept, IsSynced, IsVolume, LeftAs, Touched}
 use Rattle.journal_segments.specs.Found.{IsNoVolume}
-use Rattle.journal.specs.Opening.{AreSameVolume, Costs, IsMore, home_syncs, home_writes, LeftKept, Opens, Refuses, SyncsFirst}
-use Rattle.journal.specs.Journal.{AreWhole, HasWholeBlocks, IsCaused, IsDuring, IsReady, JournalView, LeavesAdmitted}
+use Rattle.journal.specs.Opening.{AreSameVolume, Costs, IsMore, LeavesVolume, home_syncs, home_writes, LeftKept, Opens, Refuses, SyncsFirst}
+use Rattle.journal.specs.Journal.{AreWhole, HasWholeBlocks, IsCaused, IsDuring, IsReady, JournalView, LeavesAdmitted, all_held as held_with, still_open}
 use Rattle.journal.specs.declared.JournalError.{JournalError}
 use Rattle.journal.specs.declared.JournalError.TheVariants.{Fault, Memory, NotAVolume, Halted}
-use Rattle.model.specs.Volume.{batch_in, block, descriptor_place, home_place, home_size, label_of, number_at, is_open, open_segments, segment_count, IsSuperblock, IsDescriptor, StandsFor, logical_blocks}
+use Rattle.model.specs.Volume.{batch_in, block, descriptor_place, format_in, format_number, home_place, home_size, label_of, number_at, is_open, open_segments, segment_count, IsSuperblock, IsDescriptor, StandsFor, logical_blocks}
 use Rattle.journal.specs.declared.Next.TheVariants.{Idle, Home}
 use Rattle.segments.proofs.Blocks.{same_but_equal}
 use Rattle.journal.proofs.Transitions.{told_after}
@@ -152,6 +152,9 @@ module _ (device : Device) (superblock : List ℕ) (blocks : ℕ) (room : List S
     pub rest_none : IsTrue device.tells → open_segments x ≡ []
     rest_none t = no_places (open_segments x) (length_open 0 found t)
 
+    pub rest_format : IsTrue device.tells → format_number x ≡ format_in superblock
+    rest_format t = ap format_in (sym (found.superblock_is t))
+
     pub rest_kept : IsKept device blocks superblock Idle false room 0 true
     rest_kept = record {
       size = device_size 0 found;
@@ -175,6 +178,8 @@ module _ (device : Device) (superblock : List ℕ) (blocks : ℕ) (room : List S
         holds = λ runs. are_held 0 found t;
         same = λ runs c left. same_but_equal (Touched f Idle) x c (found.synced t c left);
       };
+      format_is = λ t runs. rest_format t;
+      formats = λ t c left. omega (arith, ap format_number (found.synced t c left), rest_format t);
     }
 
   -- with some open
@@ -214,6 +219,9 @@ module _ (device : Device) (superblock : List ℕ) (blocks : ℕ) (room : List S
     place_there : (staged_at room filled).place < length room
     place_there = (found.found.each filled (omega (arith, is))).below
 
+    pub replay_format : IsTrue device.tells → format_number x ≡ format_in superblock
+    replay_format t = ap format_in (sym (found.superblock_is t))
+
     pub replay_kept : IsKept device blocks superblock (Home 0 0) false room filled true
     replay_kept = record {
       size = device_size n found;
@@ -234,20 +242,27 @@ module _ (device : Device) (superblock : List ℕ) (blocks : ℕ) (room : List S
           device blocks (Home 0 0) false (content_size n found t) (all_held t)
           (λ c left. same_but_equal (Touched flight (Home 0 0)) x c (found.synced t c left)) (now t)
           (λ runs. holds_first flight x (part 20 128 superblock) (replay_stands t) (content_count n found t) (all_held t));
+      format_is = λ t runs. replay_format t;
+      formats = λ t c left. omega (arith, ap format_number (found.synced t c left), replay_format t);
     }
 
 -- a journal that was found, and a run of calls from it, after calls that changed nothing
-module _ {D : Type 0} (device : D → Device) (first : D) (journal : JournalView D) (quiet : IsQuiet (device first) (device journal.disk)) (still : IsStill (device first) (device journal.disk)) (stands : IsTrue (device journal.disk).tells → StandsFor (device journal.disk).content journal.label journal.blocks) (whole : HasWholeBlocks device journal) where
+module _ {D : Type 0} (device : D → Device) (first : D) (journal : JournalView D) (quiet : IsQuiet (device first) (device journal.disk)) (still : IsStill (device first) (device journal.disk)) (stands : IsTrue (device journal.disk).tells → StandsFor (device journal.disk).content journal.label journal.blocks) (whole : HasWholeBlocks device journal) (format : IsTrue (device journal.disk).tells → format_number (device journal.disk).content ≡ journal.format) where
   here : IsTrue (device first).tells → IsTrue (device journal.disk).tells
   here t = subst (λ (b : Bool). IsTrue b) (sym quiet.tells) t
 
   read : IsTrue (device first).tells → StandsFor (device first).content journal.label journal.blocks
   read t = subst (λ (x : List ℕ). StandsFor x journal.label journal.blocks) (still.content t) (stands (here t))
 
-  pub opens_found : IsReady journal → LeavesAdmitted device journal → Opens device first journal
-  opens_found ready now = record {
+  its_format : IsTrue (device first).tells → format_number (device first).content ≡ journal.format
+  its_format t = ap format_number (sym (still.content t)) ∙ format (here t)
+
+  pub opens_found : IsReady journal → still_open journal ≡ [] → LeavesAdmitted device journal → Opens device first journal
+  opens_found ready rest now = record {
     ready = ready;
+    rest = rest;
     stands = read;
+    format = its_format;
     whole = whole;
     now = now;
     since = λ t time c before left. inl (quiet.since t time c before left);
@@ -255,37 +270,44 @@ module _ {D : Type 0} (device : D → Device) (first : D) (journal : JournalView
     failures = still.failures;
   }
 
-  kept_then : (last : Device) → LeftAs (device journal.disk) last journal.label journal.blocks → LeftKept (device first) last
+  kept_then : (last : Device) → LeftAs (device journal.disk) last journal.format journal.label journal.blocks → LeftKept (device first) last
   kept_then last left t time c before now =
-      ⊎_elim (λ earlier. inl (quiet.since t time c before earlier)) (λ s. inr (journal.label, (journal.blocks, (read t, s)))) (left (here t) time c (omega (arith, before, quiet.later)) now)
+      ⊎_elim (λ earlier. inl (quiet.since t time c before earlier)) (λ (s : IsVolume journal.format journal.label journal.blocks c). inr (journal.label, (journal.blocks, (read t, (s.0, omega (arith, s.1, its_format t)))))) (left (here t) time c (omega (arith, before, quiet.later)) now)
 
-  pub opens_replayed : (after : JournalView D) → IsReady after → IsDuring device journal after → (device after.disk).failures ≡ (device journal.disk).failures → Opens device first after
-  opens_replayed after ready during failures = record {
+  pub opens_replayed : journal.is_last ≡ true → (after : JournalView D) → IsReady after → IsDuring device journal after → (device after.disk).failures ≡ (device journal.disk).failures → Opens device first after
+  opens_replayed all after ready during failures = record {
     ready = ready;
+    rest = ap (λ (b : Bool). cond b [] (held_with after)) (during.same.is_last ∙ all);
     stands = λ t.
         subst (λ (l : List ℕ). StandsFor (device first).content l after.blocks) (sym during.same.label)
         (subst (λ (bs : List (List ℕ)). StandsFor (device first).content journal.label bs) (sym (during.blocks (here t))) (read t));
+    format = λ t. its_format t ∙ sym during.same.format;
     whole = λ t.
         let t' = subst (λ (b : Bool). IsTrue b) during.tells t in
         subst (λ (n : ℕ). AreWhole n after.blocks) (sym during.same.size)
         (subst (λ (bs : List (List ℕ)). AreWhole journal.size bs) (sym (during.blocks t')) (whole t'));
     now = λ t c left.
         let t' = subst (λ (b : Bool). IsTrue b) during.tells t in
-        inl
-        (subst (λ (l : List ℕ). StandsFor c l after.blocks) (sym during.same.label)
-        (subst (λ (bs : List (List ℕ)). StandsFor c journal.label bs) (sym (during.blocks t')) (during.now t' c left)));
+        let stood = during.now t' c left in (
+          inl
+              (subst (λ (l : List ℕ). StandsFor c l after.blocks) (sym during.same.label)
+              (subst (λ (bs : List (List ℕ)). StandsFor c journal.label bs) (sym (during.blocks t')) stood.0)),
+          omega (arith, stood.1, during.same.format),
+        );
     since = kept_then (device after.disk) during.since;
     time = record { size = during.size ∙ quiet.size; tells = during.tells ∙ quiet.tells; later = omega (arith, quiet.later, during.later) };
     failures = failures ∙ still.failures;
   }
 
-  pub refuses_replayed : (last : D) (error : JournalError) → IsCaused error (device journal.disk) (device last) → Elapses (device journal.disk) (device last) → LeftAs (device journal.disk) (device last) journal.label journal.blocks → Refuses device first last error
-  refuses_replayed last error caused time left = record {
+  pub refuses_replayed : (last : D) (error : JournalError) → IsCaused error (device journal.disk) (device last) → Elapses (device journal.disk) (device last) → LeftAs (device journal.disk) (device last) journal.format journal.label journal.blocks
+      → (IsTrue (device journal.disk).tells → IsVolume journal.format journal.label journal.blocks (device last).content) → Refuses device first last error
+  refuses_replayed last error caused time left holds = record {
     since = kept_then (device last) left;
     time = record { size = time.size ∙ quiet.size; tells = time.tells ∙ quiet.tells; later = omega (arith, quiet.later, time.later) };
     fault = λ e same. fault_caused error (device journal.disk) (device last) caused e (same ∙ sym still.failures);
     no_volume = λ e. absurd ((not_caused error (device journal.disk) (device last) caused).0 e);
     memory = λ e. memory_caused error (device journal.disk) (device last) caused e ∙ still.failures;
+    left = λ e t. let its = holds (here t) in inr (journal.label, (journal.blocks, (read t, (its.0, omega (arith, its.1, its_format t)))));
     not_halted = (not_caused error (device journal.disk) (device last) caused).1;
   }
 
@@ -297,17 +319,20 @@ refuses_found device first last error quiet fault no_volume no_memory not_halted
   fault = fault;
   no_volume = no_volume;
   memory = λ e. absurd (no_memory e);
+  left = λ e t. absurd (no_memory e);
   not_halted = not_halted;
 }
 
 -- after a sync that wasn't good
-pub refuses_caused : {D : Type 0} (device : D → Device) (first last : D) (error : JournalError) → IsQuiet (device first) (device last) → IsCaused error (device first) (device last) → Refuses device first last error
-refuses_caused device first last error quiet caused = record {
+pub refuses_caused : {D : Type 0} (device : D → Device) (first last : D) (error : JournalError) → IsQuiet (device first) (device last) → IsCaused error (device first) (device last)
+    → (IsTrue (device first).tells → error ≡ Memory → (device last).content ≡ (device first).content) → Refuses device first last error
+refuses_caused device first last error quiet caused same = record {
   since = λ t time c before left. inl (quiet.since t time c before left);
   time = record { size = quiet.size; tells = quiet.tells; later = quiet.later };
   fault = fault_caused error (device first) (device last) caused;
   no_volume = λ e. absurd ((not_caused error (device first) (device last) caused).0 e);
   memory = memory_caused error (device first) (device last) caused;
+  left = λ e t. inl (same t e);
   not_halted = (not_caused error (device first) (device last) caused).1;
 }
 
@@ -342,7 +367,9 @@ module _ {D : Type 0} (device : D → Device) (first synced : D) (quiet : IsQuie
   pub opens_synced : (journal : JournalView D) → Opens device synced journal → Opens device first journal
   opens_synced journal opens = record {
     ready = opens.ready;
+    rest = opens.rest;
     stands = λ t. subst (λ (x : List ℕ). StandsFor x journal.label journal.blocks) (still.content t) (opens.stands (synced_tells t));
+    format = λ t. ap format_number (sym (still.content t)) ∙ opens.format (synced_tells t);
     whole = opens.whole;
     now = opens.now;
     since = kept_all (device journal.disk) opens.since;
@@ -357,6 +384,7 @@ module _ {D : Type 0} (device : D → Device) (first synced : D) (quiet : IsQuie
     fault = λ e same. refuses.fault e (same ∙ sym still.failures);
     no_volume = λ e t. subst (λ (x : List ℕ). IsNoVolume x) (still.content t) (refuses.no_volume e (synced_tells t));
     memory = λ e. refuses.memory e ∙ still.failures;
+    left = λ e t. subst (λ (x : List ℕ). LeavesVolume x (device last).content) (still.content t) (refuses.left e (synced_tells t));
     not_halted = refuses.not_halted;
   }
 

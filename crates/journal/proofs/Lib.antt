@@ -2,6 +2,7 @@ pub mod Admitted
 pub mod Begins
 pub mod Calls
 pub mod Contents
+pub mod Counting
 pub mod During
 pub mod Flights
 pub mod Found
@@ -9,5 +10,6 @@ pub mod Idle
 pub mod Made
 pub mod Order
 pub mod Transitions
+pub mod Upgrades
 pub mod Waiting
 pub mod Whole

@@ -9,8 +9,8 @@ use Rattle.journal.specs.Flight.{Flight, all_of, flight_in, sizes_of}
 use Rattle.journal.specs.Inside.{IsKept, blocks_without}
 use Rattle.journal.specs.Calls.{Call, Does, IsAsked, IsRetried, MakesCall, Syncs, Writes, blocks_after, call_at}
 use Rattle.journal.specs.Journal.{IsSameBatch, JournalView, with_batch}
-use Rattle.journal.specs.Order.{answer, at_fault, calls_made, following}
-use Rattle.model.specs.Volume.{descriptor_of, laid_over, number_at}
+use Rattle.journal.specs.Order.{IsMore, answer, at_fault, calls_made, following, is_sync, syncs_made, writes_made}
+use Rattle.model.specs.Volume.{descriptor_of, format_in, laid_over, number_at}
 use Rattle.journal.specs.declared.Progress.{Progress}
 use Rattle.journal.specs.declared.Progress.TheVariants.{Working, Idle as Ended}
 use Rattle.std.proofs.lemmas.Bool.{cond_both}
@@ -18,6 +18,7 @@ use Rattle.journal.specs.declared.JournalError.{JournalError}
 use Rattle.journal.specs.declared.JournalError.TheVariants.{Fault}
 use Rattle.journal.specs.declared.Next.{Next}
 use Rattle.journal.specs.declared.Next.TheVariants.{Idle, Descriptor, Image, Seal, OpenGate, Commit, Home, Settle, CloseGate, Finish}
+use Rattle.journal.proofs.Counting.{Asks, asks_by, syncs_on, writes_on}
 use Rattle.journal.proofs.Order.{calls_bounded, one_more_call}
 use Rattle.journal.proofs.Calls.{IsAfter, after_ok, after_err, blocks_then}
 use Rattle.journal.proofs.Whole.{kept_refused}
@@ -103,6 +104,7 @@ module _ (D : Type 0) (device : D → Device) (before later : D) (blocks : ℕ) 
   over d next halted = record {
     disk = d;
     label = part 20 128 superblock;
+    format = format_in superblock;
     size = blocks;
     segments = length room;
     blocks = blocks_without m next (device d).content;
@@ -140,7 +142,10 @@ module _ (D : Type 0) (device : D → Device) (before later : D) (blocks : ℕ) 
       (after_err (device before) (device later) blocks superblock room filled is_last time law (Unit {0}) DiskError e next flies (running_was next h running was) did)
 
   same_batch : (next g : Next) (h k : Bool) → IsSameBatch (over before next h) (over later g k)
-  same_batch next g h k = record { label = refl; size = refl; segments = refl; held = refl; place = refl; number = refl; last = refl; numbers = refl; images = refl; is_last = refl }
+  same_batch next g h k = record { label = refl; format = refl; size = refl; segments = refl; held = refl; place = refl; number = refl; last = refl; numbers = refl; images = refl; is_last = refl }
+
+  asked : {x : Unit {0}} (next : Next) → next ≢ Idle → Asked next (Ok x) → Asks (is_sync next) (device before) (device later)
+  asked {x} next flies did = asks_by (Unit {0}) DiskError next (length room) (all_of f) m f.batch.descriptor f.batch.images x (device before) (device later) did flies
 
   pub made_ok : (next g : Next) (h : Bool) (x : Unit {0}) (p : Progress) → h ≡ false → next ≢ Idle → Was next h → g ≡ following n (sizes_of f) next → p ≡ answer last (sizes_of f) next → Asked next (Ok x) → (device later).failures ≡ (device before).failures
       → MakesCall device (over before next h) (over later g h) (Ok p)
@@ -159,10 +164,12 @@ module _ (D : Type 0) (device : D → Device) (before later : D) (blocks : ℕ) 
           ap (λ (k : Next). calls_made n (sizes_of f) k) g_is ∙ one_more_call n (sizes_of f) next flies,
           calls_bounded n (sizes_of f) g after.is_kept.within,
         );
+        writes = λ first more. subst (λ (k : Next). IsMore (writes_made n (sizes_of f) k) first (device later).writes) (sym g_is) (writes_on n (sizes_of f) next first (device before) (device later) flies (asked next flies did) more);
+        syncs = λ first more. subst (λ (k : Next). IsMore (syncs_made (sizes_of f) k) first (device later).syncs) (sym g_is) (syncs_on n (sizes_of f) next first (device before) (device later) flies (asked next flies did) more);
         no_other = tt;
         halts = tt;
         blocks = λ t. after.is_without t ∙ then_after (over before next h) last (sizes_of f) next ∙ ap (λ (q : Progress). blocks_after (over before next h) q) (sym p_is);
-        now = λ t. (after.is_kept.told t).admits;
+        now = λ t c left. ((after.is_kept.told t).admits c left, after.is_kept.formats t c left);
         since = after.is_since;
       }
 
@@ -180,10 +187,12 @@ module _ (D : Type 0) (device : D → Device) (before later : D) (blocks : ℕ) 
         answers = tt;
         next = tt;
         counts = tt;
+        writes = λ first more. tt;
+        syncs = λ first more. tt;
         no_other = refl;
         halts = λ is. (refl, g_is);
         blocks = λ t. after.is_without t;
-        now = λ t. (after.is_kept.told t).admits;
+        now = λ t c left. ((after.is_kept.told t).admits c left, after.is_kept.formats t c left);
         since = after.is_since;
       }
 
@@ -198,6 +207,6 @@ module _ (D : Type 0) (device : D → Device) (before later : D) (blocks : ℕ) 
     next = refl;
     running = refl;
     blocks = λ t. ap (λ (x : List ℕ). blocks_without m next x) (refused.content t);
-    now = λ t c left. ((retried_kept next h was refused).told t).admits c left;
+    now = λ t c left. let kept = retried_kept next h was refused in ((kept.told t).admits c left, kept.formats t c left);
     since = λ t time c before left. inl (refused.since t time c before left);
   }

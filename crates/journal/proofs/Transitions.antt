@@ -19,7 +19,7 @@ no_home segments [] e = e
 no_home segments (h ∷ held) (inl e) = absurd (omega (arith, e.2))
 no_home segments (h ∷ held) (inr e) = no_home segments held e
 
-untouched_zero : (f : Flight) (next : Next) → Touched f next 0 → ⊥
+pub untouched_zero : (f : Flight) (next : Next) → Touched f next 0 → ⊥
 untouched_zero f Idle e = e
 untouched_zero f Descriptor e = e
 untouched_zero f (Image i) e = absurd (omega (arith, e.0))

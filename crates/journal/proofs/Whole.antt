@@ -7,7 +7,7 @@ use Rattle.journal.specs.Flight.{Flight, flight_in}
 use Rattle.journal.specs.Inside.{IsAdmitted, IsKept, Holds, Touched, blocks_without}
 use Rattle.segments.specs.Images.{SameBut}
 use Rattle.journal.specs.Journal.{AreWhole}
-use Rattle.model.specs.Volume.{gate_closed, logical_blocks, home_size, laid_over, segment_count, StandsFor}
+use Rattle.model.specs.Volume.{format_number, gate_closed, logical_blocks, home_size, laid_over, segment_count, StandsFor}
 use Rattle.journal.specs.declared.Next.{Next}
 use Rattle.segments.proofs.Whole.{stands_length, stands_whole as sizes_whole}
 use Rattle.journal.specs.declared.Next.TheVariants.{Commit}
@@ -69,6 +69,8 @@ module _ (device : Device) (blocks : ℕ) (superblock : List ℕ) (next : Next) 
           holds = λ runs. subst (λ (x : List ℕ). Holds f next x) (sym same.content) (told.holds runs);
           same = λ runs c left. subst (λ (x : List ℕ). SameBut (Touched f next) x c) (sym same.content) (told.same runs c ((same.may_leave c).0 left));
         };
+    format_is = λ t runs. ap format_number same.content ∙ kept.format_is (subst (λ (b : Bool). IsTrue b) same.tells t) runs;
+    formats = λ t c left. kept.formats (subst (λ (b : Bool). IsTrue b) same.tells t) c ((same.may_leave c).0 left);
   }
 
   -- and by a call that was refused for want of memory
@@ -101,4 +103,6 @@ module _ (device : Device) (blocks : ℕ) (superblock : List ℕ) (next : Next) 
           holds = λ runs. subst (λ (x : List ℕ). Holds f next x) (sym content) (told.holds runs);
           same = λ runs c left. subst (λ (x : List ℕ). SameBut (Touched f next) x c) (sym content) (told.same runs c (same.crash before c left));
         };
+    format_is = λ t runs. let before : IsTrue device.tells = subst (λ (b : Bool). IsTrue b) same.time.tells t in ap format_number (same.content before) ∙ kept.format_is before runs;
+    formats = λ t c left. let before : IsTrue device.tells = subst (λ (b : Bool). IsTrue b) same.time.tells t in kept.formats before c (same.crash before c left);
   }

@@ -7,7 +7,7 @@ use Rattle.model.specs.Volume.{descriptor_of, descriptor_place, gate_place, home
 use Rattle.segments.specs.Held.{Held}
 use Rattle.journal.specs.Flight.{held_at}
 use Rattle.journal.specs.Journal.{CountsFailures, IsSameBatch, JournalView, LeavesAdmitted, LeftAdmitted, all_held, calls, sizes, with_batch}
-use Rattle.journal.specs.Order.{all_calls, answer, at_fault, following}
+use Rattle.journal.specs.Order.{IsMore, all_calls, answer, at_fault, following, syncs_made, writes_made}
 use Rattle.journal.specs.declared.Progress.{Progress}
 use Rattle.journal.specs.declared.Progress.TheVariants.{Committed}
 use Rattle.journal.specs.declared.JournalError.{JournalError}
@@ -75,6 +75,10 @@ pub record MakesCall {D : Type 0} (device : D → Device) (old new : JournalView
   pub next : OnOk result ((new.next ≡ following (length old.numbers) (sizes old) old.next) × (new.halted ≡ false))
   -- one more of the batch's calls was made
   pub counts : OnOk result ((calls new ≡ calls old + 1) × (calls new ≤ all_calls (length old.numbers) (sizes old)))
+  -- what the device has counted since the batch began is what the batch has made
+  pub writes : (first : ℕ) → IsMore (writes_made (length old.numbers) (sizes old) old.next) first (device old.disk).writes
+      → OnOk result (IsMore (writes_made (length old.numbers) (sizes old) new.next) first (device new.disk).writes)
+  pub syncs : (first : ℕ) → IsMore (syncs_made (sizes old) old.next) first (device old.disk).syncs → OnOk result (IsMore (syncs_made (sizes old) new.next) first (device new.disk).syncs)
   pub no_other : IfErr result (λ error. error ≡ Fault)
   pub halts : IfErr result (λ error. error ≡ Fault → (new.halted ≡ true) × (new.next ≡ at_fault (length old.numbers) (sizes old) old.next))
   pub blocks : IsTrue (device old.disk).tells → MatchResult result (λ progress. new.blocks ≡ blocks_after old progress) (λ _. new.blocks ≡ old.blocks)

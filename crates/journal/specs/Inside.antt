@@ -2,7 +2,7 @@
 use Rattle.std.specs.Prelude.{◌≡◌, ◌⊎◌, ◌<◌, ◌≤◌, ℕ, ◌+◌, ◌*◌, Bool, true, false, IsTrue, List, [], length, drop, slice_index, slice_index_or, take}
 use Rattle.disk.specs.Device.{Device, LeavesOnly, one_more}
 use Rattle.disk.specs.Image.{part}
-use Rattle.model.specs.Volume.{gate_place, descriptor_place, image_place, home_place, descriptor_of, block, number_at, home_size, is_open, segment_count, IsSuperblock, StandsFor, all_laid_over, home, laid_over, logical_blocks, gate_closed}
+use Rattle.model.specs.Volume.{gate_place, descriptor_place, image_place, home_place, descriptor_of, block, number_at, home_size, is_open, segment_count, IsSuperblock, StandsFor, format_in, format_number, all_laid_over, home, laid_over, logical_blocks, gate_closed}
 use Rattle.segments.specs.Held.{AreOpen, IsHomeOfHeld, IsHomeOnTheWay, IsWrittenIn, batches_of}
 use Rattle.segments.specs.Images.{IsCarried, IsInside, SameBut}
 use Rattle.journal_segments.specs.Staged.{IsStaged, Staged, staged_at}
@@ -19,6 +19,10 @@ blocks_without place next image = logical_blocks image
 -- an image stands for these blocks or, during the commit, for those with the batch
 abbrev pub IsAdmitted : Next → List ℕ → List (List ℕ) → List (List ℕ) → List ℕ → Type 0
 IsAdmitted next label blocks after image = StandsFor image label blocks ⊎ ((next ≡ Commit) × StandsFor image label after)
+
+-- the volume with a label and blocks, in no lower format
+abbrev pub IsVolume : ℕ → List ℕ → List (List ℕ) → List ℕ → Type 0
+IsVolume format its_label blocks image = StandsFor image its_label blocks × (format ≤ format_number image)
 
 -- what the content holds while this call comes next
 abbrev pub Holds : Flight → Next → List ℕ → Type 0
@@ -105,6 +109,9 @@ pub record IsKept (device : Device) (blocks : ℕ) (superblock : List ℕ) (next
   pub described : next ≡ Descriptor
       → (staged_at room filled).descriptor ≡ descriptor_of (number_at 0 8 (staged_at room filled).descriptor) (number_at 8 8 (staged_at room filled).descriptor) (staged_at room filled).numbers
   pub told : IsTrue device.tells → IsTold device blocks (part 20 128 superblock) next halted (flight_in room filled is_last)
+  -- the format in memory is that of the content, and a crash leaves no lower one
+  pub format_is : IsTrue device.tells → halted ≡ false → format_number device.content ≡ format_in superblock
+  pub formats : IsTrue device.tells → (c : List ℕ) → device.may_leave c → format_in superblock ≤ format_number c
 
 -- or only a good sync was asked
 pub record IsSynced (old new : Device) : Type 0 where
@@ -123,6 +130,6 @@ pub record IsFound (device : Device) (superblock : List ℕ) (blocks : ℕ) (roo
   pub found : AreFound device blocks 0 room n
 
 -- a crash since an earlier time might have left what it might have left before, or the volume with a label and blocks
-abbrev pub LeftAs : Device → Device → List ℕ → List (List ℕ) → Type 0
-LeftAs old new its_label blocks =
-    IsTrue old.tells → (t : ℕ) (c : List ℕ) → t ≤ old.clock → new.left_since t c → old.left_since t c ⊎ StandsFor c its_label blocks
+abbrev pub LeftAs : Device → Device → ℕ → List ℕ → List (List ℕ) → Type 0
+LeftAs old new format its_label blocks =
+    IsTrue old.tells → (t : ℕ) (c : List ℕ) → t ≤ old.clock → new.left_since t c → old.left_since t c ⊎ IsVolume format its_label blocks c

@@ -4,9 +4,9 @@ use Rattle.std.specs.List.{All}
 use Rattle.disk.specs.Device.{Device}
 use Rattle.segments.specs.Held.{Held}
 use Rattle.journal.specs.Flight.{counts_of}
-use Rattle.journal.specs.Inside.{IsAdmitted}
+use Rattle.journal.specs.Inside.{IsAdmitted, IsVolume}
 use Rattle.journal.specs.Order.{calls_made}
-use Rattle.model.specs.Volume.{StandsFor, laid_over}
+use Rattle.model.specs.Volume.{format_number, laid_over}
 use Rattle.journal.specs.declared.JournalError.{JournalError}
 use Rattle.journal.specs.declared.JournalError.TheVariants.{Fault, Memory}
 use Rattle.journal.specs.declared.Next.{Next}
@@ -16,6 +16,8 @@ use Rattle.journal.specs.declared.Next.TheVariants.{Descriptor, Idle}
 pub record JournalView (D : Type 0) : Type 0 where
   pub disk : D
   pub label : List ℕ
+  -- 1 or 2
+  pub format : ℕ
   -- the number of logical blocks, and the number of segments
   pub size : ℕ
   pub segments : ℕ
@@ -79,9 +81,9 @@ abbrev pub with_batch : {D : Type 0} → JournalView D → List (List ℕ)
 with_batch journal = laid_over journal.blocks journal.numbers journal.images
 
 -- an image that a crash may leave. It stands for the blocks or, from the moment the gate's opening is asked until the
--- batch is committed, for the blocks with the batch
+-- batch is committed, for the blocks with the batch. It has no lower format
 abbrev pub Admits : {D : Type 0} → JournalView D → List ℕ → Type 0
-Admits journal image = IsAdmitted journal.next journal.label journal.blocks (with_batch journal) image
+Admits journal image = IsAdmitted journal.next journal.label journal.blocks (with_batch journal) image × (journal.format ≤ format_number image)
 
 -- each image that a crash at this moment may leave is one that the journal admits
 abbrev pub LeavesAdmitted : {D : Type 0} → (D → Device) → JournalView D → Type 0
@@ -101,9 +103,10 @@ pub record AreWhole (size : ℕ) (blocks : List (List ℕ)) : Type 0 where
 abbrev pub HasWholeBlocks : {D : Type 0} → (D → Device) → JournalView D → Type 0
 HasWholeBlocks device journal = IsTrue (device journal.disk).tells → AreWhole journal.size journal.blocks
 
--- no call changes the label, the size or the batch in flight
+-- no call of a batch changes the label, the format, the size or the batch in flight
 pub record IsSameBatch {D : Type 0} (old new : JournalView D) : Type 0 where
   pub label : new.label ≡ old.label
+  pub format : new.format ≡ old.format
   pub size : new.size ≡ old.size
   pub segments : new.segments ≡ old.segments
   pub held : new.held ≡ old.held
@@ -131,5 +134,5 @@ pub record IsDuring {D : Type 0} (device : D → Device) (old new : JournalView 
   pub same : IsSameBatch old new
   pub blocks : IsTrue (device old.disk).tells → new.blocks ≡ old.blocks
   pub since : IsTrue (device old.disk).tells → (t : ℕ) (c : List ℕ) → t ≤ (device old.disk).clock → (device new.disk).left_since t c
-      → (device old.disk).left_since t c ⊎ StandsFor c old.label old.blocks
-  pub now : IsTrue (device old.disk).tells → (c : List ℕ) → (device new.disk).may_leave c → StandsFor c old.label old.blocks
+      → (device old.disk).left_since t c ⊎ IsVolume old.format old.label old.blocks c
+  pub now : IsTrue (device old.disk).tells → (c : List ℕ) → (device new.disk).may_leave c → IsVolume old.format old.label old.blocks c

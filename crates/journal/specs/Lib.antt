@@ -4,3 +4,4 @@ pub mod Inside
 pub mod Journal
 pub mod Opening
 pub mod Order
+pub mod Upgrading

@@ -1,25 +1,34 @@
 -- What an opening leaves, and what a crash during it might have left.
-use Rattle.std.specs.Prelude.{◌≡◌, ◌≢◌, ◌⊎◌, ℕ, ◌+◌, ◌%◌, ◌^◌, ◌≤◌, IsTrue, List, [], ◌∷◌, length}
+use Rattle.std.specs.Prelude.{◌≡◌, ◌≢◌, ◌⊎◌, ℕ, ◌+◌, ◌≤◌, IsTrue, List, [], ◌∷◌, length}
 use Rattle.disk.specs.Device.{Device, Elapses, LeavesOnly, LeftNoMore}
-use Rattle.journal.specs.Journal.{HasWholeBlocks, IsReady, JournalView, LeavesAdmitted}
+use Rattle.journal.specs.Inside.{IsVolume}
+use Rattle.journal.specs.Journal.{HasWholeBlocks, IsReady, JournalView, LeavesAdmitted, still_open}
+pub use Rattle.journal.specs.Order.{IsMore}
 pub use Rattle.journal_segments.specs.Found.{IsNoVolume}
-use Rattle.model.specs.Volume.{StandsFor, block, descriptor_place, number_at, open_segments}
+use Rattle.model.specs.Volume.{StandsFor, block, descriptor_place, format_number, number_at, open_segments}
 use Rattle.journal.specs.declared.JournalError.{JournalError}
 use Rattle.journal.specs.declared.JournalError.TheVariants.{Fault, Memory, NotAVolume, Halted}
 
--- two images of volumes with the same label and logical blocks
+-- two images of volumes with the same label and logical blocks, the second in no lower format
 abbrev pub AreSameVolume : List ℕ → List ℕ → Type 0
-AreSameVolume old new = (its_label : List ℕ) × ((blocks : List (List ℕ)) × (StandsFor old its_label blocks × StandsFor new its_label blocks))
+AreSameVolume old new = (its_label : List ℕ) × ((blocks : List (List ℕ)) × (StandsFor old its_label blocks × IsVolume (format_number old) its_label blocks new))
 
 -- a crash since an earlier time might have left what it might have left before, or the same volume as was read
 abbrev pub LeftKept : Device → Device → Type 0
 LeftKept old new =
     IsTrue old.tells → (t : ℕ) (c : List ℕ) → t ≤ old.clock → new.left_since t c → old.left_since t c ⊎ AreSameVolume old.content c
 
+-- the same content, or the same volume
+abbrev pub LeavesVolume : List ℕ → List ℕ → Type 0
+LeavesVolume old new = (new ≡ old) ⊎ AreSameVolume old new
+
 -- a journal opened over the volume on the device
 pub record Opens {D : Type 0} (device : D → Device) (first : D) (journal : JournalView D) : Type 0 where
   pub ready : IsReady journal
+  -- every segment is closed, and no later batch carries one home
+  pub rest : still_open journal ≡ []
   pub stands : IsTrue (device first).tells → StandsFor (device first).content journal.label journal.blocks
+  pub format : IsTrue (device first).tells → format_number (device first).content ≡ journal.format
   pub whole : HasWholeBlocks device journal
   pub now : LeavesAdmitted device journal
   pub since : LeftKept (device first) (device journal.disk)
@@ -33,6 +42,8 @@ pub record Refuses {D : Type 0} (device : D → Device) (first last : D) (error 
   pub fault : error ≡ Fault → (device last).failures ≢ (device first).failures
   pub no_volume : error ≡ NotAVolume → IsTrue (device first).tells → IsNoVolume (device first).content
   pub memory : error ≡ Memory → (device last).failures ≡ (device first).failures
+  -- a refusal for memory leaves the content as it was, or the same volume
+  pub left : error ≡ Memory → IsTrue (device first).tells → LeavesVolume (device first).content (device last).content
   pub not_halted : error ≢ Halted
 
 -- The first good sync comes before every write. Until that sync a crash leaves what it might have left at the start. At
@@ -51,10 +62,6 @@ pub record SyncsFirst {D : Type 0} (device : D → Device) (first last : D) : Ty
 -- or no sync was good, and nothing was written
 abbrev pub NeverSyncs : {D : Type 0} → (D → Device) → D → D → Type 0
 NeverSyncs device first last = ((device last).writes ≡ (device first).writes) × (IsTrue (device first).tells → LeftNoMore (device first) (device last))
-
--- n more, as a u64 counts
-abbrev pub IsMore : ℕ → ℕ → ℕ → Type 0
-IsMore n old new = new % 2 ^ 64 ≡ (old + n) % 2 ^ 64
 
 -- the writes that carry these open segments home: each of their images, and each gate
 abbrev pub home_writes : List ℕ → List ℕ → ℕ

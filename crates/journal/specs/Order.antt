@@ -2,7 +2,7 @@
 -- closed segment is left, the batch has ended. Otherwise each open segment is carried home: its home blocks, segment
 -- after segment in rising number, one sync, and then gate 0 and a sync for each. `sizes` is the number of images of
 -- each of these segments, and is empty if another closed segment is left.
-use Rattle.std.specs.Prelude.{◌==◌, ℕ, ◌+◌, ◌*◌, Bool, true, false, if◌then◌else◌, List, length, slice_index, sum, take}
+use Rattle.std.specs.Prelude.{◌≡◌, ◌==◌, ℕ, ◌+◌, ◌*◌, ◌%◌, ◌^◌, Bool, true, false, if◌then◌else◌, List, length, slice_index, sum, take}
 use Rattle.journal.specs.declared.Progress.{Progress}
 use Rattle.journal.specs.declared.Progress.TheVariants.{Working, Committed, Idle as Ended}
 use Rattle.journal.specs.declared.Next.{Next}
@@ -83,6 +83,14 @@ syncs_made sizes (Home j i) = 2
 syncs_made sizes Settle = 2
 syncs_made sizes (CloseGate j) = 3 + j
 syncs_made sizes (Finish j) = 3 + j
+
+-- n more, as a u64 counts
+abbrev pub IsMore : ℕ → ℕ → ℕ → Type 0
+IsMore n old new = new % 2 ^ 64 ≡ (old + n) % 2 ^ 64
+
+-- whether a device takes memory for the next call
+abbrev pub is_growing : Next → Bool → Bool → Bool
+is_growing next write_grows sync_grows = if is_sync next then sync_grows else write_grows
 
 -- the answer to a good call
 abbrev pub answer : ℕ → List ℕ → Next → Progress

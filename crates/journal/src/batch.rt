@@ -31,6 +31,7 @@ impl<D: Disk> Journal<D> {
 
         ensures disk { self.new.disk ≡ self.old.disk }
         ensures label { self.new.label ≡ self.old.label }
+        ensures format { self.new.format ≡ self.old.format }
         ensures size { self.new.size ≡ self.old.size }
         ensures segments { self.new.segments ≡ self.old.segments }
         ensures blocks { self.new.blocks ≡ self.old.blocks }

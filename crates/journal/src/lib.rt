@@ -5,8 +5,9 @@
 mod batch;
 mod opening;
 mod stepping;
+mod upgrading;
 
-ghost use Rattle.std.specs.Prelude.{◌≡◌, ◌≤◌, ◌<◌, ◌↔◌, length, true, false, OnOk, IfErr, IsTrue};
+ghost use Rattle.std.specs.Prelude.{◌≡◌, ◌⊎◌, ◌≤◌, ◌<◌, ◌↔◌, length, true, false, OnOk, IfErr, IsTrue};
 
 use batch::lowest_closed;
 use disk::{Disk, DiskCall, Faults};
@@ -14,7 +15,8 @@ use journal_segments::{Segment, SegmentError, lay_over};
 use std::marker::Model;
 pub use stepping::each_call_is_the_next;
 use thiserror::Error;
-use volume_format::layout::{LABEL_AT, SUPERBLOCK_USED, home_block, start_of};
+use volume_format::layout::{FORMAT_AT, LABEL_AT, home_block, start_of};
+use volume_format::read_format;
 pub use volume_format::{FormatError, format, format_with};
 
 /// The next device call.
@@ -98,7 +100,7 @@ pub struct Journal<D: Disk> {
 impl<D: Disk> Model for Journal<D> {
     ghost use Rattle.std.specs.Prelude.{length, map, take};
     ghost use Rattle.disk.specs.Image.{part};
-    ghost use Rattle.model.specs.Volume.{number_at};
+    ghost use Rattle.model.specs.Volume.{format_in, number_at};
     ghost use Rattle.journal_segments.specs.Staged.{held_as, staged_at};
     ghost use Rattle.journal.specs.Inside.{IsKept, blocks_without};
     ghost use Rattle.journal.specs.Journal.{JournalView};
@@ -108,6 +110,7 @@ impl<D: Disk> Model for Journal<D> {
     ghost view = { λ j. record {
       disk = j.disk;
       label = part 20 128 j.superblock.items;
+      format = format_in j.superblock.items;
       size = j.blocks;
       segments = length j.room.items;
       blocks = blocks_without (staged_at j.room.items j.filled).place j.next (D.device j.disk).content;
@@ -143,7 +146,15 @@ impl<D: Disk> Journal<D> {
         ensures label { result.now ≡ self.now.label }
         ensures size { length result.now ≡ 128 }
     {
-        &self.superblock[LABEL_AT..SUPERBLOCK_USED]
+        &self.superblock[LABEL_AT..FORMAT_AT]
+    }
+
+    /// The format of the volume, 1 or 2.
+    pub fn format_number(&self) -> u32
+        ensures format { result ≡ self.now.format }
+        ensures some { (result ≡ 1) ⊎ (result ≡ 2) }
+    {
+        read_format(&self.superblock)
     }
 
     /// The number of logical blocks, 1,024 to 65,536.

@@ -2,11 +2,11 @@
 
 ghost use Rattle.std.specs.Prelude.{MatchResult, ◌≤◌, ◌⊎◌, OnOk, IfOk, IfErr, IsTrue, ◌≡◌, ◌+◌, ◌<◌, [], true, false, length, slice_index, sum};
 ghost use Rattle.disk.specs.Device.{Elapses, LeavesOnly};
-ghost use Rattle.model.specs.Volume.{StandsFor, open_segments};
+ghost use Rattle.model.specs.Volume.{StandsFor, format_number, open_segments};
 ghost use Rattle.journal_segments.specs.Staged.{staged_at};
 ghost use Rattle.journal_segments.specs.Found.{IsQuiet, IsStill};
-ghost use Rattle.journal.specs.Inside.{IsFound, IsSynced, LeftAs};
-ghost use Rattle.journal.specs.Journal.{IsCaused, IsDuring, IsReady, LeavesAdmitted, HasWholeBlocks, sizes};
+ghost use Rattle.journal.specs.Inside.{IsFound, IsSynced, IsVolume, LeftAs};
+ghost use Rattle.journal.specs.Journal.{IsCaused, IsDuring, IsReady, LeavesAdmitted, HasWholeBlocks, sizes, still_open};
 ghost use Rattle.journal_segments.specs.Found.{Rejects};
 ghost use Rattle.journal.specs.Opening.{Costs, IsMore, NeverSyncs, Opens, Refuses, SyncsFirst, home_syncs, home_writes};
 
@@ -127,7 +127,8 @@ fn replay<D: Disk>(mut journal: Journal<D>) -> Result<Journal<D>, Refused<D>>
     requires now { LeavesAdmitted D.device journal }
     ensures cost { IfOk result (λ after. IsMore (sum (sizes journal) + length (sizes journal)) (D.device journal.disk).writes (D.device after.disk).writes × IsMore (1 + length (sizes journal)) (D.device journal.disk).syncs (D.device after.disk).syncs) }
     ensures ok { IfOk result (λ after. IsReady after × IsDuring D.device journal after × ((D.device after.disk).failures ≡ (D.device journal.disk).failures)) }
-    ensures err { IfErr result (λ refused. IsCaused refused.error (D.device journal.disk) (D.device refused.disk) × Elapses (D.device journal.disk) (D.device refused.disk) × LeftAs (D.device journal.disk) (D.device refused.disk) journal.label journal.blocks) }
+    ensures err { IfErr result (λ refused. IsCaused refused.error (D.device journal.disk) (D.device refused.disk) × Elapses (D.device journal.disk) (D.device refused.disk) × LeftAs (D.device journal.disk) (D.device refused.disk) journal.format journal.label journal.blocks) }
+    ensures left { IfErr result (λ refused. IsTrue (D.device journal.disk).tells → IsVolume journal.format journal.label journal.blocks (D.device refused.disk).content) }
 {
     match journal.carry_home() {
         Ok(()) => Ok(journal),
@@ -144,8 +145,10 @@ fn at_rest<D: Disk>(disk: D, superblock: Vec<u8>, blocks: u64, room: Vec<Segment
     ensures disk { result.disk ≡ disk }
     ensures none { IsTrue (D.device disk).tells → open_segments (D.device disk).content ≡ [] }
     ensures next { result.next ≡ Next.Idle }
+    ensures rest { still_open result ≡ [] }
     ensures running { result.halted ≡ false }
     ensures stands { IsTrue (D.device disk).tells → StandsFor (D.device disk).content result.label result.blocks }
+    ensures format { IsTrue (D.device disk).tells → format_number (D.device disk).content ≡ result.format }
     ensures whole { HasWholeBlocks D.device result }
     ensures now { LeavesAdmitted D.device result }
 {
@@ -157,7 +160,7 @@ fn at_rest<D: Disk>(disk: D, superblock: Vec<u8>, blocks: u64, room: Vec<Segment
         halted: false,
         room,
         filled: 0,
-        is_last: true,
+        is_last: true, // no segment counts as open
     }
 }
 
@@ -175,9 +178,11 @@ fn to_be_replayed<D: Disk>(
     ensures open { IsTrue (D.device disk).tells → home_writes (D.device disk).content (open_segments (D.device disk).content) ≡ sum (sizes result) + length (sizes result) }
     ensures syncs { IsTrue (D.device disk).tells → home_syncs (open_segments (D.device disk).content) ≡ 1 + length (sizes result) }
     ensures next { result.next ≡ Next.Home 0 0 }
+    ensures rest { result.is_last ≡ true }
     ensures running { result.halted ≡ false }
     ensures some { (0 < length (sizes result)) × (0 < slice_index (sizes result) 0) }
     ensures stands { IsTrue (D.device disk).tells → StandsFor (D.device disk).content result.label result.blocks }
+    ensures format { IsTrue (D.device disk).tells → format_number (D.device disk).content ≡ result.format }
     ensures whole { HasWholeBlocks D.device result }
     ensures now { LeavesAdmitted D.device result }
 {
@@ -225,6 +230,7 @@ fn sync_first<D: Disk>(disk: &mut D) -> Result<(), JournalError>
     ensures synced { OnOk result (IsSynced (D.device disk.old) (D.device disk.new)) }
     ensures durable { IsTrue (D.device disk.old).tells → OnOk result (LeavesOnly (D.device disk.new) (D.device disk.old).content) }
     ensures cause { IfErr result (λ error. IsCaused error (D.device disk.old) (D.device disk.new)) }
+    ensures left { IsTrue (D.device disk.old).tells → IfErr result (λ error. error ≡ JournalError.Memory → (D.device disk.new).content ≡ (D.device disk.old).content) }
 {
     match disk.sync() {
         Ok(()) => Ok(()),

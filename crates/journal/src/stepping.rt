@@ -5,7 +5,7 @@ ghost use Rattle.model.specs.Volume.{descriptor_place, gate_place, home_place, i
 ghost use Rattle.journal_segments.specs.Staged.{staged_at};
 ghost use Rattle.journal.specs.Flight.{all_of, flight_in, sizes_of};
 ghost use Rattle.journal.specs.Inside.{IsWithin};
-ghost use Rattle.journal.specs.Order.{following, calls_made, writes_made, syncs_made, is_sync, at_fault, answer};
+ghost use Rattle.journal.specs.Order.{following, calls_made, writes_made, syncs_made, is_growing, is_sync, at_fault, answer};
 ghost use Rattle.journal.specs.Opening.{IsMore};
 ghost use Rattle.journal.specs.Calls.{Call, IsAsked, call_at};
 
@@ -30,7 +30,7 @@ impl<D: Disk> Journal<D> {
         ensures call { self.old.halted ≡ false → (IsIdle self.old → ⊥) → OnMade result (MakesCall D.device self.old self.new result) }
         ensures retried { self.old.halted ≡ false → (IsIdle self.old → ⊥) → OnRetried result (IsRetried D.device self.old self.new) }
         ensures no_other { self.old.halted ≡ false → IfErr result (λ error. (error ≡ JournalError.Fault) ⊎ (error ≡ JournalError.Memory)) }
-        ensures memory { IfErr result (λ error. error ≡ JournalError.Memory → IsTrue D.grows) }
+        ensures memory { IfErr result (λ error. error ≡ JournalError.Memory → IsTrue (is_growing self.old.next D.write_grows D.sync_grows)) }
 
         // A crash now leaves an image that the journal admits, and so does one at any moment of the step.
         ensures now { LeavesAdmitted D.device self.new }
@@ -115,7 +115,7 @@ fn ask<D: Disk>(
     requires home { (j i : ℕ) → next ≡ Next.Home j i → 4096 * home_place (length room.now.items) (slice_index (staged_at room.now.items j).numbers i) + 4096 ≤ (D.device disk.old).size }
     requires gate { (j : ℕ) → next ≡ Next.CloseGate j → (j ≤ filled) × ((staged_at room.now.items j).place < length room.now.items) }
     ensures asked { IsAsked (call_at next (length room.now.items) (all_of (flight_in room.now.items filled true)) (staged_at room.now.items filled).place (staged_at room.now.items filled).descriptor (staged_at room.now.items filled).images) result (D.device disk.old) (D.device disk.new) }
-    ensures memory { IfErr result (λ error. error ≡ DiskError.Memory → IsTrue D.grows) }
+    ensures memory { IfErr result (λ error. error ≡ DiskError.Memory → IsTrue (is_growing next D.write_grows D.sync_grows)) }
 {
     match next {
         Next::Descriptor => write_descriptor(disk, segment_at(room, filled)),
@@ -139,7 +139,7 @@ fn write_descriptor<D: Disk>(disk: &mut D, segment: &Segment) -> Result<(), Disk
     requires low { segment.now.place < 8 }
     requires size { 4096 * gate_place (segment.now.place + 1) ≤ (D.device disk.old).size }
     ensures asked { IsAsked (Call.Write (4096 * descriptor_place segment.now.place) segment.now.descriptor) result (D.device disk.old) (D.device disk.new) }
-    ensures memory { IfErr result (λ error. error ≡ DiskError.Memory → IsTrue D.grows) }
+    ensures memory { IfErr result (λ error. error ≡ DiskError.Memory → IsTrue D.write_grows) }
 {
     write(
         disk,
@@ -153,7 +153,7 @@ fn write_image<D: Disk>(disk: &mut D, segment: &Segment, i: usize) -> Result<(),
     requires size { 4096 * gate_place (segment.now.place + 1) ≤ (D.device disk.old).size }
     requires there { i < length segment.now.numbers }
     ensures asked { IsAsked (Call.Write (4096 * image_place segment.now.place i) (slice_index_or segment.now.images i [])) result (D.device disk.old) (D.device disk.new) }
-    ensures memory { IfErr result (λ error. error ≡ DiskError.Memory → IsTrue D.grows) }
+    ensures memory { IfErr result (λ error. error ≡ DiskError.Memory → IsTrue D.write_grows) }
 {
     prove!(i < segment.count());
     let image = segment.image(i);
@@ -164,7 +164,7 @@ fn write_gate<D: Disk>(disk: &mut D, segment: &Segment, octet: u8) -> Result<(),
     requires low { segment.now.place < 8 }
     requires size { 4096 * gate_place (segment.now.place + 1) ≤ (D.device disk.old).size }
     ensures asked { IsAsked (Call.Write (4096 * gate_place segment.now.place) (octet ∷ [])) result (D.device disk.old) (D.device disk.new) }
-    ensures memory { IfErr result (λ error. error ≡ DiskError.Memory → IsTrue D.grows) }
+    ensures memory { IfErr result (λ error. error ≡ DiskError.Memory → IsTrue D.write_grows) }
 {
     write(disk, gate_block(segment.place()), &[octet])
 }
@@ -179,7 +179,7 @@ fn write_home<D: Disk>(
     requires there { i < length segment.now.numbers }
     requires size { 4096 * home_place segments (slice_index segment.now.numbers i) + 4096 ≤ (D.device disk.old).size }
     ensures asked { IsAsked (Call.Write (4096 * home_place segments (slice_index segment.now.numbers i)) (slice_index_or segment.now.images i [])) result (D.device disk.old) (D.device disk.new) }
-    ensures memory { IfErr result (λ error. error ≡ DiskError.Memory → IsTrue D.grows) }
+    ensures memory { IfErr result (λ error. error ≡ DiskError.Memory → IsTrue D.write_grows) }
 {
     let home = home_block(segments, u64::from(segment.number(i)));
     write(disk, home, segment.image(i))
@@ -189,14 +189,14 @@ fn write<D: Disk>(disk: &mut D, block: u64, octets: &[u8]) -> Result<(), DiskErr
     requires low { block < 2 ^ 40 }
     requires fits { 4096 * block + length octets.now ≤ (D.device disk.old).size }
     ensures asked { IsAsked (Call.Write (4096 * block) octets.now) result (D.device disk.old) (D.device disk.new) }
-    ensures memory { IfErr result (λ error. error ≡ DiskError.Memory → IsTrue D.grows) }
+    ensures memory { IfErr result (λ error. error ≡ DiskError.Memory → IsTrue D.write_grows) }
 {
     disk.write(start_of(block), octets)
 }
 
-fn sync<D: Disk>(disk: &mut D) -> Result<(), DiskError>
+pub(crate) fn sync<D: Disk>(disk: &mut D) -> Result<(), DiskError>
     ensures asked { IsAsked Call.Sync result (D.device disk.old) (D.device disk.new) }
-    ensures memory { IfErr result (λ error. error ≡ DiskError.Memory → IsTrue D.grows) }
+    ensures memory { IfErr result (λ error. error ≡ DiskError.Memory → IsTrue D.sync_grows) }
 {
     disk.sync()
 }

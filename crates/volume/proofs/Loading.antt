@@ -27,12 +27,14 @@ module _ {D : Type 0} (device : D → Device) where
   }
 
   -- what one admits, the other does
-  admits_same : (old new : JournalView D) → old.next ≡ new.next → old.label ≡ new.label → old.blocks ≡ new.blocks → old.numbers ≡ new.numbers → old.images ≡ new.images → (c : List ℕ) → Admits old c → Admits new c
-  admits_same old new next label blocks numbers images c admits =
-      subst (λ (n : Next). IsAdmitted n new.label new.blocks (with_batch new) c) next
-      (subst (λ (l : List ℕ). IsAdmitted old.next l new.blocks (with_batch new) c) label
-      (subst (λ (b : List (List ℕ)). IsAdmitted old.next old.label b (with_batch new) c) blocks
-      (subst (λ (b : List (List ℕ)). IsAdmitted old.next old.label old.blocks b c) batch admits)))
+  admits_same : (old new : JournalView D) → old.next ≡ new.next → old.label ≡ new.label → old.format ≡ new.format → old.blocks ≡ new.blocks → old.numbers ≡ new.numbers → old.images ≡ new.images → (c : List ℕ) → Admits old c → Admits new c
+  admits_same old new next label format blocks numbers images c admits = (
+    subst (λ (n : Next). IsAdmitted n new.label new.blocks (with_batch new) c) next
+        (subst (λ (l : List ℕ). IsAdmitted old.next l new.blocks (with_batch new) c) label
+        (subst (λ (b : List (List ℕ)). IsAdmitted old.next old.label b (with_batch new) c) blocks
+        (subst (λ (b : List (List ℕ)). IsAdmitted old.next old.label old.blocks b c) batch admits.0))),
+    omega (arith, admits.1, format),
+  )
     where
       batch : with_batch old ≡ with_batch new
       batch =
@@ -57,7 +59,7 @@ module _ {D : Type 0} (device : D → Device) where
       | inr admits ↦ inr admits
       | inl earlier ↦ elim (first.since tells t c before earlier) [
         | inl was ↦ inl was
-        | inr admits ↦ inr (admits_same mid new (first.idle ∙ sym second.idle) (sym second.same.label) (sym (second.blocks (told tells))) (sym second.same.numbers) (sym second.same.images) c admits)
+        | inr admits ↦ inr (admits_same mid new (first.idle ∙ sym second.idle) (sym second.same.label) (sym second.same.format) (sym (second.blocks (told tells))) (sym second.same.numbers) (sym second.same.images) c admits)
       ]
     ];
   }

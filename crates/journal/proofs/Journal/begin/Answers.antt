@@ -73,7 +73,8 @@ returns-clause-now g c t =
     subst (λ (n : Next). IsKept (g.D.Disk.device v.disk) v.blocks v.superblock.items n false v.room.items v.filled v.is_last) is
     (subst (λ (b : Bool). IsKept (g.D.Disk.device v.disk) v.blocks v.superblock.items v.next b v.room.items v.filled v.is_last) running c.self.invariant) in
     let below = subst (λ (n : ℕ). All (λ k. k < n) c.args.numbers.now) (sym (ap (λ (j : JournalView g.row.D.Denot). j.size) c.self.view_is)) c.requires.below in
-    ((begun (g.D.Disk.device v.disk) v.blocks v.superblock.items v.room.items c.fill.new.room.items v.filled v.is_last kept c.lowest_closed-filled.result c.lowest_closed-filled.ensures c.fill.ensures.count c.fill.ensures.others c.args.last c.args.numbers.now c.args.images.now c.fill.ensures.taken c.requires.some c.requires.few below c.requires.distinct c.requires.images).told t).admits
+    let begins = (begun (g.D.Disk.device v.disk) v.blocks v.superblock.items v.room.items c.fill.new.room.items v.filled v.is_last kept c.lowest_closed-filled.result c.lowest_closed-filled.ensures c.fill.ensures.count c.fill.ensures.others c.args.last c.args.numbers.now c.args.images.now c.fill.ensures.taken c.requires.some c.requires.few below c.requires.distinct c.requires.images) in
+    λ image left. ((begins.told t).admits image left, begins.formats t image left)
 
 pub returns-clause-lowest : goal.returns-clause-lowest
 returns-clause-lowest g c =

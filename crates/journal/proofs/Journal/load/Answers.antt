@@ -68,9 +68,11 @@ returns-in-Err-clause-now g c t image left =
     let now = g.met.D.Disk.counts_content c.read.new.self t in
     let told = c.self.invariant.told old in
     let same = idle_same (staged_at c.self.inside.room.items c.self.inside.filled).place c.self.inside.next _ (g.D.Disk.device c.self.inside.disk).content (g.D.Disk.device c.read.new.self).content _ is (told.admits _ (c.read.ensures.crash old _ now)) in
-    let batch = staged_at c.self.inside.room.items c.self.inside.filled in
-    subst (λ (bs : List (List ℕ)). IsAdmitted c.self.inside.next (part 20 128 c.self.inside.superblock.items) bs (laid_over bs batch.numbers batch.images) image) (sym same)
-    (told.admits image (c.read.ensures.crash old image left))
+    let batch = staged_at c.self.inside.room.items c.self.inside.filled in (
+      subst (λ (bs : List (List ℕ)). IsAdmitted c.self.inside.next (part 20 128 c.self.inside.superblock.items) bs (laid_over bs batch.numbers batch.images) image) (sym same)
+          (told.admits image (c.read.ensures.crash old image left)),
+      c.self.invariant.formats old image (c.read.ensures.crash old image left),
+    )
 
 pub invariant_of-self-in-Err : goal.invariant_of-self-in-Err
 invariant_of-self-in-Err g c =

@@ -1,4 +1,4 @@
-use Rattle.std.proofs.Common.{sym, ◌∙◌, ap, subst}
+use Rattle.std.proofs.Common.{sym, ◌∙◌, ap, subst, arith}
 use Rattle.model.specs.Volume.{number_at}
 use Rattle.journal_segments.specs.Staged.{Staged}
 use Rattle.journal.proofs.Flights.{answered, gate_within, home_within}
@@ -9,6 +9,13 @@ use Rattle.journal.proofs.Journal.step.Goals as goal
 
 pub ask-requires-clause-carried : goal.ask-requires-clause-carried
 ask-requires-clause-carried g c = home_within c.self.inside.room.items c.self.inside.filled c.self.inside.is_last c.self.invariant.there _ c.self.inside.next c.self.invariant.within
+
+pub ask-requires-clause-home : goal.ask-requires-clause-home
+ask-requires-clause-home g c j i is =
+    let within = home_within c.self.inside.room.items c.self.inside.filled c.self.inside.is_last c.self.invariant.there _ c.self.inside.next c.self.invariant.within j i is in
+    let live = subst (λ (n : Next). IsLive c.self.inside.is_last n) (sym is) tt in
+    let below = (c.self.invariant.staged live j within.0).sound.below i 0 within.1 in
+    omega (arith, c.self.invariant.size, below)
 
 pub ask-requires-clause-gate : goal.ask-requires-clause-gate
 ask-requires-clause-gate g c j is =

@@ -1,4 +1,4 @@
-use Rattle.journal.proofs.Found.{rest_kept, rest_none, rest_stands}
+use Rattle.journal.proofs.Found.{rest_format, rest_kept, rest_none, rest_stands}
 use Rattle.journal.proofs.Whole.{kept_whole}
 use Rattle.journal.proofs.opening.at_rest.Goals as goal
 
@@ -28,4 +28,9 @@ pub returns-clause-now : goal.returns-clause-now
 returns-clause-now g c t =
     let device = g.D.Disk.device c.args.disk in
     let kept = rest_kept device c.args.superblock.items c.args.blocks c.args.room.items (λ s. g.met.D.Disk.image_size c.args.disk device.content s (g.met.D.Disk.counts_content c.args.disk s)) (g.met.D.Disk.counts_content c.args.disk) c.requires.found in
-    (kept.told t).admits
+    λ image left. ((kept.told t).admits image left, kept.formats t image left)
+
+pub returns-clause-format : goal.returns-clause-format
+returns-clause-format g c =
+    let device = g.D.Disk.device c.args.disk in
+    rest_format device c.args.superblock.items c.args.blocks c.args.room.items (λ t. g.met.D.Disk.image_size c.args.disk device.content t (g.met.D.Disk.counts_content c.args.disk t)) (g.met.D.Disk.counts_content c.args.disk) c.requires.found

@@ -22,6 +22,7 @@ returns-in-Ok-clause-err g c =
 
 pub returns-in-Err-clause-err : goal.returns-in-Err-clause-err
 returns-in-Err-clause-err g c = refuses_caused g.D.Disk.device c.args.disk c.sync_first.new.disk c.in-Err.error c.sync_first.ensures.quiet c.in-Err.ensures.cause
+    (λ t. c.in-Err.ensures.left t)
 
 pub returns-in-Ok-clause-moment : goal.returns-in-Ok-clause-moment
 returns-in-Ok-clause-moment g c =

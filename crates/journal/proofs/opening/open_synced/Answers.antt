@@ -2,18 +2,18 @@ use Rattle.std.proofs.Common.{◌≡◌, ◌≢◌, ◌+◌, length, IsTrue, ref
 use Rattle.std.proofs.lemmas.Result.{IfOk-weaker}
 use Rattle.disk.specs.Device.{Elapses}
 use Rattle.journal_segments.specs.Found.{IsQuiet, IsStill}
-use Rattle.journal.specs.Inside.{LeftAs}
+use Rattle.journal.specs.Inside.{IsVolume, LeftAs}
 use Rattle.std.specs.List.{sum}
 use Rattle.journal.specs.Journal.{IsCaused, IsDuring, IsReady, JournalView, sizes}
 use Rattle.journal.specs.Opening.{Opens, Refuses}
-use Rattle.model.specs.Volume.{StandsFor, open_segments}
+use Rattle.model.specs.Volume.{StandsFor, format_number, open_segments}
 use Rattle.journal.specs.declared.JournalError.{JournalError}
 use Rattle.journal.specs.declared.JournalError.TheVariants.{Fault, Memory, NotAVolume, Halted}
 use Rattle.journal_segments.specs.declared.SegmentError.{SegmentError}
 use Rattle.journal_segments.specs.declared.SegmentError.TheVariants.{Fault as ReadFault, NotAVolume as ReadNotAVolume}
 use Rattle.journal.specs.declared.Refused.{Refused}
 use Rattle.journal.specs.Opening.{Costs, IsMore, home_syncs, home_writes}
-use Rattle.journal.proofs.Found.{costs_none, costs_replayed, opens_replayed, refuses_replayed, refuses_found, err_weaker}
+use Rattle.journal.proofs.Found.{costs_none, costs_replayed, opens_replayed, refuses_replayed, refuses_found, err_weaker_both}
 use Rattle.journal.proofs.opening.open_synced.Goals as goal
 
 pub returns-in-Ok-clause-ok : goal.returns-in-Ok-clause-ok
@@ -23,8 +23,9 @@ returns-in-Ok-clause-ok g c =
     let quiet = subst (λ (d : g.row.D.Denot). IsQuiet (g.D.Disk.device c.args.disk) (g.D.Disk.device d)) (sym c.to_be_replayed.ensures.disk) c.load.ensures.quiet in
     let still = subst (λ (d : g.row.D.Denot). IsStill (g.D.Disk.device c.args.disk) (g.D.Disk.device d)) (sym c.to_be_replayed.ensures.disk) c.in-Ok.ensures.still in
     let stands = subst (λ (d : g.row.D.Denot). IsTrue (g.D.Disk.device d).tells → StandsFor (g.D.Disk.device d).content c.to_be_replayed.result.label c.to_be_replayed.result.blocks) (sym c.to_be_replayed.ensures.disk) c.to_be_replayed.ensures.stands in
+    let format = subst (λ (d : g.row.D.Denot). IsTrue (g.D.Disk.device d).tells → format_number (g.D.Disk.device d).content ≡ c.to_be_replayed.result.format) (sym c.to_be_replayed.ensures.disk) c.to_be_replayed.ensures.format in
     IfOk-weaker c.replay.result (λ (after : JournalView g.row.D.Denot). IsReady after × IsDuring g.D.Disk.device c.to_be_replayed.result after × ((g.D.Disk.device after.disk).failures ≡ (g.D.Disk.device c.to_be_replayed.result.disk).failures)) (Opens g.D.Disk.device c.args.disk)
-    (λ after h. opens_replayed g.D.Disk.device c.args.disk c.to_be_replayed.result quiet still stands c.to_be_replayed.ensures.whole after h.0 h.1 h.2)
+    (λ after h. opens_replayed g.D.Disk.device c.args.disk c.to_be_replayed.result quiet still stands c.to_be_replayed.ensures.whole format c.to_be_replayed.ensures.rest after h.0 h.1 h.2)
     c.replay.ensures.ok
 
 pub returns-in-Ok-clause-err : goal.returns-in-Ok-clause-err
@@ -32,11 +33,13 @@ returns-in-Ok-clause-err g c =
     let quiet = subst (λ (d : g.row.D.Denot). IsQuiet (g.D.Disk.device c.args.disk) (g.D.Disk.device d)) (sym c.to_be_replayed.ensures.disk) c.load.ensures.quiet in
     let still = subst (λ (d : g.row.D.Denot). IsStill (g.D.Disk.device c.args.disk) (g.D.Disk.device d)) (sym c.to_be_replayed.ensures.disk) c.in-Ok.ensures.still in
     let stands = subst (λ (d : g.row.D.Denot). IsTrue (g.D.Disk.device d).tells → StandsFor (g.D.Disk.device d).content c.to_be_replayed.result.label c.to_be_replayed.result.blocks) (sym c.to_be_replayed.ensures.disk) c.to_be_replayed.ensures.stands in
-    err_weaker c.replay.result
-    (λ (refused : Refused g.row.D.Denot). IsCaused refused.error (g.D.Disk.device c.to_be_replayed.result.disk) (g.D.Disk.device refused.disk) × Elapses (g.D.Disk.device c.to_be_replayed.result.disk) (g.D.Disk.device refused.disk) × LeftAs (g.D.Disk.device c.to_be_replayed.result.disk) (g.D.Disk.device refused.disk) c.to_be_replayed.result.label c.to_be_replayed.result.blocks)
+    let format = subst (λ (d : g.row.D.Denot). IsTrue (g.D.Disk.device d).tells → format_number (g.D.Disk.device d).content ≡ c.to_be_replayed.result.format) (sym c.to_be_replayed.ensures.disk) c.to_be_replayed.ensures.format in
+    err_weaker_both c.replay.result
+    (λ (refused : Refused g.row.D.Denot). IsCaused refused.error (g.D.Disk.device c.to_be_replayed.result.disk) (g.D.Disk.device refused.disk) × Elapses (g.D.Disk.device c.to_be_replayed.result.disk) (g.D.Disk.device refused.disk) × LeftAs (g.D.Disk.device c.to_be_replayed.result.disk) (g.D.Disk.device refused.disk) c.to_be_replayed.result.format c.to_be_replayed.result.label c.to_be_replayed.result.blocks)
+    (λ (refused : Refused g.row.D.Denot). IsTrue (g.D.Disk.device c.to_be_replayed.result.disk).tells → IsVolume c.to_be_replayed.result.format c.to_be_replayed.result.label c.to_be_replayed.result.blocks (g.D.Disk.device refused.disk).content)
     (λ (refused : Refused g.row.D.Denot). Refuses g.D.Disk.device c.args.disk refused.disk refused.error)
-    (λ refused h. refuses_replayed g.D.Disk.device c.args.disk c.to_be_replayed.result quiet still stands c.to_be_replayed.ensures.whole refused.disk refused.error h.0 h.1 h.2)
-    c.replay.ensures.err
+    (λ refused h holds. refuses_replayed g.D.Disk.device c.args.disk c.to_be_replayed.result quiet still stands c.to_be_replayed.ensures.whole format refused.disk refused.error h.0 h.1 h.2 holds)
+    c.replay.ensures.err c.replay.ensures.left
 
 -- a read's refusal, as the journal's
 refused_as : (e : SegmentError) (error : JournalError) → (e ≡ ReadFault → error ≡ Fault) → (e ≡ ReadNotAVolume → error ≡ NotAVolume) → (error ≡ Fault → e ≡ ReadFault) × (error ≡ NotAVolume → e ≡ ReadNotAVolume) × (error ≢ Memory) × (error ≢ Halted)

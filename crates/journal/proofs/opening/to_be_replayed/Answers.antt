@@ -1,5 +1,5 @@
 use Rattle.std.proofs.Common.{◌-◌, arith}
-use Rattle.journal.proofs.Found.{replay_kept, replay_some, replay_stands, replay_syncs, replay_writes}
+use Rattle.journal.proofs.Found.{replay_format, replay_kept, replay_some, replay_stands, replay_syncs, replay_writes}
 use Rattle.journal.proofs.Whole.{kept_whole}
 use Rattle.journal.proofs.opening.to_be_replayed.Goals as goal
 
@@ -12,7 +12,7 @@ pub returns-clause-now : goal.returns-clause-now
 returns-clause-now g c t =
     let device = g.D.Disk.device c.args.disk in
     let kept = replay_kept device c.args.superblock.items c.args.blocks c.args.room.items (λ s. g.met.D.Disk.image_size c.args.disk device.content s (g.met.D.Disk.counts_content c.args.disk s)) (g.met.D.Disk.counts_content c.args.disk) c.args.found (c.args.found - 1) (omega (arith, c.requires.some)) c.requires.found in
-    (kept.told t).admits
+    λ image left. ((kept.told t).admits image left, kept.formats t image left)
 
 pub returns-clause-whole : goal.returns-clause-whole
 returns-clause-whole g c =
@@ -39,3 +39,8 @@ pub invariant_of-result : goal.invariant_of-result
 invariant_of-result g c =
     let device = g.D.Disk.device c.args.disk in
     replay_kept device c.args.superblock.items c.args.blocks c.args.room.items (λ s. g.met.D.Disk.image_size c.args.disk device.content s (g.met.D.Disk.counts_content c.args.disk s)) (g.met.D.Disk.counts_content c.args.disk) c.args.found (c.args.found - 1) (omega (arith, c.requires.some)) c.requires.found
+
+pub returns-clause-format : goal.returns-clause-format
+returns-clause-format g c =
+    let device = g.D.Disk.device c.args.disk in
+    replay_format device c.args.superblock.items c.args.blocks c.args.room.items (λ t. g.met.D.Disk.image_size c.args.disk device.content t (g.met.D.Disk.counts_content c.args.disk t)) (g.met.D.Disk.counts_content c.args.disk) c.args.found (c.args.found - 1) (omega (arith, c.requires.some)) c.requires.found

@@ -1,0 +1,55 @@
+-- How many writes and syncs the device counts at each call.
+use Rattle.std.proofs.Common.{◌≡◌, ◌≢◌, ℕ, ◌+◌, ◌%◌, ◌^◌, Bool, true, false, if◌then◌else◌, List, sym, ◌∙◌, ap, subst, arith, refl, Ok}
+use Rattle.std.proofs.Math.Nat.{mod-add-mod, mod-mod}
+use Rattle.disk.specs.Device.{Device, IsSync, IsWrite, one_more}
+use Rattle.segments.specs.Held.{Held}
+use Rattle.journal.specs.Calls.{Does, call_at}
+use Rattle.journal.specs.Order.{IsMore, following, is_sync, syncs_made, writes_made}
+use Rattle.journal.specs.declared.Next.{Next}
+use Rattle.journal.specs.declared.Next.TheVariants.{Idle, Descriptor, Image, Seal, OpenGate, Commit, Home, Settle, CloseGate, Finish}
+use Rattle.journal.proofs.Order.{one_more_sync, one_more_write}
+
+pub same_count : (n a b c : ℕ) → IsMore n a b → c ≡ b → IsMore n a c
+same_count n a b c more is = ap (λ (x : ℕ). x % 2 ^ 64) is ∙ more
+
+pub one_count : (n a b c : ℕ) → IsMore n a b → c ≡ one_more b → IsMore (n + 1) a c
+one_count n a b c more is =
+    ap (λ (x : ℕ). x % 2 ^ 64) is ∙ mod-mod (b + 1) (2 ^ 64) ∙ sym (mod-add-mod b (2 ^ 64) 1) ∙ ap (λ (x : ℕ). (x + 1) % 2 ^ 64) more
+    ∙ mod-add-mod (a + n) (2 ^ 64) 1 ∙ ap (λ (x : ℕ). x % 2 ^ 64) (omega arith)
+
+-- the counts of a call by its kind
+abbrev pub Asks : Bool → Device → Device → Type 0
+Asks true old new = IsSync old new
+Asks false old new = IsWrite old new
+
+pub asks_by : (T E : Type 0) (next : Next) (segments : ℕ) (held : List Held) (place : ℕ) (descriptor : List ℕ) (images : List (List ℕ)) (x : T) (old new : Device)
+    → Does {T = T} {E = E} (call_at next segments held place descriptor images) (Ok x) old new → next ≢ Idle → Asks (is_sync next) old new
+asks_by T E Idle segments held place descriptor images x old new did flies = absurd (flies refl)
+asks_by T E Descriptor segments held place descriptor images x old new did flies = did.asks
+asks_by T E (Image i) segments held place descriptor images x old new did flies = did.asks
+asks_by T E Seal segments held place descriptor images x old new did flies = did.asks
+asks_by T E OpenGate segments held place descriptor images x old new did flies = did.asks
+asks_by T E Commit segments held place descriptor images x old new did flies = did.asks
+asks_by T E (Home j i) segments held place descriptor images x old new did flies = did.asks
+asks_by T E Settle segments held place descriptor images x old new did flies = did.asks
+asks_by T E (CloseGate j) segments held place descriptor images x old new did flies = did.asks
+asks_by T E (Finish j) segments held place descriptor images x old new did flies = did.asks
+
+-- a good call adds to both counts what it adds to those of the batch
+pub writes_on : (n : ℕ) (sizes : List ℕ) (next : Next) (first : ℕ) (old new : Device) → next ≢ Idle → Asks (is_sync next) old new
+    → IsMore (writes_made n sizes next) first old.writes → IsMore (writes_made n sizes (following n sizes next)) first new.writes
+writes_on n sizes next first old new flies asks more = go (is_sync next) asks (one_more_write n sizes next flies)
+  where
+    go : (b : Bool) → Asks b old new → writes_made n sizes (following n sizes next) ≡ (if b then writes_made n sizes next else writes_made n sizes next + 1)
+        → IsMore (writes_made n sizes (following n sizes next)) first new.writes
+    go true asked is = subst (λ (m : ℕ). IsMore m first new.writes) (sym is) (same_count (writes_made n sizes next) first old.writes new.writes more asked.writes)
+    go false asked is = subst (λ (m : ℕ). IsMore m first new.writes) (sym is) (one_count (writes_made n sizes next) first old.writes new.writes more asked.writes)
+
+pub syncs_on : (n : ℕ) (sizes : List ℕ) (next : Next) (first : ℕ) (old new : Device) → next ≢ Idle → Asks (is_sync next) old new
+    → IsMore (syncs_made sizes next) first old.syncs → IsMore (syncs_made sizes (following n sizes next)) first new.syncs
+syncs_on n sizes next first old new flies asks more = go (is_sync next) asks (one_more_sync n sizes next flies)
+  where
+    go : (b : Bool) → Asks b old new → syncs_made sizes (following n sizes next) ≡ (if b then syncs_made sizes next + 1 else syncs_made sizes next)
+        → IsMore (syncs_made sizes (following n sizes next)) first new.syncs
+    go false asked is = subst (λ (m : ℕ). IsMore m first new.syncs) (sym is) (same_count (syncs_made sizes next) first old.syncs new.syncs more asked.syncs)
+    go true asked is = subst (λ (m : ℕ). IsMore m first new.syncs) (sym is) (one_count (syncs_made sizes next) first old.syncs new.syncs more asked.syncs)

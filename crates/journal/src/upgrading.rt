@@ -1,0 +1,88 @@
+//! Makes a volume of format 1 one of format 2.
+
+ghost use Rattle.std.specs.Prelude.{◌≡◌, ◌⊎◌, ◌+◌, ◌≤◌, [], ◌∷◌, IfErr, IsTrue, length};
+ghost use Rattle.disk.specs.Image.{overwritten, part};
+ghost use Rattle.model.specs.Volume.{format_in};
+ghost use Rattle.journal.specs.Calls.{Call, IsAsked};
+
+use crate::stepping::sync;
+use crate::{Journal, JournalError};
+use disk::{Disk, DiskError};
+use volume_format::layout::{FORMAT_AT, IS_FORMAT_2, put_octets};
+
+impl<D: Disk> Journal<D> {
+    ghost use Rattle.journal.specs.Journal.{IsReady};
+    ghost use Rattle.journal.specs.Upgrading.{IsUnasked, Upgrades};
+
+    /// Makes a volume of format 1 one of format 2: one write of the gate's octet, and one sync. No batch may be in
+    /// flight. A crash at any moment leaves the label and the logical blocks as they were, in one of the two formats.
+    ///
+    /// `Fault` halts the journal. `Memory` comes only from the device: a write that it refuses is not made, and nothing
+    /// has changed; a sync that it refuses halts the journal, since the octet may or may not be on the device.
+    /// docs/FORMATS.md says what the octet means.
+    pub fn upgrade(&mut self) -> Result<(), JournalError>
+        requires ready { IsReady self.old }
+        requires first { self.old.format ≡ 1 }
+        ensures upgrades { Upgrades D.device self.old self.new result }
+        ensures memory { IfErr result (λ error. error ≡ JournalError.Memory → IsTrue D.sync_grows ⊎ (IsTrue D.write_grows × IsUnasked D.device self.old self.new)) }
+    {
+        match write_gate_of_format(&mut self.disk) {
+            Ok(()) => {}
+            Err(DiskError::Fault) => {
+                self.halted = true;
+                return Err(JournalError::Fault);
+            }
+            Err(DiskError::Memory) => return Err(JournalError::Memory),
+        }
+        match sync_gate_of_format(&mut self.disk) {
+            Ok(()) => {
+                open_gate(&mut self.superblock);
+                Ok(())
+            }
+            Err(DiskError::Fault) => {
+                self.halted = true;
+                Err(JournalError::Fault)
+            }
+            Err(DiskError::Memory) => {
+                self.halted = true;
+                Err(JournalError::Memory)
+            }
+        }
+    }
+}
+
+fn write_gate_of_format<D: Disk>(disk: &mut D) -> Result<(), DiskError>
+    requires size { 149 ≤ (D.device disk.old).size }
+    ensures asked { IsAsked (Call.Write 148 (2 ∷ [])) result (D.device disk.old) (D.device disk.new) }
+    ensures memory { IfErr result (λ error. error ≡ DiskError.Memory → IsTrue D.write_grows) }
+{
+    disk.write(FORMAT_AT as u64, &[IS_FORMAT_2])
+}
+
+fn sync_gate_of_format<D: Disk>(disk: &mut D) -> Result<(), DiskError>
+    ensures asked { IsAsked Call.Sync result (D.device disk.old) (D.device disk.new) }
+    ensures memory { IfErr result (λ error. error ≡ DiskError.Memory → IsTrue D.sync_grows) }
+{
+    sync(disk)
+}
+
+// Puts the octet into the superblock in memory.
+fn open_gate(superblock: &mut Vec<u8>)
+    requires { length superblock.old.items ≡ 4096 }
+    ensures octets { superblock.new.items ≡ overwritten 148 (2 ∷ []) superblock.old.items }
+    ensures size { length superblock.new.items ≡ 4096 }
+    ensures label { part 20 128 superblock.new.items ≡ part 20 128 superblock.old.items }
+    ensures format { format_in superblock.new.items ≡ 2 }
+{
+    set_gate(superblock.as_mut_slice());
+}
+
+fn set_gate(superblock: &mut [u8])
+    requires { length superblock.old ≡ 4096 }
+    ensures octets { superblock.new ≡ overwritten 148 (2 ∷ []) superblock.old }
+    ensures size { length superblock.new ≡ 4096 }
+    ensures label { part 20 128 superblock.new ≡ part 20 128 superblock.old }
+    ensures format { format_in superblock.new ≡ 2 }
+{
+    put_octets(superblock, FORMAT_AT, &[IS_FORMAT_2]);
+}
