@@ -113,7 +113,7 @@ module _ (inodes at : ℕ) (blocks : List Octets) (room : HasRoom inodes blocks)
       let its = named_from_there inodes blocks rule at name content there in
       sym (length-content blocks (entry inodes blocks at) room.blocks_whole (λ b owns. (rule.within at b its.below owns).1)) ∙ ap (λ (o : Octets). length o) (sym its.content_is)
 
-  pub has_room : (more : ℕ) → length content + more ≤ 4235264 → blocks_for_more more ≤ free_blocks blocks → HasRoomFor blocks (size (entry inodes blocks at)) (size (entry inodes blocks at) + more)
+  pub has_room : (more : ℕ) → length content + more ≤ 268435456 → blocks_for_more more ≤ free_blocks blocks → HasRoomFor blocks (size (entry inodes blocks at)) (size (entry inodes blocks at) + more)
   has_room more small free =
       subst (λ (n : ℕ). HasRoomFor blocks n (n + more)) (sym its_size) (small, omega (arith, files_grow_by_blocks (length content) more, free))
 

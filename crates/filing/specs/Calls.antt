@@ -1,12 +1,14 @@
 -- Calls on the files of blocks, in any order of their inodes.
-use Rattle.std.specs.Prelude.{◌≡◌, ◌≢◌, ℕ, ◌+◌, ◌/◌, ◌<◌, ◌≤◌, List, [], ◌∷◌, ◌++◌, length, map, take, slice_get, slice_index_or, unwrap_or, Option, Some, None, IsPermutation}
+use Rattle.std.specs.Prelude.{◌≡◌, ◌≢◌, ℕ, ◌+◌, ◌<◌, ◌≤◌, List, [], ◌∷◌, ◌++◌, length, map, take, slice_get, slice_index_or, unwrap_or, Option, Some, None, option_map, IsPermutation}
 use Rattle.std.specs.List.{sum_by}
 use Rattle.model.specs.Stream.{Octets}
 use Rattle.model.specs.Files.{File, HasRoom, IsFileSystem, files_in, free_blocks, table}
 use Rattle.model.specs.Room.{blocks_taken}
+pub use Rattle.model.specs.Room.{blocks_for_more}
 use Rattle.model.specs.SpoolFiles.{FileCall, Create, Append, after_calls, making_calls}
 use Rattle.fs.specs.Calls.{IsFileAt}
 use Rattle.fs.specs.Growing.{KeepsMarks}
+use Rattle.fs.specs.Touches.{touched_by_growth}
 use Rattle.fs_layout.specs.Marks.{NoneFreeBelow}
 use Rattle.places.specs.Places.{KeepsNames, name_of}
 use Rattle.filing.specs.declared.Free.{Free}
@@ -27,16 +29,12 @@ pub record Calls (inodes : ℕ) (calls : List FileCall) (old new : List Octets) 
 abbrev pub SameFilesBut : ℕ → ℕ → List Octets → List Octets → Type 0
 SameFilesBut inodes at old new = (k : ℕ) → k ≢ at → slice_index_or (table inodes new) k None ≡ slice_index_or (table inodes old) k None
 
--- the most blocks that a file takes for this many more octets
-abbrev pub blocks_for_more : ℕ → ℕ
-blocks_for_more more = (more + 4095) / 4096 + 1
-
 -- the file of this inode has room for this many more octets
 pub record MayGrow (inodes at more : ℕ) (blocks : List Octets) : Type 0 where
   pub name : Octets
   pub content : Octets
   pub there : IsFileAt (table inodes blocks) at name content
-  pub small : length content + more ≤ 4235264
+  pub small : length content + more ≤ 268435456
 
 -- none of the first inodes is free, for this number of inodes
 abbrev pub AreUsed : ℕ → List (Option File) → Type 0
@@ -86,6 +84,14 @@ pub record MayAllGrow (inodes : ℕ) (pieces : List Piece) (blocks : List Octets
 -- the call that appends a piece to its file
 abbrev pub append_call : List (Option File) → Piece → FileCall
 append_call inodes p = Append (unwrap_or (name_of inodes p.at) []) p.octets.items
+
+-- the size of the file of this inode, 0 if there is none
+abbrev pub size_at : List (Option File) → ℕ → ℕ
+size_at inodes k = unwrap_or (option_map (λ (f : File). length f.content) (slice_index_or inodes k None)) 0
+
+-- the most blocks that change when these pieces are appended to their files
+abbrev pub touched_by_pieces : List (Option File) → List Piece → ℕ
+touched_by_pieces inodes pieces = sum_by (λ p. touched_by_growth (size_at inodes p.at) (length p.octets.items)) pieces
 
 -- the first of these pieces were appended to their files, for this number of pieces, and no other file changed
 pub record AppendsFirst (inodes : ℕ) (pieces : List Piece) (n : ℕ) (old new : List Octets) : Type 0 where

@@ -6,7 +6,7 @@ ghost use Rattle.std.specs.Prelude.{◌≡◌, ◌+◌, ◌*◌, ◌/◌, ◌<�
 ghost use Rattle.model.specs.Files.{HasRoom, IsFileSystem, files_in, free_blocks, table};
 ghost use Rattle.fs.specs.Calls.{IsFileAt, IsName, IsThere};
 ghost use Rattle.fs.specs.Touches.{Touches, touched_by_growth};
-ghost use Rattle.filing.specs.Calls.{AppendsAt, AppendsFirst, CreatesAt, IsKnown, MakesAt, MayAllGrow, MayGrow, blocks_for_more};
+ghost use Rattle.filing.specs.Calls.{AppendsAt, AppendsFirst, CreatesAt, IsKnown, MakesAt, MayAllGrow, MayGrow, blocks_for_more, touched_by_pieces};
 
 use fs::by_inode::extend;
 use fs::{FsError, create_absent};
@@ -93,7 +93,7 @@ pub fn make_file<B: Blocks>(
     requires name { IsName name.now }
     requires new { ¬ (IsThere (table inodes (B.blocks blocks.old)) name.now) }
     requires few { length (files_in (table inodes (B.blocks blocks.old))) < inodes }
-    requires small { length octets.now ≤ 4235264 }
+    requires small { length octets.now ≤ 268435456 }
     requires free { blocks_for_more (length octets.now) ≤ free_blocks (B.blocks blocks.old) }
     requires known { IsKnown inodes free.old (B.blocks blocks.old) }
     ensures made { IfOk result (λ at. MakesAt inodes at name.now octets.now (B.blocks blocks.old) (B.blocks blocks.new)) }
@@ -125,11 +125,11 @@ pub fn append_all<B: Blocks>(
     requires room { HasRoom inodes (B.blocks blocks.old) }
     requires rule { IsFileSystem inodes (B.blocks blocks.old) }
     requires there { MayAllGrow inodes pieces.now (B.blocks blocks.old) }
-    requires free { 3 * length pieces.now ≤ free_blocks (B.blocks blocks.old) }
+    requires free { 4 * length pieces.now ≤ free_blocks (B.blocks blocks.old) }
     requires known { IsKnown inodes free.old (B.blocks blocks.old) }
     ensures appended { OnOk result (AppendsFirst inodes pieces.now (length pieces.now) (B.blocks blocks.old) (B.blocks blocks.new)) }
     ensures known { OnOk result (IsKnown inodes free.new (B.blocks blocks.new)) }
-    ensures touches { OnOk result (Touches (5 * length pieces.now) (B.blocks blocks.old) (B.blocks blocks.new)) }
+    ensures touches { OnOk result (Touches (touched_by_pieces (table inodes (B.blocks blocks.old)) pieces.now) (B.blocks blocks.old) (B.blocks blocks.new)) }
     ensures kept { B.applied blocks.new ≡ B.applied blocks.old }
 {
     for piece in pieces {

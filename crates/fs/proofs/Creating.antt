@@ -7,13 +7,13 @@ use Rattle.std.proofs.lemmas.Bool.{cases_eq, cond_both}
 use Rattle.disk.proofs.Images.{length-part}
 use Rattle.model.specs.Stream.{Octets}
 use Rattle.model.specs.Volume.{number_at}
-use Rattle.model.specs.Files.{Entry, HasRoom, IsFile, IsFree, size, block_count, indirect_pointer, pointer, owned, name_in, slot_octets, content_of, entry, inode_of, slot_of, indirect_of, IsFileSystem, file_at}
+use Rattle.model.specs.Files.{Entry, HasRoom, IsFile, IsFree, size, block_count, entry_of, indirect_count, indirect_for, indirect_number, indirect_pointer, pointer, owned, name_in, slot_octets, content_of, entry, inode_of, slot_of, indirect_of, IsFileSystem, file_at}
 use Rattle.fs_layout.specs.Blocks.{PutsRecord, IsFound}
 use Rattle.fs_layout.specs.Table.{IsName}
 use Rattle.fs.specs.Calls.{Creates, HasNoFreeInode}
 use Rattle.fs_layout.proofs.Entries.{zero_number, free_owns, name_in-slot_octets}
 use Rattle.fs_layout.proofs.Tables.{get_or-table, file_at_free, file_at_file, table_set, no_slot}
-use Rattle.fs_layout.proofs.Keeps.{PutsEntry, puts_inode, puts_slot, inode_keeps_marks, slot_keeps_marks, same_entry, entry_other, file_other, keeps_rule, keeps_room}
+use Rattle.fs_layout.proofs.Keeps.{PutsEntry, puts_inode, puts_slot, inode_keeps_marks, slot_keeps_marks, entry_other, file_other, keeps_rule, keeps_room}
 
 -- ---- free slots
 
@@ -47,7 +47,7 @@ abbrev pub new_inode : Octets
 new_inode = 1 ∷ replicate 63 0
 
 abbrev new_entry : Octets → Entry
-new_entry name = record { inode = new_inode; slot = slot_octets name; indirect = [] }
+new_entry name = record { inode = new_inode; slot = slot_octets name; double = []; pointers = λ p. [] }
 
 new_kind : number_at 0 4 new_inode ≡ 1
 unfolding number_at
@@ -65,26 +65,32 @@ none_zero k d low = absurd (omega arith)
 
 new_pointer : (name : Octets) (i : ℕ) → pointer (new_entry name) i ≡ 0
 new_pointer name i =
-    cond_both (ltb i 10) (number_at (12 + 4 * i) 4 new_inode) (number_at (4 * (i - 10)) 4 []) (λ n. n ≡ 0)
+    cond_both (ltb i 10) (number_at (12 + 4 * i) 4 new_inode) (number_at (4 * ((i - 10) % 1024)) 4 []) (λ n. n ≡ 0)
     (λ low. let place : 12 + 4 * i ≡ suc (11 + 4 * i) = omega arith in ap (λ (a : ℕ). number_at a 4 new_inode) place ∙ new_number (11 + 4 * i) 4)
-    (λ high. zero_number (4 * (i - 10)) 4 [] none_zero)
+    (λ high. zero_number (4 * ((i - 10) % 1024)) 4 [] none_zero)
+
+-- the number of a block of pointers, if there is no double-indirect block
+no_table : (double : Octets) → double ≡ [] → (p : ℕ) → indirect_number new_inode double p ≡ 0
+no_table double none p =
+    cond_both (eqb p 0) (number_at 52 4 new_inode) (number_at (4 * (p - 1)) 4 double) (λ n. n ≡ 0) (λ first. new_number 51 4)
+    (λ later. ap (number_at (4 * (p - 1)) 4) none ∙ zero_number (4 * (p - 1)) 4 [] none_zero)
 
 new_owns : (name : Octets) → owned (new_entry name) ≡ []
 new_owns name =
-    ap (λ (n : ℕ). cond (eqb n 0) [] (n ∷ []) ++ map (λ i. pointer (new_entry name) i) (range_with_len 0 (block_count (new_entry name)))) (new_number 51 4)
-    ∙ ap (λ (n : ℕ). map (λ i. pointer (new_entry name) i) (range_with_len 0 ((n + 4095) / 4096))) (new_number 3 8)
+    ap (λ (n : ℕ). cond (eqb n 0) [] (n ∷ []) ++ (map (λ p. indirect_pointer (new_entry name) p) (range_with_len 0 (indirect_count (new_entry name))) ++ map (λ i. pointer (new_entry name) i) (range_with_len 0 (block_count (new_entry name))))) (new_number 55 4)
+    ∙ ap (λ (n : ℕ). map (λ p. indirect_pointer (new_entry name) p) (range_with_len 0 (indirect_for ((n + 4095) / 4096))) ++ map (λ i. pointer (new_entry name) i) (range_with_len 0 ((n + 4095) / 4096))) (new_number 3 8)
 
 new_is_file : (name : Octets) → IsName name → IsFile (new_entry name)
 new_is_file name is =
     let no_size : size (new_entry name) ≡ 0 = new_number 3 8 in
-    let none : indirect_pointer (new_entry name) ≡ 0 = new_number 51 4 in
     let same = name_in-slot_octets name in
     record {
       kind_is = new_kind;
       small = omega arith;
-      spare = new_number 55 8;
-      indirect_where = ((λ more. absurd (omega arith)), (λ some. absurd (some none)));
-      no_other_pointer = λ i low high. new_pointer name i;
+      spare = new_number 59 4;
+      double_where = ((λ more. absurd (omega (arith, more, no_size))), (λ some. absurd (some (new_number 55 4))));
+      indirect_where = λ p. ((λ less. absurd (omega (arith, less, no_size))), (λ some. absurd (some (no_table [] refl p))));
+      no_other_pointer = λ i high. new_pointer name i;
       name_some = omega (arith, is.0, ap length same);
       name_few = omega (arith, is.1, ap length same);
       slot_is = sym (ap slot_octets same);
@@ -112,10 +118,17 @@ module _ (inodes at : ℕ) (name : Octets) (a b c : List Octets) (room : HasRoom
   was_free : IsFree (entry inodes a at)
   was_free = free_from_slot inodes a room fs at found.below found.is
 
+  no_double : indirect_of c (number_at 56 4 new_inode) ≡ []
+  no_double = ap (λ (n : ℕ). indirect_of c n) (new_number 55 4)
+
+  no_tables : (p : ℕ) → indirect_of c (indirect_number new_inode (indirect_of c (number_at 56 4 new_inode)) p) ≡ []
+  no_tables p = ap (λ (n : ℕ). indirect_of c n) (no_table (indirect_of c (number_at 56 4 new_inode)) no_double p)
+
   here : entry inodes c at ≡ new_entry name
   here =
-      same_entry (inode_of c at) new_inode (slot_of inodes c at) (slot_octets name) (indirect_of c (number_at 52 4 (inode_of c at))) [] puts.inode_is puts.slot_is
-      (ap (λ (o : Octets). indirect_of c (number_at 52 4 o)) puts.inode_is ∙ ap (λ (n : ℕ). indirect_of c n) (new_number 51 4))
+      ap (λ (o : Octets). entry_of c o (slot_of inodes c at)) puts.inode_is
+      ∙ ap (λ (o : Octets). entry_of c new_inode o) puts.slot_is
+      ∙ (λ j. record { inode = new_inode; slot = slot_octets name; double = no_double j; pointers = λ p. no_tables p j })
 
   others : (l : ℕ) → l < inodes → l ≢ at → entry inodes c l ≡ entry inodes a l
   others = entry_other inodes at new_inode (slot_octets name) (λ n. ⊥) a c puts fs untouched

@@ -3,3 +3,4 @@ pub mod Creating
 pub mod Emptying
 pub mod Naming
 pub mod Zeros
+pub mod Within

@@ -1,9 +1,9 @@
 //! Names, and the inodes that they name.
 
-ghost use Rattle.std.specs.Prelude.{◌≡◌, ◌≢◌, ◌<◌, ℕ, List, length, map, slice_index_or, None, IfErr, OnOk, IfOk};
+ghost use Rattle.std.specs.Prelude.{◌≡◌, ◌≢◌, ◌+◌, ◌<◌, ℕ, List, length, map, slice_index_or, None, IfErr, OnOk, IfOk};
 ghost use Rattle.model.specs.Files.{HasRoom, IsFileSystem, table};
 ghost use Rattle.fs.specs.Changes.{SameMarks};
-ghost use Rattle.fs.specs.Touches.{Touches};
+ghost use Rattle.fs.specs.Touches.{Touches, touched_by_cut};
 ghost use Rattle.fs.specs.Calls.{IsName, IsThere, IsFileAt, Creates, HasNoFreeInode, Unlinks, file_names};
 
 use fs_inodes::{remove_empty, shrink_to};
@@ -91,7 +91,8 @@ pub fn unlink<B: Blocks>(blocks: &mut B, inodes: u32, name: &[u8]) -> Result<(),
     requires name { IsName name.now }
     requires rule { IsFileSystem inodes (B.blocks blocks.old) }
     ensures unlinked { OnOk result (Unlinks inodes name.now (B.blocks blocks.old) (B.blocks blocks.new)) }
-    ensures touches { OnOk result (Touches 3 (B.blocks blocks.old) (B.blocks blocks.new)) }
+    ensures touches { OnOk result ((k : ℕ) (content : List ℕ) → IsFileAt (table inodes (B.blocks blocks.old)) k name.now content
+        → Touches (1 + touched_by_cut (length content) 0) (B.blocks blocks.old) (B.blocks blocks.new)) }
     ensures not_found { IfErr result (λ e. e ≡ FsError.NotFound
         → (¬ (IsThere (table inodes (B.blocks blocks.old)) name.now)) × (blocks.new ≡ blocks.old)) }
     ensures no_other { IfErr result (λ e. (e ≢ FsError.Damaged) × (e ≢ FsError.Full) × (e ≢ FsError.Exists)) }

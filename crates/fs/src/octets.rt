@@ -2,11 +2,11 @@
 
 ghost use Rattle.std.specs.Prelude.{◌≡◌, ◌≢◌, ℕ, ◌+◌, ◌-◌, ◌++◌, ◌≤◌, List, length, take, drop, replicate, IfErr, IfOk, OnOk};
 ghost use Rattle.disk.specs.Image.{overwritten};
-ghost use Rattle.model.specs.Files.{HasRoom, IsFileSystem, table};
+ghost use Rattle.model.specs.Files.{AreWithin, HasRoom, IsFileSystem, table};
 ghost use Rattle.fs.specs.Calls.{IsName, IsThere, IsFileAt, HasNoRoomFor};
 ghost use Rattle.fs.specs.Changes.{Rewrites};
-ghost use Rattle.fs.specs.Touches.{Touches, blocks_reached, touched_by_growth, touched_by_truncation};
-ghost use Rattle.fs.specs.Growing.{Appends, CannotGrow};
+ghost use Rattle.fs.specs.Touches.{Touches, touched_by_growth, touched_by_truncation, touched_by_write};
+ghost use Rattle.fs.specs.Growing.{Appends, CannotGrow, most_octets};
 
 use fs_inodes::{extend, extend_zeros, has_room_for, overwrite, read_entry, shrink_to};
 use fs_layout::FsError;
@@ -41,10 +41,12 @@ pub fn read_at<B: Blocks>(
 }
 
 /// Appends octets to a file. `NotFound` exactly if no file has the name, else `Full` exactly if the file would be too
-/// large or need more blocks than are free; both change nothing. After `Memory` the caller must drop the stage.
+/// large for the format or need more blocks than are free; both change nothing. After `Memory` the caller must drop the
+/// stage.
 pub fn append<B: Blocks>(
     blocks: &mut B,
     inodes: u32,
+    format: u32,
     name: &[u8],
     octets: &[u8],
 ) -> Result<(), FsError>
@@ -54,10 +56,11 @@ pub fn append<B: Blocks>(
     ensures appended { OnOk result (Appends inodes name.now octets.now (B.blocks blocks.old) (B.blocks blocks.new)) }
     ensures touches { OnOk result ((k : ℕ) (content : List ℕ) → IsFileAt (table inodes (B.blocks blocks.old)) k name.now content
         → Touches (touched_by_growth (length content) (length octets.now)) (B.blocks blocks.old) (B.blocks blocks.new)) }
+    ensures format { OnOk result (AreWithin (most_octets format) inodes (B.blocks blocks.old) → AreWithin (most_octets format) inodes (B.blocks blocks.new)) }
     ensures not_found { IfErr result (λ e. e ≡ FsError.NotFound
         → (¬ (IsThere (table inodes (B.blocks blocks.old)) name.now)) × (blocks.new ≡ blocks.old)) }
     ensures full { IfErr result (λ e. e ≡ FsError.Full
-        → CannotGrow inodes name.now (length octets.now) (B.blocks blocks.old) × (blocks.new ≡ blocks.old)) }
+        → CannotGrow format inodes name.now (length octets.now) (B.blocks blocks.old) × (blocks.new ≡ blocks.old)) }
     ensures no_other { IfErr result (λ e. (e ≢ FsError.Damaged) × (e ≢ FsError.Exists)) }
     ensures kept { B.applied blocks.new ≡ B.applied blocks.old }
 {
@@ -65,7 +68,7 @@ pub fn append<B: Blocks>(
         return Err(FsError::NotFound);
     };
     let size = size_of(blocks, inodes, at);
-    if !has_room_for(blocks, inodes, size, size + octets.len() as u64) {
+    if !has_room_for(blocks, inodes, format, size, size + octets.len() as u64) {
         return Err(FsError::Full);
     }
     extend(blocks, inodes, 0, at, octets)?;
@@ -73,11 +76,12 @@ pub fn append<B: Blocks>(
 }
 
 /// Writes octets into a file from a place on, which must not be after its end: over those already there, and past the
-/// end. `NotFound` exactly if no file has the name, else `Full` exactly if the file would be too large or too few
-/// blocks are free; both change nothing. After `Memory` the caller must drop the stage.
+/// end. `NotFound` exactly if no file has the name, else `Full` exactly if the file would be too large for the format
+/// or too few blocks are free; both change nothing. After `Memory` the caller must drop the stage.
 pub fn write_at<B: Blocks>(
     blocks: &mut B,
     inodes: u32,
+    format: u32,
     name: &[u8],
     place: u64,
     octets: &[u8],
@@ -87,12 +91,14 @@ pub fn write_at<B: Blocks>(
     requires rule { IsFileSystem inodes (B.blocks blocks.old) }
     requires place { (k : ℕ) (content : List ℕ) → IsFileAt (table inodes (B.blocks blocks.old)) k name.now content → place ≤ length content }
     ensures written { OnOk result (Rewrites inodes name.now (overwritten place octets.now) (B.blocks blocks.old) (B.blocks blocks.new)) }
-    ensures touches { OnOk result (Touches (3 + blocks_reached place (length octets.now)) (B.blocks blocks.old) (B.blocks blocks.new)) }
+    ensures touches { OnOk result ((k : ℕ) (content : List ℕ) → IsFileAt (table inodes (B.blocks blocks.old)) k name.now content
+        → Touches (touched_by_write (length content) place (length octets.now)) (B.blocks blocks.old) (B.blocks blocks.new)) }
+    ensures format { OnOk result (AreWithin (most_octets format) inodes (B.blocks blocks.old) → AreWithin (most_octets format) inodes (B.blocks blocks.new)) }
     ensures not_found { IfErr result (λ e. e ≡ FsError.NotFound
         → (¬ (IsThere (table inodes (B.blocks blocks.old)) name.now)) × (blocks.new ≡ blocks.old)) }
     ensures full { IfErr result (λ e. e ≡ FsError.Full
         → (k : ℕ) × (content : List ℕ) × IsFileAt (table inodes (B.blocks blocks.old)) k name.now content
-        × HasNoRoomFor (B.blocks blocks.old) (length content) (place + length octets.now) × (blocks.new ≡ blocks.old)) }
+        × HasNoRoomFor format (B.blocks blocks.old) (length content) (place + length octets.now) × (blocks.new ≡ blocks.old)) }
     ensures no_other { IfErr result (λ e. (e ≢ FsError.Damaged) × (e ≢ FsError.Exists)) }
     ensures kept { B.applied blocks.new ≡ B.applied blocks.old }
 {
@@ -105,7 +111,7 @@ pub fn write_at<B: Blocks>(
         overwrite(blocks, inodes, at, place, octets)?;
         return Ok(());
     }
-    if !has_room_for(blocks, inodes, size, end) {
+    if !has_room_for(blocks, inodes, format, size, end) {
         return Err(FsError::Full);
     }
     let within = (size - place) as usize;
@@ -115,11 +121,12 @@ pub fn write_at<B: Blocks>(
 }
 
 /// Gives a file a size: it is cut off there, or extended with zeros. `NotFound` exactly if no file has the name, else
-/// `Full` exactly if the file would be too large or too few blocks are free; both change nothing. After `Memory` the
-/// caller must drop the stage.
+/// `Full` exactly if the file would be too large for the format or too few blocks are free; both change nothing. After
+/// `Memory` the caller must drop the stage.
 pub fn truncate<B: Blocks>(
     blocks: &mut B,
     inodes: u32,
+    format: u32,
     name: &[u8],
     size: u64,
 ) -> Result<(), FsError>
@@ -130,11 +137,12 @@ pub fn truncate<B: Blocks>(
         (λ content. take size content ++ replicate (size - length content) 0) (B.blocks blocks.old) (B.blocks blocks.new)) }
     ensures touches { OnOk result ((k : ℕ) (content : List ℕ) → IsFileAt (table inodes (B.blocks blocks.old)) k name.now content
         → Touches (touched_by_truncation (length content) size) (B.blocks blocks.old) (B.blocks blocks.new)) }
+    ensures format { OnOk result (AreWithin (most_octets format) inodes (B.blocks blocks.old) → AreWithin (most_octets format) inodes (B.blocks blocks.new)) }
     ensures not_found { IfErr result (λ e. e ≡ FsError.NotFound
         → (¬ (IsThere (table inodes (B.blocks blocks.old)) name.now)) × (blocks.new ≡ blocks.old)) }
     ensures full { IfErr result (λ e. e ≡ FsError.Full
         → (k : ℕ) × (content : List ℕ) × IsFileAt (table inodes (B.blocks blocks.old)) k name.now content
-        × HasNoRoomFor (B.blocks blocks.old) (length content) size × (blocks.new ≡ blocks.old)) }
+        × HasNoRoomFor format (B.blocks blocks.old) (length content) size × (blocks.new ≡ blocks.old)) }
     ensures no_other { IfErr result (λ e. (e ≢ FsError.Damaged) × (e ≢ FsError.Exists)) }
     ensures kept { B.applied blocks.new ≡ B.applied blocks.old }
 {
@@ -146,7 +154,7 @@ pub fn truncate<B: Blocks>(
         shrink_to(blocks, inodes, at, size)?;
         return Ok(());
     }
-    if !has_room_for(blocks, inodes, was, size) {
+    if !has_room_for(blocks, inodes, format, was, size) {
         return Err(FsError::Full);
     }
     extend_zeros(blocks, inodes, at, size - was)?;

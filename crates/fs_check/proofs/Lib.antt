@@ -5,3 +5,4 @@ pub mod Owning
 pub mod Pointers
 pub mod Slots
 pub mod Sound
+pub mod Wholes

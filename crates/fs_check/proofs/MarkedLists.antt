@@ -9,6 +9,7 @@ use Rattle.model.specs.Stream.{Octets}
 use Rattle.model.specs.Volume.{AreDistinct}
 use Rattle.volume.proofs.Index.{distinct_push}
 use Rattle.fs_layout.specs.Bits.{bit_of, SetsBit}
+use Rattle.fs_layout.proofs.Distinct.{distinct_apart, distinct_append, distinct_left, distinct_right}
 use Rattle.fs_check.specs.Checking.{CanMark, Marks}
 
 one_is : (x b : ℕ) → Contains (x ∷ []) b → b ≡ x
@@ -88,69 +89,54 @@ cannot_mark count numbers whole old mid marks more same x is refused can =
       | inr (i, low, there) ↦ can.distinct i (length numbers) low more (sym (same i low) ∙ get_or_default numbers i 0 x low ∙ there ∙ sym is)
     ]
 
--- ---- a block before others
+-- ---- some blocks, and then others
 
-distinct_cons : (x : ℕ) (xs : List ℕ) → ¬ (Contains xs x) → AreDistinct xs → AreDistinct (x ∷ xs)
-distinct_cons x xs other distinct zero zero less low = absurd (omega arith)
-distinct_cons x xs other distinct zero (suc j) less low = λ same. other (subst (λ (n : ℕ). Contains xs n) (sym same) (Contains-get_or xs j 0 (omega arith)))
-distinct_cons x xs other distinct (suc i) zero less low = absurd (omega arith)
-distinct_cons x xs other distinct (suc i) (suc j) less low = distinct i j (omega arith) (omega arith)
+pub cannot_left : (count : ℕ) (xs ys : List ℕ) (old : Octets) → ¬ (CanMark count xs old) → ¬ (CanMark count (xs ++ ys) old)
+cannot_left count xs ys old cannot can = cannot (record {
+  distinct = distinct_left xs ys can.distinct;
+  within = λ b has. can.within b (Contains-append_left xs ys b has);
+  clear = λ b has. can.clear b (Contains-append_left xs ys b has);
+})
 
-distinct_tail : (x : ℕ) (xs : List ℕ) → AreDistinct (x ∷ xs) → AreDistinct xs
-distinct_tail x xs distinct i j less low = distinct (suc i) (suc j) (omega arith) (omega arith)
-
-distinct_head : (x : ℕ) (xs : List ℕ) → AreDistinct (x ∷ xs) → ¬ (Contains xs x)
-distinct_head x xs distinct (i, low, is) = distinct 0 (suc i) (omega arith) (omega arith) (sym is ∙ get_or_default xs i x 0 low)
-
-module _ (count : ℕ) (x : ℕ) (xs : List ℕ) (old mid : Octets) (sets : SetsBit x true old mid) where
-  pub marks_cons : (new : Octets) → x < count → bit_of old x ≡ false → Marks count xs mid new → Marks count (x ∷ xs) old new
-  marks_cons new exists clear rest = record {
+module _ (count : ℕ) (xs ys : List ℕ) (old mid : Octets) (first : Marks count xs old mid) where
+  pub marks_append : (new : Octets) → Marks count ys mid new → Marks count (xs ++ ys) old new
+  marks_append new second = record {
     can = record {
-      distinct = distinct_cons x xs other rest.can.distinct;
-      within = λ b has. elim (Contains-append_cases (x ∷ []) xs b has) [
-        | inl first ↦ subst (λ (n : ℕ). n < count) (sym (one_is x b first)) exists
-        | inr later ↦ rest.can.within b later
-      ];
-      clear = λ b has. elim (Contains-append_cases (x ∷ []) xs b has) [
-        | inl first ↦ ap (λ (n : ℕ). bit_of old n) (one_is x b first) ∙ clear
-        | inr later ↦ sym (sets.other b (λ same. other (subst (λ (n : ℕ). Contains xs n) same later))) ∙ rest.can.clear b later
+      distinct = distinct_append xs ys first.can.distinct second.can.distinct (λ b one other. false≢true (sym (second.can.clear b other) ∙ (first.marked b).1 (inr one)));
+      within = λ b has. elim (Contains-append_cases xs ys b has) [ inl one ↦ first.can.within b one | inr other ↦ second.can.within b other ];
+      clear = λ b has. elim (Contains-append_cases xs ys b has) [
+        | inl one ↦ first.can.clear b one
+        | inr other ↦ false_from_ne_true (bit_of old b) (λ was. false≢true (sym (second.can.clear b other) ∙ (first.marked b).1 (inl was)))
       ];
     };
     marked = λ b. (
-      (λ set. elim ((rest.marked b).0 set) [
-        | inl halfway ↦ elim (cases_eq b x) [
-          | inl same ↦ inr (Contains-append_left (x ∷ []) xs b (subst (λ (n : ℕ). Contains (x ∷ []) n) (sym same) (contains_one x)))
-          | inr apart ↦ inl (sym (sets.other b apart) ∙ halfway)
-        ]
-        | inr later ↦ inr (Contains-append_right (x ∷ []) xs b later)
+      (λ set. elim ((second.marked b).0 set) [
+        | inl halfway ↦ elim ((first.marked b).0 halfway) [ inl was ↦ inl was | inr one ↦ inr (Contains-append_left xs ys b one) ]
+        | inr other ↦ inr (Contains-append_right xs ys b other)
       ]),
-      (λ either. (rest.marked b).1 (elim either [
-        | inl was ↦ inl (elim (cases_eq b x) [
-          | inl same ↦ ap (λ (n : ℕ). bit_of mid n) same ∙ sets.here
-          | inr apart ↦ sets.other b apart ∙ was
-        ])
-        | inr has ↦ elim (Contains-append_cases (x ∷ []) xs b has) [
-          | inl first ↦ inl (ap (λ (n : ℕ). bit_of mid n) (one_is x b first) ∙ sets.here)
-          | inr later ↦ inr later
-        ]
+      (λ either. (second.marked b).1 (elim either [
+        | inl was ↦ inl ((first.marked b).1 (inl was))
+        | inr has ↦ elim (Contains-append_cases xs ys b has) [ inl one ↦ inl ((first.marked b).1 (inr one)) | inr other ↦ inr other ]
       ])),
     );
   }
-    where
-      other : ¬ (Contains xs x)
-      other has = false≢true (sym (rest.can.clear x has) ∙ sets.here)
 
-  pub cannot_rest : ¬ (CanMark count xs mid) → ¬ (CanMark count (x ∷ xs) old)
-  cannot_rest cannot can = cannot (record {
-    distinct = distinct_tail x xs can.distinct;
-    within = λ b has. can.within b (Contains-append_right (x ∷ []) xs b has);
-    clear = λ b has. sets.other b (λ same. distinct_head x xs can.distinct (subst (λ (n : ℕ). Contains xs n) same has)) ∙ can.clear b (Contains-append_right (x ∷ []) xs b has);
+  pub cannot_right : ¬ (CanMark count ys mid) → ¬ (CanMark count (xs ++ ys) old)
+  cannot_right cannot can = cannot (record {
+    distinct = distinct_right xs ys can.distinct;
+    within = λ b has. can.within b (Contains-append_right xs ys b has);
+    clear = λ b has. false_from_ne_true (bit_of mid b) (λ set. elim ((first.marked b).0 set) [
+      | inl was ↦ false≢true (sym (can.clear b (Contains-append_right xs ys b has)) ∙ was)
+      | inr one ↦ distinct_apart xs ys can.distinct b one has
+    ]);
   })
 
-pub cannot_first : (count x : ℕ) (xs : List ℕ) (old : Octets) → (x < count → bit_of old x ≡ true) → ¬ (CanMark count (x ∷ xs) old)
-cannot_first count x xs old refused can =
-    let first : Contains (x ∷ xs) x = Contains-append_left (x ∷ []) xs x (contains_one x) in
-    false≢true (sym (can.clear x first) ∙ refused (can.within x first))
+-- one block alone
+pub marks_one : (count x : ℕ) (old new : Octets) → x < count → bit_of old x ≡ false → SetsBit x true old new → Marks count (x ∷ []) old new
+marks_one count x old new exists clear sets = marks_push count [] x old old new (marks_none count old) exists clear sets
+
+pub cannot_one : (count x : ℕ) (old : Octets) → (x < count → bit_of old x ≡ true) → ¬ (CanMark count (x ∷ []) old)
+cannot_one count x old refused can = false≢true (sym (can.clear x (contains_one x)) ∙ refused (can.within x (contains_one x)))
 
 -- ---- the values of a function, in turn
 

@@ -4,72 +4,27 @@ use Rattle.std.specs.List.{Contains, range_with_len}
 use Rattle.std.proofs.lemmas.Bool.{cases_lt, false≢true, false_from_ne_true, ne_eqb, eq-eqb}
 use Rattle.model.specs.Stream.{Octets}
 use Rattle.model.specs.Volume.{number_at, AreDistinct}
-use Rattle.model.specs.Files.{Entry, size, block_count, indirect_pointer, pointer, owned, entry, inode_of, indirect_of, first_data}
+use Rattle.model.specs.Files.{Entry, size, double_pointer, indirect_count, indirect_pointer, owned, entry, first_data}
 use Rattle.fs_layout.specs.Bits.{bit_of, SetsBit}
-use Rattle.fs_check.specs.Checking.{IsEntry, CanMark, Marks, HasOwners, IsUsedBelow, MarksUsed}
+use Rattle.fs_check.specs.Checking.{IsEntry, CanMark, HasNumber, Marks, HasOwners, IsUsedBelow, MarksUsed}
 use Rattle.fs_layout.proofs.Entries.{zero_number}
-use Rattle.fs_check.proofs.MarkedLists.{marks_cons, cannot_rest, cannot_first}
 
-pub entry_small : (first count : ℕ) (e : Entry) → IsEntry first count e → size e ≤ 4235264
+pub entry_small : (first count : ℕ) (e : Entry) → IsEntry first count e → size e ≤ 268435456
 entry_small first count e (inl free) = omega (arith, zero_number 4 8 e.inode free.inode_zeros)
 entry_small first count e (inr file) = omega (arith, file.0.small)
 
-map_same : (f g : ℕ → ℕ) (a n : ℕ) → ((i : ℕ) → a ≤ i → i < a + n → f i ≡ g i) → map f (range_with_len a n) ≡ map g (range_with_len a n)
-map_same f g a zero same = refl
-map_same f g a (suc n) same =
-    ap (λ (m : ℕ). m ∷ map f (range_with_len (a + 1) n)) (same a (omega arith) (omega arith))
-    ∙ ap (λ (l : List ℕ). g a ∷ l) (map_same f g (a + 1) n (λ i low high. same i (omega arith) (omega arith)))
+-- the blocks that an entry names can be read
+pub number_there : (first count place many n : ℕ) → 0 < first → HasNumber first count place many n → place < many → (n ≢ 0) × (n < count)
+number_there first count place many n some (inl there) low = ((λ none. absurd (omega (arith, some, none, there.1))), there.2)
+number_there first count place many n some (inr none) low = absurd (omega (arith, low, none.0))
 
--- the indirect block is marked, where there is one
-abbrev pub Begins : ℕ → ℕ → Octets → Octets → Type 0
-Begins count n old mid =
-    ((n ≡ 0) × (mid ≡ old)) ⊎ ((n ≢ 0) × (n < count) × (bit_of old n ≡ false) × SetsBit n true old mid)
+pub entry_double : (first count : ℕ) (e : Entry) → 0 < first → IsEntry first count e → 1 < indirect_count e → (double_pointer e ≢ 0) × (double_pointer e < count)
+entry_double first count e some (inl free) more = let none = zero_number 4 8 e.inode free.inode_zeros in absurd (omega (arith, none, more))
+entry_double first count e some (inr file) more = number_there first count 1 (indirect_count e) (double_pointer e) some file.1.double more
 
-module _ (inodes at : ℕ) (blocks : List Octets) (inode : Octets) (is : inode ≡ inode_of blocks at) where
-  abbrev e : Entry
-  e = entry inodes blocks at
-
-  abbrev rest : List ℕ
-  rest = map (λ i. pointer e i) (range_with_len 0 (block_count e))
-
-  pub owned_direct : number_at 52 4 inode ≡ 0 → owned e ≡ rest
-  owned_direct none =
-      let zero_is : indirect_pointer e ≡ 0 = ap (λ (o : Octets). number_at 52 4 o) (sym is) ∙ none in
-      ap (λ (b : Bool). cond b [] (indirect_pointer e ∷ []) ++ rest) (eq-eqb (indirect_pointer e) 0 zero_is)
-
-  pub owned_behind : (n : ℕ) → n ≡ number_at 52 4 inode → n ≢ 0 → owned e ≡ n ∷ rest
-  owned_behind n here some =
-      let same : indirect_pointer e ≡ n = ap (λ (o : Octets). number_at 52 4 o) (sym is) ∙ sym here in
-      ap (λ (b : Bool). cond b [] (indirect_pointer e ∷ []) ++ rest) (ne_eqb (indirect_pointer e) 0 (λ none. some (sym same ∙ none)))
-      ∙ ap (λ (m : ℕ). m ∷ rest) same
-
-  pub rest_is : (pointers : Octets) (some : ℕ) → ((i : ℕ) → i < 1034 → number_at (4 * i) 4 pointers ≡ pointer (record { inode = inode; slot = []; indirect = indirect_of blocks (number_at 52 4 inode) }) i) → some ≡ (number_at 4 8 inode + 4095) / 4096 → size e ≤ 4235264 → map (λ i. number_at (4 * i) 4 pointers) (range_with_len 0 some) ≡ rest
-  rest_is pointers some each many small =
-      let same : some ≡ block_count e = many ∙ ap (λ (o : Octets). (number_at 4 8 o + 4095) / 4096) is in
-      ap (λ (m : ℕ). map (λ i. number_at (4 * i) 4 pointers) (range_with_len 0 m)) same
-      ∙ map_same (λ i. number_at (4 * i) 4 pointers) (λ i. pointer e i) 0 (block_count e) (λ i low high.
-      each i (omega arith)
-      ∙ ap (λ (o : Octets). pointer (record { inode = o; slot = []; indirect = indirect_of blocks (number_at 52 4 o) }) i) is)
-
-  pub marks_entry : (count n : ℕ) (old mid new : Octets) → n ≡ number_at 52 4 inode → Begins count n old mid → Marks count rest mid new → Marks count (owned e) old new
-  marks_entry count n old mid new here begins marks = elim begins [
-    | inl none ↦
-        subst (λ (l : List ℕ). Marks count l old new) (sym (owned_direct (sym here ∙ none.0)))
-        (subst (λ (o : Octets). Marks count rest o new) none.1 marks)
-    | inr some ↦
-        subst (λ (l : List ℕ). Marks count l old new) (sym (owned_behind n here some.0))
-        (marks_cons count n rest old mid some.3 new some.1 some.2 marks)
-  ]
-
-  pub cannot_entry : (count n : ℕ) (old mid : Octets) → n ≡ number_at 52 4 inode → Begins count n old mid → ¬ (CanMark count rest mid) → ¬ (CanMark count (owned e) old)
-  cannot_entry count n old mid here begins cannot can = elim begins [
-    | inl none ↦ cannot (subst (λ (o : Octets). CanMark count rest o) (sym none.1) (subst (λ (l : List ℕ). CanMark count l old) (owned_direct (sym here ∙ none.0)) can))
-    | inr some ↦ cannot_rest count n rest old mid some.3 cannot (subst (λ (l : List ℕ). CanMark count l old) (owned_behind n here some.0) can)
-  ]
-
-  pub cannot_indirect : (count n : ℕ) (old : Octets) → n ≡ number_at 52 4 inode → n ≢ 0 → (n < count → bit_of old n ≡ true) → ¬ (CanMark count (owned e) old)
-  cannot_indirect count n old here some refused can =
-      cannot_first count n rest old refused (subst (λ (l : List ℕ). CanMark count l old) (owned_behind n here some) can)
+pub entry_table : (first count : ℕ) (e : Entry) → 0 < first → IsEntry first count e → (p : ℕ) → p < indirect_count e → (indirect_pointer e p ≢ 0) × (indirect_pointer e p < count)
+entry_table first count e some (inl free) p less = let none = zero_number 4 8 e.inode free.inode_zeros in absurd (omega (arith, none, less))
+entry_table first count e some (inr file) p less = number_there first count p (indirect_count e) (indirect_pointer e p) some (file.1.tables p) less
 
 -- ---- one entry more
 

@@ -2,17 +2,23 @@
 use Rattle.std.proofs.Common.{◌≡◌, inl, inr, ◌<◌, ℕ, List, length, sym, ◌∙◌}
 use Rattle.std.proofs.lemmas.Bool.Decides.{same_from_decides}
 use Rattle.model.specs.Stream.{Octets}
-use Rattle.model.specs.Files.{indirect_pointer, entry, first_data, is_marked_used, IsFileSystem}
+use Rattle.model.specs.Files.{double_pointer, indirect_pointer, entry, first_data, is_marked_used, IsFileSystem}
 use Rattle.fs_layout.specs.Bits.{bit_of}
 use Rattle.fs_check.specs.Checking.{IsEntry, HasOwners, MarksUsed, HasDistinctNames}
-use Rattle.fs_layout.proofs.Entries.{owns_indirect}
+use Rattle.fs_layout.proofs.Entries.{owns_double, owns_indirect}
+use Rattle.fs_check.proofs.Deciding.{can_read}
 
 module _ (inodes : ℕ) (blocks : List Octets) where
   module _ (fs : IsFileSystem inodes blocks) where
     pub entries_from_rule : (k : ℕ) → k < inodes → IsEntry (first_data inodes) (length blocks) (entry inodes blocks k)
     entries_from_rule k low = elim (fs.each k low) [
       | inl free ↦ inl free
-      | inr file ↦ inr (file, (λ some. fs.within k (indirect_pointer (entry inodes blocks k)) low (owns_indirect (entry inodes blocks k) some)))
+      | inr file ↦ inr (
+        file,
+        can_read (first_data inodes) (length blocks) (entry inodes blocks k) file
+            (λ some. fs.within k (double_pointer (entry inodes blocks k)) low (owns_double (entry inodes blocks k) some))
+            (λ p less. fs.within k (indirect_pointer (entry inodes blocks k) p) low (owns_indirect (entry inodes blocks k) p less)),
+      )
     ]
 
     pub owners_from_rule : HasOwners inodes inodes blocks

@@ -1,8 +1,8 @@
 -- What the passes of the check decide.
-use Rattle.std.specs.Prelude.{◌≡◌, ◌≢◌, ◌⊎◌, ◌<◌, ◌≤◌, ◌↔◌, ℕ, false, List, length, Contains, IsTrue}
+use Rattle.std.specs.Prelude.{◌≡◌, ◌≢◌, ◌⊎◌, ◌<◌, ◌≤◌, ◌↔◌, ℕ, ◌==◌, if◌then◌else◌, false, List, length, Contains, IsTrue}
 use Rattle.model.specs.Stream.{Octets}
 use Rattle.model.specs.Volume.{number_at, AreDistinct}
-use Rattle.model.specs.Files.{Entry, IsFile, IsFree, size, block_count, indirect_pointer, pointer, owned, name_in, slot_octets, entry, slot_of, first_data}
+use Rattle.model.specs.Files.{Entry, IsFile, IsFree, size, block_count, double_pointer, indirect_count, indirect_pointer, pointer, owned, name_in, slot_octets, entry, slot_of, first_data}
 use Rattle.fs_layout.specs.Bits.{bit_of}
 
 -- a slot with a name
@@ -11,24 +11,41 @@ pub record IsSlot (slot : Octets) : Type 0 where
   pub name_few : length (name_in slot) ≤ 63
   pub slot_is : slot ≡ slot_octets (name_in slot)
 
--- the indirect block, if there is one, lies within the data
-abbrev pub HasIndirectWithin : ℕ → ℕ → Entry → Type 0
-HasIndirectWithin first count e = indirect_pointer e ≢ 0 → (first ≤ indirect_pointer e) × (indirect_pointer e < count)
+-- the octets of the largest file in a volume of this format
+abbrev pub most_octets : ℕ → ℕ
+most_octets format = if format == 1 then 4235264 else 268435456
 
--- the inode and the pointers of a file
-pub record HasPointers (first count : ℕ) (e : Entry) : Type 0 where
-  pub small : size e ≤ 4235264
-  pub spare : number_at 56 8 e.inode ≡ 0
-  pub indirect_where : (10 < block_count e) ↔ (indirect_pointer e ≢ 0)
-  pub indirect_within : HasIndirectWithin first count e
-  pub no_other_pointer : (i : ℕ) → block_count e ≤ i → i < 1034 → pointer e i ≡ 0
+-- the number at a place: that of a block within the data if the place is one of the first `many`, or else 0
+abbrev pub HasNumber : ℕ → ℕ → ℕ → ℕ → ℕ → Type 0
+HasNumber first count place many number = ((place < many) × (first ≤ number) × (number < count)) ⊎ ((many ≤ place) × (number ≡ 0))
 
--- a free entry, or one of a file, whose pointers can be read
+-- exactly this many blocks of pointers, all within the data
+abbrev pub HasTables : ℕ → ℕ → ℕ → Entry → Type 0
+HasTables first count tables e = (p : ℕ) → HasNumber first count p tables (indirect_pointer e p)
+
+-- the inode and the pointers of a file of at most `most` octets
+pub record HasPointers (most first count : ℕ) (e : Entry) : Type 0 where
+  pub small : size e ≤ most
+  pub spare : number_at 60 4 e.inode ≡ 0
+  pub double : HasNumber first count 1 (indirect_count e) (double_pointer e)
+  pub tables : HasTables first count (indirect_count e) e
+  pub no_other_pointer : (i : ℕ) → block_count e ≤ i → pointer e i ≡ 0
+
+-- the pointers of a file can be read
+pub record CanRead (first count : ℕ) (e : Entry) : Type 0 where
+  pub double : HasNumber first count 1 (indirect_count e) (double_pointer e)
+  pub tables : HasTables first count (indirect_count e) e
+
+-- a free entry, or that of a file whose pointers can be read
 abbrev pub IsEntry : ℕ → ℕ → Entry → Type 0
-IsEntry first count e = IsFree e ⊎ (IsFile e × HasIndirectWithin first count e)
+IsEntry first count e = IsFree e ⊎ (IsFile e × CanRead first count e)
 
 abbrev pub HasEntry : ℕ → List Octets → ℕ → Type 0
 HasEntry inodes blocks k = IsEntry (first_data inodes) (length blocks) (entry inodes blocks k)
+
+-- such an entry, of a file of at most `most` octets if it is not free
+abbrev pub HasSmallEntry : ℕ → ℕ → List Octets → ℕ → Type 0
+HasSmallEntry most inodes blocks k = HasEntry inodes blocks k × (size (entry inodes blocks k) ≤ most)
 
 -- ---- owners
 

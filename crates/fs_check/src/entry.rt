@@ -1,32 +1,31 @@
 //! Checks whether an entry is free, or a file.
 
-ghost use Rattle.std.specs.Prelude.{◌≡◌, ◌≢◌, ℕ, ◌+◌, ◌*◌, ◌/◌, ◌<◌, ◌≤◌, ◌↔◌, [], length, IsTrue};
+ghost use Rattle.std.specs.Prelude.{◌≡◌, ◌⊎◌, ℕ, ◌-◌, ◌/◌, ◌<◌, ◌≤◌, ◌↔◌, [], length, IsTrue};
 ghost use Rattle.std.specs.List.{All};
 ghost use Rattle.model.specs.Volume.{number_at};
-ghost use Rattle.model.specs.Files.{HasRoom, pointer, first_data, indirect_of};
-ghost use Rattle.fs_check.specs.Checking.{IsSlot, HasPointers, HasEntry};
+ghost use Rattle.model.specs.Files.{HasRoom, entry_of, indirect_for, indirect_pointer, pointer, first_data};
+ghost use Rattle.fs_layout.specs.Blocks.{IsThere};
+ghost use Rattle.fs_check.specs.Checking.{IsSlot, HasNumber, HasTables, HasPointers, HasSmallEntry, most_octets};
 
 use fs_layout::inodes::{
-    DIRECT_POINTERS, INDIRECT_AT, INODES_AT, MOST_BLOCKS, MOST_OCTETS, POINTERS_AT, SIZE_AT,
-    SPARE_AT,
+    BLOCK_POINTERS, DIRECT_POINTERS, DOUBLE_AT, INODES_AT, SIZE_AT, SPARE_AT, content_blocks,
+    indirect_at, most_octets, pointer_at,
 };
 use fs_layout::numbers::{number32, number64};
-use fs_layout::records::{RECORD_SIZE, get_record, put_part};
+use fs_layout::records::{RECORD_SIZE, get_record};
 use fs_layout::slots::{NAME_MAX, slot_for};
-use volume::{BLOCK_SIZE, Blocks};
+use volume::Blocks;
 
 const FREE_KIND: u32 = 0;
 
 const FILE_KIND: u32 = 1;
 
-/// The octets of all pointers of a file.
-const POINTERS_SIZE: usize = 4136;
-
-// Whether the entry of an inode is free, or a file whose indirect block lies within the data.
-pub fn is_entry<B: Blocks>(blocks: &B, inodes: u32, at: u32) -> bool
+// Whether the entry of an inode is free, or a file that is not too large for the format and whose double-indirect block
+// and blocks of pointers lie within the data.
+pub fn is_entry<B: Blocks>(blocks: &B, inodes: u32, format: u32, at: u32) -> bool
     requires room { HasRoom inodes (B.blocks blocks.now) }
     requires below { at < inodes }
-    ensures { IsTrue result ↔ HasEntry inodes (B.blocks blocks.now) at }
+    ensures { IsTrue result ↔ HasSmallEntry (most_octets format) inodes (B.blocks blocks.now) at }
 {
     let mut inode = [0; RECORD_SIZE];
     let mut slot = [0; RECORD_SIZE];
@@ -34,7 +33,7 @@ pub fn is_entry<B: Blocks>(blocks: &B, inodes: u32, at: u32) -> bool
     get_record(blocks, INODES_AT + inodes / 64, at, &mut slot);
     match number32(&inode, 0) {
         FREE_KIND => are_zeros(&inode) && are_zeros(&slot),
-        FILE_KIND => is_slot(&slot) && has_pointers(blocks, inodes, &inode),
+        FILE_KIND => is_slot(&slot) && has_pointers(blocks, inodes, format, &inode),
         _ => false,
     }
 }
@@ -45,14 +44,6 @@ pub fn data_start(inodes: u32) -> u32
     ensures { result ≡ first_data inodes }
 {
     INODES_AT + 2 * (inodes / 64)
-}
-
-// The number of blocks that content of this many octets takes.
-pub fn block_count(size: u64) -> usize
-    requires { size ≤ 4235264 }
-    ensures { result ≡ (size + 4095) / 4096 }
-{
-    (size as usize).div_ceil(BLOCK_SIZE)
 }
 
 // Whether all octets are zero.
@@ -76,68 +67,105 @@ fn is_slot(slot: &[u8]) -> bool
     slot == whole.as_slice()
 }
 
-// Whether the octets of an inode and its indirect block are those of a file.
-fn has_pointers<B: Blocks>(blocks: &B, inodes: u32, inode: &[u8]) -> bool
+// Whether the octets of an inode and of the blocks that name its blocks are those of a file that is not too large for
+// the format.
+fn has_pointers<B: Blocks>(blocks: &B, inodes: u32, format: u32, inode: &[u8]) -> bool
     requires room { HasRoom inodes (B.blocks blocks.now) }
     requires whole { length inode.now ≡ 64 }
-    ensures { IsTrue result ↔ HasPointers (first_data inodes) (length (B.blocks blocks.now))
-        (record { inode = inode.now; slot = []; indirect = indirect_of (B.blocks blocks.now) (number_at 52 4 inode.now) }) }
+    ensures { IsTrue result ↔ HasPointers (most_octets format) (first_data inodes) (length (B.blocks blocks.now)) (entry_of (B.blocks blocks.now) inode.now []) }
 {
     let size = number64(inode, SIZE_AT);
-    let indirect = number32(inode, INDIRECT_AT);
-    if size > MOST_OCTETS || number64(inode, SPARE_AT) > 0 {
+    if size > most_octets(format) || number32(inode, SPARE_AT) > 0 {
         return false;
     }
-    let count = block_count(size);
-    if (count > DIRECT_POINTERS as usize) != (indirect > 0) {
+    let count = content_blocks(size);
+    let tables = tables_for(count);
+    if !has_double(blocks, inodes, inode, tables) || !has_tables(blocks, inodes, inode, tables) {
         return false;
     }
-    if indirect > 0 && (indirect < data_start(inodes) || indirect >= blocks.len()) {
-        return false;
-    }
-    ends_at(blocks, inode, count)
+    ends_at(blocks, inodes, inode, count)
 }
 
-// The pointers of an inode, and after them those in its indirect block, or zeros.
-pub fn pointers_of<B: Blocks>(blocks: &B, inode: &[u8]) -> [u8; POINTERS_SIZE]
-    requires whole { length inode.now ≡ 64 }
-    requires there { number_at 52 4 inode.now ≢ 0 → number_at 52 4 inode.now < length (B.blocks blocks.now) }
-    ensures { (i : ℕ) → i < 1034 → number_at (4 * i) 4 result
-        ≡ pointer (record { inode = inode.now; slot = []; indirect = indirect_of (B.blocks blocks.now) (number_at 52 4 inode.now) }) i }
+// The number of blocks of pointers of a file whose octets take this many blocks.
+pub fn tables_for(count: u32) -> u32
+    requires { count ≤ 65536 }
+    ensures { result ≡ indirect_for count }
 {
-    let mut pointers = [0; POINTERS_SIZE];
-    put_part(&mut pointers, 0, &inode[POINTERS_AT..INDIRECT_AT]);
-    let indirect = number32(inode, INDIRECT_AT);
-    if indirect > 0 {
-        let mut block = [0; BLOCK_SIZE];
-        blocks.get(indirect, &mut block);
-        put_part(&mut pointers, INDIRECT_AT - POINTERS_AT, &block);
+    (count + BLOCK_POINTERS - 1 - DIRECT_POINTERS) / BLOCK_POINTERS
+}
+
+// Whether a block lies within the data.
+fn is_within<B: Blocks>(blocks: &B, inodes: u32, number: u32) -> bool
+    requires room { HasRoom inodes (B.blocks blocks.now) }
+    ensures { IsTrue result ↔ ((first_data inodes ≤ number) × (number < length (B.blocks blocks.now))) }
+{
+    data_start(inodes) <= number && number < blocks.len()
+}
+
+// Whether an inode has a double-indirect block within the data if it has more than one block of pointers, or else none.
+fn has_double<B: Blocks>(blocks: &B, inodes: u32, inode: &[u8], tables: u32) -> bool
+    requires room { HasRoom inodes (B.blocks blocks.now) }
+    requires whole { length inode.now ≡ 64 }
+    ensures { IsTrue result ↔ HasNumber (first_data inodes) (length (B.blocks blocks.now)) 1 tables (number_at 56 4 inode.now) }
+{
+    let double = number32(inode, DOUBLE_AT);
+    if 1 < tables {
+        return is_within(blocks, inodes, double);
     }
-    pointers
+    double == 0
+}
+
+// The number of places for blocks of pointers in an inode that has this many of them: the first, and those in its
+// double-indirect block if it has one.
+fn table_places(tables: u32) -> u32
+    ensures { ((1 < tables) × (result ≡ 1025)) ⊎ ((tables ≤ 1) × (result ≡ 1)) }
+{
+    if 1 < tables { BLOCK_POINTERS + 1 } else { 1 }
+}
+
+// Whether an inode has exactly this many blocks of pointers, all within the data.
+fn has_tables<B: Blocks>(blocks: &B, inodes: u32, inode: &[u8], tables: u32) -> bool
+    requires room { HasRoom inodes (B.blocks blocks.now) }
+    requires whole { length inode.now ≡ 64 }
+    requires few { tables ≤ 64 }
+    requires double { HasNumber (first_data inodes) (length (B.blocks blocks.now)) 1 tables (number_at 56 4 inode.now) }
+    ensures { IsTrue result ↔ HasTables (first_data inodes) (length (B.blocks blocks.now)) tables (entry_of (B.blocks blocks.now) inode.now []) }
+{
+    for p in 0..table_places(tables) {
+        if !has_table(blocks, inodes, inode, tables, p) {
+            return false;
+        }
+    }
+    true
+}
+
+// Whether an inode has a p-th block of pointers within the data if p is below `tables`, or else none.
+fn has_table<B: Blocks>(blocks: &B, inodes: u32, inode: &[u8], tables: u32, p: u32) -> bool
+    requires room { HasRoom inodes (B.blocks blocks.now) }
+    requires whole { length inode.now ≡ 64 }
+    requires few { p < 1025 }
+    requires double { 0 < p → IsThere (number_at 56 4 inode.now) (B.blocks blocks.now) }
+    ensures { IsTrue result ↔ HasNumber (first_data inodes) (length (B.blocks blocks.now)) p tables (indirect_pointer (entry_of (B.blocks blocks.now) inode.now []) p) }
+{
+    let number = indirect_at(blocks, inode, p);
+    if p < tables {
+        return is_within(blocks, inodes, number);
+    }
+    number == 0
 }
 
 // Whether an inode has no pointer from a place on.
-fn ends_at<B: Blocks>(blocks: &B, inode: &[u8], from: usize) -> bool
+fn ends_at<B: Blocks>(blocks: &B, inodes: u32, inode: &[u8], from: u32) -> bool
+    requires room { HasRoom inodes (B.blocks blocks.now) }
     requires whole { length inode.now ≡ 64 }
-    requires there { number_at 52 4 inode.now ≢ 0 → number_at 52 4 inode.now < length (B.blocks blocks.now) }
-    ensures { IsTrue result ↔ ((i : ℕ) → from ≤ i → i < 1034
-        → pointer (record { inode = inode.now; slot = []; indirect = indirect_of (B.blocks blocks.now) (number_at 52 4 inode.now) }) i ≡ 0) }
+    requires few { from ≤ 65536 }
+    requires double { HasNumber (first_data inodes) (length (B.blocks blocks.now)) 1 (indirect_for from) (number_at 56 4 inode.now) }
+    requires tables { HasTables (first_data inodes) (length (B.blocks blocks.now)) (indirect_for from) (entry_of (B.blocks blocks.now) inode.now []) }
+    ensures { IsTrue result ↔ ((i : ℕ) → from ≤ i → pointer (entry_of (B.blocks blocks.now) inode.now []) i ≡ 0) }
 {
-    let end = if number32(inode, INDIRECT_AT) > 0 {
-        MOST_BLOCKS as usize
-    } else {
-        DIRECT_POINTERS as usize
-    };
-    are_clear(&pointers_of(blocks, inode), from, end)
-}
-
-// Whether the pointers from one place to another are zero.
-fn are_clear(pointers: &[u8], from: usize, to: usize) -> bool
-    requires { 4 * to ≤ length pointers.now }
-    ensures { IsTrue result ↔ ((i : ℕ) → from ≤ i → i < to → number_at (4 * i) 4 pointers.now ≡ 0) }
-{
-    for i in from..to {
-        if number32(pointers, 4 * i) > 0 {
+    let end = DIRECT_POINTERS + BLOCK_POINTERS * tables_for(from);
+    for i in from..end {
+        if pointer_at(blocks, inode, i) > 0 {
             return false;
         }
     }

@@ -2,8 +2,8 @@
 #![tactic(auto)]
 
 ghost use Rattle.std.specs.Prelude.{◌≡◌, ◌⊎◌, ℕ, ◌<◌, ◌↔◌, IfErr, IfOk, IsTrue};
-ghost use Rattle.model.specs.Files.{HasRoom, IsFileSystem, entry};
-ghost use Rattle.fs_check.specs.Checking.{HasEntry, HasDistinctNames};
+ghost use Rattle.model.specs.Files.{AreWithin, HasRoom, IsFileSystem};
+ghost use Rattle.fs_check.specs.Checking.{HasEntry, HasSmallEntry, HasDistinctNames, most_octets};
 
 use crate::entry::{data_start, is_entry};
 use crate::marks::{is_bitmap, mark_owners};
@@ -21,15 +21,16 @@ mod marks;
 /// The octets of the bitmap.
 const BITMAP_SIZE: usize = 8192;
 
-/// Checks the rule of blocks, whatever the blocks contain, and changes nothing. `Damaged` exactly if the rule is
-/// broken. `Memory` if there is no room to gather the names.
-pub fn check<B: Blocks>(alloc: Global, blocks: &B, inodes: u32) -> Result<(), FsError>
+/// Checks the rule of blocks, whatever the blocks contain, and that no file is too large for the format. Changes
+/// nothing. `Damaged` exactly if the rule is broken or a file is too large. `Memory` if there is no room to gather the
+/// names.
+pub fn check<B: Blocks>(alloc: Global, blocks: &B, inodes: u32, format: u32) -> Result<(), FsError>
     requires room { HasRoom inodes (B.blocks blocks.now) }
-    ensures sound { IfOk result (λ _. IsFileSystem inodes (B.blocks blocks.now)) }
-    ensures damaged { IfErr result (λ e. e ≡ FsError.Damaged → ¬ (IsFileSystem inodes (B.blocks blocks.now))) }
+    ensures sound { IfOk result (λ _. IsFileSystem inodes (B.blocks blocks.now) × AreWithin (most_octets format) inodes (B.blocks blocks.now)) }
+    ensures damaged { IfErr result (λ e. e ≡ FsError.Damaged → ¬ (IsFileSystem inodes (B.blocks blocks.now) × AreWithin (most_octets format) inodes (B.blocks blocks.now))) }
     ensures no_other { IfErr result (λ e. (e ≡ FsError.Memory) ⊎ (e ≡ FsError.Damaged)) }
 {
-    if !are_entries(blocks, inodes) {
+    if !are_entries(blocks, inodes, format) {
         return Err(FsError::Damaged);
     }
     let mut marks = [0; BITMAP_SIZE];
@@ -44,12 +45,12 @@ pub fn check<B: Blocks>(alloc: Global, blocks: &B, inodes: u32) -> Result<(), Fs
 }
 
 // Whether each entry is free or a file.
-fn are_entries<B: Blocks>(blocks: &B, inodes: u32) -> bool
+fn are_entries<B: Blocks>(blocks: &B, inodes: u32, format: u32) -> bool
     requires { HasRoom inodes (B.blocks blocks.now) }
-    ensures { IsTrue result ↔ ((k : ℕ) → k < inodes → HasEntry inodes (B.blocks blocks.now) k) }
+    ensures { IsTrue result ↔ ((k : ℕ) → k < inodes → HasSmallEntry (most_octets format) inodes (B.blocks blocks.now) k) }
 {
     for at in 0..inodes {
-        if !is_entry(blocks, inodes, at) {
+        if !is_entry(blocks, inodes, format, at) {
             return false;
         }
     }

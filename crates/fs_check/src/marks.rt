@@ -1,16 +1,17 @@
 //! The blocks in use, marked one after the other in a bitmap.
 
-ghost use Rattle.std.specs.Prelude.{◌≡◌, ℕ, ◌*◌, ◌<◌, ◌≤◌, ◌↔◌, true, false, length, map, IsTrue};
+ghost use Rattle.std.specs.Prelude.{◌≡◌, ℕ, ◌<◌, ◌≤◌, ◌↔◌, ◌==◌, if◌then◌else◌, true, false, [], ◌∷◌, length, map, IsTrue};
 ghost use Rattle.std.specs.List.{range_with_len};
 ghost use Rattle.std.specs.Bool.{OnTrue, OnFalse};
 ghost use Rattle.model.specs.Volume.{number_at};
-ghost use Rattle.model.specs.Files.{HasRoom, entry, owned, first_data, is_marked_used};
+ghost use Rattle.model.specs.Files.{HasRoom, entry, entry_of, indirect_for, indirect_pointer, owned, pointer, first_data, is_marked_used};
+ghost use Rattle.fs_layout.specs.Blocks.{IsThere};
 ghost use Rattle.fs_layout.specs.Bits.{bit_of, SetsBit, IsFront};
 ghost use Rattle.fs_check.specs.Checking.{HasEntry, CanMark, Marks, HasOwners, MarksUsed};
 
-use crate::entry::{block_count, pointers_of};
+use crate::entry::tables_for;
 use fs_layout::bits::{is_set, set};
-use fs_layout::inodes::{INDIRECT_AT, INODES_AT, SIZE_AT};
+use fs_layout::inodes::{DOUBLE_AT, INODES_AT, SIZE_AT, content_blocks, indirect_at, pointer_at};
 use fs_layout::numbers::{number32, number64};
 use fs_layout::records::{RECORD_SIZE, get_record};
 use volume::{BLOCK_SIZE, Blocks};
@@ -43,29 +44,60 @@ fn mark_owned<B: Blocks>(blocks: &B, inodes: u32, at: u32, marks: &mut [u8]) -> 
 {
     let mut inode = [0; RECORD_SIZE];
     get_record(blocks, INODES_AT, at, &mut inode);
-    let indirect = number32(&inode, INDIRECT_AT);
-    if indirect > 0 && !mark(marks, blocks.len(), indirect) {
+    let count = content_blocks(number64(&inode, SIZE_AT));
+    if !mark_double(marks, blocks.len(), number32(&inode, DOUBLE_AT)) {
         return false;
     }
-    let pointers = pointers_of(blocks, &inode);
-    mark_all(
-        marks,
-        blocks.len(),
-        &pointers,
-        block_count(number64(&inode, SIZE_AT)),
-    )
+    if !mark_tables(blocks, &inode, tables_for(count), marks) {
+        return false;
+    }
+    mark_pointers(blocks, &inode, count, marks)
 }
 
-// Marks the blocks of the first `some` pointers.
-fn mark_all(marks: &mut [u8], count: u32, pointers: &[u8], some: usize) -> bool
+// Marks a double-indirect block, if there is one.
+fn mark_double(marks: &mut [u8], count: u32, double: u32) -> bool
     requires whole { length marks.old ≡ 8192 }
     requires few { count ≤ 65536 }
-    requires there { 4 * some ≤ length pointers.now }
-    ensures marked { OnTrue result (Marks count (map (λ i. number_at (4 * i) 4 pointers.now) (range_with_len 0 some)) marks.old marks.new) }
-    ensures refused { OnFalse result (¬ (CanMark count (map (λ i. number_at (4 * i) 4 pointers.now) (range_with_len 0 some)) marks.old)) }
+    ensures marked { OnTrue result (Marks count (if double == 0 then [] else double ∷ []) marks.old marks.new) }
+    ensures refused { OnFalse result (¬ (CanMark count (if double == 0 then [] else double ∷ []) marks.old)) }
 {
-    for i in 0..some {
-        if !mark(marks, count, number32(pointers, 4 * i)) {
+    if double == 0 {
+        return true;
+    }
+    mark(marks, count, double)
+}
+
+// Marks the first `tables` blocks of pointers of an inode.
+fn mark_tables<B: Blocks>(blocks: &B, inode: &[u8], tables: u32, marks: &mut [u8]) -> bool
+    requires few_blocks { length (B.blocks blocks.now) ≤ 65536 }
+    requires size { length inode.now ≡ 64 }
+    requires few { tables ≤ 1025 }
+    requires double { 1 < tables → IsThere (number_at 56 4 inode.now) (B.blocks blocks.now) }
+    requires whole { length marks.old ≡ 8192 }
+    ensures marked { OnTrue result (Marks (length (B.blocks blocks.now)) (map (λ p. indirect_pointer (entry_of (B.blocks blocks.now) inode.now []) p) (range_with_len 0 tables)) marks.old marks.new) }
+    ensures refused { OnFalse result (¬ (CanMark (length (B.blocks blocks.now)) (map (λ p. indirect_pointer (entry_of (B.blocks blocks.now) inode.now []) p) (range_with_len 0 tables)) marks.old)) }
+{
+    for p in 0..tables {
+        if !mark(marks, blocks.len(), indirect_at(blocks, inode, p)) {
+            return false;
+        }
+    }
+    true
+}
+
+// Marks the first `count` blocks of a file's octets.
+fn mark_pointers<B: Blocks>(blocks: &B, inode: &[u8], count: u32, marks: &mut [u8]) -> bool
+    requires few_blocks { length (B.blocks blocks.now) ≤ 65536 }
+    requires size { length inode.now ≡ 64 }
+    requires few { count ≤ 65536 }
+    requires double { 1 < indirect_for count → IsThere (number_at 56 4 inode.now) (B.blocks blocks.now) }
+    requires tables { (p : ℕ) → p < indirect_for count → IsThere (indirect_pointer (entry_of (B.blocks blocks.now) inode.now []) p) (B.blocks blocks.now) }
+    requires whole { length marks.old ≡ 8192 }
+    ensures marked { OnTrue result (Marks (length (B.blocks blocks.now)) (map (λ i. pointer (entry_of (B.blocks blocks.now) inode.now []) i) (range_with_len 0 count)) marks.old marks.new) }
+    ensures refused { OnFalse result (¬ (CanMark (length (B.blocks blocks.now)) (map (λ i. pointer (entry_of (B.blocks blocks.now) inode.now []) i) (range_with_len 0 count)) marks.old)) }
+{
+    for i in 0..count {
+        if !mark(marks, blocks.len(), pointer_at(blocks, inode, i)) {
             return false;
         }
     }

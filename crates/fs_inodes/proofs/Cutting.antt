@@ -1,17 +1,20 @@
 -- A file that is cut in its last block.
-use Rattle.std.proofs.Common.{◌≡◌, ◌⊎◌, inl, inr, ◌<◌, ◌≤◌, ℕ, ◌+◌, ◌-◌, ◌*◌, ◌/◌, cond, eqb, ltb, List, [], ◌∷◌, ◌++◌, length, get_or, map, take, sym, ◌∙◌, ap, subst, arith}
+use Rattle.std.proofs.Common.{◌≡◌, ◌⊎◌, inl, inr, ◌<◌, ◌≤◌, ℕ, ◌+◌, ◌-◌, ◌*◌, ◌/◌, ◌%◌, cond, eqb, ltb, List, [], ◌∷◌, ◌++◌, length, get_or, map, take, refl, sym, ◌∙◌, ap, subst, arith}
 use Rattle.std.specs.List.{All, Contains, range_with_len}
 use Rattle.byteorder.specs.Endian.{little_bytes}
 use Rattle.disk.specs.Image.{overwritten}
 use Rattle.volume_format.proofs.Numbers.{number_at_apart, number_at_written}
 use Rattle.model.specs.Stream.{Octets}
 use Rattle.model.specs.Volume.{number_at}
-use Rattle.model.specs.Files.{Entry, HasRoom, IsFile, size, block_count, pointer, owned, indirect_pointer, content_of, entry, inode_of, slot_of, indirect_of, IsFileSystem}
+use Rattle.model.specs.Files.{Entry, HasRoom, IsFile, size, block_count, pointer, owned, double_blocks, double_pointer, indirect_count, indirect_for, indirect_pointer, content_of, entry, entry_of, inode_of, slot_of, indirect_of, IsFileSystem}
 use Rattle.fs_layout.specs.Blocks.{PutsRecord}
 use Rattle.fs_inodes.specs.Changes.{ReplacesContent, SameMarks}
-use Rattle.fs_layout.proofs.Entries.{owns_pointer, owns_indirect}
-use Rattle.fs_inodes.proofs.Fields.{length-inode, map_same, same_indirect, content_front}
-use Rattle.fs_layout.proofs.Keeps.{PutsEntry, puts_inode, inode_keeps_marks, same_entry}
+use Rattle.fs_layout.specs.Touches.{TouchesInode, double_of, table_of}
+use Rattle.fs_layout.proofs.Entries.{owns_double, owns_pointer, owns_indirect}
+use Rattle.fs_inodes.specs.Growing.{tables_to}
+use Rattle.fs_inodes.proofs.Owned.{owned_to}
+use Rattle.fs_inodes.proofs.Fields.{length-inode, map_same, content_front}
+use Rattle.fs_layout.proofs.Keeps.{PutsEntry, indirect_same, puts_inode, inode_keeps_marks, same_entry}
 use Rattle.fs_inodes.proofs.Replacing.{rule_keeps, replaces}
 
 module _ (inodes k end : ℕ) (old new : List Octets) (room : HasRoom inodes old) (fs : IsFileSystem inodes old) (low : k < inodes) (file : IsFile (entry inodes old k)) (shorter : end ≤ size (entry inodes old k)) (same_count : (end + 4095) / 4096 ≡ block_count (entry inodes old k)) (put : PutsRecord 2 k (overwritten 4 (little_bytes 8 end) (inode_of old k)) old new) where
@@ -22,7 +25,7 @@ module _ (inodes k end : ℕ) (old new : List Octets) (room : HasRoom inodes old
   inode = overwritten 4 (little_bytes 8 end) (inode_of old k)
 
   abbrev cut : Entry
-  cut = record { inode = overwritten 4 (little_bytes 8 end) (inode_of old k); slot = slot_of inodes old k; indirect = indirect_of old (number_at 52 4 (inode_of old k)) }
+  cut = entry_of old (overwritten 4 (little_bytes 8 end) (inode_of old k)) (slot_of inodes old k)
 
   wide : length (inode_of old k) ≡ 64
   wide = length-inode inodes k old room low
@@ -37,16 +40,25 @@ module _ (inodes k end : ℕ) (old new : List Octets) (room : HasRoom inodes old
   counted : block_count cut ≡ block_count e
   counted = ap (λ (n : ℕ). (n + 4095) / 4096) sized ∙ same_count
 
-  same_indirect_pointer : indirect_pointer cut ≡ indirect_pointer e
-  same_indirect_pointer = number_other 52 4 (inr (omega arith))
+  same_double : double_pointer cut ≡ double_pointer e
+  same_double = number_other 56 4 (inr (omega arith))
+
+  same_table : (p : ℕ) → indirect_pointer cut p ≡ indirect_pointer e p
+  same_table p =
+      ap (λ (m : ℕ). cond (eqb p 0) m (number_at (4 * (p - 1)) 4 (indirect_of old (number_at 56 4 inode)))) (number_other 52 4 (inr (omega arith)))
+      ∙ ap (λ (m : ℕ). cond (eqb p 0) (number_at 52 4 (inode_of old k)) (number_at (4 * (p - 1)) 4 (indirect_of old m))) same_double
 
   same_pointer : (i : ℕ) → pointer cut i ≡ pointer e i
-  same_pointer i = ap (λ (n : ℕ). cond (ltb i 10) n (number_at (4 * (i - 10)) 4 (indirect_of old (number_at 52 4 (inode_of old k))))) (number_other (12 + 4 * i) 4 (inr (omega arith)))
+  same_pointer i =
+      ap (λ (m : ℕ). cond (ltb i 10) m (number_at (4 * ((i - 10) % 1024)) 4 (indirect_of old (indirect_pointer cut ((i - 10) / 1024))))) (number_other (12 + 4 * i) 4 (inr (omega arith)))
+      ∙ ap (λ (m : ℕ). cond (ltb i 10) (number_at (12 + 4 * i) 4 (inode_of old k)) (number_at (4 * ((i - 10) % 1024)) 4 (indirect_of old m))) (same_table ((i - 10) / 1024))
 
   owns_same : owned cut ≡ owned e
   owns_same =
-      ap (λ (n : ℕ). cond (eqb n 0) [] (n ∷ []) ++ map (λ i. pointer cut i) (range_with_len 0 (block_count cut))) same_indirect_pointer
-      ∙ ap (λ (l : List ℕ). cond (eqb (indirect_pointer e) 0) [] (indirect_pointer e ∷ []) ++ l) (map_same (λ i. pointer cut i) (λ i. pointer e i) (block_count cut) (block_count e) counted (λ i below. same_pointer i))
+      ap (λ (m : ℕ). owned_to cut m) counted
+      ∙ ap (λ (m : ℕ). cond (eqb m 0) [] (m ∷ []) ++ (tables_to cut (indirect_count e) ++ map (λ i. pointer cut i) (range_with_len 0 (block_count e)))) same_double
+      ∙ ap (λ (l : List ℕ). double_blocks e ++ (l ++ map (λ i. pointer cut i) (range_with_len 0 (block_count e)))) (map_same (λ p. indirect_pointer cut p) (λ p. indirect_pointer e p) (indirect_count e) (indirect_count e) refl (λ p less. same_table p))
+      ∙ ap (λ (l : List ℕ). double_blocks e ++ (tables_to e (indirect_count e) ++ l)) (map_same (λ i. pointer cut i) (λ i. pointer e i) (block_count e) (block_count e) refl (λ i less. same_pointer i))
 
   puts : PutsEntry inodes k inode (slot_of inodes old k) (λ n. ⊥) old new
   puts = puts_inode inodes k inode old new room.whole low put
@@ -56,22 +68,27 @@ module _ (inodes k end : ℕ) (old new : List Octets) (room : HasRoom inodes old
 
   here : entry inodes new k ≡ cut
   here =
-      same_entry (inode_of new k) inode (slot_of inodes new k) (slot_of inodes old k)
-      (indirect_of new (number_at 52 4 (inode_of new k))) (indirect_of old (number_at 52 4 (inode_of old k)))
-      puts.inode_is puts.slot_is
-      (ap (λ (o : Octets). indirect_of new (number_at 52 4 o)) puts.inode_is ∙ ap (λ (n : ℕ). indirect_of new n) same_indirect_pointer
-      ∙ same_indirect old new (indirect_pointer e) (λ some. data_same (indirect_pointer e) (owns_indirect e some)))
+      same_entry old new (inode_of new k) inode (slot_of inodes new k) (slot_of inodes old k) puts.inode_is puts.slot_is
+      (ap (indirect_of new) same_double ∙ indirect_same old new (double_pointer e) (λ some. data_same (double_pointer e) (owns_double e some)) ∙ sym (ap (indirect_of old) same_double))
+      (λ p. ap (indirect_of new) (same_table p) ∙ indirect_same old new (indirect_pointer e p) (λ some. data_same (indirect_pointer e p) (owns_indirect e p ((file.indirect_where p).1 some))) ∙ sym (ap (indirect_of old) (same_table p)))
+
+  tables_same : indirect_count cut ≡ indirect_count e
+  tables_same = ap indirect_for counted
 
   is_file : IsFile cut
   is_file = record {
     kind_is = number_other 0 4 (inl (omega arith)) ∙ file.kind_is;
     small = omega (arith, sized, file.small);
-    spare = number_other 56 8 (inr (omega arith)) ∙ file.spare;
-    indirect_where = (
-      (λ more is. file.indirect_where.0 (omega (arith, counted)) (sym same_indirect_pointer ∙ is)),
-      (λ some. let more = file.indirect_where.1 (λ is. some (same_indirect_pointer ∙ is)) in omega (arith, counted)),
+    spare = number_other 60 4 (inr (omega arith)) ∙ file.spare;
+    double_where = (
+      (λ more is. file.double_where.0 (subst (λ (t : ℕ). 1 < t) tables_same more) (sym same_double ∙ is)),
+      (λ some. subst (λ (t : ℕ). 1 < t) (sym tables_same) (file.double_where.1 (λ is. some (same_double ∙ is)))),
     );
-    no_other_pointer = λ i from to. same_pointer i ∙ file.no_other_pointer i (omega (arith, counted)) to;
+    indirect_where = λ p. (
+      (λ less is. (file.indirect_where p).0 (subst (λ (t : ℕ). p < t) tables_same less) (sym (same_table p) ∙ is)),
+      (λ some. subst (λ (t : ℕ). p < t) (sym tables_same) ((file.indirect_where p).1 (λ is. some (same_table p ∙ is)))),
+    );
+    no_other_pointer = λ i from. same_pointer i ∙ file.no_other_pointer i (omega (arith, from, counted));
     name_some = file.name_some;
     name_few = file.name_few;
     slot_is = file.slot_is;
@@ -104,3 +121,11 @@ module _ (inodes k end : ℕ) (old new : List Octets) (room : HasRoom inodes old
       replaces inodes k inode (λ n. ⊥) old new room fs low file puts (λ l b below other owns none. none) file_now (take end (content_of old e)) whole
       (rule_keeps inodes k inode (λ n. ⊥) old new room fs low file puts (λ l b below other owns none. none) file_now (ap owned here ∙ owns_same) cuts_marks)
       content_is
+
+  -- only the inode is touched
+  pub cuts_touches : TouchesInode k ((end + 4095) / 4096) ((end + 4095) / 4096) old new
+  cuts_touches = record {
+    same = λ b some other named. put.blocks b other;
+    double = inl (ap (λ (g : Entry). double_pointer g) here ∙ same_double);
+    tables = λ p. inl (ap (λ (g : Entry). indirect_pointer g p) here ∙ same_table p);
+  }

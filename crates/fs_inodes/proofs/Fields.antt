@@ -1,12 +1,11 @@
 -- The numbers of an inode, after some of them were put there.
-use Rattle.std.proofs.Common.{◌≡◌, ◌≢◌, inl, inr, ◌<◌, ◌≤◌, ℕ, ◌+◌, ◌*◌, ◌/◌, ◌%◌, cond, eqb, Bool, List, [], length, get_or, map, take, sym, ◌∙◌, ap, arith}
+use Rattle.std.proofs.Common.{◌≡◌, ◌<◌, ◌≤◌, ℕ, ◌+◌, ◌*◌, ◌/◌, ◌%◌, List, [], length, get_or, map, take, sym, ◌∙◌, ap, arith}
 use Rattle.std.specs.List.{All, Contains, range_with_len}
 use Rattle.std.proofs.lemmas.List.{ext_get_or, get_or-take, length-take-le}
 use Rattle.std.proofs.lemmas.List.FromFn.{length-map-range_with_len, get_or-map-range_with_len}
-use Rattle.std.proofs.lemmas.Bool.{cases_eq, eq-eqb}
 use Rattle.disk.proofs.Images.{length-part}
 use Rattle.model.specs.Stream.{Octets}
-use Rattle.model.specs.Files.{Entry, HasRoom, size, block_count, pointer, owned, content_of, inode_of, indirect_of}
+use Rattle.model.specs.Files.{Entry, HasRoom, size, block_count, pointer, owned, content_of, inode_of}
 use Rattle.fs_layout.proofs.Entries.{length-content}
 use Rattle.fs_inodes.proofs.Places.{get_or-content}
 
@@ -22,14 +21,7 @@ map_same f g n m is same =
     let inside : i < n = omega (arith, length-map-range_with_len f 0 n) in
     get_or-map-range_with_len f 0 n i i 0 inside (omega arith) ∙ same i inside ∙ sym (get_or-map-range_with_len g 0 m i i 0 (omega arith) (omega arith)))
 
--- the indirect block is no other, if its number and its octets aren't
-pub same_indirect : (old new : List Octets) (n : ℕ) → (n ≢ 0 → get_or new n [] ≡ get_or old n []) → indirect_of new n ≡ indirect_of old n
-same_indirect old new n same = elim (cases_eq n 0) [
-  | inl none ↦ ap (λ (b : Bool). cond b [] (get_or new n [])) (eq-eqb n 0 none) ∙ sym (ap (λ (b : Bool). cond b [] (get_or old n [])) (eq-eqb n 0 none))
-  | inr some ↦ ap (λ (o : Octets). cond (eqb n 0) [] o) (same some)
-]
-
--- a front of the same blocks
+-- a prefix of the same blocks
 pub content_front : (old new : List Octets) (e f : Entry) → All (λ b. length b ≡ 4096) old → ((b : ℕ) → Contains (owned e) b → b < length old) → All (λ b. length b ≡ 4096) new → ((b : ℕ) → Contains (owned f) b → b < length new) → size f ≤ size e → ((i : ℕ) → i < block_count f → get_or new (pointer f i) [] ≡ get_or old (pointer e i) []) → take (size f) (content_of old e) ≡ content_of new f
 content_front old new e f whole within whole' within' less same =
     ext_get_or 0 (take (size f) (content_of old e)) (content_of new f) (front ∙ sym (length-content new f whole' within')) (λ j low.

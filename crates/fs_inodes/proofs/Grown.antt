@@ -1,5 +1,5 @@
 -- Growth after growth.
-use Rattle.std.proofs.Common.{◌≡◌, inl, inr, ◌<◌, ◌≤◌, ℕ, ◌+◌, cond, ltb, false, Bool, Option, Some, None, List, [], ◌++◌, length, get_or, set, refl, sym, ◌∙◌, ap, arith, append_assoc, length-append}
+use Rattle.std.proofs.Common.{◌≡◌, inl, inr, ◌<◌, ◌≤◌, ℕ, ◌+◌, cond, ltb, false, Bool, Option, Some, None, List, [], ◌∷◌, ◌++◌, length, get_or, set, refl, sym, ◌∙◌, ap, arith, append_assoc, length-append, subst}
 use Rattle.std.proofs.lemmas.List.{append-nil, get_or_past, get_or-set_same, set-set, set-get_or}
 use Rattle.std.proofs.lemmas.Bool.{cases_lt, cases_Bool, lt-ltb, le-ltb, false≢true}
 use Rattle.model.specs.Stream.{Octets}
@@ -7,7 +7,11 @@ use Rattle.model.specs.Files.{File, HasRoom, IsFile, IsFileSystem, size, entry, 
 use Rattle.fs_layout.specs.Table.{IsFileAt}
 use Rattle.fs_inodes.specs.Growing.{blocks_for}
 use Rattle.fs_inodes.specs.Growing.{GrowsBy, HasRoomFor}
+use Rattle.model.specs.Room.{content_blocks}
+use Rattle.fs_layout.specs.Touches.{TouchesData, double_of, table_of}
+use Rattle.fs_inodes.proofs.Named.{file_names}
 use Rattle.fs_layout.proofs.Entries.{length-content}
+use Rattle.fs_inodes.proofs.Sizes.{blocks_for_le}
 use Rattle.fs_layout.proofs.Tables.{get_or-table, file_at_file, named_from_there}
 
 abbrev the_file : Option File → File
@@ -76,16 +80,6 @@ module _ (inodes k : ℕ) (p q : Octets) (a b c : List Octets) (first : GrowsBy 
       total : length first.was + length (p ++ q) ≡ length first.was + length p + length q
       total = omega (arith, length-append p q)
 
-over : (m n : ℕ) → m ≤ n → cond {A = ℕ} (ltb 40960 m) 1 0 ≤ cond (ltb 40960 n) 1 0
-over m n less = elim (cases_lt 40960 m) [
-  | inl more ↦ (let x = ap (λ (t : Bool). cond {A = ℕ} t 1 0) (lt-ltb 40960 m more) in let y = ap (λ (t : Bool). cond {A = ℕ} t 1 0) (lt-ltb 40960 n (omega arith)) in omega arith)
-  | inr few ↦ (let x = ap (λ (t : Bool). cond {A = ℕ} t 1 0) (le-ltb 40960 m few) in omega arith)
-]
-
--- a larger file owns as many blocks at least
-pub blocks_for_le : (m n : ℕ) → m ≤ n → blocks_for m ≤ blocks_for n
-blocks_for_le m n less = let one = over m n less in omega arith
-
 module _ (inodes k : ℕ) (a : List Octets) (room : HasRoom inodes a) (fs : IsFileSystem inodes a) (low : k < inodes) (file : IsFile (entry inodes a k)) where
   was_there : IsFileAt (table inodes a) k (name_in (slot_of inodes a k)) (content_of a (entry inodes a k))
   was_there = get_or-table inodes a k low ∙ file_at_file inodes a k file
@@ -139,3 +133,19 @@ module _ (inodes k : ℕ) (a : List Octets) (room : HasRoom inodes a) (fs : IsFi
         let left : free_blocks b + blocks_for (size (entry inodes a k) + length octets) ≡ free_blocks a + blocks_for (size (entry inodes a k)) =
         ap (λ (n : ℕ). free_blocks b + blocks_for (n + length octets)) (sym was_size) ∙ grown.free ∙ ap (λ (n : ℕ). free_blocks a + blocks_for n) was_size in
         omega (arith, left, more)
+
+    -- there are no more blocks that name blocks than the new size needs
+    pub no_double_now : content_blocks (size (entry inodes a k) + length octets) ≤ 1034 → double_of b k ≡ 0
+    no_double_now few =
+        (file_names inodes k b grown.makes.room grown.makes.rule low file_now).no_double (omega (arith, few, size_now))
+
+    pub no_table_now : content_blocks (size (entry inodes a k) + length octets) ≤ 10 → table_of b k 0 ≡ 0
+    no_table_now few = (file_names inodes k b grown.makes.room grown.makes.rule low file_now).none 0 (omega (arith, few, size_now))
+
+-- a piece touches the blocks after those of the octets before it
+pub touched : (k size at long some : ℕ) (mid new : List (List ℕ)) → size ≡ at → long ≡ some → (block : ℕ) × TouchesData k (block ∷ []) (content_blocks size) (content_blocks (size + long)) mid new → (block : ℕ) × TouchesData k (block ∷ []) (content_blocks at) (content_blocks (at + some)) mid new
+touched k size at long some mid new is piece (block, touches) = (
+  block,
+  subst (λ (n : ℕ). TouchesData k (block ∷ []) (content_blocks at) (content_blocks (at + n)) mid new) piece
+      (subst (λ (n : ℕ). TouchesData k (block ∷ []) (content_blocks n) (content_blocks (n + long)) mid new) is touches),
+)

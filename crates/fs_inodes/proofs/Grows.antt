@@ -11,61 +11,21 @@ use Rattle.disk.proofs.Images.{length-overwritten}
 use Rattle.volume_format.proofs.Numbers.{number_at_apart, number_at_written}
 use Rattle.model.specs.Stream.{Octets}
 use Rattle.model.specs.Volume.{number_at, AreDistinct}
-use Rattle.model.specs.Files.{Entry, HasRoom, IsFile, kind, size, block_count, indirect_pointer, indirect_blocks, pointer, owned, name_in, content_of, entry, inode_of, slot_of, indirect_of, first_data, is_marked_used, free_blocks, IsFileSystem, file_at}
+use Rattle.model.specs.Files.{Entry, HasRoom, IsFile, kind, size, block_count, double_blocks, double_pointer, entry_of, indirect_count, indirect_for, indirect_pointer, pointer, owned, name_in, content_of, entry, inode_of, slot_of, indirect_of, first_data, is_marked_used, free_blocks, IsFileSystem, file_at}
+use Rattle.model.specs.Room.{content_blocks}
 use Rattle.fs_layout.specs.Blocks.{PutsRecord}
+use Rattle.fs_layout.specs.Touches.{TouchesData, double_of, table_of}
+use Rattle.fs_layout.proofs.Touching.{is_first}
 use Rattle.fs_inodes.specs.Growing.{blocks_for}
-use Rattle.fs_inodes.specs.Growing.{inode_entry, with_indirect, TakesLowest, KeepsMarks, GrowsBy}
+use Rattle.fs_inodes.specs.Growing.{NamesBlocks, inode_entry, tables_to, with_indirect, TakesLowest, KeepsMarks, GrowsBy}
+use Rattle.fs_inodes.proofs.Owned.{owned_to, has_pointer, has_table, has_double, pointers_differ, table_not_pointer, double_not_pointer}
+use Rattle.fs_inodes.proofs.Tables.{map_same_below}
 use Rattle.fs_layout.proofs.Entries.{owns_pointer, flat_map_same, length-content}
 use Rattle.fs_inodes.proofs.Extending.{blocks_octets, content_front, take_overwritten}
-use Rattle.fs_layout.proofs.Keeps.{PutsEntry, same_entry, marks_same}
+use Rattle.fs_layout.proofs.Keeps.{PutsEntry, indirect_same, same_entry, marks_same}
 use Rattle.fs_layout.proofs.Marking.{same_free}
 use Rattle.fs_inodes.proofs.Owners.{Reowns, contained, names_kept, reowned_makes}
 use Rattle.fs_layout.proofs.Tables.{get_or-table, file_at_file}
-
--- ---- what an entry owns with so many blocks of octets
-
-abbrev pub owned_to : Entry → ℕ → List ℕ
-owned_to e count = indirect_blocks e ++ map (λ i. pointer e i) (range_with_len 0 count)
-
-pub map_same : (f g : ℕ → ℕ) (xs : List ℕ) → ((i : ℕ) → f i ≡ g i) → map f xs ≡ map g xs
-map_same f g [] same = refl
-map_same f g (x ∷ xs) same = ap (λ (y : ℕ). y ∷ map f xs) (same x) ∙ ap (λ (l : List ℕ). g x ∷ l) (map_same f g xs same)
-
-module _ (e : Entry) (count : ℕ) where
-  pointers : List ℕ
-  pointers = map (λ i. pointer e i) (range_with_len 0 count)
-
-  pub has_pointer : (i : ℕ) → i < count → Contains (owned_to e count) (pointer e i)
-  has_pointer i low =
-      Contains-append_right (indirect_blocks e) (map (λ i. pointer e i) (range_with_len 0 count)) (pointer e i)
-      (subst (λ (n : ℕ). Contains (map (λ i. pointer e i) (range_with_len 0 count)) n)
-      (get_or-map-range_with_len (λ i. pointer e i) 0 count i i 0 low (omega arith))
-      (Contains-get_or (map (λ i. pointer e i) (range_with_len 0 count)) i 0 (omega (arith, length-map-range_with_len (λ i. pointer e i) 0 count))))
-
-  pub has_indirect : indirect_pointer e ≢ 0 → Contains (owned_to e count) (indirect_pointer e)
-  has_indirect some =
-      Contains-append_left (indirect_blocks e) (map (λ i. pointer e i) (range_with_len 0 count)) (indirect_pointer e)
-      (subst (λ (b : Bool). Contains (cond b [] (indirect_pointer e ∷ [])) (indirect_pointer e)) (sym (ne_eqb (indirect_pointer e) 0 some)) (0, omega arith, refl))
-
-  pub pointers_differ : AreDistinct (owned_to e count) → (i j : ℕ) → i < j → j < count → pointer e i ≢ pointer e j
-  pointers_differ distinct i j less low same =
-      let many = length-map-range_with_len (λ i. pointer e i) 0 count in
-      distinct (length (indirect_blocks e) + i) (length (indirect_blocks e) + j) (omega arith) (omega (arith, length-append (indirect_blocks e) (map (λ i. pointer e i) (range_with_len 0 count))))
-      (get_or-append-add (indirect_blocks e) (map (λ i. pointer e i) (range_with_len 0 count)) i 0 ∙ get_or-map-range_with_len (λ i. pointer e i) 0 count i i 0 (omega arith) (omega arith)
-      ∙ same
-      ∙ sym (get_or-append-add (indirect_blocks e) (map (λ i. pointer e i) (range_with_len 0 count)) j 0 ∙ get_or-map-range_with_len (λ i. pointer e i) 0 count j j 0 low (omega arith)))
-
-  pub indirect_differs : AreDistinct (owned_to e count) → indirect_pointer e ≢ 0 → (i : ℕ) → i < count → indirect_pointer e ≢ pointer e i
-  indirect_differs distinct some i low same =
-      let many = length-map-range_with_len (λ i. pointer e i) 0 count in
-      let one : indirect_blocks e ≡ indirect_pointer e ∷ [] = ap (λ (b : Bool). cond b [] (indirect_pointer e ∷ [])) (ne_eqb (indirect_pointer e) 0 some) in
-      let first : get_or (owned_to e count) 0 0 ≡ indirect_pointer e = ap (λ (l : List ℕ). get_or (l ++ map (λ i. pointer e i) (range_with_len 0 count)) 0 0) one in
-      let short : length (indirect_blocks e) ≡ 1 = ap (λ (l : List ℕ). length l) one in
-      let place : length (indirect_blocks e) + i ≡ 1 + i = omega arith in
-      let other : get_or (owned_to e count) (1 + i) 0 ≡ pointer e i =
-      ap (λ (n : ℕ). get_or (owned_to e count) n 0) (sym place) ∙ get_or-append-add (indirect_blocks e) (map (λ i. pointer e i) (range_with_len 0 count)) i 0
-      ∙ get_or-map-range_with_len (λ i. pointer e i) 0 count i i 0 low (omega arith) in
-      distinct 0 (1 + i) (omega arith) (omega (arith, length-append (indirect_blocks e) (map (λ i. pointer e i) (range_with_len 0 count)))) (first ∙ same ∙ sym other)
 
 -- Entry f has block `number` as its n-th, and may own more blocks than e: these fresh ones. No octets of data changed.
 pub record Extends (first n number : ℕ) (e f : Entry) (old mid : List Octets) : Type 0 where
@@ -73,11 +33,13 @@ pub record Extends (first n number : ℕ) (e f : Entry) (old mid : List Octets) 
   pub whole : All (λ b. length b ≡ 4096) mid
   pub inode_size : length f.inode ≡ 64
   pub kind_is : kind f ≡ 1
-  pub spare : number_at 56 8 f.inode ≡ 0
+  pub spare : number_at 60 4 f.inode ≡ 0
   pub here : pointer f n ≡ number
-  pub same_pointers : (i : ℕ) → i < 1034 → i ≢ n → pointer f i ≡ pointer e i
-  pub indirect_where : (10 < n + 1) ↔ (indirect_pointer f ≢ 0)
-  pub blocks : (b : ℕ) → 2 ≤ b → b ≢ indirect_pointer f → get_or mid b [] ≡ get_or old b []
+  pub same_pointers : (i : ℕ) → i ≢ n → pointer f i ≡ pointer e i
+  pub names : NamesBlocks (indirect_for (n + 1)) f mid
+  pub double_stays : (double_pointer e ≡ 0) ⊎ (double_pointer f ≡ double_pointer e)
+  pub tables_stay : (p : ℕ) → (indirect_pointer e p ≡ 0) ⊎ (indirect_pointer f p ≡ indirect_pointer e p)
+  pub blocks : (b : ℕ) → 2 ≤ b → ((i : ℕ) → block_count e ≤ i → i < n + 1 → (b ≢ double_pointer f) × (b ≢ indirect_pointer f ((i - 10) / 1024))) → get_or mid b [] ≡ get_or old b []
   pub fresh : List ℕ
   pub fresh_free : (b : ℕ) → Contains fresh b → (first ≤ b) × (b < length old) × (is_marked_used old b ≡ false)
   pub fresh_marked : (b : ℕ) → Contains fresh b → is_marked_used mid b ≡ true
@@ -89,7 +51,7 @@ pub record Extends (first n number : ℕ) (e f : Entry) (old mid : List Octets) 
   pub distinct : AreDistinct (owned_to f (n + 1))
   pub free : free_blocks mid + with_indirect (n + 1) ≡ free_blocks old + blocks_for (size e)
 
-module _ (inodes k n r number : ℕ) (piece block inode : Octets) (old mid new : List Octets) (room : HasRoom inodes old) (fs : IsFileSystem inodes old) (low : k < inodes) (file : IsFile (entry inodes old k)) (sized : size (entry inodes old k) ≡ 4096 * n + r) (inside : r + length piece ≤ 4096) (some : 0 < length piece) (small : size (entry inodes old k) + length piece ≤ 4235264) (ext : Extends (first_data inodes) n number (entry inodes old k) (inode_entry mid inode) old mid) (block_size : length block ≡ 4096) (front : take r block ≡ take r (get_or old (pointer (entry inodes old k) n) [])) (put : PutsRecord 2 k (overwritten 4 (little_bytes 8 (size (entry inodes old k) + length piece)) inode) (set mid number (overwritten r piece block)) new) where
+module _ (inodes k n r number : ℕ) (piece block inode : Octets) (old mid new : List Octets) (room : HasRoom inodes old) (fs : IsFileSystem inodes old) (low : k < inodes) (file : IsFile (entry inodes old k)) (sized : size (entry inodes old k) ≡ 4096 * n + r) (inside : r + length piece ≤ 4096) (some : 0 < length piece) (small : size (entry inodes old k) + length piece ≤ 268435456) (ext : Extends (first_data inodes) n number (entry inodes old k) (inode_entry mid inode) old mid) (block_size : length block ≡ 4096) (front : take r block ≡ take r (get_or old (pointer (entry inodes old k) n) [])) (put : PutsRecord 2 k (overwritten 4 (little_bytes 8 (size (entry inodes old k) + length piece)) inode) (set mid number (overwritten r piece block)) new) where
   e : Entry
   e = entry inodes old k
 
@@ -101,9 +63,9 @@ module _ (inodes k n r number : ℕ) (piece block inode : Octets) (old mid new :
 
   -- the entry with its new size
   abbrev after : Entry
-  after = record { inode = inode_after; slot = slot_of inodes old k; indirect = indirect_of mid (number_at 52 4 inode) }
+  after = entry_of mid inode_after (slot_of inodes old k)
 
-  n_few : n < 1034
+  n_few : n < 65536
   n_few = omega (arith, sized, small, some)
 
   -- ---- blocks
@@ -117,10 +79,23 @@ module _ (inodes k n r number : ℕ) (piece block inode : Octets) (old mid new :
   number_within : (first_data inodes ≤ number) × (number < length old)
   number_within = subst (λ (b : ℕ). (first_data inodes ≤ b) × (b < length old)) ext.here (owned_within (pointer f n) (has_pointer f (n + 1) n (omega arith)))
 
-  indirect_not_number : number_at 52 4 inode ≢ number
-  indirect_not_number same = elim (cases_eq (number_at 52 4 inode) 0) [
-    | inl none ↦ absurd (omega (arith, number_within.0))
-    | inr has ↦ indirect_differs f (n + 1) ext.distinct has n (omega arith) (same ∙ sym ext.here)
+  -- each block that names blocks is 0, or the file owns it
+  double_cases : (double_pointer f ≡ 0) ⊎ Contains (owned_to f (n + 1)) (double_pointer f)
+  double_cases = elim (cases_eq (double_pointer f) 0) [ inl none ↦ inl none | inr has ↦ inr (has_double f (n + 1) has) ]
+
+  table_cases : (p : ℕ) → (indirect_pointer f p ≡ 0) ⊎ Contains (owned_to f (n + 1)) (indirect_pointer f p)
+  table_cases p = elim (cases_lt p (indirect_for (n + 1))) [ inl less ↦ inr (has_table f (n + 1) p less) | inr past ↦ inl (ext.names.none p past) ]
+
+  double_not_number : double_pointer f ≢ number
+  double_not_number same = elim (cases_eq (double_pointer f) 0) [
+    | inl none ↦ absurd (omega (arith, number_within.0, same, none))
+    | inr has ↦ double_not_pointer f (n + 1) ext.distinct n has (omega arith) (same ∙ sym ext.here)
+  ]
+
+  table_not_number : (p : ℕ) → indirect_pointer f p ≢ number
+  table_not_number p same = elim (cases_lt p (indirect_for (n + 1))) [
+    | inl less ↦ table_not_pointer f (n + 1) ext.distinct p n less (omega arith) (same ∙ sym ext.here)
+    | inr past ↦ absurd (let none = ext.names.none p past in omega (arith, number_within.0, same, none))
   ]
 
   elsewhere : (b : ℕ) → b ≢ 2 + k / 64 → b ≢ number → get_or new b [] ≡ get_or mid b []
@@ -134,14 +109,24 @@ module _ (inodes k n r number : ℕ) (piece block inode : Octets) (old mid new :
       put.blocks number (omega (arith, room.whole, number_within.0))
       ∙ get_or-set_same mid number (overwritten r piece block) [] (omega (arith, ext.count, number_within.1))
 
-  indirect_high : number_at 52 4 inode ≢ 0 → first_data inodes ≤ number_at 52 4 inode
-  indirect_high has = (owned_within (number_at 52 4 inode) (has_indirect f (n + 1) has)).0
+  named_high : (m : ℕ) → m ≢ 0 → (m ≡ 0) ⊎ Contains (owned_to f (n + 1)) m → first_data inodes ≤ m
+  named_high m some cases = elim cases [ inl none ↦ absurd (some none) | inr has ↦ (owned_within m has).0 ]
+
+  -- a block that the file does not own
+  mid_other : (b : ℕ) → 2 ≤ b → (b ≡ 0) ⊎ (Contains (owned_to f (n + 1)) b → ⊥) → get_or mid b [] ≡ get_or old b []
+  mid_other b some_b cases = ext.blocks b some_b (λ i above below. (apart (double_pointer f) double_cases, apart (indirect_pointer f ((i - 10) / 1024)) (table_cases ((i - 10) / 1024))))
+    where
+      apart : (m : ℕ) → (m ≡ 0) ⊎ Contains (owned_to f (n + 1)) m → b ≢ m
+      apart m named same = elim named [
+        | inl none ↦ absurd (omega (arith, some_b, same, none))
+        | inr has ↦ elim cases [
+          | inl none ↦ absurd (omega (arith, some_b, none))
+          | inr lacks ↦ lacks (subst (λ (c : ℕ). Contains (owned_to f (n + 1)) c) (sym same) has)
+        ]
+      ]
 
   mid_reserved : (b : ℕ) → 2 ≤ b → b < first_data inodes → get_or mid b [] ≡ get_or old b []
-  mid_reserved b some_b high = ext.blocks b some_b (λ same. elim (cases_eq (number_at 52 4 inode) 0) [
-    | inl none ↦ absurd (omega arith)
-    | inr has ↦ absurd (omega (arith, indirect_high has))
-  ])
+  mid_reserved b some_b high = mid_other b some_b (inr (λ has. absurd (let inside = (owned_within b has).0 in omega (arith, inside, high))))
 
   -- ---- the entry
 
@@ -149,16 +134,25 @@ module _ (inodes k n r number : ℕ) (piece block inode : Octets) (old mid new :
   same_number a w apart =
       number_at_apart 4 (little_bytes 8 (size (entry inodes old k) + length piece)) inode (omega (arith, ext.inode_size)) a w (elim apart [ inl before ↦ inl before | inr behind ↦ inr (omega arith) ])
 
-  same_indirect : number_at 52 4 inode_after ≡ number_at 52 4 inode
-  same_indirect = same_number 52 4 (inr (omega arith))
+  same_double : number_at 56 4 inode_after ≡ number_at 56 4 inode
+  same_double = same_number 56 4 (inr (omega arith))
 
-  indirect_is : indirect_of new (number_at 52 4 (inode_of new k)) ≡ indirect_of mid (number_at 52 4 inode)
-  indirect_is =
-      ap (λ (o : Octets). indirect_of new (number_at 52 4 o)) put.here ∙ ap (λ (m : ℕ). indirect_of new m) same_indirect
-      ∙ elim (cases_eq (number_at 52 4 inode) 0) [
-        | inl none ↦ ap (λ (b : Bool). cond b [] (get_or new (number_at 52 4 inode) [])) (eq-eqb (number_at 52 4 inode) 0 none) ∙ sym (ap (λ (b : Bool). cond b [] (get_or mid (number_at 52 4 inode) [])) (eq-eqb (number_at 52 4 inode) 0 none))
-        | inr has ↦ ap (λ (o : Octets). cond (eqb (number_at 52 4 inode) 0) [] o) (data_new (number_at 52 4 inode) (indirect_high has) indirect_not_number)
-      ]
+  table_after : (p : ℕ) → indirect_pointer after p ≡ indirect_pointer f p
+  table_after p =
+      ap (λ (m : ℕ). cond (eqb p 0) m (number_at (4 * (p - 1)) 4 (indirect_of mid (number_at 56 4 inode_after)))) (same_number 52 4 (inr (omega arith)))
+      ∙ ap (λ (m : ℕ). cond (eqb p 0) (number_at 52 4 inode) (number_at (4 * (p - 1)) 4 (indirect_of mid m))) same_double
+
+  double_octets : indirect_of new (number_at 56 4 inode_after) ≡ indirect_of mid (number_at 56 4 inode_after)
+  double_octets =
+      ap (indirect_of new) same_double
+      ∙ indirect_same mid new (double_pointer f) (λ some_d. data_new (double_pointer f) (named_high (double_pointer f) some_d double_cases) double_not_number)
+      ∙ sym (ap (indirect_of mid) same_double)
+
+  table_octets : (p : ℕ) → indirect_of new (indirect_pointer after p) ≡ indirect_of mid (indirect_pointer after p)
+  table_octets p =
+      ap (indirect_of new) (table_after p)
+      ∙ indirect_same mid new (indirect_pointer f p) (λ some_t. data_new (indirect_pointer f p) (named_high (indirect_pointer f p) some_t (table_cases p)) (table_not_number p))
+      ∙ sym (ap (indirect_of mid) (table_after p))
 
   slot_same : (l : ℕ) → l < inodes → slot_of inodes new l ≡ slot_of inodes old l
   slot_same l below =
@@ -174,8 +168,7 @@ module _ (inodes k n r number : ℕ) (piece block inode : Octets) (old mid new :
       ∙ mid_reserved (2 + l / 64) (omega arith) (omega (arith, room.whole)))
 
   entry_is : entry inodes new k ≡ after
-  entry_is =
-      same_entry (inode_of new k) inode_after (slot_of inodes new k) (slot_of inodes old k) (indirect_of new (number_at 52 4 (inode_of new k))) (indirect_of mid (number_at 52 4 inode)) put.here (slot_same k low) indirect_is
+  entry_is = same_entry mid new (inode_of new k) inode_after (slot_of inodes new k) (slot_of inodes old k) put.here (slot_same k low) double_octets table_octets
 
   size_after : size after ≡ size (entry inodes old k) + length piece
   size_after = number_at_written 4 8 (size (entry inodes old k) + length piece) inode (omega (arith, ext.inode_size)) (omega arith)
@@ -184,24 +177,40 @@ module _ (inodes k n r number : ℕ) (piece block inode : Octets) (old mid new :
   count_after = omega (arith, size_after, sized, inside, some)
 
   pointer_after : (i : ℕ) → pointer after i ≡ pointer f i
-  pointer_after i = ap (λ (m : ℕ). cond (ltb i 10) m (number_at (4 * (i - 10)) 4 (indirect_of mid (number_at 52 4 inode)))) (same_number (12 + 4 * i) 4 (inr (omega arith)))
+  pointer_after i =
+      ap (λ (m : ℕ). cond (ltb i 10) m (number_at (4 * ((i - 10) % 1024)) 4 (indirect_of mid (indirect_pointer after ((i - 10) / 1024))))) (same_number (12 + 4 * i) 4 (inr (omega arith)))
+      ∙ ap (λ (m : ℕ). cond (ltb i 10) (number_at (12 + 4 * i) 4 inode) (number_at (4 * ((i - 10) % 1024)) 4 (indirect_of mid m))) (table_after ((i - 10) / 1024))
 
   owned_after : owned after ≡ owned_to f (n + 1)
   owned_after =
-      ap (λ (m : ℕ). cond (eqb m 0) [] (m ∷ []) ++ map (λ i. pointer after i) (range_with_len 0 (block_count after))) same_indirect
-      ∙ ap (λ (m : ℕ). indirect_blocks f ++ map (λ i. pointer after i) (range_with_len 0 m)) count_after
-      ∙ ap (λ (l : List ℕ). indirect_blocks f ++ l) (map_same (λ i. pointer after i) (λ i. pointer f i) (range_with_len 0 (n + 1)) pointer_after)
+      ap (λ (m : ℕ). owned_to after m) count_after
+      ∙ ap (λ (m : ℕ). cond (eqb m 0) [] (m ∷ []) ++ (tables_to after (indirect_for (n + 1)) ++ map (λ i. pointer after i) (range_with_len 0 (n + 1)))) same_double
+      ∙ ap (λ (l : List ℕ). double_blocks f ++ (l ++ map (λ i. pointer after i) (range_with_len 0 (n + 1)))) (map_same_below (λ p. indirect_pointer after p) (λ p. indirect_pointer f p) 0 (indirect_for (n + 1)) (λ p less. table_after p))
+      ∙ ap (λ (l : List ℕ). double_blocks f ++ (tables_to f (indirect_for (n + 1)) ++ l)) (map_same_below (λ i. pointer after i) (λ i. pointer f i) 0 (n + 1) (λ i less. pointer_after i))
+
+  tables_after : indirect_for (n + 1) ≡ indirect_count after
+  tables_after = ap indirect_for (sym count_after)
 
   is_file : IsFile after
   is_file = record {
     kind_is = same_number 0 4 (inl (omega arith)) ∙ ext.kind_is;
     small = omega (arith, size_after, small);
-    spare = same_number 56 8 (inr (omega arith)) ∙ ext.spare;
-    indirect_where = (
-      (λ more. λ none. ext.indirect_where.0 (omega (arith, count_after)) (sym same_indirect ∙ none)),
-      (λ has. let more = ext.indirect_where.1 (λ none. has (same_indirect ∙ none)) in omega (arith, count_after)),
+    spare = same_number 60 4 (inr (omega arith)) ∙ ext.spare;
+    double_where = (
+      (λ more none. absurd (let there = (ext.names.double (subst (λ (t : ℕ). 1 < t) (sym tables_after) more)).some in omega (arith, there, none, same_double))),
+      (λ has. elim (cases_lt 1 (indirect_for (n + 1))) [
+        | inl more ↦ subst (λ (t : ℕ). 1 < t) tables_after more
+        | inr less ↦ absurd (has (same_double ∙ ext.names.no_double less))
+      ]),
     );
-    no_other_pointer = λ i high few. pointer_after i ∙ ext.same_pointers i few (omega (arith, count_after)) ∙ file.no_other_pointer i (omega (arith, count_after, sized, inside, some)) few;
+    indirect_where = λ p. (
+      (λ less none. absurd (let there = (ext.names.there p (subst (λ (t : ℕ). p < t) (sym tables_after) less)).some in let is = table_after p in omega (arith, there, none, is))),
+      (λ has. elim (cases_lt p (indirect_for (n + 1))) [
+        | inl less ↦ subst (λ (t : ℕ). p < t) tables_after less
+        | inr past ↦ absurd (has (table_after p ∙ ext.names.none p past))
+      ]),
+    );
+    no_other_pointer = λ i high. pointer_after i ∙ ext.same_pointers i (omega (arith, high, count_after)) ∙ file.no_other_pointer i (omega (arith, high, count_after, sized, inside, some));
     name_some = file.name_some;
     name_few = file.name_few;
     slot_is = file.slot_is;
@@ -232,12 +241,16 @@ module _ (inodes k n r number : ℕ) (piece block inode : Octets) (old mid new :
       one i early =
           let within = owned_within (pointer f i) (has_pointer f (n + 1) i (omega arith)) in
           let apart : pointer f i ≢ number = λ same. pointers_differ f (n + 1) ext.distinct i n early (omega arith) (same ∙ sym ext.here) in
-          let not_indirect : pointer f i ≢ number_at 52 4 inode = λ same. elim (cases_eq (number_at 52 4 inode) 0) [
-            | inl none ↦ absurd (omega (arith, within.0))
-            | inr has ↦ indirect_differs f (n + 1) ext.distinct has i (omega arith) (sym same)
+          let not_double : pointer f i ≢ double_pointer f = λ same. elim (cases_eq (double_pointer f) 0) [
+            | inl none ↦ absurd (omega (arith, within.0, same, none))
+            | inr has ↦ double_not_pointer f (n + 1) ext.distinct i has (omega (arith, early)) (sym same)
           ] in
-          ap (λ (b : ℕ). get_or new b []) (pointer_after i) ∙ data_new (pointer f i) within.0 apart ∙ ext.blocks (pointer f i) (omega (arith, within.0)) not_indirect
-          ∙ ap (λ (b : ℕ). get_or old b []) (ext.same_pointers i (omega (arith, n_few)) (omega arith))
+          let not_table : (p : ℕ) → pointer f i ≢ indirect_pointer f p = λ p same. elim (cases_lt p (indirect_for (n + 1))) [
+            | inl less ↦ table_not_pointer f (n + 1) ext.distinct p i less (omega (arith, early)) (sym same)
+            | inr past ↦ absurd (let none = ext.names.none p past in omega (arith, within.0, same, none))
+          ] in
+          ap (λ (b : ℕ). get_or new b []) (pointer_after i) ∙ data_new (pointer f i) within.0 apart ∙ ext.blocks (pointer f i) (omega (arith, within.0)) (λ j above below. (not_double, not_table ((j - 10) / 1024)))
+          ∙ ap (λ (b : ℕ). get_or old b []) (ext.same_pointers i (omega (arith, early)))
 
   content_after : content_of new after ≡ content_of old (entry inodes old k) ++ piece
   content_after =
@@ -268,10 +281,7 @@ module _ (inodes k n r number : ℕ) (piece block inode : Octets) (old mid new :
     slots_other = λ l below other. slot_same l below;
     data_same = λ b high untouched.
         data_new b high (λ same. untouched (subst (λ (c : ℕ). Contains (owned_to f (n + 1)) c) (ext.here ∙ sym same) (has_pointer f (n + 1) n (omega arith))))
-        ∙ ext.blocks b (omega (arith, high)) (λ same. elim (cases_eq (number_at 52 4 inode) 0) [
-          | inl none ↦ absurd (omega (arith, high))
-          | inr has ↦ untouched (subst (λ (c : ℕ). Contains (owned_to f (n + 1)) c) (sym same) (has_indirect f (n + 1) has))
-        ]);
+        ∙ mid_other b (omega (arith, high)) (inr untouched);
   }
 
   owned_here : owned (entry inodes new k) ≡ owned_to f (n + 1)
@@ -328,14 +338,9 @@ module _ (inodes k n r number : ℕ) (piece block inode : Octets) (old mid new :
   free_is : free_blocks new + blocks_for (size (entry inodes old k) + length piece) ≡ free_blocks old + blocks_for (size (entry inodes old k))
   free_is =
       let count : (size (entry inodes old k) + length piece + 4095) / 4096 ≡ n + 1 = omega (arith, sized, inside, some) in
-      let many : ltb 40960 (size (entry inodes old k) + length piece) ≡ ltb 10 (n + 1) = (elim (cases_lt 10 (n + 1)) [
-        | inl more ↦ lt-ltb 40960 (size (entry inodes old k) + length piece) (omega (arith, sized, some)) ∙ sym (lt-ltb 10 (n + 1) more)
-        | inr less ↦ le-ltb 40960 (size (entry inodes old k) + length piece) (omega (arith, sized, inside)) ∙ sym (le-ltb 10 (n + 1) less)
-      ]) in
       let free : free_blocks new ≡ free_blocks mid = same_free mid new (put.count ∙ length-set mid number (overwritten r piece block)) (λ b inside_b. mark_new b (omega (arith, ext.count, room.count_few))) in
       ap (λ (m : ℕ). m + blocks_for (size (entry inodes old k) + length piece)) free
-      ∙ ap (λ (m : ℕ). free_blocks mid + (m + cond (ltb 40960 (size (entry inodes old k) + length piece)) 1 0)) count
-      ∙ ap (λ (t : Bool). free_blocks mid + (n + 1 + cond t 1 0)) many
+      ∙ ap (λ (m : ℕ). free_blocks mid + with_indirect m) count
       ∙ ext.free
 
   content_size : length (content_of old (entry inodes old k)) ≡ size (entry inodes old k)
@@ -356,3 +361,25 @@ module _ (inodes k n r number : ℕ) (piece block inode : Octets) (old mid new :
     kept = marks_kept;
     free = ap (λ (m : ℕ). free_blocks new + blocks_for (m + length piece)) content_size ∙ free_is ∙ ap (λ (m : ℕ). free_blocks old + blocks_for m) (sym content_size);
   }
+
+  -- ---- the blocks that it touches
+
+  double_new : double_of new k ≡ double_pointer f
+  double_new = ap (λ (o : Octets). number_at 56 4 o) put.here ∙ same_double
+
+  table_new : (p : ℕ) → table_of new k p ≡ indirect_pointer f p
+  table_new p = ap (λ (g : Entry). indirect_pointer g p) entry_is ∙ table_after p
+
+  pub touches : TouchesData k (number ∷ []) (content_blocks (size (entry inodes old k))) (content_blocks (size (entry inodes old k) + length piece)) old new
+  touches =
+      let end : n + 1 ≡ content_blocks (size (entry inodes old k) + length piece) = omega (arith, sized, inside, some) in
+      subst (λ (m : ℕ). TouchesData k (number ∷ []) (content_blocks (size (entry inodes old k))) m old new) end record {
+        same = λ b some_b other named lacks.
+            elsewhere b other (λ is. lacks (is_first number [] b is))
+            ∙ ext.blocks b some_b (λ i above below. (
+              (λ is. (named i above below).0 (is ∙ sym double_new)),
+              (λ is. (named i above below).1 (is ∙ sym (table_new ((i - 10) / 1024)))),
+            ));
+        double = elim ext.double_stays [ inl none ↦ inl none | inr stays ↦ inr (double_new ∙ stays) ];
+        tables = λ p. elim (ext.tables_stay p) [ inl none ↦ inl none | inr stays ↦ inr (table_new p ∙ stays) ];
+      }

@@ -1,15 +1,14 @@
 pub mod Attaching
 pub mod Contents
 pub mod Cutting
-pub mod Dropped
 pub mod Dropping
-pub mod DroppingHigh
-pub mod DroppingLow
+pub mod Untabling
 pub mod Extending
 pub mod Extends
 pub mod Fields
 pub mod Grown
 pub mod Grows
+pub mod Named
 pub mod Overwriting
 pub mod Owned
 pub mod Owners
@@ -18,3 +17,7 @@ pub mod Removing
 pub mod Replacing
 pub mod Spans
 pub mod Unmarking
+pub mod Putting
+pub mod Sizes
+pub mod Taking
+pub mod Tables

@@ -8,11 +8,13 @@ use Rattle.disk.specs.Image.{part, overwritten}
 use Rattle.disk.proofs.Images.{length-overwritten, overwritten_below, overwritten_inside, overwritten_above}
 use Rattle.model.specs.Stream.{Octets}
 use Rattle.model.specs.Volume.{number_at}
-use Rattle.model.specs.Files.{Entry, HasRoom, IsFile, size, block_count, indirect_pointer, pointer, owned, content_of, entry, inode_of, slot_of, indirect_of, first_data, IsFileSystem}
+use Rattle.model.specs.Files.{Entry, HasRoom, IsFile, size, block_count, double_pointer, indirect_count, indirect_pointer, pointer, owned, content_of, entry, inode_of, slot_of, indirect_of, first_data, IsFileSystem}
 use Rattle.fs_inodes.specs.Changes.{ReplacesContent, SameMarks}
 use Rattle.fs_layout.proofs.Entries.{owns_pointer, length-content}
-use Rattle.fs_layout.proofs.Keeps.{PutsEntry, same_entry, marks_same}
-use Rattle.fs_inodes.proofs.Places.{get_or-content, pointers_apart, indirect_apart}
+use Rattle.fs_layout.proofs.Keeps.{indirect_same, PutsEntry, same_entry, marks_same}
+use Rattle.fs_inodes.proofs.Named.{file_names}
+use Rattle.fs_inodes.proofs.Owned.{double_not_pointer, pointers_differ, table_not_pointer}
+use Rattle.fs_inodes.proofs.Places.{get_or-content}
 use Rattle.fs_inodes.proofs.Replacing.{rule_keeps, replaces}
 
 -- ---- a data block of a file
@@ -74,19 +76,26 @@ module _ (inodes k : ℕ) (place : ℕ) (octets : Octets) (old : List Octets) (r
   untouched : (l b : ℕ) → l < inodes → l ≢ k → Contains (owned (entry inodes old l)) b → b ≢ number
   untouched l b below other has is = other (fs.one_owner l k number below low (subst (λ (n : ℕ). Contains (owned (entry inodes old l)) n) is has) owns)
 
-  same_indirect : indirect_of new (indirect_pointer e) ≡ indirect_of old (indirect_pointer e)
-  same_indirect = elim (cases_eq (indirect_pointer e) 0) [
-    | inl none ↦ ap (λ (b : Bool). cond b [] (get_or new (indirect_pointer e) [])) (eq-eqb (indirect_pointer e) 0 none) ∙ sym (ap (λ (b : Bool). cond b [] (get_or old (indirect_pointer e) [])) (eq-eqb (indirect_pointer e) 0 none))
-    | inr indirect ↦
-        ap (λ (o : Octets). cond (eqb (indirect_pointer e) 0) [] o) (get_or-set_other old number (indirect_pointer e) written [] (λ is. indirect_apart e (fs.distinct k low) (place / 4096) counted indirect (sym is)))
+  -- the blocks that name blocks stay
+  named_stays : (m : ℕ) → m ≢ number → indirect_of new m ≡ indirect_of old m
+  named_stays m other = indirect_same old new m (λ some. get_or-set_other old number m written [] other)
+
+  double_apart : double_pointer e ≢ number
+  double_apart is = elim (cases_eq (double_pointer e) 0) [
+    | inl none ↦ absurd (let high = (fs.within k number low owns).0 in omega (arith, high, is, none))
+    | inr some ↦ double_not_pointer e (block_count e) (fs.distinct k low) (place / 4096) some counted is
+  ]
+
+  table_apart : (p : ℕ) → indirect_pointer e p ≢ number
+  table_apart p is = elim (cases_lt p (indirect_count e)) [
+    | inl less ↦ table_not_pointer e (block_count e) (fs.distinct k low) p (place / 4096) less counted is
+    | inr past ↦ absurd (let none = (file_names inodes k old room fs low file).none p past in let high = (fs.within k number low owns).0 in omega (arith, high, is, none))
   ]
 
   same_here : entry inodes new k ≡ entry inodes old k
   same_here =
-      same_entry (inode_of new k) (inode_of old k) (slot_of inodes new k) (slot_of inodes old k)
-      (indirect_of new (number_at 52 4 (inode_of new k))) (indirect_of old (number_at 52 4 (inode_of old k)))
-      puts.inode_is puts.slot_is
-      (ap (λ (o : Octets). indirect_of new (number_at 52 4 o)) puts.inode_is ∙ same_indirect)
+      same_entry old new (inode_of new k) (inode_of old k) (slot_of inodes new k) (slot_of inodes old k)
+      puts.inode_is puts.slot_is (named_stays (double_pointer e) double_apart) (λ p. named_stays (indirect_pointer e p) (table_apart p))
 
   whole : All (λ b. length b ≡ 4096) new
   whole = All-set (λ b. length b ≡ 4096) old number written length-written room.blocks_whole
@@ -141,8 +150,8 @@ module _ (inodes k : ℕ) (place : ℕ) (octets : Octets) (old : List Octets) (r
       apart is = elim (cases_order (j / 4096) (place / 4096)) [
         | inl same ↦ other same
         | inr ordered ↦ elim ordered [
-          | inl less ↦ pointers_apart e (fs.distinct k low) (j / 4096) (place / 4096) less counted is
-          | inr more ↦ pointers_apart e (fs.distinct k low) (place / 4096) (j / 4096) more (omega arith) (sym is)
+          | inl less ↦ pointers_differ e (block_count e) (fs.distinct k low) (j / 4096) (place / 4096) less counted is
+          | inr more ↦ pointers_differ e (block_count e) (fs.distinct k low) (place / 4096) (j / 4096) more (omega arith) (sym is)
         ]
       ]
 

@@ -1,66 +1,139 @@
 -- The blocks that an entry owns, one by one.
-use Rattle.std.proofs.Common.{◌≡◌, ◌≢◌, ◌⊎◌, inl, inr, ◌<◌, ◌≤◌, ℕ, zero, suc, ◌+◌, ◌-◌, ◌*◌, cond, Bool, List, [], ◌∷◌, ◌++◌, length, get_or, map, sym, ◌∙◌, ap, subst, arith, length-append}
+use Rattle.std.proofs.Common.{◌≡◌, ◌≢◌, ◌⊎◌, inl, inr, ◌<◌, ◌≤◌, ℕ, zero, suc, ◌+◌, ◌-◌, ◌*◌, ◌/◌, ◌%◌, cond, Bool, List, [], ◌∷◌, ◌++◌, length, get_or, map, refl, sym, ◌∙◌, ap, subst, arith}
 use Rattle.std.specs.List.{Contains, range_with_len}
-use Rattle.std.proofs.lemmas.List.{get_or-append-add}
-use Rattle.std.proofs.lemmas.List.Elements.{Contains-append_cases}
+use Rattle.std.proofs.lemmas.List.Elements.{Contains-append_cases, Contains-append_left, Contains-append_right, Contains-get_or}
 use Rattle.std.proofs.lemmas.List.FromFn.{length-map-range_with_len, get_or-map-range_with_len}
 use Rattle.std.proofs.lemmas.Bool.{cases_eq, eq-eqb, ne_eqb, lt-ltb, le-ltb}
 use Rattle.model.specs.Volume.{number_at, AreDistinct}
-use Rattle.model.specs.Files.{Entry, block_count, pointer, owned, indirect_pointer, indirect_blocks}
+use Rattle.model.specs.Files.{Entry, block_count, double_blocks, double_pointer, indirect_for, indirect_pointer, pointer, owned}
+use Rattle.fs_inodes.specs.Growing.{tables_to}
+use Rattle.fs_layout.proofs.Distinct.{distinct_append, distinct_apart, distinct_left, distinct_none, distinct_one, distinct_right}
 
-module _ (e : Entry) where
+-- ---- numbers of a range
+
+module _ (f : ℕ → ℕ) (n : ℕ) where
+  pub in_range : (i : ℕ) → i < n → Contains (map f (range_with_len 0 n)) (f i)
+  in_range i low =
+      subst (λ (m : ℕ). Contains (map f (range_with_len 0 n)) m)
+      (get_or-map-range_with_len f 0 n i i 0 low (omega arith))
+      (Contains-get_or (map f (range_with_len 0 n)) i 0 (omega (arith, low, length-map-range_with_len f 0 n)))
+
+  pub from_range : (b : ℕ) → Contains (map f (range_with_len 0 n)) b → (i : ℕ) × (i < n) × (f i ≡ b)
+  from_range b has =
+      let low : has.0 < n = omega (arith, has.1, length-map-range_with_len f 0 n) in
+      (has.0, low, sym (get_or-map-range_with_len f 0 n has.0 has.0 b low (omega arith)) ∙ has.2)
+
+  at : (i : ℕ) → i < n → get_or (map f (range_with_len 0 n)) i 0 ≡ f i
+  at i low = get_or-map-range_with_len f 0 n i i 0 low (omega arith)
+
+  pub range_distinct : ((i j : ℕ) → i < j → j < n → f i ≢ f j) → AreDistinct (map f (range_with_len 0 n))
+  range_distinct apart i j less inside same =
+      let low : j < n = omega (arith, inside, length-map-range_with_len f 0 n) in
+      apart i j less low (sym (at i (omega (arith, less, low))) ∙ same ∙ at j low)
+
+  pub range_differ : AreDistinct (map f (range_with_len 0 n)) → (i j : ℕ) → i < j → j < n → f i ≢ f j
+  range_differ distinct i j less low same =
+      distinct i j less (omega (arith, low, length-map-range_with_len f 0 n)) (at i (omega (arith, less, low)) ∙ same ∙ sym (at j low))
+
+-- ---- what an entry owns if its octets take this many blocks
+
+abbrev pub owned_to : Entry → ℕ → List ℕ
+owned_to e count = double_blocks e ++ (tables_to e (indirect_for count) ++ map (λ i. pointer e i) (range_with_len 0 count))
+
+module _ (e : Entry) (count : ℕ) where
   abbrev pointers : List ℕ
-  pointers = map (λ i. pointer e i) (range_with_len 0 (block_count e))
+  pointers = map (λ i. pointer e i) (range_with_len 0 count)
 
-  no_indirect : indirect_pointer e ≡ 0 → indirect_blocks e ≡ []
-  no_indirect none = ap (λ (b : Bool). cond b [] (indirect_pointer e ∷ [])) (eq-eqb (indirect_pointer e) 0 none)
+  abbrev tables : List ℕ
+  tables = tables_to e (indirect_for count)
 
-  one_indirect : indirect_pointer e ≢ 0 → indirect_blocks e ≡ indirect_pointer e ∷ []
-  one_indirect some = ap (λ (b : Bool). cond b [] (indirect_pointer e ∷ [])) (ne_eqb (indirect_pointer e) 0 some)
+  one_double : double_pointer e ≢ 0 → double_blocks e ≡ double_pointer e ∷ []
+  one_double some = ap (λ (b : Bool). cond b [] (double_pointer e ∷ [])) (ne_eqb (double_pointer e) 0 some)
 
   first_is : (n b : ℕ) → Contains (n ∷ []) b → n ≡ b
   first_is n b (zero, low, is) = is
   first_is n b (suc k, low, is) = absurd (omega arith)
 
-  -- the indirect block, or one of its octets' blocks
-  pub owned_cases : (b : ℕ) → Contains (owned e) b → ((indirect_pointer e ≢ 0) × (indirect_pointer e ≡ b)) ⊎ ((i : ℕ) × (i < block_count e) × (pointer e i ≡ b))
-  owned_cases b has = elim (Contains-append_cases (indirect_blocks e) pointers b has) [
-    | inl indirect ↦ elim (cases_eq (indirect_pointer e) 0) [
-      | inl none ↦ absurd (let nothing = subst (λ (l : List ℕ). Contains l b) (no_indirect none) indirect in omega (arith, nothing.1))
-      | inr some ↦ inl (some, first_is (indirect_pointer e) b (subst (λ (l : List ℕ). Contains l b) (one_indirect some) indirect))
-    ]
-    | inr there ↦
-        let low : there.0 < block_count e = omega (arith, there.1, length-map-range_with_len (λ i. pointer e i) 0 (block_count e)) in
-        inr (there.0, low, sym (get_or-map-range_with_len (λ i. pointer e i) 0 (block_count e) there.0 there.0 b low (omega arith)) ∙ there.2)
-  ]
+  in_double : double_pointer e ≢ 0 → Contains (double_blocks e) (double_pointer e)
+  in_double some = subst (λ (l : List ℕ). Contains l (double_pointer e)) (sym (one_double some)) (0, omega arith, refl)
 
-  many : length (owned e) ≡ length (indirect_blocks e) + block_count e
-  many = length-append (indirect_blocks e) pointers ∙ ap (λ (n : ℕ). length (indirect_blocks e) + n) (length-map-range_with_len (λ i. pointer e i) 0 (block_count e))
-
-  at : (i j : ℕ) → i < block_count e → j ≡ length (indirect_blocks e) + i → get_or (owned e) j 0 ≡ pointer e i
-  at i j low is =
-      ap (λ (n : ℕ). get_or (owned e) n 0) is
-      ∙ get_or-append-add (indirect_blocks e) pointers i 0 ∙ get_or-map-range_with_len (λ i. pointer e i) 0 (block_count e) i i 0 low (omega arith)
-
-  pub distinct_from : ((i j : ℕ) → i < j → j < block_count e → pointer e i ≢ pointer e j) → ((i : ℕ) → i < block_count e → indirect_pointer e ≢ 0 → pointer e i ≢ indirect_pointer e) → AreDistinct (owned e)
-  distinct_from apart indirect_apart i j less inside same = elim (cases_eq (indirect_pointer e) 0) [
+  from_double : (b : ℕ) → Contains (double_blocks e) b → (double_pointer e ≢ 0) × (double_pointer e ≡ b)
+  from_double b has = elim (cases_eq (double_pointer e) 0) [
     | inl none ↦
-        let size : length (indirect_blocks e) ≡ 0 = ap (λ (l : List ℕ). length l) (no_indirect none) in
-        apart i j less (omega (arith, many)) (sym (at i i (omega (arith, many)) (omega arith)) ∙ same ∙ at j j (omega (arith, many)) (omega arith))
-    | inr some ↦
-        let size : length (indirect_blocks e) ≡ 1 = ap (λ (l : List ℕ). length l) (one_indirect some) in
-        let second : get_or (owned e) j 0 ≡ pointer e (j - 1) = at (j - 1) j (omega (arith, many)) (omega arith) in
-        elim (cases_eq i 0) [
-          | inl is ↦
-              indirect_apart (j - 1) (omega (arith, many)) some
-              (sym second ∙ sym same ∙ ap (λ (n : ℕ). get_or (owned e) n 0) is ∙ ap (λ (l : List ℕ). get_or (l ++ pointers) 0 0) (one_indirect some))
-          | inr later ↦ apart (i - 1) (j - 1) (omega arith) (omega (arith, many)) (sym (at (i - 1) i (omega (arith, many)) (omega arith)) ∙ same ∙ second)
-        ]
+        absurd (let nothing = subst (λ (l : List ℕ). Contains l b) (ap (λ (t : Bool). cond t [] (double_pointer e ∷ [])) (eq-eqb (double_pointer e) 0 none)) has in omega (arith, nothing.1))
+    | inr some ↦ (some, first_is (double_pointer e) b (subst (λ (l : List ℕ). Contains l b) (one_double some) has))
   ]
 
-  -- where a pointer stands
-  pub low_pointer : (i : ℕ) → i < 10 → pointer e i ≡ number_at (12 + 4 * i) 4 e.inode
-  low_pointer i low = ap (λ (b : Bool). cond b (number_at (12 + 4 * i) 4 e.inode) (number_at (4 * (i - 10)) 4 e.indirect)) (lt-ltb i 10 low)
+  pub has_pointer : (i : ℕ) → i < count → Contains (owned_to e count) (pointer e i)
+  has_pointer i low = Contains-append_right (double_blocks e) (tables ++ pointers) (pointer e i) (Contains-append_right tables pointers (pointer e i) (in_range (λ i. pointer e i) count i low))
 
-  pub high_pointer : (i : ℕ) → 10 ≤ i → pointer e i ≡ number_at (4 * (i - 10)) 4 e.indirect
-  high_pointer i high = ap (λ (b : Bool). cond b (number_at (12 + 4 * i) 4 e.inode) (number_at (4 * (i - 10)) 4 e.indirect)) (le-ltb i 10 high)
+  pub has_table : (p : ℕ) → p < indirect_for count → Contains (owned_to e count) (indirect_pointer e p)
+  has_table p low =
+      Contains-append_right (double_blocks e) (tables ++ pointers) (indirect_pointer e p) (Contains-append_left tables pointers (indirect_pointer e p) (in_range (λ p. indirect_pointer e p) (indirect_for count) p low))
+
+  pub has_double : double_pointer e ≢ 0 → Contains (owned_to e count) (double_pointer e)
+  has_double some = Contains-append_left (double_blocks e) (tables ++ pointers) (double_pointer e) (in_double some)
+
+  -- the double-indirect block, a block of pointers, or one of its octets' blocks
+  pub owned_cases : (b : ℕ) → Contains (owned_to e count) b
+      → ((double_pointer e ≢ 0) × (double_pointer e ≡ b)) ⊎ (((p : ℕ) × (p < indirect_for count) × (indirect_pointer e p ≡ b)) ⊎ ((i : ℕ) × (i < count) × (pointer e i ≡ b)))
+  owned_cases b has = elim (Contains-append_cases (double_blocks e) (tables ++ pointers) b has) [
+    | inl double ↦ inl (from_double b double)
+    | inr rest ↦ inr (elim (Contains-append_cases tables pointers b rest) [
+      | inl table ↦ inl (from_range (λ p. indirect_pointer e p) (indirect_for count) b table)
+      | inr there ↦ inr (from_range (λ i. pointer e i) count b there)
+    ])
+  ]
+
+  pub distinct_from : ((p q : ℕ) → p < q → q < indirect_for count → indirect_pointer e p ≢ indirect_pointer e q)
+      → ((i j : ℕ) → i < j → j < count → pointer e i ≢ pointer e j)
+      → ((p i : ℕ) → p < indirect_for count → i < count → indirect_pointer e p ≢ pointer e i)
+      → ((p : ℕ) → double_pointer e ≢ 0 → p < indirect_for count → double_pointer e ≢ indirect_pointer e p)
+      → ((i : ℕ) → double_pointer e ≢ 0 → i < count → double_pointer e ≢ pointer e i)
+      → AreDistinct (owned_to e count)
+  distinct_from tables_apart pointers_apart table_pointer double_table double_pointer_apart =
+      distinct_append (double_blocks e) (tables ++ pointers) one
+      (distinct_append tables pointers (range_distinct (λ p. indirect_pointer e p) (indirect_for count) tables_apart) (range_distinct (λ i. pointer e i) count pointers_apart) (λ b table there.
+      let p = from_range (λ p. indirect_pointer e p) (indirect_for count) b table in
+      let i = from_range (λ i. pointer e i) count b there in
+      table_pointer p.0 i.0 p.1 i.1 (p.2 ∙ sym i.2)))
+      (λ b double rest.
+      let d = from_double b double in
+      elim (Contains-append_cases tables pointers b rest) [
+        | inl table ↦ let p = from_range (λ p. indirect_pointer e p) (indirect_for count) b table in double_table p.0 d.0 p.1 (d.1 ∙ sym p.2)
+        | inr there ↦ let i = from_range (λ i. pointer e i) count b there in double_pointer_apart i.0 d.0 i.1 (d.1 ∙ sym i.2)
+      ])
+    where
+      one : AreDistinct (double_blocks e)
+      one = elim (cases_eq (double_pointer e) 0) [
+        | inl none ↦ subst AreDistinct (sym (ap (λ (t : Bool). cond t [] (double_pointer e ∷ [])) (eq-eqb (double_pointer e) 0 none))) distinct_none
+        | inr some ↦ subst AreDistinct (sym (one_double some)) (distinct_one (double_pointer e))
+      ]
+
+  module _ (distinct : AreDistinct (owned_to e count)) where
+    rest_distinct : AreDistinct (tables ++ pointers)
+    rest_distinct = distinct_right (double_blocks e) (tables ++ pointers) distinct
+
+    pub pointers_differ : (i j : ℕ) → i < j → j < count → pointer e i ≢ pointer e j
+    pointers_differ = range_differ (λ i. pointer e i) count (distinct_right tables pointers rest_distinct)
+
+    pub tables_differ : (p q : ℕ) → p < q → q < indirect_for count → indirect_pointer e p ≢ indirect_pointer e q
+    tables_differ = range_differ (λ p. indirect_pointer e p) (indirect_for count) (distinct_left tables pointers rest_distinct)
+
+    pub table_not_pointer : (p i : ℕ) → p < indirect_for count → i < count → indirect_pointer e p ≢ pointer e i
+    table_not_pointer p i low_p low_i same =
+        distinct_apart tables pointers rest_distinct (pointer e i)
+        (subst (λ (n : ℕ). Contains tables n) same (in_range (λ p. indirect_pointer e p) (indirect_for count) p low_p))
+        (in_range (λ i. pointer e i) count i low_i)
+
+    pub double_not_table : (p : ℕ) → double_pointer e ≢ 0 → p < indirect_for count → double_pointer e ≢ indirect_pointer e p
+    double_not_table p some low same =
+        distinct_apart (double_blocks e) (tables ++ pointers) distinct (indirect_pointer e p)
+        (subst (λ (n : ℕ). Contains (double_blocks e) n) same (in_double some))
+        (Contains-append_left tables pointers (indirect_pointer e p) (in_range (λ p. indirect_pointer e p) (indirect_for count) p low))
+
+    pub double_not_pointer : (i : ℕ) → double_pointer e ≢ 0 → i < count → double_pointer e ≢ pointer e i
+    double_not_pointer i some low same =
+        distinct_apart (double_blocks e) (tables ++ pointers) distinct (pointer e i)
+        (subst (λ (n : ℕ). Contains (double_blocks e) n) same (in_double some))
+        (Contains-append_right tables pointers (pointer e i) (in_range (λ i. pointer e i) count i low))

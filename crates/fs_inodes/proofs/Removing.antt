@@ -4,21 +4,22 @@ use Rattle.std.specs.List.{All, Contains, range_with_len}
 use Rattle.std.proofs.lemmas.List.Elements.{All-replicate}
 use Rattle.std.proofs.lemmas.Bool.{cases_eq}
 use Rattle.model.specs.Stream.{Octets}
-use Rattle.model.specs.Files.{Entry, HasRoom, IsFile, IsFree, size, block_count, pointer, owned, indirect_pointer, entry, IsFileSystem, table}
+use Rattle.model.specs.Files.{Entry, HasRoom, IsFile, IsFree, size, block_count, owned, double_pointer, entry, IsFileSystem, table}
 use Rattle.fs_layout.specs.Blocks.{PutsRecord}
 use Rattle.fs_layout.specs.Table.{Makes}
 use Rattle.fs_layout.proofs.Entries.{free_owns}
 use Rattle.fs_layout.proofs.Tables.{file_at_free}
 use Rattle.fs_layout.proofs.Keeps.{PutsEntry, puts_inode, puts_slot, inode_keeps_marks, slot_keeps_marks}
+use Rattle.fs_inodes.proofs.Owned.{owned_to}
 use Rattle.fs_inodes.proofs.Owners.{Reowns, names_left, reowned_makes}
 
 empty_owns : (e : Entry) → IsFile e → size e ≡ 0 → owned e ≡ []
-empty_owns e file empty = elim (cases_eq (indirect_pointer e) 0) [
-  | inl none ↦
-      ap (λ (n : ℕ). cond (eqb n 0) [] (n ∷ []) ++ map (λ i. pointer e i) (range_with_len 0 (block_count e))) none
-      ∙ ap (λ (n : ℕ). map (λ i. pointer e i) (range_with_len 0 ((n + 4095) / 4096))) empty
-  | inr some ↦ absurd (let more = file.indirect_where.1 some in omega arith)
-]
+empty_owns e file empty =
+    ap (λ (n : ℕ). owned_to e ((n + 4095) / 4096)) empty
+    ∙ ap (λ (l : List ℕ). l ++ []) (elim (cases_eq (double_pointer e) 0) [
+      | inl none ↦ ap (λ (n : ℕ). cond (eqb n 0) [] (n ∷ [])) none
+      | inr some ↦ absurd (let more = file.double_where.1 some in omega (arith, more, empty))
+    ])
 
 zeros_all : All (λ (o : ℕ). o ≡ 0) (replicate 64 0)
 zeros_all = All-replicate (λ o. o ≡ 0) 64 0 refl

@@ -1,4 +1,5 @@
 pub mod Changes
 pub mod Growing
+pub mod Shrinking
 pub use Rattle.fs_layout.specs.Table
 pub use Rattle.fs_layout.specs.Touches

@@ -1,15 +1,18 @@
 //! Files that grow.
 
-ghost use Rattle.std.specs.Prelude.{◌≡◌, ℕ, ◌+◌, ◌%◌, ◌<◌, ◌≤◌, [], ◌∷◌, length, replicate, true, IfOk, OnOk};
+ghost use Rattle.std.specs.Prelude.{◌≡◌, ◌≢◌, ℕ, ◌+◌, ◌-◌, ◌/◌, ◌%◌, ◌<◌, ◌≤◌, [], ◌∷◌, length, replicate, true, IfOk, OnOk};
 ghost use Rattle.model.specs.Volume.{number_at};
-ghost use Rattle.model.specs.Files.{HasRoom, IsFileSystem, IsFile, entry, size, is_marked_used, free_blocks};
+ghost use Rattle.fs_layout.specs.Blocks.{IsThere};
+ghost use Rattle.model.specs.Files.{HasRoom, IsFileSystem, IsFile, entry, indirect_for, indirect_pointer, size, is_marked_used, free_blocks};
+ghost use Rattle.model.specs.Room.{content_blocks};
 ghost use Rattle.fs_layout.specs.Marks.{NoneFreeBelow};
 ghost use Rattle.fs_layout.specs.Touches.{Touches, TouchesData, touched_by_growth};
-ghost use Rattle.fs_inodes.specs.Growing.{PutsPointer, AddsBlock, taken_with, GrowsBy, HasRoomFor};
+ghost use Rattle.fs_inodes.specs.Growing.{IsApart, PutsIndirect, PutsPointer, TakesZeros, AddsDouble, AddsTable, AddsBlock, NamesBlocks, inode_entry, with_double, with_indirect, GrowsBy, HasRoomFor};
 
 use crate::room::blocks_more;
 use fs_layout::inodes::{
-    DIRECT_POINTERS, INDIRECT_AT, INODES_AT, POINTERS_AT, SIZE_AT, pointer_at, size_of,
+    BLOCK_POINTERS, DIRECT_POINTERS, DOUBLE_AT, INDIRECT_AT, INODES_AT, POINTERS_AT, SIZE_AT,
+    indirect_at, pointer_at, size_of,
 };
 use fs_layout::marks::take_block;
 use fs_layout::numbers::{number32, number64, put32, put64};
@@ -17,16 +20,19 @@ use fs_layout::records::{RECORD_SIZE, get_record, put_part, put_record};
 use std::alloc::AllocError;
 use volume::{BLOCK_SIZE, Blocks};
 
-// Puts the number of a file's i-th block into its inode, or into its indirect block.
-fn put_pointer<B: Blocks>(
+// Puts the number of a file's i-th block into its inode, or into a block of pointers.
+pub(crate) fn put_pointer<B: Blocks>(
     blocks: &mut B,
     inode: &mut [u8],
     i: u32,
     number: u32,
 ) -> Result<(), AllocError>
     requires whole { length inode.old ≡ 64 }
-    requires few { i < 1034 }
-    requires indirect { 10 ≤ i → (2 ≤ number_at 52 4 inode.old) × (number_at 52 4 inode.old < length (B.blocks blocks.old)) }
+    requires few { i < 65536 }
+    requires double { 1034 ≤ i → IsThere (number_at 56 4 inode.old) (B.blocks blocks.old) }
+    requires indirect { 10 ≤ i → (2 ≤ indirect_pointer (inode_entry (B.blocks blocks.old) inode.old) ((i - 10) / 1024))
+        × (indirect_pointer (inode_entry (B.blocks blocks.old) inode.old) ((i - 10) / 1024) < length (B.blocks blocks.old)) }
+    requires apart { 10 ≤ i → IsApart ((i - 10) / 1024) (inode_entry (B.blocks blocks.old) inode.old) }
     ensures done { OnOk result (PutsPointer i number inode.old inode.new (B.blocks blocks.old) (B.blocks blocks.new)) }
     ensures kept { B.applied blocks.new ≡ B.applied blocks.old }
 {
@@ -34,15 +40,110 @@ fn put_pointer<B: Blocks>(
         put32(inode, POINTERS_AT + 4 * i as usize, number);
         return Ok(());
     }
-    let indirect = number32(inode, INDIRECT_AT);
+    let place = i - DIRECT_POINTERS;
+    let indirect = indirect_at(blocks, inode, place / BLOCK_POINTERS);
     let mut pointers = [0; BLOCK_SIZE];
     blocks.get(indirect, &mut pointers);
-    put32(&mut pointers, 4 * (i - DIRECT_POINTERS) as usize, number);
+    put32(&mut pointers, 4 * (place % BLOCK_POINTERS) as usize, number);
     blocks.put(indirect, &pointers)
 }
 
-// Gives a file its i-th block. The first block that does not fit into its inode also brings an indirect block. No block
-// below `from` is free.
+// Puts the number of a file's p-th block of pointers into its inode, or into its double-indirect block.
+pub(crate) fn put_indirect<B: Blocks>(
+    blocks: &mut B,
+    inode: &mut [u8],
+    p: u32,
+    number: u32,
+) -> Result<(), AllocError>
+    requires whole { length inode.old ≡ 64 }
+    requires few { p < 1025 }
+    requires double { 0 < p → (2 ≤ number_at 56 4 inode.old) × (number_at 56 4 inode.old < length (B.blocks blocks.old)) }
+    requires apart { 0 < p → (q : ℕ) → q ≢ p → indirect_pointer (inode_entry (B.blocks blocks.old) inode.old) q ≢ number_at 56 4 inode.old }
+    ensures done { OnOk result (PutsIndirect p number inode.old inode.new (B.blocks blocks.old) (B.blocks blocks.new)) }
+    ensures kept { B.applied blocks.new ≡ B.applied blocks.old }
+{
+    if p == 0 {
+        put32(inode, INDIRECT_AT, number);
+        return Ok(());
+    }
+    let double = number32(inode, DOUBLE_AT);
+    let mut pointers = [0; BLOCK_SIZE];
+    blocks.get(double, &mut pointers);
+    put32(&mut pointers, 4 * (p - 1) as usize, number);
+    blocks.put(double, &pointers)
+}
+
+// Takes a free block, and fills it with zeros. No block below `from` is free.
+fn take_zeros<B: Blocks>(blocks: &mut B, from: u32) -> Result<u32, AllocError>
+    requires some { 2 ≤ length (B.blocks blocks.old) }
+    requires count_few { length (B.blocks blocks.old) ≤ 65536 }
+    requires reserved { (b : ℕ) → b < 2 → is_marked_used (B.blocks blocks.old) b ≡ true }
+    requires free { 0 < free_blocks (B.blocks blocks.old) }
+    requires none { NoneFreeBelow from (B.blocks blocks.old) }
+    ensures done { IfOk result (λ number. TakesZeros number (B.blocks blocks.old) (B.blocks blocks.new)) }
+    ensures kept { B.applied blocks.new ≡ B.applied blocks.old }
+{
+    let number = take_block(blocks, from)?;
+    blocks.put(number, &[0; BLOCK_SIZE])?;
+    Ok(number)
+}
+
+// Gives an inode its double-indirect block if its p-th block of pointers is the first to need it. No block below `from`
+// is free.
+fn add_double<B: Blocks>(
+    blocks: &mut B,
+    from: u32,
+    inode: &mut [u8],
+    p: u32,
+) -> Result<(), AllocError>
+    requires whole { length inode.old ≡ 64 }
+    requires some { 2 ≤ length (B.blocks blocks.old) }
+    requires count_few { length (B.blocks blocks.old) ≤ 65536 }
+    requires reserved { (b : ℕ) → b < 2 → is_marked_used (B.blocks blocks.old) b ≡ true }
+    requires names { NamesBlocks p (inode_entry (B.blocks blocks.old) inode.old) (B.blocks blocks.old) }
+    requires free { p ≡ 1 → 0 < free_blocks (B.blocks blocks.old) }
+    requires none { NoneFreeBelow from (B.blocks blocks.old) }
+    ensures done { OnOk result (AddsDouble p inode.old inode.new (B.blocks blocks.old) (B.blocks blocks.new)) }
+    ensures kept { B.applied blocks.new ≡ B.applied blocks.old }
+{
+    if p != 1 {
+        return Ok(());
+    }
+    let double = take_zeros(blocks, from)?;
+    put32(inode, DOUBLE_AT, double);
+    Ok(())
+}
+
+// Gives an inode a block of pointers if its i-th block is the first to need it, and the double-indirect block if that
+// block of pointers is the first to need it. No block below `from` is free.
+fn add_table<B: Blocks>(
+    blocks: &mut B,
+    from: u32,
+    inode: &mut [u8],
+    i: u32,
+) -> Result<(), AllocError>
+    requires whole { length inode.old ≡ 64 }
+    requires few { i < 65536 }
+    requires some { 2 ≤ length (B.blocks blocks.old) }
+    requires count_few { length (B.blocks blocks.old) ≤ 65536 }
+    requires reserved { (b : ℕ) → b < 2 → is_marked_used (B.blocks blocks.old) b ≡ true }
+    requires names { NamesBlocks (indirect_for i) (inode_entry (B.blocks blocks.old) inode.old) (B.blocks blocks.old) }
+    requires free { with_double (indirect_for (i + 1)) ≤ free_blocks (B.blocks blocks.old) + with_double (indirect_for i) }
+    requires none { NoneFreeBelow from (B.blocks blocks.old) }
+    ensures done { OnOk result (AddsTable i inode.old inode.new (B.blocks blocks.old) (B.blocks blocks.new)) }
+    ensures kept { B.applied blocks.new ≡ B.applied blocks.old }
+{
+    if i % BLOCK_POINTERS != DIRECT_POINTERS {
+        return Ok(());
+    }
+    let p = i / BLOCK_POINTERS;
+    let table = take_zeros(blocks, from)?;
+    add_double(blocks, from, inode, p)?;
+    put_indirect(blocks, inode, p, table)
+}
+
+// Gives a file its i-th block, and the blocks of pointers that the i-th is the first to need. No block below `from` is
+// free.
 fn add_block<B: Blocks>(
     blocks: &mut B,
     from: u32,
@@ -50,23 +151,18 @@ fn add_block<B: Blocks>(
     i: u32,
 ) -> Result<u32, AllocError>
     requires whole { length inode.old ≡ 64 }
-    requires few { i < 1034 }
+    requires few { i < 65536 }
     requires some { 2 ≤ length (B.blocks blocks.old) }
     requires count_few { length (B.blocks blocks.old) ≤ 65536 }
     requires reserved { (b : ℕ) → b < 2 → is_marked_used (B.blocks blocks.old) b ≡ true }
-    requires no_indirect { i ≤ 10 → number_at 52 4 inode.old ≡ 0 }
-    requires indirect { 10 < i → (2 ≤ number_at 52 4 inode.old) × (number_at 52 4 inode.old < length (B.blocks blocks.old)) }
-    requires free { taken_with i ≤ free_blocks (B.blocks blocks.old) }
+    requires names { NamesBlocks (indirect_for i) (inode_entry (B.blocks blocks.old) inode.old) (B.blocks blocks.old) }
+    requires free { with_indirect (i + 1) ≤ free_blocks (B.blocks blocks.old) + with_indirect i }
     requires none { NoneFreeBelow from (B.blocks blocks.old) }
     ensures done { IfOk result (λ number. AddsBlock i number inode.old inode.new (B.blocks blocks.old) (B.blocks blocks.new)) }
     ensures kept { B.applied blocks.new ≡ B.applied blocks.old }
 {
     let number = take_block(blocks, from)?;
-    if i == DIRECT_POINTERS {
-        let indirect = take_block(blocks, from)?;
-        blocks.put(indirect, &[0; BLOCK_SIZE])?;
-        put32(inode, INDIRECT_AT, indirect);
-    }
+    add_table(blocks, from, inode, i)?;
     put_pointer(blocks, inode, i, number)?;
     Ok(number)
 }
@@ -89,7 +185,9 @@ fn add_piece<B: Blocks>(
         (size (entry inodes (B.blocks blocks.old) at) + length piece.now) }
     requires none { NoneFreeBelow from (B.blocks blocks.old) }
     ensures grown { OnOk result (GrowsBy inodes at piece.now (B.blocks blocks.old) (B.blocks blocks.new)) }
-    ensures touches { OnOk result ((block : ℕ) × TouchesData at (block ∷ []) (B.blocks blocks.old) (B.blocks blocks.new)) }
+    ensures touches { OnOk result ((block : ℕ) × TouchesData at (block ∷ [])
+        (content_blocks (size (entry inodes (B.blocks blocks.old) at))) (content_blocks (size (entry inodes (B.blocks blocks.old) at) + length piece.now))
+        (B.blocks blocks.old) (B.blocks blocks.new)) }
     ensures kept { B.applied blocks.new ≡ B.applied blocks.old }
 {
     let mut inode = [0; RECORD_SIZE];

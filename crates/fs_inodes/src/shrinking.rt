@@ -1,13 +1,17 @@
 //! Files that lose octets, and files that are removed.
 
-ghost use Rattle.std.specs.Prelude.{◌≡◌, ◌+◌, ◌*◌, ◌/◌, ◌<◌, ◌≤◌, [], ◌∷◌, None, take, OnOk, slice_set};
-ghost use Rattle.model.specs.Files.{HasRoom, IsFileSystem, IsFile, entry, size, block_count, content_of, table};
+ghost use Rattle.std.specs.Prelude.{◌≡◌, ℕ, ◌+◌, ◌*◌, ◌/◌, ◌<◌, ◌≤◌, [], ◌∷◌, None, length, take, OnOk, slice_set};
+ghost use Rattle.model.specs.Files.{HasRoom, IsFileSystem, IsFile, entry, size, block_count, content_of, indirect_for, pointer, table};
 ghost use Rattle.fs_layout.specs.Table.{Makes};
 ghost use Rattle.fs_layout.specs.Touches.{SameBut, TouchesInode, inode_block, slot_block};
 ghost use Rattle.fs_inodes.specs.Changes.{ReplacesContent, SameMarks, TakesNone};
+ghost use Rattle.fs_inodes.specs.Growing.{NamesBlocks, inode_entry};
+ghost use Rattle.fs_inodes.specs.Shrinking.{DropsPointer, DropsTable};
 
+use crate::growing::{put_indirect, put_pointer};
 use fs_layout::inodes::{
-    DIRECT_POINTERS, INDIRECT_AT, INODES_AT, POINTERS_AT, SIZE_AT, content_blocks, pointer_at,
+    BLOCK_POINTERS, DIRECT_POINTERS, DOUBLE_AT, INODES_AT, SIZE_AT, content_blocks, indirect_at,
+    pointer_at,
 };
 use fs_layout::marks::unmark;
 use fs_layout::numbers::{number32, number64, put32, put64};
@@ -31,7 +35,8 @@ pub fn shrink_to<B: Blocks>(
         (take end (content_of (B.blocks blocks.old) (entry inodes (B.blocks blocks.old) at)))
         (B.blocks blocks.old) (B.blocks blocks.new)) }
     ensures none_taken { OnOk result (TakesNone (B.blocks blocks.old) (B.blocks blocks.new)) }
-    ensures touches { OnOk result (TouchesInode at (B.blocks blocks.old) (B.blocks blocks.new)) }
+    ensures touches { OnOk result (TouchesInode at ((end + 4095) / 4096) (block_count (entry inodes (B.blocks blocks.old) at))
+        (B.blocks blocks.old) (B.blocks blocks.new)) }
     ensures kept { B.applied blocks.new ≡ B.applied blocks.old }
 {
     let mut inode = [0; RECORD_SIZE];
@@ -45,7 +50,7 @@ pub fn shrink_to<B: Blocks>(
     cut(blocks, inodes, at, end)
 }
 
-// Drops the last block of the file of an inode, and the indirect block if ten blocks are left.
+// Drops the last block of the file of an inode, and the blocks of pointers that only the last one needed.
 fn drop_block<B: Blocks>(blocks: &mut B, inodes: u32, at: u32, last: u32) -> Result<(), AllocError>
     requires room { HasRoom inodes (B.blocks blocks.old) }
     requires rule { IsFileSystem inodes (B.blocks blocks.old) }
@@ -56,101 +61,54 @@ fn drop_block<B: Blocks>(blocks: &mut B, inodes: u32, at: u32, last: u32) -> Res
         (take (4096 * last) (content_of (B.blocks blocks.old) (entry inodes (B.blocks blocks.old) at)))
         (B.blocks blocks.old) (B.blocks blocks.new)) }
     ensures none_taken { OnOk result (TakesNone (B.blocks blocks.old) (B.blocks blocks.new)) }
-    ensures touches { OnOk result (TouchesInode at (B.blocks blocks.old) (B.blocks blocks.new)) }
-    ensures kept { B.applied blocks.new ≡ B.applied blocks.old }
-{
-    if last < DIRECT_POINTERS {
-        return drop_direct(blocks, inodes, at, last);
-    }
-    if last == DIRECT_POINTERS {
-        return drop_first_indirect(blocks, inodes, at);
-    }
-    drop_indirect(blocks, inodes, at, last)
-}
-
-// Drops the last of ten blocks or fewer.
-fn drop_direct<B: Blocks>(blocks: &mut B, inodes: u32, at: u32, last: u32) -> Result<(), AllocError>
-    requires room { HasRoom inodes (B.blocks blocks.old) }
-    requires rule { IsFileSystem inodes (B.blocks blocks.old) }
-    requires below { at < inodes }
-    requires file { IsFile (entry inodes (B.blocks blocks.old) at) }
-    requires counted { last + 1 ≡ block_count (entry inodes (B.blocks blocks.old) at) }
-    requires few { last < 10 }
-    ensures done { OnOk result (ReplacesContent inodes at
-        (take (4096 * last) (content_of (B.blocks blocks.old) (entry inodes (B.blocks blocks.old) at)))
-        (B.blocks blocks.old) (B.blocks blocks.new)) }
-    ensures none_taken { OnOk result (TakesNone (B.blocks blocks.old) (B.blocks blocks.new)) }
-    ensures touches { OnOk result (TouchesInode at (B.blocks blocks.old) (B.blocks blocks.new)) }
+    ensures touches { OnOk result (TouchesInode at last (last + 1) (B.blocks blocks.old) (B.blocks blocks.new)) }
     ensures kept { B.applied blocks.new ≡ B.applied blocks.old }
 {
     let mut inode = [0; RECORD_SIZE];
     get_record(blocks, INODES_AT, at, &mut inode);
-    let place = POINTERS_AT + 4 * last as usize;
-    unmark(blocks, number32(&inode, place))?;
-    put32(&mut inode, place, 0);
-    put64(&mut inode, SIZE_AT, last as u64 * BLOCK_SIZE as u64);
-    put_record(blocks, INODES_AT, at, &inode)
-}
-
-// Drops the last of eleven blocks, and the indirect block.
-fn drop_first_indirect<B: Blocks>(blocks: &mut B, inodes: u32, at: u32) -> Result<(), AllocError>
-    requires room { HasRoom inodes (B.blocks blocks.old) }
-    requires rule { IsFileSystem inodes (B.blocks blocks.old) }
-    requires below { at < inodes }
-    requires file { IsFile (entry inodes (B.blocks blocks.old) at) }
-    requires counted { block_count (entry inodes (B.blocks blocks.old) at) ≡ 11 }
-    ensures done { OnOk result (ReplacesContent inodes at
-        (take 40960 (content_of (B.blocks blocks.old) (entry inodes (B.blocks blocks.old) at)))
-        (B.blocks blocks.old) (B.blocks blocks.new)) }
-    ensures none_taken { OnOk result (TakesNone (B.blocks blocks.old) (B.blocks blocks.new)) }
-    ensures touches { OnOk result (TouchesInode at (B.blocks blocks.old) (B.blocks blocks.new)) }
-    ensures kept { B.applied blocks.new ≡ B.applied blocks.old }
-{
-    let mut inode = [0; RECORD_SIZE];
-    get_record(blocks, INODES_AT, at, &mut inode);
-    let number = pointer_at(blocks, &inode, DIRECT_POINTERS);
+    let number = pointer_at(blocks, &inode, last);
+    drop_pointer(blocks, &mut inode, last)?;
     unmark(blocks, number)?;
-    unmark(blocks, number32(&inode, INDIRECT_AT))?;
-    put32(&mut inode, INDIRECT_AT, 0);
-    put64(
-        &mut inode,
-        SIZE_AT,
-        DIRECT_POINTERS as u64 * BLOCK_SIZE as u64,
-    );
+    put64(&mut inode, SIZE_AT, last as u64 * BLOCK_SIZE as u64);
     put_record(blocks, INODES_AT, at, &inode)
 }
 
-// Drops the last of more than eleven blocks.
-fn drop_indirect<B: Blocks>(
-    blocks: &mut B,
-    inodes: u32,
-    at: u32,
-    last: u32,
-) -> Result<(), AllocError>
-    requires room { HasRoom inodes (B.blocks blocks.old) }
-    requires rule { IsFileSystem inodes (B.blocks blocks.old) }
-    requires below { at < inodes }
-    requires file { IsFile (entry inodes (B.blocks blocks.old) at) }
-    requires counted { last + 1 ≡ block_count (entry inodes (B.blocks blocks.old) at) }
-    requires many { 10 < last }
-    ensures done { OnOk result (ReplacesContent inodes at
-        (take (4096 * last) (content_of (B.blocks blocks.old) (entry inodes (B.blocks blocks.old) at)))
-        (B.blocks blocks.old) (B.blocks blocks.new)) }
-    ensures none_taken { OnOk result (TakesNone (B.blocks blocks.old) (B.blocks blocks.new)) }
-    ensures touches { OnOk result (TouchesInode at (B.blocks blocks.old) (B.blocks blocks.new)) }
+// Drops the i-th pointer of an inode, which is the last, and its block of pointers if that has no other.
+fn drop_pointer<B: Blocks>(blocks: &mut B, inode: &mut [u8], i: u32) -> Result<(), AllocError>
+    requires whole { length inode.old ≡ 64 }
+    requires few { i < 65536 }
+    requires some { 2 ≤ length (B.blocks blocks.old) }
+    requires count_few { length (B.blocks blocks.old) ≤ 65536 }
+    requires names { NamesBlocks (indirect_for (i + 1)) (inode_entry (B.blocks blocks.old) inode.old) (B.blocks blocks.old) }
+    requires last { (j : ℕ) → i < j → pointer (inode_entry (B.blocks blocks.old) inode.old) j ≡ 0 }
+    ensures done { OnOk result (DropsPointer i inode.old inode.new (B.blocks blocks.old) (B.blocks blocks.new)) }
     ensures kept { B.applied blocks.new ≡ B.applied blocks.old }
 {
-    let mut inode = [0; RECORD_SIZE];
-    get_record(blocks, INODES_AT, at, &mut inode);
-    let indirect = number32(&inode, INDIRECT_AT);
-    let mut pointers = [0; BLOCK_SIZE];
-    blocks.get(indirect, &mut pointers);
-    let place = 4 * (last - DIRECT_POINTERS) as usize;
-    unmark(blocks, number32(&pointers, place))?;
-    put32(&mut pointers, place, 0);
-    blocks.put(indirect, &pointers)?;
-    put64(&mut inode, SIZE_AT, last as u64 * BLOCK_SIZE as u64);
-    put_record(blocks, INODES_AT, at, &inode)
+    if i % BLOCK_POINTERS == DIRECT_POINTERS {
+        return drop_table(blocks, inode, i / BLOCK_POINTERS);
+    }
+    put_pointer(blocks, inode, i, 0)
+}
+
+// Drops the p-th block of pointers of an inode, which is the last, and the double-indirect block if that names no
+// other.
+fn drop_table<B: Blocks>(blocks: &mut B, inode: &mut [u8], p: u32) -> Result<(), AllocError>
+    requires whole { length inode.old ≡ 64 }
+    requires few { p < 1024 }
+    requires some { 2 ≤ length (B.blocks blocks.old) }
+    requires count_few { length (B.blocks blocks.old) ≤ 65536 }
+    requires names { NamesBlocks (p + 1) (inode_entry (B.blocks blocks.old) inode.old) (B.blocks blocks.old) }
+    ensures done { OnOk result (DropsTable p inode.old inode.new (B.blocks blocks.old) (B.blocks blocks.new)) }
+    ensures kept { B.applied blocks.new ≡ B.applied blocks.old }
+{
+    let table = indirect_at(blocks, inode, p);
+    unmark(blocks, table)?;
+    if p != 1 {
+        return put_indirect(blocks, inode, p, 0);
+    }
+    unmark(blocks, number32(inode, DOUBLE_AT))?;
+    put32(inode, DOUBLE_AT, 0);
+    Ok(())
 }
 
 // Cuts the file of an inode at an end within its last block.
@@ -165,7 +123,7 @@ fn cut<B: Blocks>(blocks: &mut B, inodes: u32, at: u32, end: u64) -> Result<(), 
         (take end (content_of (B.blocks blocks.old) (entry inodes (B.blocks blocks.old) at)))
         (B.blocks blocks.old) (B.blocks blocks.new)) }
     ensures marks { OnOk result (SameMarks (B.blocks blocks.old) (B.blocks blocks.new)) }
-    ensures touches { OnOk result (TouchesInode at (B.blocks blocks.old) (B.blocks blocks.new)) }
+    ensures touches { OnOk result (TouchesInode at ((end + 4095) / 4096) ((end + 4095) / 4096) (B.blocks blocks.old) (B.blocks blocks.new)) }
     ensures kept { B.applied blocks.new ≡ B.applied blocks.old }
 {
     let mut inode = [0; RECORD_SIZE];

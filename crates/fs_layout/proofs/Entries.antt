@@ -8,7 +8,7 @@ use Rattle.std.proofs.lemmas.Bool.{cases_lt, ne_eqb}
 use Rattle.byteorder.specs.Endian.{little_from}
 use Rattle.model.specs.Stream.{Octets}
 use Rattle.model.specs.Volume.{number_at}
-use Rattle.model.specs.Files.{Entry, IsFree, kind, size, block_count, indirect_pointer, indirect_blocks, pointer, owned, name_in, slot_octets, content_of}
+use Rattle.model.specs.Files.{Entry, IsFree, kind, size, block_count, double_blocks, double_pointer, indirect_blocks, indirect_count, indirect_for, indirect_pointer, pointer, owned, name_in, slot_octets, content_of}
 use Rattle.volume.proofs.Octets.{blocks_from-flat_map}
 
 pub zero_at : (octets : Octets) (i : ℕ) → All (λ o. o ≡ 0) octets → get_or octets i 0 ≡ 0
@@ -36,10 +36,10 @@ module _ (e : Entry) (free : IsFree e) where
 
   pub free_owns : owned e ≡ []
   free_owns =
-      let no_indirect = zero_number 52 4 e.inode free.inode_zeros in
+      let no_double = zero_number 56 4 e.inode free.inode_zeros in
       let no_size = zero_number 4 8 e.inode free.inode_zeros in
-      ap (λ (n : ℕ). cond (eqb n 0) [] (n ∷ []) ++ map (λ i. pointer e i) (range_with_len 0 (block_count e))) no_indirect
-      ∙ ap (λ (n : ℕ). map (λ i. pointer e i) (range_with_len 0 ((n + 4095) / 4096))) no_size
+      ap (λ (n : ℕ). cond (eqb n 0) [] (n ∷ []) ++ (indirect_blocks e ++ map (λ i. pointer e i) (range_with_len 0 (block_count e)))) no_double
+      ∙ ap (λ (n : ℕ). map (λ p. indirect_pointer e p) (range_with_len 0 (indirect_for ((n + 4095) / 4096))) ++ map (λ i. pointer e i) (range_with_len 0 ((n + 4095) / 4096))) no_size
 
   pub free_slot : (name : Octets) → 1 ≤ length name → e.slot ≢ slot_octets name
   free_slot name some same =
@@ -54,17 +54,28 @@ name_in-slot_octets name = take_at name (replicate (63 - length name) 0) (length
 
 -- ---- what an entry owns
 
+in_range : (f : ℕ → ℕ) (n i : ℕ) → i < n → Contains (map f (range_with_len 0 n)) (f i)
+in_range f n i low =
+    subst (λ (m : ℕ). Contains (map f (range_with_len 0 n)) m)
+    (get_or-map-range_with_len f 0 n i i 0 low (omega arith))
+    (Contains-get_or (map f (range_with_len 0 n)) i 0 (omega (arith, length-map-range_with_len f 0 n)))
+
 pub owns_pointer : (e : Entry) (i : ℕ) → i < block_count e → Contains (owned e) (pointer e i)
 owns_pointer e i low =
-    Contains-append_right (indirect_blocks e) (map (λ i. pointer e i) (range_with_len 0 (block_count e))) (pointer e i)
-    (subst (λ (n : ℕ). Contains (map (λ i. pointer e i) (range_with_len 0 (block_count e))) n)
-    (get_or-map-range_with_len (λ i. pointer e i) 0 (block_count e) i i 0 low (omega arith))
-    (Contains-get_or (map (λ i. pointer e i) (range_with_len 0 (block_count e))) i 0 (omega (arith, length-map-range_with_len (λ i. pointer e i) 0 (block_count e)))))
+    Contains-append_right (double_blocks e) (indirect_blocks e ++ map (λ i. pointer e i) (range_with_len 0 (block_count e))) (pointer e i)
+    (Contains-append_right (indirect_blocks e) (map (λ i. pointer e i) (range_with_len 0 (block_count e))) (pointer e i)
+    (in_range (λ i. pointer e i) (block_count e) i low))
 
-pub owns_indirect : (e : Entry) → indirect_pointer e ≢ 0 → Contains (owned e) (indirect_pointer e)
-owns_indirect e some =
-    Contains-append_left (indirect_blocks e) (map (λ i. pointer e i) (range_with_len 0 (block_count e))) (indirect_pointer e)
-    (subst (λ (b : Bool). Contains (cond b [] (indirect_pointer e ∷ [])) (indirect_pointer e)) (sym (ne_eqb (indirect_pointer e) 0 some)) (0, omega arith, refl))
+pub owns_indirect : (e : Entry) (p : ℕ) → p < indirect_count e → Contains (owned e) (indirect_pointer e p)
+owns_indirect e p low =
+    Contains-append_right (double_blocks e) (indirect_blocks e ++ map (λ i. pointer e i) (range_with_len 0 (block_count e))) (indirect_pointer e p)
+    (Contains-append_left (indirect_blocks e) (map (λ i. pointer e i) (range_with_len 0 (block_count e))) (indirect_pointer e p)
+    (in_range (λ q. indirect_pointer e q) (indirect_count e) p low))
+
+pub owns_double : (e : Entry) → double_pointer e ≢ 0 → Contains (owned e) (double_pointer e)
+owns_double e some =
+    Contains-append_left (double_blocks e) (indirect_blocks e ++ map (λ i. pointer e i) (range_with_len 0 (block_count e))) (double_pointer e)
+    (subst (λ (b : Bool). Contains (cond b [] (double_pointer e ∷ [])) (double_pointer e)) (sym (ne_eqb (double_pointer e) 0 some)) (0, omega arith, refl))
 
 -- ---- its content
 

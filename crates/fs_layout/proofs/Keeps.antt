@@ -1,13 +1,14 @@
 -- What a change of one entry keeps.
-use Rattle.std.proofs.Common.{◌≡◌, ◌≢◌, ◌⊎◌, ◌↔◌, inl, inr, ◌<◌, ◌≤◌, ℕ, ◌+◌, ◌*◌, ◌/◌, ◌%◌, ◌^◌, cond, eqb, Bool, IsTrue, Some, None, List, [], length, get_or, take, refl, sym, ◌∙◌, ap, subst, arith}
+use Rattle.std.proofs.Common.{◌≡◌, ◌≢◌, ◌⊎◌, ◌↔◌, inl, inr, ◌<◌, ◌≤◌, ℕ, ◌+◌, ◌-◌, ◌*◌, ◌/◌, ◌%◌, ◌^◌, cond, eqb, Bool, true, false, IsTrue, Some, None, List, [], length, get_or, take, refl, sym, ◌∙◌, ap, subst, arith}
 use Rattle.std.specs.List.{All, Contains}
 use Rattle.std.proofs.lemmas.Bool.{cases_eq, eq-eqb}
+use Rattle.std.proofs.lemmas.List.Elements.{All-nil}
 use Rattle.disk.specs.Image.{part}
 use Rattle.model.specs.Stream.{Octets}
 use Rattle.model.specs.Volume.{number_at, AreDistinct}
-use Rattle.model.specs.Files.{Entry, HasRoom, IsFile, IsFree, kind, size, block_count, pointer, owned, name_in, content_of, entry, inode_of, slot_of, indirect_of, first_data, is_marked_used, IsUsed, IsFileSystem, file_at}
+use Rattle.model.specs.Files.{Entry, HasRoom, IsFile, IsFree, kind, size, block_count, double_pointer, entry_of, indirect_count, indirect_number, indirect_pointer, pointer, owned, name_in, content_of, entry, inode_of, slot_of, indirect_of, first_data, is_marked_used, IsUsed, IsFileSystem, file_at}
 use Rattle.fs_layout.specs.Blocks.{PutsRecord, record_at}
-use Rattle.fs_layout.proofs.Entries.{owns_pointer, owns_indirect, flat_map_same}
+use Rattle.fs_layout.proofs.Entries.{owns_double, owns_pointer, owns_indirect, flat_map_same, zero_number}
 
 -- no inode or slot changes but those of inode k, and no block changes but these
 pub record PutsEntry (inodes k : ℕ) (inode slot : Octets) (touched : ℕ → Type 0) (old new : List Octets) : Type 0 where
@@ -75,30 +76,50 @@ puts_then inodes k inode inode' slot slot' a b c first second = record {
 
 -- ---- what else stays
 
-pub same_entry : (i i' s s' d d' : Octets) → i ≡ i' → s ≡ s' → d ≡ d' → ◌≡◌ {A = Entry} (record { inode = i; slot = s; indirect = d }) (record { inode = i'; slot = s'; indirect = d' })
-same_entry i i' s s' d d' is ss ds =
-    ap (λ (o : Octets). record { inode = o; slot = s; indirect = d }) is
-    ∙ ap (λ (o : Octets). record { inode = i'; slot = o; indirect = d }) ss
-    ∙ ap (λ (o : Octets). record { inode = i'; slot = s'; indirect = o }) ds
+-- a number names the same octets if its block is the same
+pub indirect_same : (old new : List Octets) (n : ℕ) → (n ≢ 0 → get_or new n [] ≡ get_or old n []) → indirect_of new n ≡ indirect_of old n
+indirect_same old new n same = elim (cases_eq n 0) [
+  | inl none ↦ ap (λ (b : Bool). cond b [] (get_or new n [])) (eq-eqb n 0 none) ∙ sym (ap (λ (b : Bool). cond b [] (get_or old n [])) (eq-eqb n 0 none))
+  | inr some ↦ ap (λ (o : Octets). cond (eqb n 0) [] o) (same some)
+]
+
+none_there : (blocks : List Octets) (n : ℕ) → n ≡ 0 → indirect_of blocks n ≡ []
+none_there blocks n is = ap (λ (b : Bool). cond b [] (get_or blocks n [])) (eq-eqb n 0 is)
+
+-- a free entry names no block of pointers
+free_points : (blocks : List Octets) (inode slot : Octets) → IsFree (entry_of blocks inode slot) → (p : ℕ) → indirect_pointer (entry_of blocks inode slot) p ≡ 0
+free_points blocks inode slot free p = by_test (eqb p 0) where
+  by_test : (b : Bool) → cond b (number_at 52 4 inode) (number_at (4 * (p - 1)) 4 (indirect_of blocks (number_at 56 4 inode))) ≡ 0
+  by_test true = zero_number 52 4 inode free.inode_zeros
+  by_test false = ap (number_at (4 * (p - 1)) 4) (none_there blocks (number_at 56 4 inode) (zero_number 56 4 inode free.inode_zeros)) ∙ zero_number (4 * (p - 1)) 4 [] (All-nil (λ o. o ≡ 0))
+
+-- an entry owns each block of pointers that it names
+pub named_owned : (blocks : List Octets) (inode slot : Octets) → IsFree (entry_of blocks inode slot) ⊎ IsFile (entry_of blocks inode slot) → (p : ℕ) → indirect_pointer (entry_of blocks inode slot) p ≢ 0 → Contains (owned (entry_of blocks inode slot)) (indirect_pointer (entry_of blocks inode slot) p)
+named_owned blocks inode slot (inl free) p some = absurd (some (free_points blocks inode slot free p))
+named_owned blocks inode slot (inr file) p some = owns_indirect (entry_of blocks inode slot) p ((file.indirect_where p).1 some)
+
+-- entries are equal if they name the same octets
+pub same_entry : (old new : List Octets) (i i' s s' : Octets) → i ≡ i' → s ≡ s' → indirect_of new (number_at 56 4 i') ≡ indirect_of old (number_at 56 4 i')
+    → ((p : ℕ) → indirect_of new (indirect_pointer (entry_of old i' s') p) ≡ indirect_of old (indirect_pointer (entry_of old i' s') p)) → entry_of new i s ≡ entry_of old i' s'
+same_entry old new i i' s s' is ss ds ps =
+    ap (λ (o : Octets). entry_of new o s) is
+    ∙ ap (λ (o : Octets). entry_of new i' o) ss
+    ∙ (λ j. record { inode = i'; slot = s'; double = ds j; pointers = λ p. indirect_of new (indirect_number i' (ds j) p) })
+    ∙ (λ j. record { inode = i'; slot = s'; double = indirect_of old (number_at 56 4 i'); pointers = λ p. ps p j })
 
 module _ (inodes k : ℕ) (inode slot : Octets) (touched : ℕ → Type 0) (old new : List Octets) (puts : PutsEntry inodes k inode slot touched old new) (fs : IsFileSystem inodes old) (untouched : (l b : ℕ) → l < inodes → l ≢ k → Contains (owned (entry inodes old l)) b → ¬ (touched b)) where
   pub entry_other : (l : ℕ) → l < inodes → l ≢ k → entry inodes new l ≡ entry inodes old l
   entry_other l below other =
-      same_entry (inode_of new l) (inode_of old l) (slot_of inodes new l) (slot_of inodes old l)
-      (indirect_of new (number_at 52 4 (inode_of new l))) (indirect_of old (number_at 52 4 (inode_of old l)))
+      same_entry old new (inode_of new l) (inode_of old l) (slot_of inodes new l) (slot_of inodes old l)
       (puts.inodes_other l below other) (puts.slots_other l below other)
-      (ap (λ (o : Octets). indirect_of new (number_at 52 4 o)) (puts.inodes_other l below other) ∙ indirect_same)
+      (indirect_same old new (double_pointer e) (λ some. stays (double_pointer e) (owns_double e some)))
+      (λ p. indirect_same old new (indirect_pointer e p) (λ some. stays (indirect_pointer e p) (named_owned old (inode_of old l) (slot_of inodes old l) (fs.each l below) p some)))
     where
-      n : ℕ
-      n = number_at 52 4 (inode_of old l)
+      e : Entry
+      e = entry inodes old l
 
-      indirect_same : indirect_of new (number_at 52 4 (inode_of old l)) ≡ indirect_of old (number_at 52 4 (inode_of old l))
-      indirect_same = elim (cases_eq (number_at 52 4 (inode_of old l)) 0) [
-        | inl none ↦ ap (λ (b : Bool). cond b [] (get_or new (number_at 52 4 (inode_of old l)) [])) (eq-eqb (number_at 52 4 (inode_of old l)) 0 none) ∙ sym (ap (λ (b : Bool). cond b [] (get_or old (number_at 52 4 (inode_of old l)) [])) (eq-eqb (number_at 52 4 (inode_of old l)) 0 none))
-        | inr some ↦
-            let owns = owns_indirect (entry inodes old l) some in
-            ap (λ (o : Octets). cond (eqb (number_at 52 4 (inode_of old l)) 0) [] o) (puts.data_same (number_at 52 4 (inode_of old l)) ((fs.within l (number_at 52 4 (inode_of old l)) below owns).0) (untouched l (number_at 52 4 (inode_of old l)) below other owns))
-      ]
+      stays : (n : ℕ) → Contains (owned (entry inodes old l)) n → get_or new n [] ≡ get_or old n []
+      stays n owns = puts.data_same n ((fs.within l n below owns).0) (untouched l n below other owns)
 
   pub file_other : (l : ℕ) → l < inodes → l ≢ k → file_at inodes new l ≡ file_at inodes old l
   file_other l below other =

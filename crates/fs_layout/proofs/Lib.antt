@@ -1,4 +1,5 @@
 pub mod Counts
+pub mod Distinct
 pub mod Entries
 pub mod Keeps
 pub mod Marking

@@ -1,17 +1,14 @@
 -- Changes one after the other, and the blocks that they reach.
-use Rattle.std.proofs.Common.{◌≡◌, ◌≢◌, ◌⊎◌, inl, inr, ◌<◌, ◌≤◌, ℕ, ◌+◌, ◌*◌, ◌/◌, ◌%◌, List, [], ◌∷◌, ◌++◌, length, get_or, set, refl, sym, ◌∙◌, ap, arith, length-append}
-use Rattle.std.specs.List.{Contains}
-use Rattle.std.proofs.lemmas.Bool.{cases_lt}
+use Rattle.std.proofs.Common.{◌≡◌, ◌≢◌, ◌⊎◌, inl, inr, ◌<◌, ◌≤◌, ℕ, ◌+◌, ◌-◌, ◌*◌, ◌/◌, ◌%◌, cond, eqb, ltb, Bool, List, [], ◌∷◌, ◌++◌, length, get_or, map, set, refl, sym, ◌∙◌, ap, subst, arith, length-append}
+use Rattle.std.specs.List.{Contains, range_with_len}
+use Rattle.std.proofs.lemmas.Bool.{cases_lt, le-ltb, lt-ltb, ne_eqb}
 use Rattle.std.proofs.lemmas.List.{get_or-set_other}
 use Rattle.std.proofs.lemmas.List.Elements.{Contains-append_left, Contains-append_right, Contains-push_cases}
-use Rattle.byteorder.specs.Endian.{little_bytes}
-use Rattle.disk.specs.Image.{overwritten}
-use Rattle.disk.proofs.Images.{length-overwritten}
-use Rattle.volume_format.proofs.Numbers.{number_at_apart, number_at_written}
+use Rattle.std.proofs.lemmas.List.FromFn.{length-map-range_with_len, get_or-map-range_with_len}
 use Rattle.model.specs.Stream.{Octets}
-use Rattle.model.specs.Volume.{number_at}
+use Rattle.model.specs.Room.{content_blocks, pointers_put}
 use Rattle.fs_layout.specs.Blocks.{PutsRecord}
-use Rattle.fs_layout.specs.Touches.{SameBut, Touches, TouchesInode, TouchesData, inode_block, slot_block, indirect_block, blocks_reached, touched_by_growth}
+use Rattle.fs_layout.specs.Touches.{SameBut, Touches, TouchesInode, TouchesData, inode_block, slot_block, double_of, table_of, blocks_reached, touched_by_cut, touched_by_growth}
 
 -- ---- lists of numbers
 
@@ -72,103 +69,169 @@ slot_then_inode inodes k octets slot old mid new first second = record {
       ∙ first.blocks b (λ is. lacks (is_later (inode_block k) (slot_block inodes k ∷ []) b (is_first (slot_block inodes k) [] b is)));
 }
 
--- ---- an inode and its indirect block
+-- ---- an inode, and the blocks that name blocks
 
-pub inode_none : (k : ℕ) (old : List Octets) → TouchesInode k old old
-inode_none k old = record { same = λ b some other indirect. refl; indirect = inl refl }
+pub inode_none : (k from : ℕ) (old : List Octets) → TouchesInode k from from old old
+inode_none k from old = record { same = λ b some other named. refl; double = inl refl; tables = λ p. inl refl }
 
-pub inode_then : (k : ℕ) (old mid new : List Octets) → TouchesInode k old mid → TouchesInode k mid new → TouchesInode k old new
-inode_then k old mid new first second = record {
-  same = λ b some other indirect.
-      second.same b some other (elim first.indirect [
-        | inl stays ↦ λ is. indirect (is ∙ stays)
-        | inr goes ↦ λ is. omega (arith, some, is, goes)
-      ])
-      ∙ first.same b some other indirect;
-  indirect = elim second.indirect [
-    | inl stays ↦ elim first.indirect [ inl stayed ↦ inl (stays ∙ stayed) | inr gone ↦ inr (stays ∙ gone) ]
+-- blocks are freed from the end
+pub inode_then : (k from mid_at to : ℕ) (old mid new : List Octets) → from ≤ mid_at → mid_at ≤ to → TouchesInode k mid_at to old mid → TouchesInode k from mid_at mid new → TouchesInode k from to old new
+inode_then k from mid_at to old mid new low high first second = record {
+  same = λ b some other named.
+      second.same b some other (λ i above below. (
+        elim first.double [
+          | inl stays ↦ λ is. (named i above (omega (arith, below, high))).0 (is ∙ stays)
+          | inr goes ↦ λ is. omega (arith, some, is, goes)
+        ],
+        elim (first.tables ((i - 10) / 1024)) [
+          | inl stays ↦ λ is. (named i above (omega (arith, below, high))).1 (is ∙ stays)
+          | inr goes ↦ λ is. omega (arith, some, is, goes)
+        ],
+      ))
+      ∙ first.same b some other (λ i above below. named i (omega (arith, above, low)) below);
+  double = elim second.double [
+    | inl stays ↦ elim first.double [ inl stayed ↦ inl (stays ∙ stayed) | inr gone ↦ inr (stays ∙ gone) ]
+    | inr goes ↦ inr goes
+  ];
+  tables = λ p. elim (second.tables p) [
+    | inl stays ↦ elim (first.tables p) [ inl stayed ↦ inl (stays ∙ stayed) | inr gone ↦ inr (stays ∙ gone) ]
     | inr goes ↦ inr goes
   ];
 }
 
--- the inode is put again, after other blocks
-pub inode_record : (k : ℕ) (octets : Octets) (old mid new : List Octets) → ((b : ℕ) → 2 ≤ b → b ≢ indirect_block old k → get_or mid b [] ≡ get_or old b []) → PutsRecord 2 k octets mid new → (number_at 52 4 octets ≡ indirect_block old k) ⊎ (number_at 52 4 octets ≡ 0) → TouchesInode k old new
-inode_record k octets old mid new first puts is = record {
-  same = λ b some other indirect. puts.blocks b other ∙ first b some indirect;
-  indirect = elim is [
-    | inl stays ↦ inl (ap (λ (o : Octets). number_at 52 4 o) puts.here ∙ stays)
-    | inr goes ↦ inr (ap (λ (o : Octets). number_at 52 4 o) puts.here ∙ goes)
-  ];
-}
+-- the blocks that name the blocks of a file's octets from one place to another
+pub record Naming (d : ℕ) (t : ℕ → ℕ) (from to end : ℕ) : Type 0 where
+  pub blocks : List ℕ
+  pub few : length blocks ≤ pointers_put (to - from) end
+  pub apart : (b : ℕ) → 2 ≤ b → ¬ (Contains blocks b) → (i : ℕ) → from ≤ i → i < to → (b ≢ d) × (b ≢ t ((i - 10) / 1024))
 
-pub inode_touches : (k : ℕ) (old new : List Octets) → TouchesInode k old new → Touches 2 old new
-inode_touches k old new touches = record {
-  others = inode_block k ∷ indirect_block old k ∷ [];
-  few = omega arith;
-  same = λ b some lacks.
-      touches.same b some (λ is. lacks (is_first (inode_block k) (indirect_block old k ∷ []) b is))
-      (λ is. lacks (is_later (inode_block k) (indirect_block old k ∷ []) b (is_first (indirect_block old k) [] b is)));
-}
+module _ (d : ℕ) (t : ℕ → ℕ) (from to end : ℕ) (counted : to ≡ (end + 4095) / 4096) (within : from ≤ to) (no_double : to ≤ 1034 → d ≡ 0) (no_table : to ≤ 10 → t 0 ≡ 0) where
+  -- the place of the first of them, and their number
+  abbrev first : ℕ
+  first = (from - 10) / 1024
 
--- and then its slot
-pub inode_and_slot : (inodes k : ℕ) (old mid new : List Octets) → TouchesInode k old mid → SameBut (inode_block k ∷ slot_block inodes k ∷ []) mid new → Touches 3 old new
-inode_and_slot inodes k old mid new first second = record {
-  others = slot_block inodes k ∷ inode_block k ∷ indirect_block old k ∷ [];
-  few = omega arith;
-  same = λ b some lacks.
-      let other : b ≢ inode_block k = λ is. lacks (is_later (slot_block inodes k) (inode_block k ∷ indirect_block old k ∷ []) b (is_first (inode_block k) (indirect_block old k ∷ []) b is)) in
-      let indirect : b ≢ indirect_block old k = λ is. lacks (is_later (slot_block inodes k) (inode_block k ∷ indirect_block old k ∷ []) b (is_later (inode_block k) (indirect_block old k ∷ []) b (is_first (indirect_block old k) [] b is))) in
-      let slot : b ≢ slot_block inodes k = λ is. lacks (is_first (slot_block inodes k) (inode_block k ∷ indirect_block old k ∷ []) b is) in
-      second b some (not_two (inode_block k) (slot_block inodes k) b other slot) ∙ first.same b some other indirect;
-}
+  abbrev many : ℕ
+  many = (to - 11) / 1024 - (from - 10) / 1024 + 1
+
+  abbrev their : List ℕ
+  their = map t (range_with_len first many)
+
+  is_theirs : (i : ℕ) → from ≤ i → i < to → Contains their (t ((i - 10) / 1024))
+  is_theirs i above below =
+      let place : (i - 10) / 1024 - first < many = omega (arith, above, below) in
+      let at : first + ((i - 10) / 1024 - first) ≡ (i - 10) / 1024 = omega (arith, above) in
+      let long = length-map-range_with_len t first many in
+      ((i - 10) / 1024 - first, omega (arith, place, long), get_or-map-range_with_len t first many ((i - 10) / 1024 - first) ((i - 10) / 1024) (t ((i - 10) / 1024)) place at)
+
+  value : from < to → pointers_put (to - from) end ≡ cond (ltb 4235264 end) (2 + (to - from + 1022) / 1024) (cond (ltb 40960 end) 1 0)
+  value some =
+      ap (λ (b : Bool). cond {A = ℕ} b 0 (cond (ltb 4235264 end) (2 + (to - from + 1022) / 1024) (cond (ltb 40960 end) 1 0)))
+      (ne_eqb (to - from) 0 (λ none. absurd (omega (arith, some, none))))
+
+  -- in a file of at most 1,034 blocks they are in one block of pointers
+  value_middle : 40960 < end → end ≤ 4235264 → from < to → pointers_put (to - from) end ≡ 1
+  value_middle large middle some =
+      value some
+      ∙ ap (λ (b : Bool). cond {A = ℕ} b (2 + (to - from + 1022) / 1024) (cond (ltb 40960 end) 1 0)) (le-ltb 4235264 end middle)
+      ∙ ap (λ (b : Bool). cond {A = ℕ} b 1 0) (lt-ltb 40960 end large)
+
+  few_middle : end ≤ 4235264 → from < to → length their ≤ 1
+  few_middle middle some = omega (arith, length-map-range_with_len t first many, some, counted, middle)
+
+  value_huge : 4235264 < end → from < to → pointers_put (to - from) end ≡ 2 + (to - from + 1022) / 1024
+  value_huge huge some = value some ∙ ap (λ (b : Bool). cond {A = ℕ} b (2 + (to - from + 1022) / 1024) (cond (ltb 40960 end) 1 0)) (lt-ltb 4235264 end huge)
+
+  few_huge : from < to → length their ≤ 1 + (to - from + 1022) / 1024
+  few_huge some = omega (arith, length-map-range_with_len t first many, some)
+
+  pub naming : Naming d t from to end
+  naming = elim (cases_lt from to) [
+    | inr none ↦ record { blocks = []; few = omega arith; apart = λ b some lacks i above below. absurd (omega (arith, above, below, none)) }
+    | inl some_i ↦ elim (cases_lt 40960 end) [
+      | inr small ↦ record {
+        blocks = [];
+        few = omega arith;
+        apart = λ b some lacks i above below.
+            let place : (i - 10) / 1024 ≡ 0 = omega (arith, below, counted, small) in (
+              (λ is. absurd (let none = no_double (omega (arith, counted, small)) in omega (arith, some, is, none))),
+              (λ is. absurd (let none = no_table (omega (arith, counted, small)) in let same = ap t place in omega (arith, some, is, none, same))),
+            );
+      }
+      | inl large ↦ elim (cases_lt 4235264 end) [
+        | inr middle ↦ record {
+          blocks = their;
+          few = omega (arith, value_middle large middle some_i, few_middle middle some_i);
+          apart = λ b some lacks i above below. (
+            (λ is. absurd (let none = no_double (omega (arith, counted, middle)) in omega (arith, some, is, none))),
+            (λ is. lacks (subst (λ (n : ℕ). Contains their n) (sym is) (is_theirs i above below))),
+          );
+        }
+        | inl huge ↦ record {
+          blocks = d ∷ their;
+          few = omega (arith, value_huge huge some_i, few_huge some_i);
+          apart = λ b some lacks i above below. (
+            (λ is. lacks (is_first d their b is)),
+            (λ is. lacks (is_later d their b (subst (λ (n : ℕ). Contains their n) (sym is) (is_theirs i above below)))),
+          );
+        }
+      ]
+    ]
+  ]
+
+-- a file of `was` octets is cut to `size`
+module _ (k was size : ℕ) (old new : List Octets) (less : size ≤ was) (no_double : content_blocks was ≤ 1034 → double_of old k ≡ 0) (no_table : content_blocks was ≤ 10 → table_of old k 0 ≡ 0) (touches : TouchesInode k (content_blocks size) (content_blocks was) old new) where
+  named : Naming (double_of old k) (table_of old k) (content_blocks size) (content_blocks was) was
+  named = naming (double_of old k) (table_of old k) (content_blocks size) (content_blocks was) was refl (omega (arith, less)) no_double no_table
+
+  pub inode_touches : Touches (touched_by_cut was size) old new
+  inode_touches = record {
+    others = inode_block k ∷ named.blocks;
+    few = omega (arith, named.few);
+    same = λ b some lacks.
+        touches.same b some (λ is. lacks (is_first (inode_block k) named.blocks b is))
+        (named.apart b some (λ has. lacks (is_later (inode_block k) named.blocks b has)));
+  }
+
+  -- then its inode and its slot are freed
+  pub inode_and_slot : (inodes : ℕ) (newer : List Octets) → SameBut (inode_block k ∷ slot_block inodes k ∷ []) new newer → Touches (1 + touched_by_cut was size) old newer
+  inode_and_slot inodes newer second = record {
+    others = slot_block inodes k ∷ inode_block k ∷ named.blocks;
+    few = omega (arith, named.few);
+    same = λ b some lacks.
+        let slot : b ≢ slot_block inodes k = λ is. lacks (is_first (slot_block inodes k) (inode_block k ∷ named.blocks) b is) in
+        let other : b ≢ inode_block k = λ is. lacks (is_later (slot_block inodes k) (inode_block k ∷ named.blocks) b (is_first (inode_block k) named.blocks b is)) in
+        second b some (not_two (inode_block k) (slot_block inodes k) b other slot)
+        ∙ touches.same b some other (named.apart b some (λ has. lacks (is_later (slot_block inodes k) (inode_block k ∷ named.blocks) b (is_later (inode_block k) named.blocks b has))));
+  }
 
 -- ---- data
 
-pub data_none : (k : ℕ) (old : List Octets) → TouchesData k [] old old
-data_none k old = record { same = λ b some other indirect lacks. refl; indirect = inr refl }
+pub data_none : (k from : ℕ) (old : List Octets) → TouchesData k [] from from old old
+data_none k from old = record { same = λ b some other named lacks. refl; double = inr refl; tables = λ p. inr refl }
 
-pub data_then : (k : ℕ) (xs ys : List ℕ) (old mid new : List Octets) → TouchesData k xs old mid → TouchesData k ys mid new → TouchesData k (ys ++ xs) old new
-data_then k xs ys old mid new first second = record {
-  same = λ b some other indirect lacks.
-      second.same b some other indirect (λ has. lacks (Contains-append_left ys xs b has))
-      ∙ first.same b some other (elim second.indirect [
-        | inl none ↦ λ is. omega (arith, some, is, none)
-        | inr stays ↦ λ is. indirect (is ∙ sym stays)
-      ]) (λ has. lacks (Contains-append_right ys xs b has));
-  indirect = elim first.indirect [
+pub data_then : (k : ℕ) (xs ys : List ℕ) (from mid_at to : ℕ) (old mid new : List Octets) → from ≤ mid_at → mid_at ≤ to → TouchesData k xs from mid_at old mid → TouchesData k ys mid_at to mid new → TouchesData k (ys ++ xs) from to old new
+data_then k xs ys from mid_at to old mid new low high first second = record {
+  same = λ b some other named lacks.
+      second.same b some other (λ i above below. named i (omega (arith, above, low)) below) (λ has. lacks (Contains-append_left ys xs b has))
+      ∙ first.same b some other (λ i above below. (
+        elim second.double [
+          | inl none ↦ λ is. omega (arith, some, is, none)
+          | inr stays ↦ λ is. (named i above (omega (arith, below, high))).0 (is ∙ sym stays)
+        ],
+        elim (second.tables ((i - 10) / 1024)) [
+          | inl none ↦ λ is. omega (arith, some, is, none)
+          | inr stays ↦ λ is. (named i above (omega (arith, below, high))).1 (is ∙ sym stays)
+        ],
+      )) (λ has. lacks (Contains-append_right ys xs b has));
+  double = elim first.double [
     | inl none ↦ inl none
-    | inr stayed ↦ elim second.indirect [ inl none ↦ inl (sym stayed ∙ none) | inr stays ↦ inr (stays ∙ stayed) ]
+    | inr stayed ↦ elim second.double [ inl none ↦ inl (sym stayed ∙ none) | inr stays ↦ inr (stays ∙ stayed) ]
+  ];
+  tables = λ p. elim (first.tables p) [
+    | inl none ↦ inl none
+    | inr stayed ↦ elim (second.tables p) [ inl none ↦ inl (sym stayed ∙ none) | inr stays ↦ inr (stays ∙ stayed) ]
   ];
 }
-
--- a piece is put into a block, and then the inode again
-pub piece_touches : (k number : ℕ) (block inode octets : Octets) (old mid later new : List Octets) → number_at 52 4 octets ≡ number_at 52 4 inode → later ≡ set mid number block → ((b : ℕ) → 2 ≤ b → b ≢ number_at 52 4 inode → get_or mid b [] ≡ get_or old b []) → (indirect_block old k ≡ 0) ⊎ (number_at 52 4 inode ≡ indirect_block old k) → PutsRecord 2 k octets later new → TouchesData k (number ∷ []) old new
-piece_touches k number block inode octets old mid later new sized put first indirect puts =
-    let is : indirect_block new k ≡ number_at 52 4 inode = ap (λ (o : Octets). number_at 52 4 o) puts.here ∙ sized in
-    record {
-      same = λ b some other apart lacks.
-          puts.blocks b other ∙ ap (λ (bs : List Octets). get_or bs b []) put
-          ∙ get_or-set_other mid number b block [] (λ same. lacks (is_first number [] b same))
-          ∙ first b some (λ same. apart (same ∙ sym is));
-      indirect = elim indirect [ inl none ↦ inl none | inr stays ↦ inr (is ∙ stays) ];
-    }
-
--- the octets of an inode whose size is put
-pub sized_indirect : (n : ℕ) (inode octets : Octets) → length inode ≡ 64 → octets ≡ overwritten 4 (little_bytes 8 n) inode → number_at 52 4 octets ≡ number_at 52 4 inode
-sized_indirect n inode octets size is =
-    ap (λ (o : Octets). number_at 52 4 o) is ∙ number_at_apart 4 (little_bytes 8 n) inode (omega (arith, size)) 52 4 (inr (omega arith))
-
--- a pointer of an inode before its indirect one is put, and its size
-pub pointed_indirect : (place m n : ℕ) (inode was octets : Octets) → length inode ≡ 64 → place + 4 ≤ 52 → was ≡ overwritten place (little_bytes 4 m) inode → octets ≡ overwritten 4 (little_bytes 8 n) was → number_at 52 4 octets ≡ number_at 52 4 inode
-pointed_indirect place m n inode was octets size low first second =
-    sized_indirect n was octets (ap (λ (o : Octets). length o) first ∙ length-overwritten place (little_bytes 4 m) inode (omega (arith, size, low)) ∙ size) second
-    ∙ ap (λ (o : Octets). number_at 52 4 o) first ∙ number_at_apart place (little_bytes 4 m) inode (omega (arith, size, low)) 52 4 (inr (omega (arith, low)))
-
--- its indirect one goes
-pub no_indirect : (n : ℕ) (inode was octets : Octets) → length inode ≡ 64 → was ≡ overwritten 52 (little_bytes 4 0) inode → octets ≡ overwritten 4 (little_bytes 8 n) was → number_at 52 4 octets ≡ 0
-no_indirect n inode was octets size first second =
-    sized_indirect n was octets (ap (λ (o : Octets). length o) first ∙ length-overwritten 52 (little_bytes 4 0) inode (omega (arith, size)) ∙ size) second
-    ∙ ap (λ (o : Octets). number_at 52 4 o) first ∙ number_at_written 52 4 0 inode (omega (arith, size)) (omega arith)
 
 -- ---- how many blocks octets reach, piece by piece: each piece ends at the end of a block, or at the last octet
 
@@ -202,25 +265,36 @@ reached_all place from count n so_far within = omega (arith, so_far.few, within)
 -- a file of so many octets has got the first of so many more
 pub record Spread (k size from count : ℕ) (old new : List Octets) : Type 0 where
   pub blocks : List ℕ
-  pub touched : TouchesData k blocks old new
+  pub touched : TouchesData k blocks (content_blocks size) (content_blocks (size + from)) old new
   pub reached : Reached size from count (length blocks)
 
 pub spread_none : (k size count : ℕ) (old : List Octets) → Spread k size 0 count old old
-spread_none k size count old = record { blocks = []; touched = data_none k old; reached = reached_none size count }
+spread_none k size count old = record {
+  blocks = [];
+  touched = let none : size ≡ size + 0 = omega arith in subst (λ (n : ℕ). TouchesData k [] (content_blocks size) (content_blocks n) old old) none (data_none k (content_blocks size) old);
+  reached = reached_none size count;
+}
 
-pub spread_more : (k size from some count : ℕ) (old mid new : List Octets) → Spread k size from count old mid → (block : ℕ) × TouchesData k (block ∷ []) mid new → from < count → 0 < some → (from + some < count → (size + (from + some)) % 4096 ≡ 0) → from + some ≤ count → Spread k size (from + some) count old new
+pub spread_more : (k size from some count : ℕ) (old mid new : List Octets) → Spread k size from count old mid → (block : ℕ) × TouchesData k (block ∷ []) (content_blocks (size + from)) (content_blocks (size + from + some)) mid new → from < count → 0 < some → (from + some < count → (size + (from + some)) % 4096 ≡ 0) → from + some ≤ count → Spread k size (from + some) count old new
 spread_more k size from some count old mid new so_far (block, piece) left positive whole within = record {
   blocks = block ∷ so_far.blocks;
-  touched = data_then k so_far.blocks (block ∷ []) old mid new so_far.touched piece;
+  touched =
+      let sum : size + from + some ≡ size + (from + some) = omega arith in
+      subst (λ (n : ℕ). TouchesData k (block ∷ so_far.blocks) (content_blocks size) (content_blocks n) old new) sum
+      (data_then k so_far.blocks (block ∷ []) (content_blocks size) (content_blocks (size + from)) (content_blocks (size + from + some)) old mid new (omega arith) (omega arith) so_far.touched piece);
   reached = reached_more size from some count block so_far.blocks so_far.reached left positive whole within;
 }
 
-pub spread_all : (k size from count : ℕ) (old new : List Octets) → Spread k size from count old new → from ≤ count → Touches (touched_by_growth size count) old new
-spread_all k size from count old new so_far within = record {
-  others = inode_block k ∷ indirect_block new k ∷ so_far.blocks;
-  few = omega (arith, reached_all size from count (length so_far.blocks) so_far.reached within);
-  same = λ b some lacks.
-      so_far.touched.same b some (λ is. lacks (is_first (inode_block k) (indirect_block new k ∷ so_far.blocks) b is))
-      (λ is. lacks (is_later (inode_block k) (indirect_block new k ∷ so_far.blocks) b (is_first (indirect_block new k) so_far.blocks b is)))
-      (λ has. lacks (is_later (inode_block k) (indirect_block new k ∷ so_far.blocks) b (is_later (indirect_block new k) so_far.blocks b has)));
-}
+module _ (k size count : ℕ) (old new : List Octets) (no_double : content_blocks (size + count) ≤ 1034 → double_of new k ≡ 0) (no_table : content_blocks (size + count) ≤ 10 → table_of new k 0 ≡ 0) (so_far : Spread k size count count old new) where
+  spread_named : Naming (double_of new k) (table_of new k) (content_blocks size) (content_blocks (size + count)) (size + count)
+  spread_named = naming (double_of new k) (table_of new k) (content_blocks size) (content_blocks (size + count)) (size + count) refl (omega arith) no_double no_table
+
+  pub spread_all : Touches (touched_by_growth size count) old new
+  spread_all = record {
+    others = inode_block k ∷ (spread_named.blocks ++ so_far.blocks);
+    few = omega (arith, length-append spread_named.blocks so_far.blocks, spread_named.few, reached_all size count count (length so_far.blocks) so_far.reached (omega arith));
+    same = λ b some lacks.
+        so_far.touched.same b some (λ is. lacks (is_first (inode_block k) (spread_named.blocks ++ so_far.blocks) b is))
+        (spread_named.apart b some (λ has. lacks (is_later (inode_block k) (spread_named.blocks ++ so_far.blocks) b (Contains-append_left spread_named.blocks so_far.blocks b has))))
+        (λ has. lacks (is_later (inode_block k) (spread_named.blocks ++ so_far.blocks) b (Contains-append_right spread_named.blocks so_far.blocks b has)));
+  }

@@ -17,6 +17,10 @@ pub record PutsRecord (first at : ℕ) (octets : Octets) (old new : List Octets)
   pub other : (k : ℕ) → k ≢ at → record_at first new k ≡ record_at first old k
   pub blocks : (n : ℕ) → n ≢ first + at / 64 → slice_index_or new n [] ≡ slice_index_or old n []
 
+-- this number is that of a block, and is not 0
+abbrev pub IsThere : ℕ → List Octets → Type 0
+IsThere n blocks = (n ≢ 0) × (n < length blocks)
+
 -- the first record with these octets
 pub record IsFoundIn (block octets : Octets) (k : ℕ) : Type 0 where
   pub below : k < 64

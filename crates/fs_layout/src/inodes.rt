@@ -1,10 +1,11 @@
 //! Inodes: the kind of a file, its size, and pointers to its blocks.
 
-ghost use Rattle.std.specs.Prelude.{◌≡◌, ◌≢◌, ◌+◌, ◌*◌, ◌/◌, ◌==◌, ◌<◌, ◌≤◌, [], count_by, length};
+ghost use Rattle.std.specs.Prelude.{◌≡◌, ◌+◌, ◌-◌, ◌*◌, ◌/◌, ◌==◌, ◌<◌, ◌≤◌, [], count_by, if◌then◌else◌, length};
 ghost use Rattle.std.specs.List.{range_with_len};
 ghost use Rattle.model.specs.Volume.{number_at};
+ghost use Rattle.fs_layout.specs.Blocks.{IsThere};
 ghost use Rattle.model.specs.Files as files;
-ghost use Rattle.model.specs.Files.{HasRoom, entry, free_inodes, indirect_of, pointer};
+ghost use Rattle.model.specs.Files.{HasRoom, entry, entry_of, free_inodes, indirect_pointer, pointer};
 
 use crate::numbers::{number32, number64};
 use crate::records::{RECORD_SIZE, get_record};
@@ -28,17 +29,26 @@ pub const POINTERS_AT: usize = 12;
 /// The number of pointers in an inode.
 pub const DIRECT_POINTERS: u32 = 10;
 
-/// Where the pointer to the indirect block is in an inode.
+/// Where the pointer to the first block of pointers is in an inode.
 pub const INDIRECT_AT: usize = 52;
 
-/// Where the octets that an inode leaves zero begin.
-pub const SPARE_AT: usize = 56;
+/// The number of pointers in a block of pointers.
+pub const BLOCK_POINTERS: u32 = 1024;
 
-/// The number of blocks for the octets of the largest file: those of an inode's pointers, and of a block of pointers.
-pub const MOST_BLOCKS: u32 = 1034;
+/// Where the pointer to the double-indirect block, which names the other blocks of pointers, is in an inode.
+pub const DOUBLE_AT: usize = 56;
+
+/// Where the octets that an inode leaves zero begin.
+pub const SPARE_AT: usize = 60;
+
+/// The number of blocks for the octets of the largest file.
+pub const MOST_BLOCKS: u32 = 65_536;
 
 /// The octets of the largest file.
 pub const MOST_OCTETS: u64 = MOST_BLOCKS as u64 * BLOCK_SIZE as u64;
+
+/// The octets of the largest file in format 1: those of the blocks that an inode and one block of pointers name.
+pub const MOST_OCTETS_1: u64 = (DIRECT_POINTERS + BLOCK_POINTERS) as u64 * BLOCK_SIZE as u64;
 
 /// The number of records in a block.
 const RECORDS: usize = 64;
@@ -57,20 +67,47 @@ pub fn size_of<B: Blocks>(blocks: &B, inodes: u32, at: u32) -> u64
 /// The number of a file's i-th block.
 pub fn pointer_at<B: Blocks>(blocks: &B, inode: &[u8], i: u32) -> u32
     requires whole { length inode.now ≡ 64 }
-    requires few { i < 1034 }
-    requires indirect { 10 ≤ i → (number_at 52 4 inode.now ≢ 0) × (number_at 52 4 inode.now < length (B.blocks blocks.now)) }
-    ensures { result ≡ pointer (record { inode = inode.now; slot = []; indirect = indirect_of (B.blocks blocks.now) (number_at 52 4 inode.now) }) i }
+    requires few { i < 66560 }
+    requires double { 1034 ≤ i → IsThere (number_at 56 4 inode.now) (B.blocks blocks.now) }
+    requires indirect { 10 ≤ i → IsThere (indirect_pointer (entry_of (B.blocks blocks.now) inode.now []) ((i - 10) / 1024)) (B.blocks blocks.now) }
+    ensures { result ≡ pointer (entry_of (B.blocks blocks.now) inode.now []) i }
 {
     if i < DIRECT_POINTERS {
         return number32(inode, POINTERS_AT + 4 * i as usize);
     }
-    let pointers = blocks.block(number32(inode, INDIRECT_AT));
-    number32(pointers, 4 * (i - DIRECT_POINTERS) as usize)
+    let place = i - DIRECT_POINTERS;
+    let pointers = blocks.block(indirect_at(blocks, inode, place / BLOCK_POINTERS));
+    number32(pointers, 4 * (place % BLOCK_POINTERS) as usize)
+}
+
+/// The number of a file's p-th block of pointers.
+pub fn indirect_at<B: Blocks>(blocks: &B, inode: &[u8], p: u32) -> u32
+    requires whole { length inode.now ≡ 64 }
+    requires few { p < 1025 }
+    requires double { 0 < p → IsThere (number_at 56 4 inode.now) (B.blocks blocks.now) }
+    ensures { result ≡ indirect_pointer (entry_of (B.blocks blocks.now) inode.now []) p }
+{
+    if p == 0 {
+        return number32(inode, INDIRECT_AT);
+    }
+    let double = blocks.block(number32(inode, DOUBLE_AT));
+    number32(double, 4 * (p - 1) as usize)
+}
+
+/// The octets of the largest file in a volume of this format.
+pub fn most_octets(format: u32) -> u64
+    ensures { result ≡ (if format == 1 then 4235264 else 268435456) }
+{
+    if format == 1 {
+        MOST_OCTETS_1
+    } else {
+        MOST_OCTETS
+    }
 }
 
 /// The number of blocks that content of this many octets takes.
 pub fn content_blocks(octets: u64) -> u32
-    requires { octets ≤ 4235264 }
+    requires { octets ≤ 268435456 }
     ensures { result ≡ (octets + 4095) / 4096 }
 {
     ((octets + BLOCK_SIZE as u64 - 1) / BLOCK_SIZE as u64) as u32

@@ -1,12 +1,16 @@
-use Rattle.std.proofs.Common.{◌≡◌, ◌<◌, ℕ, Option, Some, None, List, set, take, refl, sym, ◌∙◌, ap, subst}
+use Rattle.std.proofs.Common.{◌≡◌, ◌<◌, ℕ, Option, Some, None, List, length, set, take, refl, sym, ◌∙◌, ap, subst, arith}
 use Rattle.std.proofs.lemmas.List.{set-set}
 use Rattle.model.specs.Files.{File, IsFile, entry, size, content_of, table}
 use Rattle.fs_layout.specs.Table.{IsFileAt, Makes}
 use Rattle.fs.specs.Calls.{Unlinks}
 use Rattle.fs_inodes.specs.Changes.{ReplacesContent}
-use Rattle.fs_layout.proofs.Tables.{no_slot, there_from_slot, file_from_slot}
+use Rattle.fs_layout.proofs.Tables.{no_slot, there_from_slot, there_once, file_from_slot}
 use Rattle.fs_inodes.proofs.Replacing.{named_now, size_now}
+use Rattle.fs_layout.specs.Touches.{TouchesInode}
+use Rattle.fs_layout.proofs.Entries.{length-content}
 use Rattle.fs_layout.proofs.Touching.{inode_and_slot}
+use Rattle.fs_inodes.proofs.Named.{file_names}
+use Rattle.model.specs.Room.{content_blocks}
 use Rattle.fs.proofs.directory.unlink.Goals as goal
 
 module _ (inodes at : ℕ) (name : List ℕ) (old mid : List (List ℕ)) (low : at < inodes) (r : ReplacesContent inodes at (take 0 (content_of old (entry inodes old at))) old mid) where
@@ -47,6 +51,19 @@ returns-clause-unlinked g c =
     c.in_ok-remove_empty.ensures.done
 
 pub returns-clause-touches : goal.returns-clause-touches
-returns-clause-touches g c =
-    inode_and_slot c.args.inodes c.in-Some.at (g.B.Blocks.blocks c.args.blocks.now) (g.B.Blocks.blocks c.shrink_to.new.blocks) (g.B.Blocks.blocks c.remove_empty.new.blocks)
-    c.in_ok-shrink_to.ensures.touches c.in_ok-remove_empty.ensures.touches
+returns-clause-touches g c k content is =
+    let old = g.B.Blocks.blocks c.args.blocks.now in
+    let mid = g.B.Blocks.blocks c.shrink_to.new.blocks in
+    let found = c.in-Some.ensures in
+    let at = c.in-Some.at in
+    let there = there_from_slot c.args.inodes old c.requires.rule at c.args.name.now found.below c.requires.name.0 (found.is ∙ c.slot_for.ensures) in
+    let file = file_from_slot c.args.inodes old c.requires.rule at c.args.name.now found.below c.requires.name.0 (found.is ∙ c.slot_for.ensures) in
+    let names = file_names c.args.inodes at old c.requires.room c.requires.rule found.below file in
+    let long = length-content old (entry c.args.inodes old at) c.requires.room.blocks_whole (λ b owns. (c.requires.rule.within at b found.below owns).1) in
+    let sized : size (entry c.args.inodes old at) ≡ length content =
+    sym long ∙ ap (λ (o : List ℕ). length o) (there_once c.args.inodes old c.requires.rule at k c.args.name.now (content_of old (entry c.args.inodes old at)) content there is) in
+    let touches : TouchesInode at (content_blocks 0) (content_blocks (length content)) old mid =
+    subst (λ (n : ℕ). TouchesInode at (content_blocks 0) (content_blocks n) old mid) sized c.in_ok-shrink_to.ensures.touches in
+    inode_and_slot at (length content) 0 old mid (omega arith)
+    (λ less. names.no_double (omega (arith, less, sized))) (λ less. names.none 0 (omega (arith, less, sized))) touches
+    c.args.inodes (g.B.Blocks.blocks c.remove_empty.new.blocks) c.in_ok-remove_empty.ensures.touches

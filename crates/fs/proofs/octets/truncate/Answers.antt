@@ -1,16 +1,20 @@
-use Rattle.std.proofs.Common.{◌≡◌, ◌<◌, ◌≤◌, ℕ, ◌-◌, ◌++◌, List, length, take, replicate, refl, sym, ◌∙◌, ap, subst, arith, Bool, cond}
-use Rattle.std.proofs.lemmas.List.{append-nil, take_all}
-use Rattle.std.proofs.lemmas.Bool.{OnFalse_at, lt-ltb, le-ltb}
+use Rattle.std.proofs.Common.{◌≡◌, ◌<◌, ◌≤◌, ℕ, ◌-◌, ◌++◌, List, length, take, replicate, refl, sym, ◌∙◌, ap, subst, arith, length-append, Bool, cond}
+use Rattle.std.proofs.lemmas.List.{append-nil, length-replicate, length-take, take_all}
+use Rattle.std.proofs.lemmas.Bool.{OnFalse_at, OnTrue_at, lt-ltb, le-ltb}
 use Rattle.model.specs.Files.{HasRoom, IsFileSystem, entry, size, content_of, table}
 use Rattle.fs_layout.specs.Table.{IsFileAt}
-use Rattle.fs_inodes.specs.Growing.{HasNoRoomFor}
+use Rattle.fs_inodes.specs.Growing.{HasNoRoomFor, most_octets}
+use Rattle.fs_inodes.proofs.Grown.{was_size}
+use Rattle.fs_inodes.proofs.Named.{file_names}
+use Rattle.fs.proofs.Within.{within_kept}
+use Rattle.model.specs.Room.{content_blocks}
 use Rattle.fs_inodes.specs.Changes.{ReplacesContent, TakesNone, Rewrites}
 use Rattle.fs_inodes.specs.Growing.{GrowsBy}
 use Rattle.fs.proofs.Composing.{grown, lowest_none}
 use Rattle.fs_layout.proofs.Entries.{length-content}
 use Rattle.fs_inodes.proofs.Replacing.{replaces_same}
-use Rattle.fs_layout.proofs.Tables.{no_slot, there_from_slot, there_once}
-use Rattle.fs_layout.specs.Touches.{Touches, touched_by_growth, touched_by_truncation}
+use Rattle.fs_layout.proofs.Tables.{file_from_slot, no_slot, there_from_slot, there_once}
+use Rattle.fs_layout.specs.Touches.{Touches, TouchesInode, touched_by_cut, touched_by_growth, touched_by_truncation}
 use Rattle.fs_layout.proofs.Touching.{inode_touches}
 use Rattle.fs.proofs.octets.truncate.Goals as goal
 
@@ -57,7 +61,7 @@ returns-then-not-has_room_for-clause-full g c =
       c.in-Some.at,
       content_of old (entry c.args.inodes old c.in-Some.at),
       there,
-      subst (λ (n : ℕ). HasNoRoomFor old n c.args.size) is (OnFalse_at c.if-not-has_room_for.true c.has_room_for.ensures.full),
+      subst (λ (n : ℕ). HasNoRoomFor c.args.format old n c.args.size) is (OnFalse_at c.if-not-has_room_for.true c.has_room_for.ensures.full),
       refl,
     )
 
@@ -82,8 +86,17 @@ returns-then-size-was-clause-touches g c k content is =
     let found = c.in-Some.ensures in
     let there = there_from_slot c.args.inodes old c.requires.rule c.in-Some.at c.args.name.now found.below c.requires.name.0 (found.is ∙ c.slot_for.ensures) in
     let was = named c.args.inodes c.in-Some.at c.size_of-was.result k c.args.name.now content old c.requires.room c.requires.rule found.below there c.size_of-was.ensures is in
-    let few : touched_by_truncation (length content) c.args.size ≡ 2 = ap (λ (b : Bool). cond b (touched_by_growth (length content) (c.args.size - length content)) 2) (le-ltb (length content) c.args.size (omega (arith, was))) in
-    subst (λ (n : ℕ). Touches n old new) (sym few) (inode_touches c.in-Some.at old new c.in_ok-shrink_to.ensures.touches)
+    let few : touched_by_truncation (length content) c.args.size ≡ touched_by_cut (length content) c.args.size =
+    ap (λ (b : Bool). cond b (touched_by_growth (length content) (c.args.size - length content)) (touched_by_cut (length content) c.args.size)) (le-ltb (length content) c.args.size (omega (arith, was))) in
+    let at = c.in-Some.at in
+    let file = file_from_slot c.args.inodes old c.requires.rule at c.args.name.now found.below c.requires.name.0 (found.is ∙ c.slot_for.ensures) in
+    let names = file_names c.args.inodes at old c.requires.room c.requires.rule found.below file in
+    let sized : size (entry c.args.inodes old at) ≡ length content = sym c.size_of-was.ensures ∙ was in
+    let touches : TouchesInode at (content_blocks c.args.size) (content_blocks (length content)) old new =
+    subst (λ (n : ℕ). TouchesInode at (content_blocks c.args.size) (content_blocks n) old new) sized c.in_ok-shrink_to.ensures.touches in
+    subst (λ (n : ℕ). Touches n old new) (sym few)
+    (inode_touches at (length content) c.args.size old new (omega (arith, was))
+    (λ less. names.no_double (omega (arith, less, sized))) (λ less. names.none 0 (omega (arith, less, sized))) touches)
 
 pub returns-clause-touches : goal.returns-clause-touches
 returns-clause-touches g c k content is =
@@ -92,7 +105,34 @@ returns-clause-touches g c k content is =
     let found = c.in-Some.ensures in
     let there = there_from_slot c.args.inodes old c.requires.rule c.in-Some.at c.args.name.now found.below c.requires.name.0 (found.is ∙ c.slot_for.ensures) in
     let was = named c.args.inodes c.in-Some.at c.size_of-was.result k c.args.name.now content old c.requires.room c.requires.rule found.below there c.size_of-was.ensures is in
-    let more : touched_by_truncation (length content) c.args.size ≡ touched_by_growth (length content) (c.args.size - length content) = ap (λ (b : Bool). cond b (touched_by_growth (length content) (c.args.size - length content)) 2) (lt-ltb (length content) c.args.size (omega (arith, was))) in
+    let more : touched_by_truncation (length content) c.args.size ≡ touched_by_growth (length content) (c.args.size - length content) = ap (λ (b : Bool). cond b (touched_by_growth (length content) (c.args.size - length content)) (touched_by_cut (length content) c.args.size)) (lt-ltb (length content) c.args.size (omega (arith, was))) in
     subst (λ (n : ℕ). Touches n old new) (sym more)
     (subst (λ (n : ℕ). Touches (touched_by_growth n (c.args.size - n)) old new) was
     (subst (λ (n : ℕ). Touches (touched_by_growth n (c.args.size - c.size_of-was.result)) old new) (sym c.size_of-was.ensures) c.in_ok-extend_zeros.ensures.touches))
+
+pub returns-then-size-was-clause-format : goal.returns-then-size-was-clause-format
+returns-then-size-was-clause-format g c =
+    let old = g.B.Blocks.blocks c.args.blocks.now in
+    let new = g.B.Blocks.blocks c.shrink_to.new.blocks in
+    let found = c.in-Some.ensures in
+    let at = c.in-Some.at in
+    let done = c.in_ok-shrink_to.ensures.done in
+    let content = content_of old (entry c.args.inodes old at) in
+    let there = there_from_slot c.args.inodes old c.requires.rule at c.args.name.now found.below c.requires.name.0 (found.is ∙ c.slot_for.ensures) in
+    let is = long c.args.inodes at c.args.size c.size_of-was.result c.args.name.now old old c.requires.room c.requires.rule found.below there c.size_of-was.ensures in
+    λ all. within_kept (most_octets c.args.format) c.args.inodes at done.name (take c.args.size content) old new c.requires.room c.requires.rule found.below done.makes
+    (let few = all at found.below in omega (arith, length-take c.args.size content, is, few, c.size_of-was.ensures)) all
+
+pub returns-clause-format : goal.returns-clause-format
+returns-clause-format g c =
+    let old = g.B.Blocks.blocks c.args.blocks.now in
+    let new = g.B.Blocks.blocks c.extend_zeros.new.blocks in
+    let found = c.in-Some.ensures in
+    let at = c.in-Some.at in
+    let zeros = replicate {A = ℕ} (c.args.size - c.size_of-was.result) 0 in
+    let file = file_from_slot c.args.inodes old c.requires.rule at c.args.name.now found.below c.requires.name.0 (found.is ∙ c.slot_for.ensures) in
+    let grown = c.in_ok-extend_zeros.ensures.grown in
+    let was = was_size c.args.inodes at old c.requires.room c.requires.rule found.below file (replicate {A = ℕ} (c.args.size - c.size_of-was.result) 0) new grown in
+    let few = OnTrue_at c.if-not-has_room_for.false c.has_room_for.ensures.within in
+    within_kept (most_octets c.args.format) c.args.inodes at grown.name (grown.was ++ replicate {A = ℕ} (c.args.size - c.size_of-was.result) 0) old new c.requires.room c.requires.rule found.below grown.makes
+    (omega (arith, length-append grown.was (replicate {A = ℕ} (c.args.size - c.size_of-was.result) 0), length-replicate {A = ℕ} (c.args.size - c.size_of-was.result) 0, was, few, c.size_of-was.ensures))

@@ -1,18 +1,27 @@
-use Rattle.std.proofs.Common.{◌≡◌, ◌⊎◌, inl, inr, arith}
+use Rattle.std.proofs.Common.{◌≡◌, ◌≢◌, inl, inr, ℕ, ◌<◌, ◌≤◌, ◌+◌, ◌-◌, ◌/◌, [], length, refl, sym, ◌∙◌, ap, arith}
+use Rattle.std.proofs.lemmas.Bool.{cases_eq, cases_lt, false≢true}
 use Rattle.model.specs.Volume.{number_at}
-use Rattle.fs_check.proofs.Pointers.{ends_from_clear, clear_from_ends}
+use Rattle.model.specs.Files.{entry_of, first_data, indirect_for, indirect_pointer, pointer}
+use Rattle.fs_check.proofs.Owning.{number_there}
+use Rattle.fs_check.proofs.Pointers.{no_pointer_past}
 use Rattle.fs_check.proofs.entry.ends_at.Goals as goal
-use Rattle.fs_check.proofs.entry.ends_at.Goals.{then-number32-gt0, else-number32-gt0}
+
+pub pointer_at-requires-clause-double : goal.pointer_at-requires-clause-double
+pointer_at-requires-clause-double g c high =
+    number_there (first_data c.args.inodes) (length (g.B.Blocks.blocks c.args.blocks.now)) 1 (indirect_for c.args.from) (number_at 56 4 c.args.inode.now) (omega arith) c.requires.double (omega (arith, high, c.tables_for.ensures))
+
+pub pointer_at-requires-clause-indirect : goal.pointer_at-requires-clause-indirect
+pointer_at-requires-clause-indirect g c high =
+    let blocks = g.B.Blocks.blocks c.args.blocks.now in
+    let p = (c.loop-i.i - 10) / 1024 in
+    number_there (first_data c.args.inodes) (length blocks) p (indirect_for c.args.from) (indirect_pointer (entry_of blocks c.args.inode.now []) p) (omega arith) (c.requires.tables p) (omega (arith, high, c.tables_for.ensures))
 
 pub returns : goal.returns
 returns g c =
-    let blocks = g.B.Blocks.blocks c.args.blocks.now in
-    let inode = c.args.inode.now in
-    let end = c.if-number32-gt0.end in
-    let ends : (end ≡ 1034) ⊎ ((end ≡ 10) × (number_at 52 4 inode ≡ 0)) = elim c.if-number32-gt0.branch [
-      | then-number32-gt0 w ↦ inl w.end-is
-      | else-number32-gt0 w ↦ inr (w.end-is, omega (arith, c.number32.ensures, w.if-number32-gt0.false))
-    ] in (
-      (λ clear. ends_from_clear inode blocks c.pointers_of.result c.pointers_of.ensures c.args.from end ends (c.are_clear.ensures.0 clear)),
-      (λ none. c.are_clear.ensures.1 (clear_from_ends inode blocks c.pointers_of.result c.pointers_of.ensures c.args.from end ends none)),
+    let blocks = g.B.Blocks.blocks c.args.blocks.now in (
+      (λ all i high. elim (cases_lt i c.loop-i.i) [
+        | inl less ↦ c.loop-i.invariant i high less
+        | inr past ↦ no_pointer_past (first_data c.args.inodes) (indirect_for c.args.from) blocks c.args.inode.now c.requires.room.blocks_whole (omega arith) c.requires.tables i (omega (arith, past, c.tables_for.ensures))
+      ]),
+      (λ all. refl),
     )

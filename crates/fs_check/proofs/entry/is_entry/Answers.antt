@@ -1,10 +1,32 @@
-use Rattle.std.proofs.Common.{◌≡◌, ◌≢◌, ℕ, List, [], length, sym, ◌∙◌, ap, subst, arith}
+use Rattle.std.proofs.Common.{◌≡◌, ◌≢◌, ◌≤◌, inl, inr, ℕ, List, [], length, sym, ◌∙◌, ap, subst, arith}
+use Rattle.std.specs.List.{All}
 use Rattle.std.proofs.lemmas.Bool.{false≢true}
 use Rattle.model.specs.Volume.{number_at}
-use Rattle.model.specs.Files.{Entry, entry, kind, first_data, indirect_of}
-use Rattle.fs_check.specs.Checking.{IsSlot, HasPointers}
-use Rattle.fs_check.proofs.Deciding.{entry_from_file, slot_from_entry, pointers_from_entry, no_entry}
+use Rattle.model.specs.Files.{Entry, IsFree, entry, entry_of, inode_of, kind, first_data}
+use Rattle.fs_check.specs.Checking.{IsSlot, HasPointers, most_octets}
+use Rattle.fs_check.proofs.Deciding.{entry_from_file, free_from_entry, free_small, most_few, slot_from_entry, pointers_from_entry, no_entry}
 use Rattle.fs_check.proofs.entry.is_entry.Goals as goal
+
+-- pointers do not depend on the slot
+of_inode : (first count most inodes at : ℕ) (blocks : List (List ℕ)) → HasPointers most first count (entry_of blocks (inode_of blocks at) []) → HasPointers most first count (entry inodes blocks at)
+of_inode first count most inodes at blocks has = record { small = has.small; spare = has.spare; double = has.double; tables = has.tables; no_other_pointer = has.no_other_pointer }
+
+to_inode : (first count most inodes at : ℕ) (blocks : List (List ℕ)) → HasPointers most first count (entry inodes blocks at) → HasPointers most first count (entry_of blocks (inode_of blocks at) [])
+to_inode first count most inodes at blocks has = record { small = has.small; spare = has.spare; double = has.double; tables = has.tables; no_other_pointer = has.no_other_pointer }
+
+pub returns-then-are_zeros : goal.returns-then-are_zeros
+returns-then-are_zeros g c =
+    let blocks = g.B.Blocks.blocks c.args.blocks.now in
+    let e : Entry = entry c.args.inodes blocks c.args.at in
+    let none : kind e ≡ 0 = sym (c.number32.ensures ∙ ap (λ (o : List ℕ). number_at 0 4 o) c.get_record.ensures) ∙ c.in-0.is in (
+      (λ zeros.
+          let free : IsFree e = record {
+            inode_zeros = subst (λ (o : List ℕ). All (λ octet. octet ≡ 0) o) c.get_record.ensures (c.are_zeros.ensures.0 c.if-are_zeros.true);
+            slot_zeros = rw (← c.get_record-2.ensures) (c.are_zeros-then-are_zeros.ensures.0 zeros);
+          } in
+          (inl free, free_small (most_octets c.args.format) e free)),
+      (λ has. c.are_zeros-then-are_zeros.ensures.1 (rw c.get_record-2.ensures (free_from_entry (first_data c.args.inodes) (length blocks) e none has.0).slot_zeros)),
+    )
 
 pub returns-else-is_slot : goal.returns-else-is_slot
 returns-else-is_slot g c =
@@ -12,7 +34,7 @@ returns-else-is_slot g c =
     let e : Entry = entry c.args.inodes blocks c.args.at in
     let is : c.number32.result ≡ kind e = c.number32.ensures ∙ ap (λ (o : List ℕ). number_at 0 4 o) c.get_record.ensures in (
       (λ slot. absurd (false≢true (sym c.if-is_slot.false ∙ slot))),
-      (λ one. c.is_slot.ensures.1 (rw c.get_record-2.ensures (slot_from_entry (first_data c.args.inodes) (length blocks) e (sym is ∙ c.in-1.is) one))),
+      (λ one. c.is_slot.ensures.1 (rw c.get_record-2.ensures (slot_from_entry (first_data c.args.inodes) (length blocks) e (sym is ∙ c.in-1.is) one.0))),
     )
 
 pub returns-in_default : goal.returns-in_default
@@ -23,7 +45,7 @@ returns-in_default g c =
     let other : c.number32.result ≢ 0 = omega arith in
     let another : c.number32.result ≢ 1 = omega arith in (
       (λ slot. absurd (false≢true slot)),
-      (λ one. absurd (no_entry (first_data c.args.inodes) (length blocks) e (λ zero. other (is ∙ zero)) (λ first. another (is ∙ first)) one)),
+      (λ one. absurd (no_entry (first_data c.args.inodes) (length blocks) e (λ zero. other (is ∙ zero)) (λ first. another (is ∙ first)) one.0)),
     )
 
 pub returns-then-is_slot : goal.returns-then-is_slot
@@ -31,8 +53,10 @@ returns-then-is_slot g c =
     let blocks = g.B.Blocks.blocks c.args.blocks.now in
     let e : Entry = entry c.args.inodes blocks c.args.at in
     let first = first_data c.args.inodes in
-    let has = λ (o : List ℕ). HasPointers first (length blocks) (record { inode = o; slot = []; indirect = indirect_of blocks (number_at 52 4 o) }) in
+    let most = most_octets c.args.format in
+    let has = λ (o : List ℕ). HasPointers most first (length blocks) (entry_of blocks o []) in
     let one : kind e ≡ 1 = sym (c.number32.ensures ∙ ap (λ (o : List ℕ). number_at 0 4 o) c.get_record.ensures) ∙ c.in-1.is in (
-      (λ some. entry_from_file first (length blocks) e one (subst IsSlot c.get_record-2.ensures (c.is_slot.ensures.0 c.if-is_slot.true)) (subst has c.get_record.ensures (c.has_pointers.ensures.0 some))),
-      (λ file. c.has_pointers.ensures.1 (subst has (sym c.get_record.ensures) (pointers_from_entry first (length blocks) e one file))),
+      (λ some. entry_from_file first (length blocks) e most (most_few c.args.format) (omega arith) one (subst IsSlot c.get_record-2.ensures (c.is_slot.ensures.0 c.if-is_slot.true))
+          (of_inode first (length blocks) most c.args.inodes c.args.at blocks (subst has c.get_record.ensures (c.has_pointers.ensures.0 some)))),
+      (λ file. c.has_pointers.ensures.1 (subst has (sym c.get_record.ensures) (to_inode first (length blocks) most c.args.inodes c.args.at blocks (pointers_from_entry first (length blocks) e most one file.0 file.1)))),
     )

@@ -1,11 +1,11 @@
-use Rattle.std.proofs.lemmas.Grind.{common_steps}
 use Rattle.std.proofs.Common.{◌≡◌, ℕ, ◌+◌, ◌-◌, ◌≤◌, List, ◌++◌, length, take, drop, refl, sym, ◌∙◌, ap, subst, arith, length-drop, length-take-le}
+use Rattle.std.proofs.lemmas.List.{take_all}
 use Rattle.std.proofs.Math.Seq.{take-add}
 use Rattle.model.specs.Files.{entry, size}
 use Rattle.fs_inodes.specs.Growing.{GrowsBy, blocks_for}
-use Rattle.fs_inodes.proofs.Grown.{grows_none, grows_then, file_now, size_now, room_now, taken_is}
+use Rattle.fs_inodes.proofs.Grown.{grows_none, grows_then, file_now, no_double_now, no_table_now, size_now, room_now, taken_is, touched}
 use Rattle.fs_layout.specs.Touches.{Touches, touched_by_growth}
-use Rattle.fs_layout.proofs.Touching.{spread_none, spread_more, spread_all}
+use Rattle.fs_layout.proofs.Touching.{Spread, spread_none, spread_more, spread_all}
 use Rattle.fs_inodes.proofs.growing.extend.Goals as goal
 
 -- a piece of the octets
@@ -65,6 +65,7 @@ loop-done-preserved g c =
     let some = c.min-some.result in
     let octets = c.args.octets.now in
     let old = g.B.Blocks.blocks c.args.blocks.now in
+    let mid = g.B.Blocks.blocks c.loop-done.blocks in
     let new = g.B.Blocks.blocks c.add_piece.new.blocks in
     record {
       here = record {
@@ -74,7 +75,12 @@ loop-done-preserved g c =
             (grows_then c.args.inodes c.args.at (take from octets) (take (from + some - from) (drop from octets)) old (g.B.Blocks.blocks c.loop-done.blocks) new c.loop-done.invariant.here.grown c.in_ok-add_piece.ensures.grown c.requires.room.count_few);
       };
       spread =
-          spread_more c.args.at c.size_of-size.result from some (length c.args.octets.now) old (g.B.Blocks.blocks c.loop-done.blocks) new c.loop-done.invariant.spread c.in_ok-add_piece.ensures.touches
+          let piece = length_piece from some octets (omega (arith, c.loop-done.invariant.here.within)) in
+          let long = length-take-le from octets c.loop-done.invariant.here.within in
+          let now : size (entry c.args.inodes mid c.args.at) ≡ c.size_of-size.result + from =
+          size_now c.args.inodes c.args.at old c.requires.room c.requires.rule c.requires.below c.requires.file (take from octets) mid c.loop-done.invariant.here.grown ∙ omega (arith, long, c.size_of-size.ensures) in
+          spread_more c.args.at c.size_of-size.result from some (length octets) old mid new c.loop-done.invariant.spread
+          (touched c.args.at (size (entry c.args.inodes mid c.args.at)) (c.size_of-size.result + from) (length (take (from + some - from) (drop from octets))) some mid new now piece c.in_ok-add_piece.ensures.touches)
           (omega arith) (omega arith) (λ more. omega (arith, more)) (omega (arith, c.loop-done.invariant.here.within));
       kept = c.in_ok-add_piece.ensures.kept ∙ c.loop-done.invariant.kept;
     }
@@ -83,8 +89,16 @@ pub returns-clause-touches : goal.returns-clause-touches
 returns-clause-touches g c =
     let old = g.B.Blocks.blocks c.args.blocks.now in
     let new = g.B.Blocks.blocks c.loop-done.blocks in
-    subst (λ (n : ℕ). Touches (touched_by_growth n (length c.args.octets.now)) old new) c.size_of-size.ensures
-    (spread_all c.args.at c.size_of-size.result c.loop-done.done (length c.args.octets.now) old new c.loop-done.invariant.spread c.loop-done.invariant.here.within)
+    let invariant = c.loop-done.invariant in
+    let octets = c.args.octets.now in
+    let done : c.loop-done.done ≡ length octets = omega (arith, invariant.here.within) in
+    let all : length (take c.loop-done.done octets) ≡ length octets = length-take-le c.loop-done.done octets invariant.here.within ∙ done in
+    let sum : size (entry c.args.inodes old c.args.at) + length (take c.loop-done.done octets) ≡ c.size_of-size.result + length octets = omega (arith, all, c.size_of-size.ensures) in
+    subst (λ (n : ℕ). Touches (touched_by_growth n (length octets)) old new) c.size_of-size.ensures
+    (spread_all c.args.at c.size_of-size.result (length octets) old new
+    (λ few. no_double_now c.args.inodes c.args.at old c.requires.room c.requires.rule c.requires.below c.requires.file (take c.loop-done.done octets) new invariant.here.grown (omega (arith, few, sum)))
+    (λ few. no_table_now c.args.inodes c.args.at old c.requires.room c.requires.rule c.requires.below c.requires.file (take c.loop-done.done octets) new invariant.here.grown (omega (arith, few, sum)))
+    (subst (λ (n : ℕ). Spread c.args.at c.size_of-size.result n (length octets) old new) done invariant.spread))
 
 pub returns-clause-taken : goal.returns-clause-taken
 returns-clause-taken g c =
@@ -97,4 +111,7 @@ returns-clause-taken g c =
     ∙ ap (λ (n : ℕ). blocks_for (n + length octets)) c.size_of-size.ensures ∙ ap (λ (n : ℕ). blocks_for (size (entry c.args.inodes (g.B.Blocks.blocks c.args.blocks.now) c.args.at) + n)) (sym all))
 
 pub returns-clause-grown : goal.returns-clause-grown
-returns-clause-grown c = grind (arith, common_steps)
+returns-clause-grown g c =
+    let octets = c.args.octets.now in
+    let invariant = c.loop-done.invariant.here in
+    subst (λ (l : List ℕ). GrowsBy c.args.inodes c.args.at l (g.B.Blocks.blocks c.args.blocks.now) (g.B.Blocks.blocks c.loop-done.blocks)) (take_all c.loop-done.done octets (omega (arith, invariant.within))) invariant.grown

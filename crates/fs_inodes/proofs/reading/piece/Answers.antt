@@ -3,9 +3,11 @@ use Rattle.std.specs.Prelude.{min}
 use Rattle.std.proofs.lemmas.Bool.{cases_lt}
 use Rattle.std.proofs.lemmas.List.{take_all}
 use Rattle.model.specs.Volume.{number_at}
-use Rattle.model.specs.Files.{Entry, entry, size, pointer, content_of, indirect_of, indirect_pointer, block_count}
-use Rattle.fs_layout.proofs.Entries.{owns_pointer, owns_indirect, length-content}
+use Rattle.model.specs.Files.{Entry, entry, entry_of, size, pointer, content_of, indirect_pointer, block_count}
+use Rattle.fs_layout.specs.Blocks.{IsThere}
+use Rattle.fs_layout.proofs.Entries.{owns_pointer, length-content}
 use Rattle.fs_inodes.proofs.Contents.{content_part}
+use Rattle.fs_inodes.proofs.Named.{double_is_there, table_is_there}
 use Rattle.fs_inodes.proofs.reading.piece.Goals as goal
 
 -- a front that reaches the end, or has the size that is asked for
@@ -37,16 +39,21 @@ returns-then-size-place g c =
     let long = length-content blocks e c.requires.room.blocks_whole (λ b owns. (c.requires.rule.within c.args.at b c.requires.below owns).1) in
     nothing (drop c.args.place (content_of blocks e)) (min c.args.count (4096 - c.args.place % 4096)) (omega (arith, long, sized, length-drop c.args.place (content_of blocks e)))
 
+pub pointer_at-number-requires-clause-double : goal.pointer_at-number-requires-clause-double
+pointer_at-number-requires-clause-double g c =
+    let blocks = g.B.Blocks.blocks c.args.blocks.now in
+    let e : Entry = entry c.args.inodes blocks c.args.at in
+    let sized : c.number64-size.result ≡ size e = c.number64-size.ensures ∙ ap (λ (o : List ℕ). number_at 4 8 o) c.get_record.ensures in
+    subst (λ (o : List ℕ). 1034 ≤ c.args.place / 4096 → IsThere (number_at 56 4 o) blocks) (sym c.get_record.ensures)
+    (double_is_there c.args.inodes c.args.at blocks c.requires.room c.requires.rule c.requires.below c.requires.file (c.args.place / 4096) (omega arith))
+
 pub pointer_at-number-requires-clause-indirect : goal.pointer_at-number-requires-clause-indirect
 pointer_at-number-requires-clause-indirect g c =
     let blocks = g.B.Blocks.blocks c.args.blocks.now in
     let e : Entry = entry c.args.inodes blocks c.args.at in
     let sized : c.number64-size.result ≡ size e = c.number64-size.ensures ∙ ap (λ (o : List ℕ). number_at 4 8 o) c.get_record.ensures in
-    subst (λ (o : List ℕ). 10 ≤ c.args.place / 4096 → (number_at 52 4 o ≢ 0) × (number_at 52 4 o < length blocks)) (sym c.get_record.ensures)
-    (λ high.
-    let more : 10 < block_count e = omega arith in
-    let some = c.requires.file.indirect_where.0 more in
-    (some, (c.requires.rule.within c.args.at (indirect_pointer e) c.requires.below (owns_indirect e some)).1))
+    subst (λ (o : List ℕ). 10 ≤ c.args.place / 4096 → IsThere (indirect_pointer (entry_of blocks o []) ((c.args.place / 4096 - 10) / 1024)) blocks) (sym c.get_record.ensures)
+    (table_is_there c.args.inodes c.args.at blocks c.requires.room c.requires.rule c.requires.below c.requires.file (c.args.place / 4096) (omega arith))
 
 pub block-requires : goal.block-requires
 block-requires g c =
@@ -55,7 +62,7 @@ block-requires g c =
     let i = c.args.place / 4096 in
     let sized : c.number64-size.result ≡ size e = c.number64-size.ensures ∙ ap (λ (o : List ℕ). number_at 4 8 o) c.get_record.ensures in
     let low : i < block_count e = omega arith in
-    let is : c.pointer_at-number.result ≡ pointer e i = c.pointer_at-number.ensures ∙ ap (λ (o : List ℕ). pointer (record { inode = o; slot = []; indirect = indirect_of blocks (number_at 52 4 o) }) i) c.get_record.ensures in
+    let is : c.pointer_at-number.result ≡ pointer e i = c.pointer_at-number.ensures ∙ ap (λ (o : List ℕ). pointer (entry_of blocks o []) i) c.get_record.ensures in
     subst (λ (n : ℕ). n < length blocks) (sym is) ((c.requires.rule.within c.args.at (pointer e i) c.requires.below (owns_pointer e i low)).1)
 
 pub returns : goal.returns
@@ -65,7 +72,7 @@ returns g c =
     let place = c.args.place in
     let some = c.min-some.result in
     let sized : c.number64-size.result ≡ size e = c.number64-size.ensures ∙ ap (λ (o : List ℕ). number_at 4 8 o) c.get_record.ensures in
-    let is : c.pointer_at-number.result ≡ pointer e (place / 4096) = c.pointer_at-number.ensures ∙ ap (λ (o : List ℕ). pointer (record { inode = o; slot = []; indirect = indirect_of blocks (number_at 52 4 o) }) (place / 4096)) c.get_record.ensures in
+    let is : c.pointer_at-number.result ≡ pointer e (place / 4096) = c.pointer_at-number.ensures ∙ ap (λ (o : List ℕ). pointer (entry_of blocks o []) (place / 4096)) c.get_record.ensures in
     let long = length-content blocks e c.requires.room.blocks_whole (λ b owns. (c.requires.rule.within c.args.at b c.requires.below owns).1) in
     let width : place % 4096 + some - place % 4096 ≡ some = omega arith in
     let few : some ≡ min (min c.args.count (4096 - place % 4096)) (length (drop place (content_of blocks e))) = omega (arith, long, sized, length-drop place (content_of blocks e)) in

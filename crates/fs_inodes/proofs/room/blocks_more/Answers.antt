@@ -1,5 +1,5 @@
 use Rattle.std.proofs.Common.{arith}
-use Rattle.fs_inodes.proofs.Grown.{blocks_for_le}
+use Rattle.fs_inodes.proofs.Sizes.{blocks_for_le}
 use Rattle.fs_inodes.proofs.room.blocks_more.Goals as goal
 
 pub overflow_sub-result : goal.overflow_sub-result

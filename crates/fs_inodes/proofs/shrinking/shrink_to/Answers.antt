@@ -1,8 +1,8 @@
-use Rattle.std.proofs.Common.{◌≡◌, ◌≤◌, ◌<◌, ℕ, ◌+◌, ◌-◌, ◌*◌, ◌/◌, List, length, take, refl, sym, ◌∙◌, ap, arith}
+use Rattle.std.proofs.Common.{◌≡◌, ◌≤◌, ◌<◌, ℕ, ◌+◌, ◌-◌, ◌*◌, ◌/◌, List, length, take, refl, sym, ◌∙◌, ap, subst, arith}
 use Rattle.std.proofs.lemmas.List.{length-take, length-take-le, take_all, take-take}
 use Rattle.model.specs.Volume.{number_at}
 use Rattle.model.specs.Files.{Entry, HasRoom, IsFile, IsFileSystem, block_count, entry, size, content_of}
-use Rattle.fs_inodes.specs.Changes.{ReplacesContent, TakesNone}
+use Rattle.fs_inodes.specs.Changes.{ReplacesContent, SameMarks, TakesNone}
 use Rattle.fs_layout.proofs.Entries.{length-content}
 use Rattle.fs_layout.proofs.Puts.{on_ok}
 use Rattle.fs_inodes.proofs.Replacing.{replaces_none, replaces_same, replaces_then, named_now, size_now}
@@ -25,7 +25,7 @@ module _ (inodes at end keep : ℕ) (old : List (List ℕ)) (room : HasRoom inod
     counted = sym is;
     replaced = replaces_none inodes at (take (4096 * left) content) old room fs low file (take_all (4096 * left) content (omega (arith, long)));
     none_taken = λ b small marked. marked;
-    touched = inode_none at old;
+    touched = subst (λ (n : ℕ). TouchesInode at left n old old) is (inode_none at left old);
   }
 
   module _ (left : ℕ) (new : List (List ℕ)) (so_far : Shrunk inodes at keep left old new) where
@@ -38,7 +38,7 @@ module _ (inodes at end keep : ℕ) (old : List (List ℕ)) (room : HasRoom inod
     sized : size (entry inodes new at) ≡ length (take (4096 * left) content)
     sized = size_now inodes at (take (4096 * left) content) old new low so_far.replaced
 
-    more : (last : ℕ) (newer : List (List ℕ)) → last + 1 ≡ left → keep < left → ReplacesContent inodes at (take (4096 * last) (content_of new (entry inodes new at))) new newer → TakesNone new newer → TouchesInode at new newer → Shrunk inodes at keep last old newer
+    more : (last : ℕ) (newer : List (List ℕ)) → last + 1 ≡ left → keep < left → ReplacesContent inodes at (take (4096 * last) (content_of new (entry inodes new at))) new newer → TakesNone new newer → TouchesInode at last (last + 1) new newer → Shrunk inodes at keep last old newer
     more last newer is above then taken touches =
         let front : length (take (4096 * last) content) ≡ 4096 * last = length-take-le (4096 * last) content (omega (arith, long, so_far.at_most)) in
         let content_is : take (4096 * last) (content_of new (entry inodes new at)) ≡ take (4096 * last) content =
@@ -52,7 +52,7 @@ module _ (inodes at end keep : ℕ) (old : List (List ℕ)) (room : HasRoom inod
           counted = omega (arith, size_then, front);
           replaced = replaced;
           none_taken = λ b small marked. so_far.none_taken b small (taken b small marked);
-          touched = inode_then at old new newer so_far.touched touches;
+          touched = inode_then at last left (block_count (entry inodes old at)) old new newer (omega (arith, is)) so_far.at_most so_far.touched (subst (λ (n : ℕ). TouchesInode at last n new newer) is touches);
         }
 
     module _ (ends : left ≤ keep) where
@@ -111,6 +111,21 @@ returns-clause-touches g c =
     let old = g.B.Blocks.blocks c.args.blocks.now in
     let mid = g.B.Blocks.blocks c.loop-left.blocks in
     let new = g.B.Blocks.blocks c.cut.new.blocks in
-    on_ok c.cut.result (TouchesInode c.args.at mid new) (TouchesInode c.args.at old new)
-    (λ then. inode_then c.args.at old mid new c.loop-left.invariant.0.touched then)
+    let at = c.args.at in
+    let keep = (c.args.end + 4095) / 4096 in
+    let most = block_count (entry c.args.inodes old at) in
+    let so_far = c.loop-left.invariant.0 in
+    let left : c.loop-left.left ≡ keep = omega (arith, c.content_blocks-keep.ensures, so_far.at_least) in
+    let touched : TouchesInode at keep most old mid = subst (λ (n : ℕ). TouchesInode at n most old mid) left so_far.touched in
+    on_ok c.cut.result (TouchesInode at keep keep mid new) (TouchesInode at keep most old new)
+    (λ then. inode_then at keep keep most old mid new (omega arith) (omega (arith, left, so_far.at_most)) touched then)
     c.cut.ensures.touches
+
+pub returns-clause-none_taken : goal.returns-clause-none_taken
+returns-clause-none_taken g c =
+    let old = g.B.Blocks.blocks c.args.blocks.now in
+    let mid = g.B.Blocks.blocks c.loop-left.blocks in
+    let new = g.B.Blocks.blocks c.cut.new.blocks in
+    on_ok c.cut.result (SameMarks mid new) (TakesNone old new)
+    (λ same b small marked. c.loop-left.invariant.0.none_taken b small (sym (same.marks b small) ∙ marked))
+    c.cut.ensures.marks

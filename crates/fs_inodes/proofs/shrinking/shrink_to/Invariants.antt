@@ -11,7 +11,7 @@ pub record Shrunk (inodes at keep left : ℕ) (old new : List (List ℕ)) : Type
   pub counted : block_count (entry inodes new at) ≡ left
   pub replaced : ReplacesContent inodes at (take (4096 * left) (content_of old (entry inodes old at))) old new
   pub none_taken : TakesNone old new
-  pub touched : TouchesInode at old new
+  pub touched : TouchesInode at left (block_count (entry inodes old at)) old new
 
 abbrev pub invariant-loop-left : goal.invariant-loop-left
 invariant-loop-left g l =

@@ -1,24 +1,28 @@
-use Rattle.std.proofs.Common.{◌≡◌, ◌≢◌, ℕ, ◌/◌, ◌%◌, ◌<◌, ◌≤◌, List, [], length, get_or, set, sym, ◌∙◌, ap, subst, arith, ◌∷◌}
+use Rattle.std.proofs.Common.{◌≡◌, ◌≢◌, ℕ, ◌-◌, ◌/◌, ◌%◌, ◌<◌, ◌≤◌, List, [], length, get_or, set, sym, ◌∙◌, ap, subst, arith, ◌∷◌}
 use Rattle.disk.specs.Image.{overwritten}
 use Rattle.model.specs.Volume.{number_at}
-use Rattle.model.specs.Files.{Entry, entry, pointer, content_of, indirect_of, indirect_pointer, block_count}
+use Rattle.model.specs.Files.{Entry, entry, entry_of, pointer, content_of, indirect_pointer, block_count}
+use Rattle.fs_layout.specs.Blocks.{IsThere}
 use Rattle.fs_inodes.specs.Changes.{ReplacesContent, SameMarks}
-use Rattle.fs_layout.proofs.Entries.{owns_pointer, owns_indirect}
+use Rattle.fs_layout.proofs.Entries.{owns_pointer}
+use Rattle.fs_inodes.proofs.Named.{double_is_there, table_is_there}
 use Rattle.fs_inodes.proofs.Overwriting.{overwrites, overwrites_marks}
 use Rattle.fs_layout.proofs.Puts.{on_put}
 use Rattle.fs_layout.specs.Touches.{SameBut}
 use Rattle.fs_layout.proofs.Touching.{same_put}
 use Rattle.fs_inodes.proofs.writing.overwrite_part.Goals as goal
 
+pub pointer_at-number-requires-clause-double : goal.pointer_at-number-requires-clause-double
+pointer_at-number-requires-clause-double g c =
+    let blocks = g.B.Blocks.blocks c.args.blocks.now in
+    subst (λ (o : List ℕ). 1034 ≤ c.args.place / 4096 → IsThere (number_at 56 4 o) blocks) (sym c.get_record.ensures)
+    (double_is_there c.args.inodes c.args.at blocks c.requires.room c.requires.rule c.requires.below c.requires.file (c.args.place / 4096) (omega arith))
+
 pub pointer_at-number-requires-clause-indirect : goal.pointer_at-number-requires-clause-indirect
 pointer_at-number-requires-clause-indirect g c =
     let blocks = g.B.Blocks.blocks c.args.blocks.now in
-    let e : Entry = entry c.args.inodes blocks c.args.at in
-    subst (λ (o : List ℕ). 10 ≤ c.args.place / 4096 → (number_at 52 4 o ≢ 0) × (number_at 52 4 o < length blocks)) (sym c.get_record.ensures)
-    (λ high.
-    let more : 10 < block_count e = omega arith in
-    let some = c.requires.file.indirect_where.0 more in
-    (some, (c.requires.rule.within c.args.at (indirect_pointer e) c.requires.below (owns_indirect e some)).1))
+    subst (λ (o : List ℕ). 10 ≤ c.args.place / 4096 → IsThere (indirect_pointer (entry_of blocks o []) ((c.args.place / 4096 - 10) / 1024)) blocks) (sym c.get_record.ensures)
+    (table_is_there c.args.inodes c.args.at blocks c.requires.room c.requires.rule c.requires.below c.requires.file (c.args.place / 4096) (omega arith))
 
 pub get-requires-clause-there : goal.get-requires-clause-there
 get-requires-clause-there g c =
@@ -26,7 +30,7 @@ get-requires-clause-there g c =
     let e : Entry = entry c.args.inodes blocks c.args.at in
     let i = c.args.place / 4096 in
     let low : i < block_count e = omega arith in
-    let is : c.pointer_at-number.result ≡ pointer e i = c.pointer_at-number.ensures ∙ ap (λ (o : List ℕ). pointer (record { inode = o; slot = []; indirect = indirect_of blocks (number_at 52 4 o) }) i) c.get_record.ensures in
+    let is : c.pointer_at-number.result ≡ pointer e i = c.pointer_at-number.ensures ∙ ap (λ (o : List ℕ). pointer (entry_of blocks o []) i) c.get_record.ensures in
     subst (λ (n : ℕ). n < length blocks) (sym is) ((c.requires.rule.within c.args.at (pointer e i) c.requires.below (owns_pointer e i low)).1)
 
 pub returns-clause-done : goal.returns-clause-done
@@ -36,7 +40,7 @@ returns-clause-done g c =
     let e : Entry = entry c.args.inodes old c.args.at in
     let i = c.args.place / 4096 in
     let octets = c.args.octets.now in
-    let is : c.pointer_at-number.result ≡ pointer e i = c.pointer_at-number.ensures ∙ ap (λ (o : List ℕ). pointer (record { inode = o; slot = []; indirect = indirect_of old (number_at 52 4 o) }) i) c.get_record.ensures in
+    let is : c.pointer_at-number.result ≡ pointer e i = c.pointer_at-number.ensures ∙ ap (λ (o : List ℕ). pointer (entry_of old o []) i) c.get_record.ensures in
     let block : c.put_part.new.block ≡ overwritten (c.args.place % 4096) octets (get_or old (pointer e i) []) = c.put_part.ensures ∙ ap (λ (b : List ℕ). overwritten (c.args.place % 4096) octets b) (c.get.ensures ∙ ap (λ (n : ℕ). get_or old n []) is) in
     on_put c.put.result (ReplacesContent c.args.inodes c.args.at (overwritten c.args.place octets (content_of old e)) old new) new old
     (set old c.pointer_at-number.result c.put_part.new.block) c.put.ensures.put
@@ -51,7 +55,7 @@ returns-clause-marks g c =
     let e : Entry = entry c.args.inodes old c.args.at in
     let i = c.args.place / 4096 in
     let octets = c.args.octets.now in
-    let is : c.pointer_at-number.result ≡ pointer e i = c.pointer_at-number.ensures ∙ ap (λ (o : List ℕ). pointer (record { inode = o; slot = []; indirect = indirect_of old (number_at 52 4 o) }) i) c.get_record.ensures in
+    let is : c.pointer_at-number.result ≡ pointer e i = c.pointer_at-number.ensures ∙ ap (λ (o : List ℕ). pointer (entry_of old o []) i) c.get_record.ensures in
     let block : c.put_part.new.block ≡ overwritten (c.args.place % 4096) octets (get_or old (pointer e i) []) = c.put_part.ensures ∙ ap (λ (b : List ℕ). overwritten (c.args.place % 4096) octets b) (c.get.ensures ∙ ap (λ (n : ℕ). get_or old n []) is) in
     on_put c.put.result (SameMarks old new) new old
     (set old c.pointer_at-number.result c.put_part.new.block) c.put.ensures.put
