@@ -116,7 +116,7 @@ held_at inodes blocks f among =
     let low : its.at < inodes = (let small = its.low in omega (arith, small, length-map-range_with_len (λ k. file_at inodes blocks k) 0 inodes)) in
     record { at = its.at; low = low; its = sym (get_or-map-range_with_len (λ k. file_at inodes blocks k) 0 inodes its.at its.at None low (omega arith)) ∙ its.its None }
 
-small_file : (inodes : ℕ) (blocks : List Octets) (files : List File) (f : File) → HoldsFiles inodes blocks files → IsHeld inodes blocks f → length f.content ≤ 4_235_264
+small_file : (inodes : ℕ) (blocks : List Octets) (files : List File) (f : File) → HoldsFiles inodes blocks files → IsHeld inodes blocks f → length f.content ≤ 268_435_456
 small_file inodes blocks files f holds held = elim (holds.rule.each held.at held.low) [
   | inl free ↦ absurd (none_there (kind (entry inodes blocks held.at)) (free_kind (entry inodes blocks held.at) free) held.its)
   | inr file ↦ (let fits = file.small in let few = its_size (eqb (kind (entry inodes blocks held.at)) 0) held.its in omega (arith, fits, few))
@@ -132,7 +132,7 @@ small_file inodes blocks files f holds held = elim (holds.rule.each held.at held
         let long : length (content_of blocks (entry inodes blocks held.at)) ≡ length f.content = ap (λ (g : File). length g.content) one in
         omega (arith, long, length-take (size (entry inodes blocks held.at)) (flat_map (λ i. Rattle.std.specs.Prelude.slice_index_or blocks (Rattle.model.specs.Files.pointer (entry inodes blocks held.at) i) []) (range_with_len 0 (Rattle.model.specs.Files.block_count (entry inodes blocks held.at)))))
 
-pub overview_small : (host : Octets) (inodes : ℕ) (blocks : List Octets) (S : Spool) (g : NewsGroup) → Holds host inodes blocks S → Contains (groups S) g → length (overview_file S g.name) ≤ 4_235_264
+pub overview_small : (host : Octets) (inodes : ℕ) (blocks : List Octets) (S : Spool) (g : NewsGroup) → Holds host inodes blocks S → Contains (groups S) g → length (overview_file S g.name) ≤ 268_435_456
 overview_small host inodes blocks S g holds among =
     let f : File = record { name = overview_name g.name; content = overview_file S g.name } in
     let there : Contains holds.files f = Contains-permutation (files_of S) holds.files f (IsPermutation-sym holds.files (files_of S) holds.same) (overview_there S g among) in

@@ -122,7 +122,8 @@ high_is S g = length-map (filed_in S g.name) (λ (a : NewsArticle). a.serial)
 pub few_filed : (S : Spool) (name : Octets) (k : ℕ) (its : IsAt S name k) (i : GroupIndex) → i ≡ group_index S its.group → length S ≤ 32768 → length i.filed ≤ 32768
 few_filed S name k its i is few = omega (arith, ap (λ (j : GroupIndex). length j.filed) is, high_is S its.group, high_few S its.group.name, few)
 
-pub short_end : (x : IndexView) (p : FilePlaces) (text : Octets) (filed : List Octets) (can : CanFile x p text filed) (name : Octets) (k : ℕ) (its : IsAt can.changes name k) (i : GroupIndex) → i ≡ group_index can.changes its.group → end_of i ≤ 4235264
+pub short_end : (x : IndexView) (p : FilePlaces) (text : Octets) (filed : List Octets) (can : CanFile x p text filed) (name : Octets)
+    (k : ℕ) (its : IsAt can.changes name k) (i : GroupIndex) → i ≡ group_index can.changes its.group → end_of i ≤ 268435456
 short_end x p text filed can name k its i is =
     let low = slice_get_within (groups can.changes) k its.group its.at in
     let among : Contains (groups can.changes) its.group = (k, low, same_Some (get_or (groups can.changes) k its.group) its.group (sym (slice_get-get_or (groups can.changes) k its.group low) ∙ its.at)) in

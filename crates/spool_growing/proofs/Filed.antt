@@ -1,6 +1,7 @@
 -- An article is filed.
 use Rattle.std.proofs.Common.{◌≡◌, ◌≢◌, ◌≤◌, ℕ, suc, ◌+◌, ◌*◌, List, [], ◌∷◌, ◌++◌, length, get_or, map, refl, sym, ◌∙◌, ap, subst, arith}
 use Rattle.std.specs.Prelude.{Option, Some, None, flat_map, option_map, slice_get, unwrap_or}
+use Rattle.std.specs.List.{sum_by}
 use Rattle.std.proofs.lemmas.List.Sums.{sum_by-cons}
 use Rattle.model.specs.Stream.{Octets}
 use Rattle.model.specs.Files.{File, free_blocks, table}
@@ -14,9 +15,9 @@ use Rattle.model.specs.declared.change.Change.{Change}
 use Rattle.model.specs.declared.change.Change.TheVariants.{Article}
 use Rattle.fs.specs.Calls.{IsFileAt, IsThere}
 use Rattle.fs.specs.Touches.{Touches, touched_by_growth}
-use Rattle.fs_layout.proofs.Touching.{touches_more, touches_then}
+use Rattle.fs_layout.proofs.Touching.{touches_then}
 use Rattle.filing.specs.declared.Piece.{Piece}
-use Rattle.filing.specs.Calls.{AppendsFirst, Calls, MakesAt, MayAllGrow, append_call}
+use Rattle.filing.specs.Calls.{AppendsFirst, Calls, MakesAt, MayAllGrow, append_call, touched_by_pieces}
 use Rattle.filing.proofs.Calling.{calls_then, still_used}
 use Rattle.places.specs.Places.{AreNamed, name_of, with_change}
 use Rattle.places.proofs.Named.{are_by_name, grow_by_change, have_names}
@@ -29,6 +30,7 @@ use Rattle.spool_growing.specs.Growing.{Dirties}
 use Rattle.spool_growing.proofs.Absent.{lacks_serial}
 use Rattle.spool_growing.proofs.Adding.{pieces_call}
 use Rattle.spool_growing.proofs.Held.{changes_are_few, grown, not_there}
+use Rattle.spool_growing.proofs.Touched.{touched_by}
 use Rattle.std.proofs.lemmas.List.{take_all}
 
 pub lacks_article : (host : Octets) (inodes : ℕ) (blocks : List Octets) (S : Spool) → IsHeld host inodes blocks S → ¬ (IsThere (table inodes blocks) (article_name (length S + 1)))
@@ -39,6 +41,15 @@ lacks_article host inodes blocks S is = not_there host inodes blocks S is (artic
 same_calls : (f h : Piece → FileCall) (ps : List Piece) → ((k : ℕ) (p : Piece) → slice_get ps k ≡ Some p → f p ≡ h p) → map f ps ≡ map h ps
 same_calls f h [] same = refl
 same_calls f h (p ∷ ps) same = λ i. same 0 p refl i ∷ same_calls f h ps (λ k q at. same (suc k) q at) i
+
+-- the octets of a file, if there is one
+abbrev size_of : Option File → ℕ
+size_of o = unwrap_or (option_map (λ (f : File). length f.content) o) 0
+
+same_sum : (f h : Piece → ℕ) (ps : List Piece) → ((k : ℕ) (p : Piece) → slice_get ps k ≡ Some p → f p ≡ h p) → sum_by f ps ≡ sum_by h ps
+same_sum f h [] same = refl
+same_sum f h (p ∷ ps) same =
+    omega (arith, sum_by-cons f p ps, sum_by-cons h p ps, same 0 p refl, same_sum f h ps (λ k q at. same (suc k) q at))
 
 module _ (inodes at : ℕ) (name octets : Octets) (pieces : List Piece) (old mid : List Octets) (made : MakesAt inodes at name octets old mid) (lacks : ¬ (IsThere (table inodes old) name)) (may : MayAllGrow inodes pieces old) where
   -- the new file is no piece's
@@ -60,7 +71,7 @@ module _ (inodes at : ℕ) (name octets : Octets) (pieces : List Piece) (old mid
     apart = may.apart;
   }
 
-  pub still_free : length octets ≤ 262821 → length pieces ≤ 32 → 256 ≤ free_blocks old → 3 * length pieces ≤ free_blocks mid
+  pub still_free : length octets ≤ 262821 → length pieces ≤ 32 → 256 ≤ free_blocks old → 4 * length pieces ≤ free_blocks mid
   still_free short few free =
       omega (arith, short, few, free, made.calls.free, sum_by-cons blocks_taken (Create name) (Append name octets ∷ []), sum_by-cons blocks_taken (Append name octets) [])
 
@@ -77,10 +88,18 @@ module _ (inodes at : ℕ) (name octets : Octets) (pieces : List Piece) (old mid
         used = still_used at (table inodes mid) (table inodes new) appends.calls.names made.used;
       }
 
-  pub article_touches : (new : List Octets) → length octets ≤ 262821 → length pieces ≤ 32 → Touches (2 + touched_by_growth 0 (length octets)) old mid → Touches (5 * length pieces) mid new → Touches 254 old new
-  article_touches new short few first second =
+  -- what the pieces touch
+  same_touched : touched_by_pieces (table inodes mid) pieces ≡ touched_by_pieces (table inodes old) pieces
+  same_touched = same_sum (touched_by (table inodes mid)) (touched_by (table inodes old)) pieces
+      (λ k p is. ap (λ (o : Option File). touched_by_growth (size_of o) (length p.octets.items)) (same_file k p is))
+
+  pub all_touched : (new : List Octets) → Touches (2 + touched_by_growth 0 (length octets)) old mid
+      → Touches (touched_by_pieces (table inodes mid) pieces) mid new
+      → Touches (2 + touched_by_growth 0 (length octets) + touched_by_pieces (table inodes old) pieces) old new
+  all_touched new first second =
       let reached = 2 + touched_by_growth 0 (length octets) in
-      touches_more (reached + 5 * length pieces) 254 old new (omega (arith, short, few)) (touches_then reached (5 * length pieces) old mid new first second)
+      subst (λ (n : ℕ). Touches (reached + n) old new) same_touched
+      (touches_then reached (touched_by_pieces (table inodes mid) pieces) old mid new first second)
 
 -- ---- the whole
 

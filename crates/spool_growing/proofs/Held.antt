@@ -12,7 +12,6 @@ use Rattle.model.specs.Spool.{Spool}
 use Rattle.model.specs.SpoolFiles.{change_calls, files_of}
 use Rattle.model.specs.declared.change.Change.{Change}
 use Rattle.model.specs.declared.change.Change.TheVariants.{Group, Article, Expire}
-use Rattle.model.proofs.Asking.{changes_ask_few}
 use Rattle.model.proofs.Counting.{free_is_beside}
 use Rattle.model.proofs.Filing.{spools_grow}
 use Rattle.model.proofs.HoldsOne.{changes_few}

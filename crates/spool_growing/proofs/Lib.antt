@@ -3,5 +3,6 @@ pub mod Dirty
 pub mod Held
 pub mod Grown
 pub mod Adding
+pub mod Touched
 pub mod Filed
 pub mod Short

@@ -1,13 +1,13 @@
 //! The files that a change makes, on the stage. Each is put into the lowest free inode, and its octets into the lowest
 //! free blocks.
 
-ghost use Rattle.std.specs.Prelude.{◌≡◌, ◌<◌, ◌≤◌, IfOk, OnOk, length};
+ghost use Rattle.std.specs.Prelude.{◌≡◌, ◌<◌, ◌≤◌, ◌+◌, IfOk, OnOk, length};
 ghost use Rattle.model.specs.Files.{HasRoom, IsFileSystem, table};
 ghost use Rattle.model.specs.Records as model_records;
 ghost use Rattle.model.specs.SpoolFiles.{article_name, expiry_name};
 ghost use Rattle.fs.specs.Calls.{IsThere};
-ghost use Rattle.fs.specs.Touches.{Touches};
-ghost use Rattle.filing.specs.Calls.{IsKnown, MakesAt, MayAllGrow};
+ghost use Rattle.fs.specs.Touches.{Touches, touched_by_growth};
+ghost use Rattle.filing.specs.Calls.{IsKnown, MakesAt, MayAllGrow, touched_by_pieces};
 ghost use Rattle.spool_growing.specs.Growing.{FilesArticle, HasFree, LacksGroup, MakesGroup};
 
 use filing::{Free, Piece, append_all, create_file, make_file};
@@ -102,7 +102,8 @@ pub(crate) fn file_article<B: Blocks>(
     requires few { length pieces.now ≤ 32 }
     requires known { IsKnown inodes free.old (B.blocks blocks.old) }
     ensures filed { IfOk result (λ at. FilesArticle inodes at (article_name serial) octets.now pieces.now (B.blocks blocks.old) (B.blocks blocks.new)) }
-    ensures touches { OnOk result (Touches 254 (B.blocks blocks.old) (B.blocks blocks.new)) }
+    ensures touches { OnOk result (Touches (2 + touched_by_growth 0 (length octets.now) + touched_by_pieces (table inodes (B.blocks blocks.old)) pieces.now)
+        (B.blocks blocks.old) (B.blocks blocks.new)) }
     ensures known { OnOk result (IsKnown inodes free.new (B.blocks blocks.new)) }
     ensures kept { B.applied blocks.new ≡ B.applied blocks.old }
 {

@@ -33,7 +33,7 @@ no_piece inodes slots named name piece after sorted other none has =
     let low : has.place < length inodes = elim (cases_lt has.place (length inodes)) [ inl less ↦ less | inr past ↦ absurd (let nothing = get_or_past inodes has.place None past in let is = has.there in cc) ] in
     absurd (let found = sorted.to name has.content has.place low has.there (other has.content) in cc)
 
-pub piece_fits : (inodes : ℕ) (blocks : List Octets) (name piece : Octets) (after : ℕ) → HasRoom inodes blocks → IsFileSystem inodes blocks → HasPiece (table inodes blocks) name after piece → length piece ≤ 4235264
+pub piece_fits : (inodes : ℕ) (blocks : List Octets) (name piece : Octets) (after : ℕ) → HasRoom inodes blocks → IsFileSystem inodes blocks → HasPiece (table inodes blocks) name after piece → length piece ≤ 268435456
 piece_fits inodes blocks name piece after room rule has =
     let fits = content_fits inodes blocks has.place (record { name = name; content = has.content }) room rule has.there in
     omega (arith, fits, ap (λ (o : Octets). length o) has.piece_is, length-take (length piece) (drop after has.content), length-drop after has.content)

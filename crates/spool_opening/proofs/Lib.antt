@@ -8,3 +8,4 @@ pub mod Filed
 pub mod Nexts
 pub mod Whole
 pub mod Holding
+pub mod Formats

@@ -42,7 +42,7 @@ fn stands<B: Blocks>(
     requires sorted { AreSorted (table inodes (B.blocks blocks.now)) (length (table inodes (B.blocks blocks.now))) files.now.slots.items files.now.named }
     requires index { (content : List ℕ) → is_of_change (record { name = name.now; content = content }) ≡ false }
     ensures stands { IfOk result (λ stands. IsTrue stands ↔ HasPiece (table inodes (B.blocks blocks.now)) name.now after piece.now) }
-    ensures short { IfOk result (λ stands. IsTrue stands → length piece.now ≤ 4235264) }
+    ensures short { IfOk result (λ stands. IsTrue stands → length piece.now ≤ 268435456) }
 {
     let Some(at) = files.named.get(name) else {
         return Ok(false);

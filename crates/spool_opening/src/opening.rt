@@ -2,7 +2,8 @@
 
 ghost use Rattle.std.specs.Prelude.{◌≡◌, IfErr, IfOk};
 ghost use Rattle.model.specs.Files.{HasRoom, IsFileSystem};
-ghost use Rattle.model.specs.Layout.{Holds};
+ghost use Rattle.model.specs.Layout.{AreOfFormat, Holds, HoldsIn};
+ghost use Rattle.model.specs.SpoolFiles.{files_of};
 ghost use Rattle.model.specs.Spool.{Spool};
 ghost use Rattle.spool_opening.specs.Ended.{IsOpened};
 
@@ -15,24 +16,26 @@ use spool_reading::{OpenError, sort};
 use std::alloc::Global;
 use volume::Blocks;
 
-/// Opens the spool of a host in these blocks, whatever they contain: its index, and the places of its files. `Damaged`
-/// exactly if the blocks hold no spool of the host, because the rule of blocks or the rule of files is broken
-/// (docs/FORMATS.md); `Memory` if a growth was refused. Each file is read once, and the work is n log n in what is
-/// stored.
+/// Opens the spool of a host in the blocks of a volume of this format, whatever they contain: its index, and the places
+/// of its files. `Damaged` exactly if the blocks hold no spool of the host, because the rule of blocks or the rule of
+/// files is broken, or because a file is larger than the format allows (docs/FORMATS.md); `Memory` if a growth was
+/// refused. Each file is read once, and the work is n log n in what is stored.
 pub fn open<B: Blocks>(
     alloc: Global,
     blocks: &B,
     inodes: u32,
+    format: u32,
     host: &[u8],
 ) -> Result<Replay, OpenError>
     requires { HasRoom inodes (B.blocks blocks.now) }
     ensures ok { IfOk result (λ opened. IsOpened host.now inodes (B.blocks blocks.now) opened.index opened.places) }
-    ensures damaged { IfErr result (λ e. e ≡ OpenError.Damaged → (S : Spool) → Holds host.now inodes (B.blocks blocks.now) S → ⊥) }
+    ensures format { IfOk result (λ _. (S : Spool) → Holds host.now inodes (B.blocks blocks.now) S → AreOfFormat format (files_of S)) }
+    ensures damaged { IfErr result (λ e. e ≡ OpenError.Damaged → (S : Spool) → HoldsIn format host.now inodes (B.blocks blocks.now) S → ⊥) }
 {
-    match check(alloc, blocks, inodes) {
+    match check(alloc, blocks, inodes, format) {
         Ok(()) => open_checked(alloc, blocks, inodes, host),
-        Err(FsError::Memory) => Err(OpenError::Memory),
-        Err(_) => Err(OpenError::Damaged),
+        Err(FsError::Damaged) => Err(OpenError::Damaged),
+        Err(_) => Err(OpenError::Memory),
     }
 }
 

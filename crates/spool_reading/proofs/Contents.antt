@@ -27,7 +27,7 @@ module _ (inodes : ℕ) (blocks : List Octets) (fs : IsFileSystem inodes blocks)
 pub named_file : (inodes : ℕ) (blocks : List Octets) (k : ℕ) (f : File) → IsFileSystem inodes blocks → get_or (table inodes blocks) k None ≡ Some f → IsNamed inodes blocks k f.name f.content
 named_file inodes blocks k f fs there = named_from_there inodes blocks fs k f.name f.content there
 
-pub content_fits : (inodes : ℕ) (blocks : List Octets) (k : ℕ) (f : File) → HasRoom inodes blocks → IsFileSystem inodes blocks → get_or (table inodes blocks) k None ≡ Some f → length f.content ≤ 4235264
+pub content_fits : (inodes : ℕ) (blocks : List Octets) (k : ℕ) (f : File) → HasRoom inodes blocks → IsFileSystem inodes blocks → get_or (table inodes blocks) k None ≡ Some f → length f.content ≤ 268435456
 content_fits inodes blocks k f room fs there =
     let named = named_file inodes blocks k f fs there in
     let long = length-content blocks (entry inodes blocks k) room.blocks_whole (λ b owns. (fs.within k b named.below owns).1) in

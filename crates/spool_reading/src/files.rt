@@ -44,7 +44,7 @@ pub fn read_file<B: Blocks>(
     requires rule { IsFileSystem inodes (B.blocks blocks.now) }
     requires there { (f : File) × (slice_index_or (table inodes (B.blocks blocks.now)) at None ≡ Some f) }
     ensures { IfOk result (λ octets. (f : File) → slice_index_or (table inodes (B.blocks blocks.now)) at None ≡ Some f
-        → (octets.items ≡ take count (drop place f.content)) × (length f.content ≤ 4235264)) }
+        → (octets.items ≡ take count (drop place f.content)) × (length f.content ≤ 268435456)) }
 {
     let octets = read_entry(alloc, blocks, inodes, at, place, count)?;
     Ok(octets)
@@ -69,7 +69,7 @@ pub fn file_at<B: Blocks>(
     requires below { at < inodes }
     requires there { (f : File) × (slice_index_or (table inodes (B.blocks blocks.now)) at None ≡ Some f) }
     ensures is { IfOk result (λ f. slice_index_or (table inodes (B.blocks blocks.now)) at None ≡ Some (record { name = f.name.items; content = f.content.items })) }
-    ensures short { IfOk result (λ f. length f.content.items ≤ 4235264) }
+    ensures short { IfOk result (λ f. length f.content.items ≤ 268435456) }
 {
     let Some(name) = file_name_at(alloc, blocks, inodes, at)? else {
         unreachable!()

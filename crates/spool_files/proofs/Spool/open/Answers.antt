@@ -1,7 +1,7 @@
 use Rattle.std.proofs.Common.{◌≡◌, ℕ, List, IsTrue, arith, subst, sym}
 use Rattle.model.specs.Files.{HasRoom, free_inodes}
 use Rattle.model.specs.Indexed.{ArePlaces, FilePlaces}
-use Rattle.model.specs.Layout.{Holds}
+use Rattle.model.specs.Layout.{Holds, HoldsIn}
 use Rattle.model.specs.Names.{is_host}
 use Rattle.model.specs.Spool.{Spool}
 use Rattle.model.specs.Stream.{Octets}
@@ -15,8 +15,10 @@ use Rattle.spool_files.specs.Kept.{CanStand}
 use Rattle.spool_files.proofs.Spool.open.Goals as goal
 
 -- the blocks that are seen are those of the cache
-moved : (host other : Octets) (inodes : ℕ) (blocks seen : List Octets) (S : Spool) → other ≡ host → seen ≡ blocks → Holds host inodes blocks S → Holds other inodes seen S
-moved host other inodes blocks seen S same is held = subst (λ (p : Octets × List Octets). Holds p.0 inodes p.1 S) (λ i. (sym same i, sym is i)) held
+moved : (format : ℕ) (host other : Octets) (inodes : ℕ) (blocks seen : List Octets) (S : Spool) → other ≡ host → seen ≡ blocks
+    → HoldsIn format host inodes blocks S → HoldsIn format other inodes seen S
+moved format host other inodes blocks seen S same is held =
+    subst (λ (p : Octets × List Octets). HoldsIn format p.0 inodes p.1 S) (λ i. (sym same i, sym is i)) held
 
 -- what was opened can stand
 stands : (host other : Octets) (inodes free : ℕ) (v : VolumeView) (x : IndexView) (p : FilePlaces) → IsTrue (is_host host) → other ≡ host → v.seen ≡ v.cache → HasRoom inodes v.cache → free ≡ free_inodes inodes v.seen → IsOpened other inodes v.seen x p → CanStand host inodes free v x p
@@ -36,7 +38,9 @@ stands host other inodes free v x p named same seen room free_is opened =
 
 pub returns-in-Err-clause-damaged : goal.returns-in-Err-clause-damaged
 returns-in-Err-clause-damaged c = λ e S held.
-    c.in-Err.ensures.damaged e S (moved c.args.host c.as_slice.result.now c.args.inodes c.args.volume.cache c.args.volume.seen S c.as_slice.ensures c.requires.seen held)
+    c.in-Err.ensures.damaged e S
+    (moved c.args.format c.args.host c.as_slice.result.now c.args.inodes c.args.volume.cache c.args.volume.seen S
+    c.as_slice.ensures c.requires.seen held)
 
 pub of-requires : goal.of-requires
 of-requires c = stands c.args.host c.as_slice.result.now c.args.inodes c.free_inode_count-free.result c.args.volume c.in-Ok.opened.index c.in-Ok.opened.places c.requires.named c.as_slice.ensures c.requires.seen c.requires.room c.free_inode_count-free.ensures c.in-Ok.ensures.ok

@@ -21,6 +21,7 @@ use Rattle.spool_growing.proofs.Filed.{article_grown, lacks_article}
 use Rattle.spool_growing.proofs.Grown.{applied_dirties}
 use Rattle.spool_growing.proofs.Held.{changes_are_few, enough}
 use Rattle.spool_growing.proofs.Short.{here_is_short}
+use Rattle.spool_growing.proofs.Touched.{article_touches}
 use Rattle.spool_growing.proofs.growing.grow_by_article.Goals as goal
 
 pub overflow_add-serial : goal.overflow_add-serial
@@ -105,10 +106,18 @@ returns-clause-grown c =
     let w = c.apply.new.self in
     let text = c.args.article.now in
     let groups = c.args.groups.now in
-    let lines = c.in_ok-lines.lines in
+    let serial = ap (λ (n : ℕ). n + 1) (c.len-serial.ensures ready.changes ready.kept.indexed) in
+    let are = c.in_ok-lines.ensures.pieces ready.changes ready.kept.indexed serial c.args.inodes v.cache ready.kept.placed in
+    let touches = article_touches ready.host c.args.inodes v.cache ready.changes text groups c.args.moment ready.kept.is ready.may
+    (c.len-serial.result + 1) c.deref.result.now c.deref-2.result.now v.seen m.seen ready.kept.seen serial
+    (c.deref.ensures.value ∙ c.in_ok-octets.ensures)
+    (subst (λ (ps : List Piece). ArePieces (table c.args.inodes v.cache) ready.changes text groups ps) (sym c.deref-2.ensures.value) are)
+    c.in-Ok.ensures.touches in
     article_grown c.args.inodes v m w c.args.index.now c.push_article.new.self c.args.places.now c.push_change.new.self
     text groups c.args.moment c.in-Ok.at (c.len-serial.result + 1) c.deref.result.now c.deref-2.result.now
-    ready.kept.seen c.in-Ok.ensures.filed (applied_dirties v m w ready.kept.seen c.in-Ok.ensures.kept c.in-Ok.ensures.filed.calls.count c.in-Ok.ensures.touches c.apply.ensures.cache c.apply.ensures.dirty c.apply.ensures.distinct)
+    ready.kept.seen c.in-Ok.ensures.filed
+    (applied_dirties v m w ready.kept.seen c.in-Ok.ensures.kept c.in-Ok.ensures.filed.calls.count touches c.apply.ensures.cache
+    c.apply.ensures.dirty c.apply.ensures.distinct)
     c.apply.ensures.cache c.apply.ensures.seen c.in-Ok-push_change.ensures.ok
     (λ host S may kept.
     let serial = ap (λ (n : ℕ). n + 1) (c.len-serial.ensures S kept.indexed) in

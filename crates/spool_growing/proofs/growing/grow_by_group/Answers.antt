@@ -1,5 +1,5 @@
 use Rattle.std.proofs.Common.{rules, ◌≡◌, ℕ, ◌+◌, List, length, ◌∙◌, sym, subst, ap, arith}
-use Rattle.model.specs.Files.{HasRoom, table}
+use Rattle.model.specs.Files.{HasRoom}
 use Rattle.model.specs.Stream.{Octets}
 use Rattle.model.specs.Records.{group_record}
 use Rattle.model.specs.declared.change.Change.TheVariants.{Group}

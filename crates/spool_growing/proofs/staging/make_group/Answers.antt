@@ -5,6 +5,7 @@ use Rattle.fs.specs.Touches.{touched_by_growth}
 use Rattle.fs_layout.proofs.Touching.{touches_more, touches_then}
 use Rattle.filing.specs.Calls.{CreatesAt, MakesAt}
 use Rattle.spool_growing.proofs.Grown.{makes_group, one_empty_more, one_file_more}
+use Rattle.spool_growing.proofs.Touched.{few_reached}
 use Rattle.spool_growing.proofs.staging.make_group.Goals as goal
 
 pub create_file-requires-clause-few : goal.create_file-requires-clause-few
@@ -41,5 +42,5 @@ returns-clause-touches g c =
     let d = g.B.Blocks.blocks c.create_file.new.blocks in
     let e = g.B.Blocks.blocks c.create_file-2.new.blocks in
     let reached = 2 + touched_by_growth 0 (length c.args.record.now) in
-    touches_more (reached + (2 + 2)) 254 a e (omega (arith, c.requires.short))
+    touches_more (reached + (2 + 2)) 254 a e (omega (arith, few_reached (length c.args.record.now) c.requires.short))
     (touches_then reached (2 + 2) a b e c.in_ok-at.ensures.touches (touches_then 2 2 b d e c.in_ok-numbers.ensures.touches c.in_ok-overview.ensures.touches))
