@@ -1,12 +1,13 @@
 -- A batch of the dirty blocks, and what a crash around it leaves.
 use Rattle.std.proofs.Common.{◌≡◌, ◌⊎◌, inl, inr, ⊎_elim, ◌*◌, ◌<◌, ◌≤◌, ℕ, IsTrue, List, [], length, refl, sym, ◌∙◌, ap, subst}
-use Rattle.std.specs.Prelude.{All, map, slice_index_or}
+use Rattle.std.specs.Prelude.{All, slice_index_or}
 use Rattle.std.specs.List.{flat_map}
 use Rattle.std.proofs.lemmas.List.Elements.{All-get_or, All-weaker}
 use Rattle.disk.specs.Device.{Device}
+use Rattle.journal.specs.Inside.{IsVolume}
 use Rattle.journal.specs.Journal.{IsReady, JournalView, LeavesAdmitted, with_batch}
 use Rattle.model.specs.Stream.{Octets}
-use Rattle.model.specs.Volume.{StandsFor, blocks_from, laid_over}
+use Rattle.model.specs.Volume.{blocks_from, laid_over}
 use Rattle.spool_files.specs.View.{IsSpool, SpoolView}
 use Rattle.volume.specs.Volume.{BatchView}
 use Rattle.volume.proofs.Octets.{blocks_from-flat_map}
@@ -22,7 +23,7 @@ carries_as device old after other new same c = record {
   tells = c.tells;
   failures = c.failures;
   blocks = λ t. c.blocks t ∙ same t;
-  leaves = λ t image left. subst (λ (bs : List Octets). StandsFor image old.label bs) (same t) (c.leaves t image left);
+  leaves = λ t image left. subst (λ (bs : List Octets). IsVolume old.format old.label bs image) (same t) (c.leaves t image left);
 }
 
 pub leaves_as : {D : Type 0} (device : D → Device) (old : JournalView D) (after other : List Octets) (new : JournalView D)
@@ -30,22 +31,27 @@ pub leaves_as : {D : Type 0} (device : D → Device) (old : JournalView D) (afte
 leaves_as device old after other new same since t time image before left =
     ⊎_elim
     (λ (was : (device old.disk).left_since time image). inl was)
-    (λ (one : StandsFor image old.label old.blocks ⊎ StandsFor image old.label after). inr (⊎_elim
-    (λ (first : StandsFor image old.label old.blocks). inl first)
-    (λ (both : StandsFor image old.label after). inr (subst (λ (bs : List Octets). StandsFor image old.label bs) (same t) both))
+    (λ (one : IsVolume old.format old.label old.blocks image ⊎ IsVolume old.format old.label after image). inr (⊎_elim
+    (λ (first : IsVolume old.format old.label old.blocks image). inl first)
+    (λ (both : IsVolume old.format old.label after image).
+    inr (subst (λ (bs : List Octets). IsVolume old.format old.label bs image) (same t) both))
     one))
     (since t time image before left)
 
 -- ---- from the moment before it began
 
 module _ {D : Type 0} (device : D → Device) (old begun : JournalView D) (batch : BatchView) (new : JournalView D)
-    (disk : begun.disk ≡ old.disk) (label : begun.label ≡ old.label) (blocks : begun.blocks ≡ old.blocks)
-    (numbers : begun.numbers ≡ batch.numbers) (images : begun.images ≡ blocks_from 0 (length batch.numbers) batch.images) where
+    (disk : begun.disk ≡ old.disk) (label : begun.label ≡ old.label) (format : begun.format ≡ old.format)
+    (blocks : begun.blocks ≡ old.blocks) (numbers : begun.numbers ≡ batch.numbers)
+    (images : begun.images ≡ blocks_from 0 (length batch.numbers) batch.images) where
   laid : with_batch begun ≡ after_batch old.blocks batch
   laid = λ i. laid_over (blocks i) (numbers i) (images i)
 
   tells : IsTrue (device old.disk).tells → IsTrue (device begun.disk).tells
   tells t = subst (λ (d : D). IsTrue (device d).tells) (sym disk) t
+
+  abbrev Volume : (image : Octets) → ℕ × (Octets × List Octets) → Type 0
+  Volume image s = IsVolume s.0 s.1.0 s.1.1 image
 
   pub carries_from : Carries device begun (with_batch begun) new → Carries device old (after_batch old.blocks batch) new
   carries_from c = record {
@@ -53,24 +59,24 @@ module _ {D : Type 0} (device : D → Device) (old begun : JournalView D) (batch
     tells = c.tells ∙ ap (λ (d : D). (device d).tells) disk;
     failures = c.failures ∙ ap (λ (d : D). (device d).failures) disk;
     blocks = λ t. c.blocks (tells t) ∙ laid;
-    leaves = λ t image left. subst (λ (s : Octets × List Octets). StandsFor image s.0 s.1) (λ i. (label i, laid i))
-        (c.leaves (tells t) image left);
+    leaves = λ t image left. subst (Volume image) (λ i. (format i, (label i, laid i))) (c.leaves (tells t) image left);
   }
 
   pub leaves_from : LeavesOneOf device begun (with_batch begun) new → LeavesOneOf device old (after_batch old.blocks batch) new
   leaves_from since t time image before left =
       ⊎_elim
       (λ (was : (device begun.disk).left_since time image). inl (subst (λ (d : D). (device d).left_since time image) disk was))
-      (λ (one : StandsFor image begun.label begun.blocks ⊎ StandsFor image begun.label (with_batch begun)). inr (⊎_elim
-      (λ (first : StandsFor image begun.label begun.blocks).
-      inl (subst (λ (s : Octets × List Octets). StandsFor image s.0 s.1) (λ i. (label i, blocks i)) first))
-      (λ (both : StandsFor image begun.label (with_batch begun)).
-      inr (subst (λ (s : Octets × List Octets). StandsFor image s.0 s.1) (λ i. (label i, laid i)) both))
+      (λ (one : IsVolume begun.format begun.label begun.blocks image ⊎ IsVolume begun.format begun.label (with_batch begun) image).
+      inr (⊎_elim
+      (λ (first : IsVolume begun.format begun.label begun.blocks image).
+      inl (subst (Volume image) (λ i. (format i, (label i, blocks i))) first))
+      (λ (both : IsVolume begun.format begun.label (with_batch begun) image).
+      inr (subst (Volume image) (λ i. (format i, (label i, laid i))) both))
       one))
       (since (tells t) time image (subst (λ (d : D). time ≤ (device d).clock) (sym disk) before) left)
 
   pub same_from : IsSameVolume begun new → begun.size ≡ old.size → IsSameVolume old new
-  same_from same size = record { label = same.label ∙ label; size = same.size ∙ size }
+  same_from same size = record { label = same.label ∙ label; format = same.format ∙ format; size = same.size ∙ size }
 
 -- ---- without blocks
 
@@ -84,7 +90,7 @@ module _ {D : Type 0} (device : D → Device) (journal : JournalView D) (batch :
         tells = refl;
         failures = refl;
         blocks = λ t. sym same;
-        leaves = λ t image left. subst (λ (bs : List Octets). StandsFor image journal.label bs) (sym same)
+        leaves = λ t image left. subst (λ (bs : List Octets). IsVolume journal.format journal.label bs image) (sym same)
             (stands journal image ready.1 (admitted t image left));
       }
 

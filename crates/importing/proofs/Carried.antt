@@ -1,27 +1,28 @@
 -- The calls of a batch, and what a crash between leaves.
-use Rattle.std.proofs.Common.{◌≡◌, ◌≢◌, ◌⊎◌, inl, inr, ⊎_elim, ◌≤◌, ℕ, ◌+◌, Bool, true, false, if◌then◌else◌, IsTrue, List, length, refl}
-use Rattle.std.proofs.Common.{sym, ◌∙◌, ap, subst, arith, Ok, Err, Result, IfErr}
+use Rattle.std.proofs.Common.{◌≡◌, ◌≢◌, ◌⊎◌, inl, inr, ⊎_elim, ◌≤◌, ℕ, Bool, true, false, if◌then◌else◌, IsTrue, List, length, refl}
+use Rattle.std.proofs.Common.{sym, ◌∙◌, ap, subst, arith, Ok, Err}
 use Rattle.std.proofs.lemmas.Bool.{true≢false}
 use Rattle.disk.specs.Device.{Device}
 use Rattle.journal.specs.Calls.{IsRetried, MakesCall, OnMade, OnRetried}
+use Rattle.journal.specs.Inside.{IsAdmitted, IsVolume}
 use Rattle.journal.specs.Journal.{Admits, IsReady, IsSameBatch, JournalView, LeavesAdmitted, LeftAdmitted, sizes, with_batch}
-use Rattle.journal.specs.Order.{at_fault, following, is_sync, is_to_commit}
+use Rattle.journal.specs.Order.{at_fault, is_to_commit}
 use Rattle.journal.specs.declared.JournalError.{JournalError}
 use Rattle.journal.specs.declared.JournalError.TheVariants.{Fault, Memory}
 use Rattle.journal.specs.declared.Next.{Next}
 use Rattle.journal.specs.declared.Next.TheVariants.{Idle, Descriptor, Image, Seal, OpenGate, Commit, Home, Settle, CloseGate, Finish}
 use Rattle.journal.specs.declared.Progress.{Progress}
 use Rattle.journal.proofs.During.{same_then}
-use Rattle.journal.proofs.Flights.{after_gate, after_home}
-use Rattle.model.specs.Volume.{StandsFor, laid_over}
-use Rattle.new_volume.proofs.Carried.{IsOnTheWay, begun, one_more}
+use Rattle.journal.proofs.Flights.{after_home}
+use Rattle.model.specs.Volume.{StandsFor, format_number, laid_over}
+use Rattle.new_volume.proofs.Carried.{IsOnTheWay, one_more}
 use Rattle.importing.specs.Saved.{Carries, IsSameVolume, LeavesOneOf}
 
 -- ---- what the journal admits is one of two
 
--- an image stands for the blocks before the batch, or for those with it
+-- an image stands for the blocks before the batch, or for those with it, in no lower format
 abbrev pub IsOneOf : {D : Type 0} → JournalView D → List ℕ → Type 0
-IsOneOf old image = StandsFor image old.label old.blocks ⊎ StandsFor image old.label (with_batch old)
+IsOneOf old image = IsVolume old.format old.label old.blocks image ⊎ IsVolume old.format old.label (with_batch old) image
 
 -- the blocks are the ones before the batch, and those with it are still to come; or they are those with it, and the
 -- commit has been made
@@ -31,18 +32,28 @@ IsEither old now = (now.blocks ≡ old.blocks) ⊎ ((now.blocks ≡ with_batch o
 same_laid : {D : Type 0} (old now : JournalView D) → IsSameBatch old now → now.blocks ≡ old.blocks → with_batch now ≡ with_batch old
 same_laid old now same blocks = λ i. laid_over (blocks i) (same.numbers i) (same.images i)
 
+-- the volume of a later journal, of blocks that were known before
+moved_back : {D : Type 0} (old now : JournalView D) (blocks : List (List ℕ)) (image : List ℕ) → IsSameBatch old now
+    → now.format ≤ format_number image → StandsFor image now.label blocks → IsVolume old.format old.label blocks image
+moved_back old now blocks image same least stands = (
+  subst (λ (l : List ℕ). StandsFor image l blocks) same.label stands,
+  subst (λ (n : ℕ). n ≤ format_number image) same.format least,
+)
+
 pub one_of : {D : Type 0} (old now : JournalView D) (image : List ℕ) → IsSameBatch old now → IsEither old now → Admits now image
     → IsOneOf old image
-one_of old now image same (inl before) (inl stands) =
-    inl (subst (λ (l : List ℕ). StandsFor image l old.blocks) same.label
-    (subst (λ (bs : List (List ℕ)). StandsFor image now.label bs) before stands))
-one_of old now image same (inl before) (inr commits) =
-    inr (subst (λ (l : List ℕ). StandsFor image l (with_batch old)) same.label
-    (subst (λ (bs : List (List ℕ)). StandsFor image now.label bs) (same_laid old now same before) commits.1))
-one_of old now image same (inr after) (inl stands) =
-    inr (subst (λ (l : List ℕ). StandsFor image l (with_batch old)) same.label
-    (subst (λ (bs : List (List ℕ)). StandsFor image now.label bs) after.0 stands))
-one_of old now image same (inr after) (inr commits) = absurd (after.1 commits.0)
+one_of {D = D} old now image same either admits = by_blocks either admits.0 where
+  back : (blocks : List (List ℕ)) → StandsFor image now.label blocks → IsVolume old.format old.label blocks image
+  back blocks stands = moved_back old now blocks image same admits.1 stands
+
+  by_blocks : IsEither old now → IsAdmitted now.next now.label now.blocks (with_batch now) image → IsOneOf old image
+  by_blocks (inl before) (inl stands) = inl (back old.blocks (subst (λ (bs : List (List ℕ)). StandsFor image now.label bs) before stands))
+  by_blocks (inl before) (inr commits) =
+      inr (back (with_batch old)
+      (subst (λ (bs : List (List ℕ)). StandsFor image now.label bs) (same_laid old now same before) commits.1))
+  by_blocks (inr after) (inl stands) =
+      inr (back (with_batch old) (subst (λ (bs : List (List ℕ)). StandsFor image now.label bs) after.0 stands))
+  by_blocks (inr after) (inr commits) = absurd (after.1 commits.0)
 
 -- which of the two they are is told by the next call
 by_next : {D : Type 0} (old now : JournalView D) (next : Next) → now.next ≡ next
@@ -133,6 +144,13 @@ module _ {D : Type 0} (device : D → Device) (old now new : JournalView D) (so_
   refused flies error made again (inr is) more =
       since_then (same_then old now new so_far.way.same (again is).same) (retried (again is)) more
 
+  volume_then : IsSameBatch now new → IsSameVolume old new
+  volume_then same = record {
+    label = same.label ∙ so_far.way.same.label;
+    format = same.format ∙ so_far.way.same.format;
+    size = same.size ∙ so_far.way.same.size;
+  }
+
   -- it leaves a journal that can begin no batch, of the same volume
   pub stops : (flies : now.next ≢ Idle) (error : JournalError)
       → OnMade {T = Progress} (Err error) (MakesCall device now new (Err error))
@@ -142,17 +160,17 @@ module _ {D : Type 0} (device : D → Device) (old now new : JournalView D) (so_
 
   pub same_volume : (error : JournalError) → OnMade {T = Progress} (Err error) (MakesCall device now new (Err error))
       → OnRetried {T = Progress} (Err error) (IsRetried device now new) → (error ≡ Fault) ⊎ (error ≡ Memory) → IsSameVolume old new
-  same_volume error made again (inl is) =
-      record { label = (made is).same.label ∙ so_far.way.same.label; size = (made is).same.size ∙ so_far.way.same.size }
-  same_volume error made again (inr is) =
-      record { label = (again is).same.label ∙ so_far.way.same.label; size = (again is).same.size ∙ so_far.way.same.size }
+  same_volume error made again (inl is) = volume_then (made is).same
+  same_volume error made again (inr is) = volume_then (again is).same
 
 -- ---- at the end
 
 pub stands : {D : Type 0} (journal : JournalView D) (image : List ℕ) → journal.next ≡ Idle → Admits journal image
-    → StandsFor image journal.label journal.blocks
-stands journal image idle (inl is) = is
-stands journal image idle (inr commits) = absurd (let both : Idle ≡ Commit = sym idle ∙ commits.0 in cc)
+    → IsVolume journal.format journal.label journal.blocks image
+stands journal image idle admits = (here admits.0, admits.1) where
+  here : IsAdmitted journal.next journal.label journal.blocks (with_batch journal) image → StandsFor image journal.label journal.blocks
+  here (inl is) = is
+  here (inr commits) = absurd (let both : Idle ≡ Commit = sym idle ∙ commits.0 in cc)
 
 pub carries : {D : Type 0} (device : D → Device) (old now : JournalView D) → IsCarrying device old now → IsReady now
     → LeavesAdmitted device now → Carries device old (with_batch old) now
@@ -166,6 +184,7 @@ carries device old now so_far ready admitted =
       failures = so_far.way.failures;
       leaves = λ t image left.
           let told : IsTrue (device now.disk).tells = subst (λ (b : Bool). IsTrue b) (sym so_far.way.time.tells) t in
-          subst (λ (l : List ℕ). StandsFor image l (with_batch old)) so_far.way.same.label
-          (subst (λ (bs : List (List ℕ)). StandsFor image now.label bs) (blocks t) (stands now image ready.1 (admitted told image left)));
+          let here = stands now image ready.1 (admitted told image left) in
+          moved_back old now (with_batch old) image so_far.way.same here.1
+          (subst (λ (bs : List (List ℕ)). StandsFor image now.label bs) (blocks t) here.0);
     }

@@ -5,17 +5,18 @@ use Rattle.std.proofs.Math.Seq.{take-length}
 use Rattle.disk.specs.Device.{Device}
 use Rattle.journal.specs.Journal.{IsReady, JournalView, LeavesAdmitted}
 use Rattle.journal.specs.Opening.{Opens}
-use Rattle.kernel.specs.Opening.{OnlyReads}
-use Rattle.model.specs.Layout.{Holds, IsLabel, Stands}
+use Rattle.kernel.specs.Opening.{ReadsAndUpgrades}
+use Rattle.model.specs.Layout.{Holds, HoldsIn, IsLabel}
 use Rattle.model.specs.Stream.{Octets}
 use Rattle.model.specs.Volume.{StandsFor}
 use Rattle.spool_files.specs.View.{SpoolView}
 use Rattle.importing.specs.Opening.{IsLoaded, IsOpened}
-use Rattle.importing.specs.Saved.{IsSaved, IsTied, StoreView}
+use Rattle.importing.specs.Saved.{IsSaved, IsTied}
 use Rattle.importing.proofs.Carried.{stands}
+use Rattle.importing.proofs.Tied.{held_in}
 
 module _ {D : Type 0} (device : D → Device) (one two : JournalView D) (spool : SpoolView) (loaded : IsLoaded device one spool)
-    (reads : OnlyReads device one two) where
+    (reads : ReadsAndUpgrades device one two) (format : two.format ≡ 2) where
   tells_one : IsTrue (device two.disk).tells → IsTrue (device one.disk).tells
   tells_one t = subst IsTrue reads.time.tells t
 
@@ -28,6 +29,7 @@ module _ {D : Type 0} (device : D → Device) (one two : JournalView D) (spool :
 
   pub tied_opened : IsTied device two spool (length spool.changes)
   tied_opened = record {
+    format = format;
     few = omega (arith, ap length loaded.clean);
     labelled = labelled_two;
     size = loaded.size ∙ sym reads.same.size;
@@ -37,7 +39,7 @@ module _ {D : Type 0} (device : D → Device) (one two : JournalView D) (spool :
           record { count = ap length (blocks_two t); same = λ k none. ap (λ (bs : List Octets). slice_index_or bs k []) (blocks_two t) };
       holds =
           subst (λ (bs : List Octets). Holds spool.host spool.inodes bs (take (length spool.changes) spool.changes)) (sym (blocks_two t))
-          (subst (Holds spool.host spool.inodes spool.blocks) (sym (take-length spool.changes)) loaded.holds);
+          (subst (Holds spool.host spool.inodes spool.blocks) (sym (take-length spool.changes)) loaded.holds.held);
     };
   }
 
@@ -47,13 +49,13 @@ module _ {D : Type 0} (device : D → Device) (one two : JournalView D) (spool :
     ready = ready;
     all = refl;
     clean = loaded.clean;
-    leaves = λ t image left. record {
+    leaves = λ t image left. let here = stands two image ready.1 (admitted t image left) in record {
       label = two.label;
       inodes = spool.inodes;
       blocks = spool.blocks;
-      volume = subst (λ (bs : List Octets). StandsFor image two.label bs) (blocks_two t) (stands two image ready.1 (admitted t image left));
+      volume = subst (λ (bs : List Octets). StandsFor image two.label bs) (blocks_two t) here.0;
       labelled = subst (λ (n : ℕ). IsLabel two.label n spool.inodes spool.host) (reads.same.size ∙ sym loaded.size) labelled_two;
-      held = loaded.holds;
+      held = held_in two.format spool.host image spool.inodes spool.blocks spool.changes format here.1 loaded.holds.held;
     };
   }
 
@@ -62,6 +64,7 @@ module _ {D : Type 0} (device : D → Device) (one two : JournalView D) (spool :
       → IsOpened device first (record { journal = two; spool = spool; durable = length spool.changes })
   opened first opens ready admitted failures = record {
     saved = saved_opened ready admitted;
+    format = format;
     stands = λ t. record {
       label = one.label;
       inodes = spool.inodes;
@@ -69,7 +72,7 @@ module _ {D : Type 0} (device : D → Device) (one two : JournalView D) (spool :
       volume = subst (λ (bs : List Octets). StandsFor (device first).content one.label bs)
           (sym (loaded.blocks (subst IsTrue (sym opens.time.tells) t))) (opens.stands t);
       labelled = subst (λ (n : ℕ). IsLabel one.label n spool.inodes spool.host) (sym loaded.size) loaded.labelled;
-      held = loaded.holds;
+      held = subst (λ (n : ℕ). HoldsIn n spool.host spool.inodes spool.blocks spool.changes) (sym (opens.format t)) loaded.holds;
     };
     failures = failures ∙ opens.failures;
   }

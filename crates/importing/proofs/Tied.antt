@@ -1,17 +1,19 @@
 -- What a store keeps while texts are filed and batches are written.
-use Rattle.std.proofs.Common.{◌≡◌, ◌⊎◌, inl, inr, ⊎_elim, ◌≤◌, ℕ, ◌+◌, Bool, true, false, IsTrue, List, [], ◌∷◌, length, refl, sym, ◌∙◌, ap}
+use Rattle.std.proofs.Common.{◌≡◌, ◌⊎◌, inl, inr, ⊎_elim, ◌≤◌, ℕ, Bool, true, false, IsTrue, List, [], ◌∷◌, length, refl, sym, ◌∙◌, ap}
 use Rattle.std.proofs.Common.{subst, arith}
-use Rattle.std.specs.Prelude.{◌++◌, bytes_eq, slice_index_or, take, Result, Ok, Err, IfOk, OnErr}
+use Rattle.std.specs.Prelude.{bytes_eq, slice_index_or, take, Result, Ok, Err, IfOk, OnErr}
 use Rattle.std.specs.List.{Contains}
 use Rattle.std.proofs.Math.Seq.{take-length}
 use Rattle.std.proofs.lemmas.Bool.{true≢false}
 use Rattle.std.proofs.lemmas.List.{length-append, take-append-le}
 use Rattle.std.proofs.lemmas.Slice.Eq.{bytes_eq-Decides}
 use Rattle.disk.specs.Device.{Device}
+use Rattle.journal.specs.Inside.{IsVolume}
 use Rattle.journal.specs.Journal.{IsReady, JournalView}
-use Rattle.model.specs.Layout.{Holds, IsLabel, Stands}
+use Rattle.model.specs.Layout.{Holds, HoldsIn, IsLabel, Stands}
+use Rattle.model.specs.Spool.{Spool}
 use Rattle.model.specs.Stream.{Octets}
-use Rattle.model.specs.Volume.{StandsFor}
+use Rattle.model.specs.Volume.{format_number}
 use Rattle.model.specs.declared.change.Change.{Change}
 use Rattle.model.specs.declared.change.Change.TheVariants.{Article}
 use Rattle.spool_files.specs.View.{Adds, Dirties, IsSpool, SpoolView}
@@ -21,6 +23,14 @@ use Rattle.importing.specs.Saved.{Carries, IsBehind, IsSameVolume, IsSaved, IsTi
 use Rattle.importing.specs.declared.outcome.Outcome.{Outcome}
 use Rattle.importing.specs.declared.outcome.Outcome.TheVariants.{Filed, Here, NoGroup, Refused, Full}
 use Rattle.importing.specs.declared.outcome.Refused.TheVariants.{NotAnArticle, OwnId}
+
+-- ---- an image of format 2
+
+-- each file is of the format of such an image
+pub held_in : (format : ℕ) (host image : Octets) (inodes : ℕ) (blocks : List Octets) (S : Spool) → format ≡ 2
+    → format ≤ format_number image → Holds host inodes blocks S → HoldsIn (format_number image) host inodes blocks S
+held_in format host image inodes blocks S second least held =
+    record { held = held; of_format = λ first. absurd (omega (arith, second, least, first)) }
 
 -- ---- a text is filed
 
@@ -46,6 +56,7 @@ module _ {D : Type 0} (device : D → Device) (journal : JournalView D) (old new
       let more : take durable new.changes ≡ take durable old.changes =
       ap (take durable) added.changes ∙ take-append-le durable old.changes (c ∷ []) tied.durable_within in
       record {
+        format = tied.format;
         few = omega (arith, added.dirties.few, room);
         labelled = subst (λ (t : ℕ × Octets). IsLabel journal.label journal.size t.0 t.1)
             (λ i. (sym added.inodes i, sym added.host i)) tied.labelled;
@@ -86,9 +97,13 @@ module _ {D : Type 0} (device : D → Device) (old new : JournalView D) (spool :
   labelled_now =
       subst (λ (t : Octets × ℕ). IsLabel t.0 t.1 spool.inodes spool.host) (λ i. (sym same.label i, sym same.size i)) tied.labelled
 
+  format_now : new.format ≡ 2
+  format_now = same.format ∙ tied.format
+
   -- it failed
   pub stopped : (IsReady new → ⊥) → IsTied device new clean durable
   stopped never = record {
+    format = format_now;
     few = omega arith;
     labelled = labelled_now;
     size = tied.size ∙ sym same.size;
@@ -100,6 +115,7 @@ module _ {D : Type 0} (device : D → Device) (old new : JournalView D) (spool :
   pub read : IsReady old → (device new.disk).tells ≡ (device old.disk).tells → (IsTrue (device old.disk).tells → new.blocks ≡ old.blocks)
       → IsTied device new spool durable
   read ready tells blocks = record {
+    format = format_now;
     few = tied.few;
     labelled = labelled_now;
     size = tied.size ∙ sym same.size;
@@ -111,6 +127,7 @@ module _ {D : Type 0} (device : D → Device) (old new : JournalView D) (spool :
   -- it was carried to its end
   pub written : Carries device old spool.blocks new → IsSpool spool → IsTied device new clean (length spool.changes)
   written carried sound = record {
+    format = format_now;
     few = omega arith;
     labelled = labelled_now;
     size = tied.size ∙ sym same.size;
@@ -123,14 +140,14 @@ module _ {D : Type 0} (device : D → Device) (old new : JournalView D) (spool :
   }
 
   -- an image with the cached blocks stands for all changes
-  all_stand : IsSpool spool → (image : Octets) → StandsFor image old.label spool.blocks → Stands spool.host image spool.changes
+  all_stand : IsSpool spool → (image : Octets) → IsVolume old.format old.label spool.blocks image → Stands spool.host image spool.changes
   all_stand sound image stands = record {
     label = old.label;
     inodes = spool.inodes;
     blocks = spool.blocks;
-    volume = stands;
+    volume = stands.0;
     labelled = subst (λ (n : ℕ). IsLabel old.label n spool.inodes spool.host) (sym tied.size) tied.labelled;
-    held = sound.held;
+    held = held_in old.format spool.host image spool.inodes spool.blocks spool.changes tied.format stands.1 sound.held;
   }
 
   pub saved : Carries device old spool.blocks new → IsSpool spool
@@ -151,15 +168,15 @@ module _ {D : Type 0} (device : D → Device) (old new : JournalView D) (spool :
       let left_new = subst (λ (j : JournalView D). (device j.disk).left_since t image) is left in
       ⊎_elim
       (λ (was : (device old.disk).left_since t image). inl was)
-      (λ (one : StandsFor image old.label old.blocks ⊎ StandsFor image old.label spool.blocks). inr (⊎_elim
-      (λ (first : StandsFor image old.label old.blocks). inl (record {
+      (λ (one : IsVolume old.format old.label old.blocks image ⊎ IsVolume old.format old.label spool.blocks image). inr (⊎_elim
+      (λ (first : IsVolume old.format old.label old.blocks image). inl (record {
         label = old.label;
         inodes = spool.inodes;
         blocks = old.blocks;
-        volume = first;
+        volume = first.0;
         labelled = subst (λ (n : ℕ). IsLabel old.label n spool.inodes spool.host) (sym (behind.agrees.count ∙ tied.size)) tied.labelled;
-        held = behind.holds;
+        held = held_in old.format spool.host image spool.inodes old.blocks (take durable spool.changes) tied.format first.1 behind.holds;
       }))
-      (λ (both : StandsFor image old.label spool.blocks). inr (all_stand sound image both))
+      (λ (both : IsVolume old.format old.label spool.blocks image). inr (all_stand sound image both))
       one))
       (since tells t image before left_new)

@@ -1,10 +1,11 @@
 -- A volume to which texts are added, and what its device leaves of them.
 use Rattle.std.specs.Prelude.{◌≡◌, ◌⊎◌, ◌≤◌, ℕ, IsTrue, List, [], length, take}
 use Rattle.disk.specs.Device.{Device}
+use Rattle.journal.specs.Inside.{IsVolume}
 use Rattle.journal.specs.Journal.{IsReady, JournalView}
 use Rattle.model.specs.Layout.{Holds, IsLabel, Stands}
 use Rattle.model.specs.Stream.{Octets}
-use Rattle.model.specs.Volume.{StandsFor, blocks_from, laid_over}
+use Rattle.model.specs.Volume.{blocks_from, laid_over}
 use Rattle.spool_files.specs.View.{SpoolView}
 use Rattle.volume.specs.Volume.{AgreeOutside, BatchView}
 
@@ -21,6 +22,7 @@ pub record IsBehind (blocks : List Octets) (spool : SpoolView) (durable : ℕ) :
 
 -- what a store keeps. Once a call of the device has failed, nothing is said of the journal's blocks
 pub record IsTied {D : Type 0} (device : D → Device) (journal : JournalView D) (spool : SpoolView) (durable : ℕ) : Type 0 where
+  pub format : journal.format ≡ 2
   pub few : length spool.dirty ≤ 512
   pub labelled : IsLabel journal.label journal.size spool.inodes spool.host
   pub size : length spool.blocks ≡ journal.size
@@ -46,9 +48,10 @@ LeavesPrefix device old new =
 
 -- ---- a batch
 
--- from one moment to a later one the label and the number of blocks stay
+-- from one moment to a later one the label, the format and the number of blocks stay
 pub record IsSameVolume {D : Type 0} (old new : JournalView D) : Type 0 where
   pub label : new.label ≡ old.label
+  pub format : new.format ≡ old.format
   pub size : new.size ≡ old.size
 
 -- a batch was carried to its end, after which these are the blocks
@@ -57,13 +60,14 @@ pub record Carries {D : Type 0} (device : D → Device) (old : JournalView D) (a
   pub tells : (device new.disk).tells ≡ (device old.disk).tells
   pub failures : (device new.disk).failures ≡ (device old.disk).failures
   pub blocks : IsTrue (device old.disk).tells → new.blocks ≡ after
-  pub leaves : IsTrue (device old.disk).tells → (image : Octets) → (device new.disk).may_leave image → StandsFor image old.label after
+  pub leaves : IsTrue (device old.disk).tells → (image : Octets) → (device new.disk).may_leave image
+      → IsVolume old.format old.label after image
 
 -- a crash since then might have left what it might have left before, the blocks of that time, or these
 abbrev pub LeavesOneOf : {D : Type 0} → (D → Device) → JournalView D → List Octets → JournalView D → Type 0
 LeavesOneOf device old after new =
     IsTrue (device old.disk).tells → (t : ℕ) (image : Octets) → t ≤ (device old.disk).clock → (device new.disk).left_since t image
-    → (device old.disk).left_since t image ⊎ (StandsFor image old.label old.blocks ⊎ StandsFor image old.label after)
+    → (device old.disk).left_since t image ⊎ (IsVolume old.format old.label old.blocks image ⊎ IsVolume old.format old.label after image)
 
 -- the blocks with a batch laid over
 abbrev pub after_batch : List Octets → BatchView → List Octets

@@ -38,6 +38,7 @@ pub(crate) fn lack_by(spool: &Spool, used: u64) -> Option<Lack>
 pub(crate) fn blocks_used<D: Disk>(journal: &mut Journal<D>) -> Result<u64, JournalError>
     requires { IsReady journal.old }
     ensures label { journal.new.label ≡ journal.old.label }
+    ensures format { journal.new.format ≡ journal.old.format }
     ensures size { journal.new.size ≡ journal.old.size }
     ensures tells { (D.device journal.new.disk).tells ≡ (D.device journal.old.disk).tells }
     ensures blocks { IsTrue (D.device journal.old.disk).tells → journal.new.blocks ≡ journal.old.blocks }
@@ -57,6 +58,7 @@ fn used_in_block<D: Disk>(journal: &mut Journal<D>, block: u64) -> Result<u32, J
     requires below { block < journal.old.size }
     ensures ready { OnOk result (IsReady journal.new) }
     ensures label { journal.new.label ≡ journal.old.label }
+    ensures format { journal.new.format ≡ journal.old.format }
     ensures size { journal.new.size ≡ journal.old.size }
     ensures tells { (D.device journal.new.disk).tells ≡ (D.device journal.old.disk).tells }
     ensures blocks { IsTrue (D.device journal.old.disk).tells → journal.new.blocks ≡ journal.old.blocks }

@@ -61,8 +61,8 @@ impl<D: Disk> Model for Store<D> {
 }
 
 impl<D: Disk + Drop> Store<D> {
-    /// Opens a device whose volume no server serves; all its changes are durable. `Fault` (E1), `Memory` (E2),
-    /// `NotAVolume` (E3) and `Damaged` (E5) as for a server.
+    /// Opens a device whose volume no server serves; all its changes are durable. A volume of format 1 is made one of
+    /// format 2. `Fault` (E1), `Memory` (E2), `NotAVolume` (E3) and `Damaged` (E5) as for a server.
     pub fn open(alloc: Global, disk: D) -> Result<Store<D>, OpenError>
         ensures ok { IfOk result (IsOpened D.device disk) }
         ensures no_volume { IfErr result

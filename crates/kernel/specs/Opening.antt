@@ -1,11 +1,13 @@
 -- What opening a kernel answers, and what it leaves of the journal.
-use Rattle.std.specs.Prelude.{◌≡◌, ◌≢◌, ℕ, None, [], List, false, true, length, IsTrue}
+use Rattle.std.specs.Prelude.{◌≡◌, ◌≢◌, ◌⊎◌, ◌≤◌, ◌==◌, if◌then◌else◌, ℕ, None, [], List, false, true, length, IsTrue}
 use Rattle.disk.specs.Device.{Device, Elapses}
-use Rattle.journal.specs.Journal.{HasWholeBlocks, IsIdle, IsSameBatch, JournalView, LeavesAdmitted, LeftAdmitted}
+use Rattle.journal.specs.Journal.{Admits, HasWholeBlocks, IsIdle, IsSameBatch, JournalView, LeavesAdmitted, LeftAdmitted}
+use Rattle.journal.specs.Opening.{IsMore}
+use Rattle.journal.specs.Upgrading.{IsSameButFormat}
 use Rattle.model.specs.Stream.{Octets}
-use Rattle.model.specs.Layout.{IsLabel}
-use Rattle.model.specs.Layout.{Holds}
+use Rattle.model.specs.Layout.{AreOfFormat, Holds, HoldsIn, IsLabel}
 use Rattle.model.specs.Spool.{Spool}
+use Rattle.model.specs.SpoolFiles.{files_of}
 use Rattle.kernel.specs.Kernel.{KernelView}
 
 -- ---- the kernel
@@ -19,28 +21,31 @@ pub record IsFresh (kernel : KernelView) : Type 0 where
   pub joined : kernel.joined ≡ 0
   pub seats : kernel.seats ≡ []
 
--- a kernel that was just opened over these logical blocks, which hold its spool
-pub record OpensOver (host : Octets) (inodes : ℕ) (blocks : List Octets) (kernel : KernelView) : Type 0 where
+-- a kernel that was just opened over these logical blocks of a volume of this format, which hold its spool
+pub record OpensOver (format : ℕ) (host : Octets) (inodes : ℕ) (blocks : List Octets) (kernel : KernelView) : Type 0 where
   pub fresh : IsFresh kernel
   pub host_is : kernel.host ≡ host
   pub inodes_are : kernel.inodes ≡ inodes
   pub blocks_are : kernel.blocks ≡ blocks
   pub holds : Holds kernel.host kernel.inodes kernel.blocks kernel.spool
+  pub of_format : AreOfFormat format (files_of kernel.spool)
 
--- the kernel in the logical blocks of a journal, under its label
+-- the kernel in the logical blocks of a journal, under its label; its files are those of the journal's format
 pub record IsOpened {D : Type 0} (device : D → Device) (journal : JournalView D) (kernel : KernelView) : Type 0 where
   pub fresh : IsFresh kernel
   pub labelled : IsLabel journal.label journal.size kernel.inodes kernel.host
   pub size : length kernel.blocks ≡ journal.size
   pub blocks : IsTrue (device journal.disk).tells → kernel.blocks ≡ journal.blocks
   pub holds : Holds kernel.host kernel.inodes kernel.blocks kernel.spool
+  pub of_format : AreOfFormat journal.format (files_of kernel.spool)
 
--- the label is valid, and the logical blocks of a device that tells its octets hold no spool of the label's host
+-- the label is valid, and the logical blocks of a device that tells its octets hold no spool of the label's host in the
+-- files of the journal's format
 pub record IsDamaged {D : Type 0} (device : D → Device) (journal : JournalView D) : Type 0 where
   pub inodes : ℕ
   pub host : Octets
   pub labelled : IsLabel journal.label journal.size inodes host
-  pub holds_none : IsTrue (device journal.disk).tells → (S : Spool) → Holds host inodes journal.blocks S → ⊥
+  pub holds_none : IsTrue (device journal.disk).tells → (S : Spool) → HoldsIn journal.format host inodes journal.blocks S → ⊥
 
 -- ---- the journal
 
@@ -57,6 +62,27 @@ pub record OnlyReads {D : Type 0} (device : D → Device) (old new : JournalView
   pub now : LeavesAdmitted device new
   pub since : LeftAdmitted device old new
 
+-- The device was read, and the volume perhaps made one of format 2. A crash leaves its label and its logical blocks, in no
+-- lower format than it had.
+pub record ReadsAndUpgrades {D : Type 0} (device : D → Device) (old new : JournalView D) : Type 0 where
+  pub same : IsSameButFormat old new
+  pub blocks : IsTrue (device old.disk).tells → new.blocks ≡ old.blocks
+  pub whole : HasWholeBlocks device new
+  pub time : Elapses (device old.disk) (device new.disk)
+  -- a crash now leaves an image that the journal admits, and one at any moment since leaves one that it admitted before
+  pub now : LeavesAdmitted device new
+  pub since : IsTrue (device old.disk).tells → (t : ℕ) (c : List ℕ) → t ≤ (device old.disk).clock → (device new.disk).left_since t c
+      → (device old.disk).left_since t c ⊎ Admits old c
+
+-- the writes that make a volume of this format one of format 2, and as many syncs
+abbrev pub upgrade_calls : ℕ → ℕ
+upgrade_calls format = if format == 2 then 0 else 1
+
+-- the writes and syncs of an opening, after that of the journal
+pub record CostsUpgrade (format : ℕ) (old new : Device) : Type 0 where
+  pub writes : IsMore (upgrade_calls format) old.writes new.writes
+  pub syncs : IsMore (upgrade_calls format) old.syncs new.syncs
+
 -- no device call failed, and the journal runs
 pub record IsStill {D : Type 0} (device : D → Device) (old new : JournalView D) : Type 0 where
   pub running : new.halted ≡ false
@@ -66,3 +92,9 @@ pub record IsStill {D : Type 0} (device : D → Device) (old new : JournalView D
 pub record HasFailed {D : Type 0} (device : D → Device) (old new : JournalView D) : Type 0 where
   pub halted : new.halted ≡ true
   pub failures : (device new.disk).failures ≢ (device old.disk).failures
+
+-- the sync of the upgrade was refused for want of memory: no device call failed, but the journal takes no batch until the
+-- device is opened again
+pub record IsUnsynced {D : Type 0} (device : D → Device) (old new : JournalView D) : Type 0 where
+  pub first : old.format ≡ 1
+  pub failures : (device new.disk).failures ≡ (device old.disk).failures

@@ -1,17 +1,17 @@
 //! Opens the kernel in the logical blocks of a journal.
 
-ghost use Rattle.std.specs.Prelude.{◌≡◌, ◌≢◌, ◌⊎◌, [], false, IfErr, IfOk, IsTrue, MatchResult};
-ghost use Rattle.journal.specs.Journal.{IsIdle};
+ghost use Rattle.std.specs.Prelude.{◌≡◌, ◌≢◌, ◌⊎◌, [], false, IfErr, IfOk, IsTrue, MatchResult, OnOk};
+ghost use Rattle.journal.specs.Journal.{IsIdle, IsReady};
 ghost use Rattle.model.specs.Files.{HasRoom};
-ghost use Rattle.model.specs.Layout.{Holds};
+ghost use Rattle.model.specs.Layout.{HoldsIn};
 ghost use Rattle.model.specs.Names.{is_host};
 ghost use Rattle.model.specs.Spool.{Spool as Changes};
 ghost use Rattle.labels.specs.Label.{IsNoLabel};
-ghost use Rattle.kernel.specs.Opening.{HasFailed, IsDamaged, IsOpened, IsStill, OnlyReads, OpensOver};
+ghost use Rattle.kernel.specs.Opening.{CostsUpgrade, HasFailed, IsDamaged, IsOpened, IsStill, IsUnsynced, OnlyReads, OpensOver, ReadsAndUpgrades};
 
 use crate::Kernel;
 use disk::Disk;
-use journal::Journal;
+use journal::{Journal, JournalError};
 use labels::read_label;
 use model::Text;
 use spool_files::Spool;
@@ -37,54 +37,113 @@ pub enum OpenError {
 
 impl Kernel {
     /// Opens the kernel in the logical blocks: all its changes are durable, and there is no session. The journal must be
-    /// idle and not halted, as after its opening. Apart from reads of the device it stays as it was; only `Fault` halts
-    /// it. `NotAVolume` (E3) if the label is not valid, `Fault` (E1) if the device fails, `Damaged` (E5) if the blocks
-    /// hold no lawful spool of the label's host, and `Memory` (E2) if a growth was refused.
+    /// idle and not halted, as after its opening. A volume of format 1 is checked as one, and then made one of format 2.
+    /// Apart from that and from reads of the device the journal stays as it was. Only `Fault` halts it, and `Memory` if
+    /// the upgrade's sync was refused.
+    ///
+    /// `NotAVolume` (E3) if the label is not valid, `Fault` (E1) if the device fails, `Damaged` (E5) if the blocks hold
+    /// no lawful spool of the label's host in the files of the volume's format, and `Memory` (E2) if a growth was
+    /// refused. Nothing is written if the answer is E3 or E5.
     pub fn open<D: Disk>(alloc: Global, journal: &mut Journal<D>) -> Result<Kernel, OpenError>
         requires idle { IsIdle journal.old }
         requires running { journal.old.halted ≡ false }
         ensures ok { IfOk result (IsOpened D.device journal.old) }
-        ensures reads { OnlyReads D.device journal.old journal.new }
-        ensures still { MatchResult result (λ kernel. IsStill D.device journal.old journal.new) (λ error. error ≢ OpenError.Fault → IsStill D.device journal.old journal.new) }
+        ensures format { OnOk result (journal.new.format ≡ 2) }
+        ensures reads { ReadsAndUpgrades D.device journal.old journal.new }
+        ensures cost { OnOk result (CostsUpgrade journal.old.format (D.device journal.old.disk) (D.device journal.new.disk)) }
+        ensures judged { IfErr result (λ error. (error ≡ OpenError.NotAVolume) ⊎ (error ≡ OpenError.Damaged) → OnlyReads D.device journal.old journal.new) }
+        ensures still { MatchResult result (λ kernel. IsStill D.device journal.old journal.new)
+            (λ error. error ≢ OpenError.Fault
+            → IsStill D.device journal.old journal.new ⊎ ((error ≡ OpenError.Memory) × IsTrue D.sync_grows × IsUnsynced D.device journal.old journal.new)) }
         ensures fault { IfErr result (λ error. error ≡ OpenError.Fault → HasFailed D.device journal.old journal.new) }
         ensures no_label { IfErr result (λ error. error ≡ OpenError.NotAVolume → IsNoLabel journal.old.label journal.old.size) }
         ensures damaged { IfErr result (λ error. error ≡ OpenError.Damaged → IsDamaged D.device journal.old) }
     {
-        // what the journal keeps, which the loads need
-        prove!(journal.is_idle());
-        let Some(label) = read_label(journal.label(), journal.blocks()) else {
-            return Err(OpenError::NotAVolume);
-        };
-        let inodes = label.inodes as u32;
-        let Ok(host) = label.host.to_vec(alloc) else {
-            return Err(OpenError::Memory);
-        };
-        let loaded = Volume::open(alloc, journal);
-        // its clauses state what the journal keeps
-        let _idle = journal.is_idle();
-        match loaded {
-            Ok(volume) => {
-                // its clauses state that each block is whole
-                let _count = volume.len();
-                open_over(alloc, Text::new(host), inodes, volume)
-            }
-            Err(volume::OpenError::Fault) => Err(OpenError::Fault),
-            Err(volume::OpenError::Memory) => Err(OpenError::Memory),
+        let kernel = load(alloc, journal)?;
+        let format = journal.format_number();
+        if format == 1 {
+            upgrade(journal)?;
         }
+        Ok(kernel)
     }
 }
 
-// The kernel of this host over these logical blocks.
-fn open_over(alloc: Global, host: Text, inodes: u32, volume: Volume) -> Result<Kernel, OpenError>
+// The kernel in the logical blocks. The device is only read.
+fn load<D: Disk>(alloc: Global, journal: &mut Journal<D>) -> Result<Kernel, OpenError>
+    requires { IsReady journal.old }
+    ensures ok { IfOk result (IsOpened D.device journal.old) }
+    ensures reads { OnlyReads D.device journal.old journal.new }
+    ensures still { MatchResult result (λ kernel. IsStill D.device journal.old journal.new) (λ error. error ≢ OpenError.Fault → IsStill D.device journal.old journal.new) }
+    ensures fault { IfErr result (λ error. error ≡ OpenError.Fault → HasFailed D.device journal.old journal.new) }
+    ensures no_label { IfErr result (λ error. error ≡ OpenError.NotAVolume → IsNoLabel journal.old.label journal.old.size) }
+    ensures damaged { IfErr result (λ error. error ≡ OpenError.Damaged → IsDamaged D.device journal.old) }
+{
+    // what the journal keeps, which the loads need
+    prove!(journal.is_idle());
+    let Some(label) = read_label(journal.label(), journal.blocks()) else {
+        return Err(OpenError::NotAVolume);
+    };
+    let inodes = label.inodes as u32;
+    let Ok(host) = label.host.to_vec(alloc) else {
+        return Err(OpenError::Memory);
+    };
+    let format = journal.format_number();
+    let loaded = Volume::open(alloc, journal);
+    // its clauses state what the journal keeps
+    let _idle = journal.is_idle();
+    match loaded {
+        Ok(volume) => {
+            // its clauses state that each block is whole
+            let _count = volume.len();
+            open_over(alloc, Text::new(host), inodes, format, volume)
+        }
+        Err(volume::OpenError::Fault) => Err(OpenError::Fault),
+        Err(volume::OpenError::Memory) => Err(OpenError::Memory),
+    }
+}
+
+/// Makes the volume of a journal one of format 2. It is one of format 1, and no batch is in flight. `Fault` (E1) if the
+/// device failed, and `Memory` (E2) if it refused a call for want of memory. A crash at any moment leaves the label and
+/// the logical blocks, in one of the two formats.
+pub fn upgrade<D: Disk>(journal: &mut Journal<D>) -> Result<(), OpenError>
+    requires ready { IsReady journal.old }
+    requires first { journal.old.format ≡ 1 }
+    ensures format { OnOk result (journal.new.format ≡ 2) }
+    ensures reads { ReadsAndUpgrades D.device journal.old journal.new }
+    ensures cost { OnOk result (CostsUpgrade 1 (D.device journal.old.disk) (D.device journal.new.disk)) }
+    ensures still { OnOk result (IsStill D.device journal.old journal.new) }
+    ensures fault { IfErr result (λ error. error ≡ OpenError.Fault → HasFailed D.device journal.old journal.new) }
+    ensures memory { IfErr result (λ error. error ≡ OpenError.Memory
+        → IsStill D.device journal.old journal.new ⊎ (IsTrue D.sync_grows × IsUnsynced D.device journal.old journal.new)) }
+    ensures no_other { IfErr result (λ error. (error ≡ OpenError.Fault) ⊎ (error ≡ OpenError.Memory)) }
+{
+    let upgraded = journal.upgrade();
+    // its clauses state what the journal keeps
+    let _idle = journal.is_idle();
+    match upgraded {
+        Ok(()) => Ok(()),
+        Err(JournalError::Memory) => Err(OpenError::Memory),
+        Err(_) => Err(OpenError::Fault),
+    }
+}
+
+// The kernel of this host over these logical blocks of a volume of this format.
+fn open_over(
+    alloc: Global,
+    host: Text,
+    inodes: u32,
+    format: u32,
+    volume: Volume,
+) -> Result<Kernel, OpenError>
     requires host { IsTrue (is_host host) }
     requires room { HasRoom inodes volume.cache }
     requires seen { volume.seen ≡ volume.cache }
     requires clean { volume.dirty ≡ [] }
-    ensures ok { IfOk result (OpensOver host inodes volume.cache) }
-    ensures damaged { IfErr result (λ error. error ≡ OpenError.Damaged → (S : Changes) → Holds host inodes volume.cache S → ⊥) }
+    ensures ok { IfOk result (OpensOver format host inodes volume.cache) }
+    ensures damaged { IfErr result (λ error. error ≡ OpenError.Damaged → (S : Changes) → HoldsIn format host inodes volume.cache S → ⊥) }
     ensures no_other { IfErr result (λ error. (error ≡ OpenError.Memory) ⊎ (error ≡ OpenError.Damaged)) }
 {
-    match Spool::open(alloc, host, inodes, volume) {
+    match Spool::open(alloc, host, inodes, format, volume) {
         Ok(spool) => Ok(Kernel::new(alloc, spool)),
         Err(spool_reading::OpenError::Memory) => Err(OpenError::Memory),
         Err(spool_reading::OpenError::Damaged) => Err(OpenError::Damaged),

@@ -15,7 +15,7 @@ use Rattle.model.specs.Volume.{StandsFor, all_laid_over, batch_in, block, gate_p
 use Rattle.model.proofs.Images.{empty_stands}
 use Rattle.segments.specs.Images.{IsInside, IsOpenIn, SameBut}
 use Rattle.segments.proofs.Blocks.{block-overwritten, overwritten_same}
-use Rattle.segments.proofs.Standing.{count_same, get_or-home, home_size_same, length-home, stands_over}
+use Rattle.segments.proofs.Standing.{count_same, get_or-home, head_same, home_size_same, length-home, stands_over}
 use Rattle.volume.proofs.Octets.{length-block}
 use Rattle.volume_format.specs.Formatting.{zero_block, zeroed}
 use Rattle.volume_format.proofs.Formatted.{blocks_are, label_is, length-superblock, none_formatted, segments_are, stands_formatted, superblock, superblock_valid}
@@ -76,9 +76,13 @@ module _ (x label first : List ℕ) (blocks : List (List ℕ)) (stands : StandsF
   pub first_written : StandsFor written label (set blocks 0 first)
   first_written =
       subst (λ (bs : List (List ℕ)). StandsFor written label bs) (ap (λ (ss : List ℕ). all_laid_over (home written) (rising (map (λ s. batch_in s x) ss))) none ∙ home_after)
-      (stands_over x written label blocks stands zeroth others.size gates inside)
+      (stands_over x written label blocks stands (head_same x written zeroth others.size) gates inside)
 
 -- ---- a volume whose blocks are zeros but the first
+
+-- of format 2
+abbrev gate_of_new : ℕ
+gate_of_new = 2
 
 module _ (segments : ℕ) (counts : (segments ≡ 1) ⊎ (segments ≡ 8)) (blocks : ℕ) (label first : List ℕ) (low : 1024 ≤ blocks) (high : blocks ≤ 65536) (label_whole : length label ≡ 128) (whole : length first ≡ 4096) where
   abbrev octets : ℕ
@@ -94,13 +98,13 @@ module _ (segments : ℕ) (counts : (segments ≡ 1) ⊎ (segments ≡ 8)) (bloc
   bare_block k some within = is_zero_block (block k bare) (length-block k bare (omega (arith, within, bare_size))) (part_zero k bare (All-replicate IsZero octets 0 refl))
 
   abbrev its_superblock : List ℕ
-  its_superblock = superblock zero_block label segments blocks counts zero_block_size zero_block_zero label_whole low high
+  its_superblock = superblock zero_block label segments blocks gate_of_new counts zero_block_size zero_block_zero label_whole low high
 
   its_size : length its_superblock ≡ 4096
-  its_size = length-superblock zero_block label segments blocks counts zero_block_size zero_block_zero label_whole low high
+  its_size = length-superblock zero_block label segments blocks gate_of_new counts zero_block_size zero_block_zero label_whole low high
 
   its_segments : number_at 16 4 its_superblock ≡ segments
-  its_segments = segments_are zero_block label segments blocks counts zero_block_size zero_block_zero label_whole low high
+  its_segments = segments_are zero_block label segments blocks gate_of_new counts zero_block_size zero_block_zero label_whole low high
 
   abbrev zeroed_volume : List ℕ
   zeroed_volume = overwritten 0 its_superblock bare
@@ -108,9 +112,9 @@ module _ (segments : ℕ) (counts : (segments ≡ 1) ⊎ (segments ≡ 8)) (bloc
   zeroed_stands : StandsFor zeroed_volume label (zeroed blocks)
   zeroed_stands =
       stands_formatted segments blocks zero_block its_superblock bare zeroed_volume label bare_size zero_block_size zero_block_zero its_size
-      (superblock_valid zero_block label segments blocks counts zero_block_size zero_block_zero label_whole low high)
-      (blocks_are zero_block label segments blocks counts zero_block_size zero_block_zero label_whole low high) its_segments
-      (label_is zero_block label segments blocks counts zero_block_size zero_block_zero label_whole low high) bare_block refl
+      (superblock_valid zero_block label segments blocks gate_of_new counts zero_block_size zero_block_zero label_whole low high)
+      (blocks_are zero_block label segments blocks gate_of_new counts zero_block_size zero_block_zero label_whole low high) its_segments
+      (label_is zero_block label segments blocks gate_of_new counts zero_block_size zero_block_zero label_whole low high) bare_block refl
 
   none_open : open_segments zeroed_volume ≡ []
   none_open = none_formatted segments blocks zero_block its_superblock bare zeroed_volume bare_size zero_block_size zero_block_zero its_size its_segments bare_block refl

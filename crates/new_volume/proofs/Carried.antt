@@ -1,5 +1,5 @@
 -- The calls of a batch, from the first to the last.
-use Rattle.std.proofs.Common.{◌≡◌, ◌≢◌, ◌⊎◌, inl, inr, ◌<◌, ◌+◌, ◌-◌, ℕ, Bool, true, false, eqb, if◌then◌else◌, IsTrue, List, [], ◌∷◌, length, set, refl, sym, ◌∙◌, ap, subst, arith, Ok, Err}
+use Rattle.std.proofs.Common.{◌≡◌, ◌≢◌, ◌⊎◌, inl, inr, ◌<◌, ◌≤◌, ◌+◌, ◌-◌, ℕ, Bool, true, false, eqb, if◌then◌else◌, IsTrue, List, [], ◌∷◌, length, set, refl, sym, ◌∙◌, ap, subst, arith, Ok, Err}
 use Rattle.std.proofs.lemmas.Bool.{cond_both}
 use Rattle.std.proofs.lemmas.List.{take_all}
 use Rattle.disk.specs.Device.{Device, Elapses, LeavesOnly}
@@ -17,7 +17,7 @@ use Rattle.journal.specs.declared.JournalError.{JournalError}
 use Rattle.journal.specs.declared.JournalError.TheVariants.{Fault, Memory}
 use Rattle.journal.proofs.During.{same_itself, same_sizes, same_then}
 use Rattle.journal.proofs.Flights.{after_commit, after_gate, after_home, after_image}
-use Rattle.model.specs.Volume.{StandsFor, block, blocks_from, descriptor_of, laid_over}
+use Rattle.model.specs.Volume.{StandsFor, block, blocks_from, descriptor_of, format_number, laid_over}
 use Rattle.new_volume.specs.Formatting.{HasCarried, HasLaid, IsLeft, Spoils}
 
 -- time goes on
@@ -163,10 +163,11 @@ carried device old now so_far is admitted content = record {
   left = λ t.
       let told : IsTrue (device now.disk).tells = subst (λ (b : Bool). IsTrue b) (sym so_far.time.tells) t in
       let image = (device now.disk).content in
-      let here : StandsFor image now.label now.blocks = stands_idle now.label now.blocks (with_batch now) image (subst (λ (g : Next). IsAdmitted g now.label now.blocks (with_batch now) image) is (admitted told image (content told))) in
+      let here : StandsFor image now.label now.blocks = stands_idle now.label now.blocks (with_batch now) image (subst (λ (g : Next). IsAdmitted g now.label now.blocks (with_batch now) image) is (admitted told image (content told)).0) in
       let blocks : now.blocks ≡ with_batch old = so_far.blocks t ∙ ap (λ (g : Next). if is_to_commit g then old.blocks else with_batch old) is in
       record {
         stands = subst (λ (bs : List (List ℕ)). StandsFor image old.label bs) blocks (subst (λ (l : List ℕ). StandsFor image l now.blocks) so_far.same.label here);
+        format = subst (λ (n : ℕ). n ≤ format_number image) so_far.same.format (admitted told image (content told)).1;
         synced = so_far.synced t is;
       };
   failures = so_far.failures;
@@ -179,15 +180,16 @@ pub whole_block : (first : List ℕ) → length first ≡ 4096 → block 0 first
 whole_block first whole = take_all 4096 first (omega (arith, whole))
 
 -- the first block alone was in the batch, which was carried to its end
-pub lays : {D : Type 0} (device : D → Device) (first : List ℕ) (journal begun last : JournalView D) (disk : D) → length first ≡ 4096 → begun.disk ≡ journal.disk → begun.label ≡ journal.label → begun.blocks ≡ journal.blocks → begun.numbers ≡ 0 ∷ []
+pub lays : {D : Type 0} (device : D → Device) (first : List ℕ) (journal begun last : JournalView D) (disk : D) → length first ≡ 4096 → begun.disk ≡ journal.disk → begun.label ≡ journal.label → begun.format ≡ journal.format → begun.blocks ≡ journal.blocks → begun.numbers ≡ 0 ∷ []
     → begun.images ≡ blocks_from 0 1 first → HasCarried device begun last → Elapses (device begun.disk) (device last.disk) → disk ≡ last.disk → HasLaid device first journal disk
-lays {D = D} device first journal begun last disk whole same label blocks numbers images carries time gives = record {
+lays {D = D} device first journal begun last disk whole same label format blocks numbers images carries time gives = record {
   left = λ t.
       let told : IsTrue (device begun.disk).tells = subst (λ (d : D). IsTrue (device d).tells) (sym same) t in
       let laid : with_batch begun ≡ set journal.blocks 0 first = (λ i. laid_over (blocks i) (numbers i) (images i)) ∙ ap (λ (octets : List ℕ). set journal.blocks 0 octets) (whole_block first whole) in
-      subst (λ (d : D). IsLeft journal.label (set journal.blocks 0 first) (device d)) (sym gives)
-      (subst (λ (l : List ℕ). IsLeft l (set journal.blocks 0 first) (device last.disk)) label
-      (subst (λ (bs : List (List ℕ)). IsLeft begun.label bs (device last.disk)) laid (carries.left told)));
+      subst (λ (d : D). IsLeft journal.label journal.format (set journal.blocks 0 first) (device d)) (sym gives)
+      (subst (λ (l : List ℕ). IsLeft l journal.format (set journal.blocks 0 first) (device last.disk)) label
+      (subst (λ (n : ℕ). IsLeft begun.label n (set journal.blocks 0 first) (device last.disk)) format
+      (subst (λ (bs : List (List ℕ)). IsLeft begun.label begun.format bs (device last.disk)) laid (carries.left told))));
   time = subst (λ (d : D). Elapses (device journal.disk) (device d)) (sym gives) (subst (λ (d : D). Elapses (device d) (device last.disk)) same time);
   failures = ap (λ (d : D). (device d).failures) gives ∙ carries.failures ∙ ap (λ (d : D). (device d).failures) same;
 }

@@ -1,5 +1,5 @@
 -- A new volume stands for the spool without changes.
-use Rattle.std.proofs.Common.{◌≡◌, ℕ, Bool, List, None, length, length-set, replicate, set, sym, ◌∙◌, subst, refl, arith}
+use Rattle.std.proofs.Common.{◌≡◌, ◌≤◌, ℕ, Bool, List, None, length, length-set, replicate, set, sym, ◌∙◌, subst, refl, arith}
 use Rattle.std.specs.Prelude.{IsTrue}
 use Rattle.disk.specs.Device.{Device}
 use Rattle.fs_layout.specs.Bits.{IsFront}
@@ -10,7 +10,7 @@ use Rattle.model.specs.Files.{first_data}
 use Rattle.model.specs.Layout.{IsLabel, label_octets}
 use Rattle.model.specs.Names.{is_host}
 use Rattle.model.specs.Stream.{Octets}
-use Rattle.model.specs.Volume.{StandsFor}
+use Rattle.model.specs.Volume.{StandsFor, format_number}
 use Rattle.model.proofs.Images.{empty_stands}
 use Rattle.volume_format.specs.Formatting.{zeroed}
 use Rattle.new_volume.specs.Formatting.{Formats, HasLaid, IsZeroed, Spoils}
@@ -18,12 +18,12 @@ use Rattle.new_volume.specs.Sizes.{are_sizes}
 use Rattle.new_volume.proofs.Carried.{elapsed}
 use Rattle.new_volume.proofs.Emptied.{Sized, makes, many, sized}
 
-module _ {D : Type 0} (device : D → Device) (blocks : ℕ) (label : Octets) (first : D) (journal : JournalView D) (zero : IsZeroed device blocks label first journal) where
+module _ {D : Type 0} (device : D → Device) (blocks : ℕ) (label : Octets) (format : ℕ) (first : D) (journal : JournalView D) (zero : IsZeroed device blocks label format first journal) where
   told : IsTrue (device first).tells → IsTrue (device journal.disk).tells
   told t = subst (λ (b : Bool). IsTrue b) (sym zero.time.tells) t
 
   pub formatted : (host : Octets) (inodes : ℕ) (bitmap : Octets) (last : D) → IsTrue (is_host host) → IsTrue (are_sizes blocks inodes) → label ≡ label_octets inodes host
-      → length bitmap ≡ 4096 → IsFront (first_data inodes) bitmap → HasLaid device bitmap journal last → Formats host inodes (device first) (device last)
+      → length bitmap ≡ 4096 → IsFront (first_data inodes) bitmap → HasLaid device bitmap journal last → Formats host inodes format (device first) (device last)
   formatted host inodes bitmap last named sizes label_is whole front lays = record {
     made = λ t.
         let left = lays.left (told t) in
@@ -34,6 +34,7 @@ module _ {D : Type 0} (device : D → Device) (blocks : ℕ) (label : Octets) (f
         record {
           stands = empty_stands host image (label_octets inodes host) inodes (set (zeroed blocks) 0 bitmap) stands is_label made.rule made.files_are;
           label = stands.has_label;
+          format = subst (λ (n : ℕ). n ≤ format_number image) (zero.format_is t) left.format;
           synced = left.synced;
         };
     time = elapsed (device first) (device journal.disk) (device last) zero.time lays.time;

@@ -1,14 +1,21 @@
 -- A volume of zeroed blocks, and the batch that is laid over them.
-use Rattle.std.proofs.Common.{◌≡◌, ℕ, Bool, IsTrue, sym, ◌∙◌, subst, Result, Ok, Err, IfOk, IfErr}
+use Rattle.std.proofs.Common.{◌≡◌, ◌⊎◌, inl, inr, ◌≤◌, ℕ, arith, Bool, IsTrue, sym, ◌∙◌, subst, Result, Ok, Err, IfOk, IfErr}
+use Rattle.std.proofs.lemmas.Bool.{cases_eq}
 use Rattle.disk.specs.Device.{Device, Elapses}
 use Rattle.journal.specs.Journal.{JournalView}
 use Rattle.journal.specs.Opening.{Opens, Refuses}
 use Rattle.journal.specs.declared.JournalError.{JournalError}
 use Rattle.model.specs.Stream.{Octets}
-use Rattle.model.specs.Volume.{StandsFor}
+use Rattle.model.specs.Volume.{StandsFor, format_number}
 use Rattle.volume_format.specs.Formatting.{zeroed}
 use Rattle.new_volume.specs.Formatting.{IsZeroed, Spoils}
 use Rattle.new_volume.proofs.Carried.{elapsed}
+
+pub one_or_two : (n : ℕ) → 1 ≤ n → n ≤ 2 → (n ≡ 1) ⊎ (n ≡ 2)
+one_or_two n low high = elim (cases_eq n 1) [
+  | inl one ↦ inl one
+  | inr other ↦ inr (omega (arith, low, high, other))
+]
 
 -- what an answer gives gives more
 pub ok_map : {T E : Type 0} {P Q : T → Type 0} (r : Result T E) → ((x : T) → P x → Q x) → IfOk r P → IfOk r Q
@@ -19,12 +26,14 @@ pub err_map : {T E : Type 0} {P Q : E → Type 0} (r : Result T E) → ((e : E) 
 err_map (Ok x) f is = is
 err_map (Err e) f is = f e is
 
-pub zeroed_opened : {D : Type 0} (device : D → Device) (first mid : D) (blocks : ℕ) (label : Octets) (journal : JournalView D) → (IsTrue (device first).tells → StandsFor (device mid).content label (zeroed blocks)) → Elapses (device first) (device mid)
-    → (device mid).failures ≡ (device first).failures → Opens device mid journal → IsZeroed device blocks label first journal
-zeroed_opened device first mid blocks label journal stands time failures opens = record {
+pub zeroed_opened : {D : Type 0} (device : D → Device) (first mid : D) (blocks : ℕ) (label : Octets) (format : ℕ) (journal : JournalView D) → (IsTrue (device first).tells → StandsFor (device mid).content label (zeroed blocks))
+    → (IsTrue (device first).tells → format_number (device mid).content ≡ format) → Elapses (device first) (device mid)
+    → (device mid).failures ≡ (device first).failures → Opens device mid journal → IsZeroed device blocks label format first journal
+zeroed_opened device first mid blocks label format journal stands formats time failures opens = record {
   ready = opens.ready;
   label_is = λ t. sym (opens.stands (told t)).has_label ∙ (stands t).has_label;
   blocks_are = λ t. sym (opens.stands (told t)).has_blocks ∙ (stands t).has_blocks;
+  format_is = λ t. sym (opens.format (told t)) ∙ formats t;
   time = elapsed (device first) (device mid) (device journal.disk) time opens.time;
   failures = opens.failures ∙ failures;
 }

@@ -13,14 +13,14 @@ use std::alloc::Global;
 
 /// Makes an empty volume in place of whatever the device holds: first the journal's volume of zeroed blocks, and then
 /// the empty file system as a batch of one block, carried to its end. Afterwards the device is synced, and its image
-/// stands for the spool without changes.
+/// stands for the spool without changes, in the format of the plan.
 ///
 /// `Fault` if the device failed, `Memory` if a growth was refused, here or to the device. `NotAVolume` if the device
 /// reads back other octets than were written; a device that tells its octets never does. A refusal returns the device,
 /// with whatever it then holds.
 pub fn format<D: Disk>(alloc: Global, disk: D, plan: &Plan<'_>) -> Result<D, Refused<D>>
     requires { (D.device disk).size ≡ device_size plan.now.blocks }
-    ensures ok { IfOk result (λ made. Formats plan.now.host.now plan.now.inodes (D.device disk) (D.device made)) }
+    ensures ok { IfOk result (λ made. Formats plan.now.host.now plan.now.inodes plan.now.format (D.device disk) (D.device made)) }
     ensures err { IfErr result (λ refused. Spoils refused.error (D.device disk) (D.device refused.disk)) }
 {
     let inodes = plan.inodes as u32;
@@ -30,27 +30,29 @@ pub fn format<D: Disk>(alloc: Global, disk: D, plan: &Plan<'_>) -> Result<D, Ref
             error: JournalError::Memory,
         });
     };
-    match open_zeroed(alloc, disk, plan.blocks, &label) {
+    match open_zeroed(alloc, disk, plan.blocks, &label, plan.format) {
         Ok(journal) => lay(journal, &first_block(inodes)),
         Err(refused) => Err(refused),
     }
 }
 
-// The journal of a volume with this many zeroed blocks.
+// The journal of a volume of this format with this many zeroed blocks.
 fn open_zeroed<D: Disk>(
     alloc: Global,
     mut disk: D,
     blocks: u64,
     label: &[u8],
+    format: u32,
 ) -> Result<Journal<D>, Refused<D>>
     requires low { 1024 ≤ blocks }
     requires high { blocks ≤ 65536 }
     requires label { length label.now ≡ 128 }
+    requires known { (1 ≤ format) × (format ≤ 2) }
     requires size { (D.device disk).size ≡ device_size blocks }
-    ensures ok { IfOk result (λ journal. IsZeroed D.device blocks label.now disk journal) }
+    ensures ok { IfOk result (λ journal. IsZeroed D.device blocks label.now format disk journal) }
     ensures err { IfErr result (λ refused. Spoils refused.error (D.device disk) (D.device refused.disk)) }
 {
-    match format_journal(alloc, &mut disk, blocks, label) {
+    match format_journal(alloc, &mut disk, blocks, label, format) {
         Ok(()) => Journal::open(alloc, disk),
         Err(error) => Err(Refused {
             disk,

@@ -19,15 +19,24 @@ use volume_format::layout::{SEGMENTS, home_block, start_of};
 /// The number of octets of a label.
 const LABEL: usize = 128;
 
+/// The format in which a file has at most 4,235,264 octets.
+pub const FORMAT_1: u32 = 1;
+
+/// The format in which a file has at most 268,435,456 octets.
+pub const FORMAT_2: u32 = 2;
+
 /// The plan of a new volume. Its words follow their grammars and its numbers are within their ranges.
 #[derive(Drop)]
 pub struct Plan<'a> {
     pub host: &'a [u8],
     pub blocks: u64,
     pub inodes: u64,
+    /// 1 or 2.
+    pub format: u32,
     ghost named: { IsTrue (is_host host.now) },
     ghost short: { length host.now ≤ 64 },
     ghost sized: { IsTrue (are_sizes blocks inodes) },
+    ghost known: { (1 ≤ format) × (format ≤ 2) },
 }
 
 /// Whether a volume may have this many blocks and inodes.

@@ -1,45 +1,48 @@
 -- An opening, and what it leaves of the device.
-use Rattle.std.proofs.Common.{◌≡◌, ◌≢◌, inr, ⊎_elim, ℕ, ◌+◌, List, length, refl, ap, sym, ◌∙◌, subst, arith}
+use Rattle.std.proofs.Common.{◌≡◌, ◌≢◌, inl, inr, ⊎_elim, ℕ, ◌+◌, ◌≤◌, ◌%◌, ◌^◌, List, length, refl, ap, sym, ◌∙◌, subst, arith}
+use Rattle.std.proofs.Math.Nat.{mod-add-mod}
 use Rattle.std.specs.Prelude.{IsTrue}
 use Rattle.disk.specs.Device.{Device, Elapses}
-use Rattle.journal.specs.Journal.{Admits, JournalView}
+use Rattle.journal.specs.Journal.{Admits, IsIdle, JournalView}
 use Rattle.journal.specs.Opening.{AreSameVolume, Costs, IsMore, IsNoVolume, LeftKept, Opens, SyncsFirst, home_syncs, home_writes}
 use Rattle.journal.specs.declared.JournalError.{JournalError}
 use Rattle.journal.specs.declared.JournalError.TheVariants as journal
 use Rattle.journal.specs.declared.Next.TheVariants.{Commit, Idle}
 use Rattle.kernel.specs.Kernel.{KernelView}
 use Rattle.labels.specs.Label.{IsNoLabel}
-use Rattle.kernel.specs.Opening.{IsDamaged, IsOpened, OnlyReads}
+use Rattle.kernel.specs.Opening.{CostsUpgrade, IsDamaged, IsOpened, ReadsAndUpgrades, upgrade_calls}
 use Rattle.kernel.specs.declared.opening.OpenError.{OpenError}
 use Rattle.kernel.specs.declared.opening.OpenError.TheVariants as open_errors
-use Rattle.model.specs.Layout.{IsLabel}
+use Rattle.model.specs.Layout.{AreOfFormat, HoldsIn, IsLabel}
 use Rattle.model.specs.News.{Stands}
+use Rattle.model.specs.Spool.{Spool}
+use Rattle.model.specs.SpoolFiles.{files_of}
 use Rattle.model.specs.Stream.{Octets}
-use Rattle.model.specs.Volume.{StandsFor, open_segments}
+use Rattle.model.specs.Volume.{StandsFor, format_number, open_segments}
+use Rattle.opening.specs.Costs.{CostsToOpen}
 use Rattle.opening.specs.Standing.{IsDamagedVolume, IsNoNewsVolume, open_error}
 
 module _ {D : Type 0} (device : D → Device) where
-  idle_admits : (j : JournalView D) (image : Octets) → j.next ≡ Idle → Admits j image → StandsFor image j.label j.blocks
+  idle_admits : (j : JournalView D) (image : Octets) → IsIdle j → Admits j image → StandsFor image j.label j.blocks
   idle_admits j image idle admits =
       ⊎_elim (λ (s : StandsFor image j.label j.blocks). s)
       (λ (b : (j.next ≡ Commit) × _). absurd (let both : Idle ≡ Commit = sym idle ∙ b.0 in cc))
-      admits
+      admits.0
 
-  -- what the kernel's reads leave is the volume that the journal opened
-  same_as : (first : D) (one two : JournalView D) (image : Octets) → Opens device first one → OnlyReads device one two → IsTrue (device first).tells → Admits two image → AreSameVolume (device first).content image
-  same_as first one two image o r tells admits =
-      let tells_one : IsTrue (device one.disk).tells = subst IsTrue (sym o.time.tells) tells in
-      let here : StandsFor image one.label one.blocks = subst (λ (t : Octets × List Octets). StandsFor image t.0 t.1) (λ i. (r.same.label i, r.blocks tells_one i)) (idle_admits two image r.idle admits) in
-      (one.label, (one.blocks, (o.stands tells, here)))
+  -- what the journal admits after its opening is the volume that it opened, in no lower format
+  same_as : (first : D) (one : JournalView D) (image : Octets) → Opens device first one → IsTrue (device first).tells → Admits one image → AreSameVolume (device first).content image
+  same_as first one image o tells admits =
+      let risen : format_number (device first).content ≤ format_number image = omega (arith, o.format tells, admits.1) in
+      (one.label, (one.blocks, (o.stands tells, (idle_admits one image o.ready.1 admits, risen))))
 
-  pub left_both : (first : D) (one two : JournalView D) → Opens device first one → OnlyReads device one two → LeftKept (device first) (device two.disk)
+  pub left_both : (first : D) (one two : JournalView D) → Opens device first one → ReadsAndUpgrades device one two → LeftKept (device first) (device two.disk)
   left_both first one two o r tells t image le left =
       ⊎_elim
       (λ (was : (device one.disk).left_since t image). o.since tells t image le was)
-      (λ (admits : Admits two image). inr (same_as first one two image o r tells admits))
+      (λ (admits : Admits one image). inr (same_as first one image o tells admits))
       (r.since (subst IsTrue (sym o.time.tells) tells) t image (omega (arith, le, o.time.later)) left)
 
-  pub syncs_both : (first : D) (one two : JournalView D) → Opens device first one → SyncsFirst device first one.disk → OnlyReads device one two → SyncsFirst device first two.disk
+  pub syncs_both : (first : D) (one two : JournalView D) → Opens device first one → SyncsFirst device first one.disk → ReadsAndUpgrades device one two → SyncsFirst device first two.disk
   syncs_both first one two o s r =
       record {
         synced = s.synced;
@@ -51,27 +54,54 @@ module _ {D : Type 0} (device : D → Device) where
         only = s.only;
         after = λ tells t image le left. ⊎_elim
             (λ (was : (device one.disk).left_since t image). s.after tells t image le was)
-            (λ (admits : Admits two image). inr (same_as first one two image o r tells admits))
+            (λ (admits : Admits one image). inr (same_as first one image o tells admits))
             (r.since (subst IsTrue (sym o.time.tells) tells) t image (omega (arith, le, s.later)) left);
       }
 
--- reads cost no write and no sync
-pub costs_both : (content : List ℕ) (first one two : Device) → Costs 1 content first one → two.writes ≡ one.writes → two.syncs ≡ one.syncs → Costs 1 content first two
-costs_both content first one two c writes syncs = record {
-  writes = subst (IsMore (home_writes content (open_segments content)) first.writes) (sym writes) c.writes;
-  syncs = subst (IsMore (1 + home_syncs (open_segments content)) first.syncs) (sym syncs) c.syncs;
+-- what a read gives after the kernel's opening is the volume that the journal opened
+module _ {D : Type 0} (device : D → Device) (only_now : (d : D) (image : Octets) → IsTrue (device d).tells → (device d).left_since (device d).clock image → (device d).may_leave image)
+    (counts_content : (d : D) → IsTrue (device d).tells → (device d).may_leave (device d).content)
+    (counts_now : (d : D) (t : ℕ) (image : Octets) → IsTrue (device d).tells → t ≤ (device d).clock → (device d).may_leave image → (device d).left_since t image) where
+  pub volume_left : (first : D) (one two : JournalView D) → Opens device first one → ReadsAndUpgrades device one two → IsTrue (device first).tells → AreSameVolume (device first).content (device two.disk).content
+  volume_left first one two o r tells =
+      let tells_one : IsTrue (device one.disk).tells = subst IsTrue (sym o.time.tells) tells in
+      let tells_two : IsTrue (device two.disk).tells = subst IsTrue (sym r.time.tells) tells_one in
+      let image : Octets = (device two.disk).content in
+      let left = counts_now two.disk (device one.disk).clock image tells_two r.time.later (counts_content two.disk tells_two) in
+      same_as device first one image o tells
+      (⊎_elim (λ (was : (device one.disk).left_since (device one.disk).clock image). o.now tells_one image (only_now one.disk image tells_one was))
+      (λ (admits : Admits one image). admits)
+      (r.since tells_one (device one.disk).clock image (omega arith) left))
+
+-- ---- what it costs
+
+more_both : (n m old mid new : ℕ) → IsMore n old mid → IsMore m mid new → IsMore (n + m) old new
+more_both n m old mid new first second =
+    second ∙ sym (mod-add-mod mid (2 ^ 64) m) ∙ ap (λ (k : ℕ). (k + m) % 2 ^ 64) first ∙ mod-add-mod (old + n) (2 ^ 64) m
+    ∙ ap (λ (k : ℕ). k % 2 ^ 64) (omega arith)
+
+pub costs_both : (content : Octets) (format : ℕ) (first one two : Device) → format_number content ≡ format → Costs 1 content first one → CostsUpgrade format one two → CostsToOpen content first two
+costs_both content format first one two is opens upgrades = record {
+  writes = more_both (home_writes content (open_segments content)) (upgrade_calls (format_number content)) first.writes one.writes two.writes opens.writes
+      (subst (λ (f : ℕ). IsMore (upgrade_calls f) one.writes two.writes) (sym is) upgrades.writes);
+  syncs = more_both (1 + home_syncs (open_segments content)) (upgrade_calls (format_number content)) first.syncs one.syncs two.syncs opens.syncs
+      (subst (λ (f : ℕ). IsMore (upgrade_calls f) one.syncs two.syncs) (sym is) upgrades.syncs);
 }
 
 -- ---- what stood there
 
--- the kernel stands in the blocks of the journal that the reads left
-pub still_opened : {D : Type 0} (device : D → Device) (one two : JournalView D) (kernel : KernelView) → IsOpened device one kernel → OnlyReads device one two → IsOpened device two kernel
-still_opened device one two kernel k r = record {
+of_second : (S : Spool) (format : ℕ) → format ≡ 2 → AreOfFormat format (files_of S)
+of_second S format is first = absurd (omega (arith, is, first))
+
+-- the kernel stands in the blocks of the journal that the opening left
+pub still_opened : {D : Type 0} (device : D → Device) (one two : JournalView D) (kernel : KernelView) → IsOpened device one kernel → ReadsAndUpgrades device one two → two.format ≡ 2 → IsOpened device two kernel
+still_opened device one two kernel k r format = record {
   fresh = k.fresh;
   labelled = subst (λ (t : Octets × ℕ). IsLabel t.0 t.1 kernel.inodes kernel.host) (λ i. (sym r.same.label i, sym r.same.size i)) k.labelled;
   size = k.size ∙ sym r.same.size;
   blocks = λ tells. let one_tells : IsTrue (device one.disk).tells = subst IsTrue r.time.tells tells in k.blocks one_tells ∙ sym (r.blocks one_tells);
   holds = k.holds;
+  of_format = of_second kernel.spool two.format format;
 }
 
 pub stands_opened : {D : Type 0} (device : D → Device) (first : D) (one : JournalView D) (kernel : KernelView) → Opens device first one → IsOpened device one kernel → IsTrue (device first).tells → Stands kernel.host (device first).content kernel.spool
@@ -83,7 +113,7 @@ stands_opened device first one kernel o k tells =
       blocks = kernel.blocks;
       volume = subst (StandsFor (device first).content one.label) (sym same) (o.stands tells);
       labelled = subst (λ n. IsLabel one.label n kernel.inodes kernel.host) (sym k.size) k.labelled;
-      held = k.holds;
+      held = record { held = k.holds; of_format = subst (λ (f : ℕ). AreOfFormat f (files_of kernel.spool)) (sym (o.format tells)) k.of_format };
     }
 
 pub no_volume : (content : Octets) → IsNoVolume content → IsNoNewsVolume content
@@ -106,7 +136,7 @@ is_damaged device first one o d tells =
       host = d.host;
       volume = o.stands tells;
       labelled = subst (λ n. IsLabel one.label n d.inodes d.host) (sym (o.whole tells_one).count) d.labelled;
-      holds_none = d.holds_none tells_one;
+      holds_none = λ S holds. d.holds_none tells_one S (subst (λ (f : ℕ). HoldsIn f d.host d.inodes one.blocks S) (o.format tells) holds);
     }
 
 -- the journal's refusals, by what the opening answers

@@ -5,9 +5,10 @@
 ghost use Rattle.std.specs.Prelude.{◌≡◌, ◌≢◌, ◌⊎◌, IfErr, IfOk, IsTrue, MatchResult};
 ghost use Rattle.disk.specs.Device.{Elapses};
 ghost use Rattle.journal.specs.Journal.{IsReady};
-ghost use Rattle.journal.specs.Opening.{Costs, LeftKept, NeverSyncs, SyncsFirst};
+ghost use Rattle.journal.specs.Opening.{LeavesVolume, LeftKept, NeverSyncs, SyncsFirst};
 ghost use Rattle.kernel.specs.Opening.{IsOpened};
 ghost use Rattle.model.specs.News.{Stands};
+ghost use Rattle.opening.specs.Costs.{CostsToOpen};
 ghost use Rattle.opening.specs.Standing.{IsDamagedVolume, IsNoNewsVolume, open_error};
 
 use disk::Disk;
@@ -32,13 +33,16 @@ pub struct Refused<D> {
 
 /// Opens the journal and the kernel on a device: all its changes are durable, and there is no session. The first good
 /// sync comes before every write. A crash before that sync leaves what a crash at the start might have left. A crash
-/// after it leaves the volume that a read gives, with its label and its logical blocks, whatever they contain.
+/// after it leaves the volume that a read gives, with its label and its logical blocks, whatever they contain. A volume
+/// of format 1 is checked as one and then made one of format 2, and a crash during that leaves it in one of the two.
 ///
 /// A refusal keeps to this too, so it overwrites no disk, and it returns the device. `Fault` (E1) if the device failed.
-/// `Memory` (E2) if it did not, and a growth was refused. `NotAVolume` (E3) if the device holds no volume with a label
-/// of its size. `Damaged` (E5) if it holds one, but no lawful spool of the label's host.
+/// `Memory` (E2) if it did not, and a growth was refused; then a read gives what it gave before, or the same volume.
+/// `NotAVolume` (E3) if the device holds no volume with a label of its size. `Damaged` (E5) if it holds one, but no
+/// lawful spool of the label's host in the files of its format.
 pub fn open<D: Disk>(alloc: Global, disk: D) -> Result<Opened<D>, Refused<D>>
     ensures opened { IfOk result (λ o. IsOpened D.device o.journal o.kernel) }
+    ensures format { IfOk result (λ o. o.journal.format ≡ 2) }
     ensures idle { IfOk result (λ o. IsReady o.journal) }
     ensures spool { IsTrue (D.device disk).tells → IfOk result (λ o. Stands o.kernel.host (D.device disk).content o.kernel.spool) }
     ensures still { IfOk result (λ o. (D.device o.journal.disk).failures ≡ (D.device disk).failures) }
@@ -46,9 +50,11 @@ pub fn open<D: Disk>(alloc: Global, disk: D) -> Result<Opened<D>, Refused<D>>
     ensures volume { MatchResult result (λ o. LeftKept (D.device disk) (D.device o.journal.disk)) (λ refused. LeftKept (D.device disk) (D.device refused.disk)) }
     ensures moment { MatchResult result (λ o. SyncsFirst D.device disk o.journal.disk) (λ refused. SyncsFirst D.device disk refused.disk ⊎ NeverSyncs D.device disk refused.disk) }
     ensures judged { IfErr result (λ refused. (refused.error ≡ OpenError.NotAVolume) ⊎ (refused.error ≡ OpenError.Damaged) → SyncsFirst D.device disk refused.disk) }
-    ensures cost { IsTrue (D.device disk).tells → IfOk result (λ o. Costs 1 (D.device disk).content (D.device disk) (D.device o.journal.disk)) }
+    ensures cost { IsTrue (D.device disk).tells → IfOk result (λ o. CostsToOpen (D.device disk).content (D.device disk) (D.device o.journal.disk)) }
     ensures fault { IfErr result (λ refused. refused.error ≡ OpenError.Fault → (D.device refused.disk).failures ≢ (D.device disk).failures) }
     ensures memory { IfErr result (λ refused. refused.error ≡ OpenError.Memory → (D.device refused.disk).failures ≡ (D.device disk).failures) }
+    ensures left { IsTrue (D.device disk).tells → MatchResult result (λ o. LeavesVolume (D.device disk).content (D.device o.journal.disk).content)
+        (λ refused. refused.error ≡ OpenError.Memory → LeavesVolume (D.device disk).content (D.device refused.disk).content) }
     ensures no_volume { IfErr result (λ refused. refused.error ≡ OpenError.NotAVolume → IsTrue (D.device disk).tells → IsNoNewsVolume (D.device disk).content) }
     ensures damaged { IfErr result (λ refused. refused.error ≡ OpenError.Damaged → IsTrue (D.device disk).tells → IsDamagedVolume (D.device disk).content) }
 {

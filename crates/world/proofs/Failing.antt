@@ -25,6 +25,6 @@ sound_unchanged {D} device old new ticket view same h =
     subst (λ (tells : Bool). IsSound tells (record { journal = new; served = old.served; untold = old.untold }) ticket) (sym same.tells)
     (subst (λ (journal : JournalView D). IsSound (device old.journal.disk).tells (record { journal = journal; served = old.served; untold = old.untold }) ticket) (sym view)
     (record {
-      tied = record { label = h.tied.label; size = h.tied.size; phase = phase_over (device old.journal.disk).tells old.journal old.served.kernel old.untold new.disk h.tied.phase };
+      tied = record { label = h.tied.label; size = h.tied.size; format = h.tied.format; phase = phase_over (device old.journal.disk).tells old.journal old.served.kernel old.untold new.disk h.tied.phase };
       flies = h.flies;
     }))

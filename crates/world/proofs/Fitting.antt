@@ -9,7 +9,7 @@ use Rattle.model.specs.Stream.{Octets}
 use Rattle.model.specs.Spool.{Spool}
 use Rattle.model.specs.Layout.{IsLabel}
 use Rattle.model.specs.News.{Holds, Stands, service}
-use Rattle.model.specs.Volume.{StandsFor, laid_over}
+use Rattle.model.specs.Volume.{StandsFor, format_number, laid_over}
 use Rattle.model.specs.declared.session.Session.{Session}
 use Rattle.kernel.specs.Kernel.{KernelView, seat_of}
 use Rattle.seats.specs.Seats.{Seat}
@@ -59,17 +59,18 @@ length-laid_over blocks [] images = refl
 length-laid_over blocks (n ∷ numbers) [] = refl
 length-laid_over blocks (n ∷ numbers) (image ∷ images) = length-laid_over (set blocks n image) numbers images ∙ length-set blocks n image
 
--- an image of a volume whose blocks hold these changes
+-- an image of a volume whose blocks hold these changes, in no lower format than the journal has
 stands_for : {D : Type 0} (tells : Bool) (world : WorldView D) (blocks : List Octets) (p : ℕ) (image : Octets) → IsTied tells world → length blocks ≡ length (kernel_of world).blocks
-    → Holds (kernel_of world).host (kernel_of world).inodes blocks (take p (kernel_of world).spool) → StandsFor image world.journal.label blocks → Stands (kernel_of world).host image (take p (kernel_of world).spool)
-stands_for tells world blocks p image h size holds volume =
+    → Holds (kernel_of world).host (kernel_of world).inodes blocks (take p (kernel_of world).spool) → StandsFor image world.journal.label blocks → world.journal.format ≤ format_number image
+    → Stands (kernel_of world).host image (take p (kernel_of world).spool)
+stands_for tells world blocks p image h size holds volume risen =
     record {
       label = world.journal.label;
       inodes = (kernel_of world).inodes;
       blocks = blocks;
       volume = volume;
       labelled = subst (λ n. IsLabel world.journal.label n (kernel_of world).inodes (kernel_of world).host) (sym size) h.label;
-      held = holds;
+      held = record { held = holds; of_format = λ first. absurd (omega (arith, risen, h.format, first)) };
     }
 
 -- where no batch is to be committed, the journal admits its blocks alone
@@ -77,7 +78,7 @@ admits_blocks : {D : Type 0} (journal : JournalView D) (image : Octets) → is_t
 admits_blocks journal image past admits =
     ⊎_elim (λ (stands : StandsFor image journal.label journal.blocks). stands)
     (λ (batch : (journal.next ≡ Commit) × StandsFor image journal.label (with_batch journal)). absurd (let both : true ≡ false = ap is_to_commit (sym batch.0) ∙ past in cc))
-    admits
+    admits.0
 
 -- the last serial of a batch in flight is no less than the durable one
 pub flying_last : (kernel : KernelView) (last : ℕ) → IsKept kernel → kernel.in_flight ≡ Some last → (kernel.durable ≤ last) × (last ≤ length kernel.spool)
@@ -96,7 +97,7 @@ admits_fits {D} device world h tells image admits = go h.tied.phase
     its_device = device world.journal.disk
 
     fits : (p : ℕ) → MayBeLeft kernel p → kernel.durable ≤ p → (blocks : List Octets) → length blocks ≡ length kernel.blocks → Holds kernel.host kernel.inodes blocks (take p kernel.spool) → StandsFor image journal.label blocks → Fits world image
-    fits p may le blocks size holds volume = (p, may, is_synchronous world.served h.served p le image (stands_for its_device.tells world blocks p image h.tied size holds volume))
+    fits p may le blocks size holds volume = (p, may, is_synchronous world.served h.served p le image (stands_for its_device.tells world blocks p image h.tied size holds volume admits.1))
 
     go : Phase its_device.tells journal kernel world.untold → Fits world image
     go (Quiet q) = let b : LieBehind kernel journal.blocks kernel.durable = q.blocks tells in fits kernel.durable (inl refl) (omega arith) journal.blocks b.agrees.size b.holds (admits_blocks journal image q.past admits)
@@ -105,7 +106,7 @@ admits_fits {D} device world h tells image admits = go h.tied.phase
         let b : LieBehind kernel (with_batch journal) last = f.after tells in
         ⊎_elim (λ (stands : StandsFor image journal.label journal.blocks). fits kernel.durable (inl refl) (omega arith) journal.blocks (f.size tells) (f.before tells) stands)
         (λ (batch : (journal.next ≡ Commit) × StandsFor image journal.label (with_batch journal)). fits last (inr f.flies) le.0 (with_batch journal) b.agrees.size b.holds batch.1)
-        admits
+        admits.0
     go (IsToBeTold last c) =
         let le = flying_last kernel last h.kernel c.flies in
         let b : LieBehind kernel journal.blocks last = c.blocks tells in

@@ -7,12 +7,12 @@ use Rattle.journal.specs.Journal.{IsReady, JournalView}
 use Rattle.journal.specs.Opening.{AreSameVolume, LeftKept}
 use Rattle.kernel.specs.Kernel.{KernelView}
 use Rattle.kernel.specs.Opening.{IsOpened}
-use Rattle.model.proofs.Images.{label_says as label_same}
-use Rattle.model.specs.Layout.{IsLabel}
+use Rattle.model.proofs.Images.{label_says as label_same, rise_stands}
+use Rattle.model.specs.Layout.{HoldsIn, IsLabel}
 use Rattle.model.specs.News.{Holds, Stands}
 use Rattle.model.specs.Spool.{Spool}
 use Rattle.model.specs.Stream.{Octets}
-use Rattle.model.specs.Volume.{StandsFor}
+use Rattle.model.specs.Volume.{format_number}
 use Rattle.served.specs.Events.{opens}
 use Rattle.served.specs.Served.{ServedView}
 use Rattle.world.specs.Fields.{IsSound}
@@ -21,20 +21,6 @@ use Rattle.world.specs.Images.{KeepsSpools, StandsForNone}
 use Rattle.journal.specs.Order.{is_to_commit}
 use Rattle.world.specs.Tied.{AreFaults, IsQuiet, Quiet}
 
--- a volume's label and blocks are those of its image
-same_volume : (host image other its_label : Octets) (blocks : List Octets) (S : Spool) → StandsFor image its_label blocks → StandsFor other its_label blocks → Stands host image S → Stands host other S
-same_volume host image other its_label blocks S here there s =
-    let label : its_label ≡ s.label = sym here.has_label ∙ s.volume.has_label in
-    let same : blocks ≡ s.blocks = sym here.has_blocks ∙ s.volume.has_blocks in
-    record {
-      label = s.label;
-      inodes = s.inodes;
-      blocks = s.blocks;
-      volume = subst (λ (t : Octets × List Octets). StandsFor other t.0 t.1) (λ i. (label i, same i)) there;
-      labelled = s.labelled;
-      held = s.held;
-    }
-
 module _ {D : Type 0} (device : D → Device) (only_now : (d : D) (image : Octets) → IsTrue (device d).tells → (device d).left_since (device d).clock image → (device d).may_leave image)
     (counts_content : (d : D) → IsTrue (device d).tells → (device d).may_leave (device d).content) where
   pub keeps_left : (first last : D) → LeftKept (device first) (device last) → KeepsSpools (device first) (device last)
@@ -42,7 +28,7 @@ module _ {D : Type 0} (device : D → Device) (only_now : (d : D) (image : Octet
       ⊎_elim
       (λ (was : (device first).left_since (device first).clock image). (image, only_now first image tells was, λ host S s. s))
       (λ (same : AreSameVolume (device first).content image).
-      ((device first).content, counts_content first tells, λ host S s. same_volume host (device first).content image same.0 same.1.0 S same.1.1.0 same.1.1.1 s))
+      ((device first).content, counts_content first tells, λ host S s. rise_stands host (device first).content image same.0 same.1.0 S same.1.1.0 same.1.1.1.0 same.1.1.1.1 s))
       (kept tells (device first).clock image (omega arith) left)
 
 -- neither stands for a spool
@@ -55,12 +41,12 @@ none_damaged content d host S s =
     let blocks : s.blocks ≡ d.blocks = sym s.volume.has_blocks ∙ d.volume.has_blocks in
     let its_label : IsLabel d.label (length d.blocks) s.inodes host = subst (λ (t : Octets × List Octets). IsLabel t.0 (length t.1) s.inodes host) (λ i. (label i, blocks i)) s.labelled in
     let same = label_same d.label (length d.blocks) s.inodes d.inodes host d.host its_label d.labelled in
-    d.holds_none S (subst (λ (t : Octets × ℕ × List Octets). Holds t.0 t.1 t.2 S) (λ i. (same.1 i, same.0 i, blocks i)) s.held)
+    d.holds_none S (subst (λ (t : Octets × ℕ × List Octets). HoldsIn (format_number content) t.0 t.1 t.2 S) (λ i. (same.1 i, same.0 i, blocks i)) s.held)
 
 -- ---- the new world
 
-pub sound_new : {D : Type 0} (device : D → Device) (journal : JournalView D) (kernel : KernelView) (served : ServedView) → served ≡ opens kernel → IsOpened device journal kernel → IsReady journal → IsSound (device journal.disk).tells (record { journal = journal; served = served; untold = [] }) None
-sound_new {D} device journal kernel served is k ready = subst (λ s. IsSound (device journal.disk).tells (record { journal = journal; served = s; untold = [] }) None) (sym is) now
+pub sound_new : {D : Type 0} (device : D → Device) (journal : JournalView D) (kernel : KernelView) (served : ServedView) → served ≡ opens kernel → IsOpened device journal kernel → journal.format ≡ 2 → IsReady journal → IsSound (device journal.disk).tells (record { journal = journal; served = served; untold = [] }) None
+sound_new {D} device journal kernel served is k format ready = subst (λ s. IsSound (device journal.disk).tells (record { journal = journal; served = s; untold = [] }) None) (sym is) now
   where
     all : take kernel.durable kernel.spool ≡ kernel.spool
     all = take_all kernel.durable kernel.spool (omega (arith, k.fresh.durable))
@@ -83,6 +69,7 @@ sound_new {D} device journal kernel served is k ready = subst (λ s. IsSound (de
           tied = record {
             label = subst (λ n. IsLabel journal.label n kernel.inodes kernel.host) (sym k.size) k.labelled;
             size = sym k.size;
+            format = format;
             phase = Quiet quiet;
           };
           flies = sym k.fresh.in_flight;

@@ -31,7 +31,7 @@ use Rattle.world.proofs.Sound.{tested_or}
 FitsAt : ServedView → Octets → Type 0
 FitsAt served image = (p : ℕ) × MayBeLeft served.kernel p × IsSynchronous served.kernel.host (first_spool served) (arrived_at served) served.trace (released_at served) p image
 
-module _ {D : Type 0} (device : D → Device) (old new : WorldView D) where
+module _ {D : Type 0} (device : D → Device) (write_grows sync_grows : Bool) (old new : WorldView D) where
   Left : Type 0
   Left =
       LeftFits (device old.journal.disk) (device new.journal.disk) (Fits old)
@@ -75,7 +75,7 @@ module _ {D : Type 0} (device : D → Device) (old new : WorldView D) where
       go false is (inr flies) true is_there = by_world (d.stays (λ ready has. flies ready.1)).1
 
   -- a device call
-  left_dev : (r : Result Answer StepError) → IsWorld device new → DidDev device old r new → Left
+  left_dev : (r : Result Answer StepError) → IsWorld device new → DidDev device write_grows sync_grows old r new → Left
   unfolding Left FitsAt
   left_dev r h d = go old.journal.halted refl (idle_or_flies old.journal.next)
     where
@@ -107,7 +107,7 @@ module _ {D : Type 0} (device : D → Device) (old new : WorldView D) where
   left_release (Ok a) P f h = f a h
   left_release (Err e) P f h = by_world h.1
 
-  did_left : (e : Event) (r : Result Answer StepError) → IsWorld device new → Did device old e r new → Left
+  did_left : (e : Event) (r : Result Answer StepError) → IsWorld device new → Did device write_grows sync_grows old e r new → Left
   did_left event.Join r h d = by_tests of_kernel error.Memory None (join_refusal (kernel_of old)) r _ (λ a done. by_served _ done.1) (tested_or of_kernel error.Memory (join_refusal (kernel_of old)) old new r _ d)
   did_left (event.Leave number) r h d = by_served _ d.1
   did_left (event.Arrive number octets) r h d = by_tests of_kernel error.Memory None (arrive_refusal (kernel_of old) number) r _ (λ a done. by_served _ done.1) (tested_or of_kernel error.Memory (arrive_refusal (kernel_of old) number) old new r _ d)
@@ -121,12 +121,12 @@ module _ {D : Type 0} (device : D → Device) (old new : WorldView D) where
   did_left (event.ReleaseOf number) r h d = left_release r _ (λ a done. by_served _ done.1) d
 
   -- a crash at some moment of the event leaves what fits the world before it
-  pub step_since : (e : Event) (r : Result Answer StepError) → IsWorld device new → Did device old e r new → LeftFits (device old.journal.disk) (device new.journal.disk) (Fits old)
+  pub step_since : (e : Event) (r : Result Answer StepError) → IsWorld device new → Did device write_grows sync_grows old e r new → LeftFits (device old.journal.disk) (device new.journal.disk) (Fits old)
   unfolding Left
   step_since e r h d = (did_left e r h d).0
 
   -- the device tells as before, and time goes on
-  pub step_goes_on : (e : Event) (r : Result Answer StepError) → IsWorld device new → Did device old e r new → ((device new.journal.disk).tells ≡ (device old.journal.disk).tells) × ((device old.journal.disk).clock ≤ (device new.journal.disk).clock)
+  pub step_goes_on : (e : Event) (r : Result Answer StepError) → IsWorld device new → Did device write_grows sync_grows old e r new → ((device new.journal.disk).tells ≡ (device old.journal.disk).tells) × ((device old.journal.disk).clock ≤ (device new.journal.disk).clock)
   unfolding Left
   step_goes_on e r h d = (did_left e r h d).1
 

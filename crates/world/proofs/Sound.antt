@@ -88,13 +88,14 @@ sound_release_of tells old served number ticket (Err e) kept ok err h = sound_sa
 -- ---- Take
 
 -- the journal that begins, by what its call says
-pub is_begun : {D : Type 0} (old new : JournalView D) (kernel : KernelView) (last : ℕ) (numbers : List ℕ) (images : List Octets) → new.disk ≡ old.disk → new.label ≡ old.label → new.size ≡ old.size → new.segments ≡ old.segments → new.blocks ≡ old.blocks → new.next ≡ Descriptor → new.halted ≡ old.halted
+pub is_begun : {D : Type 0} (old new : JournalView D) (kernel : KernelView) (last : ℕ) (numbers : List ℕ) (images : List Octets) → new.disk ≡ old.disk → new.label ≡ old.label → new.format ≡ old.format → new.size ≡ old.size → new.segments ≡ old.segments → new.blocks ≡ old.blocks → new.next ≡ Descriptor → new.halted ≡ old.halted
     → new.held ≡ still_open old → new.place ≡ length (still_open old) → new.number ≡ length (still_open old) + 1 → new.is_last ≡ eqb (length (still_open old) + 1) old.segments
     → new.last ≡ last → new.numbers ≡ numbers → new.images ≡ images → last ≡ length kernel.spool → numbers ≡ kernel.dirty → images ≡ map (λ n. slice_index_or kernel.blocks n []) numbers → new ≡ begun old kernel
-is_begun old new kernel last numbers images disk label size segments blocks next halted held place number is_last last_is numbers_are images_are serial dirty copies =
+is_begun old new kernel last numbers images disk label format size segments blocks next halted held place number is_last last_is numbers_are images_are serial dirty copies =
     λ i. record {
       disk = disk i;
       label = label i;
+      format = format i;
       size = size i;
       segments = segments i;
       blocks = blocks i;
@@ -189,9 +190,9 @@ committed_news (Some t) true failed last is none = absurd (cc none)
 committed_news (Some t) false true last is none = absurd (cc none)
 committed_news (Some t) false false last is none = let same : t.last ≡ last = cc is in ap (λ n. IsDurable n ∷ []) same
 
-pub dev_news : {D : Type 0} (device : D → Device) (old : WorldView D) (new : JournalView D) (ticket : Option Ticket) (committed failed : Bool) (answered : Result Progress JournalError) → old.untold ≡ news_in ticket committed failed → Steps device old.journal answered new → IsSound (device old.journal.disk).tells old ticket
+pub dev_news : {D : Type 0} {write_grows sync_grows : Bool} (device : D → Device) (old : WorldView D) (new : JournalView D) (ticket : Option Ticket) (committed failed : Bool) (answered : Result Progress JournalError) → old.untold ≡ news_in ticket committed failed → Steps device write_grows sync_grows old.journal answered new → IsSound (device old.journal.disk).tells old ticket
     → news_in ticket (committed || commits answered) (failed || fails answered) ≡ old.untold ++ news_of answered
-dev_news {D} device old new ticket committed failed answered is s h = go answered refl
+dev_news {D} {write_grows} {sync_grows} device old new ticket committed failed answered is s h = go answered refl
   where
     quiet : (a : Result Progress JournalError) → commits a ≡ false → fails a ≡ false → news_of a ≡ [] → news_in ticket (committed || commits a) (failed || fails a) ≡ old.untold ++ news_of a
     quiet a uncommitted none news =
@@ -230,7 +231,7 @@ dev_news {D} device old new ticket committed failed answered is s h = go answere
     go (Err journal.NotAVolume) e = quiet (Err journal.NotAVolume) refl refl refl
     go (Err journal.Halted) e = quiet (Err journal.Halted) refl refl refl
 
-pub sound_dev : {D : Type 0} (device : D → Device) (old : WorldView D) (new : JournalView D) (ticket : Option Ticket) (untold : List News) (answered : Result Progress JournalError) → untold ≡ old.untold ++ news_of answered → Steps device old.journal answered new → IsSound (device old.journal.disk).tells old ticket
+pub sound_dev : {D : Type 0} {write_grows sync_grows : Bool} (device : D → Device) (old : WorldView D) (new : JournalView D) (ticket : Option Ticket) (untold : List News) (answered : Result Progress JournalError) → untold ≡ old.untold ++ news_of answered → Steps device write_grows sync_grows old.journal answered new → IsSound (device old.journal.disk).tells old ticket
     → IsSound (device new.disk).tells (record { journal = new; served = old.served; untold = untold }) ticket
 sound_dev device old new ticket untold answered same s h =
     subst (λ news. IsSound (device new.disk).tells (record { journal = new; served = old.served; untold = news }) ticket) (sym same)

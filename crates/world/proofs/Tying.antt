@@ -146,6 +146,7 @@ IsTied-grows tells world served kept g h =
     record {
       label = subst (λ (t : ℕ × ℕ × Octets). IsLabel world.journal.label t.0 t.1 t.2) (λ i. (sym g.size i, sym g.inodes i, sym g.host i)) h.label;
       size = h.size ∙ sym g.size;
+      format = h.format;
       phase = phase_grows (kernel_of world) served.kernel g tells world.journal world.untold kept h.phase;
     }
 
@@ -172,7 +173,7 @@ faults_none halted news h = h.1
 pub IsTied-takes : {D : Type 0} (tells : Bool) (world : WorldView D) → IsKept (kernel_of world) → IsReady world.journal → has_batch (kernel_of world) ≡ true
     → ((base : List Octets) → AgreesBehind (kernel_of world) base → laid_over base (kernel_of world).dirty (map (λ n. slice_index_or (kernel_of world).blocks n []) (kernel_of world).dirty) ≡ (kernel_of world).blocks)
     → IsTied tells world → IsTied tells (record { journal = begun world.journal (kernel_of world); served = with_kernel world.served (taken (kernel_of world)); untold = world.untold })
-IsTied-takes {D} tells world kept ready has lays h = record { label = h.label; size = h.size; phase = go h.phase }
+IsTied-takes {D} tells world kept ready has lays h = record { label = h.label; size = h.size; format = h.format; phase = go h.phase }
   where
     kernel : KernelView
     kernel = kernel_of world
@@ -358,9 +359,9 @@ step_same device old new (Err error) made retried (inl is) = ((made is).same, (m
 step_same device old new (Err error) made retried (inr is) = ((retried is).same, (retried is).refused.time.tells)
 
 -- what a step leaves: a device that tells as before, and the tie
-pub IsTied-steps : {D : Type 0} (device : D → Device) (world : WorldView D) (new : JournalView D) (answered : Result Progress JournalError) → Steps device world.journal answered new → IsTied (device world.journal.disk).tells world
+pub IsTied-steps : {D : Type 0} {write_grows sync_grows : Bool} (device : D → Device) (world : WorldView D) (new : JournalView D) (answered : Result Progress JournalError) → Steps device write_grows sync_grows world.journal answered new → IsTied (device world.journal.disk).tells world
     → IsTied (device new.disk).tells (record { journal = new; served = world.served; untold = world.untold ++ news_of answered })
-IsTied-steps {D} device world new answered s h = go world.journal.halted refl (idle_or_flies world.journal.next)
+IsTied-steps {D} {write_grows} {sync_grows} device world new answered s h = go world.journal.halted refl (idle_or_flies world.journal.next)
   where
     kernel : KernelView
     kernel = kernel_of world
@@ -383,6 +384,7 @@ IsTied-steps {D} device world new answered s h = go world.journal.halted refl (i
         (record {
           label = subst (λ l. IsLabel l (length kernel.blocks) kernel.inodes kernel.host) (sym same.0.label) h.label;
           size = same.0.size ∙ h.size;
+          format = same.0.format ∙ h.format;
           phase = phase_calls device (device old.disk).tells old new kernel world.untold answered refl runs (s.call runs flies) (s.retried runs flies) (s.no_other runs) h.phase;
         })
 
@@ -430,11 +432,11 @@ IsTied-told_durable {D} tells world last later is h = go h.phase
               record { agrees = record { size = b.agrees.size; clean = b.agrees.clean }; holds = subst (λ p. Holds kernel.host kernel.inodes journal.blocks (take p kernel.spool)) same b.holds };
           faults = subst (λ (t : Bool × List News). AreFaults journal.halted t.0 t.1) (λ i. (sym c.running i, rest i)) c.faults;
         } in
-        (c.flies ∙ ap Some same, c.running, record { label = h.label; size = h.size; phase = Quiet quiet })
+        (c.flies ∙ ap Some same, c.running, record { label = h.label; size = h.size; format = h.format; phase = Quiet quiet })
 
 pub IsTied-told_failed : {D : Type 0} (tells : Bool) (world : WorldView D) (later : List News) → world.untold ≡ HasFailed ∷ later → IsTied tells world
     → IsTied tells (record { journal = world.journal; served = with_kernel world.served (halted_for_good (kernel_of world)); untold = later })
-IsTied-told_failed {D} tells world later is h = record { label = h.label; size = h.size; phase = go h.phase }
+IsTied-told_failed {D} tells world later is h = record { label = h.label; size = h.size; format = h.format; phase = go h.phase }
   where
     kernel : KernelView
     kernel = kernel_of world

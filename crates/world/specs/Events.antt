@@ -6,6 +6,7 @@ use Rattle.std.specs.Prelude.{◌⊎◌, ◌<◌, ◌≤◌, IsTrue, ◌≡◌, 
 use Rattle.disk.specs.Device.{Device}
 use Rattle.journal.specs.Calls.{IsRetried, MakesCall, OnMade, OnRetried}
 use Rattle.journal.specs.Journal.{begins, IsIdle, IsReady, JournalView}
+use Rattle.journal.specs.Order.{is_growing}
 use Rattle.journal.specs.declared.JournalError.{JournalError}
 use Rattle.journal.specs.declared.JournalError.TheVariants as journal
 use Rattle.journal.specs.declared.Progress.{Progress}
@@ -70,13 +71,14 @@ pub record DidTake {D : Type 0} (old : WorldView D) (result : Result Answer Step
       × (new ≡ record { journal = begun old.journal (kernel_of old); served = with_kernel old.served (taken (kernel_of old)); untold = old.untold })
   pub stays : (IsReady old.journal → has_batch (kernel_of old) ≡ true → ⊥) → (result ≡ Ok (answer.Took None)) × (new ≡ old)
 
--- one step of the journal
-pub record Steps {D : Type 0} (device : D → Device) (old : JournalView D) (answered : Result Progress JournalError) (new : JournalView D) : Type 0 where
+-- one step of the journal, on a device whose writes and syncs take memory or do not
+pub record Steps {D : Type 0} (device : D → Device) (write_grows sync_grows : Bool) (old : JournalView D) (answered : Result Progress JournalError) (new : JournalView D) : Type 0 where
   pub halted : old.halted ≡ true → (answered ≡ Err journal.Halted) × (new ≡ old)
   pub idle : old.halted ≡ false → IsIdle old → (answered ≡ Ok progress.Idle) × (new ≡ old)
   pub call : old.halted ≡ false → (IsIdle old → ⊥) → OnMade answered (MakesCall device old new answered)
   pub retried : old.halted ≡ false → (IsIdle old → ⊥) → OnRetried answered (IsRetried device old new)
   pub no_other : old.halted ≡ false → IfErr answered (λ error. (error ≡ journal.Fault) ⊎ (error ≡ journal.Memory))
+  pub memory : IfErr answered (λ error. error ≡ journal.Memory → IsTrue (is_growing old.next write_grows sync_grows))
 
 abbrev pub news_of : Result Progress JournalError → List News
 news_of (Ok (progress.Committed last)) = IsDurable last ∷ []
@@ -100,9 +102,9 @@ dev_answer (Err journal.Fault) = Err error.Fault
 dev_answer (Err journal.Memory) = Err error.Memory
 dev_answer (Err e) = Err error.Halted
 
-pub record DidDev {D : Type 0} (device : D → Device) (old : WorldView D) (result : Result Answer StepError) (new : WorldView D) : Type 0 where
+pub record DidDev {D : Type 0} (device : D → Device) (write_grows sync_grows : Bool) (old : WorldView D) (result : Result Answer StepError) (new : WorldView D) : Type 0 where
   pub answered : Result Progress JournalError
-  pub steps : Steps device old.journal answered new.journal
+  pub steps : Steps device write_grows sync_grows old.journal answered new.journal
   pub result_is : result ≡ dev_answer answered
   pub untold : new.untold ≡ old.untold ++ news_of answered
   pub served : new.served ≡ old.served
@@ -116,27 +118,28 @@ told kernel (HasFailed ∷ later) = halted_for_good kernel
 -- ---- all events
 
 -- What an event does, by its answer. A refusal changes nothing, except that a failed device call halts the journal. A
--- call that the device refuses for want of memory leaves the device's content and counts as they were.
-abbrev pub Did : {D : Type 0} → (D → Device) → WorldView D → Event → Result Answer StepError → WorldView D → Type 0
-Did device old event.Join result new =
+-- call that the device refuses for want of memory leaves the device's content and counts as they were; only a device that
+-- takes memory for that call refuses it so.
+abbrev pub Did : {D : Type 0} → (D → Device) → Bool → Bool → WorldView D → Event → Result Answer StepError → WorldView D → Type 0
+Did device write_grows sync_grows old event.Join result new =
     Tested of_kernel error.Memory (join_refusal (kernel_of old)) old new result (λ a. (a ≡ answer.Joined ((kernel_of old).joined + 1)) × (new ≡ with_served old (joins old.served)))
-Did device old (event.Leave number) result new = (result ≡ Ok answer.Done) × (new ≡ with_served old (leaves old.served number))
-Did device old (event.Arrive number octets) result new =
+Did device write_grows sync_grows old (event.Leave number) result new = (result ≡ Ok answer.Done) × (new ≡ with_served old (leaves old.served number))
+Did device write_grows sync_grows old (event.Arrive number octets) result new =
     Tested of_kernel error.Memory (arrive_refusal (kernel_of old) number) old new result (λ a. (a ≡ answer.Done) × (new ≡ with_served old (arrives old.served number octets.items)))
-Did device old (event.Exec number moment) result new = DidExec old number moment (mode_at (kernel_of old) number) (next_of old.served number) result new
-Did device old (event.Admin name status description moment) result new =
+Did device write_grows sync_grows old (event.Exec number moment) result new = DidExec old number moment (mode_at (kernel_of old) number) (next_of old.served number) result new
+Did device write_grows sync_grows old (event.Admin name status description moment) result new =
     TestedOrMemory of_kernel error.Memory (early_refusal (kernel_of old)) (admin_refusal_of (kernel_of old) (Group name status description.items moment)) old new result
     (λ a. (serial : ℕ) × (a ≡ answer.Made serial) × Makes old.served new.served (Group name status description.items moment) serial × (new ≡ with_served old new.served))
-Did device old (event.Expire name number) result new =
+Did device write_grows sync_grows old (event.Expire name number) result new =
     TestedOrMemory of_kernel error.Memory (early_refusal (kernel_of old)) (expire_refusal_of (kernel_of old) (Expire name number)) old new result
     (λ a. (serial : ℕ) × (a ≡ answer.Made serial) × Makes old.served new.served (Expire name number) serial × (new ≡ with_served old new.served))
-Did device old event.Take result new = DidTake old result new
-Did device old event.Dev result new = DidDev device old result new
-Did device old event.Told result new =
+Did device write_grows sync_grows old event.Take result new = DidTake old result new
+Did device write_grows sync_grows old event.Dev result new = DidDev device write_grows sync_grows old result new
+Did device write_grows sync_grows old event.Told result new =
     (result ≡ Ok answer.Done) × (new ≡ record { journal = old.journal; served = with_kernel old.served (told (kernel_of old) old.untold); untold = drop 1 old.untold })
-Did device old event.Release result new =
+Did device write_grows sync_grows old event.Release result new =
     MatchResult result (λ a. (a ≡ answer.Done) × (new ≡ with_served old (releases old.served))) (λ e. (e ≡ error.Memory) × (new ≡ old))
-Did device old (event.ReleaseOf number) result new =
+Did device write_grows sync_grows old (event.ReleaseOf number) result new =
     MatchResult result (λ a. (a ≡ answer.Done) × (new ≡ with_served old (releases_of old.served number))) (λ e. (e ≡ error.Memory) × (new ≡ old))
 
 -- whether a result is a refusal for memory
@@ -145,17 +148,17 @@ for_memory (Err error.Memory) = true
 for_memory other = false
 
 -- these events were done one after another; those that were refused, but not for memory, were skipped
-pub data Went {D : Type 0} (device : D → Device) : WorldView D → List Event → WorldView D → Type 0 where
-  none : (world : WorldView D) → Went device world [] world
+pub data Went {D : Type 0} (device : D → Device) (write_grows sync_grows : Bool) : WorldView D → List Event → WorldView D → Type 0 where
+  none : (world : WorldView D) → Went device write_grows sync_grows world [] world
   more : (old middle new : WorldView D) (first : Event) (events : List Event) (result : Result Answer StepError)
-      → result ≢ Err error.Memory → Did device old first result middle → Went device middle events new → Went device old (first ∷ events) new
+      → result ≢ Err error.Memory → Did device write_grows sync_grows old first result middle → Went device write_grows sync_grows middle events new → Went device write_grows sync_grows old (first ∷ events) new
 
 -- the first n events were done, and the next one, if there is one, was refused for memory
-pub record Ran {D : Type 0} (device : D → Device) (old : WorldView D) (events : List Event) (n : ℕ) (new : WorldView D) : Type 0 where
+pub record Ran {D : Type 0} (device : D → Device) (write_grows sync_grows : Bool) (old : WorldView D) (events : List Event) (n : ℕ) (new : WorldView D) : Type 0 where
   pub middle : WorldView D
-  pub went : Went device old (take n events) middle
+  pub went : Went device write_grows sync_grows old (take n events) middle
   pub ended : length events ≤ n → new ≡ middle
-  pub stopped : n < length events → (event : Event) × (slice_get events n ≡ Some event) × Did device middle event (Err error.Memory) new
+  pub stopped : n < length events → (event : Event) × (slice_get events n ≡ Some event) × Did device write_grows sync_grows middle event (Err error.Memory) new
 
 -- the kernel's refusals, as the errors that report them
 abbrev pub of_join_error : JoinError → StepError

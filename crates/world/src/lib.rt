@@ -15,8 +15,9 @@ ghost use Rattle.world.specs.Events.{Did, DidDev, DidExec, DidTake, MayHappen, R
 ghost use Rattle.world.specs.Fields.{durable_news};
 ghost use Rattle.disk.specs.Device.{Elapses};
 ghost use Rattle.journal.specs.Journal.{IsReady};
-ghost use Rattle.journal.specs.Opening.{Costs, LeftKept, NeverSyncs, SyncsFirst};
+ghost use Rattle.journal.specs.Opening.{LeavesVolume, LeftKept, NeverSyncs, SyncsFirst};
 ghost use Rattle.model.specs.News.{Stands};
+ghost use Rattle.opening.specs.Costs.{CostsToOpen};
 ghost use Rattle.opening.specs.Standing.{IsDamagedVolume, IsNoNewsVolume};
 ghost use Rattle.world.specs.Images.{EachNow, EachSince, Fits, KeepsSpools, LeftFits, StandsForNone};
 ghost use Rattle.world.specs.Opening.{IsNew};
@@ -92,11 +93,13 @@ impl<D: Disk> World<D> {
     /// Opens the device: all its changes are durable, and nothing has happened yet. A crash during the opening leaves a
     /// disk that stands for the spool of an image that a crash at the start might have left. The first good sync comes
     /// before every write. After it a crash leaves the volume that a read gives, with its label and its logical blocks,
-    /// whatever they contain.
+    /// whatever they contain. A volume of format 1 is checked as one and then made one of format 2; a crash during that
+    /// leaves it in one of the two.
     ///
     /// A refusal keeps to this too, so it overwrites no disk, and it returns the device. `Fault` (E1) if the device
-    /// failed. `Memory` (E2) if it did not, and a growth was refused. `NotAVolume` (E3) if the device holds no volume
-    /// with a label of its size. `Damaged` (E5) if it holds one, but no lawful spool of the label's host.
+    /// failed. `Memory` (E2) if it did not, and a growth was refused; then a read gives what it gave before, or the same
+    /// volume. `NotAVolume` (E3) if the device holds no volume with a label of its size. `Damaged` (E5) if it holds one,
+    /// but no lawful spool of the label's host in the files of its format.
     pub fn open(alloc: Global, disk: D) -> Result<World<D>, Refused<D>>
         ensures new { IfOk result (λ w. IsNew w) }
         ensures spool { IsTrue (D.device disk).tells → IfOk result (λ w. Stands (kernel_of w).host (D.device disk).content (kernel_of w).spool) }
@@ -108,10 +111,12 @@ impl<D: Disk> World<D> {
         ensures volume { MatchResult result (λ w. LeftKept (D.device disk) (D.device w.journal.disk)) (λ refused. LeftKept (D.device disk) (D.device refused.disk)) }
         ensures moment { MatchResult result (λ w. SyncsFirst D.device disk w.journal.disk) (λ refused. SyncsFirst D.device disk refused.disk ⊎ NeverSyncs D.device disk refused.disk) }
         ensures judged { IfErr result (λ refused. (refused.error ≡ OpenError.NotAVolume) ⊎ (refused.error ≡ OpenError.Damaged) → SyncsFirst D.device disk refused.disk) }
-        ensures cost { IsTrue (D.device disk).tells → IfOk result (λ w. Costs 1 (D.device disk).content (D.device disk) (D.device w.journal.disk)) }
+        ensures cost { IsTrue (D.device disk).tells → IfOk result (λ w. CostsToOpen (D.device disk).content (D.device disk) (D.device w.journal.disk)) }
         ensures idle { IfOk result (λ w. IsReady w.journal) }
         ensures fault { IfErr result (λ refused. refused.error ≡ OpenError.Fault → (D.device refused.disk).failures ≢ (D.device disk).failures) }
         ensures memory { IfErr result (λ refused. refused.error ≡ OpenError.Memory → (D.device refused.disk).failures ≡ (D.device disk).failures) }
+        ensures left { IsTrue (D.device disk).tells → MatchResult result (λ w. LeavesVolume (D.device disk).content (D.device w.journal.disk).content)
+            (λ refused. refused.error ≡ OpenError.Memory → LeavesVolume (D.device disk).content (D.device refused.disk).content) }
         ensures no_volume { IfErr result (λ refused. refused.error ≡ OpenError.NotAVolume → IsTrue (D.device disk).tells → IsNoNewsVolume (D.device disk).content) }
         ensures damaged { IfErr result (λ refused. refused.error ≡ OpenError.Damaged → IsTrue (D.device disk).tells → IsDamagedVolume (D.device disk).content) }
         ensures no_spool { IfErr result (λ refused. (refused.error ≡ OpenError.NotAVolume) ⊎ (refused.error ≡ OpenError.Damaged) → IsTrue (D.device disk).tells → StandsForNone (D.device disk).content) }
@@ -151,7 +156,7 @@ impl<D: Disk> World<D> {
     /// `specs/Tied.antt`).
     pub fn step(&mut self, alloc: Global, event: &Event) -> Result<Answer, StepError>
         requires { MayHappen event.now }
-        ensures did { Did D.device self.old event.now result self.new }
+        ensures did { Did D.device D.write_grows D.sync_grows self.old event.now result self.new }
         ensures during { EachSince (D.device self.old.journal.disk) (D.device self.new.journal.disk) (Fits self.old) }
         ensures now { EachNow (D.device self.new.journal.disk) (Fits self.new) }
         ensures since { LeftFits (D.device self.old.journal.disk) (D.device self.new.journal.disk) (Fits self.old) }
@@ -170,11 +175,13 @@ impl<D: Disk> World<D> {
     pub fn run(&mut self, alloc: Global, events: &[Event]) -> u64
         requires { (k : ℕ) (event : ItsEvent) → slice_get events.now k ≡ Some event → MayHappen event }
         ensures count { result ≤ length events.now }
-        ensures went { Ran D.device self.old events.now result self.new }
+        ensures went { Ran D.device D.write_grows D.sync_grows self.old events.now result self.new }
         ensures during { EachSince (D.device self.old.journal.disk) (D.device self.new.journal.disk)
-            (λ image. (j : ℕ) × (middle : WorldView D) × (j ≤ result) × Went D.device self.old (take j events.now) middle × Fits middle image) }
+            (λ image. (j : ℕ) × (middle : WorldView D) × (j ≤ result)
+            × Went D.device D.write_grows D.sync_grows self.old (take j events.now) middle × Fits middle image) }
         ensures since { LeftFits (D.device self.old.journal.disk) (D.device self.new.journal.disk)
-            (λ image. (j : ℕ) × (middle : WorldView D) × (j ≤ result) × Went D.device self.old (take j events.now) middle × Fits middle image) }
+            (λ image. (j : ℕ) × (middle : WorldView D) × (j ≤ result)
+            × Went D.device D.write_grows D.sync_grows self.old (take j events.now) middle × Fits middle image) }
         ensures now { EachNow (D.device self.new.journal.disk) (Fits self.new) }
         ensures keeps { IsWorld D.device self.new }
     {
@@ -254,7 +261,7 @@ impl<D: Disk> World<D> {
 
     fn happen(&mut self, alloc: Global, event: &Event) -> Result<Answer, StepError>
         requires { MayHappen event.now }
-        ensures { Did D.device self.old event.now result self.new }
+        ensures { Did D.device D.write_grows D.sync_grows self.old event.now result self.new }
     {
         match event {
             Event::Join => self.join(alloc),
@@ -277,7 +284,7 @@ impl<D: Disk> World<D> {
     }
 
     fn join(&mut self, alloc: Global) -> Result<Answer, StepError>
-        ensures { Did D.device self.old Event.Join result self.new }
+        ensures { Did D.device D.write_grows D.sync_grows self.old Event.Join result self.new }
     {
         self.served.kept();
         match self.served.join(alloc) {
@@ -287,7 +294,7 @@ impl<D: Disk> World<D> {
     }
 
     fn leave(&mut self, number: u64) -> Result<Answer, StepError>
-        ensures { Did D.device self.old (Event.Leave number) result self.new }
+        ensures { Did D.device D.write_grows D.sync_grows self.old (Event.Leave number) result self.new }
     {
         self.served.kept();
         self.served.leave(number);
@@ -363,7 +370,7 @@ impl<D: Disk> World<D> {
     }
 
     fn dev(&mut self) -> Result<Answer, StepError>
-        ensures { DidDev D.device self.old result self.new }
+        ensures { DidDev D.device D.write_grows D.sync_grows self.old result self.new }
     {
         let answered = self.journal.step();
         self.is_committed = commits_too(self.is_committed, &answered);
@@ -372,7 +379,7 @@ impl<D: Disk> World<D> {
     }
 
     fn told(&mut self) -> Result<Answer, StepError>
-        ensures { Did D.device self.old Event.Told result self.new }
+        ensures { Did D.device D.write_grows D.sync_grows self.old Event.Told result self.new }
     {
         let Some(ticket) = committed_ticket(self.ticket, self.is_committed) else {
             if !self.has_failed {
@@ -389,7 +396,7 @@ impl<D: Disk> World<D> {
     }
 
     fn release(&mut self) -> Result<Answer, StepError>
-        ensures { Did D.device self.old Event.Release result self.new }
+        ensures { Did D.device D.write_grows D.sync_grows self.old Event.Release result self.new }
     {
         self.served.kept();
         match self.served.release() {
@@ -399,7 +406,7 @@ impl<D: Disk> World<D> {
     }
 
     fn release_of(&mut self, number: u64) -> Result<Answer, StepError>
-        ensures { Did D.device self.old (Event.ReleaseOf number) result self.new }
+        ensures { Did D.device D.write_grows D.sync_grows self.old (Event.ReleaseOf number) result self.new }
     {
         self.served.kept();
         match self.served.release_of(number) {

@@ -1,8 +1,8 @@
-use Rattle.std.proofs.Common.{◌≡◌, inl, ⊎_elim, sym, subst}
+use Rattle.std.proofs.Common.{◌≡◌, inl, inr, ⊎_elim, sym, subst}
 use Rattle.disk.specs.Device.{Elapses}
-use Rattle.journal.specs.Opening.{LeftKept, SyncsFirst}
+use Rattle.journal.specs.Opening.{LeavesVolume, LeftKept, SyncsFirst}
 use Rattle.kernel.specs.declared.opening.OpenError.TheVariants.{NotAVolume, Damaged}
-use Rattle.opening.proofs.Laws.{costs_both, elapses_both, is_damaged, journal_finds_no_damage, journal_lacked_memory, journal_missed, left_both, no_label, no_volume, stands_opened, still_opened, syncs_both}
+use Rattle.opening.proofs.Laws.{costs_both, elapses_both, is_damaged, journal_finds_no_damage, journal_lacked_memory, journal_missed, left_both, no_label, no_volume, stands_opened, still_opened, syncs_both, volume_left}
 use Rattle.opening.proofs.open.Goals as goal
 
 pub returns-in-Err-clause-no_volume : goal.returns-in-Err-clause-no_volume
@@ -23,7 +23,7 @@ pub returns-in-Err-open-clause-damaged : goal.returns-in-Err-open-clause-damaged
 returns-in-Err-open-clause-damaged g c damaged tells = is_damaged g.D.Disk.device c.args.disk c.in-Ok.journal c.in-Ok.ensures.ok (c.in-Err-open.ensures.damaged damaged) tells
 
 pub returns-clause-opened : goal.returns-clause-opened
-returns-clause-opened g c = still_opened g.D.Disk.device c.in-Ok.journal c.open-2.new.journal c.in-Ok-open.kernel c.in-Ok-open.ensures.ok c.open-2.ensures.reads
+returns-clause-opened g c = still_opened g.D.Disk.device c.in-Ok.journal c.open-2.new.journal c.in-Ok-open.kernel c.in-Ok-open.ensures.ok c.open-2.ensures.reads c.in-Ok-open.ensures.format
 
 pub returns-clause-spool : goal.returns-clause-spool
 returns-clause-spool g c tells = stands_opened g.D.Disk.device c.args.disk c.in-Ok.journal c.in-Ok-open.kernel c.in-Ok.ensures.ok c.in-Ok-open.ensures.ok tells
@@ -57,4 +57,14 @@ pub returns-in-Err-open-clause-judged : goal.returns-in-Err-open-clause-judged
 returns-in-Err-open-clause-judged g c judged = subst (SyncsFirst g.D.Disk.device c.args.disk) (sym c.into_disk-disk.ensures) (syncs_both g.D.Disk.device c.args.disk c.in-Ok.journal c.open-2.new.journal c.in-Ok.ensures.ok c.in-Ok.ensures.moment c.open-2.ensures.reads)
 
 pub returns-clause-cost : goal.returns-clause-cost
-returns-clause-cost g c tells = costs_both (g.D.Disk.device c.args.disk).content (g.D.Disk.device c.args.disk) (g.D.Disk.device c.in-Ok.journal.disk) (g.D.Disk.device c.open-2.new.journal.disk) (c.in-Ok.ensures.cost tells) c.open-2.ensures.reads.writes c.open-2.ensures.reads.syncs
+returns-clause-cost g c tells = costs_both (g.D.Disk.device c.args.disk).content c.in-Ok.journal.format (g.D.Disk.device c.args.disk) (g.D.Disk.device c.in-Ok.journal.disk) (g.D.Disk.device c.open-2.new.journal.disk) (c.in-Ok.ensures.ok.format tells) (c.in-Ok.ensures.cost tells) c.in-Ok-open.ensures.cost
+
+pub returns-in-Err-clause-left : goal.returns-in-Err-clause-left
+returns-in-Err-clause-left g c tells lacked =
+    c.in-Err.ensures.err.left (journal_lacked_memory c.in-Err.refused.error c.journal_error.result c.journal_error.ensures c.in-Err.ensures.err.not_halted lacked) tells
+
+pub returns-in-Err-open-clause-left : goal.returns-in-Err-open-clause-left
+returns-in-Err-open-clause-left g c tells lacked = subst (λ d. LeavesVolume (g.D.Disk.device c.args.disk).content (g.D.Disk.device d).content) (sym c.into_disk-disk.ensures) (inr (volume_left g.D.Disk.device g.met.D.Disk.only_now g.met.D.Disk.counts_content g.met.D.Disk.counts_now c.args.disk c.in-Ok.journal c.open-2.new.journal c.in-Ok.ensures.ok c.open-2.ensures.reads tells))
+
+pub returns-clause-left : goal.returns-clause-left
+returns-clause-left g c tells = inr (volume_left g.D.Disk.device g.met.D.Disk.only_now g.met.D.Disk.counts_content g.met.D.Disk.counts_now c.args.disk c.in-Ok.journal c.open-2.new.journal c.in-Ok.ensures.ok c.open-2.ensures.reads tells)

@@ -76,4 +76,6 @@ returns-in_err-step-clause-same g c =
     (rw c.in_err-step.was at c.step.ensures.retried running flies) (rw c.in_err-step.was at c.step.ensures.no_other running)
 
 pub returns-clause-same : goal.returns-clause-same
-returns-clause-same g c = record { label = c.calls.invariant.way.same.label; size = c.calls.invariant.way.same.size }
+returns-clause-same g c =
+    let same = c.calls.invariant.way.same in
+    record { label = same.label; format = same.format; size = same.size }

@@ -1,6 +1,6 @@
 use Rattle.std.proofs.Common.{◌≡◌, [], inl, ⊎_elim, sym, subst}
 use Rattle.disk.specs.Device.{Elapses}
-use Rattle.journal.specs.Opening.{LeftKept, SyncsFirst}
+use Rattle.journal.specs.Opening.{LeavesVolume, LeftKept, SyncsFirst}
 use Rattle.kernel.specs.declared.opening.OpenError.TheVariants.{Memory, NotAVolume, Damaged}
 use Rattle.model.specs.News.{Stands}
 use Rattle.served.specs.Served.{ServedView}
@@ -28,6 +28,10 @@ returns-in_default-clause-time g c = subst (λ d. Elapses (g.D.Disk.device c.arg
 pub returns-in_default-clause-volume : goal.returns-in_default-clause-volume
 returns-in_default-clause-volume g c = subst (λ d. LeftKept (g.D.Disk.device c.args.disk) (g.D.Disk.device d)) (sym c.into_disk.ensures) c.in-Ok.ensures.volume
 
+pub returns-in_default-clause-left : goal.returns-in_default-clause-left
+returns-in_default-clause-left g c tells lacked =
+    subst (λ d. LeavesVolume (g.D.Disk.device c.args.disk).content (g.D.Disk.device d).content) (sym c.into_disk.ensures) (c.in-Ok.ensures.left tells)
+
 pub returns-in_default-clause-moment : goal.returns-in_default-clause-moment
 returns-in_default-clause-moment g c = inl (subst (SyncsFirst g.D.Disk.device c.args.disk) (sym c.into_disk.ensures) c.in-Ok.ensures.moment)
 
@@ -42,6 +46,11 @@ returns-in_default-new-clause-time g c = subst (λ d. Elapses (g.D.Disk.device c
 
 pub returns-in_default-new-clause-volume : goal.returns-in_default-new-clause-volume
 returns-in_default-new-clause-volume g c = subst (λ d. LeftKept (g.D.Disk.device c.args.disk) (g.D.Disk.device d)) (sym c.into_disk-in_default-new.ensures) c.in-Ok.ensures.volume
+
+pub returns-in_default-new-clause-left : goal.returns-in_default-new-clause-left
+returns-in_default-new-clause-left g c tells lacked =
+    subst (λ d. LeavesVolume (g.D.Disk.device c.args.disk).content (g.D.Disk.device d).content) (sym c.into_disk-in_default-new.ensures)
+    (c.in-Ok.ensures.left tells)
 
 pub returns-in_default-new-clause-moment : goal.returns-in_default-new-clause-moment
 returns-in_default-new-clause-moment g c = inl (subst (SyncsFirst g.D.Disk.device c.args.disk) (sym c.into_disk-in_default-new.ensures) c.in-Ok.ensures.moment)
@@ -59,4 +68,4 @@ pub returns-clause-now : goal.returns-clause-now
 returns-clause-now g c = now_fits g.D.Disk.device (record { journal = c.in-Ok.opened.journal; served = c.in-Ok-new.served; untold = [] }) c.kept.ensures
 
 pub invariant_of-world : goal.invariant_of-world
-invariant_of-world g c = sound_new g.D.Disk.device c.in-Ok.opened.journal c.in-Ok.opened.kernel c.in-Ok-new.served c.in-Ok-new.ensures c.in-Ok.ensures.opened c.in-Ok.ensures.idle
+invariant_of-world g c = sound_new g.D.Disk.device c.in-Ok.opened.journal c.in-Ok.opened.kernel c.in-Ok-new.served c.in-Ok-new.ensures c.in-Ok.ensures.opened c.in-Ok.ensures.format c.in-Ok.ensures.idle

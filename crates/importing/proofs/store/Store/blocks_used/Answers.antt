@@ -20,5 +20,9 @@ pub invariant_of-self : goal.invariant_of-self
 invariant_of-self g c =
     let saved = subst (λ (s : StoreView g.row.D.Denot). IsSaved g.D.Disk.device s) (sym c.self.view_is) c.requires in
     read g.D.Disk.device c.self.inside.journal c.blocks_used.new.journal c.self.inside.spool c.self.inside.durable c.self.invariant
-    (record { label = c.blocks_used.ensures.label; size = c.blocks_used.ensures.size }) saved.ready c.blocks_used.ensures.tells
+    (record {
+      label = c.blocks_used.ensures.label;
+      format = c.blocks_used.ensures.format;
+      size = c.blocks_used.ensures.size;
+    }) saved.ready c.blocks_used.ensures.tells
     c.blocks_used.ensures.blocks

@@ -21,11 +21,13 @@ returns-in-Err-load-clause-damaged g c damaged tells =
 pub invariant_of-result : goal.invariant_of-result
 invariant_of-result g c =
     subst (λ (n : ℕ). IsTied g.D.Disk.device c.load.new.journal c.in-Ok-load.spool n) (sym c.len.ensures)
-    (tied_opened g.D.Disk.device c.in-Ok-open.journal c.load.new.journal c.in-Ok-load.spool c.in-Ok-load.ensures.ok c.load.ensures.reads)
+    (tied_opened g.D.Disk.device c.in-Ok-open.journal c.load.new.journal c.in-Ok-load.spool c.in-Ok-load.ensures.ok c.load.ensures.reads
+    c.in-Ok-load.ensures.format)
 
 pub returns-in-Ok-load-clause-ok : goal.returns-in-Ok-load-clause-ok
 returns-in-Ok-load-clause-ok g c =
     subst (λ (n : ℕ). IsOpened g.D.Disk.device c.args.disk
     (record { journal = c.load.new.journal; spool = c.in-Ok-load.spool; durable = n })) (sym c.len.ensures)
     (opened g.D.Disk.device c.in-Ok-open.journal c.load.new.journal c.in-Ok-load.spool c.in-Ok-load.ensures.ok c.load.ensures.reads
-    c.args.disk c.in-Ok-open.ensures.ok c.in-Ok-load.ensures.ready c.is_idle-idle.ensures.now c.in-Ok-load.ensures.failures)
+    c.in-Ok-load.ensures.format c.args.disk c.in-Ok-open.ensures.ok c.in-Ok-load.ensures.ready c.is_idle-idle.ensures.now
+    c.in-Ok-load.ensures.failures)

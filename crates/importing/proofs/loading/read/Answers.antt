@@ -1,8 +1,8 @@
 use Rattle.std.proofs.Common.{◌≡◌, ℕ, List, length, sym, subst, arith, rules}
 use Rattle.std.specs.List.{All}
 use Rattle.std.proofs.lemmas.Result.{IfErr-weaker}
-use Rattle.model.specs.Layout.{Holds, IsLabel}
-use Rattle.importing.proofs.loading.load.Goals as goal
+use Rattle.model.specs.Layout.{HoldsIn, IsLabel}
+use Rattle.importing.proofs.loading.read.Goals as goal
 
 pub spool_in-requires-clause-room : goal.spool_in-requires-clause-room
 spool_in-requires-clause-room g c =
@@ -30,8 +30,9 @@ returns-in-Ok-loaded-clause-damaged g c =
       host = c.in-Some.label.host.now;
       labelled = labelled;
       holds_none = λ t S holds.
-          none is S (subst (λ (bs : List (List ℕ)). Holds c.new.result c.in-Some.label.inodes bs S)
+          none is S (subst (λ (bs : List (List ℕ)). HoldsIn c.format_number-format.result c.new.result c.in-Some.label.inodes bs S)
           (sym (c.in-Ok-loaded.ensures.blocks t))
-          (subst (λ (h : List ℕ). Holds h c.in-Some.label.inodes c.args.journal.now.blocks S) (sym named) holds));
+          (subst (λ (p : ℕ × List ℕ). HoldsIn p.0 p.1 c.in-Some.label.inodes c.args.journal.now.blocks S)
+          (λ i. (sym c.format_number-format.ensures.format i, sym named i)) holds));
     })
     c.spool_in.ensures.damaged
