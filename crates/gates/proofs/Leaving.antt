@@ -8,8 +8,9 @@ use Rattle.disk.specs.Image.{Torn, overwritten}
 use Rattle.disk.specs.declared.DiskError.{DiskError}
 use Rattle.disk.specs.declared.DiskError.TheVariants.{Memory}
 use Rattle.disk.proofs.Images.{length-overwritten, overwritten_above, overwritten_below, overwritten_inside}
+use Rattle.model.specs.Volume.{home_size, segment_count}
 use Rattle.gates.specs.Gates.{IsCount, IsGate, IsLook, IsSeen, IsTornAtGates, Leaves, MayLeaveTorn, WritesThem, gate_at, writes_from}
-use Rattle.gates.proofs.Looking.{gate_back, tells_then}
+use Rattle.gates.proofs.Looking.{all_within, gate_back, tells_then}
 
 -- ---- images
 
@@ -260,7 +261,11 @@ module _ (D : Type 0) (device : D → Device) (sized : (d : D) → IsTrue (devic
       is_gate k low (inr none) = absurd (omega (arith, low, none.1))
 
       inside : IsTrue (device first).tells → (k : ℕ) → IsGate (device first) (gate_at k) → gate_at k < length (device first).content
-      inside t k gate = let size = sized first t in let exactly = gate.0.exactly in let there = gate.1.1.0 in let same = gate.1.1.1 in omega (arith, size, exactly, there, same)
+      inside t k gate =
+          let size = sized first t in
+          let within = all_within (segment_count (device first).content) (home_size (device first).content) (device first).size gate.0.low gate.0.exactly gate.1.0 gate.1.1.0 in
+          let same = gate.1.1.1 in
+          omega (arith, size, within, same)
 
       its_own : (k : ℕ) → k < length them.octets → IsItsGate (device first) (gate_at k) (get_or them.octets k 0)
       its_own k low = record {

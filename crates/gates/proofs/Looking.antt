@@ -1,9 +1,10 @@
 -- Reads that change nothing, one after the other, and what follows them.
-use Rattle.std.proofs.Common.{◌≡◌, ◌⊎◌, inl, inr, ◌<◌, ℕ, Bool, IsTrue, List, length, Result, refl, sym, ◌∙◌, ap, subst, arith}
+use Rattle.std.proofs.Common.{◌≡◌, ◌⊎◌, inl, inr, ◌<◌, ◌≤◌, ℕ, ◌+◌, ◌-◌, ◌*◌, Bool, if◌then◌else◌, IsTrue, List, length, Result, refl, sym, ◌∙◌, ap, subst, arith}
+use Rattle.std.proofs.lemmas.Bool.{cases_eq, eq-eqb, ne_eqb}
 use Rattle.disk.specs.Device.{Device}
 use Rattle.disk.specs.declared.DiskError.{DiskError}
-use Rattle.model.specs.Volume.{IsSuperblock, block, number_at, segment_count}
-use Rattle.gates.specs.Gates.{AreGates, HasSegments, IsCount, IsGate, IsLook, IsSeen, WritesBack}
+use Rattle.model.specs.Volume.{IsSuperblock, block, gate_place, home_place, number_at, segment_count}
+use Rattle.gates.specs.Gates.{AreGates, AreWithin, HasSegments, IsCount, IsGate, IsLook, IsSeen, WritesBack, gate_at}
 
 pub tells_then : (a b : Device) → IsLook a b → IsTrue a.tells → IsTrue b.tells
 tells_then a b look t = subst (λ (x : Bool). IsTrue x) (sym look.time.tells) t
@@ -35,11 +36,28 @@ seen_then a b c look first second = record {
   failures = second.failures ∙ first.failures;
 }
 
+-- ---- the places of gates
+
+pub gate_of_format : (i : ℕ) → i ≡ 0 → gate_at i ≡ 148
+unfolding gate_at
+gate_of_format i is = ap (λ (b : Bool). if b then 148 else 4096 * gate_place (i - 1)) (eq-eqb i 0 is)
+
+pub gate_of_segment : (i : ℕ) → (i ≡ 0 → ⊥) → gate_at i ≡ 4096 * gate_place (i - 1)
+unfolding gate_at
+gate_of_segment i other = ap (λ (b : Bool). if b then 148 else 4096 * gate_place (i - 1)) (ne_eqb i 0 other)
+
+-- those of a volume are within it
+pub all_within : (segments blocks size : ℕ) → 1024 ≤ blocks → size ≡ 4096 * home_place segments blocks → AreWithin (segments + 1) size
+all_within segments blocks size low is i there = elim (cases_eq i 0) [
+  | inl first ↦ let at = gate_of_format i first in omega (arith, low, is, at)
+  | inr other ↦ let at = gate_of_segment i other in omega (arith, low, is, there, at)
+]
+
 -- the count that a superblock tells
 pub count_of : (device : Device) (superblock : List ℕ) (n : ℕ) → superblock ≡ block 0 device.content → (size : ℕ) → size ≡ device.size
-    → (IsSuperblock superblock size × (n ≡ number_at 16 4 superblock)) ⊎ ((IsSuperblock superblock size → ⊥) × (n ≡ 0)) → IsCount n device
+    → (IsSuperblock superblock size × (n ≡ number_at 16 4 superblock + 1)) ⊎ ((IsSuperblock superblock size → ⊥) × (n ≡ 0)) → IsCount n device
 count_of device superblock n is size same (inl told) =
-    inl (subst (λ (k : ℕ). IsSuperblock (block 0 device.content) k) same (subst (λ (x : List ℕ). IsSuperblock x size) is told.0), told.1 ∙ ap (number_at 16 4) is)
+    inl (subst (λ (k : ℕ). IsSuperblock (block 0 device.content) k) same (subst (λ (x : List ℕ). IsSuperblock x size) is told.0), told.1 ∙ ap (λ (x : List ℕ). number_at 16 4 x + 1) is)
 count_of device superblock n is size same (inr none) =
     inr (λ it. none.0 (subst (λ (x : List ℕ). IsSuperblock x size) (sym is) (subst (λ (k : ℕ). IsSuperblock (block 0 device.content) k) (sym same) it)), none.1)
 
@@ -52,14 +70,18 @@ module _ (a b : Device) (look : IsLook a b) (seen : IsSeen a b) (t : IsTrue a.te
   segments_on is = subst (λ (n : ℕ). IsSuperblock (block 0 b.content) n) (sym look.time.size) (subst (λ (x : List ℕ). IsSuperblock (block 0 x) a.size) (sym (seen.content t)) is)
 
   pub count_back : (n : ℕ) → IsCount n b → IsCount n a
-  count_back n (inl many) = inl (segments_back many.0, many.1 ∙ ap segment_count (seen.content t))
+  count_back n (inl many) = inl (segments_back many.0, many.1 ∙ ap (λ (x : List ℕ). segment_count x + 1) (seen.content t))
   count_back n (inr none) = inr (λ is. none.0 (segments_on is), none.1)
+
+  pub count_on : (n : ℕ) → IsCount n a → IsCount n b
+  count_on n (inl many) = inl (segments_on many.0, many.1 ∙ ap (λ (x : List ℕ). segment_count x + 1) (sym (seen.content t)))
+  count_on n (inr none) = inr (λ is. none.0 (segments_back is), none.1)
 
   pub gates_back : (octets : List ℕ) → AreGates octets b.content → AreGates octets a.content
   gates_back octets gates = subst (λ (x : List ℕ). AreGates octets x) (seen.content t) gates
 
   pub gate_back : (k : ℕ) → IsGate b k → IsGate a k
-  gate_back k gate = (segments_back gate.0, (gate.1.0, (subst (λ (x : List ℕ). gate.1.0 < segment_count x) (seen.content t) gate.1.1.0, gate.1.1.1)))
+  gate_back k gate = (segments_back gate.0, (gate.1.0, (subst (λ (x : List ℕ). gate.1.0 < segment_count x + 1) (seen.content t) gate.1.1.0, gate.1.1.1)))
 
 -- what is written back after them
 module _ (D : Type 0) (device : D → Device) where

@@ -1,36 +1,36 @@
 -- The gates of a volume, read and written back.
-use Rattle.std.specs.Prelude.{◌≡◌, ◌⊎◌, ◌<◌, ◌≤◌, ℕ, ◌+◌, ◌*◌, IsTrue, List, [], ◌∷◌, length, slice_index, Result, IfErr, IsErr, OnOk}
+use Rattle.std.specs.Prelude.{◌≡◌, ◌⊎◌, ◌<◌, ◌≤◌, ℕ, ◌+◌, ◌-◌, ◌*◌, ◌==◌, if◌then◌else◌, IsTrue, List, [], ◌∷◌, length, slice_index, Result, IfErr, IsErr, OnOk}
 use Rattle.disk.specs.Calls.{Call, Makes}
 use Rattle.disk.specs.Calls.Call.{Write}
 use Rattle.disk.specs.Device.{Device, Elapses, HasCause, LeavesNoMore, LeftNoMore}
 use Rattle.disk.specs.declared.DiskError.{DiskError}
 use Rattle.disk.specs.declared.DiskError.TheVariants.{Memory}
-use Rattle.model.specs.Volume.{IsSuperblock, block, gate_place, segment_count}
+use Rattle.model.specs.Volume.{IsSuperblock, block, format_at, gate_place, segment_count}
 
--- the place of a segment's gate: one octet
-abbrev pub gate_at : ℕ → ℕ
-gate_at s = 4096 * gate_place s
+-- the place of a gate, which is one octet: first the gate of the format, then that of each segment
+unfoldable pub gate_at : ℕ → ℕ
+gate_at i = if i == 0 then format_at else 4096 * gate_place (i - 1)
 
 -- the superblock is one of a volume of this size
 abbrev pub HasSegments : Device → Type 0
 HasSegments device = IsSuperblock (block 0 device.content) device.size
 
--- the gates of that many segments are within a device of this size
+-- that many gates are within a device of this size
 abbrev pub AreWithin : ℕ → ℕ → Type 0
-AreWithin n size = (s : ℕ) → s < n → gate_at s < size
+AreWithin n size = (i : ℕ) → i < n → gate_at i < size
 
--- the number of segments on a device: 0 where its superblock is not that of a volume
+-- the number of gates on a device: 0 where its superblock is not that of a volume
 abbrev pub IsCount : ℕ → Device → Type 0
-IsCount n device = (HasSegments device × (n ≡ segment_count device.content)) ⊎ ((HasSegments device → ⊥) × (n ≡ 0))
+IsCount n device = (HasSegments device × (n ≡ segment_count device.content + 1)) ⊎ ((HasSegments device → ⊥) × (n ≡ 0))
 
 -- these are the octets of the first gates
 abbrev pub AreGates : List ℕ → List ℕ → Type 0
-AreGates octets image = (s : ℕ) → s < length octets → slice_index octets s ≡ slice_index image (gate_at s)
+AreGates octets image = (i : ℕ) → i < length octets → slice_index octets i ≡ slice_index image (gate_at i)
 
--- an octet written to each gate, starting with this segment
+-- an octet written to each gate, starting with this one
 abbrev pub writes_from : ℕ → List ℕ → List Call
-writes_from s [] = []
-writes_from s (octet ∷ octets) = Write (gate_at s) (octet ∷ []) ∷ writes_from (s + 1) octets
+writes_from i [] = []
+writes_from i (octet ∷ octets) = Write (gate_at i) (octet ∷ []) ∷ writes_from (i + 1) octets
 
 -- only reads: nothing was written, and a crash leaves nothing that it could not have left before
 pub record IsLook (old new : Device) : Type 0 where
@@ -48,7 +48,7 @@ pub record IsSeen (old new : Device) : Type 0 where
 -- The octet of each gate was read, and then each was written to its place, in rising place, up to the first refusal.
 pub record WritesThem {D : Type 0} (device : D → Device) (result : Result (Unit {0}) DiskError) (old new : D) : Type 0 where
   pub octets : List ℕ
-  pub few : length octets ≤ 8
+  pub few : length octets ≤ 9
   pub read : D
   pub look : IsLook (device old) (device read)
   pub seen : IsSeen (device old) (device read)
@@ -62,7 +62,7 @@ WritesBack device result old new = WritesThem device result old new ⊎ (IsErr r
 
 -- a place of one of these gates
 abbrev pub IsGate : Device → ℕ → Type 0
-IsGate device k = HasSegments device × ((s : ℕ) × ((s < segment_count device.content) × (k ≡ gate_at s)))
+IsGate device k = HasSegments device × ((i : ℕ) × ((i < segment_count device.content + 1) × (k ≡ gate_at i)))
 
 -- the image with any octets at the gates of that device
 pub record IsTornAtGates (device : Device) (old new : List ℕ) : Type 0 where

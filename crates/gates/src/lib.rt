@@ -1,8 +1,9 @@
-//! Writes the gates of a volume's segments back as they were read, so that the first sync of an opening makes them
-//! durable. `specs/Gates.antt` says which calls that makes. docs/DECISIONS.md says where it is needed: over a file.
+//! Writes the gates of a volume back as they were read, the gate of its format and those of its segments, so that the
+//! first sync of an opening makes them durable. `specs/Gates.antt` says which calls that makes. docs/DECISIONS.md says
+//! where it is needed: over a file.
 #![tactic(auto)]
 
-ghost use Rattle.std.specs.Prelude.{◌≡◌, ◌≢◌, ◌⊎◌, ◌<◌, ◌≤◌, [], ◌∷◌, IfErr, IfOk, IsTrue, OnOk, length, slice_index};
+ghost use Rattle.std.specs.Prelude.{◌≡◌, ◌≢◌, ◌⊎◌, ◌+◌, ◌<◌, ◌≤◌, [], ◌∷◌, IfErr, IfOk, IsTrue, OnOk, length, slice_index};
 ghost use Rattle.disk.specs.Calls.{Makes, Writes};
 ghost use Rattle.disk.specs.Image.{part};
 ghost use Rattle.model.specs.Volume.{IsSuperblock, number_at};
@@ -10,13 +11,13 @@ ghost use Rattle.gates.specs.Gates.{AreGates, AreWithin, IsCount, IsLook, IsSeen
 
 use disk::{Disk, DiskError};
 use std::alloc::Global;
-use volume_format::layout::{BLOCK, gate_block, start_of};
+use volume_format::layout::{BLOCK, FORMAT_AT, gate_block, start_of};
 use volume_format::{read_superblock, zeros};
 
 /// The most gates that a volume has.
-const MOST_GATES: usize = 8;
+const MOST_GATES: usize = 9;
 
-/// Reads the first octet of each gate of a volume, with one read each. Then it writes each octet back to its place,
+/// Reads the octet of each gate of a volume, with one read each. Then it writes each octet back to its place,
 /// with one write each, in rising place. It never syncs. If the superblock is not that of a volume, it writes nothing
 /// and answers `Ok`.
 ///
@@ -40,7 +41,7 @@ pub fn write_gates_back<D: Disk>(alloc: Global, disk: &mut D) -> Result<(), Disk
 
 // Reads the octet of each gate, and then writes each back.
 fn write_back<D: Disk>(disk: &mut D, gates: &mut [u8]) -> Result<(), DiskError>
-    requires few { length gates.old ≤ 8 }
+    requires few { length gates.old ≤ 9 }
     requires within { AreWithin (length gates.old) (D.device disk.old).size }
     requires count { IsTrue (D.device disk.old).tells → IsCount (length gates.old) (D.device disk.old) }
     ensures calls { WritesBack D.device result disk.old disk.new }
@@ -55,7 +56,7 @@ fn count_gates<D: Disk>(disk: &mut D, superblock: &mut Vec<u8>) -> Result<usize,
     requires { length superblock.old.items ≡ 4096 }
     ensures look { IsLook (D.device disk.old) (D.device disk.new) }
     ensures seen { OnOk result (IsSeen (D.device disk.old) (D.device disk.new)) }
-    ensures few { IfOk result (λ count. count ≤ 8) }
+    ensures few { IfOk result (λ count. count ≤ 9) }
     ensures within { IfOk result (λ count. AreWithin count (D.device disk.old).size) }
     ensures count { IsTrue (D.device disk.old).tells → IfOk result (λ count. IsCount count (D.device disk.old)) }
     ensures fault { IfErr result (λ error. (error ≡ DiskError.Fault) × ((D.device disk.new).failures ≢ (D.device disk.old).failures)) }
@@ -81,22 +82,35 @@ fn read_first<D: Disk>(disk: &mut D, block: &mut Vec<u8>) -> Result<(), DiskErro
     disk.read(0, block.as_mut_slice())
 }
 
-// The number of segments that a superblock states, on a device of `size` octets.
+// The number of gates of the volume with this superblock, on a device of `size` octets.
 fn count_told(superblock: &[u8], size: u64) -> usize
     requires { length superblock.now ≡ 4096 }
-    ensures count { (IsSuperblock superblock.now size × (result ≡ number_at 16 4 superblock.now)) ⊎ ((IsSuperblock superblock.now size → ⊥) × (result ≡ 0)) }
-    ensures few { result ≤ 8 }
+    ensures count { (IsSuperblock superblock.now size × (result ≡ number_at 16 4 superblock.now + 1)) ⊎ ((IsSuperblock superblock.now size → ⊥) × (result ≡ 0)) }
+    ensures few { result ≤ 9 }
     ensures within { AreWithin result size }
 {
     match read_superblock(superblock, size) {
-        Some(sizes) => sizes.segments as usize,
+        Some(sizes) => sizes.segments as usize + 1,
         None => 0,
     }
 }
 
-// Reads the octet of each gate, starting with the first segment.
+// The place of a gate: first that of the format, then those of the segments.
+#[tactic(auto, unfolding(crate::specs::Gates::gate_at))]
+fn place_of(gate: u32) -> u64
+    requires { gate < 9 }
+    ensures { result ≡ gate_at gate }
+{
+    if gate == 0 {
+        FORMAT_AT as u64
+    } else {
+        start_of(gate_block(gate - 1))
+    }
+}
+
+// Reads the octet of each gate.
 fn read_gates<D: Disk>(disk: &mut D, gates: &mut [u8]) -> Result<(), DiskError>
-    requires few { length gates.old ≤ 8 }
+    requires few { length gates.old ≤ 9 }
     requires within { AreWithin (length gates.old) (D.device disk.old).size }
     ensures look { IsLook (D.device disk.old) (D.device disk.new) }
     ensures seen { OnOk result (IsSeen (D.device disk.old) (D.device disk.new)) }
@@ -109,22 +123,22 @@ fn read_gates<D: Disk>(disk: &mut D, gates: &mut [u8]) -> Result<(), DiskError>
     Ok(())
 }
 
-fn read_gate<D: Disk>(disk: &mut D, segment: u32) -> Result<u8, DiskError>
-    requires low { segment < 8 }
-    requires within { gate_at segment < (D.device disk.old).size }
+fn read_gate<D: Disk>(disk: &mut D, gate: u32) -> Result<u8, DiskError>
+    requires low { gate < 9 }
+    requires within { gate_at gate < (D.device disk.old).size }
     ensures look { IsLook (D.device disk.old) (D.device disk.new) }
     ensures seen { OnOk result (IsSeen (D.device disk.old) (D.device disk.new)) }
-    ensures value { IsTrue (D.device disk.old).tells → IfOk result (λ octet. octet ≡ slice_index (D.device disk.old).content (gate_at segment)) }
+    ensures value { IsTrue (D.device disk.old).tells → IfOk result (λ octet. octet ≡ slice_index (D.device disk.old).content (gate_at gate)) }
     ensures fault { IfErr result (λ error. (error ≡ DiskError.Fault) × ((D.device disk.new).failures ≢ (D.device disk.old).failures)) }
 {
-    let mut gate = [0];
-    disk.read(start_of(gate_block(segment)), &mut gate)?;
-    Ok(gate[0])
+    let mut octet = [0];
+    disk.read(place_of(gate), &mut octet)?;
+    Ok(octet[0])
 }
 
-// Writes an octet to each gate, starting with the first segment.
+// Writes an octet to each gate.
 fn write_gates<D: Disk>(disk: &mut D, gates: &[u8]) -> Result<(), DiskError>
-    requires few { length gates.now ≤ 8 }
+    requires few { length gates.now ≤ 9 }
     requires within { AreWithin (length gates.now) (D.device disk.old).size }
     ensures { Makes D.device (writes_from 0 gates.now) result disk.old disk.new }
 {
@@ -134,10 +148,10 @@ fn write_gates<D: Disk>(disk: &mut D, gates: &[u8]) -> Result<(), DiskError>
     Ok(())
 }
 
-fn write_gate<D: Disk>(disk: &mut D, segment: u32, octet: u8) -> Result<(), DiskError>
-    requires low { segment < 8 }
-    requires within { gate_at segment < (D.device disk.old).size }
-    ensures { Writes (gate_at segment) (octet ∷ []) result (D.device disk.old) (D.device disk.new) }
+fn write_gate<D: Disk>(disk: &mut D, gate: u32, octet: u8) -> Result<(), DiskError>
+    requires low { gate < 9 }
+    requires within { gate_at gate < (D.device disk.old).size }
+    ensures { Writes (gate_at gate) (octet ∷ []) result (D.device disk.old) (D.device disk.new) }
 {
-    disk.write(start_of(gate_block(segment)), &[octet])
+    disk.write(place_of(gate), &[octet])
 }

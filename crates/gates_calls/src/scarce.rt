@@ -11,12 +11,14 @@ pub struct Scarce {
 }
 
 impl Disk for Scarce {
-    ghost use Rattle.std.specs.Prelude.{true};
+    ghost use Rattle.std.specs.Prelude.{false, true};
     ghost use Rattle.memdisk.specs.MemDisk.{counts_content, memory_device};
 
     ghost device = { λ s. memory_device s.disk };
 
-    ghost grows = { true };
+    ghost write_grows = { true };
+
+    ghost sync_grows = { false };
 
     fn len(&self) -> u64 {
         self.disk.len()

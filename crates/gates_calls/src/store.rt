@@ -18,6 +18,9 @@ pub const BLOCKS: u64 = 1024;
 /// Octets of a block.
 pub const BLOCK: usize = 4096;
 
+/// The format of a volume.
+const FORMAT: u32 = 2;
+
 /// What is asked of the device.
 #[derive(Clone, Copy)]
 pub enum Ask<'a> {
@@ -106,7 +109,7 @@ fn formatted(alloc: Global, segments: u32) -> Option<MemDisk>
 {
     let octets = BLOCK as u64 * (1 + 514 * u64::from(segments) + BLOCKS);
     match MemDisk::new(alloc, octets) {
-        Ok(mut disk) => match format_with(alloc, &mut disk, segments, BLOCKS, &[0; 128]) {
+        Ok(mut disk) => match format_with(alloc, &mut disk, segments, BLOCKS, &[0; 128], FORMAT) {
             Ok(()) => Some(disk),
             Err(_) => None,
         },

@@ -10,7 +10,9 @@ const FAULT: Said = Said::Refused(DiskError::Fault);
 
 const MEMORY: Said = Said::Refused(DiskError::Memory);
 
-// The gates of eight segments: each is followed by a descriptor and 512 images.
+// The gate of the format, and the gates of eight segments: each is followed by a descriptor and 512 images.
+const FORMAT: u64 = 148;
+
 const GATE_1: u64 = 4096;
 
 const GATE_2: u64 = 515 * 4096;
@@ -20,6 +22,7 @@ const GATE_3: u64 = 1029 * 4096;
 const GATE_8: u64 = 3599 * 4096;
 
 const ALL: &[u64] = &[
+    148,
     4096,
     515 * 4096,
     1029 * 4096,
@@ -48,12 +51,14 @@ const VOLUMES: &[Case<'static>] = &[
                 Said::Done,
             ),
             (Ask::Back, Said::Done),
-            (Ask::Asked(8, 0), Said::Done),
+            (Ask::Asked(9, 0), Said::Done),
+            (Ask::Hold(&[FORMAT], 2), Said::Done),
             (Ask::Hold(&[GATE_1, GATE_3], 1), Said::Done),
             (Ask::Hold(&[GATE_8], 7), Said::Done),
             (Ask::Hold(&[GATE_1 + 1], 5), Said::Done),
             (Ask::Hold(OTHERS, 0), Said::Done),
             (Ask::Crash(Pick::New), Said::Done),
+            (Ask::Hold(&[FORMAT], 2), Said::Done),
             (Ask::Hold(&[GATE_1, GATE_3], 1), Said::Done),
             (Ask::Hold(&[GATE_8], 7), Said::Done),
             (Ask::Hold(OTHERS, 0), Said::Done),
@@ -67,20 +72,20 @@ const VOLUMES: &[Case<'static>] = &[
             (Ask::Count(NOWHERE, 0), Said::Done),
             (Ask::Crash(Pick::Fill(NOWHERE)), Said::Done),
             (Ask::Hold(ALL, NOWHERE), Said::Done),
-            (Ask::Count(NOWHERE, 8), Said::Done),
+            (Ask::Count(NOWHERE, 9), Said::Done),
         ],
     ),
     (
-        "the gate of one segment",
+        "a volume of one segment",
         New::Volume(1),
         &[
             (Ask::Put(&[(GATE_1, 1), (GATE_2, 1)]), Said::Done),
             (Ask::Back, Said::Done),
-            (Ask::Asked(1, 0), Said::Done),
+            (Ask::Asked(2, 0), Said::Done),
             (Ask::Hold(&[GATE_1, GATE_2], 1), Said::Done),
             (Ask::Crash(Pick::Fill(NOWHERE)), Said::Done),
-            (Ask::Hold(&[GATE_1], NOWHERE), Said::Done),
-            (Ask::Count(NOWHERE, 1), Said::Done),
+            (Ask::Hold(&[FORMAT, GATE_1], NOWHERE), Said::Done),
+            (Ask::Count(NOWHERE, 2), Said::Done),
         ],
     ),
     (
@@ -89,14 +94,14 @@ const VOLUMES: &[Case<'static>] = &[
         &[
             (Ask::Put(&[(GATE_2, 1)]), Said::Done),
             (Ask::CachedBack, Said::Done),
-            (Ask::Asked(8, 1), Said::Done),
+            (Ask::Asked(9, 1), Said::Done),
             (Ask::Hold(&[GATE_2], 1), Said::Done),
             (Ask::FailKind(DiskCall::Sync, 1), Said::Done),
             (Ask::CachedBack, FAULT),
-            (Ask::Asked(8, 1), Said::Done),
+            (Ask::Asked(9, 1), Said::Done),
             (Ask::Crash(Pick::Fill(NOWHERE)), Said::Done),
             (Ask::Hold(ALL, NOWHERE), Said::Done),
-            (Ask::Count(NOWHERE, 8), Said::Done),
+            (Ask::Count(NOWHERE, 9), Said::Done),
         ],
     ),
     (
@@ -105,7 +110,7 @@ const VOLUMES: &[Case<'static>] = &[
         &[
             (Ask::FailKind(DiskCall::Sync, 1), Said::Done),
             (Ask::Back, Said::Done),
-            (Ask::Asked(8, 0), Said::Done),
+            (Ask::Asked(9, 0), Said::Done),
         ],
     ),
 ];
@@ -130,12 +135,12 @@ const NO_VOLUMES: &[Case<'static>] = &[
             (Ask::Put(&[(16, 8), (13, 5)]), Said::Done),
             (Ask::Back, Said::Done),
             (Ask::Asked(0, 0), Said::Done),
-            (Ask::Put(&[(13, 4), (148, 1)]), Said::Done),
+            (Ask::Put(&[(13, 4), (149, 1)]), Said::Done),
             (Ask::Back, Said::Done),
             (Ask::Asked(0, 0), Said::Done),
-            (Ask::Put(&[(148, 0)]), Said::Done),
+            (Ask::Put(&[(149, 0), (FORMAT, 1)]), Said::Done),
             (Ask::Back, Said::Done),
-            (Ask::Asked(8, 0), Said::Done),
+            (Ask::Asked(9, 0), Said::Done),
         ],
     ),
 ];
@@ -195,10 +200,10 @@ fn where_no_volume_stands(rt: HostRuntime) -> Result<(), Fail> {
     Ok(())
 }
 
-/// The number of the first read whose fault has an unexpected answer, among those of the superblock and of eight gates.
-/// Expected is that nothing was written. A tenth read is not made.
+/// The number of the first read whose fault has an unexpected answer, among those of the superblock and of nine gates.
+/// Expected is that nothing was written. An eleventh read is not made.
 fn first_read(alloc: Global, mut store: Store) -> Option<u64> {
-    for n in 1..=9 {
+    for n in 1..=10 {
         let rows = [
             (Ask::Asked(0, 0), Said::Done),
             (Ask::FailKind(DiskCall::Read, n), Said::Done),
@@ -211,20 +216,20 @@ fn first_read(alloc: Global, mut store: Store) -> Option<u64> {
         }
     }
     let rows = [
-        (Ask::FailKind(DiskCall::Read, 10), Said::Done),
+        (Ask::FailKind(DiskCall::Read, 11), Said::Done),
         (Ask::Back, Said::Done),
-        (Ask::Asked(8, 0), Said::Done),
+        (Ask::Asked(9, 0), Said::Done),
     ];
     match played(alloc, store, &rows) {
         Ok(_) => None,
-        Err(_) => Some(10),
+        Err(_) => Some(11),
     }
 }
 
 /// The number of the first write whose fault has an unexpected answer. Expected is that it was the last write, and that
 /// the gates up to its own are touched.
 fn first_write(alloc: Global, mut store: Store) -> Option<u64> {
-    for n in 1..=8 {
+    for n in 1..=9 {
         let rows = [
             (Ask::Put(&[]), Said::Done),
             (Ask::FailKind(DiskCall::Write, n), Said::Done),
@@ -244,15 +249,15 @@ fn first_write(alloc: Global, mut store: Store) -> Option<u64> {
 /// The number of the first write whose refusal for want of memory has an unexpected answer. Expected is an unchanged
 /// content.
 fn first_growth(alloc: Global, mut store: Store) -> Option<u64> {
-    for n in 1..=8 {
+    for n in 1..=9 {
         let rows = [
             (Ask::Put(&[(GATE_1, 1), (GATE_8, 1)]), Said::Done),
             (Ask::ScarceBack(n), MEMORY),
             (Ask::Asked(n - 1, 0), Said::Done),
             (Ask::Hold(&[GATE_1, GATE_8], 1), Said::Done),
             (Ask::Hold(OTHERS, 0), Said::Done),
-            (Ask::ScarceBack(9), Said::Done),
-            (Ask::Asked(8, 0), Said::Done),
+            (Ask::ScarceBack(10), Said::Done),
+            (Ask::Asked(9, 0), Said::Done),
         ];
         match played(alloc, store, &rows) {
             Ok(next) => store = next,

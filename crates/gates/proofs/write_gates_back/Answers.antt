@@ -1,6 +1,19 @@
+use Rattle.std.proofs.Common.{ℕ, Bool, IsTrue, [], ◌∷◌, sym, subst}
+use Rattle.std.proofs.lemmas.List.{length-take-le}
+use Rattle.gates.specs.Gates.{IsCount}
 use Rattle.gates.proofs.Leaving.{leaves_then}
-use Rattle.gates.proofs.Looking.{back_then}
+use Rattle.gates.proofs.Looking.{back_then, count_on}
 use Rattle.gates.proofs.write_gates_back.Goals as goal
+
+pub write_back-requires-clause-count : goal.write_back-requires-clause-count
+write_back-requires-clause-count g c t =
+    let first = g.D.Disk.device c.args.disk.now in
+    let now = g.D.Disk.device c.count_gates.new.disk in
+    let look = c.count_gates.ensures.look in
+    let told : IsTrue first.tells = subst (λ (b : Bool). IsTrue b) look.time.tells t in
+    subst (λ (n : ℕ). IsCount n now)
+    (sym (length-take-le c.in_ok-count-in-Ok.count (0 ∷ 0 ∷ 0 ∷ 0 ∷ 0 ∷ 0 ∷ 0 ∷ 0 ∷ 0 ∷ []) c.in_ok-count-in-Ok.ensures.few))
+    (count_on first now look c.in_ok-count-in-Ok.ensures.seen told c.in_ok-count-in-Ok.count (c.in_ok-count-in-Ok.ensures.count told))
 
 pub returns-in_ok-count-in-Ok-clause-calls : goal.returns-in_ok-count-in-Ok-clause-calls
 returns-in_ok-count-in-Ok-clause-calls g c =
