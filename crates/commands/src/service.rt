@@ -22,7 +22,6 @@ use std::sync::atomic::AtomicU64;
 use std::sync::{Arc, Wait};
 use std::thread::Threads;
 use std::time::Clock;
-use volume_format::layout::VERSION;
 
 /// What is asked of a server.
 #[derive(Clone, Copy)]
@@ -254,7 +253,7 @@ fn serve_parts<
     } = parts;
     let facts = VolumeFacts {
         host,
-        format: VERSION,
+        format: journal.format_number(),
         blocks,
         inodes,
     };

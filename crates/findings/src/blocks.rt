@@ -1,10 +1,10 @@
-//! Looks at the forms that the rule of blocks asks for: each inode, its slot, and its pointers.
+//! Looks at the forms that the rule of blocks asks for: each inode, its slot, and its blocks of pointers.
 
 use crate::device::{Stop, first_set};
 use crate::grouped::Grouped;
-use crate::reads::{Entry, Volume};
+use crate::reads::{Entry, Pointers, Volume};
 use disk::Disk;
-use fs_layout::inodes::{DIRECT_POINTERS, FREE_KIND, MOST_BLOCKS, MOST_OCTETS, SPARE_AT};
+use fs_layout::inodes::{FREE_KIND, SPARE_AT, most_octets};
 use fs_layout::slots::NAME_MAX;
 use std::alloc::Global;
 
@@ -16,7 +16,7 @@ pub(crate) fn look<D: Disk>(volume: &mut Volume<D>) -> Result<(), Stop> {
             look_at_free(volume.alloc, &entry)?;
         } else {
             look_at_slot(volume.alloc, &entry)?;
-            look_at_inode(volume.alloc, &entry)?;
+            look_at_inode(volume, &entry)?;
             look_at_pointers(volume, &entry)?;
         }
     }
@@ -48,42 +48,82 @@ fn look_at_slot(alloc: Global, entry: &Entry) -> Result<(), Stop> {
     Ok(())
 }
 
-/// Looks at the size of a file, at the spare octets of its inode, and whether it has an indirect block exactly if it needs
-/// one.
-fn look_at_inode(alloc: Global, entry: &Entry) -> Result<(), Stop> {
+/// Looks at the size of a file, which the format limits, and at the spare octets of its inode.
+fn look_at_inode<D: Disk>(volume: &Volume<D>, entry: &Entry) -> Result<(), Stop> {
+    let alloc = volume.alloc;
+    let format = volume.sizes.format;
     let size = entry.size();
-    wrong_unless!(alloc; size <= MOST_OCTETS, "{entry} has {} octets, where a file has at most {}", Grouped(size), Grouped(MOST_OCTETS));
+    let most = most_octets(format);
+    wrong_unless!(alloc; size <= most,
+        "{entry} has {} octets, where a file has at most {} in format {format}", Grouped(size), Grouped(most));
     if let Some(at) = first_set(&entry.inode, SPARE_AT) {
         wrong!(alloc; "octet {at} of the inode of {entry} isn't zero");
     }
-    let needs_indirect = entry.block_count() > DIRECT_POINTERS as usize;
-    wrong_unless!(alloc; !needs_indirect || entry.indirect() != 0, "{entry} of {} octets has no indirect block", Grouped(size));
-    wrong_unless!(alloc; needs_indirect || entry.indirect() == 0, "{entry} of {} octets has an indirect block", Grouped(size));
     Ok(())
 }
 
-/// Looks at the pointers of a file.
+/// Looks whether a file has the blocks of pointers that it needs, and no pointer after those that it needs.
 fn look_at_pointers<D: Disk>(volume: &mut Volume<D>, entry: &Entry) -> Result<(), Stop> {
+    look_at_double(volume, entry)?;
+    let mut pointers = Pointers::of(volume, entry)?;
+    look_at_tables(volume, entry, &pointers)?;
+    look_at_rest(volume, entry, &mut pointers)
+}
+
+/// Looks whether a file has a double-indirect block exactly if it needs one.
+fn look_at_double<D: Disk>(volume: &Volume<D>, entry: &Entry) -> Result<(), Stop> {
     let alloc = volume.alloc;
     let size = Grouped(entry.size());
-    if entry.indirect() != 0 {
-        look_at_pointer(volume, entry, entry.indirect())?;
+    let double = entry.double();
+    let needs_double = entry.table_count() > 1;
+    wrong_unless!(alloc; !needs_double || double != 0, "{entry} of {size} octets has no double-indirect block");
+    wrong_unless!(alloc; needs_double || double == 0, "{entry} of {size} octets has a double-indirect block");
+    if needs_double {
+        look_at_pointer(volume, entry, double)?;
     }
-    let pointers = volume.pointers(entry)?;
-    for index in 0..MOST_BLOCKS as usize {
-        let block = pointers.get(index);
-        if index < entry.block_count() {
-            wrong_unless!(alloc; block != 0, "{entry} of {size} octets has no pointer {index}");
-            look_at_pointer(volume, entry, block)?;
+    Ok(())
+}
+
+/// Looks whether a file has exactly the blocks of pointers that it needs.
+fn look_at_tables<D: Disk>(
+    volume: &Volume<D>,
+    entry: &Entry,
+    pointers: &Pointers,
+) -> Result<(), Stop> {
+    let alloc = volume.alloc;
+    let size = Grouped(entry.size());
+    for place in 0..entry.table_places() {
+        let table = pointers.table(place);
+        if place < entry.table_count() {
+            wrong_unless!(alloc; table != 0, "{entry} of {size} octets has no block of pointers {place}");
+            look_at_pointer(volume, entry, table)?;
         } else {
-            wrong_unless!(alloc; block == 0, "{entry} of {size} octets has a pointer {index}");
+            wrong_unless!(alloc; table == 0, "{entry} of {size} octets has a block of pointers {place}");
         }
     }
     Ok(())
 }
 
+/// Looks for pointers after those that a file needs.
+fn look_at_rest<D: Disk>(
+    volume: &mut Volume<D>,
+    entry: &Entry,
+    pointers: &mut Pointers,
+) -> Result<(), Stop> {
+    let size = Grouped(entry.size());
+    for index in entry.block_count()..entry.pointer_places() {
+        let block = pointers.get(volume, index)?;
+        wrong_unless!(volume.alloc; block == 0, "{entry} of {size} octets has a pointer {index}");
+    }
+    Ok(())
+}
+
 /// Looks at a pointer of a file, which has to lead into the data.
-fn look_at_pointer<D: Disk>(volume: &Volume<D>, entry: &Entry, block: u32) -> Result<(), Stop> {
+pub(crate) fn look_at_pointer<D: Disk>(
+    volume: &Volume<D>,
+    entry: &Entry,
+    block: u32,
+) -> Result<(), Stop> {
     wrong_unless!(volume.alloc; volume.data_start() <= block && block < volume.sizes.blocks,
         "{entry} points to block {block}, which is none of the data");
     Ok(())

@@ -1,8 +1,9 @@
-//! Looks at the owners of the blocks, at the bitmap and at the names, where each inode has the form that it has to have.
+//! Looks at the owners of the blocks, at the bitmap and at the names, if each inode has the form that it has to have.
 
+use crate::blocks::look_at_pointer;
 use crate::device::Stop;
 use crate::grouped::Grouped;
-use crate::reads::{Entry, Record, Volume};
+use crate::reads::{Entry, Pointers, Record, Volume};
 use disk::Disk;
 use fs_layout::bits::is_set;
 use fs_layout::marks::BLOCK_BITS;
@@ -36,18 +37,35 @@ pub(crate) fn look<D: Disk>(volume: &mut Volume<D>) -> Result<Names, Stop> {
     look_at_names(volume)
 }
 
-/// Notes the owner of a file's blocks.
+/// Notes the owner of a file's blocks: its double-indirect block, its blocks of pointers, and those of its content.
 fn claim_all<D: Disk>(
     volume: &mut Volume<D>,
     owners: &mut [u32],
     entry: &Entry,
 ) -> Result<(), Stop> {
-    if entry.indirect() != 0 {
-        claim(volume, owners, entry, entry.indirect())?;
+    if entry.double() != 0 {
+        claim(volume, owners, entry, entry.double())?;
     }
-    let pointers = volume.pointers(entry)?;
+    let mut pointers = Pointers::of(volume, entry)?;
+    for index in 0..entry.table_count() {
+        claim(volume, owners, entry, pointers.table(index))?;
+    }
+    claim_content(volume, owners, entry, &mut pointers)
+}
+
+/// Notes the owner of the blocks of a file's content, for each of which it has a pointer into the data.
+fn claim_content<D: Disk>(
+    volume: &mut Volume<D>,
+    owners: &mut [u32],
+    entry: &Entry,
+    pointers: &mut Pointers,
+) -> Result<(), Stop> {
+    let size = Grouped(entry.size());
     for index in 0..entry.block_count() {
-        claim(volume, owners, entry, pointers.get(index))?;
+        let block = pointers.get(volume, index)?;
+        wrong_unless!(volume.alloc; block != 0, "{entry} of {size} octets has no pointer {index}");
+        look_at_pointer(volume, entry, block)?;
+        claim(volume, owners, entry, block)?;
     }
     Ok(())
 }

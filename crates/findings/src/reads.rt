@@ -5,7 +5,8 @@ use crate::device::{Block, Stop, read};
 use crate::superblock::{self, Sizes};
 use disk::Disk;
 use fs_layout::inodes::{
-    FILE_KIND, INDIRECT_AT, INODES_AT, MOST_BLOCKS, MOST_OCTETS, POINTERS_AT, SIZE_AT,
+    BLOCK_POINTERS, DIRECT_POINTERS, DOUBLE_AT, FILE_KIND, INDIRECT_AT, INODES_AT, MOST_OCTETS,
+    POINTERS_AT, SIZE_AT, content_blocks,
 };
 use fs_layout::records::RECORD_SIZE;
 use fs_layout::slots::NAME_MAX;
@@ -15,11 +16,6 @@ use volume_format::layout::{BLOCK, number32, number64};
 
 /// The octets of an inode or a slot.
 pub(crate) type Record = [u8; RECORD_SIZE];
-
-/// The octets of the pointers of an inode, and of all pointers of a file.
-const DIRECT_SIZE: usize = INDIRECT_AT - POINTERS_AT;
-
-const POINTERS_SIZE: usize = DIRECT_SIZE + BLOCK;
 
 /// The inodes of a block.
 const IN_A_BLOCK: u32 = 64;
@@ -52,14 +48,37 @@ impl Entry {
         number64(&self.inode, SIZE_AT)
     }
 
-    /// The blocks of the content.
-    pub fn block_count(&self) -> usize {
-        (self.size().min(MOST_OCTETS) as usize).div_ceil(BLOCK)
+    /// The pointer to the double-indirect block; 0 if there is none.
+    pub fn double(&self) -> u32 {
+        number32(&self.inode, DOUBLE_AT)
     }
 
-    /// The pointer to the indirect block; 0 if there is none.
-    pub fn indirect(&self) -> u32 {
-        number32(&self.inode, INDIRECT_AT)
+    /// The number of blocks of the content, which is the number of pointers that the file needs.
+    pub fn block_count(&self) -> u32 {
+        content_blocks(self.size().min(MOST_OCTETS))
+    }
+
+    /// The number of blocks of pointers that the file needs.
+    pub fn table_count(&self) -> u32 {
+        self.block_count()
+            .saturating_sub(DIRECT_POINTERS)
+            .div_ceil(BLOCK_POINTERS)
+    }
+
+    /// The number of places for blocks of pointers: one in the inode, and those in a double-indirect block.
+    pub fn table_places(&self) -> u32 {
+        if self.double() == 0 {
+            1
+        } else {
+            1 + BLOCK_POINTERS
+        }
+    }
+
+    /// The number of places for pointers: those in the inode, and those in the blocks of pointers that the file needs.
+    pub fn pointer_places(&self) -> u32 {
+        BLOCK_POINTERS
+            .saturating_mul(self.table_count())
+            .saturating_add(DIRECT_POINTERS)
     }
 
     /// The name, of which a slot has room for 63 octets.
@@ -69,17 +88,61 @@ impl Entry {
     }
 }
 
-/// The pointers of a file.
+/// The pointers of a file. The block of pointers that was read last is kept, so that a walk in order reads each once.
 #[derive(Drop)]
-pub(crate) struct Pointers([u8; POINTERS_SIZE]);
+pub(crate) struct Pointers {
+    inode: Record,
+    /// The double-indirect block; zeros if there is none.
+    double: Block,
+    /// The block of pointers that was read last, and its number; zeros, and 0, before the first is read.
+    table: Block,
+    number: u32,
+}
 
 impl Pointers {
-    /// The pointer of this index, counted from 0; 0 if there is none.
-    pub fn get(&self, index: usize) -> u32 {
-        if index >= MOST_BLOCKS as usize {
+    /// The pointers of a file, whose double-indirect block is one of the volume's.
+    pub fn of<D: Disk>(volume: &mut Volume<D>, entry: &Entry) -> Result<Pointers, Stop> {
+        let mut double = [0; BLOCK];
+        if entry.double() != 0 {
+            volume.read(entry.double(), 0, &mut double)?;
+        }
+        Ok(Pointers {
+            inode: entry.inode,
+            double,
+            table: [0; BLOCK],
+            number: 0,
+        })
+    }
+
+    /// The number of the block of pointers of this index, counted from 0; 0 if there is none.
+    pub fn table(&self, index: u32) -> u32 {
+        if index == 0 {
+            return number32(&self.inode, INDIRECT_AT);
+        }
+        let place = index - 1;
+        if place >= BLOCK_POINTERS {
             return 0;
         }
-        number32(&self.0, 4 * index)
+        number32(&self.double, 4 * place as usize)
+    }
+
+    /// The pointer of this index, counted from 0, whose block of pointers is one of the volume's.
+    pub fn get<D: Disk>(&mut self, volume: &mut Volume<D>, index: u32) -> Result<u32, Stop> {
+        if index < DIRECT_POINTERS {
+            return Ok(number32(&self.inode, POINTERS_AT + 4 * index as usize));
+        }
+        let place = index - DIRECT_POINTERS;
+        self.keep(volume, self.table(place / BLOCK_POINTERS))?;
+        Ok(number32(&self.table, 4 * (place % BLOCK_POINTERS) as usize))
+    }
+
+    /// Reads a block of pointers, unless it was read last.
+    fn keep<D: Disk>(&mut self, volume: &mut Volume<D>, number: u32) -> Result<(), Stop> {
+        if number != self.number {
+            volume.read(number, 0, &mut self.table)?;
+            self.number = number;
+        }
+        Ok(())
     }
 }
 
@@ -140,16 +203,6 @@ impl<D: Disk> Volume<D> {
             inode,
             slot,
         })
-    }
-
-    /// The pointers of a file, whose indirect block is one of the volume's.
-    pub fn pointers(&mut self, entry: &Entry) -> Result<Pointers, Stop> {
-        let mut pointers = [0; POINTERS_SIZE];
-        pointers[..DIRECT_SIZE].copy_from_slice(&entry.inode[POINTERS_AT..INDIRECT_AT]);
-        if entry.indirect() != 0 {
-            self.read(entry.indirect(), 0, &mut pointers[DIRECT_SIZE..])?;
-        }
-        Ok(Pointers(pointers))
     }
 
     /// The first octets of a file: those in its first block.

@@ -1,14 +1,15 @@
 //! Looks at the length of a device and at its superblock.
 
-use crate::device::{Block, Stop, first_set, read_block};
+use crate::device::{Block, Stop, read_block};
 use crate::grouped::Grouped;
 use disk::Disk;
 use names::{HOST_LIMIT, is_host};
 use std::alloc::Global;
 use volume_format::layout::{
-    BLOCK, FEWEST_BLOCKS, LABEL_AT, MAGIC, MOST_BLOCKS, ONE_SEGMENT, SEGMENTS, VERSION, home_block,
-    number32,
+    BLOCK, FEWEST_BLOCKS, FORMAT_AT, LABEL_AT, MAGIC, MOST_BLOCKS, ONE_SEGMENT, SEGMENTS, VERSION,
+    home_block, number32,
 };
+use volume_format::read_format;
 
 /// Where the label has the length of its host, and the host.
 const HOST_SIZE_AT: usize = LABEL_AT + 4;
@@ -30,6 +31,7 @@ pub(crate) struct Sizes {
     pub blocks: u32,
     pub segments: u32,
     pub inodes: u32,
+    pub format: u32,
 }
 
 /// Looks at the superblock and the length of a device, and answers the sizes of its volume.
@@ -61,10 +63,11 @@ fn look_at_front(alloc: Global, superblock: &Block) -> Result<Sizes, Stop> {
         blocks,
         segments,
         inodes: number32(superblock, LABEL_AT),
+        format: read_format(superblock),
     })
 }
 
-/// Looks at the label, and at what stands behind its host.
+/// Looks at the label, and at the octets after its host.
 fn look_at_label(alloc: Global, superblock: &Block, sizes: Sizes) -> Result<(), Stop> {
     let inodes = sizes.inodes;
     wrong_unless!(alloc; FEWEST_INODES <= inodes && inodes <= MOST_INODES && inodes % INODES_IN_A_BLOCK == 0,
@@ -77,8 +80,13 @@ fn look_at_label(alloc: Global, superblock: &Block, sizes: Sizes) -> Result<(), 
     let host_end = HOST_AT + size;
     let host = &superblock[HOST_AT..host_end];
     wrong_unless!(alloc; is_host(host), "the label's host '{}' is no name of a server", host.escape_ascii());
-    if let Some(at) = first_set(superblock, host_end) {
-        wrong!(alloc; "octet {at} of the superblock isn't zero");
+    look_at_rest(alloc, superblock, host_end)
+}
+
+/// Looks at the octets after the host, which are zero. Only the gate of the format may be any octet.
+fn look_at_rest(alloc: Global, superblock: &Block, from: usize) -> Result<(), Stop> {
+    for at in from..BLOCK {
+        wrong_unless!(alloc; at == FORMAT_AT || superblock[at] == 0, "octet {at} of the superblock isn't zero");
     }
     Ok(())
 }

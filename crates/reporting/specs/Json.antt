@@ -1,6 +1,7 @@
 -- The state of a volume as JSON data. The members of an object are in the order of their keys.
 use Rattle.std.specs.Prelude.{ℕ, ◌-◌, List, [], ◌∷◌, codes, map}
 use Rattle.std.specs.Str.Lossy.{utf8_lossy}
+use Rattle.model.specs.Room.{largest_file, octets_asked}
 use Rattle.model.specs.Stream.{Octets}
 use Rattle.serde_json.specs.Data.{Data, array, member, no_members, number, object, string, unsigned}
 use Rattle.serde_json.specs.View.{items_of}
@@ -24,7 +25,7 @@ share_data s =
 
 -- the octets of an overview, and those up to which its group takes articles
 abbrev pub overview_data : ℕ → Data
-overview_data size = object (member (codes "room") (natural 4222976) (member (codes "used") (natural size) no_members))
+overview_data size = object (member (codes "room") (natural (largest_file - octets_asked)) (member (codes "used") (natural size) no_members))
 
 abbrev pub group_data : GroupStatus → Data
 group_data g =

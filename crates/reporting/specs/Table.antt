@@ -1,6 +1,7 @@
 -- The state of a volume for a person (this project's own form, docs/FORMATS.md).
 use Rattle.std.specs.Prelude.{ℕ, ◌-◌, ◌*◌, ◌/◌, ◌==◌, if◌then◌else◌, max, List, [], ◌∷◌, ◌++◌, codes, decimal, fold, length, map, replicate}
 use Rattle.std.specs.List.{flat_map}
+use Rattle.model.specs.Room.{largest_file, octets_asked}
 use Rattle.model.specs.Stream.{Octets}
 use Rattle.reporting.specs.declared.state.GroupStatus.{GroupStatus}
 use Rattle.reporting.specs.declared.state.Share.{Share}
@@ -57,7 +58,7 @@ row_of g = record {
   high = decimal g.high;
   count = decimal g.count;
   status = g.status ∷ [];
-  overview = in_per_cent g.overview 4222976;
+  overview = in_per_cent g.overview (largest_file - octets_asked);
 }
 
 abbrev pub rows_of : List GroupStatus → List Row

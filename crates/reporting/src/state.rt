@@ -4,8 +4,9 @@ ghost use Rattle.std.specs.Prelude.{◌≡◌, ◌-◌, ◌<◌, ◌≤◌};
 
 use model::Text;
 
-/// The octets of an overview up to which its group takes articles: 12,288 less than the largest file has.
-pub const OVERVIEW_ROOM: u32 = 4_222_976;
+/// The octets of an overview up to which its group takes articles: 12,288 less than the largest file of format 2 has. Each
+/// volume that is served has this format.
+pub const OVERVIEW_ROOM: u32 = 268_423_168;
 
 /// How much there is of something, and how much of it is used.
 #[derive(Clone, Copy, Debug, PartialEq, Eq)]
@@ -45,7 +46,7 @@ pub struct GroupStatus {
 #[derive(Drop)]
 pub struct VolumeStatus {
     pub host: Text,
-    /// The version of the volume's layout.
+    /// The volume's format, 1 or 2.
     pub format: u32,
     pub blocks: Share,
     pub inodes: Share,

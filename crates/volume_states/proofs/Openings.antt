@@ -9,22 +9,26 @@ use Rattle.kernel.specs.Opening.{IsDamaged}
 use Rattle.kernel.specs.declared.opening.OpenError.{OpenError}
 use Rattle.kernel.specs.declared.opening.OpenError.TheVariants.{Damaged, NotAVolume}
 use Rattle.labels.specs.Label.{IsNoLabel}
+use Rattle.model.specs.Volume.{format_number}
 use Rattle.opening.proofs.Laws.{is_damaged, no_label}
 use Rattle.opening.specs.Standing.{IsDamagedVolume, IsNoNewsVolume}
 use Rattle.reporting.specs.declared.state.VolumeStatus.{VolumeStatus}
 use Rattle.volume_states.specs.Told.{IsStateIn, IsStateOf}
 
 module _ {D : Type 0} (device : D → Device) (first : D) (one : JournalView D) (r : Result VolumeStatus OpenError) where
-  pub told : Opens device first one → (IsTrue (device one.disk).tells → IfOk r (IsStateIn one.label one.size one.blocks))
+  pub told : Opens device first one
+      → (IsTrue (device one.disk).tells → IfOk r (IsStateIn one.format one.label one.size one.blocks))
       → IsTrue (device first).tells → IfOk r (IsStateOf (device first).content)
   told o its tells =
       let tells_one : IsTrue (device one.disk).tells = subst IsTrue (sym o.time.tells) tells in
-      IfOk-weaker r (IsStateIn one.label one.size one.blocks) (IsStateOf (device first).content)
+      let count : length one.blocks ≡ one.size = (o.whole tells_one).count in
+      let format : format_number (device first).content ≡ one.format = o.format tells in
+      IfOk-weaker r (IsStateIn one.format one.label one.size one.blocks) (IsStateOf (device first).content)
       (λ s is. record {
         label = one.label;
         blocks = one.blocks;
         volume = o.stands tells;
-        state = subst (λ (n : ℕ). IsStateIn one.label n one.blocks s) (sym (o.whole tells_one).count) is;
+        state = subst (λ (t : ℕ × ℕ). IsStateIn t.0 one.label t.1 one.blocks s) (λ i. (sym format i, sym count i)) is;
       })
       (its tells_one)
 

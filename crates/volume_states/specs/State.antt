@@ -2,12 +2,11 @@
 use Rattle.std.specs.Prelude.{◌≡◌, ℕ, ◌+◌, ◌-◌, List, length, map}
 use Rattle.model.specs.Files.{free_blocks, free_inodes}
 use Rattle.model.specs.Indexed.{GroupIndex}
-use Rattle.model.specs.Layout.{Holds}
+use Rattle.model.specs.Layout.{HoldsIn}
 use Rattle.model.specs.Spool.{NewsGroup, Spool, contents, count, groups, high, low}
 use Rattle.model.specs.SpoolFiles.{overview_file}
 use Rattle.model.specs.Stream.{Octets}
 use Rattle.index.specs.Filing.{end_of}
-use Rattle.index.specs.View.{IndexView, Indexes}
 use Rattle.reporting.specs.declared.state.GroupStatus.{GroupStatus}
 use Rattle.reporting.specs.declared.state.Share.{Share}
 use Rattle.reporting.specs.declared.state.VolumeStatus.{VolumeStatus}
@@ -39,24 +38,18 @@ group_status S g = record {
 
 -- ---- the volume
 
--- the state of a volume whose blocks hold some changes of the host
-pub record IsStatusOf (host : Octets) (inodes : ℕ) (blocks : List Octets) (s : VolumeStatus) : Type 0 where
+-- the state of a volume of this format whose blocks hold some changes of the host
+pub record IsStatusOf (format : ℕ) (host : Octets) (inodes : ℕ) (blocks : List Octets) (s : VolumeStatus) : Type 0 where
   pub changes : Spool
-  pub held : Holds host inodes blocks changes
+  pub held : HoldsIn format host inodes blocks changes
   pub host_is : s.host ≡ host
-  pub format_is : s.format ≡ 1
+  pub format_is : s.format ≡ format
   pub blocks_are : AreBlocks blocks s.blocks
   pub inodes_are : AreInodes inodes blocks s.inodes
   pub changes_are : s.changes ≡ length changes
   pub groups_are : s.groups.items ≡ map (group_status changes) (groups changes)
 
 -- ---- the same by the index
-
--- the blocks hold some changes of the host, and this is their index
-pub record IsIndexed (host : Octets) (inodes : ℕ) (blocks : List Octets) (index : IndexView) : Type 0 where
-  pub changes : Spool
-  pub held : Holds host inodes blocks changes
-  pub indexed : Indexes changes index
 
 -- the state of a group that the index keeps so
 abbrev pub of_index : GroupIndex → GroupStatus

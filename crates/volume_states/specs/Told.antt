@@ -2,20 +2,20 @@
 use Rattle.std.specs.Prelude.{ℕ, List, length}
 use Rattle.model.specs.Layout.{IsLabel}
 use Rattle.model.specs.Stream.{Octets}
-use Rattle.model.specs.Volume.{StandsFor}
+use Rattle.model.specs.Volume.{StandsFor, format_number}
 use Rattle.reporting.specs.declared.state.VolumeStatus.{VolumeStatus}
 use Rattle.volume_states.specs.State.{IsStatusOf}
 
--- the state of a volume with this label and these blocks, this many
-pub record IsStateIn (label : Octets) (size : ℕ) (blocks : List Octets) (s : VolumeStatus) : Type 0 where
+-- the state of a volume of this format with this label and these blocks, this many
+pub record IsStateIn (format : ℕ) (label : Octets) (size : ℕ) (blocks : List Octets) (s : VolumeStatus) : Type 0 where
   pub inodes : ℕ
   pub host : Octets
   pub labelled : IsLabel label size inodes host
-  pub state : IsStatusOf host inodes blocks s
+  pub state : IsStatusOf format host inodes blocks s
 
--- the state of the volume for which an image stands
+-- the state of the volume for which an image stands, in the format that the image has
 pub record IsStateOf (image : Octets) (s : VolumeStatus) : Type 0 where
   pub label : Octets
   pub blocks : List Octets
   pub volume : StandsFor image label blocks
-  pub state : IsStateIn label (length blocks) blocks s
+  pub state : IsStateIn (format_number image) label (length blocks) blocks s

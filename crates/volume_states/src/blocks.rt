@@ -4,57 +4,42 @@ ghost use Rattle.std.specs.Prelude.{◌≡◌, ◌<◌, ◌^◌, IfErr, IfOk, ma
 ghost use Rattle.index.specs.Filing.{EndBelow, end_of};
 ghost use Rattle.index.specs.Shown.{shown};
 ghost use Rattle.model.specs.Files.{HasRoom};
-ghost use Rattle.model.specs.Layout.{Holds};
+ghost use Rattle.model.specs.Layout.{HoldsIn};
 ghost use Rattle.model.specs.Spool.{Spool};
-ghost use Rattle.volume_states.specs.State.{AreBlocks, AreInodes, IsIndexed, IsStatusOf, of_index};
+ghost use Rattle.volume_states.specs.State.{AreBlocks, AreInodes, IsStatusOf, of_index};
 
 use fs_layout::inodes::free_inode_count;
 use fs_layout::marks::free_block_count;
-use index::{Group, Index};
+use index::Group;
 use model::Text;
 use reporting::{GroupStatus, Share, VolumeStatus};
 use spool_opening::open;
 use spool_reading::OpenError;
 use std::alloc::{AllocError, Global};
 use volume::Blocks;
-use volume_format::layout::VERSION;
 
-/// The state of the volume of a host in these blocks, whatever they contain. `Damaged` exactly if they hold no spool of
-/// the host (docs/FORMATS.md), `Memory` if a growth was refused.
+/// The state of the volume of a host in the blocks of a volume of this format, whatever they contain. `Damaged` exactly
+/// if they hold no spool of the host in the files of the format (docs/FORMATS.md), `Memory` if a growth was refused.
 pub fn volume_status<B: Blocks>(
     alloc: Global,
     blocks: &B,
     inodes: u32,
+    format: u32,
     host: &[u8],
 ) -> Result<VolumeStatus, OpenError>
     requires { HasRoom inodes (B.blocks blocks.now) }
-    ensures ok { IfOk result (IsStatusOf host.now inodes (B.blocks blocks.now)) }
-    ensures damaged { IfErr result (λ e. e ≡ OpenError.Damaged → (S : Spool) → Holds host.now inodes (B.blocks blocks.now) S → ⊥) }
+    ensures ok { IfOk result (IsStatusOf format host.now inodes (B.blocks blocks.now)) }
+    ensures damaged { IfErr result (λ e. e ≡ OpenError.Damaged → (S : Spool) → HoldsIn format host.now inodes (B.blocks blocks.now) S → ⊥) }
 {
-    let opened = match open(alloc, blocks, inodes, host) {
-        Ok(opened) => opened,
+    let index = match open(alloc, blocks, inodes, format, host) {
+        Ok(opened) => opened.index,
         Err(error) => return Err(error),
     };
-    Ok(status_by(alloc, blocks, inodes, host, &opened.index)?)
-}
-
-/// The state of a volume whose index is known. Refused only for want of memory.
-fn status_by<B: Blocks>(
-    alloc: Global,
-    blocks: &B,
-    inodes: u32,
-    host: &[u8],
-    index: &Index,
-) -> Result<VolumeStatus, AllocError>
-    requires room { HasRoom inodes (B.blocks blocks.now) }
-    requires indexed { IsIndexed host.now inodes (B.blocks blocks.now) index.now }
-    ensures { IfOk result (IsStatusOf host.now inodes (B.blocks blocks.now)) }
-{
     let host = Text::new(Vec::from_slice(alloc, host)?);
     let groups = statuses(alloc, index.groups())?;
     Ok(VolumeStatus {
         host,
-        format: VERSION,
+        format,
         blocks: block_share(blocks, inodes),
         inodes: inode_share(blocks, inodes),
         changes: index.len(),

@@ -21,6 +21,8 @@ pub(crate) enum Grammar {
     Blocks,
     /// A number of inodes.
     Inodes,
+    /// The format of a volume.
+    Format,
     /// The name of a group.
     Group,
     /// Whether posting is permitted.
@@ -46,6 +48,7 @@ impl Grammar {
             Grammar::Host => is_host(octets),
             Grammar::Blocks => number(octets).is_some_and(|n| are_sizes(n, FEWEST_INODES)),
             Grammar::Inodes => number(octets).is_some_and(|n| are_sizes(MOST_BLOCKS, n)),
+            Grammar::Format => word == "1" || word == "2",
             Grammar::Group => is_group_name(octets),
             Grammar::Status => word == "y" || word == "n",
             Grammar::Moment => number(octets).is_some_and(|moment| moment < MOMENT_LIMIT),
@@ -63,6 +66,7 @@ impl Grammar {
             Grammar::Host => "is no name of a server",
             Grammar::Blocks => "is no number from 1024 to 65536",
             Grammar::Inodes => "is no multiple of 64 from 64 to 32768",
+            Grammar::Format => "is neither 1 nor 2",
             Grammar::Group => "is no name of a group",
             Grammar::Status => "is neither y nor n",
             Grammar::Moment => "is no number of seconds before the year 10000",

@@ -1,15 +1,17 @@
 //! Reads the program's words.
 
+ghost use Rattle.std.specs.Prelude.{◌≤◌, IfOk};
+
 use crate::syntax::syntax;
 use crate::table::{
-    ALLOW, BLOCKS, CACHE, CRLF, DESCRIPTION, HOST, INODES, JSON, Kind, LISTEN, MOMENT, NAME,
-    NUMBER, PATH, PORT, QUIET, STATUS, SUBCOMMANDS, Subcommand, Word,
+    ALLOW, BLOCKS, CACHE, CRLF, DESCRIPTION, FORMAT, HOST, INODES, JSON, Kind, LISTEN, MOMENT,
+    NAME, NUMBER, PATH, PORT, QUIET, STATUS, SUBCOMMANDS, Subcommand, Word,
 };
 use clap::ArgMatches;
 use clap::error::{Error, ErrorKind};
 use names::is_host;
 use networks::{Network, read_endpoint};
-use new_volume::{Plan, are_sizes};
+use new_volume::{FORMAT_1, FORMAT_2, Plan, are_sizes};
 use printing::{DONE, Failure, NOT_UNDERSTOOD};
 use script::number;
 use std::alloc::{AllocError, Global};
@@ -91,8 +93,8 @@ fn read_request<'a>(alloc: Global, matches: &ArgMatches<'a>) -> Result<Asked<'a>
     };
     check_words(alloc, name, words)?;
     match name {
-        "sim" => Ok(Asked::Simulation(read_plan(alloc, words)?, words.get_flag(CACHE))),
-        "format" => Ok(Asked::Format(word(words, PATH)?, read_plan(alloc, words)?)),
+        "sim" => Ok(Asked::Simulation(read_plan_of_memory(alloc, words)?, words.get_flag(CACHE))),
+        "format" => Ok(Asked::Format(word(words, PATH)?, read_plan_of_file(alloc, words)?)),
         "group" => Ok(Asked::Change(word(words, PATH)?, read_group(alloc, words)?)),
         "expire" => Ok(Asked::Change(word(words, PATH)?, read_expiry(alloc, words)?)),
         "serve" => Ok(Asked::Serve(read_service(alloc, words)?)),
@@ -146,19 +148,50 @@ fn word<'a>(words: &ArgMatches<'a>, name: &str) -> Result<&'a str, Failure> {
     words.get_str(name).ok_or(Failure::Bad)
 }
 
-/// The volume that the words describe.
-fn read_plan<'a>(alloc: Global, words: &ArgMatches<'a>) -> Result<Plan<'a>, Failure> {
+/// The volume in memory that the words describe.
+fn read_plan_of_memory<'a>(alloc: Global, words: &ArgMatches<'a>) -> Result<Plan<'a>, Failure> {
+    read_plan(alloc, words, FORMAT_2)
+}
+
+/// The volume in a file that the words describe.
+fn read_plan_of_file<'a>(alloc: Global, words: &ArgMatches<'a>) -> Result<Plan<'a>, Failure> {
+    let format = read_format(words)?;
+    read_plan(alloc, words, format)
+}
+
+/// The format that the words name.
+fn read_format(words: &ArgMatches<'_>) -> Result<u32, Failure>
+    ensures { IfOk result (λ format. (1 ≤ format) × (format ≤ 2)) }
+{
+    match word(words, FORMAT)? {
+        "1" => Ok(FORMAT_1),
+        "2" => Ok(FORMAT_2),
+        _ => Err(Failure::Bad),
+    }
+}
+
+/// The volume of this format that the words describe.
+fn read_plan<'a>(alloc: Global, words: &ArgMatches<'a>, format: u32) -> Result<Plan<'a>, Failure>
+    requires { (1 ≤ format) × (format ≤ 2) }
+{
     let host = word(words, HOST)?;
     let blocks = word(words, BLOCKS)?;
     let inodes = word(words, INODES)?;
-    match plan_of(host.as_bytes(), blocks.as_bytes(), inodes.as_bytes()) {
+    match plan_of(
+        host.as_bytes(),
+        blocks.as_bytes(),
+        inodes.as_bytes(),
+        format,
+    ) {
         Some(plan) => Ok(plan),
         None => Err(Failure::bad_word(alloc, "--inodes", inodes, "is too many for so few blocks")),
     }
 }
 
 /// The plan of a volume, if these words follow their grammars and the blocks have room for so many inodes.
-fn plan_of<'a>(host: &'a [u8], blocks: &[u8], inodes: &[u8]) -> Option<Plan<'a>> {
+fn plan_of<'a>(host: &'a [u8], blocks: &[u8], inodes: &[u8], format: u32) -> Option<Plan<'a>>
+    requires { (1 ≤ format) × (format ≤ 2) }
+{
     let blocks = number(blocks)?;
     let inodes = number(inodes)?;
     if !is_host(host) || !are_sizes(blocks, inodes) {
@@ -168,6 +201,7 @@ fn plan_of<'a>(host: &'a [u8], blocks: &[u8], inodes: &[u8]) -> Option<Plan<'a>>
         host,
         blocks,
         inodes,
+        format,
     })
 }
 

@@ -8,6 +8,8 @@ pub(crate) const BLOCKS: &str = "blocks";
 
 pub(crate) const INODES: &str = "inodes";
 
+pub(crate) const FORMAT: &str = "format";
+
 pub(crate) const CACHE: &str = "cache";
 
 pub(crate) const PATH: &str = "path";
@@ -119,6 +121,14 @@ const INODES_OF_MEMORY: Word = Word {
     ..INODES_OF_FILE
 };
 
+const FORMAT_OF_FILE: Word = Word {
+    id: FORMAT,
+    value: "F",
+    help: "The format of the volume, 1 or 2",
+    kind: Kind::Default("2"),
+    grammar: Grammar::Format,
+};
+
 /// What `serve` does, in short.
 const SERVING: &str = "\
 Prints `listening ADDRESS:PORT` for each address, that of --port first. One server at a time serves a volume. \
@@ -144,7 +154,13 @@ pub(crate) const SUBCOMMANDS: &[Subcommand] = &[
         name: "format",
         about: "Makes an empty volume in a file, in place of any file there",
         after_help: None,
-        words: &[VOLUME, SERVER, BLOCKS_OF_FILE, INODES_OF_FILE],
+        words: &[
+            VOLUME,
+            SERVER,
+            BLOCKS_OF_FILE,
+            INODES_OF_FILE,
+            FORMAT_OF_FILE,
+        ],
         one_of: &[],
     },
     Subcommand {

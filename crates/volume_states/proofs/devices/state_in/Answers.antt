@@ -1,7 +1,7 @@
 use Rattle.std.proofs.Common.{◌≡◌, ℕ, ◌∙◌, List, length, sym, subst, arith, rules}
 use Rattle.std.specs.List.{All}
 use Rattle.std.proofs.lemmas.Result.{IfErr-weaker, IfOk-weaker}
-use Rattle.model.specs.Layout.{Holds, IsLabel}
+use Rattle.model.specs.Layout.{HoldsIn, IsLabel}
 use Rattle.volume_states.specs.State.{IsStatusOf}
 use Rattle.volume_states.proofs.devices.state_in.Goals as goal
 
@@ -33,8 +33,8 @@ returns-in-Ok-loaded-clause-told g c = λ tells.
       inodes = c.in-Some.label.inodes;
       host = c.in-Some.label.host.now;
       labelled = labelled;
-      state = subst (λ (h : List ℕ). IsStatusOf h c.in-Some.label.inodes c.args.journal.now.blocks s) named
-          (subst (λ (bs : List (List ℕ)). IsStatusOf c.deref.result.now c.in-Some.label.inodes bs s) blocks is);
+      state = subst (λ (t : ℕ × (List ℕ × List (List ℕ))). IsStatusOf t.0 t.1.0 c.in-Some.label.inodes t.1.1 s)
+          (λ i. (c.format_number-format.ensures.format i, (named i, blocks i))) is;
     })
     c.state_over.ensures.ok
 
@@ -51,7 +51,7 @@ returns-in-Ok-loaded-clause-damaged g c =
       holds_none = λ tells S holds.
           let blocks : c.in-Ok-loaded.volume.seen ≡ c.args.journal.now.blocks =
           c.in-Ok-loaded.ensures.seen ∙ c.in-Ok-loaded.ensures.blocks tells in
-          none is S (subst (λ (bs : List (List ℕ)). Holds c.deref.result.now c.in-Some.label.inodes bs S) (sym blocks)
-          (subst (λ (h : List ℕ). Holds h c.in-Some.label.inodes c.args.journal.now.blocks S) (sym named) holds));
+          none is S (subst (λ (t : ℕ × (List ℕ × List (List ℕ))). HoldsIn t.0 t.1.0 c.in-Some.label.inodes t.1.1 S)
+          (λ i. (sym c.format_number-format.ensures.format i, (sym named i, sym blocks i))) holds);
     })
     c.state_over.ensures.damaged
