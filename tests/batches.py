@@ -30,13 +30,12 @@ MANY, VOLUMES, KILLS_EACH = 1000, 4, 5
 # a volume with room for them is small, and soon made and opened
 SMALL = {"blocks": 2048, "inodes": 1088}
 KINDS = ("filed", "here", "no group")
-FULL_GROUP = "one of its groups takes no more articles (E6 Full)"
 NO_END = "no empty line follows the header"
 # the causes for which an article is refused, in the order in which they are counted
 CAUSES = (
     "it holds NUL or a single CR, or its last line has no end", NO_END, "a line of the header is no field", "a field occurs twice",
     "a mandatory field is missing", "the message-id isn't valid", "its groups aren't 1 to 16 different group names",
-    "its header has more than 8192 octets, or the article more than 262144", "the message-id is one of this host's own", FULL_GROUP)
+    "its header has more than 8192 octets, or the article more than 262144", "the message-id is one of this host's own")
 # what begins a line of progress in the place of the last one, and the line
 ERASE = "\r\x1b[K"
 PROGRESS = re.compile(r"(\d+) articles, (\d+) octets, (\d+) articles a second")
@@ -277,27 +276,6 @@ def a_full_volume_ends_an_import(volume):
     larger_one.make_group()
     import_whole(larger_one, batch(texts), filed=len(texts))
     assert larger_one.export() == batch(texts)
-
-
-def a_full_group_ends_no_import(volume):
-    """Its articles are refused, also those for other groups too. The others are filed, before them and after them."""
-    make_groups(volume)
-    references = b"References: " + b" ".join(b"<%s@a.example>" % (b"r" * 200) for _ in range(36))
-    large = [with_lf(text_of(number)).replace(b"\n\n", b"\n" + references + b"\n\n", 1) for number in range(560)]
-    both = large[-1].replace(b"Newsgroups: x.a", b"Newsgroups: x.b,x.a").replace(b"<559@", b"<both@")
-    others = [with_lf(text_of("other%d" % number)).replace(b"Newsgroups: x.a", b"Newsgroups: x.b") for number in range(4)]
-    done = imported(volume, batch([*large, others[0], both, *others[1:]]))
-    there = ids_of(volume)
-    filed = len(there) - len(others)
-    assert 500 < filed < len(large) and there[filed:] == [message_id("other%d" % number) for number in range(4)], there
-    refused = [*enumerate(large, 1)][filed:] + [(len(large) + 2, both)]
-    assert (done.returncode, done.stdout.decode()) == (1, counts(filed=len(there), causes=[FULL_GROUP] * len(refused))), done
-    places = {number: len(batch([*large, others[0]][:number - 1])) for number, _ in refused}
-    said = ["newsd: article %d at octet %d: %s" % (*it, FULL_GROUP) for it in places.items()]
-    assert done.stderr.decode().splitlines() == said, done.stderr
-    # one of the full group that comes first keeps none back
-    done = imported(volume, batch([both, with_lf(text_of("last")).replace(b"Newsgroups: x.a", b"Newsgroups: x.b")]))
-    assert (done.returncode, done.stdout.decode()) == (1, counts(filed=1, causes=[FULL_GROUP])), done
 
 
 def a_stream_that_fails_ends_an_import(volume):
@@ -582,7 +560,6 @@ TESTS = [
     each_article_has_an_outcome,
     what_is_no_batch_ends_an_import,
     a_full_volume_ends_an_import,
-    a_full_group_ends_no_import,
     a_stream_that_fails_ends_an_import,
     what_can_not_be_imported_into_is_refused,
     a_batch_comes_in_any_pieces,

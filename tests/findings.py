@@ -15,7 +15,11 @@ BLOCK = 4096
 SEGMENT_BLOCKS = 514
 RECORD = 64
 # in an inode
-SIZE_AT, POINTERS_AT, INDIRECT_AT, SPARE_AT = 4, 12, 52, 56
+SIZE_AT, POINTERS_AT, INDIRECT_AT, DOUBLE_AT, SPARE_AT = 4, 12, 52, 56, 60
+# the gate of the format in the superblock, and the first of the zeros after it
+FORMAT_AT, REST_AT = 148, 149
+# the largest files of the two formats
+MOST_OCTETS_1, MOST_OCTETS_2 = 4235264, 268435456
 # in a descriptor
 COUNT_AT, ZEROS_AT, NUMBERS_AT = 16, 20, 24
 # the inodes of the files, the last of which is free
@@ -85,17 +89,21 @@ class Image:
         at = (self.block(0) if at is None else at) + block // 8
         return at, bytes([self.octets[at] ^ 1 << block % 8])
 
+    def changed(self, changes):
+        """The octets with these at these places, the later over the earlier."""
+        whole = bytearray(self.octets)
+        for at, changed in changes:
+            whole[at:at + len(changed)] = changed
+        return bytes(whole)
+
     def write(self, changes=()):
         """Writes the volume anew, with these octets at these places."""
         with open(self.path, "wb") as file:
-            file.write(self.octets)
-            for at, changed in changes:
-                file.seek(at)
-                file.write(changed)
+            file.write(self.changed(changes))
 
 
 def small_one(volume):
-    """A volume with a group, an article of one block, one with an indirect block and an expiry. All segments are closed."""
+    """A volume with a group, an article of one block, one with a block of pointers and an expiry. All segments are closed."""
     small = volume.another("small", blocks=1024, inodes=64)
     small.make_group()
     with small.serve() as server, server.call() as caller:
@@ -126,22 +134,17 @@ def assert_said(volume, words, said):
     assert (done.returncode, done.stdout, done.stderr.decode()) == (1, b"", "newsd: %s\n" % said), (words, said, done)
 
 
-def assert_rows(volume, image, refusal, rows, stays=True):
-    """Each row has changes of the octets and what they are told as, which stands behind the refusal."""
+def assert_rows(volume, image, refusal, rows, stays=True, accepted=4):
+    """Each row has changes of the octets and what they are told as, which stands behind the refusal. The volume as it was has
+    this many accepted changes."""
     for changes, said in rows:
         for word in ("dump", "status"):
             image.write(changes)
             assert_said(volume, [word, volume.path], "%s: %s" % (refusal, said) if said else refusal)
             if stays:
-                assert all(octets_at(volume.path, at, len(changed)) == changed for at, changed in changes), said
+                assert octets(volume.path) == image.changed(changes), said
     image.write()
-    assert volume.dump()[0] == "spool %d" % (4 if stays else 3)
-
-
-def octets_at(path, at, count):
-    with open(path, "rb") as file:
-        file.seek(at)
-        return file.read(count)
+    assert volume.dump()[0] == "spool %d" % accepted
 
 
 def what_is_no_volume_is_told(volume):
@@ -165,13 +168,13 @@ def what_is_no_volume_is_told(volume):
         (25, b"\x1b", r"the label's host '\x1bews.example' is no name of a server"),
         (37, b"\1", "octet 37 of the superblock isn't zero"),
         (147, b"\1", "octet 147 of the superblock isn't zero"),
-        (148, b"\1", "octet 148 of the superblock isn't zero"),
+        (REST_AT, b"\1", "octet 149 of the superblock isn't zero"),
         (4095, b"\xff", "octet 4095 of the superblock isn't zero"),
     ]
     assert_rows(small, image, NOT_A_VOLUME, [([(at, changed)], said) for at, changed, said in rows])
     # the first thing that is wrong is told
     both = [(0, b"Y"), (8, b"\2")]
-    assert_rows(small, image, NOT_A_VOLUME, [(both, rows[0][2]), (both[1:] + [(148, b"\1")], rows[2][2])])
+    assert_rows(small, image, NOT_A_VOLUME, [(both, rows[0][2]), (both[1:] + [(REST_AT, b"\1")], rows[2][2])])
 
 
 def a_length_is_told(volume):
@@ -209,7 +212,7 @@ def open_segments_are_told(volume):
         ([(at, image.octets[image.descriptor(first):][:8])], "open segments %d and %d both have number 1" % (first, second)),
         # a segment is open whose descriptor was never written
         ([(image.gate(7), b"\1")], "open segment 7 counts 0 images, where a batch has 1 to 512"),
-    ], stays=False)
+    ], stays=False, accepted=3)
 
 
 def images_of_open_segments_are_carried_home_first(volume):
@@ -224,7 +227,7 @@ def images_of_open_segments_are_carried_home_first(volume):
         ([(image.image(second, 2) + RECORD * 40, b"\1")], "inode 40 is a file, and its slot is free"),
         ([(article_slot + 1, b"z")], "file z.0000000002 has a name of no known form"),
         ([(image.image(second, 2) + RECORD * ARTICLE, b"\2")], "inode 3 is of kind 2, where 0 is free and 1 is a file"),
-    ], stays=False)
+    ], stays=False, accepted=3)
     # what an image lies over isn't looked at
     image.write([image.bit(1000), (image.image(first, 0), b"\0")])
     assert small.dump()[0] == "spool 3"
@@ -244,11 +247,14 @@ def damaged_inodes_are_told(volume):
         (slot(EXPIRY), b"\x40", "the slot of inode 5 has a name of 64 octets, where names have 1 to 63"),
         (slot(EXPIRY) + 13, b"\1", "octet 13 of the slot of inode 5, behind the name, isn't zero"),
         (slot(EXPIRY) + 63, b"\1", "octet 63 of the slot of inode 5, behind the name, isn't zero"),
-        (inode(ARTICLE) + SIZE_AT, u64(4235265), "file a.0000000002 has 4,235,265 octets, where a file has at most 4,235,264"),
-        (inode(ARTICLE) + SIZE_AT, u64(10**18), "file a.0000000002 has %s octets, where a file has at most 4,235,264" % grouped(10**18)),
-        (inode(ARTICLE) + SPARE_AT + 7, b"\1", "octet 63 of the inode of file a.0000000002 isn't zero"),
-        (inode(LONG) + INDIRECT_AT, u32(0), "file a.0000000003 of %s octets has no indirect block" % grouped(image.size(LONG))),
-        (inode(ARTICLE) + INDIRECT_AT, u32(4), "file a.0000000002 of %d octets has an indirect block" % size),
+        (inode(ARTICLE) + SIZE_AT, u64(MOST_OCTETS_2 + 1), too_large("a.0000000002", MOST_OCTETS_2 + 1, 2)),
+        (inode(ARTICLE) + SIZE_AT, u64(10**18), too_large("a.0000000002", 10**18, 2)),
+        (inode(ARTICLE) + SPARE_AT, b"\1", "octet 60 of the inode of file a.0000000002 isn't zero"),
+        (inode(ARTICLE) + SPARE_AT + 3, b"\1", "octet 63 of the inode of file a.0000000002 isn't zero"),
+        (inode(ARTICLE) + SIZE_AT, u64(MOST_OCTETS_1 + 1), "file a.0000000002 of 4,235,265 octets has no double-indirect block"),
+        (inode(ARTICLE) + DOUBLE_AT, u32(4), "file a.0000000002 of %d octets has a double-indirect block" % size),
+        (inode(LONG) + INDIRECT_AT, u32(0), "file a.0000000003 of %s octets has no block of pointers 0" % grouped(image.size(LONG))),
+        (inode(ARTICLE) + INDIRECT_AT, u32(4), "file a.0000000002 of %d octets has a block of pointers 0" % size),
         (inode(ARTICLE) + POINTERS_AT, u32(3), "file a.0000000002 points to block 3, which is none of the data"),
         (inode(ARTICLE) + POINTERS_AT, u32(1024), "file a.0000000002 points to block 1024, which is none of the data"),
         (inode(LONG) + INDIRECT_AT, u32(1024), "file a.0000000003 points to block 1024, which is none of the data"),
@@ -258,12 +264,77 @@ def damaged_inodes_are_told(volume):
     ]
     # octets of a name that a terminal wouldn't show
     odd = [(slot(ARTICLE) + 1, b"\x1b.\xff"), (inode(ARTICLE) + SPARE_AT, b"\1")]
-    told = [(odd, r"octet 56 of the inode of file \x1b.\xff000000002 isn't zero")]
+    told = [(odd, r"octet 60 of the inode of file \x1b.\xff000000002 isn't zero")]
+    # whatever is at the gate of format 1, a refusal leaves it there
+    for gate in (b"\0", b"\1", b"\xff"):
+        large = [(FORMAT_AT, gate), (inode(ARTICLE) + SIZE_AT, u64(MOST_OCTETS_1 + 1))]
+        told.append((large, too_large("a.0000000002", MOST_OCTETS_1 + 1, 1)))
     assert_rows(small, image, DAMAGED, told + [([(at, changed)], said) for at, changed, said in rows])
+
+
+def too_large(name, size, of_format):
+    most = MOST_OCTETS_1 if of_format == 1 else MOST_OCTETS_2
+    return "file %s has %s octets, where a file has at most %s in format %d" % (name, grouped(size), grouped(most), of_format)
 
 
 def grouped(number):
     return format(number, ",")
+
+
+def a_large_file(image, double, tables, first):
+    """The changes that give the free inode a file of 1,035 blocks: its double-indirect block, its two blocks of pointers, and
+    those of its content from `first` on."""
+    pointers = list(range(first, first + 1035))
+    inode = u32(1) + u64(4096 * len(pointers)) + b"".join(map(u32, pointers[:10] + [tables[0], double]))
+    marks = bytearray(image.octets[image.block(0):][:BLOCK])
+    for block in [double, *tables, *pointers]:
+        marks[block // 8] |= 1 << block % 8
+    return [
+        (image.block(0), bytes(marks)),
+        (image.inode(FREE), inode),
+        (image.slot(FREE), b"\1z"),
+        (image.block(double), u32(tables[1])),
+        (image.block(tables[0]), b"".join(map(u32, pointers[10:1034]))),
+        (image.block(tables[1]), u32(pointers[1034])),
+    ]
+
+
+def damaged_large_files_are_told(volume):
+    large = volume.another("large", blocks=2048, inodes=64)
+    large.make_group()
+    large.dump()
+    image = Image(large.path)
+    double, tables, first, outside = 500, (501, 502), 503, 2048
+    base = a_large_file(image, double, tables, first)
+    inode, double_at = image.inode(FREE), image.block(double)
+    first_table, second_table = (image.block(table) for table in tables)
+    free = first + 1035
+    of_size = "file z of 4,239,360 octets has "
+    none_of_data = "file z points to block %d, which is none of the data"
+    rows = [
+        ([], "file z has a name of no known form"),
+        ([(FORMAT_AT, b"\0")], too_large("z", 4239360, 1)),
+        ([(inode + SIZE_AT, u64(MOST_OCTETS_2))], "file z of 268,435,456 octets has no block of pointers 2"),
+        ([(inode + SIZE_AT, u64(MOST_OCTETS_1))], "file z of 4,235,264 octets has a double-indirect block"),
+        ([(inode + DOUBLE_AT, u32(0))], of_size + "no double-indirect block"),
+        ([(inode + DOUBLE_AT, u32(3))], none_of_data % 3),
+        ([(inode + DOUBLE_AT, u32(outside))], none_of_data % outside),
+        ([(inode + INDIRECT_AT, u32(0))], of_size + "no block of pointers 0"),
+        ([(double_at, u32(0))], of_size + "no block of pointers 1"),
+        ([(double_at, u32(1))], none_of_data % 1),
+        ([(double_at, u32(outside))], none_of_data % outside),
+        ([(double_at + 4, u32(free))], of_size + "a block of pointers 2"),
+        ([(double_at + 4 * 1023, u32(free))], of_size + "a block of pointers 1024"),
+        ([(second_table + 4, u32(free))], of_size + "a pointer 1035"),
+        ([(second_table + 4 * 1023, u32(free))], of_size + "a pointer 2057"),
+        ([(first_table, u32(0))], of_size + "no pointer 10"),
+        ([(second_table, u32(0))], of_size + "no pointer 1034"),
+        ([(second_table, u32(outside))], none_of_data % outside),
+        ([(second_table, u32(double))], "block %d is owned twice by file z" % double),
+        ([(double_at, u32(double))], "block %d is owned twice by file z" % double),
+        ([(first_table + 4 * 1023, u32(tables[1]))], "block %d is owned twice by file z" % tables[1]),
+    ]
+    assert_rows(large, image, DAMAGED, [(base + changes, said) for changes, said in rows], accepted=1)
 
 
 def damaged_owners_are_told(volume):
@@ -337,7 +408,7 @@ def what_is_not_found_is_refused_as_ever(volume):
 def each_command_tells(volume):
     small, image = small_one(volume)
     for changes, said in (
-        ([(148, b"\1")], "E3 NotAVolume: octet 148 of the superblock isn't zero"),
+        ([(REST_AT, b"\1")], "E3 NotAVolume: octet 149 of the superblock isn't zero"),
         ([image.bit(1000)], "E5 Damaged: the bitmap marks block 1000, which no file owns"),
     ):
         image.write(changes)
@@ -349,8 +420,8 @@ def each_command_tells(volume):
 def a_volume_that_another_has_meanwhile_is_refused_as_ever(volume):
     """The look needs the lock that the opening has let go. Whoever waits for it takes it in between, or not."""
     small, image = small_one(volume)
-    image.write([(148, b"\1")])
-    ends = ("newsd: E3 NotAVolume: octet 148 of the superblock isn't zero\n", "newsd: E3 NotAVolume\n")
+    image.write([(REST_AT, b"\1")])
+    ends = ("newsd: E3 NotAVolume: octet 149 of the superblock isn't zero\n", "newsd: E3 NotAVolume\n")
     with subprocess.Popen([sys.executable, "-c", HOLDING, small.path], preexec_fn=end_with_parent) as holder:
         for _ in range(50):
             said = small.run("dump", small.path).stderr.decode()
@@ -362,8 +433,8 @@ def a_volume_that_another_has_meanwhile_is_refused_as_ever(volume):
 def memory_that_is_refused_leaves_the_refusal(volume):
     """Each request for memory is refused in turn: to the opening, or to the look and its words."""
     small, image = small_one(volume)
-    image.write([(148, b"\1")])
-    whole = "newsd: E3 NotAVolume: octet 148 of the superblock isn't zero\n"
+    image.write([(REST_AT, b"\1")])
+    whole = "newsd: E3 NotAVolume: octet 149 of the superblock isn't zero\n"
     with tempfile.TemporaryDirectory(prefix="newsd-findings-") as folder:
         library = compile_library(folder)
         if library is None:
@@ -388,6 +459,7 @@ TESTS = [
     open_segments_are_told,
     images_of_open_segments_are_carried_home_first,
     damaged_inodes_are_told,
+    damaged_large_files_are_told,
     damaged_owners_are_told,
     damaged_files_are_told,
     what_is_not_found_is_refused_as_ever,

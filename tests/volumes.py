@@ -98,7 +98,7 @@ def a_damaged_volume_is_not_opened(volume):
 def a_commit_syncs_the_device(volume):
     """An opening syncs once, and where a segment is open twice more, as it carries that home: so the first one does, since the
     batch that makes a volume stands in one. Adding a group then syncs at the seal and at the gate of its batch. The next opening
-    carries it home, and the one after that writes the eight gates back, and nothing else."""
+    carries it home, and the one after that writes the gate of the format and the eight gates of segments back, and nothing else."""
     counted = count_calls([volume.program, "group", volume.path, GROUP, "y", "1000000000", "test"])
     if counted is None:
         raise Skipped("the program can't be traced")
@@ -106,7 +106,7 @@ def a_commit_syncs_the_device(volume):
     opened = count_calls([volume.program, "dump", volume.path])
     assert opened["fdatasync"] == 3 and opened["pwrite64"] > 0, opened
     again = count_calls([volume.program, "dump", volume.path])
-    assert again["fdatasync"] == 1 and again["pwrite64"] == 8, again
+    assert again["fdatasync"] == 1 and again["pwrite64"] == 9, again
 
 
 def without_memory_no_volume_is_made(volume):
@@ -144,33 +144,6 @@ def a_server_has_4096_groups_at_most(volume):
     assert "durable 4096" in said and refused == ["E6 Full", "E11 Exists", "opened 4096", "E6 Full"], refused
 
 
-def a_group_takes_no_article_that_its_overview_has_no_room_for(volume):
-    """The last one that it takes begins at most 4,222,976 octets after the start of its overview."""
-    references = " ".join("<%s@a.example>" % (letter * 200) for letter in "abcdefghijklmnopqrstuvwxyzABCDEFGHIJ")
-    lines = ["group %s y %d test" % (name, MOMENT) for name in (GROUP, "x.b")] + ["commit", "settle", "join"]
-
-    def post(number, group):
-        text = article(number).decode().replace(GROUP, group).replace("\r\n\r\n", "\r\nReferences: %s\r\n\r\n" % references, 1)
-        return ["line 1 POST", "exec 1 %d" % MOMENT, *[("line 1 " + it).rstrip() for it in text.splitlines()], "exec 1 %d" % MOMENT]
-
-    for number in range(1, 601):
-        lines += post(number, GROUP)
-        if number % 10 == 0:
-            lines += ["commit", "settle", "release"]
-    lines += [*post(601, "x.b"), "commit", "settle", "release"]
-    for asked in ("GROUP " + GROUP, "OVER 1"):
-        lines += ["line 1 " + asked, "exec 1 %d" % MOMENT, "release"]
-    said = "".join(line[len("out 1 "):] for line in simulate(volume.program, lines, 32768, 1024) if line.startswith("out 1 "))
-    said = said.replace("\\x09", "\t").split("\\r\\n")
-    replies = [line[:3] for line in said if line[:4] in ("240 ", "441 ")]
-    taken = replies.index("441")
-    assert replies == ["240"] * taken + ["441"] * (600 - taken) + ["240"], replies
-    first = next(len(line) + 2 for line in said if line.startswith("1\t"))
-    # the line of each names its number twice
-    sizes = [first + 2 * len(str(number)) - 2 for number in range(1, taken + 1)]
-    assert sum(sizes[:-1]) <= 4222976 < sum(sizes), (taken, first)
-
-
 def write(path, content):
     with open(path, "wb") as file:
         file.write(content)
@@ -183,7 +156,6 @@ TESTS = [
     without_memory_no_volume_is_made,
     the_largest_volume_is_made_in_little_memory,
     a_server_has_4096_groups_at_most,
-    a_group_takes_no_article_that_its_overview_has_no_room_for,
 ]
 
 

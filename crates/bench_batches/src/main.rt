@@ -11,6 +11,9 @@ use memdisk::MemDisk;
 use std::rt::Clock;
 use std::time::Instant;
 
+/// The format of the volumes.
+const FORMAT: u32 = 2;
+
 /// Batches at each size.
 const BATCHES: u64 = 200;
 
@@ -39,7 +42,7 @@ fn measure(rt: &(impl Print + Clock + AllocGlobal), blocks: u64, timed: bool) ->
 {
     let alloc = rt.alloc();
     let mut disk = MemDisk::new(alloc, 4096 * (515 + blocks))?;
-    format_with(alloc, &mut disk, 1, blocks, &[0; 128])?;
+    format_with(alloc, &mut disk, 1, blocks, &[0; 128], FORMAT)?;
     let Ok(mut journal) = Journal::open(alloc, disk) else {
         anyhow::bail!("not opened");
     };

@@ -25,6 +25,9 @@ const MOST_CALLS: u64 = 100;
 /// Logical blocks of the volume.
 const BLOCKS: u64 = 1024;
 
+/// Its format.
+const FORMAT: u32 = 2;
+
 /// Octets of a write to the cache.
 const PIECE: u64 = 64;
 
@@ -60,7 +63,7 @@ fn formatted(alloc: Global, segments: u32) -> Result<(MemDisk, (u64, u64))> {
     ensure!(segments == 1 || segments == 8, "another number of segments");
     let octets = BLOCK as u64 * (1 + SEGMENT_BLOCKS * u64::from(segments) + BLOCKS);
     let mut disk = MemDisk::new(alloc, octets)?;
-    format_with(alloc, &mut disk, segments, BLOCKS, &[0; 128])?;
+    format_with(alloc, &mut disk, segments, BLOCKS, &[0; 128], FORMAT)?;
     let counts = disk.counts();
     Ok((disk, counts))
 }

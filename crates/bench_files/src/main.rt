@@ -1,9 +1,9 @@
 //! Measures files over a volume in memory and compares them with a map in memory: a file that grows piece by piece and
 //! is read back, of 1 MiB and of 4 MiB, and 250 and 1,000 new files. `bench_files measure` prints microseconds and
-//! ratios; without a word it does nothing.
+//! ratios; with a further word it then reads one file of 200 MiB, and 50 of 4 MiB. Without a word it does nothing.
 #![tactic(auto)]
 
-ghost use Rattle.std.specs.Prelude.{◌≤◌, IfOk};
+ghost use Rattle.std.specs.Prelude.{◌≤◌, IfOk, OnOk};
 ghost use Rattle.bench_files.specs.Files.{HasFiles};
 
 use anyhow::{Result, ensure};
@@ -19,8 +19,20 @@ use volume::{BLOCK_SIZE, Volume};
 /// Blocks of the volume.
 const BLOCKS: u32 = 2048;
 
+/// Blocks of a volume with 200 MiB of files.
+const MANY_BLOCKS: u32 = 65_536;
+
 /// Inodes of the volume.
 const INODES: u32 = 1024;
+
+/// How often the large files are read.
+const READS: u32 = 20;
+
+/// The files of 4 MiB that have 200 MiB.
+const FILES: u32 = 50;
+
+/// The format, by which a file may be larger than 1,034 blocks.
+const FORMAT: u32 = 2;
 
 /// Octets that one call appends.
 const PIECE: usize = 65_536;
@@ -32,13 +44,20 @@ const TIMES: u32 = 5;
 const NAME: &[u8] = b"a";
 
 fn main(rt: HostRuntime) -> Result<()> {
-    if env::args(&rt)?.nth(1).is_some() {
+    let words = env::args(&rt)?.count();
+    if words > 1 {
         let less = filling(&rt, rt.alloc(), 16)?;
         let more = filling(&rt, rt.alloc(), 64)?;
         show(&rt, "a file of 1 MiB and of 4 MiB", less, more)?;
         let less = making(&rt, rt.alloc(), 250)?;
         let more = making(&rt, rt.alloc(), 1_000)?;
         show(&rt, "250 and 1,000 new files", less, more)?;
+    }
+    if words > 2 {
+        let (of_many, of_one) = reading(&rt, rt.alloc())?;
+        let name = "200 MiB read, of 50 files and of one";
+        println!(rt; "{name}: {of_many} us and {of_one} us")?;
+        println!(rt; "{name}: ratio {} percent", ratio(of_many, of_one))?;
     }
     Ok(())
 }
@@ -94,7 +113,7 @@ fn fill(alloc: Global, volume: &mut Volume, pieces: u32, piece: &[u8]) -> Result
 {
     create(volume, INODES, NAME)?;
     for _ in 0..pieces {
-        append(volume, INODES, NAME, piece)?;
+        append(volume, INODES, FORMAT, NAME, piece)?;
         volume.apply();
     }
     let octets = read_at(alloc, &*volume, INODES, NAME, 0, u64::MAX)?;
@@ -117,6 +136,106 @@ fn fill_map(alloc: Global, pieces: u32, piece: &[u8]) -> Result<()> {
     Ok(())
 }
 
+/// Files by number, with this many pieces each.
+#[derive(Clone, Copy)]
+struct Files {
+    first: u32,
+    end: u32,
+    pieces: u32,
+}
+
+/// 50 files of 4 MiB. All of them are more than a processor's caches hold.
+const MANY: Files = Files {
+    first: 0,
+    end: FILES,
+    pieces: 64,
+};
+
+/// One file of as many octets, the name of which is found as fast as those of the others.
+const ONE: Files = Files {
+    first: FILES / 2,
+    end: FILES / 2 + 1,
+    pieces: 64 * FILES,
+};
+
+/// The microseconds that it takes to read the 50 files, and to read the one.
+fn reading(rt: &impl Clock, alloc: Global) -> Result<(u128, u128)> {
+    let many = filled(alloc, MANY)?;
+    let one = filled(alloc, ONE)?;
+    read_in_turns(rt, alloc, &many, &one)
+}
+
+/// The same of volumes that have them. Both are read in turns, so what else the machine does slows both.
+fn read_in_turns(
+    rt: &impl Clock,
+    alloc: Global,
+    many: &Volume,
+    one: &Volume,
+) -> Result<(u128, u128)>
+    requires many { HasFiles many.now.seen }
+    requires one { HasFiles one.now.seen }
+{
+    let (mut of_many, mut of_one) = (u128::MAX, u128::MAX);
+    for _ in 0..READS {
+        let start = Instant::now(rt)?;
+        read_all(alloc, many, MANY)?;
+        of_many = min(of_many, start.elapsed(rt)?.as_micros());
+        let start = Instant::now(rt)?;
+        read_all(alloc, one, ONE)?;
+        of_one = min(of_one, start.elapsed(rt)?.as_micros());
+    }
+    Ok((of_many, of_one))
+}
+
+/// A volume with these files, and empty ones of the other numbers.
+fn filled(alloc: Global, files: Files) -> Result<Volume>
+    ensures { IfOk result (λ volume. HasFiles volume.seen) }
+{
+    let piece = vec![in alloc; 97; PIECE]?;
+    let mut volume = empty(alloc, MANY_BLOCKS)?;
+    make(&mut volume, FILES)?;
+    for number in files.first..files.end {
+        grow(&mut volume, number, files.pieces, &piece)?;
+    }
+    Ok(volume)
+}
+
+/// Reads these files.
+fn read_all(alloc: Global, volume: &Volume, files: Files) -> Result<()>
+    requires { HasFiles volume.now.seen }
+{
+    for number in files.first..files.end {
+        read_through(alloc, volume, number, files.pieces)?;
+    }
+    Ok(())
+}
+
+/// Puts this many pieces into a file, and applies each separately.
+fn grow(volume: &mut Volume, number: u32, pieces: u32, piece: &[u8]) -> Result<()>
+    requires { HasFiles volume.old.seen }
+    ensures { OnOk result (HasFiles volume.new.seen) }
+{
+    let name = number.to_be_bytes();
+    for _ in 0..pieces {
+        append(volume, INODES, FORMAT, &name, piece)?;
+        volume.apply();
+    }
+    Ok(())
+}
+
+/// Reads a file piece by piece.
+fn read_through(alloc: Global, volume: &Volume, number: u32, pieces: u32) -> Result<()>
+    requires { HasFiles volume.now.seen }
+{
+    let name = number.to_be_bytes();
+    for at in 0..pieces {
+        let place = u64::from(at) * PIECE as u64;
+        let octets = read_at(alloc, volume, INODES, &name, place, PIECE as u64)?;
+        ensure!(octets.len() == PIECE, "another size");
+    }
+    Ok(())
+}
+
 /// The microseconds that this many new files take, in a volume and in a map.
 fn making(rt: &impl Clock, alloc: Global, count: u32) -> Result<(u128, u128)> {
     let (mut of_volume, mut of_map) = (u128::MAX, u128::MAX);
@@ -135,6 +254,7 @@ fn making(rt: &impl Clock, alloc: Global, count: u32) -> Result<(u128, u128)> {
 /// Makes this many files, and applies each separately.
 fn make(volume: &mut Volume, count: u32) -> Result<()>
     requires { HasFiles volume.old.seen }
+    ensures { OnOk result (HasFiles volume.new.seen) }
 {
     for number in 0..count {
         create(volume, INODES, &number.to_be_bytes())?;

@@ -2,18 +2,13 @@
 //! is its gate, block 2 its descriptor, block 3 its image of block 0. Segment 1 begins at block 515, and block 0 has its
 //! home at block 4113.
 
-use disk::{Disk, DiskCall, Faults};
+use crate::changes::{Change, Row, is_said, put_all};
+use disk::{DiskCall, Faults};
 use memdisk::MemDisk;
 use names::is_host;
-use new_volume::{Plan, are_sizes, device_octets, format};
+use new_volume::{FORMAT_2, Plan, are_sizes, device_octets, format};
 use std::alloc::Global;
 use std::test::Fail;
-
-/// Octets that are written over a device: the block, the place in it, and the octets.
-type Change = (u64, u64, &'static [u8]);
-
-/// What is said of a device with these changes.
-type Row = (&'static str, &'static [Change], Option<&'static str>);
 
 const UNMARKED: Option<&str> = Some("the bitmap doesn't mark block 0, which is before the data");
 
@@ -55,9 +50,14 @@ const NO_VOLUMES: &[Row] = &[
         Some("open segments 0 and 1 both have number 1"),
     ),
     (
-        "an octet behind the label",
+        "an octet of the gate of the format",
         &[(0, 148, &[1])],
-        Some("octet 148 of the superblock isn't zero"),
+        None,
+    ),
+    (
+        "an octet after it",
+        &[(0, 149, &[1])],
+        Some("octet 149 of the superblock isn't zero"),
     ),
 ];
 
@@ -79,6 +79,7 @@ fn plan() -> Option<Plan<'static>> {
         host,
         blocks: 1024,
         inodes: 64,
+        format: FORMAT_2,
     })
 }
 
@@ -94,34 +95,11 @@ fn formatted(alloc: Global) -> Result<MemDisk, Fail> {
     }
 }
 
-/// Writes octets over a device.
-fn put(disk: &mut MemDisk, change: &Change) -> Result<(), Fail> {
-    let (block, place, octets) = change;
-    let at = block.saturating_mul(4096).saturating_add(*place);
-    match at.checked_add(octets.len() as u64) {
-        Some(end) if end <= disk.len() => match disk.write(at, octets) {
-            Ok(()) => Ok(()),
-            Err(_) => Err("a write failed")?,
-        },
-        _ => Err("outside the device")?,
-    }
-}
-
 /// A device with an empty volume and these changes.
 fn changed(alloc: Global, changes: &[Change]) -> Result<MemDisk, Fail> {
     let mut disk = formatted(alloc)?;
-    for change in changes {
-        put(&mut disk, change)?;
-    }
+    put_all(&mut disk, changes)?;
     Ok(disk)
-}
-
-fn is_said(found: &Option<String>, words: Option<&str>) -> bool {
-    match (found, words) {
-        (Some(found), Some(words)) => found.as_str() == words,
-        (None, None) => true,
-        _ => false,
-    }
 }
 
 #[test]

@@ -6,6 +6,9 @@ use fs::FsError;
 use std::alloc::Global;
 use std::test::Fail;
 
+/// The format of the volume.
+const FORMAT: u32 = 2;
+
 const BITMAP: u32 = 0;
 
 const INODE: u32 = 2;
@@ -60,8 +63,20 @@ const ROWS: &[Row<'static>] = &[
         &[],
         false,
     ),
-    ("the first spare octet", &[(INODE, 56, 1)], &[], false),
+    ("the first spare octet", &[(INODE, 60, 1)], &[], false),
     ("the last spare octet", &[(INODE, 63, 1)], &[], false),
+    (
+        "a double-indirect pointer that isn't needed",
+        &[(INODE, 56, 4), (BITMAP, 0, 0x1f)],
+        &[],
+        false,
+    ),
+    (
+        "a double-indirect pointer where one block of pointers is enough",
+        LARGE,
+        &[(INODE, 56, 16), (BITMAP, 2, 1)],
+        false,
+    ),
     (
         "one octet more than 1,034 blocks have",
         &[(INODE, 4, 0x01), (INODE, 5, 0xa0), (INODE, 6, 0x40)],
@@ -204,12 +219,12 @@ const ROWS: &[Row<'static>] = &[
 fn is_sound_after(alloc: Global, first: &[Change], then: &[Change]) -> Result<bool, FsError> {
     let mut volume = empty(alloc)?;
     for name in ["a", "b", "c"] {
-        answer(alloc, &mut volume, name.as_bytes(), Call::Create)?;
+        answer(alloc, &mut volume, FORMAT, name.as_bytes(), Call::Create)?;
     }
     for change in first.iter().chain(then) {
         replace(&mut volume, *change)?;
     }
-    is_sound(alloc, &volume)
+    is_sound(alloc, &volume, FORMAT)
 }
 
 #[test]

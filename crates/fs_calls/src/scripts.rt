@@ -1,14 +1,15 @@
 //! What calls of one volume answer, one after the other.
 
-use crate::volumes::{Call, answer, empty};
+use crate::volumes::{Call, answer, empty, large};
 use fs::FsError;
 use std::alloc::Global;
 use std::test::Fail;
+use volume::Volume;
 
 /// Calls of a new volume, each with the name that it concerns and the expected answer.
 type Script<'a> = &'a [(&'a str, Call, Result<u64, FsError>)];
 
-/// The scripts, by what they show.
+/// The scripts of a small volume of format 2, by what they show.
 const SCRIPTS: &[(&str, Script<'static>)] = &[
     (
         "an empty volume uses four blocks",
@@ -156,21 +157,112 @@ const SCRIPTS: &[(&str, Script<'static>)] = &[
     ),
 ];
 
+/// The scripts of a large volume, by what they show, with its format. A block of pointers has 1,024.
+const LARGE_FILES: &[(&str, u32, Script<'static>)] = &[
+    (
+        "a file of format 1 has no double-indirect block",
+        1,
+        &[
+            ("a", Call::Create, Ok(0)),
+            ("a", Call::FreeBlocks, Ok(4092)),
+            ("a", Call::Append(b'x', 4_235_264), Ok(0)),
+            ("a", Call::FreeBlocks, Ok(3057)),
+            ("a", Call::Append(b'y', 1), Err(FsError::Full)),
+            ("a", Call::Write(4_235_264, b'y', 1), Err(FsError::Full)),
+            ("a", Call::Truncate(4_235_265), Err(FsError::Full)),
+            ("a", Call::FreeBlocks, Ok(3057)),
+            ("a", Call::Size, Ok(4_235_264)),
+        ],
+    ),
+    (
+        "one octet more takes a block, one for its pointer, and a double-indirect block",
+        2,
+        &[
+            ("a", Call::Create, Ok(0)),
+            ("a", Call::Append(b'x', 4_235_264), Ok(0)),
+            ("a", Call::FreeBlocks, Ok(3057)),
+            ("a", Call::Append(b'y', 1), Ok(0)),
+            ("a", Call::FreeBlocks, Ok(3054)),
+            ("a", Call::Read(4_235_263, 1, b'x'), Ok(1)),
+            ("a", Call::Read(4_235_264, 10, b'y'), Ok(1)),
+            ("a", Call::Truncate(4_235_264), Ok(0)),
+            ("a", Call::FreeBlocks, Ok(3057)),
+            ("a", Call::Read(0, 4_235_265, b'x'), Ok(4_235_264)),
+        ],
+    ),
+    (
+        "each further block of pointers is taken with its first pointer, and goes with it",
+        2,
+        &[
+            ("a", Call::Create, Ok(0)),
+            ("a", Call::Truncate(2058 * 4096), Ok(0)),
+            ("a", Call::FreeBlocks, Ok(2031)),
+            ("a", Call::Append(b'y', 5000), Ok(0)),
+            ("a", Call::FreeBlocks, Ok(2028)),
+            ("a", Call::Write(2058 * 4096 - 1, b'z', 3), Ok(0)),
+            ("a", Call::Read(2058 * 4096 - 1, 3, b'z'), Ok(3)),
+            ("a", Call::Read(2058 * 4096 + 2, 10_000, b'y'), Ok(4998)),
+            ("a", Call::Truncate(2058 * 4096), Ok(0)),
+            ("a", Call::FreeBlocks, Ok(2031)),
+            ("a", Call::Unlink, Ok(0)),
+            ("a", Call::FreeBlocks, Ok(4092)),
+        ],
+    ),
+    (
+        "a file takes every block",
+        2,
+        &[
+            ("a", Call::Create, Ok(0)),
+            ("a", Call::Truncate(268_435_457), Err(FsError::Full)),
+            ("a", Call::Truncate(4087 * 4096), Ok(0)),
+            ("a", Call::FreeBlocks, Ok(0)),
+            ("a", Call::Append(b'y', 1), Err(FsError::Full)),
+            ("a", Call::Truncate(1), Ok(0)),
+            ("a", Call::FreeBlocks, Ok(4091)),
+        ],
+    ),
+];
+
+/// The format of a small volume.
+const FORMAT: u32 = 2;
+
 // Plays a script, and answers the number of the first call with another answer.
-fn first_wrong(alloc: Global, script: Script<'_>) -> Result<Option<usize>, FsError> {
-    let mut volume = empty(alloc)?;
+fn first_wrong(
+    alloc: Global,
+    mut volume: Volume,
+    format: u32,
+    script: Script<'_>,
+) -> Option<usize> {
     for (number, (name, call, want)) in script.iter().enumerate() {
-        if answer(alloc, &mut volume, name.as_bytes(), *call) != *want {
-            return Ok(Some(number));
+        if answer(alloc, &mut volume, format, name.as_bytes(), *call) != *want {
+            return Some(number);
         }
     }
-    Ok(None)
+    None
 }
 
 #[test]
 fn calls_answer(rt: HostRuntime) -> Result<(), Fail> {
     for (shows, script) in SCRIPTS {
-        assert_eq!(rt; first_wrong(rt.alloc(), script)?, None, "{shows}");
+        let volume = empty(rt.alloc())?;
+        assert_eq!(rt;
+            first_wrong(rt.alloc(), volume, FORMAT, script),
+            None,
+            "{shows}"
+        );
+    }
+    Ok(())
+}
+
+#[test]
+fn calls_of_large_files_answer(rt: HostRuntime) -> Result<(), Fail> {
+    for (shows, format, script) in LARGE_FILES {
+        let volume = large(rt.alloc())?;
+        assert_eq!(rt;
+            first_wrong(rt.alloc(), volume, *format, script),
+            None,
+            "{shows}"
+        );
     }
     Ok(())
 }

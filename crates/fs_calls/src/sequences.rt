@@ -5,6 +5,9 @@ use fs::FsError;
 use std::alloc::Global;
 use std::test::Fail;
 
+/// The format of the volume.
+const FORMAT: u32 = 2;
+
 const NAMES: usize = 6;
 
 const CALLS: u32 = 400;
@@ -91,13 +94,13 @@ fn calls_leave_what_a_plain_list_has(rt: HostRuntime) -> Result<(), Fail> {
         let call = numbers.call();
         if let Some(file) = plain.get_mut(at) {
             let wanted = change(alloc, file, call)?;
-            let answered = match (call, answer(alloc, &mut volume, &name_at(at), call)) {
+            let answered = match (call, answer(alloc, &mut volume, FORMAT, &name_at(at), call)) {
                 (Call::Create, Ok(_)) => Ok(0),
                 (_, answered) => answered,
             };
             assert_eq!(rt; answered, wanted);
         }
-        assert!(rt; contents(alloc, &volume, NAMES)? == plain);
+        assert!(rt; contents(alloc, &volume, FORMAT, NAMES)? == plain);
     }
     Ok(())
 }

@@ -14,8 +14,10 @@ use volume::{BATCH_BLOCKS, BLOCK_SIZE, BatchBuf, Blocks, Volume};
 /// The inodes of the volumes that are tested.
 const INODES: u32 = 64;
 
-/// The blocks of the volumes that are tested.
-const COUNT: u32 = 1024;
+/// The blocks of the small and of the large volumes that are tested.
+const FEW: u32 = 1024;
+
+const MANY: u32 = 4096;
 
 /// A call on the file of a name, or on the volume.
 #[derive(Clone, Copy)]
@@ -47,9 +49,14 @@ pub enum Call {
     Block(u32, u8),
 }
 
-/// A volume without files.
+/// A small volume without files.
 pub fn empty(alloc: Global) -> Result<Volume, FsError> {
-    empty_of(alloc, COUNT)
+    empty_of(alloc, FEW)
+}
+
+/// A large one.
+pub fn large(alloc: Global) -> Result<Volume, FsError> {
+    empty_of(alloc, MANY)
 }
 
 // The number of blocks is a variable: the prover would count a literal out.
@@ -70,15 +77,15 @@ fn has_room(volume: &Volume) -> bool
     1024 <= count && count <= 65_536
 }
 
-/// Whether a volume keeps the rule of blocks.
-pub fn is_sound(alloc: Global, volume: &Volume) -> Result<bool, FsError>
+/// Whether a volume keeps the rule of blocks of this format.
+pub fn is_sound(alloc: Global, volume: &Volume, format: u32) -> Result<bool, FsError>
     ensures room { IfOk result (λ sound. IsTrue sound → HasRoom 64 volume.now.seen) }
     ensures rule { IfOk result (λ sound. IsTrue sound → IsFileSystem 64 volume.now.seen) }
 {
     if !has_room(volume) {
         return Ok(false);
     }
-    match check(alloc, volume, INODES) {
+    match check(alloc, volume, INODES, format) {
         Ok(()) => Ok(true),
         Err(FsError::Damaged) => Ok(false),
         Err(error) => Err(error),
@@ -91,9 +98,16 @@ fn is_name(name: &[u8]) -> bool
     1 <= name.len() && name.len() <= 63
 }
 
-/// Makes a call, and answers what it counts or finds, or 0. `Damaged` if the volume is not sound before it.
-pub fn answer(alloc: Global, volume: &mut Volume, name: &[u8], call: Call) -> Result<u64, FsError> {
-    if !is_name(name) || !is_sound(alloc, volume)? {
+/// Makes a call to a volume of this format, and answers what it counts or finds, or 0. `Damaged` if the volume is not
+/// sound before it.
+pub fn answer(
+    alloc: Global,
+    volume: &mut Volume,
+    format: u32,
+    name: &[u8],
+    call: Call,
+) -> Result<u64, FsError> {
+    if !is_name(name) || !is_sound(alloc, volume, format)? {
         return Err(FsError::Damaged);
     }
     match call {
@@ -101,17 +115,17 @@ pub fn answer(alloc: Global, volume: &mut Volume, name: &[u8], call: Call) -> Re
         Call::Unlink => done(unlink(volume, INODES, name)),
         Call::Append(octet, count) => {
             let octets = vec![in alloc; octet; count]?;
-            done(append(volume, INODES, name, &octets))
+            done(append(volume, INODES, format, name, &octets))
         }
         Call::Begin(octet, count) => {
             let octets = vec![in alloc; octet; count]?;
-            done(write_at(volume, INODES, name, 0, &octets))
+            done(write_at(volume, INODES, format, name, 0, &octets))
         }
         Call::Write(place, octet, count) => {
             let octets = vec![in alloc; octet; count]?;
-            done(write(volume, name, place, &octets))
+            done(write(volume, format, name, place, &octets))
         }
-        Call::Truncate(count) => done(truncate(volume, INODES, name, count)),
+        Call::Truncate(count) => done(truncate(volume, INODES, format, name, count)),
         Call::Size => size(volume, INODES, name),
         Call::Read(place, count, octet) => {
             let octets = read_at(alloc, volume, INODES, name, place, count)?;
@@ -120,7 +134,7 @@ pub fn answer(alloc: Global, volume: &mut Volume, name: &[u8], call: Call) -> Re
         Call::FreeBlocks => Ok(u64::from(free_block_count(volume, INODES))),
         Call::FreeInodes => Ok(u64::from(free_inode_count(volume, INODES))),
         Call::Names => count_names(alloc, volume, name),
-        Call::CreateMany => create_many(alloc, volume),
+        Call::CreateMany => create_many(alloc, volume, format),
         Call::Apply => Ok(apply(volume)),
         Call::Clean => clean(alloc, volume),
         Call::Block(number, octet) => Ok(count_in_block(volume, number, octet)),
@@ -132,13 +146,19 @@ fn done(given: Result<(), FsError>) -> Result<u64, FsError> {
     Ok(0)
 }
 
-fn write(volume: &mut Volume, name: &[u8], place: u64, octets: &[u8]) -> Result<(), FsError>
+fn write(
+    volume: &mut Volume,
+    format: u32,
+    name: &[u8],
+    place: u64,
+    octets: &[u8],
+) -> Result<(), FsError>
     requires name { IsName name.now }
     requires room { HasRoom 64 volume.old.seen }
     requires rule { IsFileSystem 64 volume.old.seen }
 {
     let end = size(volume, INODES, name)?;
-    write_at(volume, INODES, name, place.min(end), octets)
+    write_at(volume, INODES, format, name, place.min(end), octets)
 }
 
 // The number of octets, if all have this value.
@@ -163,9 +183,9 @@ fn count_names(alloc: Global, volume: &Volume, first: &[u8]) -> Result<u64, FsEr
 }
 
 // How many files with names of one octet are made before the first that is refused.
-fn create_many(alloc: Global, volume: &mut Volume) -> Result<u64, FsError> {
+fn create_many(alloc: Global, volume: &mut Volume, format: u32) -> Result<u64, FsError> {
     for octet in 128..u8::MAX {
-        if !is_sound(alloc, volume)? {
+        if !is_sound(alloc, volume, format)? {
             return Err(FsError::Damaged);
         }
         match create(volume, INODES, &[octet]) {
@@ -205,14 +225,15 @@ pub fn name_at(place: usize) -> [u8; 1] {
     [b'a' + (place % 26) as u8]
 }
 
-/// The octets of the first files by name, `None` where a file does not exist. `Damaged` if the volume is not sound, or
-/// has other files.
+/// The octets of the first files by name, `None` where a file does not exist. `Damaged` if the volume is not sound in
+/// this format, or has other files.
 pub fn contents(
     alloc: Global,
     volume: &Volume,
+    format: u32,
     count: usize,
 ) -> Result<Vec<Option<Vec<u8>>>, FsError> {
-    if !is_sound(alloc, volume)? {
+    if !is_sound(alloc, volume, format)? {
         return Err(FsError::Damaged);
     }
     let mut contents = Vec::new(alloc);

@@ -5,7 +5,7 @@ use importing::Store;
 use mark::Mark;
 use memdisk::MemDisk;
 use names::{GroupName, is_host};
-use new_volume::{Plan, are_sizes, device_octets, format};
+use new_volume::{FORMAT_1, FORMAT_2, Plan, are_sizes, device_octets};
 use octets::Octets;
 use opening::Opened;
 use rnews::entry;
@@ -23,29 +23,30 @@ const CLOSED: &[u8] = b"x.closed";
 const MOMENT: u64 = 1_000_000_000;
 
 /// The plan of the volume. The sizes are not constants here, because a proof would count with them.
-fn plan(blocks: u64, inodes: u64) -> Option<Plan<'static>> {
-    if !is_host(HOST) || !are_sizes(blocks, inodes) {
+fn plan(blocks: u64, inodes: u64, format: u32) -> Option<Plan<'static>> {
+    if !is_host(HOST) || !are_sizes(blocks, inodes) || format < FORMAT_1 || FORMAT_2 < format {
         return None;
     }
     Some(Plan {
         host: HOST,
         blocks,
         inodes,
+        format,
     })
 }
 
-/// A device with a new volume.
-fn formatted(alloc: Global, blocks: u64, inodes: u64) -> Option<MemDisk> {
-    let plan = plan(blocks, inodes)?;
+/// A device with a new volume of this format.
+pub(crate) fn formatted(alloc: Global, blocks: u64, inodes: u64, format: u32) -> Option<MemDisk> {
+    let plan = plan(blocks, inodes, format)?;
     let Ok(disk) = MemDisk::new(alloc, device_octets(plan.blocks)) else {
         return None;
     };
-    format(alloc, disk, &plan).ok()
+    new_volume::format(alloc, disk, &plan).ok()
 }
 
 /// A device whose volume has the groups, in closed segments: an opening writes nothing.
 pub(crate) fn device<R: Wait>(rt: &R, alloc: Global, blocks: u64, inodes: u64) -> Option<MemDisk> {
-    let disk = with_groups(rt, alloc, formatted(alloc, blocks, inodes)?)?;
+    let disk = with_groups(rt, alloc, formatted(alloc, blocks, inodes, FORMAT_2)?)?;
     match opening::open(alloc, disk) {
         Ok(Opened { journal, kernel: _ }) => Some(journal.into_disk()),
         Err(_) => None,

@@ -16,6 +16,9 @@ pub const BLOCKS: u64 = 1024;
 /// Octets of a block.
 const BLOCK: usize = 4096;
 
+/// The format of a new volume.
+const FORMAT: u32 = 2;
+
 /// What is asked of a journal, or of its device.
 #[derive(Clone, Copy)]
 pub enum Ask<'a> {
@@ -28,6 +31,10 @@ pub enum Ask<'a> {
     Filled(u64, u8),
     /// The first octet of a logical block is this one.
     Starts(u64, u8),
+    /// The format is this one.
+    Format(u32),
+    /// Makes a volume of format 1 one of format 2.
+    Upgrade,
     FailAt(u64),
     FailKind(DiskCall, u64),
     /// The device crashes, each touched octet becomes what this pick says, and the device is opened again.
@@ -114,7 +121,7 @@ fn formatted(alloc: Global, segments: u32, blocks: u64) -> Option<MemDisk>
 {
     let octets = BLOCK as u64 * (1 + 514 * u64::from(segments) + blocks);
     match MemDisk::new(alloc, octets) {
-        Ok(mut disk) => match format_with(alloc, &mut disk, segments, blocks, &[0; 128]) {
+        Ok(mut disk) => match format_with(alloc, &mut disk, segments, blocks, &[0; 128], FORMAT) {
             Ok(()) => Some(disk),
             Err(_) => None,
         },
@@ -235,6 +242,8 @@ fn call(alloc: Global, journal: &mut Journal<MemDisk>, asked: Ask<'_>) -> Said {
         Ask::Work(n) => work(journal, n),
         Ask::Filled(number, octet) => holds(alloc, journal, number, BLOCK, octet),
         Ask::Starts(number, octet) => holds(alloc, journal, number, 1, octet),
+        Ask::Format(format) => is(journal.format_number() == format),
+        Ask::Upgrade => upgrade(journal),
         Ask::FailAt(n) => {
             journal.fail_at(n);
             Said::Done
@@ -267,6 +276,16 @@ fn work(journal: &mut Journal<MemDisk>, n: u64) -> Said {
         }
     }
     Said::Done
+}
+
+fn upgrade(journal: &mut Journal<MemDisk>) -> Said {
+    if !journal.is_idle() || journal.format_number() != 1 {
+        return Said::NotAsked;
+    }
+    match journal.upgrade() {
+        Ok(()) => Said::Done,
+        Err(error) => Said::Refused(error),
+    }
 }
 
 fn begin(

@@ -7,13 +7,13 @@ use memdisk::Pick;
 use std::alloc::Global;
 use std::test::Fail;
 
-const FAULT: Said = Said::Refused(JournalError::Fault);
+pub const FAULT: Said = Said::Refused(JournalError::Fault);
 
-const HALTED: Said = Said::Refused(JournalError::Halted);
+pub const HALTED: Said = Said::Refused(JournalError::Halted);
 
 const NOT_A_VOLUME: Said = Said::Refused(JournalError::NotAVolume);
 
-const FOUR: &[u32] = &[5, 6, 7, 1023];
+pub const FOUR: &[u32] = &[5, 6, 7, 1023];
 
 const SIX: &[u32] = &[5, 700, 21, 0, 23, 24];
 
@@ -310,9 +310,9 @@ const OPENINGS: &[Case<'static>] = &[
             (Ask::Reopen, NOT_A_VOLUME),
             (Ask::Put(&[(16, 8), (12, 1)]), Said::Done),
             (Ask::Reopen, NOT_A_VOLUME),
-            (Ask::Put(&[(12, 0), (148, 1)]), Said::Done),
+            (Ask::Put(&[(12, 0), (149, 1)]), Said::Done),
             (Ask::Reopen, NOT_A_VOLUME),
-            (Ask::Put(&[(148, 0), (147, 1)]), Said::Done),
+            (Ask::Put(&[(149, 0), (148, 1), (147, 1)]), Said::Done),
             (Ask::Reopen, Said::Done),
         ],
     ),
@@ -369,7 +369,7 @@ fn first_wrong(
 }
 
 /// The name of the first case with another answer, and the index of its row.
-fn first_wrong_of(
+pub fn first_wrong_of(
     alloc: Global,
     cases: &[Case<'static>],
 ) -> Result<Option<(&'static str, usize)>, Fail> {

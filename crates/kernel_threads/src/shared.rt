@@ -7,7 +7,7 @@ use kernel::{BatchBuf, Kernel};
 use lookups::LookUps;
 use memdisk::MemDisk;
 use names::{GroupName, is_host};
-use new_volume::{Plan, are_sizes, device_octets, format};
+use new_volume::{FORMAT_2, Plan, are_sizes, device_octets, format};
 use std::alloc::Global;
 use std::sync::{Mutex, Wait};
 use std::thread::{Threads, join};
@@ -40,6 +40,7 @@ fn plan(blocks: u64, inodes: u64) -> Option<Plan<'static>> {
         host: HOST,
         blocks,
         inodes,
+        format: FORMAT_2,
     })
 }
 

@@ -19,7 +19,7 @@ const WAIT_MILLIS: u64 = 20_000;
 /// A thread that reads ahead gets this many milliseconds to do so.
 const PAUSE_MILLIS: u64 = 100;
 
-/// What the operator is told of the volume: its host, the version of its format, its logical blocks, its inodes, the marks of
+/// What the operator is told of the volume: its host, its format, its logical blocks, its inodes, the marks of
 /// its used blocks, and the syncs of its device.
 const HOST: &[u8] = b"news.example";
 

@@ -6,7 +6,7 @@ use journal::Journal;
 use memdisk::MemDisk;
 use model::{Message, Text};
 use names::{GroupName, is_host};
-use new_volume::{Plan, are_sizes, device_octets, format};
+use new_volume::{FORMAT_2, Plan, are_sizes, device_octets, format};
 use releasing::{Closing, Limits, ReplyWriter, Shared, give_short_writes};
 use std::alloc::{AllocError, Global};
 use std::net::{Net, TcpListener, TcpStream};
@@ -92,6 +92,7 @@ fn new_kernel(alloc: Global, blocks: u64, inodes: u64) -> Option<Kernel> {
         host: HOST,
         blocks,
         inodes,
+        format: FORMAT_2,
     };
     let disk = MemDisk::new(alloc, device_octets(plan.blocks)).ok()?;
     let Ok(disk) = format(alloc, disk, &plan) else {

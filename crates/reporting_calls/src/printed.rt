@@ -8,9 +8,11 @@ use std::test::Fail;
 /// A group: its name, its lowest and its highest number, the number of articles, its status, the octets of its overview.
 type GroupRow = (&'static str, u64, u64, u64, u8, u32);
 
-/// A state: the blocks and the inodes, those that are used and all; the changes; the groups; the text; the JSON.
+/// A state: the format; the blocks and the inodes, those that are used and all; the changes; the groups; the text; the
+/// JSON.
 struct Row {
     shows: &'static str,
+    format: u32,
     blocks: (u32, u32),
     inodes: (u32, u32),
     changes: u64,
@@ -22,6 +24,7 @@ struct Row {
 const ROWS: &[Row] = &[
     Row {
         shows: "no group",
+        format: 1,
         blocks: (258, 16_384),
         inodes: (0, 8_192),
         changes: 0,
@@ -38,26 +41,28 @@ changes   0
     },
     Row {
         shows: "a group",
+        format: 2,
         blocks: (1_200, 16_384),
         inodes: (310, 8_192),
         changes: 304,
         groups: &[("x.test", 1, 100, 100, b'y', 84_460)],
         text: "\
 host      news.example
-format    1
+format    2
 blocks    16384: 1200 used, 15184 free, 7 % used
 inodes    8192: 310 used, 7882 free, 3 % used
 changes   304
 
 group    low  high  count  status  overview
-x.test     1   100    100  y            2 %
+x.test     1   100    100  y            0 %
 ",
-        json: "{\"blocks\":{\"all\":16384,\"free\":15184,\"used\":1200},\"changes\":304,\"format\":1,\"groups\":[\
-{\"count\":100,\"high\":100,\"low\":1,\"name\":\"x.test\",\"overview\":{\"room\":4222976,\"used\":84460},\"status\":\"y\"}],\
+        json: "{\"blocks\":{\"all\":16384,\"free\":15184,\"used\":1200},\"changes\":304,\"format\":2,\"groups\":[\
+{\"count\":100,\"high\":100,\"low\":1,\"name\":\"x.test\",\"overview\":{\"room\":268423168,\"used\":84460},\"status\":\"y\"}],\
 \"host\":\"news.example\",\"inodes\":{\"all\":8192,\"free\":7882,\"used\":310}}",
     },
     Row {
         shows: "a short name, a closed group, numbers wider than their titles, and a full overview",
+        format: 2,
         blocks: (65_536, 65_536),
         inodes: (64, 64),
         changes: 32_768,
@@ -69,13 +74,13 @@ x.test     1   100    100  y            2 %
                 123_456,
                 122_457,
                 b'n',
-                4_222_976,
+                268_423_168,
             ),
-            ("x.b", 32, 31, 0, b'n', 42_229),
+            ("x.b", 32, 31, 0, b'n', 2_684_231),
         ],
         text: "\
 host      news.example
-format    1
+format    2
 blocks    65536: 65536 used, 0 free, 100 % used
 inodes    64: 64 used, 0 free, 100 % used
 changes   32768
@@ -85,25 +90,26 @@ x                                    1       0       0  y            0 %
 a.long-name.in-three.parts+more   1000  123456  122457  n          100 %
 x.b                                 32      31       0  n            0 %
 ",
-        json: "{\"blocks\":{\"all\":65536,\"free\":0,\"used\":65536},\"changes\":32768,\"format\":1,\"groups\":[\
-{\"count\":0,\"high\":0,\"low\":1,\"name\":\"x\",\"overview\":{\"room\":4222976,\"used\":0},\"status\":\"y\"},\
+        json: "{\"blocks\":{\"all\":65536,\"free\":0,\"used\":65536},\"changes\":32768,\"format\":2,\"groups\":[\
+{\"count\":0,\"high\":0,\"low\":1,\"name\":\"x\",\"overview\":{\"room\":268423168,\"used\":0},\"status\":\"y\"},\
 {\"count\":122457,\"high\":123456,\"low\":1000,\"name\":\"a.long-name.in-three.parts+more\",\
-\"overview\":{\"room\":4222976,\"used\":4222976},\"status\":\"n\"},\
-{\"count\":0,\"high\":31,\"low\":32,\"name\":\"x.b\",\"overview\":{\"room\":4222976,\"used\":42229},\"status\":\"n\"}],\
+\"overview\":{\"room\":268423168,\"used\":268423168},\"status\":\"n\"},\
+{\"count\":0,\"high\":31,\"low\":32,\"name\":\"x.b\",\"overview\":{\"room\":268423168,\"used\":2684231},\"status\":\"n\"}],\
 \"host\":\"news.example\",\"inodes\":{\"all\":64,\"free\":0,\"used\":64}}",
     },
     Row {
-        shows: "an overview above the room, and one octet below one per cent",
+        shows: "an overview above the room, and one of one per cent",
+        format: 2,
         blocks: (1, 3),
         inodes: (2, 3),
         changes: 6,
         groups: &[
-            ("x.a", 1, 3, 3, b'y', 4_235_264),
-            ("x.b", 1, 1, 1, b'y', 42_230),
+            ("x.a", 1, 3, 3, b'y', 268_435_456),
+            ("x.b", 1, 1, 1, b'y', 2_684_232),
         ],
         text: "\
 host      news.example
-format    1
+format    2
 blocks    3: 1 used, 2 free, 33 % used
 inodes    3: 2 used, 1 free, 66 % used
 changes   6
@@ -112,9 +118,9 @@ group   low  high  count  status  overview
 x.a       1     3      3  y          100 %
 x.b       1     1      1  y            1 %
 ",
-        json: "{\"blocks\":{\"all\":3,\"free\":2,\"used\":1},\"changes\":6,\"format\":1,\"groups\":[\
-{\"count\":3,\"high\":3,\"low\":1,\"name\":\"x.a\",\"overview\":{\"room\":4222976,\"used\":4235264},\"status\":\"y\"},\
-{\"count\":1,\"high\":1,\"low\":1,\"name\":\"x.b\",\"overview\":{\"room\":4222976,\"used\":42230},\"status\":\"y\"}],\
+        json: "{\"blocks\":{\"all\":3,\"free\":2,\"used\":1},\"changes\":6,\"format\":2,\"groups\":[\
+{\"count\":3,\"high\":3,\"low\":1,\"name\":\"x.a\",\"overview\":{\"room\":268423168,\"used\":268435456},\"status\":\"y\"},\
+{\"count\":1,\"high\":1,\"low\":1,\"name\":\"x.b\",\"overview\":{\"room\":268423168,\"used\":2684232},\"status\":\"y\"}],\
 \"host\":\"news.example\",\"inodes\":{\"all\":3,\"free\":1,\"used\":2}}",
     },
 ];
@@ -154,7 +160,7 @@ fn state(alloc: Global, row: &Row) -> Result<VolumeStatus, Fail> {
     }
     Ok(VolumeStatus {
         host: text_of(alloc, "news.example")?,
-        format: 1,
+        format: row.format,
         blocks: share(row.blocks.0, row.blocks.1)?,
         inodes: share(row.inodes.0, row.inodes.1)?,
         changes: row.changes,

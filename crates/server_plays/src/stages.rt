@@ -9,6 +9,7 @@ use flusher::{BatchBuf, Counts, Gate, Kern, Marks, NoGate, Tally, VolumeFacts, f
 use journal::Journal;
 use logging::{Log, Verbosity};
 use mark::{FlushSeat, Mark, Seat};
+use new_volume::FORMAT_2;
 use server::{Limits, ServeError, Server, serve};
 use std::alloc::{AllocError, Global};
 use std::io::{self, BufRead, Write};
@@ -244,7 +245,7 @@ fn serve_parts<
     } = parts;
     let facts = VolumeFacts {
         host,
-        format: 1,
+        format: FORMAT_2,
         blocks,
         inodes: INODES,
     };

@@ -8,7 +8,7 @@ use flusher::{Kern, Kernel};
 use journal::Journal;
 use memdisk::MemDisk;
 use names::{GroupName, is_host};
-use new_volume::{Plan, are_sizes, device_octets, format};
+use new_volume::{FORMAT_2, Plan, are_sizes, device_octets, format};
 use std::alloc::Global;
 use std::sync::Wait;
 
@@ -31,6 +31,7 @@ fn plan() -> Option<Plan<'static>> {
         host: HOST,
         blocks: BLOCKS,
         inodes: INODES,
+        format: FORMAT_2,
     })
 }
 

@@ -12,7 +12,7 @@ use lookups::LookUps;
 use memdisk::{MemDisk, Pick};
 use model::Part;
 use names::is_host;
-use new_volume::{Plan, are_sizes, device_octets, format};
+use new_volume::{FORMAT_2, Plan, are_sizes, device_octets, format};
 use std::alloc::Global;
 use std::marker::Model;
 use volume_format::layout::BLOCK;
@@ -108,6 +108,7 @@ fn plan(blocks: u64) -> Option<Plan<'static>> {
         host: HOST,
         blocks,
         inodes: INODES,
+        format: FORMAT_2,
     })
 }
 

@@ -90,7 +90,17 @@ const ROWS: &[Row] = &[
         false,
     ),
     ("a pointer before the data", &[(INODES, 12, 3)], false),
-    ("a size over the largest", &[(INODES, 390, 0x41)], false),
+    ("a size over the largest", &[(INODES, 391, 0x10)], false),
+    (
+        "a double-indirect block of a short file",
+        &[(INODES, 440, 14)],
+        false,
+    ),
+    (
+        "an octet after the pointers of an inode",
+        &[(INODES, 444, 1)],
+        false,
+    ),
     ("a size of a block more", &[(INODES, 389, 0x10)], false),
     ("an inode of another kind", &[(INODES, 576, 2)], false),
     ("a free inode that isn't zeros", &[(INODES, 4095, 1)], false),

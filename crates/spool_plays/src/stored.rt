@@ -13,6 +13,9 @@ use volume::{BATCH_BLOCKS, BLOCK_SIZE, BatchBuf, Blocks, Volume};
 /// The inodes of the volumes that are tested.
 pub const INODES: u32 = 64;
 
+/// The format of the volumes that are tested.
+const FORMAT: u32 = 2;
+
 /// The blocks of the volumes that are tested.
 pub const COUNT: u32 = 1024;
 
@@ -144,5 +147,5 @@ fn open(alloc: Global, octets: Vec<u8>, count: u32) -> Result<Spool, OpenError> 
     if !has_room(&volume) {
         return Err(OpenError::Memory);
     }
-    Spool::open(alloc, host, INODES, volume)
+    Spool::open(alloc, host, INODES, FORMAT, volume)
 }

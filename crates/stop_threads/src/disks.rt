@@ -27,7 +27,9 @@ impl<'a, D: Disk + Drop> Drop for Lent<'a, D> {
 impl<'a, D: Disk + Drop> Disk for Lent<'a, D> {
     ghost device = { λ lent. D.device lent.disk };
 
-    ghost grows = { D.grows };
+    ghost write_grows = { D.write_grows };
+
+    ghost sync_grows = { D.sync_grows };
 
     fn len(&self) -> u64 {
         self.disk.len()

@@ -1,10 +1,10 @@
 //! What a device holds after a new volume was asked for, even if one of the calls failed.
 
-use disk::{DiskCall, Faults};
+use disk::{Disk, DiskCall, Faults};
 use journal::{Journal, JournalError, Refused};
 use memdisk::MemDisk;
 use names::is_host;
-use new_volume::{Plan, are_sizes, device_octets, format};
+use new_volume::{FORMAT_1, FORMAT_2, Plan, are_sizes, device_octets, format};
 use std::alloc::Global;
 use std::test::Fail;
 use volume::BLOCK_SIZE;
@@ -42,16 +42,20 @@ const BATCH: &[Row] = &[
     ("the sync that commits", DiskCall::Sync, 4, Found::Empty),
 ];
 
-/// A volume of 1,024 blocks and 64 inodes.
-fn plan() -> Option<Plan<'static>> {
+/// A volume of 1,024 blocks and 64 inodes, of this format.
+fn plan(format: u32) -> Option<Plan<'static>> {
     let host: &'static [u8] = b"news.example";
     if !is_host(host) || host.len() > 64 || !are_sizes(1024, 64) {
+        return None;
+    }
+    if format < 1 || format > 2 {
         return None;
     }
     Some(Plan {
         host,
         blocks: 1024,
         inodes: 64,
+        format,
     })
 }
 
@@ -82,7 +86,7 @@ fn found_on(alloc: Global, disk: MemDisk) -> Found {
 
 /// A new volume, asked for while the n-th call of that kind fails.
 fn asked(alloc: Global, kind: DiskCall, n: u64) -> Result<Result<MemDisk, Refused<MemDisk>>, Fail> {
-    let Some(plan) = plan() else {
+    let Some(plan) = plan(FORMAT_2) else {
         return Err("no plan")?;
     };
     let mut disk = MemDisk::new(alloc, device_octets(plan.blocks))?;
@@ -125,16 +129,33 @@ fn faults_in_the_batch_of_a_format(rt: HostRuntime) -> Result<(), Fail> {
     Ok(())
 }
 
-#[test]
-fn a_new_volume_has_the_empty_file_system(rt: HostRuntime) -> Result<(), Fail> {
-    let Some(plan) = plan() else {
+/// A device with a new volume of this format.
+fn formatted(alloc: Global, number: u32) -> Result<MemDisk, Fail> {
+    let Some(plan) = plan(number) else {
         return Err("no plan")?;
     };
-    let disk = MemDisk::new(rt.alloc(), device_octets(plan.blocks))?;
-    let Ok(disk) = format(rt.alloc(), disk, &plan) else {
-        return Err("not formatted")?;
-    };
-    let found = found_on(rt.alloc(), disk);
-    assert_eq!(rt; found, Found::Empty);
+    let disk = MemDisk::new(alloc, device_octets(plan.blocks))?;
+    match format(alloc, disk, &plan) {
+        Ok(disk) => Ok(disk),
+        Err(_) => Err("not formatted")?,
+    }
+}
+
+/// The octet at the gate of the format, which is at place 148 of a device.
+fn gate_on(disk: &mut MemDisk) -> Option<u8> {
+    let mut octet = [0];
+    if disk.len() <= 148 || disk.read(148, &mut octet).is_err() {
+        return None;
+    }
+    Some(octet[0])
+}
+
+#[test]
+fn a_new_volume_has_the_empty_file_system_and_its_format(rt: HostRuntime) -> Result<(), Fail> {
+    for (number, gate) in [(FORMAT_1, 0), (FORMAT_2, 2)] {
+        let mut disk = formatted(rt.alloc(), number)?;
+        assert_eq!(rt; gate_on(&mut disk), Some(gate));
+        assert_eq!(rt; found_on(rt.alloc(), disk), Found::Empty);
+    }
     Ok(())
 }

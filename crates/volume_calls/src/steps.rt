@@ -26,6 +26,9 @@ pub enum Step<'a> {
     Batch(&'a [u32], &'a [u8]),
 }
 
+/// The format of the volume on a device.
+const FORMAT: u32 = 2;
+
 /// A volume of 8 zeroed blocks.
 pub fn zeros(alloc: Global) -> Result<Volume, AllocError> {
     let octets = vec![in alloc; 0; 8 * BLOCK_SIZE]?;
@@ -39,7 +42,7 @@ fn formatted(alloc: Global, blocks: u64) -> Result<MemDisk, FormatError>
 {
     let made = MemDisk::new(alloc, BLOCK_SIZE as u64 * (515 + blocks));
     let mut disk = made.map_err(|_| FormatError::Memory)?;
-    journal::format_with(alloc, &mut disk, 1, blocks, &[0; 128])?;
+    journal::format_with(alloc, &mut disk, 1, blocks, &[0; 128], FORMAT)?;
     Ok(disk)
 }
 

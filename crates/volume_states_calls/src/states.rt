@@ -108,11 +108,11 @@ fn is_group(group: &GroupStatus, row: &GroupRow) -> bool {
         && (group.status, group.overview) == (status, overview)
 }
 
-/// Whether a state is that of a row.
-fn is_state(state: &VolumeStatus, row: &Row) -> bool {
+/// Whether a state is that of a row, in a volume of this format.
+fn is_state(state: &VolumeStatus, row: &Row, format: u32) -> bool {
     let (_, _, blocks, inodes, changes, groups) = *row;
     state.host.as_slice() == HOST
-        && state.format == 1
+        && state.format == format
         && (state.blocks.all, state.blocks.used) == (1024, blocks)
         && (state.inodes.all, state.inodes.used) == (64, inodes)
         && state.changes == changes
@@ -124,14 +124,14 @@ fn is_state(state: &VolumeStatus, row: &Row) -> bool {
             .all(|(group, row)| is_group(group, row))
 }
 
-/// The first row whose state is another.
-fn first_other<'a>(alloc: Global, rows: &'a [Row]) -> Result<Option<&'a str>, Fail> {
+/// The first row whose state is another in a volume of this format.
+fn first_other<'a>(alloc: Global, rows: &'a [Row], format: u32) -> Result<Option<&'a str>, Fail> {
     for row in rows {
         let octets = octets_after(alloc, row.1)?;
-        let Ok(state) = state_of(alloc, octets, HOST) else {
+        let Ok(state) = state_of(alloc, octets, format, HOST) else {
             return Ok(Some(row.0));
         };
-        if !is_state(&state, row) {
+        if !is_state(&state, row, format) {
             return Ok(Some(row.0));
         }
     }
@@ -139,8 +139,14 @@ fn first_other<'a>(alloc: Global, rows: &'a [Row]) -> Result<Option<&'a str>, Fa
 }
 
 #[test]
-fn states_of_volumes(rt: HostRuntime) -> Result<(), Fail> {
-    assert_eq!(rt; first_other(rt.alloc(), rows())?, None);
+fn states_of_volumes_of_format_1(rt: HostRuntime) -> Result<(), Fail> {
+    assert_eq!(rt; first_other(rt.alloc(), rows(), 1)?, None);
+    Ok(())
+}
+
+#[test]
+fn states_of_volumes_of_format_2(rt: HostRuntime) -> Result<(), Fail> {
+    assert_eq!(rt; first_other(rt.alloc(), rows(), 2)?, None);
     Ok(())
 }
 
@@ -152,7 +158,7 @@ fn a_damaged_volume(rt: HostRuntime) -> Result<(), Fail> {
         *marks = 0x0f;
     }
     assert_eq!(rt;
-        state_of(alloc, octets, HOST).err(),
+        state_of(alloc, octets, 2, HOST).err(),
         Some(OpenError::Damaged)
     );
     Ok(())

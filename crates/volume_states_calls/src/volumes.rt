@@ -70,10 +70,11 @@ fn has_room(volume: &Volume) -> bool
     1024 <= count && count <= 65_536
 }
 
-/// The state of a volume with these octets, under this host.
+/// The state of a volume of this format with these octets, under this host.
 pub(crate) fn state_of(
     alloc: Global,
     octets: Vec<u8>,
+    format: u32,
     host: &[u8],
 ) -> Result<VolumeStatus, OpenError> {
     if octets.len() != COUNT as usize * BLOCK_SIZE {
@@ -83,5 +84,5 @@ pub(crate) fn state_of(
     if !has_room(&volume) {
         return Err(OpenError::Memory);
     }
-    volume_status(alloc, &volume, INODES, host)
+    volume_status(alloc, &volume, INODES, format, host)
 }

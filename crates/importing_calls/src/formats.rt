@@ -1,0 +1,48 @@
+//! Volumes of both formats: a store makes its volume one of format 2.
+
+use crate::volumes::formatted;
+use disk::Disk;
+use importing::Store;
+use memdisk::MemDisk;
+use new_volume::{FORMAT_1, FORMAT_2};
+use std::alloc::Global;
+use std::rt::HostRuntime;
+use std::test::Fail;
+
+/// The place of the gate of the format.
+const GATE: u64 = 148;
+
+/// The gate of a device.
+fn gate(disk: &mut MemDisk) -> Result<u8, Fail> {
+    let mut octet = [0];
+    if disk.len() <= GATE || disk.read(GATE, &mut octet).is_err() {
+        return Err("no gate")?;
+    }
+    Ok(octet[0])
+}
+
+/// The writes and syncs that open a store on a new volume of this format. Afterwards it is one of format 2.
+fn calls_to_open(alloc: Global, format: u32) -> Result<(u64, u64), Fail> {
+    let mut disk = formatted(alloc, 1024, 64, format).ok_or("no volume")?;
+    let is_second = gate(&mut disk)? == 2;
+    let (writes, syncs) = disk.counts();
+    let mut disk = Store::open(alloc, disk)?.into_disk();
+    let (all_writes, all_syncs) = disk.counts();
+    if is_second != (format == FORMAT_2) || gate(&mut disk)? != 2 {
+        return Err("another format")?;
+    }
+    Ok((
+        all_writes.wrapping_sub(writes),
+        all_syncs.wrapping_sub(syncs),
+    ))
+}
+
+#[test]
+fn an_upgrade_takes_a_write_and_a_sync(rt: HostRuntime) -> Result<(), Fail> {
+    let (writes, syncs) = calls_to_open(rt.alloc(), FORMAT_2)?;
+    assert_eq!(rt;
+        calls_to_open(rt.alloc(), FORMAT_1)?,
+        (writes.wrapping_add(1), syncs.wrapping_add(1))
+    );
+    Ok(())
+}

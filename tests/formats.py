@@ -1,0 +1,324 @@
+#!/usr/bin/env python3
+"""System tests of the two formats of a volume: a group whose overview has a double-indirect block, and volumes of format 1 that are
+opened. formats.py NEWSD [NAME..]"""
+import json
+import os
+import random
+import signal
+import struct
+import subprocess
+import sys
+import time
+
+from newsd import GROUP, HOST, SECONDS, article, end_with_parent, free_port, message_id, octets
+from playing import Skipped, main
+from syncs import count_calls, have_failed, trace
+
+BLOCK = 4096
+SEGMENT_BLOCKS = 514
+RECORD = 64
+# where the gate of the format stands, and what it holds in the two formats
+FORMAT_AT, IS_FORMAT_1, IS_FORMAT_2 = 148, b"\0", b"\2"
+# other values of the gate, which are format 1 as well
+ODD_GATES = (b"\1", b"\x4d", b"\xff")
+# in an inode
+SIZE_AT, INDIRECT_AT, DOUBLE_AT = 4, 52, 56
+# the octets of the largest file of format 1
+MOST_OF_FORMAT_1 = 4235264
+LARGE = {"blocks": 16384, "inodes": 8192}
+# so long a line of the overview that few articles fill the largest overview of format 1
+REFERENCES = " ".join("<%s@a.example>" % ("r" * 200) for _ in range(36))
+IMPORTED = 640
+# posts that are answered before a server is killed, those under way when it is, and how often
+ANSWERED, UNDER_WAY, KILLS = 20, 40, 2
+# how often an opening is killed
+KILLED_OPENINGS = 12
+
+
+def a_group_goes_on_past_the_largest_file_of_format_1(volume):
+    """Its overview gets more than 1,034 blocks by an import. Servers that more is posted to are killed. Each line is read back."""
+    large = volume.another("large", **LARGE)
+    large.make_group()
+    texts = [text_of(number) for number in range(1, IMPORTED + 1)]
+    done = large.run("import", large.path, given=batch(texts))
+    assert (done.returncode, done.stdout.decode().split("\n")[0], done.stderr) == (0, "filed %d" % IMPORTED, b""), done
+    numbers = articles_there(large)
+    assert len(numbers) == IMPORTED
+    for _ in range(KILLS):
+        told = kill_beside_posts(large, len(numbers))
+        there = articles_there(large)
+        assert numbers == there[:len(numbers)] and len(numbers) + told <= len(there), (len(numbers), told, len(there))
+        numbers = there
+        assert_reads_back(large, numbers)
+    # as one of format 1 it has a file that is too large: it is refused, and stays as it is
+    put_gate(large, IS_FORMAT_1)
+    before = octets(large.path)
+    for word in ("dump", "status"):
+        done = large.run(word, large.path)
+        assert (done.returncode, done.stdout) == (1, b"") and done.stderr.startswith(b"newsd: E5 Damaged"), (word, done)
+    assert octets(large.path) == before
+    put_gate(large, IS_FORMAT_2)
+    assert articles_there(large) == numbers
+
+
+def articles_there(volume):
+    """The numbers of the articles that are there. They are the first ones, in order, and their lines are the group's overview."""
+    lines = volume.dump()
+    numbers = list(range(1, len(lines) - 1))
+    changes = ["%d article %s %s" % (1 + number, message_id(number), GROUP) for number in numbers]
+    assert lines == ["spool %d" % (1 + len(numbers)), "1 group %s y" % GROUP, *changes], lines[:3]
+    assert_has_double(octets(volume.path), sum(map(len, lines_of(numbers))))
+    return numbers
+
+
+def assert_has_double(image, size):
+    """The overview of the group has this many octets, and the blocks that name its blocks are as many as it needs."""
+    _, segments, inodes = struct.unpack_from("<III", image, 12)
+    assert all(image[(1 + SEGMENT_BLOCKS * it) * BLOCK] == 0 for it in range(segments))
+    home = (1 + SEGMENT_BLOCKS * segments) * BLOCK
+    slots = home + (2 + inodes // 64) * BLOCK
+    name = b"o." + GROUP.encode()
+    number = next(it for it in range(inodes) if image[slots + RECORD * it:].startswith(bytes([len(name)]) + name))
+    inode = image[home + 2 * BLOCK + RECORD * number:][:RECORD]
+    found, = struct.unpack_from("<Q", inode, SIZE_AT)
+    indirect, double, spare = struct.unpack_from("<III", inode, INDIRECT_AT)
+    assert found == size > MOST_OF_FORMAT_1, (found, size)
+    assert indirect and double and not spare, (indirect, double, spare)
+    named = struct.unpack_from("<1024I", image, home + BLOCK * double)
+    tables = -(-(-(-size // BLOCK) - 10) // 1024)
+    assert tables > 1 and all(named[:tables - 1]) and not any(named[tables - 1:]), (tables, named[:tables + 1])
+
+
+def kill_beside_posts(volume, there):
+    """Posts to a server that is killed then. Answers how many posts were acknowledged."""
+    with volume.serve() as server, server.call() as caller:
+        for number in range(there + 1, there + 1 + ANSWERED):
+            assert caller.post(posted(number)) == "240 Article received", number
+        under_way = range(there + 1 + ANSWERED, there + 1 + ANSWERED + UNDER_WAY)
+        caller.send(b"".join(b"POST\r\n" + posted(number) for number in under_way))
+        told = ANSWERED
+        for _ in range(random.randrange(UNDER_WAY)):
+            said = caller.line(), caller.line()
+            assert said == ("340 Send article", "240 Article received"), (told, said)
+            told += 1
+        server.kill()
+        return told
+
+
+def assert_reads_back(volume, numbers):
+    """The whole overview, some lines on both sides of the largest file of format 1, and the last article."""
+    lines = lines_of(numbers)
+    size, past = 0, 0
+    while size <= MOST_OF_FORMAT_1:
+        size += len(lines[past])
+        past += 1
+    with volume.serve() as server, server.call() as caller:
+        assert caller.ask("GROUP " + GROUP) == "211 %d 1 %d %s" % (len(numbers), len(numbers), GROUP)
+        for first, last in ((1, len(lines)), (past - 2, past + 2), (past, past), (len(lines), len(lines))):
+            assert caller.ask("OVER %d-%d" % (first, last)).startswith("224 "), (first, last)
+            assert list(iter(caller.line, ".")) == lines[first - 1:last], (first, last)
+        assert caller.ask("ARTICLE %d" % len(numbers)).startswith("220 ")
+        text = "".join(line + "\r\n" for line in iter(caller.line, "."))
+        assert text.encode() == text_of(len(numbers))
+
+
+def posted(number):
+    return article(number).replace(b"\r\n\r\n", b"\r\nReferences: %s\r\n\r\n" % REFERENCES.encode(), 1)
+
+
+def text_of(number):
+    """An article as it is stored."""
+    return posted(number)[:-len(b".\r\n")]
+
+
+def lines_of(numbers):
+    """The lines of the overview of these articles, by docs/FORMATS.md and RFC 3977, section 8.3."""
+    fields = ("one", "a@example.org", "Sun, 09 Sep 2001 01:46:40 +0000")
+    return ["\t".join([str(it), *fields, message_id(it), REFERENCES, str(len(text_of(it))), "1"]) for it in numbers]
+
+
+def batch(texts):
+    """A batch of rnews, with lines that end in CRLF."""
+    return b"".join(b"#! rnews %d\n%s" % (len(text), text) for text in texts)
+
+
+def a_new_volume_has_the_format_that_is_asked(volume):
+    """Without a word it is format 2. The files of two new volumes differ in one octet, and once they were opened in none."""
+    default, first, second = (os.path.join(os.path.dirname(volume.path), name) for name in ("default", "first", "second"))
+    for path, words in ((default, []), (first, ["--format", "1"]), (second, ["--format", "2"])):
+        volume.run("format", path, "--host", HOST, "--blocks", "1024", "--inodes", "64", *words).check_returncode()
+    new = octets(first)
+    assert octets(default) == octets(second) == new[:FORMAT_AT] + IS_FORMAT_2 + new[FORMAT_AT + 1:]
+    assert new[FORMAT_AT:FORMAT_AT + 1] == IS_FORMAT_1
+    for path in (default, first, second):
+        done = volume.run("dump", path)
+        assert (done.returncode, done.stdout) == (0, b"spool 0\n"), done
+    assert octets(default) == octets(first) == octets(second)
+    for word in ("0", "3", "12", "two"):
+        done = volume.run("format", first, "--host", HOST, "--format", word)
+        assert (done.returncode, done.stdout) == (1, b""), (word, done)
+        assert done.stderr.decode().startswith("newsd: E14 Bad: --format '%s' is " % word), (word, done)
+    assert octets(first) == octets(second)
+
+
+def a_volume_of_format_1_is_upgraded_when_it_is_opened(volume):
+    """By each command that opens one, before it does anything else. It has the changes that it had, and takes further ones."""
+    old = format_1(volume, "old")
+    assert status_format(old) == 1 and gate_of(old) == IS_FORMAT_1
+    # a server has upgraded it before it listens
+    with old.serve() as server, server.call() as caller:
+        assert gate_of(old) == IS_FORMAT_2
+        assert server.order("group %s y 1000000000 test" % GROUP) == "1"
+        assert caller.post(article(1)) == "240 Article received"
+        assert server.order("stop") == "stopped"
+        assert server.end() == (0, "")
+    changes = ["spool 2", "1 group %s y" % GROUP, "2 article <1@a.example> %s" % GROUP]
+    assert old.dump() == changes
+    whole = octets(old.path)
+    assert whole[FORMAT_AT:FORMAT_AT + 1] == IS_FORMAT_2 and status_format(old) == 2
+    for gate in (IS_FORMAT_1, *ODD_GATES):
+        for words in (["dump", old.path], ["export", old.path], ["import", old.path]):
+            put_gate(old, gate)
+            assert status_format(old) == 1 and gate_of(old) == gate, (words, gate)
+            old.run(*words).check_returncode()
+            assert octets(old.path) == whole, (words, gate)
+    for number, words in enumerate((["group", old.path, "x.b", "y", "1000000000", "test"], ["expire", old.path, GROUP, "1"]), 3):
+        put_gate(old, IS_FORMAT_1)
+        done = old.run(*words)
+        assert (done.returncode, done.stdout.decode()) == (0, "%d\n" % number), done
+        assert gate_of(old) == IS_FORMAT_2, words
+    assert old.dump() == ["spool 4", *changes[1:], "3 group x.b y", "4 expire %s 1" % GROUP]
+
+
+def an_upgrade_is_one_write_and_one_sync(volume):
+    old, changes = one_with_an_article(volume)
+    again = count_calls([old.program, "dump", old.path])
+    if again is None:
+        raise Skipped("the program can't be traced")
+    put_gate(old, IS_FORMAT_1)
+    upgraded = count_calls([old.program, "dump", old.path])
+    assert (upgraded["pwrite64"], upgraded["fdatasync"]) == (again["pwrite64"] + 1, again["fdatasync"] + 1), (again, upgraded)
+    assert count_calls([old.program, "dump", old.path]) == again
+    assert gate_of(old) == IS_FORMAT_2 and old.dump() == changes
+
+
+def a_sync_that_fails_refuses_the_opening(volume):
+    """The first sync of an opening fails, or that of the upgrade. The next opening does what is left to do."""
+    old, changes = one_with_an_article(volume)
+    for failing, gate in ((1, IS_FORMAT_1), (2, IS_FORMAT_2)):
+        put_gate(old, IS_FORMAT_1)
+        status = status_with_failing_sync([old.program, "dump", old.path], failing)
+        if status is None:
+            raise Skipped("the program can't be traced")
+        # the file keeps what was written, whatever the program was told of the sync
+        assert (status, gate_of(old)) == (1, gate), failing
+        assert old.dump() == changes and gate_of(old) == IS_FORMAT_2
+
+
+def status_with_failing_sync(words, failing):
+    """The status of a run of which this sync, counted from 1, fails as far as the program knows."""
+    seen = [0]
+
+    def at_result(pid, name):
+        seen[0] += name in ("fsync", "fdatasync")
+        if seen[0] == failing and name in ("fsync", "fdatasync"):
+            have_failed(pid)
+
+    return trace(words, at_result, is_silent=True)
+
+
+def an_opening_that_is_killed_keeps_the_changes(volume):
+    """It is killed at random moments, in one of the two formats each time."""
+    old, changes = one_with_an_article(volume)
+    start = time.monotonic()
+    old.dump()
+    seconds = time.monotonic() - start
+    found = []
+    for _ in range(KILLED_OPENINGS):
+        put_gate(old, IS_FORMAT_1)
+        words = [old.program, "dump", old.path]
+        process = subprocess.Popen(words, stdout=subprocess.DEVNULL, stderr=subprocess.DEVNULL, preexec_fn=end_with_parent)
+        try:
+            process.wait(random.uniform(0, seconds))
+        except subprocess.TimeoutExpired:
+            process.kill()
+        assert process.wait(SECONDS) in (0, -signal.SIGKILL)
+        found.append(gate_of(old)[0])
+        assert old.dump() == changes and gate_of(old) == IS_FORMAT_2
+    assert set(found) <= {0, 2}, found
+    print("  the gate after each kill", found, flush=True)
+
+
+def what_is_refused_keeps_its_format(volume):
+    """A volume that is no spool, or is in use, is not upgraded."""
+    old, changes = one_with_an_article(volume)
+    put_gate(old, IS_FORMAT_1)
+    whole = octets(old.path)
+    _, segments = struct.unpack_from("<II", whole, 12)
+    home = (1 + SEGMENT_BLOCKS * segments) * BLOCK
+    for place, refusal in ((0, "E3 NotAVolume"), (FORMAT_AT + 1, "E3 NotAVolume"), (20, "E3 NotAVolume"), (home, "E5 Damaged")):
+        damaged = whole[:place] + bytes([whole[place] ^ 0xff]) + whole[place + 1:]
+        write(old.path, damaged)
+        for words in (["dump", old.path], ["import", old.path], ["serve", old.path, "--port", str(free_port())]):
+            done = old.run(*words)
+            assert (done.returncode, done.stdout) == (1, b""), (place, words, done)
+            assert done.stderr.decode().startswith("newsd: " + refusal), (place, words, done)
+            assert octets(old.path) == damaged, (place, words)
+    write(old.path, whole)
+    assert old.dump() == changes and gate_of(old) == IS_FORMAT_2
+
+
+def one_with_an_article(volume):
+    """A volume with an article, none of whose segments is open, and its changes."""
+    old = volume.another("old", blocks=1024, inodes=64)
+    old.make_group()
+    old.run("import", old.path, given=batch([text_of(1)])).check_returncode()
+    changes = old.dump()
+    assert changes == ["spool 2", "1 group %s y" % GROUP, "2 article %s %s" % (message_id(1), GROUP)], changes
+    return old, changes
+
+
+def format_1(volume, name):
+    """A new volume of format 1."""
+    old = volume.another(name, blocks=1024, inodes=64)
+    old.run("format", old.path, "--host", HOST, "--blocks", "1024", "--inodes", "64", "--format", "1").check_returncode()
+    return old
+
+
+def status_format(volume):
+    done = volume.run("status", volume.path, "--json")
+    assert (done.returncode, done.stderr) == (0, b""), done
+    return json.loads(done.stdout)["format"]
+
+
+def gate_of(volume):
+    """The octet that is the gate of its format."""
+    with open(volume.path, "rb") as file:
+        file.seek(FORMAT_AT)
+        return file.read(1)
+
+
+def put_gate(volume, gate):
+    with open(volume.path, "r+b") as file:
+        file.seek(FORMAT_AT)
+        file.write(gate)
+
+
+def write(path, content):
+    with open(path, "wb") as file:
+        file.write(content)
+
+
+TESTS = [
+    a_group_goes_on_past_the_largest_file_of_format_1,
+    a_new_volume_has_the_format_that_is_asked,
+    a_volume_of_format_1_is_upgraded_when_it_is_opened,
+    an_upgrade_is_one_write_and_one_sync,
+    a_sync_that_fails_refuses_the_opening,
+    an_opening_that_is_killed_keeps_the_changes,
+    what_is_refused_keeps_its_format,
+]
+
+
+if __name__ == "__main__":
+    sys.exit(main(TESTS))
