@@ -20,7 +20,12 @@ use Rattle.answers.specs.declared.messages.Step.{Step}
 module _ (host : Octets) (S : Spool) (x : Session) (t : ℕ) (m : Message) where
   -- by whether it is an article that is too long
   abbrev by_length : Bool → Step
-  by_length b = if b then record { answer = says (awaiting x awaits.Line) not_accepted; mark = mark.Long; reads = 0 } else record { answer = served host S x t x.awaits m; mark = mark.Served; reads = served_reads host S x t x.awaits m }
+  by_length b = if b then record { answer = says (awaiting x awaits.Line) not_accepted; mark = mark.Long; reads = 0 } else record {
+    answer =
+        served host S x t x.awaits m;
+    mark = mark.Served;
+    reads = served_reads host S x t x.awaits m;
+  }
 
   answer_by : (b : Bool) → (by_length b).answer ≡ answer host S x m t (by_length b).mark
   unfolding answer
@@ -44,15 +49,25 @@ module _ (host : Octets) (S : Spool) (x : Session) (t : ℕ) (m : Message) where
 
   pub step_mark : (s : Step) → s ≡ step_of host S x t x.awaits m → s.mark ≡ (if is_long host S x m then mark.Long else mark.Served)
   unfolding is_long
-  step_mark s is = subst (λ (s : Step). s.mark ≡ (if is_long_by host S x.awaits m then mark.Long else mark.Served)) (sym is) (mark_by (is_long_by host S x.awaits m))
+  step_mark s is = subst (λ (s : Step). s.mark ≡ (if is_long_by host S x.awaits m then mark.Long else mark.Served)) (sym is)
+      (mark_by (is_long_by host S x.awaits m))
 
 -- What is said of a posted article is its step.
 module _ (host : Octets) (S : Spool) (x : Session) (t : ℕ) (text : Octets) where
   abbrev said_by : Bool → Posted
-  said_by b = if b then record { answered = answered (then_line x not_accepted None) 0; mark = mark.Long } else record { answered = answered (post_answer host S x t text) (outcome_reads S (post_outcome host S text)); mark = mark.Served }
+  said_by b = if b then record { answered = answered (then_line x not_accepted None) 0; mark = mark.Long } else record {
+    answered =
+        answered (post_answer host S x t text) (outcome_reads S (post_outcome host S text));
+    mark = mark.Served;
+  }
 
   abbrev step_by : Bool → Step
-  step_by b = if b then record { answer = says (awaiting x awaits.Line) not_accepted; mark = mark.Long; reads = 0 } else record { answer = served host S x t awaits.PostBlock (message.Block text); mark = mark.Served; reads = served_reads host S x t awaits.PostBlock (message.Block text) }
+  step_by b = if b then record { answer = says (awaiting x awaits.Line) not_accepted; mark = mark.Long; reads = 0 } else record {
+    answer =
+        served host S x t awaits.PostBlock (message.Block text);
+    mark = mark.Served;
+    reads = served_reads host S x t awaits.PostBlock (message.Block text);
+  }
 
   posted_by : (b : Bool) → posted_step (said_by b) ≡ step_by b
   unfolding served served_reads

@@ -31,7 +31,8 @@ pub(crate) fn command<L: LookUps>(
 ) -> Result<Answered, AllocError>
     requires grammar { IsInGrammar command.now }
     requires moment { moment < moment_limit }
-    ensures { IfOk result (λ r. r ≡ answered (command_answer (L.host_of spool.now) (L.changes spool.now) session.now moment command.now) (command_reads (L.host_of spool.now) (L.changes spool.now) session.now moment command.now)) }
+    ensures { IfOk result (λ r. r ≡ answered (command_answer (L.host_of spool.now) (L.changes spool.now) session.now moment command.now)
+        (command_reads (L.host_of spool.now) (L.changes spool.now) session.now moment command.now)) }
 {
     match command {
         Command::Capabilities => fixed(alloc, session, Block::Capabilities),
@@ -88,7 +89,9 @@ fn list_whole<L: LookUps>(
     session: &Session,
     name: &[u8],
 ) -> Result<Answered, AllocError>
-    ensures { IfOk result (λ r. r ≡ answered (command_answer (L.host_of spool.now) (L.changes spool.now) session.now 0 (asked.ListGroup name.now)) (command_reads (L.host_of spool.now) (L.changes spool.now) session.now 0 (asked.ListGroup name.now))) }
+    ensures { IfOk result (λ r. r ≡ answered
+        (command_answer (L.host_of spool.now) (L.changes spool.now) session.now 0 (asked.ListGroup name.now))
+        (command_reads (L.host_of spool.now) (L.changes spool.now) session.now 0 (asked.ListGroup name.now))) }
 {
     let all = Range {
         first: 1,
@@ -106,7 +109,9 @@ fn fetch<L: LookUps>(
     part: &Part,
     selector: &Selector,
 ) -> Result<Answered, AllocError>
-    ensures { IfOk result (λ r. r ≡ answered (command_answer (L.host_of spool.now) (L.changes spool.now) session.now 0 (asked.Fetch part.now selector.now)) (command_reads (L.host_of spool.now) (L.changes spool.now) session.now 0 (asked.Fetch part.now selector.now))) }
+    ensures { IfOk result (λ r. r ≡ answered
+        (command_answer (L.host_of spool.now) (L.changes spool.now) session.now 0 (asked.Fetch part.now selector.now))
+        (command_reads (L.host_of spool.now) (L.changes spool.now) session.now 0 (asked.Fetch part.now selector.now))) }
 {
     match selector {
         Selector::Current => fetch_current(alloc, spool, session, part),

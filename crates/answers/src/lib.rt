@@ -30,9 +30,12 @@ pub fn step<L: LookUps>(
     moment: u64,
 ) -> Result<Step, AllocError>
     requires { moment < moment_limit }
-    ensures answer { IfOk result (λ step. step.answer ≡ answers.answer (L.host_of spool.now) (L.changes spool.now) session.now message.now moment step.mark) }
-    ensures reads { IfOk result (λ step. step.reads ≡ reads (L.host_of spool.now) (L.changes spool.now) session.now message.now moment step.mark) }
-    ensures mark { IfOk result (λ step. step.mark ≡ if answers.is_long (L.host_of spool.now) (L.changes spool.now) session.now message.now then mark.Long else mark.Served) }
+    ensures answer { IfOk result (λ step. step.answer ≡ answers.answer (L.host_of spool.now)
+        (L.changes spool.now) session.now message.now moment step.mark) }
+    ensures reads { IfOk result (λ step. step.reads ≡ reads (L.host_of spool.now) (L.changes spool.now) session.now message.now moment
+        step.mark) }
+    ensures mark { IfOk result (λ step. step.mark ≡ if answers.is_long (L.host_of spool.now)
+        (L.changes spool.now) session.now message.now then mark.Long else mark.Served) }
 {
     Ok(by_kind(alloc, spool, session, message, moment)?)
 }
@@ -46,7 +49,8 @@ fn by_kind<L: LookUps>(
     moment: u64,
 ) -> Result<Step, AllocError>
     requires { moment < moment_limit }
-    ensures { IfOk result (λ step. step ≡ step_of (L.host_of spool.now) (L.changes spool.now) session.now moment session.now.awaits message.now) }
+    ensures { IfOk result (λ step. step ≡ step_of (L.host_of spool.now) (L.changes spool.now) session.now moment session.now.awaits
+        message.now) }
 {
     match &session.awaits {
         Awaits::Line => at_line(alloc, spool, session, message, moment),

@@ -70,7 +70,9 @@ fn line<L: LookUps>(
     moment: u64,
 ) -> Result<Answered, AllocError>
     requires { moment < moment_limit }
-    ensures { IfOk result (λ r. r ≡ answered (line_answer (L.host_of spool.now) (L.changes spool.now) session.now moment (parsed_line text.now)) (line_reads (L.host_of spool.now) (L.changes spool.now) session.now moment (parsed_line text.now))) }
+    ensures { IfOk result (λ r. r ≡ answered
+        (line_answer (L.host_of spool.now) (L.changes spool.now) session.now moment (parsed_line text.now))
+        (line_reads (L.host_of spool.now) (L.changes spool.now) session.now moment (parsed_line text.now))) }
 {
     arguments_are_in_grammar();
     match grammar::read(alloc, text)? {
@@ -112,7 +114,8 @@ pub(crate) fn at_post<L: LookUps>(
     moment: u64,
 ) -> Result<Step, AllocError>
     requires { moment < moment_limit }
-    ensures { IfOk result (λ step. step ≡ step_of (L.host_of spool.now) (L.changes spool.now) session.now moment waits.PostBlock message.now) }
+    ensures { IfOk result (λ step. step ≡ step_of (L.host_of spool.now) (L.changes spool.now) session.now moment waits.PostBlock
+        message.now) }
 {
     match message {
         Message::Block(text) => {
@@ -134,7 +137,8 @@ pub(crate) fn at_ihave<L: LookUps>(
     message: &Message,
     moment: u64,
 ) -> Result<Step, AllocError>
-    ensures { IfOk result (λ step. step ≡ step_of (L.host_of spool.now) (L.changes spool.now) session.now moment (waits.IhaveBlock id.now) message.now) }
+    ensures { IfOk result (λ step. step ≡ step_of (L.host_of spool.now) (L.changes spool.now) session.now moment
+        (waits.IhaveBlock id.now) message.now) }
 {
     match message {
         Message::Block(text) => {

@@ -1,5 +1,6 @@
 -- The header of a text, line by line.
-use Rattle.std.specs.Prelude.{◌≡◌, ℕ, zero, suc, ◌+◌, ◌<◌, ◌≤◌, Bool, true, false, not, ◌||◌, cond, List, [], ◌∷◌, ◌++◌, length, take, drop, bytes_eq}
+use Rattle.std.specs.Prelude.{◌≡◌, ℕ, zero, suc, ◌+◌, ◌<◌, ◌≤◌, Bool, true, false, not, ◌||◌, cond, List, [], ◌∷◌, ◌++◌, length, take, drop}
+use Rattle.std.specs.Prelude.{bytes_eq}
 use Rattle.std.specs.List.{concat, list_any, onto_first, prefix_len, take_while}
 use Rattle.std.proofs.Common.{sym, ◌∙◌, ap, inl, inr, refl, arith}
 use Rattle.std.proofs.lemmas.List.{append_assoc, append-nil, drop_all, drop-drop, length-drop, nil_from_length, take_all}
@@ -32,7 +33,8 @@ concat-lines_after : (before : ℕ) (text : Octets) → concat (lines_after befo
 unfolding lines_after
 concat-lines_after before [] = refl
 concat-lines_after before (x ∷ rest) = by_test (bytes_eq crlf (before ∷ x ∷ [])) (concat-lines_after x rest) where
-  by_test : (b : Bool) → concat (lines_after x rest) ≡ rest → concat (cond b ((x ∷ []) ∷ lines_after x rest) (onto_first x (lines_after x rest))) ≡ x ∷ rest
+  by_test : (b : Bool) → concat (lines_after x rest) ≡ rest
+      → concat (cond b ((x ∷ []) ∷ lines_after x rest) (onto_first x (lines_after x rest))) ≡ x ∷ rest
   by_test true later = ap (λ l. x ∷ l) later
   by_test false later = concat-onto_first x (lines_after x rest) ∙ ap (λ l. x ∷ l) later
 
@@ -59,10 +61,12 @@ least_line text some = elim (end_cases mode.Line text) [
 -- a text that begins with a line
 module _ (text line later : Octets) (first : lines text ≡ line ∷ lines later) where
   pub header_lines-line : bytes_eq line crlf ≡ false → header_lines text ≡ line ∷ header_lines later
-  header_lines-line other = ap (take_while (λ l. not (bytes_eq l crlf))) first ∙ taken (λ l. not (bytes_eq l crlf)) line (lines later) (not_from_false _ other)
+  header_lines-line other = ap (take_while (λ l. not (bytes_eq l crlf))) first
+      ∙ taken (λ l. not (bytes_eq l crlf)) line (lines later) (not_from_false _ other)
 
   pub header_lines-end : bytes_eq line crlf ≡ true → header_lines text ≡ []
-  header_lines-end ends = ap (take_while (λ l. not (bytes_eq l crlf))) first ∙ not_taken (λ l. not (bytes_eq l crlf)) line (lines later) (ap not ends)
+  header_lines-end ends = ap (take_while (λ l. not (bytes_eq l crlf))) first
+      ∙ not_taken (λ l. not (bytes_eq l crlf)) line (lines later) (ap not ends)
 
   pub header-line : bytes_eq line crlf ≡ false → header text ≡ line ++ header later
   header-line other = ap concat (header_lines-line other)
@@ -71,7 +75,8 @@ module _ (text line later : Octets) (first : lines text ≡ line ∷ lines later
   body-line other =
       ap (λ ls. concat (drop (length ls + 1) (lines text))) (header_lines-line other)
       ∙ ap (λ ls. concat (drop (length (line ∷ header_lines later) + 1) ls)) first
-      ∙ ap (λ n. concat (drop n (line ∷ lines later))) (let e : length (line ∷ header_lines later) + 1 ≡ suc (length (header_lines later) + 1) = omega arith in e)
+      ∙ ap (λ n. concat (drop n (line ∷ lines later)))
+      (let e : length (line ∷ header_lines later) + 1 ≡ suc (length (header_lines later) + 1) = omega arith in e)
 
   pub body-end : bytes_eq line crlf ≡ true → body text ≡ later
   body-end ends =
@@ -96,10 +101,12 @@ pub IsAt-start : (text : Octets) → IsAt text text 0
 IsAt-start text = record { within = omega arith; place = refl; header = refl; body = refl; ends = refl }
 
 -- one line further
-pub IsAt-line : (text rest line later : Octets) (at n : ℕ) → IsAt text rest at → n ≤ length rest → line ≡ take n rest → later ≡ drop n rest → lines rest ≡ take n rest ∷ lines (drop n rest)
+pub IsAt-line : (text rest line later : Octets) (at n : ℕ) → IsAt text rest at → n ≤ length rest → line ≡ take n rest → later ≡ drop n rest
+    → lines rest ≡ take n rest ∷ lines (drop n rest)
     → bytes_eq line crlf ≡ false → IsAt text later (at + n)
 IsAt-line text rest line later at n before fits front back first other =
-    let same : lines rest ≡ line ∷ lines later = first ∙ ap (λ l. l ∷ lines (drop n rest)) (sym front) ∙ ap (λ l. line ∷ lines l) (sym back) in
+    let same : lines rest ≡ line ∷ lines later = first ∙ ap (λ l. l ∷ lines (drop n rest)) (sym front)
+    ∙ ap (λ l. line ∷ lines l) (sym back) in
     record {
       within = omega (arith, before.within, fits, ap length before.place, length-drop at text);
       place = back ∙ ap (drop n) before.place ∙ drop-drop n at text;
@@ -113,10 +120,12 @@ IsAt-line text rest line later at n before fits front back first other =
     }
 
 -- at the empty line
-pub IsHeader-end : (text rest line later : Octets) (at n : ℕ) → IsAt text rest at → n ≤ length rest → line ≡ take n rest → later ≡ drop n rest → length line ≡ n → lines rest ≡ take n rest ∷ lines (drop n rest)
+pub IsHeader-end : (text rest line later : Octets) (at n : ℕ) → IsAt text rest at → n ≤ length rest → line ≡ take n rest
+    → later ≡ drop n rest → length line ≡ n → lines rest ≡ take n rest ∷ lines (drop n rest)
     → bytes_eq line crlf ≡ true → IsHeader text at
 IsHeader-end text rest line later at n before fits front back size first ends =
-    let same : lines rest ≡ line ∷ lines later = first ∙ ap (λ l. l ∷ lines (drop n rest)) (sym front) ∙ ap (λ l. line ∷ lines l) (sym back) in
+    let same : lines rest ≡ line ∷ lines later = first ∙ ap (λ l. l ∷ lines (drop n rest)) (sym front)
+    ∙ ap (λ l. line ∷ lines l) (sym back) in
     let two : 2 ≡ n = sym (ap length ((bytes_eq-Decides line crlf).0 ends)) ∙ size in
     let none : header rest ≡ [] = ap concat (header_lines-end rest line later same ends) in
     record {
@@ -125,7 +134,8 @@ IsHeader-end text rest line later at n before fits front back size first ends =
       body =
           before.body ∙ body-end rest line later same ends ∙ back ∙ ap (λ k. drop k rest) (sym two) ∙ ap (drop 2) before.place
           ∙ drop-drop 2 at text;
-      ends = before.ends ∙ empty_line-end rest line later same ends ∙ sym (lt-ltb _ _ (omega (arith, fits, two, ap length before.place, length-drop at text)));
+      ends = before.ends ∙ empty_line-end rest line later same ends
+          ∙ sym (lt-ltb _ _ (omega (arith, fits, two, ap length before.place, length-drop at text)));
       room = λ below. omega (arith, fits, two, ap length before.place, length-drop at text);
     }
 
@@ -136,9 +146,11 @@ IsHeader-rest text rest at before none =
     let short : length text ≤ at = omega (arith, none, ap length before.place, length-drop at text) in
     record {
       within = before.within;
-      header = before.header ∙ ap (λ r. take at text ++ header r) empty ∙ ap (λ h. take at text ++ concat h) header_lines-empty ∙ append-nil (take at text);
+      header = before.header ∙ ap (λ r. take at text ++ header r) empty ∙ ap (λ h. take at text ++ concat h) header_lines-empty
+          ∙ append-nil (take at text);
       body =
-          before.body ∙ ap body empty ∙ ap (λ h. concat (drop (length h + 1) (lines []))) header_lines-empty ∙ ap (λ ls. concat (drop 1 ls)) lines-empty
+          before.body ∙ ap body empty ∙ ap (λ h. concat (drop (length h + 1) (lines []))) header_lines-empty
+          ∙ ap (λ ls. concat (drop 1 ls)) lines-empty
           ∙ sym (drop_all (at + 2) text (omega arith));
       ends = before.ends ∙ ap has_empty_line empty ∙ ap (list_any (λ line. bytes_eq line crlf)) lines-empty ∙ sym (le-ltb _ _ short);
       room = λ below. absurd (omega arith);

@@ -1,17 +1,22 @@
 -- The cause of a text, by its lines and then by its fields.
-use Rattle.std.specs.Prelude.{◌≡◌, ℕ, ◌+◌, Bool, true, false, not, ◌&&◌, nat_le, cond, List, [], ◌∷◌, ◌++◌, length, codes, Option, Some, None, IsTrue}
+use Rattle.std.specs.Prelude.{◌≡◌, ℕ, ◌+◌, Bool, true, false, not, ◌&&◌, nat_le, cond, List, [], ◌∷◌, ◌++◌, length, codes, Option, Some}
+use Rattle.std.specs.Prelude.{None, IsTrue}
 use Rattle.std.specs.Option.{option_or}
 use Rattle.std.proofs.Common.{sym, ◌∙◌, ap, refl}
 use Rattle.std.proofs.lemmas.List.{length-append, length-take-le}
 use Rattle.model.specs.Stream.{Octets}
-use Rattle.model.specs.Article.{Origin, Posted, Carried, Cause, WrongOctets, NoEnd, Field, Twice, Missing, Id, Groups, Long, as_stored, cause, cause_but_long, content, fields, has_empty_line, header, is_short as is_short_text, first_cause, has_lines_alone, has_fields_alone, header_lines}
+use Rattle.model.specs.Article.{Origin, Posted, Carried, Cause, WrongOctets, NoEnd, Field, Twice, Missing, Id, Groups, Long, as_stored}
+use Rattle.model.specs.Article.{cause, cause_but_long, content, fields, has_empty_line, header, is_short as is_short_text, first_cause}
+use Rattle.model.specs.Article.{has_lines_alone, has_fields_alone, header_lines}
 use Rattle.model.proofs.Stored.{header_stored}
 use Rattle.article.specs.Header.{IsHeader}
 use Rattle.article.specs.Origins.{HasSmallSerial, names_host}
-use Rattle.article.specs.Causes.{content_in, field_cause, front_for, has_good_groups, has_good_id, has_twice, is_short, lacks_field, shape_cause}
+use Rattle.article.specs.Causes.{content_in, field_cause, front_for, has_good_groups, has_good_id, has_twice, is_short, lacks_field}
+use Rattle.article.specs.Causes.{shape_cause}
 
 -- the text as it would be stored, by what is put in front
-stored_header : (origin : Origin) (text : Octets) → IsTrue (names_host origin) → HasSmallSerial origin → header (as_stored origin text) ≡ front_for origin (fields text) ++ header text
+stored_header : (origin : Origin) (text : Octets) → IsTrue (names_host origin) → HasSmallSerial origin
+    → header (as_stored origin text) ≡ front_for origin (fields text) ++ header text
 stored_header (Posted host serial) text good small = header_stored host text serial 0 good small
 stored_header Carried text good small = refl
 
@@ -19,18 +24,24 @@ stored_text : (origin : Origin) (text : Octets) → as_stored origin text ≡ fr
 stored_text (Posted host serial) text = refl
 stored_text Carried text = refl
 
-short_same : (origin : Origin) (text : Octets) → IsTrue (names_host origin) → HasSmallSerial origin → is_short_text (as_stored origin text) ≡ is_short (length (header text)) (length text) (length (front_for origin (fields text)))
+short_same : (origin : Origin) (text : Octets) → IsTrue (names_host origin) → HasSmallSerial origin
+    → is_short_text (as_stored origin text) ≡ is_short (length (header text)) (length text) (length (front_for origin (fields text)))
 short_same origin text good small =
     ap (λ h. nat_le (length h) 8_192 && nat_le (length (as_stored origin text)) 262_144) (stored_header origin text good small)
-    ∙ ap (λ n. nat_le n 8_192 && nat_le (length (as_stored origin text)) 262_144) (length-append (front_for origin (fields text)) (header text))
-    ∙ ap (λ t. nat_le (length (front_for origin (fields text)) + length (header text)) 8_192 && nat_le (length t) 262_144) (stored_text origin text)
-    ∙ ap (λ n. nat_le (length (front_for origin (fields text)) + length (header text)) 8_192 && nat_le n 262_144) (length-append (front_for origin (fields text)) text)
+    ∙ ap (λ n. nat_le n 8_192 && nat_le (length (as_stored origin text)) 262_144)
+    (length-append (front_for origin (fields text)) (header text))
+    ∙ ap (λ t. nat_le (length (front_for origin (fields text)) + length (header text)) 8_192 && nat_le (length t) 262_144)
+    (stored_text origin text)
+    ∙ ap (λ n. nat_le (length (front_for origin (fields text)) + length (header text)) 8_192 && nat_le n 262_144)
+    (length-append (front_for origin (fields text)) text)
 
 abbrev first_three : Bool → Bool → Bool → Option Cause
 first_three a b c = first_cause ((a, WrongOctets) ∷ (b, NoEnd) ∷ (c, Field) ∷ [])
 
 abbrev all_eight : Bool → Bool → Bool → Bool → Bool → Bool → Bool → Bool → Option Cause
-all_eight a b c d e f g h = option_or (first_cause ((a, WrongOctets) ∷ (b, NoEnd) ∷ (c, Field) ∷ (d, Twice) ∷ (e, Missing) ∷ (f, Id) ∷ (g, Groups) ∷ [])) (cond h None (Some Long))
+all_eight a b c d e f g h = option_or
+    (first_cause ((a, WrongOctets) ∷ (b, NoEnd) ∷ (c, Field) ∷ (d, Twice) ∷ (e, Missing) ∷ (f, Id) ∷ (g, Groups) ∷ []))
+    (cond h None (Some Long))
 
 lines_first : (a b c d e f g h : Bool) (x : Cause) → first_three a b c ≡ Some x → all_eight a b c d e f g h ≡ Some x
 lines_first true b c d e f g h x is = is
@@ -38,7 +49,8 @@ lines_first false true c d e f g h x is = is
 lines_first false false true d e f g h x is = is
 lines_first false false false d e f g h x is = absurd (cc)
 
-fields_then : (a b c d e f g h : Bool) → first_three a b c ≡ None → all_eight a b c d e f g h ≡ first_cause ((d, Twice) ∷ (e, Missing) ∷ (f, Id) ∷ (g, Groups) ∷ (not h, Long) ∷ [])
+fields_then : (a b c d e f g h : Bool) → first_three a b c ≡ None
+    → all_eight a b c d e f g h ≡ first_cause ((d, Twice) ∷ (e, Missing) ∷ (f, Id) ∷ (g, Groups) ∷ (not h, Long) ∷ [])
 fields_then true b c d e f g h is = absurd (cc)
 fields_then false true c d e f g h is = absurd (cc)
 fields_then false false true d e f g h is = absurd (cc)
@@ -53,24 +65,31 @@ fields_then false false false false false false false false is = refl
 pub cause-lines : (origin : Origin) (text : Octets) (x : Cause) → shape_cause text ≡ Some x → cause origin text ≡ Some x
 unfolding cause cause_but_long
 cause-lines origin text x is =
-    lines_first (not (has_lines_alone text)) (not (has_empty_line text)) (not (has_fields_alone (header_lines text))) (has_twice (fields text)) (lacks_field origin (fields text))
-    (not (has_good_id origin (fields text))) (not (has_good_groups (content (codes "Newsgroups") text))) (is_short_text (as_stored origin text)) x is
+    lines_first (not (has_lines_alone text)) (not (has_empty_line text)) (not (has_fields_alone (header_lines text)))
+    (has_twice (fields text)) (lacks_field origin (fields text))
+    (not (has_good_id origin (fields text))) (not (has_good_groups (content (codes "Newsgroups") text)))
+    (is_short_text (as_stored origin text)) x is
 
 -- then those of the fields follow
-pub cause-fields : (origin : Origin) (text : Octets) (all : List Octets) (newsgroups : Octets) (n added : ℕ) (short : Bool) → IsTrue (names_host origin) → HasSmallSerial origin → shape_cause text ≡ None
-    → all ≡ fields text → newsgroups ≡ content_in (codes "Newsgroups") all → IsHeader text n → added ≡ length (front_for origin all) → short ≡ is_short n (length text) added
+pub cause-fields : (origin : Origin) (text : Octets) (all : List Octets) (newsgroups : Octets) (n added : ℕ) (short : Bool)
+    → IsTrue (names_host origin) → HasSmallSerial origin → shape_cause text ≡ None
+    → all ≡ fields text → newsgroups ≡ content_in (codes "Newsgroups") all → IsHeader text n → added ≡ length (front_for origin all)
+    → short ≡ is_short n (length text) added
     → field_cause origin all newsgroups short ≡ cause origin text
 unfolding cause cause_but_long
 cause-fields origin text all newsgroups n added short good small none same said at size is =
     let length_header : length (header text) ≡ n = ap length at.header ∙ length-take-le n text at.within in
     let brief : short ≡ is_short_text (as_stored origin text) =
     is ∙ ap (is_short n (length text)) (size ∙ ap (λ fs. length (front_for origin fs)) same)
-    ∙ ap (λ k. is_short k (length text) (length (front_for origin (fields text)))) (sym length_header) ∙ sym (short_same origin text good small) in
+    ∙ ap (λ k. is_short k (length text) (length (front_for origin (fields text)))) (sym length_header)
+    ∙ sym (short_same origin text good small) in
     ap (λ s. field_cause origin all newsgroups s) brief
     ∙ ap (λ g. field_cause origin all g (is_short_text (as_stored origin text))) (said ∙ ap (content_in (codes "Newsgroups")) same)
     ∙ ap (λ fs. field_cause origin fs (content (codes "Newsgroups") text) (is_short_text (as_stored origin text))) same
-    ∙ sym (fields_then (not (has_lines_alone text)) (not (has_empty_line text)) (not (has_fields_alone (header_lines text))) (has_twice (fields text)) (lacks_field origin (fields text))
-    (not (has_good_id origin (fields text))) (not (has_good_groups (content (codes "Newsgroups") text))) (is_short_text (as_stored origin text)) none)
+    ∙ sym (fields_then (not (has_lines_alone text)) (not (has_empty_line text)) (not (has_fields_alone (header_lines text)))
+    (has_twice (fields text)) (lacks_field origin (fields text))
+    (not (has_good_id origin (fields text))) (not (has_good_groups (content (codes "Newsgroups") text)))
+    (is_short_text (as_stored origin text)) none)
 
 -- a text whose lines have no cause has an empty line
 pub shape-ends : (text : Octets) → shape_cause text ≡ None → has_empty_line text ≡ true

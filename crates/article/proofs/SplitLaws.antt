@@ -1,5 +1,6 @@
 -- The lines of a text, and the places of CRLF in it.
-use Rattle.std.specs.Prelude.{◌≡◌, ℕ, zero, suc, ◌+◌, ◌-◌, ◌<◌, ◌≤◌, true, false, nat_eq, [], ◌∷◌, ◌++◌, length, take, drop, get_or, flat_map}
+use Rattle.std.specs.Prelude.{◌≡◌, ℕ, zero, suc, ◌+◌, ◌-◌, ◌<◌, ◌≤◌, true, false, nat_eq, [], ◌∷◌, ◌++◌, length, take, drop, get_or}
+use Rattle.std.specs.Prelude.{flat_map}
 use Rattle.std.specs.List.{ends_with}
 use Rattle.std.proofs.Common.{sym, ◌∙◌, ap, arith, inl, inr}
 use Rattle.std.proofs.lemmas.Bool.{cond-true, cond-false, true≢false}
@@ -32,12 +33,14 @@ occurs-left text last k low at = record {
 }
 
 -- no CRLF stands in the first line before its end
-none_before : (text : Octets) (last n : ℕ) → ((k : ℕ) → k < n → ends_with nat_eq (take k (drop last text)) crlf ≡ false) → Nowhere (OccursAt text crlf) last (last + (n - 2))
+none_before : (text : Octets) (last n : ℕ) → ((k : ℕ) → k < n → ends_with nat_eq (take k (drop last text)) crlf ≡ false)
+    → Nowhere (OccursAt text crlf) last (last + (n - 2))
 none_before text last n first k low below at =
     absurd (true≢false (sym (ends_there (drop last text) (k - last) (occurs-left text last k low at)) ∙ first (k - last + 2) (omega arith)))
 
 -- the line ends at the first CRLF
-matches-line : (text : Octets) (last n : ℕ) → last ≤ length text → EndsAt mode.Line (drop last text) n → matches text crlf last ≡ (last + (n - 2)) ∷ matches text crlf (last + n)
+matches-line : (text : Octets) (last n : ℕ) → last ≤ length text → EndsAt mode.Line (drop last text) n
+    → matches text crlf last ≡ (last + (n - 2)) ∷ matches text crlf (last + n)
 matches-line text last n within at =
     let two = too_early (drop last text) n at.within at.ends in
     let found = occurs-whole text last (n - 2) within (occurs (drop last text) n at.within at.ends) in
@@ -92,21 +95,31 @@ unfolded-line text last n within at later =
     ∙ ap (λ m. take (n - 2) rest ++ replaced_at text 2 [] m (matches text crlf (last + n))) next)
 
 -- the last line has no CRLF
-unfolded-last : (text : Octets) (last : ℕ) → NeverEnds mode.Line (drop last text) → unfolded (drop last text) ≡ replaced_at text 2 [] last (matches text crlf last)
+unfolded-last : (text : Octets) (last : ℕ) → NeverEnds mode.Line (drop last text)
+    → unfolded (drop last text) ≡ replaced_at text 2 [] last (matches text crlf last)
 unfolded-last text last never =
-    unfolded-never (drop last text) never ∙ sym (ap (replaced_at text 2 [] last) (matches-never text last never) ∙ replaced-end text 2 [] last)
+    unfolded-never (drop last text) never
+    ∙ sym (ap (replaced_at text 2 [] last) (matches-never text last never) ∙ replaced-end text 2 [] last)
 
 -- the lines without their CRLF are what is left where each CRLF is taken out
-unfolded-from : (fuel last : ℕ) (text : Octets) → last ≤ length text → length text - last ≤ fuel → unfolded (drop last text) ≡ replaced_at text 2 [] last (matches text crlf last)
+unfolded-from : (fuel last : ℕ) (text : Octets) → last ≤ length text → length text - last ≤ fuel
+    → unfolded (drop last text) ≡ replaced_at text 2 [] last (matches text crlf last)
 unfolded-from zero last text within enough = elim (end_cases mode.Line (drop last text)) [
-  | inl ends ↦ absurd (omega (arith, too_early (drop last text) ends.0 ends.1.within ends.1.ends, ends.1.within, length-drop last text, enough))
+  | inl ends ↦ absurd (omega (
+    arith,
+    too_early (drop last text) ends.0 ends.1.within ends.1.ends,
+    ends.1.within,
+    length-drop last text,
+    enough,
+  ))
   | inr never ↦ unfolded-last text last never
 ]
 unfolded-from (suc fuel) last text within enough = elim (end_cases mode.Line (drop last text)) [
   | inl ends ↦
       let n = ends.0 in
       let two = too_early (drop last text) n ends.1.within ends.1.ends in
-      unfolded-line text last n within ends.1 (unfolded-from fuel (last + n) text (omega (arith, ends.1.within, length-drop last text, within)) (omega (arith, two, enough)))
+      unfolded-line text last n within ends.1
+      (unfolded-from fuel (last + n) text (omega (arith, ends.1.within, length-drop last text, within)) (omega (arith, two, enough)))
   | inr never ↦ unfolded-last text last never
 ]
 

@@ -1,10 +1,13 @@
 -- The causes of refusal, stated over the fields of a text.
-use Rattle.std.specs.Prelude.{ℕ, ◌+◌, Bool, not, ◌||◌, ◌&&◌, ◌==◌, nat_le, nat_lt, List, [], ◌∷◌, ◌++◌, length, find, map, count_by, codes, Option, option_map, unwrap_or}
+use Rattle.std.specs.Prelude.{ℕ, ◌+◌, Bool, not, ◌||◌, ◌&&◌, ◌==◌, nat_le, nat_lt, List, [], ◌∷◌, ◌++◌, length, find, map, count_by, codes}
+use Rattle.std.specs.Prelude.{Option, option_map, unwrap_or}
 use Rattle.std.specs.List.{list_all, list_any}
 use Rattle.model.specs.Stream.{Octets}
 use Rattle.article.specs.Stored.{front}
 use Rattle.model.specs.Names.{is_blank, is_group_name, parts}
-use Rattle.model.specs.Article.{Origin, Posted, Carried, Cause, WrongOctets, NoEnd, Field, Twice, Missing, Id, Groups, Long, added_fields, allows_id, are_distinct, content_of, first_cause, has_empty_line, has_fields_alone, has_lines_alone, header_lines, id_in_field, is_named, needed_fields, single_fields, trimmed, written_fields}
+use Rattle.model.specs.Article.{Origin, Posted, Carried, Cause, WrongOctets, NoEnd, Field, Twice, Missing, Id, Groups, Long, added_fields}
+use Rattle.model.specs.Article.{allows_id, are_distinct, content_of, first_cause, has_empty_line, has_fields_alone, has_lines_alone}
+use Rattle.model.specs.Article.{header_lines, id_in_field, is_named, needed_fields, single_fields, trimmed, written_fields}
 
 -- one of the fields has this name and holds only SP and TAB
 abbrev pub is_blank_in : List Octets → Octets → Bool

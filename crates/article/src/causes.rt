@@ -52,14 +52,16 @@ const MANDATORY_FIELDS: [&[u8]; 6] = [
 
 /// Whether two fields have one of the names.
 fn any_twice(fields: &[&[u8]], names: &[&[u8]]) -> bool
-    ensures { result ≡ list_any (λ name. nat_lt 1 (count_by (article.is_named name) (map (λ field. field.now) fields.now))) (map (λ name. name.now) names.now) }
+    ensures { result ≡ list_any (λ name. nat_lt 1 (count_by (article.is_named name) (map (λ field. field.now) fields.now)))
+        (map (λ name. name.now) names.now) }
 {
     names.iter().any(|name| count(fields, name) > 1)
 }
 
 /// Whether no field has one of the names.
 fn any_missing(fields: &[&[u8]], names: &[&[u8]]) -> bool
-    ensures { result ≡ list_any (λ name. count_by (article.is_named name) (map (λ field. field.now) fields.now) == 0) (map (λ name. name.now) names.now) }
+    ensures { result ≡ list_any (λ name. count_by (article.is_named name) (map (λ field. field.now) fields.now) == 0)
+        (map (λ name. name.now) names.now) }
 {
     names.iter().any(|name| count(fields, name) == 0)
 }
@@ -220,7 +222,8 @@ pub(crate) fn field_cause(
     newsgroups: &[u8],
     is_short: bool,
 ) -> Result<Option<Cause>, AllocError>
-    ensures { IfOk result (λ found. option_map cause_of found ≡ causes.field_cause (origin_of origin.entry) (map (λ field. field.now) fields.now) newsgroups.now is_short) }
+    ensures { IfOk result (λ found. option_map cause_of found ≡ causes.field_cause (origin_of origin.entry)
+        (map (λ field. field.now) fields.now) newsgroups.now is_short) }
 {
     if has_twice(fields) {
         return Ok(Some(Cause::Twice));

@@ -57,7 +57,8 @@ impl<'t> Article<'t> {
         requires { IsTrue (names_host (origin_of origin)) }
         ensures ok { IfOk result (λ article. article ≡ text.now) }
         ensures no_cause { OnOk result (model_article.cause (origin_of origin.entry) text.now ≡ None) }
-        ensures bad { IfErr result (λ error. (cause : Told) → error ≡ ReadError.Bad cause → model_article.cause (origin_of origin.entry) text.now ≡ Some (cause_of cause)) }
+        ensures bad { IfErr result (λ error. (cause : Told) → error ≡ ReadError.Bad cause
+            → model_article.cause (origin_of origin.entry) text.now ≡ Some (cause_of cause)) }
     {
         let header = header_length(text);
         if let Some(cause) = shape_cause(text, header) {

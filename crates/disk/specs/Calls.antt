@@ -1,6 +1,7 @@
 -- Device calls, one after the other.
 use Rattle.std.specs.Prelude.{◌≡◌, ◌⊎◌, ℕ, IsTrue, List, [], ◌∷◌, length, Result, Ok, OnOk, IsErr}
-use Rattle.disk.specs.Device.{Device, Elapses, HasCause, IsSync, IsWrite, LeavesNoMore, LeavesOnly, LeftNoMore, LeftTornAt, OnAsked, OnRefused, TearsAt}
+use Rattle.disk.specs.Device.{Device, Elapses, HasCause, IsSync, IsWrite, LeavesNoMore, LeavesOnly, LeftNoMore, LeftTornAt, OnAsked}
+use Rattle.disk.specs.Device.{OnRefused, TearsAt}
 use Rattle.disk.specs.Image.{overwritten}
 use Rattle.disk.specs.declared.DiskError.{DiskError}
 

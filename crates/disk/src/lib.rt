@@ -3,7 +3,8 @@
 #![tactic(auto)]
 
 ghost use Rattle.std.specs.Prelude.{◌≡◌, ◌+◌, ◌≤◌, Bool, List, ℕ, IsTrue, length, IfErr, OnOk};
-ghost use Rattle.disk.specs.Device.{Device, Elapses, HasCause, IsRead, IsSync, IsUnchanged, IsWrite, LeavesOnly, LeavesNoMore, LeftNoMore, LeftTornAt, OnAsked, OnRefused, TearsAt};
+ghost use Rattle.disk.specs.Device.{Device, Elapses, HasCause, IsRead, IsSync, IsUnchanged, IsWrite, LeavesOnly, LeavesNoMore, LeftNoMore};
+ghost use Rattle.disk.specs.Device.{LeftTornAt, OnAsked, OnRefused, TearsAt};
 ghost use Rattle.disk.specs.Image.{part, overwritten};
 
 /// Why a device call was refused.
@@ -57,7 +58,8 @@ pub trait Disk {
     /// octets there, even after a fault. `Memory` comes only from a device whose writes grow, and has no effect.
     fn write(&mut self, at: u64, from: &[u8]) -> Result<(), DiskError>
         requires { at + length from.now ≤ (device self.old).size }
-        ensures content { IsTrue (device self.old).tells → OnOk result ((device self.new).content ≡ overwritten at from.now (device self.old).content) }
+        ensures content { IsTrue (device self.old).tells
+            → OnOk result ((device self.new).content ≡ overwritten at from.now (device self.old).content) }
         ensures crash { IsTrue (device self.old).tells → TearsAt at (length from.now) (device self.old) (device self.new) }
         ensures since { IsTrue (device self.old).tells → LeftTornAt at (length from.now) (device self.old) (device self.new) }
         ensures time { Elapses (device self.old) (device self.new) }
@@ -86,10 +88,12 @@ pub trait Disk {
     ghost counts_content: { (d : Self) → IsTrue (device d).tells → (device d).may_leave (device d).content };
 
     /// An image that a crash may leave now is one that a crash since any earlier moment might have left.
-    ghost counts_now: { (d : Self) (t : ℕ) (c : List ℕ) → IsTrue (device d).tells → t ≤ (device d).clock → (device d).may_leave c → (device d).left_since t c };
+    ghost counts_now: { (d : Self) (t : ℕ) (c : List ℕ) → IsTrue (device d).tells → t ≤ (device d).clock → (device d).may_leave c
+        → (device d).left_since t c };
 
     /// A crash since this very moment might have left only what a crash may leave now.
-    ghost only_now: { (d : Self) (c : List ℕ) → IsTrue (device d).tells → (device d).left_since (device d).clock c → (device d).may_leave c };
+    ghost only_now: { (d : Self) (c : List ℕ) → IsTrue (device d).tells → (device d).left_since (device d).clock c
+        → (device d).may_leave c };
 }
 
 /// A device whose calls can be made to fail.

@@ -1,5 +1,6 @@
 -- The articles that an export writes.
-use Rattle.std.specs.Prelude.{ℕ, ◌-◌, ◌==◌, ◌&&◌, not, if◌then◌else◌, List, length, slice_get, Option, Some, None, option_map, option_and_then, is_some}
+use Rattle.std.specs.Prelude.{ℕ, ◌-◌, ◌==◌, ◌&&◌, not, if◌then◌else◌, List, length, slice_get, Option, Some, None, option_map}
+use Rattle.std.specs.Prelude.{option_and_then, is_some}
 use Rattle.std.specs.List.{filter_map, range_with_len}
 use Rattle.lookups.specs.Held.{article_with, gone_with}
 use Rattle.model.specs.Stream.{Octets}

@@ -50,7 +50,8 @@ pub fn entry_of(
     serial: u64,
     ends: LineEnds,
 ) -> Result<Option<Vec<u8>>, AllocError>
-    ensures { IfOk result (λ octets. option_map (λ list. list.items) octets ≡ option_map (λ text. batch.entry (in_lines ends text)) (text_with spool.now.changes serial)) }
+    ensures { IfOk result (λ octets. option_map (λ list. list.items) octets ≡ option_map (λ text. batch.entry (in_lines ends text))
+        (text_with spool.now.changes serial)) }
 {
     let Some(text) = stored_text(spool, serial)? else {
         return Ok(None);

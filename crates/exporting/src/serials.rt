@@ -66,7 +66,8 @@ fn push_numbered<L: LookUps>(
     number: u64,
     serials: &mut Vec<u64>,
 ) -> Result<(), AllocError>
-    ensures { OnOk result (serials.new.items ≡ serials.old.items ++ option_to_list (exported.serial_at (L.changes spool.now) group.now number)) }
+    ensures { OnOk result (serials.new.items ≡ serials.old.items ++ option_to_list
+        (exported.serial_at (L.changes spool.now) group.now number)) }
 {
     if let Some(serial) = spool.by_number(group, number) {
         serials.push(serial)?;

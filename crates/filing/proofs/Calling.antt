@@ -1,5 +1,6 @@
 -- The calls of the file system, as calls on lists of files.
-use Rattle.std.proofs.Common.{◌≡◌, ◌≢◌, inl, inr, ◌<◌, ◌≤◌, ℕ, suc, ◌+◌, List, [], ◌∷◌, ◌++◌, length, get_or, set, refl, sym, ◌∙◌, ap, subst, arith}
+use Rattle.std.proofs.Common.{◌≡◌, ◌≢◌, inl, inr, ◌<◌, ◌≤◌, ℕ, suc, ◌+◌, List, [], ◌∷◌, ◌++◌, length, get_or, set, refl, sym, ◌∙◌, ap}
+use Rattle.std.proofs.Common.{subst, arith}
 use Rattle.std.specs.Prelude.{Option, Some, None, option_map, IsPermutation}
 use Rattle.std.proofs.lemmas.List.{get_or-set_same, get_or-set_other}
 use Rattle.std.proofs.lemmas.List.Sums.{sum_by-append}
@@ -28,35 +29,54 @@ calls_after : (fs : List File) (calls more : List FileCall) → after_calls fs (
 calls_after fs [] more = refl
 calls_after fs (call ∷ calls) more = calls_after (after_call fs call) calls more
 
-pub calls_then : (inodes : ℕ) (calls more : List FileCall) (old mid new : List Octets) → Calls inodes calls old mid → Calls inodes more mid new → Calls inodes (calls ++ more) old new
+pub calls_then : (inodes : ℕ) (calls more : List FileCall) (old mid new : List Octets) → Calls inodes calls old mid
+    → Calls inodes more mid new → Calls inodes (calls ++ more) old new
 calls_then inodes calls more old mid new first second = record {
   count = second.count ∙ first.count;
   room = second.room;
   rule = second.rule;
-  files = λ files same. subst (λ (fs : List File). IsPermutation (files_in (table inodes new)) fs) (sym (calls_after files calls more)) (second.files (after_calls files calls) (first.files files same));
+  files = λ files same. subst (λ (fs : List File). IsPermutation (files_in (table inodes new)) fs) (sym (calls_after files calls more))
+      (second.files (after_calls files calls) (first.files files same));
   names = λ k name named. second.names k name (first.names k name named);
   marks = λ b low is. second.marks b low (first.marks b low is);
   free = omega (arith, first.free, second.free, sum_by-append blocks_taken calls more);
 }
 
 pub no_calls : (inodes : ℕ) (blocks : List Octets) → HasRoom inodes blocks → IsFileSystem inodes blocks → Calls inodes [] blocks blocks
-no_calls inodes blocks room rule = record { count = refl; room = room; rule = rule; files = λ files same. same; names = λ k name named. named; marks = λ b low is. is; free = omega arith }
+no_calls inodes blocks room rule = record {
+  count = refl;
+  room = room;
+  rule = rule;
+  files = λ files same. same;
+  names = λ k name named. named;
+  marks = λ b low is. is;
+  free = omega arith;
+}
 
 -- no block is given up
-pub still_none : (n inodes : ℕ) (calls : List FileCall) (old new : List Octets) → Calls inodes calls old new → NoneFreeBelow n old → NoneFreeBelow n new
-still_none n inodes calls old new made none b less low = made.marks b (omega (arith, low, made.room.count_few)) (none b less (omega (arith, low, made.count)))
+pub still_none : (n inodes : ℕ) (calls : List FileCall) (old new : List Octets) → Calls inodes calls old new → NoneFreeBelow n old
+    → NoneFreeBelow n new
+still_none n inodes calls old new made none b less low =
+    made.marks b (omega (arith, low, made.room.count_few)) (none b less (omega (arith, low, made.count)))
 
 -- ---- one inode has another file
 
-others_same : (inodes at : ℕ) (file : Option File) (old new : List Octets) → table inodes new ≡ set (table inodes old) at file → SameFilesBut inodes at old new
-others_same inodes at file old new is k other = ap (λ (t : List (Option File)). get_or t k None) is ∙ get_or-set_other (table inodes old) at k file None other
+others_same : (inodes at : ℕ) (file : Option File) (old new : List Octets) → table inodes new ≡ set (table inodes old) at file
+    → SameFilesBut inodes at old new
+others_same inodes at file old new is k other = ap (λ (t : List (Option File)). get_or t k None) is
+    ∙ get_or-set_other (table inodes old) at k file None other
 
-here : (inodes at : ℕ) (file : File) (old new : List Octets) → table inodes new ≡ set (table inodes old) at (Some file) → at < length (table inodes old) → get_or (table inodes new) at None ≡ Some file
-here inodes at file old new is low = ap (λ (t : List (Option File)). get_or t at None) is ∙ get_or-set_same (table inodes old) at (Some file) None low
+here : (inodes at : ℕ) (file : File) (old new : List Octets) → table inodes new ≡ set (table inodes old) at (Some file)
+    → at < length (table inodes old) → get_or (table inodes new) at None ≡ Some file
+here inodes at file old new is low = ap (λ (t : List (Option File)). get_or t at None) is
+    ∙ get_or-set_same (table inodes old) at (Some file) None low
 
-named_others : (inodes at : ℕ) (old new : List Octets) → SameFilesBut inodes at old new → ((name : Octets) → name_of (table inodes old) at ≡ Some name → name_of (table inodes new) at ≡ Some name) → KeepsNames (table inodes old) (table inodes new)
+named_others : (inodes at : ℕ) (old new : List Octets) → SameFilesBut inodes at old new
+    → ((name : Octets) → name_of (table inodes old) at ≡ Some name → name_of (table inodes new) at ≡ Some name)
+    → KeepsNames (table inodes old) (table inodes new)
 named_others inodes at old new others its k name named = elim (cases_eq k at) [
-  | inl same ↦ subst (λ (j : ℕ). name_of (table inodes new) j ≡ Some name) (sym same) (its name (subst (λ (j : ℕ). name_of (table inodes old) j ≡ Some name) same named))
+  | inl same ↦ subst (λ (j : ℕ). name_of (table inodes new) j ≡ Some name) (sym same)
+      (its name (subst (λ (j : ℕ). name_of (table inodes old) j ≡ Some name) same named))
   | inr other ↦ ap (option_map (λ (f : File). f.name)) (others k other) ∙ named
 ]
 
@@ -72,7 +92,8 @@ still_used n old new keeps used k less none = by_file (get_or old k None) refl w
 
 -- ---- a new file
 
-pub created : (inodes : ℕ) (name : Octets) (at : ℕ) (old new : List Octets) → Creates inodes name at old new → SameMarks old new → CreatesAt inodes at name old new
+pub created : (inodes : ℕ) (name : Octets) (at : ℕ) (old new : List Octets) → Creates inodes name at old new → SameMarks old new
+    → CreatesAt inodes at name old new
 created inodes name at old new made marks =
     let others = others_same inodes at (Some (record { name = name; content = [] })) old new made.makes.files_are in
     let low : at < length (table inodes old) = omega (arith, made.below, length-table inodes old) in
@@ -81,27 +102,41 @@ created inodes name at old new made marks =
         count = marks.count;
         room = made.makes.room;
         rule = made.makes.rule;
-        files = λ files same. subst (λ (t : List (Option File)). IsPermutation (files_in t) (after_call files (Create name))) (sym made.makes.files_are) (creates_one files (table inodes old) at name low made.free same);
-        names = named_others inodes at old new others (λ q named. absurd (let none : None ≡ Some q = ap (option_map (λ (f : File). f.name)) (sym made.free) ∙ named in cc));
+        files = λ files same. subst (λ (t : List (Option File)). IsPermutation (files_in t) (after_call files (Create name)))
+            (sym made.makes.files_are) (creates_one files (table inodes old) at name low made.free same);
+        names = named_others inodes at old new others
+            (λ q named. absurd (let none : None ≡ Some q = ap (option_map (λ (f : File). f.name)) (sym made.free) ∙ named in cc));
         marks = λ b low is. marks.marks b low ∙ is;
-        free = omega (arith, same_free old new marks.count (λ b less. marks.marks b (omega (arith, less, made.makes.room.count_few, marks.count))));
+        free = omega (
+          arith,
+          same_free old new marks.count
+              (λ b less. marks.marks b (omega (arith, less, made.makes.room.count_few, marks.count))),
+        );
       };
       there = here inodes at (record { name = name; content = [] }) old new made.makes.files_are low;
       others = others;
       used = λ k less none. made.lowest k less (sym (others k (λ same. omega (arith, less, same))) ∙ none);
     }
 
-all_there : (inodes : List (Option File)) → ((k : ℕ) → k < length inodes → get_or inodes k None ≢ None) → length inodes ≤ length (files_in inodes)
+all_there : (inodes : List (Option File)) → ((k : ℕ) → k < length inodes → get_or inodes k None ≢ None)
+    → length inodes ≤ length (files_in inodes)
 all_there [] all = omega arith
 all_there (None ∷ inodes) all = absurd (all 0 (omega arith) refl)
 all_there (Some f ∷ inodes) all = omega (arith, all_there inodes (λ k low. all (suc k) (omega arith)))
 
 pub not_all : (inodes : ℕ) (blocks : List Octets) → HasNoFreeInode inodes blocks → length (files_in (table inodes blocks)) < inodes → ⊥
-not_all inodes blocks none few = omega (arith, few, length-table inodes blocks, all_there (table inodes blocks) (λ k low. none k (omega (arith, low, length-table inodes blocks))))
+not_all inodes blocks none few =
+    omega (
+      arith,
+      few,
+      length-table inodes blocks,
+      all_there (table inodes blocks) (λ k low. none k (omega (arith, low, length-table inodes blocks))),
+    )
 
 -- ---- octets at the end of a file
 
-module _ (inodes at : ℕ) (blocks : List Octets) (room : HasRoom inodes blocks) (rule : IsFileSystem inodes blocks) (name content : Octets) (there : IsFileAt (table inodes blocks) at name content) where
+module _ (inodes at : ℕ) (blocks : List Octets) (room : HasRoom inodes blocks) (rule : IsFileSystem inodes blocks) (name content : Octets)
+    (there : IsFileAt (table inodes blocks) at name content) where
   pub is_below : at < inodes
   is_below = (named_from_there inodes blocks rule at name content there).below
 
@@ -111,13 +146,19 @@ module _ (inodes at : ℕ) (blocks : List Octets) (room : HasRoom inodes blocks)
   pub its_size : size (entry inodes blocks at) ≡ length content
   its_size =
       let its = named_from_there inodes blocks rule at name content there in
-      sym (length-content blocks (entry inodes blocks at) room.blocks_whole (λ b owns. (rule.within at b its.below owns).1)) ∙ ap (λ (o : Octets). length o) (sym its.content_is)
+      sym (length-content blocks (entry inodes blocks at) room.blocks_whole (λ b owns. (rule.within at b its.below owns).1))
+      ∙ ap (λ (o : Octets). length o) (sym its.content_is)
 
-  pub has_room : (more : ℕ) → length content + more ≤ 268435456 → blocks_for_more more ≤ free_blocks blocks → HasRoomFor blocks (size (entry inodes blocks at)) (size (entry inodes blocks at) + more)
+  pub has_room : (more : ℕ) → length content + more ≤ 268435456 → blocks_for_more more ≤ free_blocks blocks
+      → HasRoomFor blocks (size (entry inodes blocks at)) (size (entry inodes blocks at) + more)
   has_room more small free =
-      subst (λ (n : ℕ). HasRoomFor blocks n (n + more)) (sym its_size) (small, omega (arith, files_grow_by_blocks (length content) more, free))
+      subst (λ (n : ℕ). HasRoomFor blocks n (n + more)) (sym its_size) (
+        small,
+        omega (arith, files_grow_by_blocks (length content) more, free),
+      )
 
-pub appended : (inodes at : ℕ) (octets : Octets) (old new : List Octets) → IsFileSystem inodes old → GrowsBy inodes at octets old new → AppendsAt inodes at octets old new
+pub appended : (inodes at : ℕ) (octets : Octets) (old new : List Octets) → IsFileSystem inodes old → GrowsBy inodes at octets old new
+    → AppendsAt inodes at octets old new
 appended inodes at octets old new rule grown =
     let others = others_same inodes at (Some (record { name = grown.name; content = grown.was ++ octets })) old new grown.makes.files_are in
     let now = file_after inodes at octets old new grown in
@@ -129,8 +170,10 @@ appended inodes at octets old new rule grown =
         count = grown.count;
         room = grown.makes.room;
         rule = grown.makes.rule;
-        files = λ files same. subst (λ (t : List (Option File)). IsPermutation (files_in t) (after_call files (Append grown.name octets))) (sym grown.makes.files_are) (appends_to_one files inodes old at grown.name grown.was octets rule grown.there same);
-        names = named_others inodes at old new others (λ q named. ap (option_map (λ (f : File). f.name)) now ∙ sym (ap (option_map (λ (f : File). f.name)) grown.there) ∙ named);
+        files = λ files same. subst (λ (t : List (Option File)). IsPermutation (files_in t) (after_call files (Append grown.name octets)))
+            (sym grown.makes.files_are) (appends_to_one files inodes old at grown.name grown.was octets rule grown.there same);
+        names = named_others inodes at old new others (λ q named. ap (option_map (λ (f : File). f.name)) now
+            ∙ sym (ap (option_map (λ (f : File). f.name)) grown.there) ∙ named);
         marks = grown.kept;
         free = omega (arith, grown.free, files_grow_by_blocks (length grown.was) (length octets));
       };
@@ -140,16 +183,19 @@ appended inodes at octets old new rule grown =
 
 -- ---- what is known of free blocks and inodes
 
-pub known_created : (inodes : ℕ) (name : Octets) (at : ℕ) (free : Free) (old new : List Octets) → Creates inodes name at old new → SameMarks old new → IsKnown inodes free old → IsKnown inodes (record free { inode = at }) new
+pub known_created : (inodes : ℕ) (name : Octets) (at : ℕ) (free : Free) (old new : List Octets) → Creates inodes name at old new
+    → SameMarks old new → IsKnown inodes free old → IsKnown inodes (record free { inode = at }) new
 known_created inodes name at free old new made marks known =
     let creates = created inodes name at old new made marks in
     record {
       used = creates.used;
       none = still_none free.block inodes (Create name ∷ []) old new creates.calls known.none;
-      count = known.count ∙ sym (same_free old new marks.count (λ b less. marks.marks b (omega (arith, less, made.makes.room.count_few, marks.count))));
+      count = known.count ∙ sym (same_free old new marks.count
+          (λ b less. marks.marks b (omega (arith, less, made.makes.room.count_few, marks.count))));
     }
 
-pub known_appended : (inodes at : ℕ) (octets : Octets) (free : Free) (left : ℕ) (old new : List Octets) → AppendsAt inodes at octets old new → left ≡ free_blocks new → IsKnown inodes free old → IsKnown inodes (record free { blocks = left }) new
+pub known_appended : (inodes at : ℕ) (octets : Octets) (free : Free) (left : ℕ) (old new : List Octets) → AppendsAt inodes at octets old new
+    → left ≡ free_blocks new → IsKnown inodes free old → IsKnown inodes (record free { blocks = left }) new
 known_appended inodes at octets free left old new appends is known = record {
   used = still_used free.inode (table inodes old) (table inodes new) appends.calls.names known.used;
   none = still_none free.block inodes (Append appends.name octets ∷ []) old new appends.calls known.none;
@@ -158,13 +204,16 @@ known_appended inodes at octets free left old new appends is known = record {
 
 -- ---- a new file with octets
 
-pub made : (inodes at : ℕ) (name octets : Octets) (old mid new : List Octets) → CreatesAt inodes at name old mid → AppendsAt inodes at octets mid new → MakesAt inodes at name octets old new
+pub made : (inodes at : ℕ) (name octets : Octets) (old mid new : List Octets) → CreatesAt inodes at name old mid
+    → AppendsAt inodes at octets mid new → MakesAt inodes at name octets old new
 made inodes at name octets old mid new creates appends =
     let named : appends.name ≡ name = one_name (table inodes mid) at appends.name name appends.content [] appends.was creates.there in
     let empty : appends.content ≡ [] = one_content (table inodes mid) at appends.name name appends.content [] appends.was creates.there in
     record {
-      calls = calls_then inodes (Create name ∷ []) (Append name octets ∷ []) old mid new creates.calls (subst (λ (q : Octets). Calls inodes (Append q octets ∷ []) mid new) named appends.calls);
-      there = subst (λ (q : Octets). IsFileAt (table inodes new) at q octets) named (subst (λ (o : Octets). IsFileAt (table inodes new) at appends.name (o ++ octets)) empty appends.there);
+      calls = calls_then inodes (Create name ∷ []) (Append name octets ∷ []) old mid new creates.calls
+          (subst (λ (q : Octets). Calls inodes (Append q octets ∷ []) mid new) named appends.calls);
+      there = subst (λ (q : Octets). IsFileAt (table inodes new) at q octets) named
+          (subst (λ (o : Octets). IsFileAt (table inodes new) at appends.name (o ++ octets)) empty appends.there);
       others = λ k other. appends.others k other ∙ creates.others k other;
       used = still_used at (table inodes mid) (table inodes new) appends.calls.names creates.used;
     }

@@ -1,5 +1,6 @@
 -- Calls on the files of blocks, in any order of their inodes.
-use Rattle.std.specs.Prelude.{◌≡◌, ◌≢◌, ℕ, ◌+◌, ◌<◌, ◌≤◌, List, [], ◌∷◌, ◌++◌, length, map, take, slice_get, slice_index_or, unwrap_or, Option, Some, None, option_map, IsPermutation}
+use Rattle.std.specs.Prelude.{◌≡◌, ◌≢◌, ℕ, ◌+◌, ◌<◌, ◌≤◌, List, [], ◌∷◌, ◌++◌, length, map, take, slice_get, slice_index_or, unwrap_or}
+use Rattle.std.specs.Prelude.{Option, Some, None, option_map, IsPermutation}
 use Rattle.std.specs.List.{sum_by}
 use Rattle.model.specs.Stream.{Octets}
 use Rattle.model.specs.Files.{File, HasRoom, IsFileSystem, files_in, free_blocks, table}
@@ -19,7 +20,8 @@ pub record Calls (inodes : ℕ) (calls : List FileCall) (old new : List Octets) 
   pub count : length new ≡ length old
   pub room : HasRoom inodes new
   pub rule : IsFileSystem inodes new
-  pub files : (files : List File) → IsPermutation (files_in (table inodes old)) files → IsPermutation (files_in (table inodes new)) (after_calls files calls)
+  pub files : (files : List File) → IsPermutation (files_in (table inodes old)) files
+      → IsPermutation (files_in (table inodes new)) (after_calls files calls)
   pub names : KeepsNames (table inodes old) (table inodes new)
   pub marks : KeepsMarks old new
   -- they took at most this many blocks
@@ -96,4 +98,5 @@ touched_by_pieces inodes pieces = sum_by (λ p. touched_by_growth (size_at inode
 -- the first of these pieces were appended to their files, for this number of pieces, and no other file changed
 pub record AppendsFirst (inodes : ℕ) (pieces : List Piece) (n : ℕ) (old new : List Octets) : Type 0 where
   pub calls : Calls inodes (map (append_call (table inodes old)) (take n pieces)) old new
-  pub others : (i : ℕ) → ((k : ℕ) (p : Piece) → k < n → slice_get pieces k ≡ Some p → i ≢ p.at) → slice_index_or (table inodes new) i None ≡ slice_index_or (table inodes old) i None
+  pub others : (i : ℕ) → ((k : ℕ) (p : Piece) → k < n → slice_get pieces k ≡ Some p → i ≢ p.at)
+      → slice_index_or (table inodes new) i None ≡ slice_index_or (table inodes old) i None

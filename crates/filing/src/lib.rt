@@ -6,7 +6,8 @@ ghost use Rattle.std.specs.Prelude.{◌≡◌, ◌+◌, ◌*◌, ◌/◌, ◌<�
 ghost use Rattle.model.specs.Files.{HasRoom, IsFileSystem, files_in, free_blocks, table};
 ghost use Rattle.fs.specs.Calls.{IsFileAt, IsName, IsThere};
 ghost use Rattle.fs.specs.Touches.{Touches, touched_by_growth};
-ghost use Rattle.filing.specs.Calls.{AppendsAt, AppendsFirst, CreatesAt, IsKnown, MakesAt, MayAllGrow, MayGrow, blocks_for_more, touched_by_pieces};
+ghost use Rattle.filing.specs.Calls.{AppendsAt, AppendsFirst, CreatesAt, IsKnown, MakesAt, MayAllGrow, MayGrow, blocks_for_more};
+ghost use Rattle.filing.specs.Calls.{touched_by_pieces};
 
 use fs::by_inode::extend;
 use fs::{FsError, create_absent};

@@ -88,7 +88,8 @@ pub fn may_file(
     moment: u64,
 ) -> Result<bool, AllocError>
     requires { cause Carried article.now ≡ None }
-    ensures { IfOk result (λ may. (S : Spool) → Indexes S index.now → here.now ≡ filter (spool.is_here S) (model_article.groups_of article.now) → serial ≡ length S + 1
+    ensures { IfOk result (λ may. (S : Spool) → Indexes S index.now
+        → here.now ≡ filter (spool.is_here S) (model_article.groups_of article.now) → serial ≡ length S + 1
         → (IsTrue may ↔ MayFile host.now S article.now (map (λ g. g.now) groups.now) moment)) }
 {
     if groups.is_empty() {

@@ -23,7 +23,8 @@ pub(crate) const MOMENT_LIMIT: u64 = 253_402_300_800;
 
 /// The group with this name.
 pub fn find_group<'i>(index: &'i Index, name: &[u8]) -> Option<&'i Group>
-    ensures { (S : Spool) → Indexes S index.now → option_map (λ g. shown g.now) result ≡ option_map (group_index S) (group_named S name.now) }
+    ensures { (S : Spool) → Indexes S index.now
+        → option_map (λ g. shown g.now) result ≡ option_map (group_index S) (group_named S name.now) }
 {
     index.group(name)
 }

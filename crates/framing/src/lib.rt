@@ -1,7 +1,8 @@
 //! Messages from a stream of octets, however it is cut into pieces, and the block that sends a text.
 #![tactic(auto)]
 
-ghost use Rattle.std.specs.Prelude.{◌≡◌, ◌+◌, ◌*◌, ◌<◌, ◌≤◌, ◌++◌, [], ◌∷◌, vec_len, length, take, drop, true, Some, None, ◌==◌, if◌then◌else◌, IfOk, OnOk, OnErr, IfSome, IfNone, MatchOption};
+ghost use Rattle.std.specs.Prelude.{◌≡◌, ◌+◌, ◌*◌, ◌<◌, ◌≤◌, ◌++◌, [], ◌∷◌, vec_len, length, take, drop, true, Some, None, ◌==◌};
+ghost use Rattle.std.specs.Prelude.{if◌then◌else◌, IfOk, OnOk, OnErr, IfSome, IfNone, MatchOption};
 ghost use Rattle.model.specs.Stream.{ends_message, lines, message_of, next, stuffed, stuffed_line, unstuffed, unstuffed_line, ReadsAlike};
 ghost use Rattle.model.specs.declared.message.Mode.TheVariants as mode;
 ghost use Rattle.model.specs.declared.message.Message.TheVariants.{TooLong};

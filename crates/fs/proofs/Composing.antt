@@ -17,18 +17,23 @@ use Rattle.fs_inodes.proofs.Spans.{overwritten_past}
 use Rattle.fs_layout.proofs.Tables.{file_or}
 
 -- growth is another content
-pub grown : (inodes k : ℕ) (octets name content : Octets) (old new : List Octets) → IsFileAt (table inodes old) k name content → GrowsBy inodes k octets old new → ReplacesContent inodes k (content ++ octets) old new
+pub grown : (inodes k : ℕ) (octets name content : Octets) (old new : List Octets) → IsFileAt (table inodes old) k name content
+    → GrowsBy inodes k octets old new → ReplacesContent inodes k (content ++ octets) old new
 grown inodes k octets name content old new there g =
     let was : g.was ≡ content = ap (λ (o : Option File). (file_or o).content) (sym g.there ∙ there) in
-    replaces_same inodes k (g.was ++ octets) (content ++ octets) old new (ap (λ (c : Octets). c ++ octets) was) (record { name = g.name; was = g.was; there = g.there; makes = g.makes })
+    replaces_same inodes k (g.was ++ octets) (content ++ octets) old new (ap (λ (c : Octets). c ++ octets) was)
+    (record { name = g.name; was = g.was; there = g.there; makes = g.makes })
 
-pub grown_then : (inodes k : ℕ) (octets content : Octets) (old mid new : List Octets) → k < inodes → ReplacesContent inodes k content old mid → GrowsBy inodes k octets mid new → ReplacesContent inodes k (content ++ octets) old new
+pub grown_then : (inodes k : ℕ) (octets content : Octets) (old mid new : List Octets) → k < inodes
+    → ReplacesContent inodes k content old mid → GrowsBy inodes k octets mid new → ReplacesContent inodes k (content ++ octets) old new
 grown_then inodes k octets content old mid new low first second =
-    replaces_then inodes k content old mid low first (content ++ octets) new (grown inodes k octets first.name content mid new (there_now inodes k content old mid low first) second)
+    replaces_then inodes k content old mid low first (content ++ octets) new
+    (grown inodes k octets first.name content mid new (there_now inodes k content old mid low first) second)
 
 -- the lowest are taken
 pub lowest_after : (old mid new : List Octets) → length new ≤ 65536 → SameMarks old mid → TakesLowest mid new → TakesLowest old new
-lowest_after old mid new few same lowest b c inside inside' was is free = lowest b c inside inside' (same.marks b (omega arith) ∙ was) is free
+lowest_after old mid new few same lowest b c inside inside' was is free =
+    lowest b c inside inside' (same.marks b (omega arith) ∙ was) is free
 
 pub lowest_none : (old new : List Octets) → length new ≤ 65536 → TakesNone old new → TakesLowest old new
 lowest_none old new few none b c inside inside' was is free = absurd (false≢true (sym was ∙ none b (omega arith) is))
@@ -38,7 +43,11 @@ lowest_same old new few same = lowest_none old new few (λ b small marked. sym (
 
 -- ---- octets over those of a file, and after them
 
-module _ (inodes at place : ℕ) (octets name : Octets) (old mid : List Octets) (room : HasRoom inodes old) (fs : IsFileSystem inodes old) (low : at < inodes) (inside : place ≤ size (entry inodes old at)) (beyond : size (entry inodes old at) < place + length octets) (was within : ℕ) (was_is : was ≡ size (entry inodes old at)) (within_is : within ≡ was - place) (first : ReplacesContent inodes at (overwritten place (take within octets) (content_of old (entry inodes old at))) old mid) (same : SameMarks old mid) where
+module _ (inodes at place : ℕ) (octets name : Octets) (old mid : List Octets) (room : HasRoom inodes old) (fs : IsFileSystem inodes old)
+    (low : at < inodes) (inside : place ≤ size (entry inodes old at)) (beyond : size (entry inodes old at) < place + length octets)
+    (was within : ℕ) (was_is : was ≡ size (entry inodes old at)) (within_is : within ≡ was - place)
+    (first : ReplacesContent inodes at (overwritten place (take within octets) (content_of old (entry inodes old at))) old mid)
+    (same : SameMarks old mid) where
   abbrev content : Octets
   content = content_of old (entry inodes old at)
 
@@ -65,17 +74,25 @@ module _ (inodes at place : ℕ) (octets name : Octets) (old mid : List Octets) 
       size_now inodes at (overwritten place (take within octets) content) old mid low first
       ∙ length-overwritten place (take within octets) content (omega (arith, front, long)) ∙ long
 
-  pub still_room : HasRoomFor old was (place + length octets) → HasRoomFor mid (size (entry inodes mid at)) (size (entry inodes mid at) + length (take (length octets - within) (drop within octets)))
+  pub still_room : HasRoomFor old was (place + length octets)
+      → HasRoomFor mid (size (entry inodes mid at))
+      (size (entry inodes mid at) + length (take (length octets - within) (drop within octets)))
   still_room has =
       let end : place + length octets ≡ size (entry inodes mid at) + length rest = omega (arith, long_rest, same_size) in
       let before : was ≡ size (entry inodes mid at) = omega (arith, same_size) in
-      let free : free_blocks old ≡ free_blocks mid = sym (same_free old mid same.count (λ b below. same.marks b (omega (arith, room.count_few)))) in
+      let free : free_blocks old ≡ free_blocks mid =
+      sym (same_free old mid same.count (λ b below. same.marks b (omega (arith, room.count_few)))) in
       let at_end = subst (λ (n : ℕ). HasRoomFor old was n) end has in
-      let at_both = subst (λ (n : ℕ). HasRoomFor old n (size (entry inodes mid at) + length rest)) before at_end in
-      (at_both.0, subst (λ (n : ℕ). blocks_for (size (entry inodes mid at) + length rest) ≤ n + blocks_for (size (entry inodes mid at))) free at_both.1)
+      let at_both = subst (λ (n : ℕ). HasRoomFor old n (size (entry inodes mid at) + length rest)) before at_end in (
+        at_both.0,
+        subst (λ (n : ℕ). blocks_for (size (entry inodes mid at) + length rest) ≤ n + blocks_for (size (entry inodes mid at)))
+            free at_both.1,
+      )
 
-  pub written_past : (new : List Octets) → GrowsBy inodes at (take (length octets - within) (drop within octets)) mid new → ReplacesContent inodes at (overwritten place octets content) old new
+  pub written_past : (new : List Octets) → GrowsBy inodes at (take (length octets - within) (drop within octets)) mid new
+      → ReplacesContent inodes at (overwritten place octets content) old new
   written_past new g =
       replaces_same inodes at (overwritten place (take within octets) content ++ rest) (overwritten place octets content) old new
-      (ap (λ (l : Octets). overwritten place (take within octets) content ++ l) rest_is ∙ overwritten_past place within octets content (omega (arith, long)) (omega arith))
+      (ap (λ (l : Octets). overwritten place (take within octets) content ++ l) rest_is
+      ∙ overwritten_past place within octets content (omega (arith, long)) (omega arith))
       (grown_then inodes at rest (overwritten place (take within octets) content) old mid new low first g)

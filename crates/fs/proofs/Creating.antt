@@ -1,5 +1,6 @@
 -- A new file.
-use Rattle.std.proofs.Common.{◌≡◌, ◌≢◌, ◌⊎◌, inl, inr, ◌<◌, ℕ, suc, ◌+◌, ◌-◌, ◌*◌, ◌/◌, ◌%◌, cond, eqb, ltb, Some, List, [], ◌∷◌, ◌++◌, length, get_or, map, take, replicate, refl, sym, ◌∙◌, ap, subst, arith}
+use Rattle.std.proofs.Common.{◌≡◌, ◌≢◌, ◌⊎◌, inl, inr, ◌<◌, ℕ, suc, ◌+◌, ◌-◌, ◌*◌, ◌/◌, ◌%◌, cond, eqb, ltb, Some, List, [], ◌∷◌, ◌++◌}
+use Rattle.std.proofs.Common.{length, get_or, map, take, replicate, refl, sym, ◌∙◌, ap, subst, arith}
 use Rattle.std.specs.List.{All, Contains, range_with_len, flat_map}
 use Rattle.std.proofs.lemmas.List.{ext_get_or, get_or-replicate, length-replicate}
 use Rattle.std.proofs.lemmas.List.Elements.{All-replicate}
@@ -7,13 +8,16 @@ use Rattle.std.proofs.lemmas.Bool.{cases_eq, cond_both}
 use Rattle.disk.proofs.Images.{length-part}
 use Rattle.model.specs.Stream.{Octets}
 use Rattle.model.specs.Volume.{number_at}
-use Rattle.model.specs.Files.{Entry, HasRoom, IsFile, IsFree, size, block_count, entry_of, indirect_count, indirect_for, indirect_number, indirect_pointer, pointer, owned, name_in, slot_octets, content_of, entry, inode_of, slot_of, indirect_of, IsFileSystem, file_at}
+use Rattle.model.specs.Files.{Entry, HasRoom, IsFile, IsFree, size, block_count, entry_of, indirect_count, indirect_for, indirect_number}
+use Rattle.model.specs.Files.{indirect_pointer, pointer, owned, name_in, slot_octets, content_of, entry, inode_of, slot_of, indirect_of}
+use Rattle.model.specs.Files.{IsFileSystem, file_at}
 use Rattle.fs_layout.specs.Blocks.{PutsRecord, IsFound}
 use Rattle.fs_layout.specs.Table.{IsName}
 use Rattle.fs.specs.Calls.{Creates, HasNoFreeInode}
 use Rattle.fs_layout.proofs.Entries.{zero_number, free_owns, name_in-slot_octets}
 use Rattle.fs_layout.proofs.Tables.{get_or-table, file_at_free, file_at_file, table_set, no_slot}
-use Rattle.fs_layout.proofs.Keeps.{PutsEntry, puts_inode, puts_slot, inode_keeps_marks, slot_keeps_marks, entry_other, file_other, keeps_rule, keeps_room}
+use Rattle.fs_layout.proofs.Keeps.{PutsEntry, puts_inode, puts_slot, inode_keeps_marks, slot_keeps_marks, entry_other, file_other}
+use Rattle.fs_layout.proofs.Keeps.{keeps_rule, keeps_room}
 
 -- ---- free slots
 
@@ -27,7 +31,8 @@ module _ (inodes : ℕ) (blocks : List Octets) (room : HasRoom inodes blocks) (f
   free_slot_is k low free =
       let there : 2 + inodes / 64 + k / 64 < length blocks = omega (arith, room.room, room.whole) in
       let whole = room.blocks_whole (2 + inodes / 64 + k / 64) [] there in
-      zeros_are (slot_of inodes blocks k) 64 (length-part (k % 64 * 64) 64 (get_or blocks (2 + inodes / 64 + k / 64) []) (omega arith)) free.slot_zeros
+      zeros_are (slot_of inodes blocks k) 64 (length-part (k % 64 * 64) 64 (get_or blocks (2 + inodes / 64 + k / 64) []) (omega arith))
+      free.slot_zeros
 
   pub no_free_inode : ((k : ℕ) → k < inodes → slot_of inodes blocks k ≢ replicate 64 0) → HasNoFreeInode inodes blocks
   no_free_inode none k low is = elim (fs.each k low) [
@@ -66,7 +71,8 @@ none_zero k d low = absurd (omega arith)
 new_pointer : (name : Octets) (i : ℕ) → pointer (new_entry name) i ≡ 0
 new_pointer name i =
     cond_both (ltb i 10) (number_at (12 + 4 * i) 4 new_inode) (number_at (4 * ((i - 10) % 1024)) 4 []) (λ n. n ≡ 0)
-    (λ low. let place : 12 + 4 * i ≡ suc (11 + 4 * i) = omega arith in ap (λ (a : ℕ). number_at a 4 new_inode) place ∙ new_number (11 + 4 * i) 4)
+    (λ low. let place : 12 + 4 * i ≡ suc (11 + 4 * i) = omega arith in ap (λ (a : ℕ). number_at a 4 new_inode) place
+    ∙ new_number (11 + 4 * i) 4)
     (λ high. zero_number (4 * ((i - 10) % 1024)) 4 [] none_zero)
 
 -- the number of a block of pointers, if there is no double-indirect block
@@ -77,8 +83,11 @@ no_table double none p =
 
 new_owns : (name : Octets) → owned (new_entry name) ≡ []
 new_owns name =
-    ap (λ (n : ℕ). cond (eqb n 0) [] (n ∷ []) ++ (map (λ p. indirect_pointer (new_entry name) p) (range_with_len 0 (indirect_count (new_entry name))) ++ map (λ i. pointer (new_entry name) i) (range_with_len 0 (block_count (new_entry name))))) (new_number 55 4)
-    ∙ ap (λ (n : ℕ). map (λ p. indirect_pointer (new_entry name) p) (range_with_len 0 (indirect_for ((n + 4095) / 4096))) ++ map (λ i. pointer (new_entry name) i) (range_with_len 0 ((n + 4095) / 4096))) (new_number 3 8)
+    ap (λ (n : ℕ). cond (eqb n 0) [] (n ∷ []) ++
+    (map (λ p. indirect_pointer (new_entry name) p) (range_with_len 0 (indirect_count (new_entry name))) ++ map
+    (λ i. pointer (new_entry name) i) (range_with_len 0 (block_count (new_entry name))))) (new_number 55 4)
+    ∙ ap (λ (n : ℕ). map (λ p. indirect_pointer (new_entry name) p) (range_with_len 0 (indirect_for ((n + 4095) / 4096))) ++ map
+    (λ i. pointer (new_entry name) i) (range_with_len 0 ((n + 4095) / 4096))) (new_number 3 8)
 
 new_is_file : (name : Octets) → IsName name → IsFile (new_entry name)
 new_is_file name is =
@@ -98,7 +107,10 @@ new_is_file name is =
 
 -- ---- the file system with it
 
-module _ (inodes at : ℕ) (name : Octets) (a b c : List Octets) (room : HasRoom inodes a) (is_name : IsName name) (fs : IsFileSystem inodes a) (none : (k : ℕ) → k < inodes → slot_of inodes a k ≢ slot_octets name) (found : IsFound inodes a (replicate 64 0) at) (first : PutsRecord (2 + inodes / 64) at (slot_octets name) a b) (second : PutsRecord 2 at new_inode b c) where
+module _ (inodes at : ℕ) (name : Octets) (a b c : List Octets) (room : HasRoom inodes a) (is_name : IsName name)
+    (fs : IsFileSystem inodes a) (none : (k : ℕ) → k < inodes → slot_of inodes a k ≢ slot_octets name)
+    (found : IsFound inodes a (replicate 64 0) at) (first : PutsRecord (2 + inodes / 64) at (slot_octets name) a b)
+    (second : PutsRecord 2 at new_inode b c) where
   puts : PutsEntry inodes at new_inode (slot_octets name) (λ n. ⊥) a c
   puts =
       let then = puts_inode inodes at new_inode b c room.whole found.below second in
@@ -155,7 +167,8 @@ module _ (inodes at : ℕ) (name : Octets) (a b c : List Octets) (room : HasRoom
             ∙ sym (ap (λ (l : ℕ). owned (entry inodes a l)) same ∙ free_owns (entry inodes a at) was_free)
         | inr other ↦ ap owned (others k low other)
       ])
-      (λ bit small. inode_keeps_marks inodes at new_inode b c room.whole found.below second bit small ∙ slot_keeps_marks inodes at (slot_octets name) a b room.whole found.below first bit small)
+      (λ bit small. inode_keeps_marks inodes at new_inode b c room.whole found.below second bit small
+      ∙ slot_keeps_marks inodes at (slot_octets name) a b room.whole found.below first bit small)
       (λ k l low below kf lf same. elim (cases_eq k at) [
         | inl k_is ↦ elim (cases_eq l at) [
           | inl l_is ↦ k_is ∙ sym l_is
@@ -175,7 +188,11 @@ module _ (inodes at : ℕ) (name : Octets) (a b c : List Octets) (room : HasRoom
       file_at_file inodes c at file
       ∙ ap (λ (n : Octets). Some (record { name = n; content = content_of c (entry inodes c at) })) named_here
       ∙ ap (λ (e : Entry). Some (record { name = name; content = content_of c e })) here
-      ∙ ap (λ (n : ℕ). Some (record { name = name; content = take n (flat_map (λ i. get_or c (pointer (new_entry name) i) []) (range_with_len 0 ((n + 4095) / 4096))) })) (new_number 3 8)
+      ∙ ap (λ (n : ℕ). Some (record {
+        name = name;
+        content = take n (flat_map (λ i. get_or c (pointer (new_entry name) i) []) (range_with_len 0 ((n + 4095) / 4096)));
+      }))
+      (new_number 3 8)
 
   pub creates : Creates inodes name at a c
   creates = record {
@@ -189,6 +206,7 @@ module _ (inodes at : ℕ) (name : Octets) (a b c : List Octets) (room : HasRoom
     makes = record {
       room = keeps_room inodes a c room puts.count (second.whole (first.whole room.blocks_whole));
       rule = rule;
-      files_are = table_set inodes at a c (Some (record { name = name; content = [] })) found.below (file_other inodes at new_inode (slot_octets name) (λ n. ⊥) a c puts fs untouched) file_here;
+      files_are = table_set inodes at a c (Some (record { name = name; content = [] })) found.below
+          (file_other inodes at new_inode (slot_octets name) (λ n. ⊥) a c puts fs untouched) file_here;
     };
   }

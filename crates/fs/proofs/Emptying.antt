@@ -1,5 +1,6 @@
 -- The empty file system.
-use Rattle.std.proofs.Common.{◌≡◌, ◌≢◌, inl, inr, ◌<◌, ◌≤◌, ℕ, ◌+◌, ◌-◌, ◌*◌, ◌/◌, ◌%◌, ◌^◌, eqb, ltb, false, None, List, [], length, get_or, drop, set, replicate, sym, ◌∙◌, ap, subst, arith, length-set}
+use Rattle.std.proofs.Common.{◌≡◌, ◌≢◌, inl, inr, ◌<◌, ◌≤◌, ℕ, ◌+◌, ◌-◌, ◌*◌, ◌/◌, ◌%◌, ◌^◌, eqb, ltb, false, None, List, [], length}
+use Rattle.std.proofs.Common.{get_or, drop, set, replicate, sym, ◌∙◌, ap, subst, arith, length-set}
 use Rattle.std.specs.List.{All, Contains}
 use Rattle.std.proofs.lemmas.List.{ext_get_or, get_or-replicate, length-replicate, get_or-set_same, get_or-set_other, get_or_past}
 use Rattle.std.proofs.lemmas.List.Elements.{All-take, All-drop, All-set}
@@ -18,7 +19,8 @@ use Rattle.fs_layout.proofs.Keeps.{keeps_room}
 abbrev AreZeros : Octets → Type 0
 AreZeros octets = All (λ o. o ≡ 0) octets
 
-module _ (inodes : ℕ) (old : List Octets) (bitmap : Octets) (room : HasRoom inodes old) (zeros : All (λ block. All (λ o. o ≡ 0) block) old) (whole : length bitmap ≡ 4096) (front : IsFront (first_data inodes) bitmap) where
+module _ (inodes : ℕ) (old : List Octets) (bitmap : Octets) (room : HasRoom inodes old) (zeros : All (λ block. All (λ o. o ≡ 0) block) old)
+    (whole : length bitmap ≡ 4096) (front : IsFront (first_data inodes) bitmap) where
   new : List Octets
   new = set old 0 bitmap
 
@@ -30,13 +32,17 @@ module _ (inodes : ℕ) (old : List Octets) (bitmap : Octets) (room : HasRoom in
 
   pub empty_entry : (k : ℕ) → IsFree (entry inodes (set old 0 bitmap) k)
   empty_entry k = record {
-    inode_zeros = All-take (λ o. o ≡ 0) 64 (drop (k % 64 * 64) (get_or (set old 0 bitmap) (2 + k / 64) [])) (All-drop (λ o. o ≡ 0) (k % 64 * 64) (get_or (set old 0 bitmap) (2 + k / 64) []) (zero_block (2 + k / 64) (omega arith)));
-    slot_zeros = All-take (λ o. o ≡ 0) 64 (drop (k % 64 * 64) (get_or (set old 0 bitmap) (2 + inodes / 64 + k / 64) [])) (All-drop (λ o. o ≡ 0) (k % 64 * 64) (get_or (set old 0 bitmap) (2 + inodes / 64 + k / 64) []) (zero_block (2 + inodes / 64 + k / 64) (omega arith)));
+    inode_zeros = All-take (λ o. o ≡ 0) 64 (drop (k % 64 * 64) (get_or (set old 0 bitmap) (2 + k / 64) []))
+        (All-drop (λ o. o ≡ 0) (k % 64 * 64) (get_or (set old 0 bitmap) (2 + k / 64) []) (zero_block (2 + k / 64) (omega arith)));
+    slot_zeros = All-take (λ o. o ≡ 0) 64 (drop (k % 64 * 64) (get_or (set old 0 bitmap) (2 + inodes / 64 + k / 64) []))
+        (All-drop (λ o. o ≡ 0) (k % 64 * 64) (get_or (set old 0 bitmap) (2 + inodes / 64 + k / 64) [])
+        (zero_block (2 + inodes / 64 + k / 64) (omega arith)));
   }
 
   owns_nothing : (k b : ℕ) → ¬ (Contains (owned (entry inodes (set old 0 bitmap) k)) b)
   owns_nothing k b owns =
-      let none = subst (λ (o : List ℕ). Contains o b) (free_owns (entry inodes (set old 0 bitmap) k) (empty_entry k)) owns in omega (arith, none.1)
+      let none = subst (λ (o : List ℕ). Contains o b) (free_owns (entry inodes (set old 0 bitmap) k) (empty_entry k)) owns in
+      omega (arith, none.1)
 
   marked_low : (b : ℕ) → b < 32768 → is_marked_used (set old 0 bitmap) b ≡ ltb b (first_data inodes)
   marked_low b low =
@@ -58,7 +64,8 @@ module _ (inodes : ℕ) (old : List Octets) (bitmap : Octets) (room : HasRoom in
   rule = record {
     each = λ k low. inl (empty_entry k);
     within = λ k b low owns. absurd (owns_nothing k b owns);
-    distinct = λ k low. subst AreDistinct (sym (free_owns (entry inodes (set old 0 bitmap) k) (empty_entry k))) (λ i j less inside. absurd (omega arith));
+    distinct = λ k low. subst AreDistinct (sym (free_owns (entry inodes (set old 0 bitmap) k) (empty_entry k)))
+        (λ i j less inside. absurd (omega arith));
     one_owner = λ k l b low below owns also. absurd (owns_nothing k b owns);
     bits = λ b small. elim (cases_lt b 32768) [
       | inl low ↦ (
@@ -76,14 +83,17 @@ module _ (inodes : ℕ) (old : List Octets) (bitmap : Octets) (room : HasRoom in
         ]),
       )
     ];
-    names_distinct = λ k l low below file other same. absurd (let zero = free_kind (entry inodes (set old 0 bitmap) k) (empty_entry k) in omega (arith, file.kind_is));
+    names_distinct = λ k l low below file other same. absurd (let zero = free_kind (entry inodes (set old 0 bitmap) k) (empty_entry k) in
+        omega (arith, file.kind_is));
   }
 
   pub makes_empty : Makes inodes (replicate inodes None) (set old 0 bitmap)
   makes_empty = record {
-    room = keeps_room inodes old (set old 0 bitmap) room (length-set old 0 bitmap) (All-set (λ b. length b ≡ 4096) old 0 bitmap whole room.blocks_whole);
+    room = keeps_room inodes old (set old 0 bitmap) room (length-set old 0 bitmap)
+        (All-set (λ b. length b ≡ 4096) old 0 bitmap whole room.blocks_whole);
     rule = rule;
-    files_are = ext_get_or None (table inodes (set old 0 bitmap)) (replicate inodes None) (length-table inodes (set old 0 bitmap) ∙ sym (length-replicate inodes None)) (λ k low.
+    files_are = ext_get_or None (table inodes (set old 0 bitmap)) (replicate inodes None) (length-table inodes (set old 0 bitmap)
+        ∙ sym (length-replicate inodes None)) (λ k low.
         let inside : k < inodes = omega (arith, length-table inodes (set old 0 bitmap)) in
         get_or-table inodes (set old 0 bitmap) k inside ∙ file_at_free inodes (set old 0 bitmap) k (empty_entry k)
         ∙ sym (get_or-replicate inodes k None None inside));

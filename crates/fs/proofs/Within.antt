@@ -9,12 +9,17 @@ use Rattle.fs_layout.proofs.Entries.{length-content, zero_number}
 use Rattle.fs_layout.proofs.Tables.{file_at_file, get_or-table, length-table, named_from_there}
 use Rattle.fs_inodes.proofs.Grown.{one_content}
 
-module _ (most inodes k : ℕ) (name content : Octets) (old new : List Octets) (room : HasRoom inodes old) (fs : IsFileSystem inodes old) (low : k < inodes) (makes : Makes inodes (set (table inodes old) k (Some (record { name = name; content = content }))) new) (few : length content ≤ most) where
+module _ (most inodes k : ℕ) (name content : Octets) (old new : List Octets) (room : HasRoom inodes old) (fs : IsFileSystem inodes old)
+    (low : k < inodes) (makes : Makes inodes (set (table inodes old) k (Some (record { name = name; content = content }))) new)
+    (few : length content ≤ most) where
   long : (l : ℕ) → l < inodes → length (content_of new (entry inodes new l)) ≡ size (entry inodes new l)
   long l below = length-content new (entry inodes new l) makes.room.blocks_whole (λ b owns. (makes.rule.within l b below owns).1)
 
-  there : (l : ℕ) → l < inodes → IsFile (entry inodes new l) → IsFileAt (set (table inodes old) k (Some (record { name = name; content = content }))) l (name_in (slot_of inodes new l)) (content_of new (entry inodes new l))
-  there l below file = sym (ap (λ (t : List (Option File)). get_or t l None) makes.files_are) ∙ get_or-table inodes new l below ∙ file_at_file inodes new l file
+  there : (l : ℕ) → l < inodes → IsFile (entry inodes new l)
+      → IsFileAt (set (table inodes old) k (Some (record { name = name; content = content }))) l (name_in (slot_of inodes new l))
+      (content_of new (entry inodes new l))
+  there l below file = sym (ap (λ (t : List (Option File)). get_or t l None) makes.files_are) ∙ get_or-table inodes new l below
+      ∙ file_at_file inodes new l file
 
   pub within_kept : AreWithin most inodes old → AreWithin most inodes new
   within_kept all l below = elim (makes.rule.each l below) [
@@ -23,13 +28,17 @@ module _ (most inodes k : ℕ) (name content : Octets) (old new : List Octets) (
       | inl is ↦
           let table_long = length-table inodes old in
           let same : content_of new (entry inodes new l) ≡ content =
-          one_content (set (table inodes old) k (Some (record { name = name; content = content }))) l (name_in (slot_of inodes new l)) name (content_of new (entry inodes new l)) content (there l below file)
-          (ap (λ (m : ℕ). get_or (set (table inodes old) k (Some (record { name = name; content = content }))) m None) is ∙ get_or-set_same (table inodes old) k (Some (record { name = name; content = content })) None (omega (arith, table_long, low))) in
+          one_content (set (table inodes old) k (Some (record { name = name; content = content }))) l (name_in (slot_of inodes new l)) name
+          (content_of new (entry inodes new l)) content (there l below file)
+          (ap (λ (m : ℕ). get_or (set (table inodes old) k (Some (record { name = name; content = content }))) m None) is
+          ∙ get_or-set_same (table inodes old) k (Some (record { name = name; content = content })) None
+          (omega (arith, table_long, low))) in
           let size_is = ap (λ (o : Octets). length o) same in
           omega (arith, size_is, long l below, few)
       | inr other ↦
           let was : IsFileAt (table inodes old) l (name_in (slot_of inodes new l)) (content_of new (entry inodes new l)) =
-          sym (get_or-set_other (table inodes old) k l (Some (record { name = name; content = content })) None other) ∙ there l below file in
+          sym (get_or-set_other (table inodes old) k l (Some (record { name = name; content = content })) None other)
+          ∙ there l below file in
           let named = named_from_there inodes old fs l (name_in (slot_of inodes new l)) (content_of new (entry inodes new l)) was in
           let old_long = length-content old (entry inodes old l) room.blocks_whole (λ b owns. (fs.within l b below owns).1) in
           let same = ap (λ (o : Octets). length o) named.content_is in

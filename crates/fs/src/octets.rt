@@ -56,7 +56,8 @@ pub fn append<B: Blocks>(
     ensures appended { OnOk result (Appends inodes name.now octets.now (B.blocks blocks.old) (B.blocks blocks.new)) }
     ensures touches { OnOk result ((k : ℕ) (content : List ℕ) → IsFileAt (table inodes (B.blocks blocks.old)) k name.now content
         → Touches (touched_by_growth (length content) (length octets.now)) (B.blocks blocks.old) (B.blocks blocks.new)) }
-    ensures format { OnOk result (AreWithin (most_octets format) inodes (B.blocks blocks.old) → AreWithin (most_octets format) inodes (B.blocks blocks.new)) }
+    ensures format { OnOk result (AreWithin (most_octets format) inodes (B.blocks blocks.old)
+        → AreWithin (most_octets format) inodes (B.blocks blocks.new)) }
     ensures not_found { IfErr result (λ e. e ≡ FsError.NotFound
         → (¬ (IsThere (table inodes (B.blocks blocks.old)) name.now)) × (blocks.new ≡ blocks.old)) }
     ensures full { IfErr result (λ e. e ≡ FsError.Full
@@ -89,11 +90,13 @@ pub fn write_at<B: Blocks>(
     requires room { HasRoom inodes (B.blocks blocks.old) }
     requires name { IsName name.now }
     requires rule { IsFileSystem inodes (B.blocks blocks.old) }
-    requires place { (k : ℕ) (content : List ℕ) → IsFileAt (table inodes (B.blocks blocks.old)) k name.now content → place ≤ length content }
+    requires place { (k : ℕ) (content : List ℕ) → IsFileAt (table inodes (B.blocks blocks.old)) k name.now content
+        → place ≤ length content }
     ensures written { OnOk result (Rewrites inodes name.now (overwritten place octets.now) (B.blocks blocks.old) (B.blocks blocks.new)) }
     ensures touches { OnOk result ((k : ℕ) (content : List ℕ) → IsFileAt (table inodes (B.blocks blocks.old)) k name.now content
         → Touches (touched_by_write (length content) place (length octets.now)) (B.blocks blocks.old) (B.blocks blocks.new)) }
-    ensures format { OnOk result (AreWithin (most_octets format) inodes (B.blocks blocks.old) → AreWithin (most_octets format) inodes (B.blocks blocks.new)) }
+    ensures format { OnOk result (AreWithin (most_octets format) inodes (B.blocks blocks.old)
+        → AreWithin (most_octets format) inodes (B.blocks blocks.new)) }
     ensures not_found { IfErr result (λ e. e ≡ FsError.NotFound
         → (¬ (IsThere (table inodes (B.blocks blocks.old)) name.now)) × (blocks.new ≡ blocks.old)) }
     ensures full { IfErr result (λ e. e ≡ FsError.Full
@@ -137,7 +140,8 @@ pub fn truncate<B: Blocks>(
         (λ content. take size content ++ replicate (size - length content) 0) (B.blocks blocks.old) (B.blocks blocks.new)) }
     ensures touches { OnOk result ((k : ℕ) (content : List ℕ) → IsFileAt (table inodes (B.blocks blocks.old)) k name.now content
         → Touches (touched_by_truncation (length content) size) (B.blocks blocks.old) (B.blocks blocks.new)) }
-    ensures format { OnOk result (AreWithin (most_octets format) inodes (B.blocks blocks.old) → AreWithin (most_octets format) inodes (B.blocks blocks.new)) }
+    ensures format { OnOk result (AreWithin (most_octets format) inodes (B.blocks blocks.old)
+        → AreWithin (most_octets format) inodes (B.blocks blocks.new)) }
     ensures not_found { IfErr result (λ e. e ≡ FsError.NotFound
         → (¬ (IsThere (table inodes (B.blocks blocks.old)) name.now)) × (blocks.new ≡ blocks.old)) }
     ensures full { IfErr result (λ e. e ≡ FsError.Full

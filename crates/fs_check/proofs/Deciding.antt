@@ -1,12 +1,14 @@
 -- Entries by their kind.
-use Rattle.std.proofs.Common.{◌≡◌, ◌≢◌, ◌⊎◌, ◌↔◌, inl, inr, ◌<◌, ◌≤◌, ℕ, ◌+◌, ◌-◌, ◌*◌, ◌/◌, cond, eqb, Bool, true, false, List, [], length, sym, ◌∙◌, ap, arith}
+use Rattle.std.proofs.Common.{◌≡◌, ◌≢◌, ◌⊎◌, ◌↔◌, inl, inr, ◌<◌, ◌≤◌, ℕ, ◌+◌, ◌-◌, ◌*◌, ◌/◌, cond, eqb, Bool, true, false, List, [], length}
+use Rattle.std.proofs.Common.{sym, ◌∙◌, ap, arith}
 use Rattle.std.proofs.lemmas.Bool.{cases_eq, cases_lt, eq-eqb, ne_eqb}
 use Rattle.model.specs.Files.{Entry, IsFile, IsFree, double_pointer, indirect_count, indirect_pointer, kind, size}
 use Rattle.fs_check.specs.Checking.{CanRead, HasNumber, IsSlot, HasPointers, IsEntry, most_octets}
 use Rattle.fs_layout.proofs.Entries.{free_kind, zero_number}
 
 module _ (first count : ℕ) (e : Entry) where
-  pub entry_from_file : (most : ℕ) → most ≤ 268435456 → first ≢ 0 → kind e ≡ 1 → IsSlot e.slot → HasPointers most first count e → IsEntry first count e × (size e ≤ most)
+  pub entry_from_file : (most : ℕ) → most ≤ 268435456 → first ≢ 0 → kind e ≡ 1 → IsSlot e.slot → HasPointers most first count e
+      → IsEntry first count e × (size e ≤ most)
   entry_from_file most few some is slot pointers = (
     inr (
       record {
@@ -52,15 +54,28 @@ module _ (first count : ℕ) (e : Entry) where
   no_entry other another (inr file) = another file.0.kind_is
 
 -- the pointers of a file within a file system can be read
-pub can_read : (first count : ℕ) (e : Entry) → IsFile e → (double_pointer e ≢ 0 → (first ≤ double_pointer e) × (double_pointer e < count)) → ((p : ℕ) → p < indirect_count e → (first ≤ indirect_pointer e p) × (indirect_pointer e p < count)) → CanRead first count e
+pub can_read : (first count : ℕ) (e : Entry) → IsFile e → (double_pointer e ≢ 0 → (first ≤ double_pointer e) × (double_pointer e < count))
+    → ((p : ℕ) → p < indirect_count e → (first ≤ indirect_pointer e p) × (indirect_pointer e p < count)) → CanRead first count e
 can_read first count e file double table = record {
   double = elim (cases_lt 1 (indirect_count e)) [
     | inl more ↦ let within = double (file.double_where.0 more) in inl (more, within.0, within.1)
-    | inr less ↦ inr (less, elim (cases_eq (double_pointer e) 0) [ inl none ↦ none | inr some ↦ absurd (let more = file.double_where.1 some in omega (arith, more, less)) ])
+    | inr less ↦ inr (
+      less,
+      elim (cases_eq (double_pointer e) 0) [
+        | inl none ↦ none
+        | inr some ↦ absurd (let more = file.double_where.1 some in omega (arith, more, less))
+      ],
+    )
   ];
   tables = λ p. elim (cases_lt p (indirect_count e)) [
     | inl less ↦ let within = table p less in inl (less, within.0, within.1)
-    | inr past ↦ inr (past, elim (cases_eq (indirect_pointer e p) 0) [ inl none ↦ none | inr some ↦ absurd (let less = (file.indirect_where p).1 some in omega (arith, less, past)) ])
+    | inr past ↦ inr (
+      past,
+      elim (cases_eq (indirect_pointer e p) 0) [
+        | inl none ↦ none
+        | inr some ↦ absurd (let less = (file.indirect_where p).1 some in omega (arith, less, past))
+      ],
+    )
   ];
 }
 

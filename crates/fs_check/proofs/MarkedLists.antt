@@ -1,5 +1,6 @@
 -- Blocks that are marked one after the other.
-use Rattle.std.proofs.Common.{◌≡◌, ◌⊎◌, inl, inr, ◌<◌, ℕ, zero, suc, ◌+◌, IsTrue, true, false, List, [], ◌∷◌, ◌++◌, length, get_or, map, refl, sym, ◌∙◌, ap, subst, arith}
+use Rattle.std.proofs.Common.{◌≡◌, ◌⊎◌, inl, inr, ◌<◌, ℕ, zero, suc, ◌+◌, IsTrue, true, false, List, [], ◌∷◌, ◌++◌, length, get_or, map}
+use Rattle.std.proofs.Common.{refl, sym, ◌∙◌, ap, subst, arith}
 use Rattle.std.specs.List.{Contains, range_with_len}
 use Rattle.std.proofs.lemmas.List.{get_or_default}
 use Rattle.std.proofs.lemmas.List.Elements.{Contains-append_left, Contains-append_right, Contains-append_cases, Contains-get_or}
@@ -33,7 +34,8 @@ marks_none count old = record {
 }
 
 -- one more block
-module _ (count : ℕ) (numbers : List ℕ) (x : ℕ) (old mid new : Octets) (marks : Marks count numbers old mid) (exists : x < count) (clear : bit_of mid x ≡ false) (sets : SetsBit x true mid new) where
+module _ (count : ℕ) (numbers : List ℕ) (x : ℕ) (old mid new : Octets) (marks : Marks count numbers old mid) (exists : x < count)
+    (clear : bit_of mid x ≡ false) (sets : SetsBit x true mid new) where
   not_before : ¬ (Contains numbers x)
   not_before has = false≢true (sym clear ∙ (marks.marked x).1 (inr has))
 
@@ -81,12 +83,15 @@ module _ (count : ℕ) (numbers : List ℕ) (x : ℕ) (old mid new : Octets) (ma
   }
 
 -- a list whose next block is refused
-pub cannot_mark : (count : ℕ) (numbers whole : List ℕ) (old mid : Octets) → Marks count numbers old mid → length numbers < length whole → ((j : ℕ) → j < length numbers → get_or numbers j 0 ≡ get_or whole j 0) → (x : ℕ) → get_or whole (length numbers) 0 ≡ x → (x < count → bit_of mid x ≡ true) → ¬ (CanMark count whole old)
+pub cannot_mark : (count : ℕ) (numbers whole : List ℕ) (old mid : Octets) → Marks count numbers old mid → length numbers < length whole
+    → ((j : ℕ) → j < length numbers → get_or numbers j 0 ≡ get_or whole j 0) → (x : ℕ) → get_or whole (length numbers) 0 ≡ x
+    → (x < count → bit_of mid x ≡ true) → ¬ (CanMark count whole old)
 cannot_mark count numbers whole old mid marks more same x is refused can =
     let among : Contains whole x = subst (λ (n : ℕ). Contains whole n) is (Contains-get_or whole (length numbers) 0 more) in
     elim ((marks.marked x).0 (refused (can.within x among))) [
       | inl was ↦ false≢true (sym (can.clear x among) ∙ was)
-      | inr (i, low, there) ↦ can.distinct i (length numbers) low more (sym (same i low) ∙ get_or_default numbers i 0 x low ∙ there ∙ sym is)
+      | inr (i, low, there) ↦ can.distinct i (length numbers) low more (sym (same i low) ∙ get_or_default numbers i 0 x low ∙ there
+          ∙ sym is)
     ]
 
 -- ---- some blocks, and then others
@@ -102,8 +107,12 @@ module _ (count : ℕ) (xs ys : List ℕ) (old mid : Octets) (first : Marks coun
   pub marks_append : (new : Octets) → Marks count ys mid new → Marks count (xs ++ ys) old new
   marks_append new second = record {
     can = record {
-      distinct = distinct_append xs ys first.can.distinct second.can.distinct (λ b one other. false≢true (sym (second.can.clear b other) ∙ (first.marked b).1 (inr one)));
-      within = λ b has. elim (Contains-append_cases xs ys b has) [ inl one ↦ first.can.within b one | inr other ↦ second.can.within b other ];
+      distinct = distinct_append xs ys first.can.distinct second.can.distinct
+          (λ b one other. false≢true (sym (second.can.clear b other) ∙ (first.marked b).1 (inr one)));
+      within = λ b has. elim (Contains-append_cases xs ys b has) [
+        | inl one ↦ first.can.within b one
+        | inr other ↦ second.can.within b other
+      ];
       clear = λ b has. elim (Contains-append_cases xs ys b has) [
         | inl one ↦ first.can.clear b one
         | inr other ↦ false_from_ne_true (bit_of old b) (λ was. false≢true (sym (second.can.clear b other) ∙ (first.marked b).1 (inl was)))
@@ -141,16 +150,20 @@ cannot_one count x old refused can = false≢true (sym (can.clear x (contains_on
 -- ---- the values of a function, in turn
 
 module _ (count : ℕ) (f : ℕ → ℕ) (i : ℕ) (old mid : Octets) (marks : Marks count (map f (range_with_len 0 i)) old mid) where
-  pub marks_more : (x : ℕ) (new : Octets) → x ≡ f i → x < count → bit_of mid x ≡ false → SetsBit x true mid new → Marks count (map f (range_with_len 0 (i + 1))) old new
+  pub marks_more : (x : ℕ) (new : Octets) → x ≡ f i → x < count → bit_of mid x ≡ false → SetsBit x true mid new
+      → Marks count (map f (range_with_len 0 (i + 1))) old new
   marks_more x new is exists clear sets =
       subst (λ (l : List ℕ). Marks count l old new)
       (ap (λ (n : ℕ). map f (range_with_len 0 i) ++ n ∷ []) is ∙ sym (map-range_with_len_more f 0 i i (omega arith)))
       (marks_push count (map f (range_with_len 0 i)) x old mid new marks exists clear sets)
 
-  pub cannot_more : (some x : ℕ) → i < some → x ≡ f i → (x < count → bit_of mid x ≡ true) → ¬ (CanMark count (map f (range_with_len 0 some)) old)
+  pub cannot_more : (some x : ℕ) → i < some → x ≡ f i → (x < count → bit_of mid x ≡ true)
+      → ¬ (CanMark count (map f (range_with_len 0 some)) old)
   cannot_more some x low is refused =
       let long = length-map-range_with_len f 0 some in
       let short = length-map-range_with_len f 0 i in
       cannot_mark count (map f (range_with_len 0 i)) (map f (range_with_len 0 some)) old mid marks (omega arith)
-      (λ j below. get_or-map-range_with_len f 0 i j j 0 (omega arith) (omega arith) ∙ sym (get_or-map-range_with_len f 0 some j j 0 (omega arith) (omega arith)))
-      x (ap (λ (n : ℕ). get_or (map f (range_with_len 0 some)) n 0) short ∙ get_or-map-range_with_len f 0 some i i 0 low (omega arith) ∙ sym is) refused
+      (λ j below. get_or-map-range_with_len f 0 i j j 0 (omega arith) (omega arith)
+      ∙ sym (get_or-map-range_with_len f 0 some j j 0 (omega arith) (omega arith)))
+      x (ap (λ (n : ℕ). get_or (map f (range_with_len 0 some)) n 0) short ∙ get_or-map-range_with_len f 0 some i i 0 low (omega arith)
+      ∙ sym is) refused

@@ -1,5 +1,6 @@
 -- What entries own, marked one entry after the other.
-use Rattle.std.proofs.Common.{◌≡◌, ◌≢◌, ◌⊎◌, inl, inr, ◌<◌, ◌≤◌, ℕ, zero, suc, ◌+◌, ◌*◌, ◌/◌, cond, Bool, true, false, List, [], ◌∷◌, ◌++◌, length, map, refl, sym, ◌∙◌, ap, subst, arith}
+use Rattle.std.proofs.Common.{◌≡◌, ◌≢◌, ◌⊎◌, inl, inr, ◌<◌, ◌≤◌, ℕ, zero, suc, ◌+◌, ◌*◌, ◌/◌, cond, Bool, true, false, List, [], ◌∷◌, ◌++◌}
+use Rattle.std.proofs.Common.{length, map, refl, sym, ◌∙◌, ap, subst, arith}
 use Rattle.std.specs.List.{Contains, range_with_len}
 use Rattle.std.proofs.lemmas.Bool.{cases_lt, false≢true, false_from_ne_true, ne_eqb, eq-eqb}
 use Rattle.model.specs.Stream.{Octets}
@@ -18,21 +19,26 @@ pub number_there : (first count place many n : ℕ) → 0 < first → HasNumber 
 number_there first count place many n some (inl there) low = ((λ none. absurd (omega (arith, some, none, there.1))), there.2)
 number_there first count place many n some (inr none) low = absurd (omega (arith, low, none.0))
 
-pub entry_double : (first count : ℕ) (e : Entry) → 0 < first → IsEntry first count e → 1 < indirect_count e → (double_pointer e ≢ 0) × (double_pointer e < count)
+pub entry_double : (first count : ℕ) (e : Entry) → 0 < first → IsEntry first count e → 1 < indirect_count e
+    → (double_pointer e ≢ 0) × (double_pointer e < count)
 entry_double first count e some (inl free) more = let none = zero_number 4 8 e.inode free.inode_zeros in absurd (omega (arith, none, more))
 entry_double first count e some (inr file) more = number_there first count 1 (indirect_count e) (double_pointer e) some file.1.double more
 
-pub entry_table : (first count : ℕ) (e : Entry) → 0 < first → IsEntry first count e → (p : ℕ) → p < indirect_count e → (indirect_pointer e p ≢ 0) × (indirect_pointer e p < count)
+pub entry_table : (first count : ℕ) (e : Entry) → 0 < first → IsEntry first count e → (p : ℕ) → p < indirect_count e
+    → (indirect_pointer e p ≢ 0) × (indirect_pointer e p < count)
 entry_table first count e some (inl free) p less = let none = zero_number 4 8 e.inode free.inode_zeros in absurd (omega (arith, none, less))
-entry_table first count e some (inr file) p less = number_there first count p (indirect_count e) (indirect_pointer e p) some (file.1.tables p) less
+entry_table first count e some (inr file) p less =
+    number_there first count p (indirect_count e) (indirect_pointer e p) some (file.1.tables p) less
 
 -- ---- one entry more
 
-module _ (at inodes : ℕ) (blocks : List Octets) (old : Octets) (owners : HasOwners at inodes blocks) (used : MarksUsed at inodes blocks old) where
+module _ (at inodes : ℕ) (blocks : List Octets) (old : Octets) (owners : HasOwners at inodes blocks)
+    (used : MarksUsed at inodes blocks old) where
   abbrev owns : ℕ → ℕ → Type 0
   owns k b = Contains (owned (entry inodes blocks k)) b
 
-  pub owners_more : (new : Octets) → Marks (length blocks) (owned (entry inodes blocks at)) old new → HasOwners (at + 1) inodes blocks × MarksUsed (at + 1) inodes blocks new
+  pub owners_more : (new : Octets) → Marks (length blocks) (owned (entry inodes blocks at)) old new
+      → HasOwners (at + 1) inodes blocks × MarksUsed (at + 1) inodes blocks new
   owners_more new marks = (
     record {
       within = λ k b low has. elim (cases_lt k at) [

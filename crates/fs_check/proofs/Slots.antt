@@ -19,13 +19,15 @@ has slots slot = contains (slice_cmp nat_cmp) slots slot
 -- the set has the slots of the files among the first entries, whose names are distinct
 pub record HasSlots (at inodes : ℕ) (blocks : List Octets) (slots : BTreeSet (List ℕ)) : Type 0 where
   pub found : (k : ℕ) → k < at → IsFile (entry inodes blocks k) → has slots (slot_of inodes blocks k) ≡ true
-  pub only : (slot : Octets) → has slots slot ≡ true → (k : ℕ) × (k < at) × IsFile (entry inodes blocks k) × (slot_of inodes blocks k ≡ slot)
+  pub only : (slot : Octets) → has slots slot ≡ true
+      → (k : ℕ) × (k < at) × IsFile (entry inodes blocks k) × (slot_of inodes blocks k ≡ slot)
   pub distinct : HasDistinctNames at inodes blocks
 
 pub slots_none : (inodes : ℕ) (blocks : List Octets) (slots : BTreeSet (List ℕ)) → IsEmpty slots → HasSlots 0 inodes blocks slots
 slots_none inodes blocks slots empty = record {
   found = λ k low file. absurd (omega arith);
-  only = λ slot there. absurd (false≢true (sym (ap (λ (keys : List (List ℕ)). list_any (is_at (slice_cmp nat_cmp slot)) keys) empty) ∙ there));
+  only = λ slot there. absurd (false≢true (sym (ap (λ (keys : List (List ℕ)). list_any (is_at (slice_cmp nat_cmp slot)) keys) empty)
+      ∙ there));
   distinct = λ k l low below file file' same. absurd (omega arith);
 }
 
@@ -33,13 +35,15 @@ slots_none inodes blocks slots empty = record {
 
 module _ (first count inodes at : ℕ) (blocks : List Octets) (slot : Octets) (is : slot ≡ slot_of inodes blocks at) where
   pub file_from_slot : IsEntry first count (entry inodes blocks at) → 0 < get_or slot 0 0 → IsFile (entry inodes blocks at)
-  file_from_slot (inl free) some = absurd (omega (arith, zero_at (slot_of inodes blocks at) 0 free.slot_zeros, ap (λ (s : Octets). get_or s 0 0) is))
+  file_from_slot (inl free) some =
+      absurd (omega (arith, zero_at (slot_of inodes blocks at) 0 free.slot_zeros, ap (λ (s : Octets). get_or s 0 0) is))
   file_from_slot (inr file) some = file.0
 
   pub no_file_from_slot : get_or slot 0 0 ≡ 0 → ¬ (IsFile (entry inodes blocks at))
   no_file_from_slot none file = omega (arith, ap (λ (s : Octets). get_or s 0 0) (is ∙ file.slot_is), file.name_some)
 
-same_slot : (inodes k l : ℕ) (blocks : List Octets) → IsFile (entry inodes blocks k) → IsFile (entry inodes blocks l) → name_in (slot_of inodes blocks k) ≡ name_in (slot_of inodes blocks l) → slot_of inodes blocks k ≡ slot_of inodes blocks l
+same_slot : (inodes k l : ℕ) (blocks : List Octets) → IsFile (entry inodes blocks k) → IsFile (entry inodes blocks l)
+    → name_in (slot_of inodes blocks k) ≡ name_in (slot_of inodes blocks l) → slot_of inodes blocks k ≡ slot_of inodes blocks l
 same_slot inodes k l blocks file file' same = file.slot_is ∙ ap slot_octets same ∙ sym file'.slot_is
 
 either : (b c : Bool) → c ≡ true → cond b true c ≡ true
@@ -69,7 +73,8 @@ module _ (at inodes : ℕ) (blocks : List Octets) (old : BTreeSet (List ℕ)) (s
         let same = distinct one.0 at (omega (arith, one.1)) low one.2 file_at (ap name_in (one.3 ∙ is)) in
         omega (arith, one.1)
 
-    pub slots_more : (new : BTreeSet (List ℕ)) → has old slot ≡ false → Updates (slice_cmp nat_cmp) old new slot true → HasSlots (at + 1) inodes blocks new
+    pub slots_more : (new : BTreeSet (List ℕ)) → has old slot ≡ false → Updates (slice_cmp nat_cmp) old new slot true
+        → HasSlots (at + 1) inodes blocks new
     slots_more new absent updates = record { found = found; only = only; distinct = distinct }
       where
         is_last : (k : ℕ) → k < at + 1 → at ≤ k → k ≡ at
@@ -77,20 +82,26 @@ module _ (at inodes : ℕ) (blocks : List Octets) (old : BTreeSet (List ℕ)) (s
 
         found : (k : ℕ) → k < at + 1 → IsFile (entry inodes blocks k) → has new (slot_of inodes blocks k) ≡ true
         found k low file = elim (cases_lt k at) [
-          | inl less ↦ updates.0 (slot_of inodes blocks k) ∙ either (is_at (slice_cmp nat_cmp slot) (slot_of inodes blocks k)) (has old (slot_of inodes blocks k)) (slots.found k less file)
-          | inr last ↦ ap (λ (m : ℕ). has new (slot_of inodes blocks m)) (is_last k low last) ∙ ap (λ (s : Octets). has new s) (sym is) ∙ updates.1
+          | inl less ↦ updates.0 (slot_of inodes blocks k)
+              ∙ either (is_at (slice_cmp nat_cmp slot) (slot_of inodes blocks k)) (has old (slot_of inodes blocks k))
+              (slots.found k less file)
+          | inr last ↦ ap (λ (m : ℕ). has new (slot_of inodes blocks m)) (is_last k low last) ∙ ap (λ (s : Octets). has new s) (sym is)
+              ∙ updates.1
         ]
 
-        among : (s : Octets) (b : Bool) → is_at (slice_cmp nat_cmp slot) s ≡ b → cond b true (has old s) ≡ true → (k : ℕ) × (k < at + 1) × IsFile (entry inodes blocks k) × (slot_of inodes blocks k ≡ s)
+        among : (s : Octets) (b : Bool) → is_at (slice_cmp nat_cmp slot) s ≡ b → cond b true (has old s) ≡ true
+            → (k : ℕ) × (k < at + 1) × IsFile (entry inodes blocks k) × (slot_of inodes blocks k ≡ s)
         among s true equal there = (at, omega arith, file_at, sym is ∙ tells_apart exact_bytes slot s equal)
         among s false other there = let one = slots.only s there in (one.0, omega (arith, one.1), one.2, one.3)
 
         only : (s : Octets) → has new s ≡ true → (k : ℕ) × (k < at + 1) × IsFile (entry inodes blocks k) × (slot_of inodes blocks k ≡ s)
         only s there = among s (is_at (slice_cmp nat_cmp slot) s) refl (sym (updates.0 s) ∙ there)
 
-        apart : (k : ℕ) → k < at → IsFile (entry inodes blocks k) → name_in (slot_of inodes blocks k) ≡ name_in (slot_of inodes blocks at) → ⊥
+        apart : (k : ℕ) → k < at → IsFile (entry inodes blocks k) → name_in (slot_of inodes blocks k) ≡ name_in (slot_of inodes blocks at)
+            → ⊥
         apart k less file same =
-            false≢true (sym absent ∙ ap (λ (s : Octets). has old s) (is ∙ sym (same_slot inodes k at blocks file file_at same)) ∙ slots.found k less file)
+            false≢true (sym absent ∙ ap (λ (s : Octets). has old s) (is ∙ sym (same_slot inodes k at blocks file file_at same))
+            ∙ slots.found k less file)
 
         distinct : HasDistinctNames (at + 1) inodes blocks
         distinct k l low low' file file' same = elim (cases_lt k at) [

@@ -24,10 +24,14 @@ module _ (inodes : ℕ) (blocks : List Octets) where
     pub owners_from_rule : HasOwners inodes inodes blocks
     owners_from_rule = record { within = fs.within; distinct = fs.distinct; one_owner = fs.one_owner }
 
-    pub bitmap_from_rule : (marks : Octets) → MarksUsed inodes inodes blocks marks → (b : ℕ) → b < 65536 → is_marked_used blocks b ≡ bit_of marks b
+    pub bitmap_from_rule : (marks : Octets) → MarksUsed inodes inodes blocks marks → (b : ℕ) → b < 65536
+        → is_marked_used blocks b ≡ bit_of marks b
     bitmap_from_rule marks used b small = same_from_decides (is_marked_used blocks b) (bit_of marks b) (fs.bits b small) (used b)
 
-  pub rule_from_passes : (marks : Octets) → ((k : ℕ) → k < inodes → IsEntry (first_data inodes) (length blocks) (entry inodes blocks k)) → HasOwners inodes inodes blocks → MarksUsed inodes inodes blocks marks → ((b : ℕ) → b < 65536 → is_marked_used blocks b ≡ bit_of marks b) → HasDistinctNames inodes inodes blocks → IsFileSystem inodes blocks
+  pub rule_from_passes : (marks : Octets) → ((k : ℕ) → k < inodes → IsEntry (first_data inodes) (length blocks) (entry inodes blocks k))
+      → HasOwners inodes inodes blocks → MarksUsed inodes inodes blocks marks
+      → ((b : ℕ) → b < 65536 → is_marked_used blocks b ≡ bit_of marks b) → HasDistinctNames inodes inodes blocks
+      → IsFileSystem inodes blocks
   rule_from_passes marks entries owners used bitmap names = record {
     each = λ k low. elim (entries k low) [ inl free ↦ inl free | inr file ↦ inr file.0 ];
     within = owners.within;

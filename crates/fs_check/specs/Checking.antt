@@ -2,7 +2,8 @@
 use Rattle.std.specs.Prelude.{◌≡◌, ◌≢◌, ◌⊎◌, ◌<◌, ◌≤◌, ◌↔◌, ℕ, ◌==◌, if◌then◌else◌, false, List, length, Contains, IsTrue}
 use Rattle.model.specs.Stream.{Octets}
 use Rattle.model.specs.Volume.{number_at, AreDistinct}
-use Rattle.model.specs.Files.{Entry, IsFile, IsFree, size, block_count, double_pointer, indirect_count, indirect_pointer, pointer, owned, name_in, slot_octets, entry, slot_of, first_data}
+use Rattle.model.specs.Files.{Entry, IsFile, IsFree, size, block_count, double_pointer, indirect_count, indirect_pointer, pointer, owned}
+use Rattle.model.specs.Files.{name_in, slot_octets, entry, slot_of, first_data}
 use Rattle.fs_layout.specs.Bits.{bit_of}
 
 -- a slot with a name
@@ -64,7 +65,8 @@ pub record Marks (count : ℕ) (numbers : List ℕ) (old new : Octets) : Type 0 
 pub record HasOwners (at inodes : ℕ) (blocks : List Octets) : Type 0 where
   pub within : (k b : ℕ) → k < at → Contains (owned (entry inodes blocks k)) b → (first_data inodes ≤ b) × (b < length blocks)
   pub distinct : (k : ℕ) → k < at → AreDistinct (owned (entry inodes blocks k))
-  pub one_owner : (k l b : ℕ) → k < at → l < at → Contains (owned (entry inodes blocks k)) b → Contains (owned (entry inodes blocks l)) b → k ≡ l
+  pub one_owner : (k l b : ℕ) → k < at → l < at → Contains (owned (entry inodes blocks k)) b → Contains (owned (entry inodes blocks l)) b
+      → k ≡ l
 
 -- a block before the data, or one that one of the first entries owns
 abbrev pub IsUsedBelow : ℕ → ℕ → List Octets → ℕ → Type 0

@@ -26,8 +26,10 @@ const BITMAP_SIZE: usize = 8192;
 /// names.
 pub fn check<B: Blocks>(alloc: Global, blocks: &B, inodes: u32, format: u32) -> Result<(), FsError>
     requires room { HasRoom inodes (B.blocks blocks.now) }
-    ensures sound { IfOk result (λ _. IsFileSystem inodes (B.blocks blocks.now) × AreWithin (most_octets format) inodes (B.blocks blocks.now)) }
-    ensures damaged { IfErr result (λ e. e ≡ FsError.Damaged → ¬ (IsFileSystem inodes (B.blocks blocks.now) × AreWithin (most_octets format) inodes (B.blocks blocks.now))) }
+    ensures sound { IfOk result (λ _. IsFileSystem inodes (B.blocks blocks.now)
+        × AreWithin (most_octets format) inodes (B.blocks blocks.now)) }
+    ensures damaged { IfErr result (λ e. e ≡ FsError.Damaged
+        → ¬ (IsFileSystem inodes (B.blocks blocks.now) × AreWithin (most_octets format) inodes (B.blocks blocks.now))) }
     ensures no_other { IfErr result (λ e. (e ≡ FsError.Memory) ⊎ (e ≡ FsError.Damaged)) }
 {
     if !are_entries(blocks, inodes, format) {

@@ -74,8 +74,11 @@ fn mark_tables<B: Blocks>(blocks: &B, inode: &[u8], tables: u32, marks: &mut [u8
     requires few { tables ≤ 1025 }
     requires double { 1 < tables → IsThere (number_at 56 4 inode.now) (B.blocks blocks.now) }
     requires whole { length marks.old ≡ 8192 }
-    ensures marked { OnTrue result (Marks (length (B.blocks blocks.now)) (map (λ p. indirect_pointer (entry_of (B.blocks blocks.now) inode.now []) p) (range_with_len 0 tables)) marks.old marks.new) }
-    ensures refused { OnFalse result (¬ (CanMark (length (B.blocks blocks.now)) (map (λ p. indirect_pointer (entry_of (B.blocks blocks.now) inode.now []) p) (range_with_len 0 tables)) marks.old)) }
+    ensures marked { OnTrue result (Marks (length (B.blocks blocks.now))
+        (map (λ p. indirect_pointer (entry_of (B.blocks blocks.now) inode.now []) p) (range_with_len 0 tables)) marks.old marks.new) }
+    ensures refused { OnFalse result
+        (¬ (CanMark (length (B.blocks blocks.now))
+        (map (λ p. indirect_pointer (entry_of (B.blocks blocks.now) inode.now []) p) (range_with_len 0 tables)) marks.old)) }
 {
     for p in 0..tables {
         if !mark(marks, blocks.len(), indirect_at(blocks, inode, p)) {
@@ -91,10 +94,14 @@ fn mark_pointers<B: Blocks>(blocks: &B, inode: &[u8], count: u32, marks: &mut [u
     requires size { length inode.now ≡ 64 }
     requires few { count ≤ 65536 }
     requires double { 1 < indirect_for count → IsThere (number_at 56 4 inode.now) (B.blocks blocks.now) }
-    requires tables { (p : ℕ) → p < indirect_for count → IsThere (indirect_pointer (entry_of (B.blocks blocks.now) inode.now []) p) (B.blocks blocks.now) }
+    requires tables { (p : ℕ) → p < indirect_for count
+        → IsThere (indirect_pointer (entry_of (B.blocks blocks.now) inode.now []) p) (B.blocks blocks.now) }
     requires whole { length marks.old ≡ 8192 }
-    ensures marked { OnTrue result (Marks (length (B.blocks blocks.now)) (map (λ i. pointer (entry_of (B.blocks blocks.now) inode.now []) i) (range_with_len 0 count)) marks.old marks.new) }
-    ensures refused { OnFalse result (¬ (CanMark (length (B.blocks blocks.now)) (map (λ i. pointer (entry_of (B.blocks blocks.now) inode.now []) i) (range_with_len 0 count)) marks.old)) }
+    ensures marked { OnTrue result (Marks (length (B.blocks blocks.now))
+        (map (λ i. pointer (entry_of (B.blocks blocks.now) inode.now []) i) (range_with_len 0 count)) marks.old marks.new) }
+    ensures refused { OnFalse result
+        (¬ (CanMark (length (B.blocks blocks.now))
+        (map (λ i. pointer (entry_of (B.blocks blocks.now) inode.now []) i) (range_with_len 0 count)) marks.old)) }
 {
     for i in 0..count {
         if !mark(marks, blocks.len(), pointer_at(blocks, inode, i)) {

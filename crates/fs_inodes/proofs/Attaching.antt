@@ -1,10 +1,12 @@
 -- One block more.
-use Rattle.std.proofs.Common.{◌≡◌, ◌≢◌, inl, inr, ◌<◌, ◌≤◌, ℕ, ◌+◌, ◌-◌, ◌/◌, cond, eqb, ltb, true, Bool, List, [], ◌∷◌, ◌++◌, length, get_or, sym, ◌∙◌, ap, subst, arith, append_assoc}
+use Rattle.std.proofs.Common.{◌≡◌, ◌≢◌, inl, inr, ◌<◌, ◌≤◌, ℕ, ◌+◌, ◌-◌, ◌/◌, cond, eqb, ltb, true, Bool, List, [], ◌∷◌, ◌++◌, length}
+use Rattle.std.proofs.Common.{get_or, sym, ◌∙◌, ap, subst, arith, append_assoc}
 use Rattle.std.proofs.lemmas.Bool.{cases_lt}
 use Rattle.model.specs.Stream.{Octets}
 use Rattle.model.specs.Volume.{number_at}
 use Rattle.model.specs.Files.{Entry, double_blocks, double_pointer, indirect_for, indirect_pointer, pointer, is_marked_used, free_blocks}
-use Rattle.fs_inodes.specs.Growing.{AddsBlock, AddsTable, IsApart, IsTaken, NamesBlocks, PutsPointer, TakesBlocks, inode_entry, tables_to, with_double, with_indirect}
+use Rattle.fs_inodes.specs.Growing.{AddsBlock, AddsTable, IsApart, IsTaken, NamesBlocks, PutsPointer, TakesBlocks, inode_entry, tables_to}
+use Rattle.fs_inodes.specs.Growing.{with_double, with_indirect}
 use Rattle.fs_layout.specs.Marks.{TakesBlock}
 use Rattle.fs_layout.specs.Blocks.{IsThere}
 use Rattle.fs_layout.proofs.Keeps.{marks_same}
@@ -12,7 +14,8 @@ use Rattle.fs_layout.proofs.Marking.{one_less_free, same_free}
 use Rattle.fs_inodes.proofs.Tables.{entry_stays, is_apart, map_same_below, names_same, names_stay}
 use Rattle.fs_inodes.proofs.Taking.{taken_still, takes_both, takes_one, takes_then}
 
-module _ (i number : ℕ) (inode : Octets) (old mid : List Octets) (few : length old ≤ 65536) (first : TakesBlock number old mid) (named : NamesBlocks (indirect_for i) (inode_entry old inode) old) where
+module _ (i number : ℕ) (inode : Octets) (old mid : List Octets) (few : length old ≤ 65536) (first : TakesBlock number old mid)
+    (named : NamesBlocks (indirect_for i) (inode_entry old inode) old) where
   same : (b : ℕ) → IsTaken old b → get_or mid b [] ≡ get_or old b []
   same b taken = first.sets.blocks b taken.some
 
@@ -20,10 +23,13 @@ module _ (i number : ℕ) (inode : Octets) (old mid : List Octets) (few : length
   mid_is = entry_stays (indirect_for i) inode old mid named same
 
   pub names_mid : NamesBlocks (indirect_for i) (inode_entry mid inode) mid
-  names_mid = names_stay (indirect_for i) inode old mid named same (taken_still (number ∷ []) old mid few first.sets.count (takes_one number old mid few first))
+  names_mid = names_stay (indirect_for i) inode old mid named same
+      (taken_still (number ∷ []) old mid few first.sets.count (takes_one number old mid few first))
 
-  pub free_mid : with_indirect (i + 1) ≤ free_blocks old + with_indirect i → with_double (indirect_for (i + 1)) ≤ free_blocks mid + with_double (indirect_for i)
-  free_mid enough = sums (free_blocks mid) (free_blocks old) (with_double (indirect_for (i + 1))) (with_double (indirect_for i)) i (one_less_free number old mid few first) enough
+  pub free_mid : with_indirect (i + 1) ≤ free_blocks old + with_indirect i
+      → with_double (indirect_for (i + 1)) ≤ free_blocks mid + with_double (indirect_for i)
+  free_mid enough = sums (free_blocks mid) (free_blocks old) (with_double (indirect_for (i + 1))) (with_double (indirect_for i)) i
+      (one_less_free number old mid few first) enough
     where
       sums : (a b x y i : ℕ) → a + 1 ≡ b → i + 1 + x ≤ b + (i + y) → x ≤ a + y
       sums a b x y i less fits = omega (arith, less, fits)
@@ -34,9 +40,11 @@ module _ (i number : ℕ) (inode : Octets) (old mid : List Octets) (few : length
   module _ (inode1 : Octets) (then : List Octets) (table : AddsTable i inode inode1 mid then) where
     -- what the place of the pointer requires
     pub double_there : 1034 ≤ i → IsThere (number_at 56 4 inode1) then
-    double_there many = let taken = table.names.double (omega (arith, many)) in ((λ none. absurd (let some = taken.some in omega (arith, some, none))), taken.there)
+    double_there many = let taken = table.names.double (omega (arith, many)) in
+        ((λ none. absurd (let some = taken.some in omega (arith, some, none))), taken.there)
 
-    pub table_there : 10 ≤ i → (2 ≤ indirect_pointer (inode_entry then inode1) ((i - 10) / 1024)) × (indirect_pointer (inode_entry then inode1) ((i - 10) / 1024) < length then)
+    pub table_there : 10 ≤ i → (2 ≤ indirect_pointer (inode_entry then inode1) ((i - 10) / 1024))
+        × (indirect_pointer (inode_entry then inode1) ((i - 10) / 1024) < length then)
     table_there high = let taken = table.names.there ((i - 10) / 1024) (omega (arith, high)) in (taken.some, taken.there)
 
     pub table_apart : 10 ≤ i → IsApart ((i - 10) / 1024) (inode_entry then inode1)
@@ -68,11 +76,13 @@ module _ (i number : ℕ) (inode : Octets) (old mid : List Octets) (few : length
       all_taken : TakesBlocks ((table.doubles ++ table.tables) ++ number ∷ []) old new
       all_taken =
           takes_then ((table.doubles ++ table.tables) ++ number ∷ []) old then new few count_then puts.count mark_new
-          (takes_both (number ∷ []) (table.doubles ++ table.tables) old mid then few first.sets.count table.count (takes_one number old mid few first) table.takes)
+          (takes_both (number ∷ []) (table.doubles ++ table.tables) old mid then few first.sets.count table.count
+          (takes_one number old mid few first) table.takes)
 
       fewer_new : free_blocks new + with_indirect (i + 1) ≡ free_blocks old + with_indirect i
       fewer_new =
-          sums (free_blocks new) (free_blocks then) (free_blocks mid) (free_blocks old) (with_double (indirect_for (i + 1))) (with_double (indirect_for i)) i
+          sums (free_blocks new) (free_blocks then) (free_blocks mid) (free_blocks old) (with_double (indirect_for (i + 1)))
+          (with_double (indirect_for i)) i
           (same_free then new puts.count (λ b inside. mark_new b (omega (arith, inside, few, count_then))))
           table.fewer (one_less_free number old mid few first)
         where
@@ -95,10 +105,12 @@ module _ (i number : ℕ) (inode : Octets) (old mid : List Octets) (few : length
           | inr stays ↦ inr (puts.indirect p ∙ stays ∙ ap (λ (e : Entry). indirect_pointer e p) mid_is)
         ];
         doubles = table.doubles;
-        doubles_are = ap (λ (m : ℕ). cond (eqb m 0) [] (m ∷ [])) double_is ∙ table.doubles_are ∙ ap (λ (e : Entry). double_blocks e ++ table.doubles) mid_is;
+        doubles_are = ap (λ (m : ℕ). cond (eqb m 0) [] (m ∷ [])) double_is ∙ table.doubles_are
+            ∙ ap (λ (e : Entry). double_blocks e ++ table.doubles) mid_is;
         tables = table.tables;
         tables_are =
-            map_same_below (λ p. indirect_pointer f p) (λ p. indirect_pointer (inode_entry then inode1) p) 0 (indirect_for (i + 1)) (λ p low. puts.indirect p)
+            map_same_below (λ p. indirect_pointer f p) (λ p. indirect_pointer (inode_entry then inode1) p) 0 (indirect_for (i + 1))
+            (λ p low. puts.indirect p)
             ∙ table.tables_are ∙ ap (λ (e : Entry). tables_to e (indirect_for i) ++ table.tables) mid_is;
         takes = subst (λ (l : List ℕ). TakesBlocks l old new) (append_assoc table.doubles table.tables (number ∷ [])) all_taken;
         fewer = fewer_new;

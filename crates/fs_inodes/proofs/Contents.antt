@@ -1,5 +1,6 @@
 -- Parts of a file's content.
-use Rattle.std.proofs.Common.{◌≡◌, ◌⊎◌, inl, inr, ◌<◌, ◌≤◌, ℕ, ◌+◌, ◌-◌, ◌*◌, ◌/◌, ◌%◌, List, [], ◌++◌, length, get_or, take, drop, sym, ◌∙◌, ap, arith, length-drop}
+use Rattle.std.proofs.Common.{◌≡◌, ◌⊎◌, inl, inr, ◌<◌, ◌≤◌, ℕ, ◌+◌, ◌-◌, ◌*◌, ◌/◌, ◌%◌, List, [], ◌++◌, length, get_or, take, drop, sym}
+use Rattle.std.proofs.Common.{◌∙◌, ap, arith, length-drop}
 use Rattle.std.specs.List.{All, Contains, range_with_len, flat_map}
 use Rattle.std.proofs.lemmas.List.{drop-take, take-take, drop-drop, take_all}
 use Rattle.std.proofs.Math.Seq.{take-add}
@@ -18,7 +19,8 @@ part_of_front r n m octets fits =
     ∙ ap (λ (l : Octets). take n l) (drop-take r (m - r) octets)
     ∙ take-take n (m - r) (drop r octets) (omega arith)
 
-module _ (blocks : List Octets) (e : Entry) (whole : All (λ b. length b ≡ 4096) blocks) (within : (b : ℕ) → Contains (owned e) b → b < length blocks) where
+module _ (blocks : List Octets) (e : Entry) (whole : All (λ b. length b ≡ 4096) blocks) (within : (b : ℕ) → Contains (owned e) b
+    → b < length blocks) where
   abbrev blocks_of : Octets
   blocks_of = flat_map (λ i. get_or blocks (pointer e i) []) (range_with_len 0 (block_count e))
 
@@ -35,11 +37,13 @@ module _ (blocks : List Octets) (e : Entry) (whole : All (λ b. length b ≡ 409
       let many = length-range 0 (block_count e) in
       sym (get_or-blocks_from (block_count e) k blocks_of low)
       ∙ ap (λ (n : ℕ). get_or (blocks_from 0 n blocks_of) k []) (sym many)
-      ∙ ap (λ (l : List Octets). get_or l k []) (blocks_from-flat_map (λ i. get_or blocks (pointer e i) []) (range_with_len 0 (block_count e)) each).1
+      ∙ ap (λ (l : List Octets). get_or l k [])
+      (blocks_from-flat_map (λ i. get_or blocks (pointer e i) []) (range_with_len 0 (block_count e)) each).1
       ∙ get_or-map-range_with_len (λ i. get_or blocks (pointer e i) []) 0 (block_count e) k k [] low (omega arith)
 
   -- a part that lies in one block
-  pub content_part : (at n : ℕ) → at + n ≤ size e → at % 4096 + n ≤ 4096 → 0 < n → take n (drop at (content_of blocks e)) ≡ take n (drop (at % 4096) (get_or blocks (pointer e (at / 4096)) []))
+  pub content_part : (at n : ℕ) → at + n ≤ size e → at % 4096 + n ≤ 4096 → 0 < n
+      → take n (drop at (content_of blocks e)) ≡ take n (drop (at % 4096) (get_or blocks (pointer e (at / 4096)) []))
   content_part at n fits inside some =
       let low : at / 4096 < block_count e = omega arith in
       let is : at ≡ 4096 * (at / 4096) + at % 4096 = omega arith in
@@ -50,20 +54,25 @@ module _ (blocks : List Octets) (e : Entry) (whole : All (λ b. length b ≡ 409
       ∙ ap (λ (l : Octets). take n (drop (at % 4096) l)) (block_of_content (at / 4096) low)
 
 -- one part after another
-pub take_then : (octets : Octets) (place from some : ℕ) → place ≤ from → take (from + some - place) (drop place octets) ≡ take (from - place) (drop place octets) ++ take some (drop from octets)
+pub take_then : (octets : Octets) (place from some : ℕ) → place ≤ from
+    → take (from + some - place) (drop place octets) ≡ take (from - place) (drop place octets) ++ take some (drop from octets)
 take_then octets place from some low =
     let more : from + some - place ≡ (from - place) + some = omega arith in
     let start : place + (from - place) ≡ from = omega arith in
     ap (λ (n : ℕ). take n (drop place octets)) more
     ∙ take-add (from - place) some (drop place octets)
-    ∙ ap (λ (l : Octets). take (from - place) (drop place octets) ++ take some l) (drop-drop (from - place) place octets ∙ ap (λ (n : ℕ). drop n octets) start)
+    ∙ ap (λ (l : Octets). take (from - place) (drop place octets) ++ take some l) (drop-drop (from - place) place octets
+    ∙ ap (λ (n : ℕ). drop n octets) start)
 
 -- all that was asked for
-pub taken_all : (octets : Octets) (place count from end : ℕ) → end ≤ from → place ≤ from → (from ≡ place) ⊎ (from ≤ end) → (end ≡ length octets) ⊎ (end ≡ place + count) → end ≤ length octets → end ≤ place + count → take (from - place) (drop place octets) ≡ take count (drop place octets)
+pub taken_all : (octets : Octets) (place count from end : ℕ) → end ≤ from → place ≤ from → (from ≡ place) ⊎ (from ≤ end)
+    → (end ≡ length octets) ⊎ (end ≡ place + count) → end ≤ length octets → end ≤ place + count
+    → take (from - place) (drop place octets) ≡ take count (drop place octets)
 taken_all octets place count from end ended low which what fits asked = elim what [
   | inr counted ↦ elim which [
     | inl none ↦ let is : from - place ≡ count = omega arith in ap (λ (n : ℕ). take n (drop place octets)) is
     | inr last ↦ let is : from - place ≡ count = omega arith in ap (λ (n : ℕ). take n (drop place octets)) is
   ]
-  | inl whole ↦ take_all (from - place) (drop place octets) (omega (arith, length-drop place octets)) ∙ sym (take_all count (drop place octets) (omega (arith, length-drop place octets)))
+  | inl whole ↦ take_all (from - place) (drop place octets) (omega (arith, length-drop place octets))
+      ∙ sym (take_all count (drop place octets) (omega (arith, length-drop place octets)))
 ]

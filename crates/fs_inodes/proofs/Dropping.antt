@@ -1,5 +1,6 @@
 -- A file that loses its last block.
-use Rattle.std.proofs.Common.{◌≡◌, ◌≢◌, ◌⊎◌, inl, inr, ◌<◌, ◌≤◌, ℕ, zero, suc, ◌+◌, ◌-◌, ◌*◌, ◌/◌, ◌%◌, cond, eqb, ltb, false, true, List, [], ◌∷◌, ◌++◌, length, get_or, map, take, refl, sym, ◌∙◌, ap, subst, arith}
+use Rattle.std.proofs.Common.{◌≡◌, ◌≢◌, ◌⊎◌, inl, inr, ◌<◌, ◌≤◌, ℕ, zero, suc, ◌+◌, ◌-◌, ◌*◌, ◌/◌, ◌%◌, cond, eqb, ltb, false, true, List}
+use Rattle.std.proofs.Common.{[], ◌∷◌, ◌++◌, length, get_or, map, take, refl, sym, ◌∙◌, ap, subst, arith}
 use Rattle.std.specs.List.{All, Contains, range_with_len}
 use Rattle.std.proofs.lemmas.List.Elements.{Contains-append_cases, Contains-append_left, Contains-append_right}
 use Rattle.std.proofs.lemmas.List.FromFn.{map-range_with_len_more}
@@ -9,7 +10,9 @@ use Rattle.disk.specs.Image.{overwritten, part}
 use Rattle.volume_format.proofs.Numbers.{number_at_apart, number_at_written}
 use Rattle.model.specs.Stream.{Octets}
 use Rattle.model.specs.Volume.{number_at, AreDistinct}
-use Rattle.model.specs.Files.{Entry, HasRoom, IsFile, IsFileSystem, size, block_count, content_of, double_blocks, double_pointer, entry, entry_of, first_data, indirect_count, indirect_for, indirect_of, indirect_pointer, inode_of, is_marked_used, owned, pointer, slot_of}
+use Rattle.model.specs.Files.{Entry, HasRoom, IsFile, IsFileSystem, size, block_count, content_of, double_blocks, double_pointer, entry}
+use Rattle.model.specs.Files.{entry_of, first_data, indirect_count, indirect_for, indirect_of, indirect_pointer, inode_of, is_marked_used}
+use Rattle.model.specs.Files.{owned, pointer, slot_of}
 use Rattle.fs_layout.specs.Blocks.{PutsRecord}
 use Rattle.fs_layout.specs.Marks.{SetsMark}
 use Rattle.fs_layout.specs.Touches.{TouchesInode, double_of, table_of}
@@ -30,7 +33,11 @@ is_one : (n b : ℕ) → Contains (n ∷ []) b → b ≡ n
 is_one n b (zero, low, is) = sym is
 is_one n b (suc k, low, is) = absurd (omega arith)
 
-module _ (inodes k last number : ℕ) (inode1 : Octets) (old mid later new : List Octets) (room : HasRoom inodes old) (fs : IsFileSystem inodes old) (low : k < inodes) (file : IsFile (entry inodes old k)) (counted : last + 1 ≡ block_count (entry inodes old k)) (number_is : number ≡ pointer (entry inodes old k) last) (drop : DropsPointer last (inode_of old k) inode1 old mid) (unmarks : SetsMark number false mid later) (put : PutsRecord 2 k (overwritten 4 (little_bytes 8 (4096 * last)) inode1) later new) where
+module _ (inodes k last number : ℕ) (inode1 : Octets) (old mid later new : List Octets) (room : HasRoom inodes old)
+    (fs : IsFileSystem inodes old) (low : k < inodes) (file : IsFile (entry inodes old k))
+    (counted : last + 1 ≡ block_count (entry inodes old k)) (number_is : number ≡ pointer (entry inodes old k) last)
+    (drop : DropsPointer last (inode_of old k) inode1 old mid) (unmarks : SetsMark number false mid later)
+    (put : PutsRecord 2 k (overwritten 4 (little_bytes 8 (4096 * last)) inode1) later new) where
   abbrev e : Entry
   e = entry inodes old k
 
@@ -70,7 +77,8 @@ module _ (inodes k last number : ℕ) (inode1 : Octets) (old mid later new : Lis
 
   -- a block that the file does not own
   mid_other : (b : ℕ) → 2 ≤ b → (Contains (owned (entry inodes old k)) b → ⊥) → get_or mid b [] ≡ get_or old b []
-  mid_other b some lacks = drop.blocks b some (apart (double_pointer e) double_cases) (apart (indirect_pointer e ((last - 10) / 1024)) (table_cases ((last - 10) / 1024)))
+  mid_other b some lacks = drop.blocks b some (apart (double_pointer e) double_cases)
+      (apart (indirect_pointer e ((last - 10) / 1024)) (table_cases ((last - 10) / 1024)))
     where
       apart : (m : ℕ) → (m ≡ 0) ⊎ Contains (owned (entry inodes old k)) m → b ≢ m
       apart m cases same = elim cases [
@@ -84,20 +92,24 @@ module _ (inodes k last number : ℕ) (inode1 : Octets) (old mid later new : Lis
   -- ---- the entry
 
   same_number : (a w : ℕ) → (a + w ≤ 4) ⊎ (12 ≤ a) → number_at a w inode ≡ number_at a w inode1
-  same_number a w apart = number_at_apart 4 (little_bytes 8 (4096 * last)) inode1 (omega (arith, wide)) a w (elim apart [ inl before ↦ inl before | inr behind ↦ inr (omega (arith, behind)) ])
+  same_number a w apart = number_at_apart 4 (little_bytes 8 (4096 * last)) inode1 (omega (arith, wide)) a w
+      (elim apart [ inl before ↦ inl before | inr behind ↦ inr (omega (arith, behind)) ])
 
   same_double : number_at 56 4 inode ≡ number_at 56 4 inode1
   same_double = same_number 56 4 (inr (omega arith))
 
   table_after : (p : ℕ) → indirect_pointer after p ≡ indirect_pointer f p
   table_after p =
-      ap (λ (m : ℕ). cond (eqb p 0) m (number_at (4 * (p - 1)) 4 (indirect_of mid (number_at 56 4 inode)))) (same_number 52 4 (inr (omega arith)))
+      ap (λ (m : ℕ). cond (eqb p 0) m (number_at (4 * (p - 1)) 4 (indirect_of mid (number_at 56 4 inode))))
+      (same_number 52 4 (inr (omega arith)))
       ∙ ap (λ (m : ℕ). cond (eqb p 0) (number_at 52 4 inode1) (number_at (4 * (p - 1)) 4 (indirect_of mid m))) same_double
 
   pointer_after : (i : ℕ) → pointer after i ≡ pointer f i
   pointer_after i =
-      ap (λ (m : ℕ). cond (ltb i 10) m (number_at (4 * ((i - 10) % 1024)) 4 (indirect_of mid (indirect_pointer after ((i - 10) / 1024))))) (same_number (12 + 4 * i) 4 (inr (omega arith)))
-      ∙ ap (λ (m : ℕ). cond (ltb i 10) (number_at (12 + 4 * i) 4 inode1) (number_at (4 * ((i - 10) % 1024)) 4 (indirect_of mid m))) (table_after ((i - 10) / 1024))
+      ap (λ (m : ℕ). cond (ltb i 10) m (number_at (4 * ((i - 10) % 1024)) 4 (indirect_of mid (indirect_pointer after ((i - 10) / 1024)))))
+      (same_number (12 + 4 * i) 4 (inr (omega arith)))
+      ∙ ap (λ (m : ℕ). cond (ltb i 10) (number_at (12 + 4 * i) 4 inode1) (number_at (4 * ((i - 10) % 1024)) 4 (indirect_of mid m)))
+      (table_after ((i - 10) / 1024))
 
   -- the blocks that it still names
   double_high : double_pointer f ≢ 0 → first_data inodes ≤ double_pointer f
@@ -120,11 +132,14 @@ module _ (inodes k last number : ℕ) (inode1 : Octets) (old mid later new : Lis
 
   double_octets : indirect_of new (number_at 56 4 inode) ≡ indirect_of mid (number_at 56 4 inode)
   double_octets =
-      ap (indirect_of new) same_double ∙ indirect_same mid new (double_pointer f) (λ some. data_new (double_pointer f) (double_high some)) ∙ sym (ap (indirect_of mid) same_double)
+      ap (indirect_of new) same_double ∙ indirect_same mid new (double_pointer f) (λ some. data_new (double_pointer f) (double_high some))
+      ∙ sym (ap (indirect_of mid) same_double)
 
   table_octets : (p : ℕ) → indirect_of new (indirect_pointer after p) ≡ indirect_of mid (indirect_pointer after p)
   table_octets p =
-      ap (indirect_of new) (table_after p) ∙ indirect_same mid new (indirect_pointer f p) (λ some. data_new (indirect_pointer f p) (table_high p some)) ∙ sym (ap (indirect_of mid) (table_after p))
+      ap (indirect_of new) (table_after p)
+      ∙ indirect_same mid new (indirect_pointer f p) (λ some. data_new (indirect_pointer f p) (table_high p some))
+      ∙ sym (ap (indirect_of mid) (table_after p))
 
   slot_same : (l : ℕ) → l < inodes → slot_of inodes new l ≡ slot_of inodes old l
   slot_same l below =
@@ -139,7 +154,8 @@ module _ (inodes k last number : ℕ) (inode1 : Octets) (old mid later new : Lis
       unmarks.blocks (2 + l / 64) (omega arith) ∙ mid_reserved (2 + l / 64) (omega arith) (omega (arith, room.whole, below)))
 
   entry_is : entry inodes new k ≡ after
-  entry_is = same_entry mid new (inode_of new k) inode (slot_of inodes new k) (slot_of inodes old k) put.here (slot_same k low) double_octets table_octets
+  entry_is = same_entry mid new (inode_of new k) inode (slot_of inodes new k) (slot_of inodes old k) put.here
+      (slot_same k low) double_octets table_octets
 
   sized : size after ≡ 4096 * last
   sized = number_at_written 4 8 (4096 * last) inode1 (omega (arith, wide)) (omega (arith, counted, file.small))
@@ -150,9 +166,12 @@ module _ (inodes k last number : ℕ) (inode1 : Octets) (old mid later new : Lis
   owned_after : owned after ≡ owned_to f last
   owned_after =
       ap (λ (m : ℕ). owned_to after m) count_after
-      ∙ ap (λ (m : ℕ). cond (eqb m 0) [] (m ∷ []) ++ (tables_to after (indirect_for last) ++ map (λ i. pointer after i) (range_with_len 0 last))) same_double
-      ∙ ap (λ (l : List ℕ). double_blocks f ++ (l ++ map (λ i. pointer after i) (range_with_len 0 last))) (map_same_below (λ p. indirect_pointer after p) (λ p. indirect_pointer f p) 0 (indirect_for last) (λ p less. table_after p))
-      ∙ ap (λ (l : List ℕ). double_blocks f ++ (tables_to f (indirect_for last) ++ l)) (map_same_below (λ i. pointer after i) (λ i. pointer f i) 0 last (λ i less. pointer_after i))
+      ∙ ap (λ (m : ℕ). cond (eqb m 0) [] (m ∷ []) ++
+      (tables_to after (indirect_for last) ++ map (λ i. pointer after i) (range_with_len 0 last))) same_double
+      ∙ ap (λ (l : List ℕ). double_blocks f ++ (l ++ map (λ i. pointer after i) (range_with_len 0 last)))
+      (map_same_below (λ p. indirect_pointer after p) (λ p. indirect_pointer f p) 0 (indirect_for last) (λ p less. table_after p))
+      ∙ ap (λ (l : List ℕ). double_blocks f ++ (tables_to f (indirect_for last) ++ l))
+      (map_same_below (λ i. pointer after i) (λ i. pointer f i) 0 last (λ i less. pointer_after i))
 
   tables_after : indirect_for last ≡ indirect_count after
   tables_after = ap indirect_for (sym count_after)
@@ -202,27 +221,36 @@ module _ (inodes k last number : ℕ) (inode1 : Octets) (old mid later new : Lis
   pointers_were : map (λ i. pointer (entry inodes old k) i) (range_with_len 0 (last + 1)) ≡ kept ++ number ∷ []
   pointers_were =
       map-range_with_len_more (λ i. pointer (entry inodes old k) i) 0 last last (omega arith)
-      ∙ ap (λ (l : List ℕ). l ++ pointer (entry inodes old k) last ∷ []) (map_same_below (λ i. pointer (entry inodes old k) i) (λ i. pointer f i) 0 last (λ i less. sym (drop.other i (omega (arith, less)))))
+      ∙ ap (λ (l : List ℕ). l ++ pointer (entry inodes old k) last ∷ [])
+      (map_same_below (λ i. pointer (entry inodes old k) i) (λ i. pointer f i) 0 last
+      (λ i less. sym (drop.other i (omega (arith, less)))))
       ∙ ap (λ (m : ℕ). kept ++ m ∷ []) (sym number_is)
 
-  owned_was : owned (entry inodes old k) ≡ (double_blocks f ++ drop.doubles) ++ ((tables_to f (indirect_for last) ++ drop.tables) ++ (kept ++ number ∷ []))
+  owned_was : owned (entry inodes old k) ≡ (double_blocks f ++ drop.doubles) ++
+      ((tables_to f (indirect_for last) ++ drop.tables) ++ (kept ++ number ∷ []))
   owned_was =
       ap (λ (m : ℕ). owned_to (entry inodes old k) m) (sym counted)
-      ∙ ap (λ (l : List ℕ). l ++ (tables_to (entry inodes old k) (indirect_for (last + 1)) ++ map (λ i. pointer (entry inodes old k) i) (range_with_len 0 (last + 1)))) drop.doubles_are
-      ∙ ap (λ (l : List ℕ). (double_blocks f ++ drop.doubles) ++ (l ++ map (λ i. pointer (entry inodes old k) i) (range_with_len 0 (last + 1)))) drop.tables_are
+      ∙ ap (λ (l : List ℕ). l ++ (tables_to (entry inodes old k) (indirect_for (last + 1)) ++ map (λ i. pointer (entry inodes old k) i)
+      (range_with_len 0 (last + 1)))) drop.doubles_are
+      ∙ ap (λ (l : List ℕ). (double_blocks f ++ drop.doubles) ++
+      (l ++ map (λ i. pointer (entry inodes old k) i) (range_with_len 0 (last + 1)))) drop.tables_are
       ∙ ap (λ (l : List ℕ). (double_blocks f ++ drop.doubles) ++ ((tables_to f (indirect_for last) ++ drop.tables) ++ l)) pointers_were
 
   parts : AreDistinct (owned_to f last) × ((x : ℕ) → Contains (owned_to f last) x → ¬ (Contains gone x))
-  parts = three_split (double_blocks f) drop.doubles (tables_to f (indirect_for last)) drop.tables kept (number ∷ []) (subst AreDistinct owned_was (fs.distinct k low))
+  parts = three_split (double_blocks f) drop.doubles (tables_to f (indirect_for last)) drop.tables kept (number ∷ [])
+      (subst AreDistinct owned_was (fs.distinct k low))
 
   was_cases : (b : ℕ) → Contains (owned (entry inodes old k)) b → Contains (owned_to f last) b ⊎ Contains gone b
-  was_cases b has = three_cases (double_blocks f) drop.doubles (tables_to f (indirect_for last)) drop.tables kept (number ∷ []) b (subst (λ (o : List ℕ). Contains o b) owned_was has)
+  was_cases b has = three_cases (double_blocks f) drop.doubles (tables_to f (indirect_for last)) drop.tables kept (number ∷ []) b
+      (subst (λ (o : List ℕ). Contains o b) owned_was has)
 
   owned_still : (b : ℕ) → Contains (owned_to f last) b → Contains (owned (entry inodes old k)) b
-  owned_still b has = subst (λ (o : List ℕ). Contains o b) (sym owned_was) (three_were (double_blocks f) drop.doubles (tables_to f (indirect_for last)) drop.tables kept (number ∷ []) b has)
+  owned_still b has = subst (λ (o : List ℕ). Contains o b) (sym owned_was)
+      (three_were (double_blocks f) drop.doubles (tables_to f (indirect_for last)) drop.tables kept (number ∷ []) b has)
 
   gone_owned : (b : ℕ) → Contains gone b → Contains (owned (entry inodes old k)) b
-  gone_owned b has = subst (λ (o : List ℕ). Contains o b) (sym owned_was) (three_new (double_blocks f) drop.doubles (tables_to f (indirect_for last)) drop.tables kept (number ∷ []) b has)
+  gone_owned b has = subst (λ (o : List ℕ). Contains o b) (sym owned_was)
+      (three_new (double_blocks f) drop.doubles (tables_to f (indirect_for last)) drop.tables kept (number ∷ []) b has)
 
   -- ---- marks
 
@@ -240,7 +268,8 @@ module _ (inodes k last number : ℕ) (inode1 : Octets) (old mid later new : Lis
   ]
 
   number_gone : Contains gone number
-  number_gone = Contains-append_right drop.doubles (drop.tables ++ number ∷ []) number (Contains-append_right drop.tables (number ∷ []) number (0, omega arith, refl))
+  number_gone = Contains-append_right drop.doubles (drop.tables ++ number ∷ []) number
+      (Contains-append_right drop.tables (number ∷ []) number (0, omega arith, refl))
 
   later_free : (b : ℕ) → b < 65536 → Contains (drop.doubles ++ drop.tables) b → is_marked_used later b ≡ false
   later_free b few naming = elim (cases_eq b number) [
@@ -319,7 +348,8 @@ module _ (inodes k last number : ℕ) (inode1 : Octets) (old mid later new : Lis
   }
 
   rule : IsFileSystem inodes new
-  rule = reowned_rule inodes k inode (slot_of inodes old k) touched old new low fs puts owns room.count_few (names_kept inodes k inode (slot_of inodes old k) touched old new low fs puts owns file (slot_same k low))
+  rule = reowned_rule inodes k inode (slot_of inodes old k) touched old new low fs puts owns room.count_few
+      (names_kept inodes k inode (slot_of inodes old k) touched old new low fs puts owns file (slot_same k low))
 
   -- ---- content
 
@@ -334,7 +364,8 @@ module _ (inodes k last number : ℕ) (inode1 : Octets) (old mid later new : Lis
         | inl none ↦ absurd (omega (arith, within.0, same, none))
         | inr some ↦ double_not_pointer e (block_count e) (fs.distinct k low) i some low_i (sym same)
       ] in
-      let not_table : pointer e i ≢ indirect_pointer e ((last - 10) / 1024) = λ same. elim (cases_lt ((last - 10) / 1024) (indirect_count e)) [
+      let not_table : pointer e i ≢ indirect_pointer e ((last - 10) / 1024) =
+      λ same. elim (cases_lt ((last - 10) / 1024) (indirect_count e)) [
         | inl inside ↦ table_not_pointer e (block_count e) (fs.distinct k low) ((last - 10) / 1024) i inside low_i (sym same)
         | inr past ↦ absurd (let none = named.none ((last - 10) / 1024) past in omega (arith, within.0, same, none))
       ] in
@@ -351,7 +382,8 @@ module _ (inodes k last number : ℕ) (inode1 : Octets) (old mid later new : Lis
       ∙ ap (λ (g : Entry). content_of new g) (sym entry_is)
 
   pub drops : ReplacesContent inodes k (take (4096 * last) (content_of old (entry inodes old k))) old new
-  drops = replaces inodes k inode touched old new room fs low file puts untouched_others file_now (take (4096 * last) (content_of old (entry inodes old k))) whole rule content_is
+  drops = replaces inodes k inode touched old new room fs low file puts untouched_others file_now
+      (take (4096 * last) (content_of old (entry inodes old k))) whole rule content_is
 
   -- ---- the blocks that it touches
 
@@ -363,7 +395,14 @@ module _ (inodes k last number : ℕ) (inode1 : Octets) (old mid later new : Lis
 
   pub drops_touches : TouchesInode k last (last + 1) old new
   drops_touches = record {
-    same = λ b some other naming. elsewhere b some other ∙ drop.blocks b some (naming last (omega arith) (omega arith)).0 (naming last (omega arith) (omega arith)).1;
-    double = elim (cases_lt 1 (indirect_for last)) [ inl more ↦ inl (double_new ∙ drop.double more) | inr less ↦ inr (double_new ∙ drop.no_double less) ];
-    tables = λ p. elim (cases_lt p (indirect_for last)) [ inl less ↦ inl (table_new p ∙ drop.table p less) | inr past ↦ inr (table_new p ∙ drop.no_table p past) ];
+    same = λ b some other naming. elsewhere b some other
+        ∙ drop.blocks b some (naming last (omega arith) (omega arith)).0 (naming last (omega arith) (omega arith)).1;
+    double = elim (cases_lt 1 (indirect_for last)) [
+      | inl more ↦ inl (double_new ∙ drop.double more)
+      | inr less ↦ inr (double_new ∙ drop.no_double less)
+    ];
+    tables = λ p. elim (cases_lt p (indirect_for last)) [
+      | inl less ↦ inl (table_new p ∙ drop.table p less)
+      | inr past ↦ inr (table_new p ∙ drop.no_table p past)
+    ];
   }

@@ -1,12 +1,14 @@
 -- The last block of a file, or one more.
-use Rattle.std.proofs.Common.{◌≡◌, ◌≢◌, inl, inr, ◌<◌, ◌≤◌, ℕ, ◌+◌, ◌*◌, ◌/◌, ◌%◌, true, false, List, [], ◌∷◌, ◌++◌, length, get_or, map, refl, sym, ◌∙◌, ap, subst, arith}
+use Rattle.std.proofs.Common.{◌≡◌, ◌≢◌, inl, inr, ◌<◌, ◌≤◌, ℕ, ◌+◌, ◌*◌, ◌/◌, ◌%◌, true, false, List, [], ◌∷◌, ◌++◌, length, get_or, map}
+use Rattle.std.proofs.Common.{refl, sym, ◌∙◌, ap, subst, arith}
 use Rattle.std.specs.List.{Contains, range_with_len}
 use Rattle.std.proofs.lemmas.List.FromFn.{map-range_with_len_more}
 use Rattle.std.proofs.lemmas.Bool.{cases_lt, false≢true}
 use Rattle.disk.proofs.Images.{length-part}
 use Rattle.model.specs.Stream.{Octets}
 use Rattle.model.specs.Volume.{AreDistinct}
-use Rattle.model.specs.Files.{Entry, HasRoom, IsFile, size, block_count, double_blocks, indirect_for, pointer, owned, entry, inode_of, first_data, is_marked_used, free_blocks, IsFileSystem}
+use Rattle.model.specs.Files.{Entry, HasRoom, IsFile, size, block_count, double_blocks, indirect_for, pointer, owned, entry, inode_of}
+use Rattle.model.specs.Files.{first_data, is_marked_used, free_blocks, IsFileSystem}
 use Rattle.fs_inodes.specs.Growing.{AddsBlock, NamesBlocks, inode_entry, tables_to, with_indirect}
 use Rattle.fs_layout.proofs.Distinct.{three_cases, three_distinct, three_new, three_were}
 use Rattle.fs_inodes.proofs.Grows.{Extends}
@@ -14,7 +16,8 @@ use Rattle.fs_inodes.proofs.Named.{file_names, owned_marked}
 use Rattle.fs_inodes.proofs.Owned.{owned_to}
 use Rattle.fs_inodes.proofs.Tables.{map_same_below}
 
-module _ (inodes k n : ℕ) (old : List Octets) (room : HasRoom inodes old) (fs : IsFileSystem inodes old) (low : k < inodes) (file : IsFile (entry inodes old k)) (few : n < 65536) where
+module _ (inodes k n : ℕ) (old : List Octets) (room : HasRoom inodes old) (fs : IsFileSystem inodes old) (low : k < inodes)
+    (file : IsFile (entry inodes old k)) (few : n < 65536) where
   abbrev e : Entry
   e = entry inodes old k
 
@@ -31,7 +34,8 @@ module _ (inodes k n : ℕ) (old : List Octets) (room : HasRoom inodes old) (fs 
   ]
 
   -- the last block
-  module _ (r number : ℕ) (sized : size (entry inodes old k) ≡ 4096 * n + r) (some : 0 < r) (within : r < 4096) (is : number ≡ pointer (entry inodes old k) n) where
+  module _ (r number : ℕ) (sized : size (entry inodes old k) ≡ 4096 * n + r) (some : 0 < r) (within : r < 4096)
+      (is : number ≡ pointer (entry inodes old k) n) where
     count_is : block_count (entry inodes old k) ≡ n + 1
     count_is = omega arith
 
@@ -47,7 +51,8 @@ module _ (inodes k n : ℕ) (old : List Octets) (room : HasRoom inodes old) (fs 
       spare = file.spare;
       here = sym is;
       same_pointers = λ i apart. refl;
-      names = subst (λ (m : ℕ). NamesBlocks (indirect_for m) (inode_entry old (inode_of old k)) old) count_is (file_names inodes k old room fs low file);
+      names = subst (λ (m : ℕ). NamesBlocks (indirect_for m) (inode_entry old (inode_of old k)) old) count_is
+          (file_names inodes k old room fs low file);
       double_stays = inr refl;
       tables_stay = λ p. inr refl;
       blocks = λ b some_b named. refl;
@@ -64,7 +69,8 @@ module _ (inodes k n : ℕ) (old : List Octets) (room : HasRoom inodes old) (fs 
     }
 
   -- a new block
-  module _ (number : ℕ) (inode : Octets) (mid : List Octets) (sized : size (entry inodes old k) ≡ 4096 * n) (adds : AddsBlock n number (inode_of old k) inode old mid) where
+  module _ (number : ℕ) (inode : Octets) (mid : List Octets) (sized : size (entry inodes old k) ≡ 4096 * n)
+      (adds : AddsBlock n number (inode_of old k) inode old mid) where
     count_was : block_count (entry inodes old k) ≡ n
     count_was = omega arith
 
@@ -80,16 +86,21 @@ module _ (inodes k n : ℕ) (old : List Octets) (room : HasRoom inodes old) (fs 
     pointers_are : map (λ i. pointer f i) (range_with_len 0 (n + 1)) ≡ were ++ number ∷ []
     pointers_are =
         map-range_with_len_more (λ i. pointer f i) 0 n n (omega arith)
-        ∙ ap (λ (l : List ℕ). l ++ pointer f n ∷ []) (map_same_below (λ i. pointer f i) (λ i. pointer (entry inodes old k) i) 0 n (λ i early. adds.other i (omega (arith, early))))
+        ∙ ap (λ (l : List ℕ). l ++ pointer f n ∷ [])
+        (map_same_below (λ i. pointer f i) (λ i. pointer (entry inodes old k) i) 0 n (λ i early. adds.other i (omega (arith, early))))
         ∙ ap (λ (m : ℕ). were ++ m ∷ []) adds.here
 
-    owned_new : owned_to f (n + 1) ≡ (double_blocks (entry inodes old k) ++ adds.doubles) ++ ((tables_to (entry inodes old k) (indirect_for n) ++ adds.tables) ++ (were ++ number ∷ []))
+    owned_new : owned_to f (n + 1) ≡ (double_blocks (entry inodes old k) ++ adds.doubles) ++
+        ((tables_to (entry inodes old k) (indirect_for n) ++ adds.tables) ++ (were ++ number ∷ []))
     owned_new =
         ap (λ (l : List ℕ). l ++ (tables_to f (indirect_for (n + 1)) ++ map (λ i. pointer f i) (range_with_len 0 (n + 1)))) adds.doubles_are
-        ∙ ap (λ (l : List ℕ). (double_blocks (entry inodes old k) ++ adds.doubles) ++ (l ++ map (λ i. pointer f i) (range_with_len 0 (n + 1)))) adds.tables_are
-        ∙ ap (λ (l : List ℕ). (double_blocks (entry inodes old k) ++ adds.doubles) ++ ((tables_to (entry inodes old k) (indirect_for n) ++ adds.tables) ++ l)) pointers_are
+        ∙ ap (λ (l : List ℕ). (double_blocks (entry inodes old k) ++ adds.doubles) ++
+        (l ++ map (λ i. pointer f i) (range_with_len 0 (n + 1)))) adds.tables_are
+        ∙ ap (λ (l : List ℕ). (double_blocks (entry inodes old k) ++ adds.doubles) ++
+        ((tables_to (entry inodes old k) (indirect_for n) ++ adds.tables) ++ l)) pointers_are
 
-    to_owned : (b : ℕ) → Contains ((double_blocks (entry inodes old k) ++ adds.doubles) ++ ((tables_to (entry inodes old k) (indirect_for n) ++ adds.tables) ++ (were ++ number ∷ []))) b → Contains (owned_to f (n + 1)) b
+    to_owned : (b : ℕ) → Contains ((double_blocks (entry inodes old k) ++ adds.doubles) ++
+        ((tables_to (entry inodes old k) (indirect_for n) ++ adds.tables) ++ (were ++ number ∷ []))) b → Contains (owned_to f (n + 1)) b
     to_owned b = subst (λ (o : List ℕ). Contains o b) (sym owned_new)
 
     not_owned : (b : ℕ) → Contains (owned (entry inodes old k)) b → ¬ (Contains (adds.doubles ++ (adds.tables ++ number ∷ [])) b)
@@ -107,19 +118,29 @@ module _ (inodes k n : ℕ) (old : List Octets) (room : HasRoom inodes old) (fs 
       names = adds.names;
       double_stays = adds.double_stays;
       tables_stay = adds.tables_stay;
-      blocks = λ b some named. adds.blocks b some (named n (omega (arith, count_was)) (omega arith)).0 (named n (omega (arith, count_was)) (omega arith)).1;
+      blocks = λ b some named. adds.blocks b some (named n (omega (arith, count_was)) (omega arith)).0
+          (named n (omega (arith, count_was)) (omega arith)).1;
       fresh = adds.doubles ++ (adds.tables ++ number ∷ []);
       fresh_free = λ b has. let free = adds.takes.free b has in (free_is_data b free.0 free.1, free.0, free.1);
       fresh_marked = adds.takes.marked;
       other_marks = adds.takes.other;
       lowest = adds.takes.lowest;
-      source = λ b has. elim (three_cases (double_blocks (entry inodes old k)) adds.doubles (tables_to (entry inodes old k) (indirect_for n)) adds.tables were (number ∷ []) b (subst (λ (o : List ℕ). Contains o b) owned_new has)) [
-        | inl was ↦ inl (subst (λ (o : List ℕ). Contains o b) (sym owned_was) was)
-        | inr fresh ↦ inr fresh
-      ];
-      fresh_owned = λ b has. to_owned b (three_new (double_blocks (entry inodes old k)) adds.doubles (tables_to (entry inodes old k) (indirect_for n)) adds.tables were (number ∷ []) b has);
-      still_owned = λ b has. to_owned b (three_were (double_blocks (entry inodes old k)) adds.doubles (tables_to (entry inodes old k) (indirect_for n)) adds.tables were (number ∷ []) b (subst (λ (o : List ℕ). Contains o b) owned_was has));
-      distinct = subst AreDistinct (sym owned_new) (three_distinct (double_blocks (entry inodes old k)) adds.doubles (tables_to (entry inodes old k) (indirect_for n)) adds.tables were (number ∷ [])
-          (subst AreDistinct owned_was (fs.distinct k low)) adds.takes.distinct (λ b was. not_owned b (subst (λ (o : List ℕ). Contains o b) (sym owned_was) was)));
+      source = λ b has. elim (three_cases (double_blocks (entry inodes old k)) adds.doubles
+          (tables_to (entry inodes old k) (indirect_for n)) adds.tables were (number ∷ []) b
+          (subst (λ (o : List ℕ). Contains o b) owned_new has)) [
+            | inl was ↦ inl (subst (λ (o : List ℕ). Contains o b) (sym owned_was) was)
+            | inr fresh ↦ inr fresh
+          ];
+      fresh_owned = λ b has. to_owned b
+          (three_new (double_blocks (entry inodes old k)) adds.doubles (tables_to (entry inodes old k) (indirect_for n)) adds.tables were
+          (number ∷ []) b has);
+      still_owned = λ b has. to_owned b
+          (three_were (double_blocks (entry inodes old k)) adds.doubles (tables_to (entry inodes old k) (indirect_for n)) adds.tables were
+          (number ∷ []) b (subst (λ (o : List ℕ). Contains o b) owned_was has));
+      distinct = subst AreDistinct (sym owned_new)
+          (three_distinct (double_blocks (entry inodes old k)) adds.doubles (tables_to (entry inodes old k) (indirect_for n)) adds.tables
+          were (number ∷ [])
+          (subst AreDistinct owned_was (fs.distinct k low)) adds.takes.distinct
+          (λ b was. not_owned b (subst (λ (o : List ℕ). Contains o b) (sym owned_was) was)));
       free = adds.fewer ∙ ap (λ (m : ℕ). free_blocks old + with_indirect m) (sym count_was);
     }

@@ -17,12 +17,17 @@ length-inode inodes k blocks room low =
 
 pub map_same : (f g : ℕ → ℕ) (n m : ℕ) → n ≡ m → ((i : ℕ) → i < n → f i ≡ g i) → map f (range_with_len 0 n) ≡ map g (range_with_len 0 m)
 map_same f g n m is same =
-    ext_get_or 0 (map f (range_with_len 0 n)) (map g (range_with_len 0 m)) (length-map-range_with_len f 0 n ∙ is ∙ sym (length-map-range_with_len g 0 m)) (λ i low.
+    ext_get_or 0 (map f (range_with_len 0 n)) (map g (range_with_len 0 m)) (length-map-range_with_len f 0 n ∙ is
+    ∙ sym (length-map-range_with_len g 0 m)) (λ i low.
     let inside : i < n = omega (arith, length-map-range_with_len f 0 n) in
-    get_or-map-range_with_len f 0 n i i 0 inside (omega arith) ∙ same i inside ∙ sym (get_or-map-range_with_len g 0 m i i 0 (omega arith) (omega arith)))
+    get_or-map-range_with_len f 0 n i i 0 inside (omega arith) ∙ same i inside
+    ∙ sym (get_or-map-range_with_len g 0 m i i 0 (omega arith) (omega arith)))
 
 -- a prefix of the same blocks
-pub content_front : (old new : List Octets) (e f : Entry) → All (λ b. length b ≡ 4096) old → ((b : ℕ) → Contains (owned e) b → b < length old) → All (λ b. length b ≡ 4096) new → ((b : ℕ) → Contains (owned f) b → b < length new) → size f ≤ size e → ((i : ℕ) → i < block_count f → get_or new (pointer f i) [] ≡ get_or old (pointer e i) []) → take (size f) (content_of old e) ≡ content_of new f
+pub content_front : (old new : List Octets) (e f : Entry) → All (λ b. length b ≡ 4096) old
+    → ((b : ℕ) → Contains (owned e) b → b < length old) → All (λ b. length b ≡ 4096) new → ((b : ℕ) → Contains (owned f) b → b < length new)
+    → size f ≤ size e → ((i : ℕ) → i < block_count f → get_or new (pointer f i) [] ≡ get_or old (pointer e i) [])
+    → take (size f) (content_of old e) ≡ content_of new f
 content_front old new e f whole within whole' within' less same =
     ext_get_or 0 (take (size f) (content_of old e)) (content_of new f) (front ∙ sym (length-content new f whole' within')) (λ j low.
     let small : j < size f = omega (arith, front) in

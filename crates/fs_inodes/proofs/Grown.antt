@@ -1,9 +1,11 @@
 -- Growth after growth.
-use Rattle.std.proofs.Common.{◌≡◌, inl, inr, ◌<◌, ◌≤◌, ℕ, ◌+◌, cond, ltb, false, Bool, Option, Some, None, List, [], ◌∷◌, ◌++◌, length, get_or, set, refl, sym, ◌∙◌, ap, arith, append_assoc, length-append, subst}
+use Rattle.std.proofs.Common.{◌≡◌, inl, inr, ◌<◌, ◌≤◌, ℕ, ◌+◌, cond, ltb, false, Bool, Option, Some, None, List, [], ◌∷◌, ◌++◌, length}
+use Rattle.std.proofs.Common.{get_or, set, refl, sym, ◌∙◌, ap, arith, append_assoc, length-append, subst}
 use Rattle.std.proofs.lemmas.List.{append-nil, get_or_past, get_or-set_same, set-set, set-get_or}
 use Rattle.std.proofs.lemmas.Bool.{cases_lt, cases_Bool, lt-ltb, le-ltb, false≢true}
 use Rattle.model.specs.Stream.{Octets}
-use Rattle.model.specs.Files.{File, HasRoom, IsFile, IsFileSystem, size, entry, content_of, name_in, slot_of, table, is_marked_used, free_blocks}
+use Rattle.model.specs.Files.{File, HasRoom, IsFile, IsFileSystem, size, entry, content_of, name_in, slot_of, table, is_marked_used}
+use Rattle.model.specs.Files.{free_blocks}
 use Rattle.fs_layout.specs.Table.{IsFileAt}
 use Rattle.fs_inodes.specs.Growing.{blocks_for}
 use Rattle.fs_inodes.specs.Growing.{GrowsBy, HasRoomFor}
@@ -19,10 +21,12 @@ the_file None = record { name = []; content = [] }
 the_file (Some f) = f
 
 -- an inode has one file
-pub one_name : (files : List (Option File)) (k : ℕ) (name name' content content' : Octets) → IsFileAt files k name content → IsFileAt files k name' content' → name ≡ name'
+pub one_name : (files : List (Option File)) (k : ℕ) (name name' content content' : Octets) → IsFileAt files k name content
+    → IsFileAt files k name' content' → name ≡ name'
 one_name files k name name' content content' first second = ap (λ (o : Option File). (the_file o).name) (sym first ∙ second)
 
-pub one_content : (files : List (Option File)) (k : ℕ) (name name' content content' : Octets) → IsFileAt files k name content → IsFileAt files k name' content' → content ≡ content'
+pub one_content : (files : List (Option File)) (k : ℕ) (name name' content content' : Octets) → IsFileAt files k name content
+    → IsFileAt files k name' content' → content ≡ content'
 one_content files k name name' content content' first second = ap (λ (o : Option File). (the_file o).content) (sym first ∙ second)
 
 pub below_table : (files : List (Option File)) (k : ℕ) (name content : Octets) → IsFileAt files k name content → k < length files
@@ -32,25 +36,30 @@ below_table files k name content is = elim (cases_lt k (length files)) [
 ]
 
 -- the file after growth
-pub file_after : (inodes k : ℕ) (octets : Octets) (old new : List Octets) (grown : GrowsBy inodes k octets old new) → IsFileAt (table inodes new) k grown.name (grown.was ++ octets)
+pub file_after : (inodes k : ℕ) (octets : Octets) (old new : List Octets) (grown : GrowsBy inodes k octets old new)
+    → IsFileAt (table inodes new) k grown.name (grown.was ++ octets)
 file_after inodes k octets old new grown =
     ap (λ (l : List (Option File)). get_or l k None) grown.makes.files_are
-    ∙ get_or-set_same (table inodes old) k (Some (record { name = grown.name; content = grown.was ++ octets })) None (below_table (table inodes old) k grown.name grown.was grown.there)
+    ∙ get_or-set_same (table inodes old) k (Some (record { name = grown.name; content = grown.was ++ octets })) None
+    (below_table (table inodes old) k grown.name grown.was grown.there)
 
 module _ (inodes k : ℕ) (p q : Octets) (a b c : List Octets) (first : GrowsBy inodes k p a b) (second : GrowsBy inodes k q b c) where
   same_name : second.name ≡ first.name
   same_name = one_name (table inodes b) k second.name first.name second.was (first.was ++ p) second.there (file_after inodes k p a b first)
 
   same_was : second.was ≡ first.was ++ p
-  same_was = one_content (table inodes b) k second.name first.name second.was (first.was ++ p) second.there (file_after inodes k p a b first)
+  same_was = one_content (table inodes b) k second.name first.name second.was (first.was ++ p) second.there
+      (file_after inodes k p a b first)
 
   files : table inodes c ≡ set (table inodes a) k (Some (record { name = first.name; content = first.was ++ (p ++ q) }))
   files =
       second.makes.files_are
       ∙ ap (λ (l : List (Option File)). set l k (Some (record { name = second.name; content = second.was ++ q }))) first.makes.files_are
-      ∙ set-set (table inodes a) k (Some (record { name = first.name; content = first.was ++ p })) (Some (record { name = second.name; content = second.was ++ q }))
+      ∙ set-set (table inodes a) k (Some (record { name = first.name; content = first.was ++ p }))
+      (Some (record { name = second.name; content = second.was ++ q }))
       ∙ ap (λ (n : Octets). set (table inodes a) k (Some (record { name = n; content = second.was ++ q }))) same_name
-      ∙ ap (λ (w : Octets). set (table inodes a) k (Some (record { name = first.name; content = w }))) (ap (λ (w : Octets). w ++ q) same_was ∙ append_assoc first.was p q)
+      ∙ ap (λ (w : Octets). set (table inodes a) k (Some (record { name = first.name; content = w }))) (ap (λ (w : Octets). w ++ q) same_was
+      ∙ append_assoc first.was p q)
 
   pub grows_then : length a ≤ 65536 → GrowsBy inodes k (p ++ q) a c
   grows_then few = record {
@@ -80,7 +89,8 @@ module _ (inodes k : ℕ) (p q : Octets) (a b c : List Octets) (first : GrowsBy 
       total : length first.was + length (p ++ q) ≡ length first.was + length p + length q
       total = omega (arith, length-append p q)
 
-module _ (inodes k : ℕ) (a : List Octets) (room : HasRoom inodes a) (fs : IsFileSystem inodes a) (low : k < inodes) (file : IsFile (entry inodes a k)) where
+module _ (inodes k : ℕ) (a : List Octets) (room : HasRoom inodes a) (fs : IsFileSystem inodes a) (low : k < inodes)
+    (file : IsFile (entry inodes a k)) where
   was_there : IsFileAt (table inodes a) k (name_in (slot_of inodes a k)) (content_of a (entry inodes a k))
   was_there = get_or-table inodes a k low ∙ file_at_file inodes a k file
 
@@ -99,16 +109,21 @@ module _ (inodes k : ℕ) (a : List Octets) (room : HasRoom inodes a) (fs : IsFi
       rule = fs;
       files_are =
           sym (set-get_or (table inodes a) k None)
-          ∙ ap (λ (o : Option File). set (table inodes a) k o) (was_there ∙ ap (λ (w : Octets). Some (record { name = name_in (slot_of inodes a k); content = w })) (sym (append-nil (content_of a (entry inodes a k)))));
+          ∙ ap (λ (o : Option File). set (table inodes a) k o) (was_there
+          ∙ ap (λ (w : Octets). Some (record { name = name_in (slot_of inodes a k); content = w }))
+          (sym (append-nil (content_of a (entry inodes a k)))));
     };
     lowest = λ x y low_x low_y was now free. absurd (false≢true (sym was ∙ now));
     kept = λ x small marked. marked;
-    free = (let none : length (content_of a (entry inodes a k)) + 0 ≡ length (content_of a (entry inodes a k)) = omega arith in ap (λ (n : ℕ). free_blocks a + blocks_for n) none);
+    free = (let none : length (content_of a (entry inodes a k)) + 0 ≡ length (content_of a (entry inodes a k)) = omega arith in
+        ap (λ (n : ℕ). free_blocks a + blocks_for n) none);
   }
 
   module _ (octets : Octets) (b : List Octets) (grown : GrowsBy inodes k octets a b) where
     pub was_size : length grown.was ≡ size (entry inodes a k)
-    was_size = ap (λ (w : Octets). length w) (one_content (table inodes a) k grown.name (name_in (slot_of inodes a k)) grown.was (content_of a (entry inodes a k)) grown.there was_there) ∙ size_is
+    was_size = ap (λ (w : Octets). length w)
+        (one_content (table inodes a) k grown.name (name_in (slot_of inodes a k)) grown.was
+        (content_of a (entry inodes a k)) grown.there was_there) ∙ size_is
 
     pub file_now : IsFile (entry inodes b k)
     file_now = (named_from_there inodes b grown.makes.rule k grown.name (grown.was ++ octets) (file_after inodes k octets a b grown)).file
@@ -117,21 +132,28 @@ module _ (inodes k : ℕ) (a : List Octets) (room : HasRoom inodes a) (fs : IsFi
     size_now =
         let named = named_from_there inodes b grown.makes.rule k grown.name (grown.was ++ octets) (file_after inodes k octets a b grown) in
         let long = length-content b (entry inodes b k) grown.makes.room.blocks_whole (λ c owns. (grown.makes.rule.within k c low owns).1) in
-        sym long ∙ ap (λ (w : Octets). length w) (sym named.content_is) ∙ length-append grown.was octets ∙ ap (λ (n : ℕ). n + length octets) was_size
+        sym long ∙ ap (λ (w : Octets). length w) (sym named.content_is) ∙ length-append grown.was octets
+        ∙ ap (λ (n : ℕ). n + length octets) was_size
 
     -- there is still room for the rest
-    pub room_now : (some total : ℕ) → length octets + some ≤ total → HasRoomFor a (size (entry inodes a k)) (size (entry inodes a k) + total) → HasRoomFor b (size (entry inodes b k)) (size (entry inodes b k) + some)
+    pub room_now : (some total : ℕ) → length octets + some ≤ total
+        → HasRoomFor a (size (entry inodes a k)) (size (entry inodes a k) + total)
+        → HasRoomFor b (size (entry inodes b k)) (size (entry inodes b k) + some)
     room_now some total fits enough =
         let left : free_blocks b + blocks_for (size (entry inodes b k)) ≡ free_blocks a + blocks_for (size (entry inodes a k)) =
-        ap (λ (n : ℕ). free_blocks b + blocks_for n) (size_now ∙ ap (λ (n : ℕ). n + length octets) (sym was_size)) ∙ grown.free ∙ ap (λ (n : ℕ). free_blocks a + blocks_for n) was_size in
+        ap (λ (n : ℕ). free_blocks b + blocks_for n) (size_now ∙ ap (λ (n : ℕ). n + length octets) (sym was_size)) ∙ grown.free
+        ∙ ap (λ (n : ℕ). free_blocks a + blocks_for n) was_size in
         let more = blocks_for_le (size (entry inodes b k) + some) (size (entry inodes a k) + total) (omega (arith, size_now)) in
         (omega (arith, size_now, enough.0), omega (arith, left, more, enough.1))
 
     -- how many blocks it took
-    pub taken_is : (taken : ℕ) → blocks_for (size (entry inodes a k)) + taken ≡ blocks_for (size (entry inodes a k) + length octets) → free_blocks b + taken ≡ free_blocks a
+    pub taken_is : (taken : ℕ) → blocks_for (size (entry inodes a k)) + taken ≡ blocks_for (size (entry inodes a k) + length octets)
+        → free_blocks b + taken ≡ free_blocks a
     taken_is taken more =
-        let left : free_blocks b + blocks_for (size (entry inodes a k) + length octets) ≡ free_blocks a + blocks_for (size (entry inodes a k)) =
-        ap (λ (n : ℕ). free_blocks b + blocks_for (n + length octets)) (sym was_size) ∙ grown.free ∙ ap (λ (n : ℕ). free_blocks a + blocks_for n) was_size in
+        let left : free_blocks b + blocks_for (size (entry inodes a k) + length octets) ≡ free_blocks a + blocks_for
+        (size (entry inodes a k)) =
+        ap (λ (n : ℕ). free_blocks b + blocks_for (n + length octets)) (sym was_size) ∙ grown.free
+        ∙ ap (λ (n : ℕ). free_blocks a + blocks_for n) was_size in
         omega (arith, left, more)
 
     -- there are no more blocks that name blocks than the new size needs
@@ -143,7 +165,9 @@ module _ (inodes k : ℕ) (a : List Octets) (room : HasRoom inodes a) (fs : IsFi
     no_table_now few = (file_names inodes k b grown.makes.room grown.makes.rule low file_now).none 0 (omega (arith, few, size_now))
 
 -- a piece touches the blocks after those of the octets before it
-pub touched : (k size at long some : ℕ) (mid new : List (List ℕ)) → size ≡ at → long ≡ some → (block : ℕ) × TouchesData k (block ∷ []) (content_blocks size) (content_blocks (size + long)) mid new → (block : ℕ) × TouchesData k (block ∷ []) (content_blocks at) (content_blocks (at + some)) mid new
+pub touched : (k size at long some : ℕ) (mid new : List (List ℕ)) → size ≡ at → long ≡ some
+    → (block : ℕ) × TouchesData k (block ∷ []) (content_blocks size) (content_blocks (size + long)) mid new
+    → (block : ℕ) × TouchesData k (block ∷ []) (content_blocks at) (content_blocks (at + some)) mid new
 touched k size at long some mid new is piece (block, touches) = (
   block,
   subst (λ (n : ℕ). TouchesData k (block ∷ []) (content_blocks at) (content_blocks (at + n)) mid new) piece

@@ -1,5 +1,7 @@
 -- A file that grows within a block.
-use Rattle.std.proofs.Common.{◌≡◌, ◌≢◌, ◌⊎◌, ◌↔◌, inl, inr, ◌<◌, ◌≤◌, ℕ, ◌+◌, ◌-◌, ◌*◌, ◌/◌, ◌%◌, cond, eqb, ltb, true, false, Bool, Some, List, [], ◌∷◌, ◌++◌, length, get_or, map, take, set, refl, sym, ◌∙◌, ap, subst, arith, append_assoc, length-append, length-set}
+use Rattle.std.proofs.Common.{◌≡◌, ◌≢◌, ◌⊎◌, ◌↔◌, inl, inr, ◌<◌, ◌≤◌, ℕ, ◌+◌, ◌-◌, ◌*◌, ◌/◌, ◌%◌, cond, eqb, ltb, true, false, Bool, Some}
+use Rattle.std.proofs.Common.{List, [], ◌∷◌, ◌++◌, length, get_or, map, take, set, refl, sym, ◌∙◌, ap, subst, arith, append_assoc}
+use Rattle.std.proofs.Common.{length-append, length-set}
 use Rattle.std.specs.List.{All, Contains, range_with_len}
 use Rattle.std.proofs.lemmas.List.{get_or-append-add, get_or-set_same, get_or-set_other}
 use Rattle.std.proofs.lemmas.List.Elements.{Contains-append_left, Contains-append_right, Contains-get_or, All-set}
@@ -11,7 +13,9 @@ use Rattle.disk.proofs.Images.{length-overwritten}
 use Rattle.volume_format.proofs.Numbers.{number_at_apart, number_at_written}
 use Rattle.model.specs.Stream.{Octets}
 use Rattle.model.specs.Volume.{number_at, AreDistinct}
-use Rattle.model.specs.Files.{Entry, HasRoom, IsFile, kind, size, block_count, double_blocks, double_pointer, entry_of, indirect_count, indirect_for, indirect_pointer, pointer, owned, name_in, content_of, entry, inode_of, slot_of, indirect_of, first_data, is_marked_used, free_blocks, IsFileSystem, file_at}
+use Rattle.model.specs.Files.{Entry, HasRoom, IsFile, kind, size, block_count, double_blocks, double_pointer, entry_of, indirect_count}
+use Rattle.model.specs.Files.{indirect_for, indirect_pointer, pointer, owned, name_in, content_of, entry, inode_of, slot_of, indirect_of}
+use Rattle.model.specs.Files.{first_data, is_marked_used, free_blocks, IsFileSystem, file_at}
 use Rattle.model.specs.Room.{content_blocks}
 use Rattle.fs_layout.specs.Blocks.{PutsRecord}
 use Rattle.fs_layout.specs.Touches.{TouchesData, double_of, table_of}
@@ -39,7 +43,8 @@ pub record Extends (first n number : ℕ) (e f : Entry) (old mid : List Octets) 
   pub names : NamesBlocks (indirect_for (n + 1)) f mid
   pub double_stays : (double_pointer e ≡ 0) ⊎ (double_pointer f ≡ double_pointer e)
   pub tables_stay : (p : ℕ) → (indirect_pointer e p ≡ 0) ⊎ (indirect_pointer f p ≡ indirect_pointer e p)
-  pub blocks : (b : ℕ) → 2 ≤ b → ((i : ℕ) → block_count e ≤ i → i < n + 1 → (b ≢ double_pointer f) × (b ≢ indirect_pointer f ((i - 10) / 1024))) → get_or mid b [] ≡ get_or old b []
+  pub blocks : (b : ℕ) → 2 ≤ b → ((i : ℕ) → block_count e ≤ i → i < n + 1
+      → (b ≢ double_pointer f) × (b ≢ indirect_pointer f ((i - 10) / 1024))) → get_or mid b [] ≡ get_or old b []
   pub fresh : List ℕ
   pub fresh_free : (b : ℕ) → Contains fresh b → (first ≤ b) × (b < length old) × (is_marked_used old b ≡ false)
   pub fresh_marked : (b : ℕ) → Contains fresh b → is_marked_used mid b ≡ true
@@ -51,7 +56,14 @@ pub record Extends (first n number : ℕ) (e f : Entry) (old mid : List Octets) 
   pub distinct : AreDistinct (owned_to f (n + 1))
   pub free : free_blocks mid + with_indirect (n + 1) ≡ free_blocks old + blocks_for (size e)
 
-module _ (inodes k n r number : ℕ) (piece block inode : Octets) (old mid new : List Octets) (room : HasRoom inodes old) (fs : IsFileSystem inodes old) (low : k < inodes) (file : IsFile (entry inodes old k)) (sized : size (entry inodes old k) ≡ 4096 * n + r) (inside : r + length piece ≤ 4096) (some : 0 < length piece) (small : size (entry inodes old k) + length piece ≤ 268435456) (ext : Extends (first_data inodes) n number (entry inodes old k) (inode_entry mid inode) old mid) (block_size : length block ≡ 4096) (front : take r block ≡ take r (get_or old (pointer (entry inodes old k) n) [])) (put : PutsRecord 2 k (overwritten 4 (little_bytes 8 (size (entry inodes old k) + length piece)) inode) (set mid number (overwritten r piece block)) new) where
+module _ (inodes k n r number : ℕ) (piece block inode : Octets) (old mid new : List Octets) (room : HasRoom inodes old)
+    (fs : IsFileSystem inodes old) (low : k < inodes) (file : IsFile (entry inodes old k))
+    (sized : size (entry inodes old k) ≡ 4096 * n + r) (inside : r + length piece ≤ 4096) (some : 0 < length piece)
+    (small : size (entry inodes old k) + length piece ≤ 268435456)
+    (ext : Extends (first_data inodes) n number (entry inodes old k) (inode_entry mid inode) old mid) (block_size : length block ≡ 4096)
+    (front : take r block ≡ take r (get_or old (pointer (entry inodes old k) n) []))
+    (put : PutsRecord 2 k (overwritten 4 (little_bytes 8 (size (entry inodes old k) + length piece)) inode)
+    (set mid number (overwritten r piece block)) new) where
   e : Entry
   e = entry inodes old k
 
@@ -77,14 +89,18 @@ module _ (inodes k n r number : ℕ) (piece block inode : Octets) (old mid new :
   ]
 
   number_within : (first_data inodes ≤ number) × (number < length old)
-  number_within = subst (λ (b : ℕ). (first_data inodes ≤ b) × (b < length old)) ext.here (owned_within (pointer f n) (has_pointer f (n + 1) n (omega arith)))
+  number_within = subst (λ (b : ℕ). (first_data inodes ≤ b) × (b < length old)) ext.here
+      (owned_within (pointer f n) (has_pointer f (n + 1) n (omega arith)))
 
   -- each block that names blocks is 0, or the file owns it
   double_cases : (double_pointer f ≡ 0) ⊎ Contains (owned_to f (n + 1)) (double_pointer f)
   double_cases = elim (cases_eq (double_pointer f) 0) [ inl none ↦ inl none | inr has ↦ inr (has_double f (n + 1) has) ]
 
   table_cases : (p : ℕ) → (indirect_pointer f p ≡ 0) ⊎ Contains (owned_to f (n + 1)) (indirect_pointer f p)
-  table_cases p = elim (cases_lt p (indirect_for (n + 1))) [ inl less ↦ inr (has_table f (n + 1) p less) | inr past ↦ inl (ext.names.none p past) ]
+  table_cases p = elim (cases_lt p (indirect_for (n + 1))) [
+    | inl less ↦ inr (has_table f (n + 1) p less)
+    | inr past ↦ inl (ext.names.none p past)
+  ]
 
   double_not_number : double_pointer f ≢ number
   double_not_number same = elim (cases_eq (double_pointer f) 0) [
@@ -114,7 +130,11 @@ module _ (inodes k n r number : ℕ) (piece block inode : Octets) (old mid new :
 
   -- a block that the file does not own
   mid_other : (b : ℕ) → 2 ≤ b → (b ≡ 0) ⊎ (Contains (owned_to f (n + 1)) b → ⊥) → get_or mid b [] ≡ get_or old b []
-  mid_other b some_b cases = ext.blocks b some_b (λ i above below. (apart (double_pointer f) double_cases, apart (indirect_pointer f ((i - 10) / 1024)) (table_cases ((i - 10) / 1024))))
+  mid_other b some_b cases = ext.blocks b some_b
+      (λ i above below. (
+        apart (double_pointer f) double_cases,
+        apart (indirect_pointer f ((i - 10) / 1024)) (table_cases ((i - 10) / 1024)),
+      ))
     where
       apart : (m : ℕ) → (m ≡ 0) ⊎ Contains (owned_to f (n + 1)) m → b ≢ m
       apart m named same = elim named [
@@ -132,26 +152,30 @@ module _ (inodes k n r number : ℕ) (piece block inode : Octets) (old mid new :
 
   same_number : (a w : ℕ) → (a + w ≤ 4) ⊎ (12 ≤ a) → number_at a w inode_after ≡ number_at a w inode
   same_number a w apart =
-      number_at_apart 4 (little_bytes 8 (size (entry inodes old k) + length piece)) inode (omega (arith, ext.inode_size)) a w (elim apart [ inl before ↦ inl before | inr behind ↦ inr (omega arith) ])
+      number_at_apart 4 (little_bytes 8 (size (entry inodes old k) + length piece)) inode (omega (arith, ext.inode_size)) a w
+      (elim apart [ inl before ↦ inl before | inr behind ↦ inr (omega arith) ])
 
   same_double : number_at 56 4 inode_after ≡ number_at 56 4 inode
   same_double = same_number 56 4 (inr (omega arith))
 
   table_after : (p : ℕ) → indirect_pointer after p ≡ indirect_pointer f p
   table_after p =
-      ap (λ (m : ℕ). cond (eqb p 0) m (number_at (4 * (p - 1)) 4 (indirect_of mid (number_at 56 4 inode_after)))) (same_number 52 4 (inr (omega arith)))
+      ap (λ (m : ℕ). cond (eqb p 0) m (number_at (4 * (p - 1)) 4 (indirect_of mid (number_at 56 4 inode_after))))
+      (same_number 52 4 (inr (omega arith)))
       ∙ ap (λ (m : ℕ). cond (eqb p 0) (number_at 52 4 inode) (number_at (4 * (p - 1)) 4 (indirect_of mid m))) same_double
 
   double_octets : indirect_of new (number_at 56 4 inode_after) ≡ indirect_of mid (number_at 56 4 inode_after)
   double_octets =
       ap (indirect_of new) same_double
-      ∙ indirect_same mid new (double_pointer f) (λ some_d. data_new (double_pointer f) (named_high (double_pointer f) some_d double_cases) double_not_number)
+      ∙ indirect_same mid new (double_pointer f)
+      (λ some_d. data_new (double_pointer f) (named_high (double_pointer f) some_d double_cases) double_not_number)
       ∙ sym (ap (indirect_of mid) same_double)
 
   table_octets : (p : ℕ) → indirect_of new (indirect_pointer after p) ≡ indirect_of mid (indirect_pointer after p)
   table_octets p =
       ap (indirect_of new) (table_after p)
-      ∙ indirect_same mid new (indirect_pointer f p) (λ some_t. data_new (indirect_pointer f p) (named_high (indirect_pointer f p) some_t (table_cases p)) (table_not_number p))
+      ∙ indirect_same mid new (indirect_pointer f p)
+      (λ some_t. data_new (indirect_pointer f p) (named_high (indirect_pointer f p) some_t (table_cases p)) (table_not_number p))
       ∙ sym (ap (indirect_of mid) (table_after p))
 
   slot_same : (l : ℕ) → l < inodes → slot_of inodes new l ≡ slot_of inodes old l
@@ -168,7 +192,8 @@ module _ (inodes k n r number : ℕ) (piece block inode : Octets) (old mid new :
       ∙ mid_reserved (2 + l / 64) (omega arith) (omega (arith, room.whole)))
 
   entry_is : entry inodes new k ≡ after
-  entry_is = same_entry mid new (inode_of new k) inode_after (slot_of inodes new k) (slot_of inodes old k) put.here (slot_same k low) double_octets table_octets
+  entry_is = same_entry mid new (inode_of new k) inode_after (slot_of inodes new k) (slot_of inodes old k) put.here
+      (slot_same k low) double_octets table_octets
 
   size_after : size after ≡ size (entry inodes old k) + length piece
   size_after = number_at_written 4 8 (size (entry inodes old k) + length piece) inode (omega (arith, ext.inode_size)) (omega arith)
@@ -178,15 +203,20 @@ module _ (inodes k n r number : ℕ) (piece block inode : Octets) (old mid new :
 
   pointer_after : (i : ℕ) → pointer after i ≡ pointer f i
   pointer_after i =
-      ap (λ (m : ℕ). cond (ltb i 10) m (number_at (4 * ((i - 10) % 1024)) 4 (indirect_of mid (indirect_pointer after ((i - 10) / 1024))))) (same_number (12 + 4 * i) 4 (inr (omega arith)))
-      ∙ ap (λ (m : ℕ). cond (ltb i 10) (number_at (12 + 4 * i) 4 inode) (number_at (4 * ((i - 10) % 1024)) 4 (indirect_of mid m))) (table_after ((i - 10) / 1024))
+      ap (λ (m : ℕ). cond (ltb i 10) m (number_at (4 * ((i - 10) % 1024)) 4 (indirect_of mid (indirect_pointer after ((i - 10) / 1024)))))
+      (same_number (12 + 4 * i) 4 (inr (omega arith)))
+      ∙ ap (λ (m : ℕ). cond (ltb i 10) (number_at (12 + 4 * i) 4 inode) (number_at (4 * ((i - 10) % 1024)) 4 (indirect_of mid m)))
+      (table_after ((i - 10) / 1024))
 
   owned_after : owned after ≡ owned_to f (n + 1)
   owned_after =
       ap (λ (m : ℕ). owned_to after m) count_after
-      ∙ ap (λ (m : ℕ). cond (eqb m 0) [] (m ∷ []) ++ (tables_to after (indirect_for (n + 1)) ++ map (λ i. pointer after i) (range_with_len 0 (n + 1)))) same_double
-      ∙ ap (λ (l : List ℕ). double_blocks f ++ (l ++ map (λ i. pointer after i) (range_with_len 0 (n + 1)))) (map_same_below (λ p. indirect_pointer after p) (λ p. indirect_pointer f p) 0 (indirect_for (n + 1)) (λ p less. table_after p))
-      ∙ ap (λ (l : List ℕ). double_blocks f ++ (tables_to f (indirect_for (n + 1)) ++ l)) (map_same_below (λ i. pointer after i) (λ i. pointer f i) 0 (n + 1) (λ i less. pointer_after i))
+      ∙ ap (λ (m : ℕ). cond (eqb m 0) [] (m ∷ []) ++
+      (tables_to after (indirect_for (n + 1)) ++ map (λ i. pointer after i) (range_with_len 0 (n + 1)))) same_double
+      ∙ ap (λ (l : List ℕ). double_blocks f ++ (l ++ map (λ i. pointer after i) (range_with_len 0 (n + 1))))
+      (map_same_below (λ p. indirect_pointer after p) (λ p. indirect_pointer f p) 0 (indirect_for (n + 1)) (λ p less. table_after p))
+      ∙ ap (λ (l : List ℕ). double_blocks f ++ (tables_to f (indirect_for (n + 1)) ++ l))
+      (map_same_below (λ i. pointer after i) (λ i. pointer f i) 0 (n + 1) (λ i less. pointer_after i))
 
   tables_after : indirect_for (n + 1) ≡ indirect_count after
   tables_after = ap indirect_for (sym count_after)
@@ -197,20 +227,23 @@ module _ (inodes k n r number : ℕ) (piece block inode : Octets) (old mid new :
     small = omega (arith, size_after, small);
     spare = same_number 60 4 (inr (omega arith)) ∙ ext.spare;
     double_where = (
-      (λ more none. absurd (let there = (ext.names.double (subst (λ (t : ℕ). 1 < t) (sym tables_after) more)).some in omega (arith, there, none, same_double))),
+      (λ more none. absurd (let there = (ext.names.double (subst (λ (t : ℕ). 1 < t) (sym tables_after) more)).some in
+          omega (arith, there, none, same_double))),
       (λ has. elim (cases_lt 1 (indirect_for (n + 1))) [
         | inl more ↦ subst (λ (t : ℕ). 1 < t) tables_after more
         | inr less ↦ absurd (has (same_double ∙ ext.names.no_double less))
       ]),
     );
     indirect_where = λ p. (
-      (λ less none. absurd (let there = (ext.names.there p (subst (λ (t : ℕ). p < t) (sym tables_after) less)).some in let is = table_after p in omega (arith, there, none, is))),
+      (λ less none. absurd (let there = (ext.names.there p (subst (λ (t : ℕ). p < t) (sym tables_after) less)).some in
+          let is = table_after p in omega (arith, there, none, is))),
       (λ has. elim (cases_lt p (indirect_for (n + 1))) [
         | inl less ↦ subst (λ (t : ℕ). p < t) tables_after less
         | inr past ↦ absurd (has (table_after p ∙ ext.names.none p past))
       ]),
     );
-    no_other_pointer = λ i high. pointer_after i ∙ ext.same_pointers i (omega (arith, high, count_after)) ∙ file.no_other_pointer i (omega (arith, high, count_after, sized, inside, some));
+    no_other_pointer = λ i high. pointer_after i ∙ ext.same_pointers i (omega (arith, high, count_after))
+        ∙ file.no_other_pointer i (omega (arith, high, count_after, sized, inside, some));
     name_some = file.name_some;
     name_few = file.name_few;
     slot_is = file.slot_is;
@@ -219,14 +252,16 @@ module _ (inodes k n r number : ℕ) (piece block inode : Octets) (old mid new :
   -- ---- content
 
   new_whole : All (λ b. length b ≡ 4096) new
-  new_whole = put.whole (All-set (λ b. length b ≡ 4096) mid number (overwritten r piece block) (length-overwritten r piece block (omega arith) ∙ block_size) ext.whole)
+  new_whole = put.whole (All-set (λ b. length b ≡ 4096) mid number (overwritten r piece block)
+      (length-overwritten r piece block (omega arith) ∙ block_size) ext.whole)
 
   count_is : length new ≡ length old
   count_is = put.count ∙ length-set mid number (overwritten r piece block) ∙ ext.count
 
   whole_before : (i : ℕ) → i < n → length (get_or old (pointer (entry inodes old k) i) []) ≡ 4096
   whole_before i early =
-      room.blocks_whole (pointer (entry inodes old k) i) [] ((fs.within k (pointer (entry inodes old k) i) low (owns_pointer (entry inodes old k) i (omega (arith, sized)))).1)
+      room.blocks_whole (pointer (entry inodes old k) i) []
+      ((fs.within k (pointer (entry inodes old k) i) low (owns_pointer (entry inodes old k) i (omega (arith, sized)))).1)
 
   whole_after : (i : ℕ) → i < n → length (get_or new (pointer after i) []) ≡ 4096
   whole_after i early =
@@ -235,7 +270,8 @@ module _ (inodes k n r number : ℕ) (piece block inode : Octets) (old mid new :
 
   -- the blocks before it
   same_front : blocks_octets new after n ≡ blocks_octets old (entry inodes old k) n
-  same_front = flat_map_same (λ i. get_or new (pointer after i) []) (λ i. get_or old (pointer (entry inodes old k) i) []) 0 n (λ i from to. one i (omega arith))
+  same_front = flat_map_same (λ i. get_or new (pointer after i) []) (λ i. get_or old (pointer (entry inodes old k) i) []) 0 n
+      (λ i from to. one i (omega arith))
     where
       one : (i : ℕ) → i < n → get_or new (pointer after i) [] ≡ get_or old (pointer (entry inodes old k) i) []
       one i early =
@@ -249,12 +285,15 @@ module _ (inodes k n r number : ℕ) (piece block inode : Octets) (old mid new :
             | inl less ↦ table_not_pointer f (n + 1) ext.distinct p i less (omega (arith, early)) (sym same)
             | inr past ↦ absurd (let none = ext.names.none p past in omega (arith, within.0, same, none))
           ] in
-          ap (λ (b : ℕ). get_or new b []) (pointer_after i) ∙ data_new (pointer f i) within.0 apart ∙ ext.blocks (pointer f i) (omega (arith, within.0)) (λ j above below. (not_double, not_table ((j - 10) / 1024)))
+          ap (λ (b : ℕ). get_or new b []) (pointer_after i) ∙ data_new (pointer f i) within.0 apart
+          ∙ ext.blocks (pointer f i) (omega (arith, within.0)) (λ j above below. (not_double, not_table ((j - 10) / 1024)))
           ∙ ap (λ (b : ℕ). get_or old b []) (ext.same_pointers i (omega (arith, early)))
 
   content_after : content_of new after ≡ content_of old (entry inodes old k) ++ piece
   content_after =
-      content_front new after n (r + length piece) (size_after ∙ (let sum : size (entry inodes old k) + length piece ≡ 4096 * n + (r + length piece) = omega (arith, sized) in sum)) inside whole_after
+      content_front new after n (r + length piece) (size_after
+      ∙ (let sum : size (entry inodes old k) + length piece ≡ 4096 * n + (r + length piece) = omega (arith, sized) in sum)) inside
+      whole_after
       ∙ ap (λ (l : Octets). l ++ take (r + length piece) (get_or new (pointer after n) [])) same_front
       ∙ ap (λ (l : Octets). blocks_octets old (entry inodes old k) n ++ l) (
       ap (λ (b : ℕ). take (r + length piece) (get_or new b [])) (pointer_after n ∙ ext.here)
@@ -267,7 +306,8 @@ module _ (inodes k n r number : ℕ) (piece block inode : Octets) (old mid new :
   -- ---- the rule of blocks
 
   mark_new : (b : ℕ) → b < 65536 → is_marked_used new b ≡ is_marked_used mid b
-  mark_new = marks_same mid new (elsewhere 0 (omega arith) (omega (arith, number_within.0))) (elsewhere 1 (omega arith) (omega (arith, number_within.0)))
+  mark_new = marks_same mid new (elsewhere 0 (omega arith) (omega (arith, number_within.0)))
+      (elsewhere 1 (omega arith) (omega (arith, number_within.0)))
 
   abbrev touched : ℕ → Type 0
   touched b = Contains (owned_to f (n + 1)) b
@@ -280,7 +320,8 @@ module _ (inodes k n r number : ℕ) (piece block inode : Octets) (old mid new :
     inodes_other = inode_other;
     slots_other = λ l below other. slot_same l below;
     data_same = λ b high untouched.
-        data_new b high (λ same. untouched (subst (λ (c : ℕ). Contains (owned_to f (n + 1)) c) (ext.here ∙ sym same) (has_pointer f (n + 1) n (omega arith))))
+        data_new b high (λ same. untouched
+        (subst (λ (c : ℕ). Contains (owned_to f (n + 1)) c) (ext.here ∙ sym same) (has_pointer f (n + 1) n (omega arith))))
         ∙ mid_other b (omega (arith, high)) (inr untouched);
   }
 
@@ -329,16 +370,21 @@ module _ (inodes k n r number : ℕ) (piece block inode : Octets) (old mid new :
     same = λ b small_b never lacks. mark_new b small_b ∙ ext.other_marks b small_b (λ fresh. lacks (from_f b (ext.fresh_owned b fresh)));
   }
 
-  file_here : file_at inodes new k ≡ Some (record { name = name_in (slot_of inodes old k); content = content_of old (entry inodes old k) ++ piece })
+  file_here : file_at inodes new k
+      ≡ Some (record { name = name_in (slot_of inodes old k); content = content_of old (entry inodes old k) ++ piece })
   file_here =
       file_at_file inodes new k (subst IsFile (sym entry_is) is_file)
       ∙ ap (λ (s : Octets). Some (record { name = name_in s; content = content_of new (entry inodes new k) })) (slot_same k low)
-      ∙ ap (λ (c : Octets). Some (record { name = name_in (slot_of inodes old k); content = c })) (ap (λ (g : Entry). content_of new g) entry_is ∙ content_after)
+      ∙ ap (λ (c : Octets). Some (record { name = name_in (slot_of inodes old k); content = c }))
+      (ap (λ (g : Entry). content_of new g) entry_is ∙ content_after)
 
-  free_is : free_blocks new + blocks_for (size (entry inodes old k) + length piece) ≡ free_blocks old + blocks_for (size (entry inodes old k))
+  free_is : free_blocks new + blocks_for (size (entry inodes old k) + length piece) ≡ free_blocks old + blocks_for
+      (size (entry inodes old k))
   free_is =
       let count : (size (entry inodes old k) + length piece + 4095) / 4096 ≡ n + 1 = omega (arith, sized, inside, some) in
-      let free : free_blocks new ≡ free_blocks mid = same_free mid new (put.count ∙ length-set mid number (overwritten r piece block)) (λ b inside_b. mark_new b (omega (arith, ext.count, room.count_few))) in
+      let free : free_blocks new ≡ free_blocks mid =
+      same_free mid new (put.count ∙ length-set mid number (overwritten r piece block))
+      (λ b inside_b. mark_new b (omega (arith, ext.count, room.count_few))) in
       ap (λ (m : ℕ). m + blocks_for (size (entry inodes old k) + length piece)) free
       ∙ ap (λ (m : ℕ). free_blocks mid + with_indirect m) count
       ∙ ext.free
@@ -357,9 +403,12 @@ module _ (inodes k n r number : ℕ) (piece block inode : Octets) (old mid new :
         (names_kept inodes k inode_after (slot_of inodes old k) touched old new low fs puts reowns file (slot_same k low))
         (Some (record { name = name_in (slot_of inodes old k); content = content_of old (entry inodes old k) ++ piece })) file_here;
     lowest = λ b c low_b low_c was now free.
-        ext.lowest b c (omega (arith, ext.count, count_is)) (omega (arith, ext.count, count_is)) was (sym (mark_new b (omega (arith, count_is, room.count_few))) ∙ now) (sym (mark_new c (omega (arith, count_is, room.count_few))) ∙ free);
+        ext.lowest b c (omega (arith, ext.count, count_is)) (omega (arith, ext.count, count_is)) was
+        (sym (mark_new b (omega (arith, count_is, room.count_few))) ∙ now) (sym (mark_new c (omega (arith, count_is, room.count_few)))
+        ∙ free);
     kept = marks_kept;
-    free = ap (λ (m : ℕ). free_blocks new + blocks_for (m + length piece)) content_size ∙ free_is ∙ ap (λ (m : ℕ). free_blocks old + blocks_for m) (sym content_size);
+    free = ap (λ (m : ℕ). free_blocks new + blocks_for (m + length piece)) content_size ∙ free_is
+        ∙ ap (λ (m : ℕ). free_blocks old + blocks_for m) (sym content_size);
   }
 
   -- ---- the blocks that it touches
@@ -370,7 +419,8 @@ module _ (inodes k n r number : ℕ) (piece block inode : Octets) (old mid new :
   table_new : (p : ℕ) → table_of new k p ≡ indirect_pointer f p
   table_new p = ap (λ (g : Entry). indirect_pointer g p) entry_is ∙ table_after p
 
-  pub touches : TouchesData k (number ∷ []) (content_blocks (size (entry inodes old k))) (content_blocks (size (entry inodes old k) + length piece)) old new
+  pub touches : TouchesData k (number ∷ []) (content_blocks (size (entry inodes old k)))
+      (content_blocks (size (entry inodes old k) + length piece)) old new
   touches =
       let end : n + 1 ≡ content_blocks (size (entry inodes old k) + length piece) = omega (arith, sized, inside, some) in
       subst (λ (m : ℕ). TouchesData k (number ∷ []) (content_blocks (size (entry inodes old k))) m old new) end record {

@@ -3,7 +3,8 @@ use Rattle.std.proofs.Common.{◌≡◌, ◌≢◌, inl, inr, ◌<◌, ◌≤◌
 use Rattle.std.specs.List.{Contains}
 use Rattle.std.proofs.lemmas.Bool.{cases_eq, cases_lt, cases_order}
 use Rattle.model.specs.Stream.{Octets}
-use Rattle.model.specs.Files.{Entry, HasRoom, IsFile, IsFileSystem, block_count, double_pointer, entry, first_data, indirect_count, indirect_for, indirect_pointer, inode_of, is_marked_used, owned}
+use Rattle.model.specs.Files.{Entry, HasRoom, IsFile, IsFileSystem, block_count, double_pointer, entry, first_data, indirect_count}
+use Rattle.model.specs.Files.{indirect_for, indirect_pointer, inode_of, is_marked_used, owned}
 use Rattle.fs_layout.specs.Blocks.{IsThere}
 use Rattle.fs_inodes.specs.Growing.{IsTaken, NamesBlocks, inode_entry}
 use Rattle.fs_layout.proofs.Entries.{owns_double, owns_indirect}
@@ -17,7 +18,8 @@ module _ (inodes k : ℕ) (old : List Octets) (room : HasRoom inodes old) (fs : 
   owned_marked b has = (fs.bits b (omega (arith, (fs.within k b low has).1, room.count_few))).1 (inr (k, low, has))
 
   pub owned_taken : (b : ℕ) → Contains (owned (entry inodes old k)) b → IsTaken old b
-  owned_taken b has = let inside = fs.within k b low has in record { some = omega (arith, inside.0); there = inside.1; marked = owned_marked b has }
+  owned_taken b has = let inside = fs.within k b low has in
+      record { some = omega (arith, inside.0); there = inside.1; marked = owned_marked b has }
 
   module _ (file : IsFile (entry inodes old k)) where
     double_some : 1 < indirect_count e → double_pointer e ≢ 0
@@ -26,7 +28,10 @@ module _ (inodes k : ℕ) (old : List Octets) (room : HasRoom inodes old) (fs : 
     pub file_names : NamesBlocks (indirect_for (block_count (entry inodes old k))) (inode_entry old (inode_of old k)) old
     file_names = record {
       there = λ p less. owned_taken (indirect_pointer e p) (owns_indirect e p less);
-      none = λ p high. elim (cases_eq (indirect_pointer e p) 0) [ inl is ↦ is | inr some ↦ absurd (let less = (file.indirect_where p).1 some in omega (arith, less, high)) ];
+      none = λ p high. elim (cases_eq (indirect_pointer e p) 0) [
+        | inl is ↦ is
+        | inr some ↦ absurd (let less = (file.indirect_where p).1 some in omega (arith, less, high))
+      ];
       differ = λ p q less_p less_q same. elim (cases_order p q) [
         | inl is ↦ is
         | inr ordered ↦ elim ordered [
@@ -35,9 +40,13 @@ module _ (inodes k : ℕ) (old : List Octets) (room : HasRoom inodes old) (fs : 
         ]
       ];
       double = λ more. owned_taken (double_pointer e) (owns_double e (double_some more));
-      no_double = λ less. elim (cases_eq (double_pointer e) 0) [ inl is ↦ is | inr some ↦ absurd (let more = file.double_where.1 some in omega (arith, less, more)) ];
+      no_double = λ less. elim (cases_eq (double_pointer e) 0) [
+        | inl is ↦ is
+        | inr some ↦ absurd (let more = file.double_where.1 some in omega (arith, less, more))
+      ];
       apart = λ p less same. elim (cases_eq (double_pointer e) 0) [
-        | inl none ↦ absurd (let some = (owned_taken (indirect_pointer e p) (owns_indirect e p less)).some in omega (arith, some, same, none))
+        | inl none ↦ absurd (let some = (owned_taken (indirect_pointer e p) (owns_indirect e p less)).some in
+            omega (arith, some, same, none))
         | inr some ↦ double_not_table e (block_count e) (fs.distinct k low) p some less (sym same)
       ];
     }
@@ -48,7 +57,8 @@ module _ (inodes k : ℕ) (old : List Octets) (room : HasRoom inodes old) (fs : 
         let taken = file_names.double (omega (arith, less, high)) in
         ((λ none. absurd (let some = taken.some in omega (arith, some, none))), taken.there)
 
-    pub table_is_there : (i : ℕ) → i < block_count (entry inodes old k) → 10 ≤ i → IsThere (indirect_pointer (entry inodes old k) ((i - 10) / 1024)) old
+    pub table_is_there : (i : ℕ) → i < block_count (entry inodes old k) → 10 ≤ i
+        → IsThere (indirect_pointer (entry inodes old k) ((i - 10) / 1024)) old
     table_is_there i less high =
         let taken = file_names.there ((i - 10) / 1024) (omega (arith, less, high)) in
         ((λ none. absurd (let some = taken.some in omega (arith, some, none))), taken.there)

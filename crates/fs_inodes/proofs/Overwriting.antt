@@ -1,5 +1,6 @@
 -- Octets in one block of a file, over those that stood there.
-use Rattle.std.proofs.Common.{◌≡◌, ◌≢◌, inl, inr, ◌<◌, ◌≤◌, ℕ, ◌+◌, ◌-◌, ◌*◌, ◌/◌, ◌%◌, cond, eqb, Bool, List, [], length, get_or, set, sym, ◌∙◌, ap, subst, arith, length-set}
+use Rattle.std.proofs.Common.{◌≡◌, ◌≢◌, inl, inr, ◌<◌, ◌≤◌, ℕ, ◌+◌, ◌-◌, ◌*◌, ◌/◌, ◌%◌, cond, eqb, Bool, List, [], length, get_or, set, sym}
+use Rattle.std.proofs.Common.{◌∙◌, ap, subst, arith, length-set}
 use Rattle.std.specs.List.{All, Contains}
 use Rattle.std.proofs.lemmas.List.{ext_get_or, get_or-set_same, get_or-set_other}
 use Rattle.std.proofs.lemmas.List.Elements.{All-set}
@@ -8,7 +9,8 @@ use Rattle.disk.specs.Image.{part, overwritten}
 use Rattle.disk.proofs.Images.{length-overwritten, overwritten_below, overwritten_inside, overwritten_above}
 use Rattle.model.specs.Stream.{Octets}
 use Rattle.model.specs.Volume.{number_at}
-use Rattle.model.specs.Files.{Entry, HasRoom, IsFile, size, block_count, double_pointer, indirect_count, indirect_pointer, pointer, owned, content_of, entry, inode_of, slot_of, indirect_of, first_data, IsFileSystem}
+use Rattle.model.specs.Files.{Entry, HasRoom, IsFile, size, block_count, double_pointer, indirect_count, indirect_pointer, pointer, owned}
+use Rattle.model.specs.Files.{content_of, entry, inode_of, slot_of, indirect_of, first_data, IsFileSystem}
 use Rattle.fs_inodes.specs.Changes.{ReplacesContent, SameMarks}
 use Rattle.fs_layout.proofs.Entries.{owns_pointer, length-content}
 use Rattle.fs_layout.proofs.Keeps.{indirect_same, PutsEntry, same_entry, marks_same}
@@ -19,24 +21,33 @@ use Rattle.fs_inodes.proofs.Replacing.{rule_keeps, replaces}
 
 -- ---- a data block of a file
 
-module _ (inodes k n : ℕ) (octets : Octets) (old : List Octets) (whole : inodes % 64 ≡ 0) (low : k < inodes) (behind : first_data inodes ≤ n) where
+module _ (inodes k n : ℕ) (octets : Octets) (old : List Octets) (whole : inodes % 64 ≡ 0) (low : k < inodes)
+    (behind : first_data inodes ≤ n) where
   -- that block alone
   pub puts_data : PutsEntry inodes k (inode_of old k) (slot_of inodes old k) (λ m. m ≡ n) old (set old n octets)
   puts_data = record {
     count = length-set old n octets;
     inode_is = ap (λ (b : Octets). part (k % 64 * 64) 64 b) (get_or-set_other old n (2 + k / 64) octets [] (omega arith));
     slot_is = ap (λ (b : Octets). part (k % 64 * 64) 64 b) (get_or-set_other old n (2 + inodes / 64 + k / 64) octets [] (omega arith));
-    inodes_other = λ l below other. ap (λ (b : Octets). part (l % 64 * 64) 64 b) (get_or-set_other old n (2 + l / 64) octets [] (omega arith));
-    slots_other = λ l below other. ap (λ (b : Octets). part (l % 64 * 64) 64 b) (get_or-set_other old n (2 + inodes / 64 + l / 64) octets [] (omega arith));
+    inodes_other = λ l below other. ap (λ (b : Octets). part (l % 64 * 64) 64 b)
+        (get_or-set_other old n (2 + l / 64) octets [] (omega arith));
+    slots_other = λ l below other. ap (λ (b : Octets). part (l % 64 * 64) 64 b)
+        (get_or-set_other old n (2 + inodes / 64 + l / 64) octets [] (omega arith));
     data_same = λ m high untouched. get_or-set_other old n m octets [] untouched;
   }
 
   pub data_keeps_marks : SameMarks old (set old n octets)
-  data_keeps_marks = record { count = length-set old n octets; marks = marks_same old (set old n octets) (get_or-set_other old n 0 octets [] (omega arith)) (get_or-set_other old n 1 octets [] (omega arith)) }
+  data_keeps_marks = record {
+    count = length-set old n octets;
+    marks = marks_same old (set old n octets) (get_or-set_other old n 0 octets [] (omega arith))
+        (get_or-set_other old n 1 octets [] (omega arith));
+  }
 
 -- ---- octets in it
 
-module _ (inodes k : ℕ) (place : ℕ) (octets : Octets) (old : List Octets) (room : HasRoom inodes old) (fs : IsFileSystem inodes old) (low : k < inodes) (file : IsFile (entry inodes old k)) (some : 0 < length octets) (fits : place + length octets ≤ size (entry inodes old k)) (one_block : place % 4096 + length octets ≤ 4096) where
+module _ (inodes k : ℕ) (place : ℕ) (octets : Octets) (old : List Octets) (room : HasRoom inodes old) (fs : IsFileSystem inodes old)
+    (low : k < inodes) (file : IsFile (entry inodes old k)) (some : 0 < length octets)
+    (fits : place + length octets ≤ size (entry inodes old k)) (one_block : place % 4096 + length octets ≤ 4096) where
   abbrev e : Entry
   e = entry inodes old k
 
@@ -47,7 +58,8 @@ module _ (inodes k : ℕ) (place : ℕ) (octets : Octets) (old : List Octets) (r
   written = overwritten (place % 4096) octets (get_or old (pointer (entry inodes old k) (place / 4096)) [])
 
   abbrev new : List Octets
-  new = set old (pointer (entry inodes old k) (place / 4096)) (overwritten (place % 4096) octets (get_or old (pointer (entry inodes old k) (place / 4096)) []))
+  new = set old (pointer (entry inodes old k) (place / 4096))
+      (overwritten (place % 4096) octets (get_or old (pointer (entry inodes old k) (place / 4096)) []))
 
   counted : place / 4096 < block_count e
   counted = omega arith
@@ -74,7 +86,8 @@ module _ (inodes k : ℕ) (place : ℕ) (octets : Octets) (old : List Octets) (r
   marks = data_keeps_marks inodes k number written old room.whole low (fs.within k number low owns).0
 
   untouched : (l b : ℕ) → l < inodes → l ≢ k → Contains (owned (entry inodes old l)) b → b ≢ number
-  untouched l b below other has is = other (fs.one_owner l k number below low (subst (λ (n : ℕ). Contains (owned (entry inodes old l)) n) is has) owns)
+  untouched l b below other has is =
+      other (fs.one_owner l k number below low (subst (λ (n : ℕ). Contains (owned (entry inodes old l)) n) is has) owns)
 
   -- the blocks that name blocks stay
   named_stays : (m : ℕ) → m ≢ number → indirect_of new m ≡ indirect_of old m
@@ -89,7 +102,8 @@ module _ (inodes k : ℕ) (place : ℕ) (octets : Octets) (old : List Octets) (r
   table_apart : (p : ℕ) → indirect_pointer e p ≢ number
   table_apart p is = elim (cases_lt p (indirect_count e)) [
     | inl less ↦ table_not_pointer e (block_count e) (fs.distinct k low) p (place / 4096) less counted is
-    | inr past ↦ absurd (let none = (file_names inodes k old room fs low file).none p past in let high = (fs.within k number low owns).0 in omega (arith, high, is, none))
+    | inr past ↦ absurd (let none = (file_names inodes k old room fs low file).none p past in let high = (fs.within k number low owns).0 in
+        omega (arith, high, is, none))
   ]
 
   same_here : entry inodes new k ≡ entry inodes old k
@@ -113,7 +127,8 @@ module _ (inodes k : ℕ) (place : ℕ) (octets : Octets) (old : List Octets) (r
   fits_content = omega (arith, long)
 
   -- an octet in the block that was written
-  in_this : (j : ℕ) → j < size e → j / 4096 ≡ place / 4096 → get_or (overwritten place octets (content_of old e)) j 0 ≡ get_or (get_or new (pointer e (j / 4096)) []) (j % 4096) 0
+  in_this : (j : ℕ) → j < size e → j / 4096 ≡ place / 4096
+      → get_or (overwritten place octets (content_of old e)) j 0 ≡ get_or (get_or new (pointer e (j / 4096)) []) (j % 4096) 0
   in_this j below same = elim (cases_lt j place) [
     | inl before ↦
         overwritten_below place octets (content_of old e) fits_content j 0 before
@@ -137,7 +152,8 @@ module _ (inodes k : ℕ) (place : ℕ) (octets : Octets) (old : List Octets) (r
       moved = ap (λ (n : ℕ). get_or (get_or new (pointer e n) []) (j % 4096) 0) same ∙ ap (λ (o : Octets). get_or o (j % 4096) 0) here
 
   -- an octet in another
-  in_other : (j : ℕ) → j < size e → j / 4096 ≢ place / 4096 → get_or (overwritten place octets (content_of old e)) j 0 ≡ get_or (get_or new (pointer e (j / 4096)) []) (j % 4096) 0
+  in_other : (j : ℕ) → j < size e → j / 4096 ≢ place / 4096
+      → get_or (overwritten place octets (content_of old e)) j 0 ≡ get_or (get_or new (pointer e (j / 4096)) []) (j % 4096) 0
   in_other j below other =
       elim (cases_lt j place) [
         | inl before ↦ overwritten_below place octets (content_of old e) fits_content j 0 before
@@ -170,7 +186,8 @@ module _ (inodes k : ℕ) (place : ℕ) (octets : Octets) (old : List Octets) (r
   pub overwrites : ReplacesContent inodes k (overwritten place octets (content_of old e)) old new
   overwrites =
       let is_file = subst IsFile (sym same_here) file in
-      replaces inodes k (inode_of old k) (λ m. m ≡ number) old new room fs low file puts untouched is_file (overwritten place octets (content_of old e)) whole
+      replaces inodes k (inode_of old k) (λ m. m ≡ number) old new room fs low file puts untouched is_file
+      (overwritten place octets (content_of old e)) whole
       (rule_keeps inodes k (inode_of old k) (λ m. m ≡ number) old new room fs low file puts untouched is_file (ap owned same_here) marks)
       content_is
 

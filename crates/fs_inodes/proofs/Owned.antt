@@ -1,5 +1,6 @@
 -- The blocks that an entry owns, one by one.
-use Rattle.std.proofs.Common.{◌≡◌, ◌≢◌, ◌⊎◌, inl, inr, ◌<◌, ◌≤◌, ℕ, zero, suc, ◌+◌, ◌-◌, ◌*◌, ◌/◌, ◌%◌, cond, Bool, List, [], ◌∷◌, ◌++◌, length, get_or, map, refl, sym, ◌∙◌, ap, subst, arith}
+use Rattle.std.proofs.Common.{◌≡◌, ◌≢◌, ◌⊎◌, inl, inr, ◌<◌, ◌≤◌, ℕ, zero, suc, ◌+◌, ◌-◌, ◌*◌, ◌/◌, ◌%◌, cond, Bool, List, [], ◌∷◌, ◌++◌}
+use Rattle.std.proofs.Common.{length, get_or, map, refl, sym, ◌∙◌, ap, subst, arith}
 use Rattle.std.specs.List.{Contains, range_with_len}
 use Rattle.std.proofs.lemmas.List.Elements.{Contains-append_cases, Contains-append_left, Contains-append_right, Contains-get_or}
 use Rattle.std.proofs.lemmas.List.FromFn.{length-map-range_with_len, get_or-map-range_with_len}
@@ -60,23 +61,27 @@ module _ (e : Entry) (count : ℕ) where
   from_double : (b : ℕ) → Contains (double_blocks e) b → (double_pointer e ≢ 0) × (double_pointer e ≡ b)
   from_double b has = elim (cases_eq (double_pointer e) 0) [
     | inl none ↦
-        absurd (let nothing = subst (λ (l : List ℕ). Contains l b) (ap (λ (t : Bool). cond t [] (double_pointer e ∷ [])) (eq-eqb (double_pointer e) 0 none)) has in omega (arith, nothing.1))
+        absurd (let nothing = subst (λ (l : List ℕ). Contains l b)
+        (ap (λ (t : Bool). cond t [] (double_pointer e ∷ [])) (eq-eqb (double_pointer e) 0 none)) has in omega (arith, nothing.1))
     | inr some ↦ (some, first_is (double_pointer e) b (subst (λ (l : List ℕ). Contains l b) (one_double some) has))
   ]
 
   pub has_pointer : (i : ℕ) → i < count → Contains (owned_to e count) (pointer e i)
-  has_pointer i low = Contains-append_right (double_blocks e) (tables ++ pointers) (pointer e i) (Contains-append_right tables pointers (pointer e i) (in_range (λ i. pointer e i) count i low))
+  has_pointer i low = Contains-append_right (double_blocks e) (tables ++ pointers) (pointer e i)
+      (Contains-append_right tables pointers (pointer e i) (in_range (λ i. pointer e i) count i low))
 
   pub has_table : (p : ℕ) → p < indirect_for count → Contains (owned_to e count) (indirect_pointer e p)
   has_table p low =
-      Contains-append_right (double_blocks e) (tables ++ pointers) (indirect_pointer e p) (Contains-append_left tables pointers (indirect_pointer e p) (in_range (λ p. indirect_pointer e p) (indirect_for count) p low))
+      Contains-append_right (double_blocks e) (tables ++ pointers) (indirect_pointer e p)
+      (Contains-append_left tables pointers (indirect_pointer e p) (in_range (λ p. indirect_pointer e p) (indirect_for count) p low))
 
   pub has_double : double_pointer e ≢ 0 → Contains (owned_to e count) (double_pointer e)
   has_double some = Contains-append_left (double_blocks e) (tables ++ pointers) (double_pointer e) (in_double some)
 
   -- the double-indirect block, a block of pointers, or one of its octets' blocks
   pub owned_cases : (b : ℕ) → Contains (owned_to e count) b
-      → ((double_pointer e ≢ 0) × (double_pointer e ≡ b)) ⊎ (((p : ℕ) × (p < indirect_for count) × (indirect_pointer e p ≡ b)) ⊎ ((i : ℕ) × (i < count) × (pointer e i ≡ b)))
+      → ((double_pointer e ≢ 0) × (double_pointer e ≡ b))
+      ⊎ (((p : ℕ) × (p < indirect_for count) × (indirect_pointer e p ≡ b)) ⊎ ((i : ℕ) × (i < count) × (pointer e i ≡ b)))
   owned_cases b has = elim (Contains-append_cases (double_blocks e) (tables ++ pointers) b has) [
     | inl double ↦ inl (from_double b double)
     | inr rest ↦ inr (elim (Contains-append_cases tables pointers b rest) [
@@ -93,20 +98,23 @@ module _ (e : Entry) (count : ℕ) where
       → AreDistinct (owned_to e count)
   distinct_from tables_apart pointers_apart table_pointer double_table double_pointer_apart =
       distinct_append (double_blocks e) (tables ++ pointers) one
-      (distinct_append tables pointers (range_distinct (λ p. indirect_pointer e p) (indirect_for count) tables_apart) (range_distinct (λ i. pointer e i) count pointers_apart) (λ b table there.
+      (distinct_append tables pointers (range_distinct (λ p. indirect_pointer e p) (indirect_for count) tables_apart)
+      (range_distinct (λ i. pointer e i) count pointers_apart) (λ b table there.
       let p = from_range (λ p. indirect_pointer e p) (indirect_for count) b table in
       let i = from_range (λ i. pointer e i) count b there in
       table_pointer p.0 i.0 p.1 i.1 (p.2 ∙ sym i.2)))
       (λ b double rest.
       let d = from_double b double in
       elim (Contains-append_cases tables pointers b rest) [
-        | inl table ↦ let p = from_range (λ p. indirect_pointer e p) (indirect_for count) b table in double_table p.0 d.0 p.1 (d.1 ∙ sym p.2)
+        | inl table ↦ let p = from_range (λ p. indirect_pointer e p) (indirect_for count) b table in
+            double_table p.0 d.0 p.1 (d.1 ∙ sym p.2)
         | inr there ↦ let i = from_range (λ i. pointer e i) count b there in double_pointer_apart i.0 d.0 i.1 (d.1 ∙ sym i.2)
       ])
     where
       one : AreDistinct (double_blocks e)
       one = elim (cases_eq (double_pointer e) 0) [
-        | inl none ↦ subst AreDistinct (sym (ap (λ (t : Bool). cond t [] (double_pointer e ∷ [])) (eq-eqb (double_pointer e) 0 none))) distinct_none
+        | inl none ↦ subst AreDistinct (sym (ap (λ (t : Bool). cond t [] (double_pointer e ∷ [])) (eq-eqb (double_pointer e) 0 none)))
+            distinct_none
         | inr some ↦ subst AreDistinct (sym (one_double some)) (distinct_one (double_pointer e))
       ]
 

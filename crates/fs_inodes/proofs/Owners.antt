@@ -1,10 +1,12 @@
 -- A change of the blocks that one entry owns.
-use Rattle.std.proofs.Common.{◌≡◌, ◌≢◌, ◌⊎◌, inl, inr, ◌<◌, ◌≤◌, ℕ, zero, suc, true, false, Option, List, [], ◌∷◌, length, set, sym, ◌∙◌, ap, subst, arith}
+use Rattle.std.proofs.Common.{◌≡◌, ◌≢◌, ◌⊎◌, inl, inr, ◌<◌, ◌≤◌, ℕ, zero, suc, true, false, Option, List, [], ◌∷◌, length, set, sym, ◌∙◌}
+use Rattle.std.proofs.Common.{ap, subst, arith}
 use Rattle.std.specs.List.{All, Contains}
 use Rattle.std.proofs.lemmas.Bool.{cases_eq, false≢true}
 use Rattle.model.specs.Stream.{Octets}
 use Rattle.model.specs.Volume.{AreDistinct}
-use Rattle.model.specs.Files.{Entry, File, HasRoom, IsFile, IsFree, owned, name_in, entry, slot_of, first_data, is_marked_used, IsUsed, IsFileSystem, file_at, table}
+use Rattle.model.specs.Files.{Entry, File, HasRoom, IsFile, IsFree, owned, name_in, entry, slot_of, first_data, is_marked_used, IsUsed}
+use Rattle.model.specs.Files.{IsFileSystem, file_at, table}
 use Rattle.fs_layout.specs.Table.{Makes}
 use Rattle.fs_layout.proofs.Entries.{free_kind}
 use Rattle.fs_layout.proofs.Tables.{table_set}
@@ -34,14 +36,18 @@ pub record Reowns (inodes k : ℕ) (touched : ℕ → Type 0) (old new : List Oc
   pub within : (b : ℕ) → Contains (owned (entry inodes new k)) b → (first_data inodes ≤ b) × (b < length old)
   pub source : (b : ℕ) → Contains (owned (entry inodes new k)) b → Contains (owned (entry inodes old k)) b ⊎ (is_marked_used old b ≡ false)
   pub taken : (b : ℕ) → Contains (owned (entry inodes new k)) b → is_marked_used new b ≡ true
-  pub left : (b : ℕ) → b < 65536 → Contains (owned (entry inodes old k)) b → ¬ (Contains (owned (entry inodes new k)) b) → is_marked_used new b ≡ false
-  pub same : (b : ℕ) → b < 65536 → ¬ (Contains (owned (entry inodes old k)) b) → ¬ (Contains (owned (entry inodes new k)) b) → is_marked_used new b ≡ is_marked_used old b
+  pub left : (b : ℕ) → b < 65536 → Contains (owned (entry inodes old k)) b → ¬ (Contains (owned (entry inodes new k)) b)
+      → is_marked_used new b ≡ false
+  pub same : (b : ℕ) → b < 65536 → ¬ (Contains (owned (entry inodes old k)) b) → ¬ (Contains (owned (entry inodes new k)) b)
+      → is_marked_used new b ≡ is_marked_used old b
 
 abbrev pub HasDistinctNames : ℕ → List Octets → Type 0
 HasDistinctNames inodes blocks =
-    (k l : ℕ) → k < inodes → l < inodes → IsFile (entry inodes blocks k) → IsFile (entry inodes blocks l) → name_in (slot_of inodes blocks k) ≡ name_in (slot_of inodes blocks l) → k ≡ l
+    (k l : ℕ) → k < inodes → l < inodes → IsFile (entry inodes blocks k) → IsFile (entry inodes blocks l)
+    → name_in (slot_of inodes blocks k) ≡ name_in (slot_of inodes blocks l) → k ≡ l
 
-module _ (inodes k : ℕ) (inode slot : Octets) (touched : ℕ → Type 0) (old new : List Octets) (low : k < inodes) (fs : IsFileSystem inodes old) (puts : PutsEntry inodes k inode slot touched old new) (owns : Reowns inodes k touched old new) where
+module _ (inodes k : ℕ) (inode slot : Octets) (touched : ℕ → Type 0) (old new : List Octets) (low : k < inodes)
+    (fs : IsFileSystem inodes old) (puts : PutsEntry inodes k inode slot touched old new) (owns : Reowns inodes k touched old new) where
   others : (l : ℕ) → l < inodes → l ≢ k → entry inodes new l ≡ entry inodes old l
   others = entry_other inodes k inode slot touched old new puts fs owns.untouched
 
@@ -60,21 +66,25 @@ module _ (inodes k : ℕ) (inode slot : Octets) (touched : ℕ → Type 0) (old 
   few l b below has room = omega (arith, (fs.within l b below has).1)
 
   -- k owns no block of another
-  apart : length old ≤ 65536 → (l b : ℕ) → l < inodes → l ≢ k → Contains (owned (entry inodes old l)) b → ¬ (Contains (owned (entry inodes new k)) b)
+  apart : length old ≤ 65536 → (l b : ℕ) → l < inodes → l ≢ k → Contains (owned (entry inodes old l)) b
+      → ¬ (Contains (owned (entry inodes new k)) b)
   apart room l b below other has here = elim (owns.source b here) [
     | inl before ↦ other (fs.one_owner l k b below low has before)
     | inr free ↦ false≢true (sym free ∙ was_marked b (few l b below has room) (inr (l, below, has)))
   ]
 
   module _ (room : length old ≤ 65536) where
-    one_owner : (l m b : ℕ) → l < inodes → m < inodes → Contains (owned (entry inodes new l)) b → Contains (owned (entry inodes new m)) b → l ≡ m
+    one_owner : (l m b : ℕ) → l < inodes → m < inodes → Contains (owned (entry inodes new l)) b → Contains (owned (entry inodes new m)) b
+        → l ≡ m
     one_owner l m b below under first second = elim (cases_eq l k) [
       | inl l_is ↦ elim (cases_eq m k) [
         | inl m_is ↦ l_is ∙ sym m_is
-        | inr m_other ↦ absurd (apart room m b under m_other (was_owned m b under m_other second) (subst (λ (n : ℕ). Contains (owned (entry inodes new n)) b) l_is first))
+        | inr m_other ↦ absurd (apart room m b under m_other (was_owned m b under m_other second)
+            (subst (λ (n : ℕ). Contains (owned (entry inodes new n)) b) l_is first))
       ]
       | inr l_other ↦ elim (cases_eq m k) [
-        | inl m_is ↦ absurd (apart room l b below l_other (was_owned l b below l_other first) (subst (λ (n : ℕ). Contains (owned (entry inodes new n)) b) m_is second))
+        | inl m_is ↦ absurd (apart room l b below l_other (was_owned l b below l_other first)
+            (subst (λ (n : ℕ). Contains (owned (entry inodes new n)) b) m_is second))
         | inr m_other ↦ fs.one_owner l m b below under (was_owned l b below l_other first) (was_owned m b under m_other second)
       ]
     ]
@@ -120,7 +130,8 @@ module _ (inodes k : ℕ) (inode slot : Octets) (touched : ℕ → Type 0) (old 
         | inr other ↦ subst (λ (e : Entry). IsFree e ⊎ IsFile e) (sym (others l below other)) (fs.each l below)
       ];
       within = λ l b below has. elim (cases_eq l k) [
-        | inl is ↦ let inside = owns.within b (subst (λ (n : ℕ). Contains (owned (entry inodes new n)) b) is has) in (inside.0, omega (arith, inside.1, puts.count))
+        | inl is ↦ let inside = owns.within b (subst (λ (n : ℕ). Contains (owned (entry inodes new n)) b) is has) in
+            (inside.0, omega (arith, inside.1, puts.count))
         | inr other ↦ let inside = fs.within l b below (was_owned l b below other has) in (inside.0, omega (arith, inside.1, puts.count))
       ];
       distinct = λ l below. elim (cases_eq l k) [
@@ -168,7 +179,8 @@ module _ (inodes k : ℕ) (inode slot : Octets) (touched : ℕ → Type 0) (old 
           absurd (omega (arith, free_kind (entry inodes new k) free, kind_is))
 
   -- the files after the change
-  pub reowned_makes : HasRoom inodes old → All (λ b. length b ≡ 4096) new → HasDistinctNames inodes new → (file : Option File) → file_at inodes new k ≡ file → Makes inodes (set (table inodes old) k file) new
+  pub reowned_makes : HasRoom inodes old → All (λ b. length b ≡ 4096) new → HasDistinctNames inodes new → (file : Option File)
+      → file_at inodes new k ≡ file → Makes inodes (set (table inodes old) k file) new
   reowned_makes room whole names file is = record {
     room = keeps_room inodes old new room puts.count whole;
     rule = reowned_rule room.count_few names;

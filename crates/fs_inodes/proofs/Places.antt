@@ -1,5 +1,6 @@
 -- Each octet of a file's content, and the blocks where they stand.
-use Rattle.std.proofs.Common.{◌≡◌, ◌≢◌, ◌<◌, ℕ, ◌+◌, ◌/◌, ◌%◌, cond, Bool, List, [], ◌∷◌, ◌++◌, length, get_or, map, sym, ◌∙◌, ap, arith, length-append}
+use Rattle.std.proofs.Common.{◌≡◌, ◌≢◌, ◌<◌, ℕ, ◌+◌, ◌/◌, ◌%◌, cond, Bool, List, [], ◌∷◌, ◌++◌, length, get_or, map, sym, ◌∙◌, ap, arith}
+use Rattle.std.proofs.Common.{length-append}
 use Rattle.std.specs.List.{All, Contains, range_with_len}
 use Rattle.std.proofs.lemmas.List.{get_or-append-add}
 use Rattle.std.proofs.lemmas.List.FromFn.{length-map-range_with_len, get_or-map-range_with_len}
@@ -16,8 +17,10 @@ first_of at octets =
     let none : at + 0 ≡ at = omega arith in
     get_or-part at 1 octets 0 0 (omega arith) ∙ ap (λ (n : ℕ). get_or octets n 0) none
 
-module _ (blocks : List Octets) (e : Entry) (whole : All (λ b. length b ≡ 4096) blocks) (within : (b : ℕ) → Contains (owned e) b → b < length blocks) where
-  pub get_or-content : (k : ℕ) → k < size e → get_or (content_of blocks e) k 0 ≡ get_or (get_or blocks (pointer e (k / 4096)) []) (k % 4096) 0
+module _ (blocks : List Octets) (e : Entry) (whole : All (λ b. length b ≡ 4096) blocks) (within : (b : ℕ) → Contains (owned e) b
+    → b < length blocks) where
+  pub get_or-content : (k : ℕ) → k < size e
+      → get_or (content_of blocks e) k 0 ≡ get_or (get_or blocks (pointer e (k / 4096)) []) (k % 4096) 0
   get_or-content k low =
       sym (first_of k (content_of blocks e))
       ∙ ap (λ (l : Octets). get_or l 0 0) (content_part blocks e whole within k 1 (omega arith) (omega arith) (omega arith))

@@ -1,5 +1,6 @@
 -- A file without octets goes.
-use Rattle.std.proofs.Common.{◌≡◌, inl, inr, ◌<◌, ℕ, ◌+◌, ◌/◌, cond, eqb, None, List, [], ◌∷◌, ◌++◌, length, map, set, replicate, refl, sym, ◌∙◌, ap, subst, arith}
+use Rattle.std.proofs.Common.{◌≡◌, inl, inr, ◌<◌, ℕ, ◌+◌, ◌/◌, cond, eqb, None, List, [], ◌∷◌, ◌++◌, length, map, set, replicate, refl, sym}
+use Rattle.std.proofs.Common.{◌∙◌, ap, subst, arith}
 use Rattle.std.specs.List.{All, Contains, range_with_len}
 use Rattle.std.proofs.lemmas.List.Elements.{All-replicate}
 use Rattle.std.proofs.lemmas.Bool.{cases_eq}
@@ -24,7 +25,9 @@ empty_owns e file empty =
 zeros_all : All (λ (o : ℕ). o ≡ 0) (replicate 64 0)
 zeros_all = All-replicate (λ o. o ≡ 0) 64 0 refl
 
-module _ (inodes k : ℕ) (a b c : List Octets) (room : HasRoom inodes a) (fs : IsFileSystem inodes a) (low : k < inodes) (file : IsFile (entry inodes a k)) (empty : size (entry inodes a k) ≡ 0) (first : PutsRecord 2 k (replicate 64 0) a b) (second : PutsRecord (2 + inodes / 64) k (replicate 64 0) b c) where
+module _ (inodes k : ℕ) (a b c : List Octets) (room : HasRoom inodes a) (fs : IsFileSystem inodes a) (low : k < inodes)
+    (file : IsFile (entry inodes a k)) (empty : size (entry inodes a k) ≡ 0) (first : PutsRecord 2 k (replicate 64 0) a b)
+    (second : PutsRecord (2 + inodes / 64) k (replicate 64 0) b c) where
   puts : PutsEntry inodes k (replicate 64 0) (replicate 64 0) (λ n. ⊥) a c
   puts =
       let inode = puts_inode inodes k (replicate 64 0) a b room.whole low first in
@@ -45,7 +48,8 @@ module _ (inodes k : ℕ) (a b c : List Octets) (room : HasRoom inodes a) (fs : 
   }
 
   none_before : (n : ℕ) → ¬ (Contains (owned (entry inodes a k)) n)
-  none_before n has = let none = subst (λ (o : List ℕ). Contains o n) (empty_owns (entry inodes a k) file empty) has in omega (arith, none.1)
+  none_before n has = let none = subst (λ (o : List ℕ). Contains o n) (empty_owns (entry inodes a k) file empty) has in
+      omega (arith, none.1)
 
   none_now : (n : ℕ) → ¬ (Contains (owned (entry inodes c k)) n)
   none_now n has = let none = subst (λ (o : List ℕ). Contains o n) (free_owns (entry inodes c k) free) has in omega (arith, none.1)
@@ -59,10 +63,12 @@ module _ (inodes k : ℕ) (a b c : List Octets) (room : HasRoom inodes a) (fs : 
     source = λ n has. absurd (none_now n has);
     taken = λ n has. absurd (none_now n has);
     left = λ n small had lacks. absurd (none_before n had);
-    same = λ n small had has. slot_keeps_marks inodes k (replicate 64 0) b c room.whole low second n small ∙ inode_keeps_marks inodes k (replicate 64 0) a b room.whole low first n small;
+    same = λ n small had has. slot_keeps_marks inodes k (replicate 64 0) b c room.whole low second n small
+        ∙ inode_keeps_marks inodes k (replicate 64 0) a b room.whole low first n small;
   }
 
   pub removes : Makes inodes (set (table inodes a) k None) c
   removes =
-      reowned_makes inodes k (replicate 64 0) (replicate 64 0) (λ n. ⊥) a c low fs puts owns room (second.whole (first.whole room.blocks_whole))
+      reowned_makes inodes k (replicate 64 0) (replicate 64 0) (λ n. ⊥) a c low fs puts owns room
+      (second.whole (first.whole room.blocks_whole))
       (names_left inodes k (replicate 64 0) (replicate 64 0) (λ n. ⊥) a c low fs puts owns free) None (file_at_free inodes c k free)

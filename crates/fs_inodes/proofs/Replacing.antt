@@ -1,5 +1,6 @@
 -- Another content of one file.
-use Rattle.std.proofs.Common.{◌≡◌, ◌≢◌, ◌⊎◌, inl, inr, ◌<◌, ℕ, Option, Some, None, List, length, get_or, set, refl, sym, ◌∙◌, ap, subst, arith}
+use Rattle.std.proofs.Common.{◌≡◌, ◌≢◌, ◌⊎◌, inl, inr, ◌<◌, ℕ, Option, Some, None, List, length, get_or, set, refl, sym, ◌∙◌, ap, subst}
+use Rattle.std.proofs.Common.{arith}
 use Rattle.std.specs.List.{All, Contains}
 use Rattle.std.proofs.lemmas.List.{set-set, get_or-set_same}
 use Rattle.std.proofs.lemmas.Bool.{cases_eq}
@@ -11,7 +12,10 @@ use Rattle.fs_layout.proofs.Entries.{length-content}
 use Rattle.fs_layout.proofs.Tables.{file_or, length-table, get_or-table, file_at_file, IsNamed, named_from_there, table_set}
 use Rattle.fs_layout.proofs.Keeps.{PutsEntry, entry_other, file_other, keeps_rule, keeps_room}
 
-module _ (inodes k : ℕ) (inode : Octets) (touched : ℕ → Type 0) (old new : List Octets) (room : HasRoom inodes old) (fs : IsFileSystem inodes old) (low : k < inodes) (file : IsFile (entry inodes old k)) (puts : PutsEntry inodes k inode (slot_of inodes old k) touched old new) (untouched : (l b : ℕ) → l < inodes → l ≢ k → Contains (owned (entry inodes old l)) b → ¬ (touched b)) (file' : IsFile (entry inodes new k)) where
+module _ (inodes k : ℕ) (inode : Octets) (touched : ℕ → Type 0) (old new : List Octets) (room : HasRoom inodes old)
+    (fs : IsFileSystem inodes old) (low : k < inodes) (file : IsFile (entry inodes old k))
+    (puts : PutsEntry inodes k inode (slot_of inodes old k) touched old new) (untouched : (l b : ℕ) → l < inodes → l ≢ k
+    → Contains (owned (entry inodes old l)) b → ¬ (touched b)) (file' : IsFile (entry inodes new k)) where
   others : (l : ℕ) → l < inodes → l ≢ k → entry inodes new l ≡ entry inodes old l
   others = entry_other inodes k inode (slot_of inodes old k) touched old new puts fs untouched
 
@@ -29,12 +33,15 @@ module _ (inodes k : ℕ) (inode : Octets) (touched : ℕ → Type 0) (old new :
 
   same_name : (l : ℕ) → l < inodes → name_in (slot_of inodes new l) ≡ name_in (slot_of inodes old l)
   same_name l below = elim (cases_eq l k) [
-    | inl same ↦ ap (λ (m : ℕ). name_in (slot_of inodes new m)) same ∙ ap name_in puts.slot_is ∙ sym (ap (λ (m : ℕ). name_in (slot_of inodes old m)) same)
+    | inl same ↦ ap (λ (m : ℕ). name_in (slot_of inodes new m)) same ∙ ap name_in puts.slot_is
+        ∙ sym (ap (λ (m : ℕ). name_in (slot_of inodes old m)) same)
     | inr other ↦ ap name_in (puts.slots_other l below other)
   ]
 
-  pub names_keep : (l m : ℕ) → l < inodes → m < inodes → IsFile (entry inodes new l) → IsFile (entry inodes new m) → name_in (slot_of inodes new l) ≡ name_in (slot_of inodes new m) → l ≡ m
-  names_keep l m below low' lf mf same = fs.names_distinct l m below low' (was_file l below lf) (was_file m low' mf) (sym (same_name l below) ∙ same ∙ same_name m low')
+  pub names_keep : (l m : ℕ) → l < inodes → m < inodes → IsFile (entry inodes new l) → IsFile (entry inodes new m)
+      → name_in (slot_of inodes new l) ≡ name_in (slot_of inodes new m) → l ≡ m
+  names_keep l m below low' lf mf same =
+      fs.names_distinct l m below low' (was_file l below lf) (was_file m low' mf) (sym (same_name l below) ∙ same ∙ same_name m low')
 
   -- the rule, where the file keeps its blocks
   pub rule_keeps : owned (entry inodes new k) ≡ owned (entry inodes old k) → SameMarks old new → IsFileSystem inodes new
@@ -47,7 +54,8 @@ module _ (inodes k : ℕ) (inode : Octets) (touched : ℕ → Type 0) (old new :
       marks.marks names_keep
 
   -- and so the file has this content
-  pub replaces : (content : Octets) → All (λ b. length b ≡ 4096) new → IsFileSystem inodes new → content ≡ content_of new (entry inodes new k) → ReplacesContent inodes k content old new
+  pub replaces : (content : Octets) → All (λ b. length b ≡ 4096) new → IsFileSystem inodes new
+      → content ≡ content_of new (entry inodes new k) → ReplacesContent inodes k content old new
   replaces content whole rule is = record {
     name = name_in (slot_of inodes old k);
     was = content_of old (entry inodes old k);
@@ -65,7 +73,9 @@ module _ (inodes k : ℕ) (inode : Octets) (touched : ℕ → Type 0) (old new :
 
 -- ---- what follows of it
 
-pub replaces_none : (inodes k : ℕ) (content : Octets) (blocks : List Octets) → HasRoom inodes blocks → IsFileSystem inodes blocks → k < inodes → IsFile (entry inodes blocks k) → content ≡ content_of blocks (entry inodes blocks k) → ReplacesContent inodes k content blocks blocks
+pub replaces_none : (inodes k : ℕ) (content : Octets) (blocks : List Octets) → HasRoom inodes blocks → IsFileSystem inodes blocks
+    → k < inodes → IsFile (entry inodes blocks k) → content ≡ content_of blocks (entry inodes blocks k)
+    → ReplacesContent inodes k content blocks blocks
 replaces_none inodes k content blocks room fs low file is = record {
   name = name_in (slot_of inodes blocks k);
   was = content_of blocks (entry inodes blocks k);
@@ -73,13 +83,16 @@ replaces_none inodes k content blocks room fs low file is = record {
   makes = record {
     room = room;
     rule = fs;
-    files_are = table_set inodes k blocks blocks (Some (record { name = name_in (slot_of inodes blocks k); content = content })) low (λ l below other. refl)
-        (file_at_file inodes blocks k file ∙ ap (λ (c : Octets). Some (record { name = name_in (slot_of inodes blocks k); content = c })) (sym is));
+    files_are = table_set inodes k blocks blocks (Some (record { name = name_in (slot_of inodes blocks k); content = content })) low
+        (λ l below other. refl)
+        (file_at_file inodes blocks k file
+        ∙ ap (λ (c : Octets). Some (record { name = name_in (slot_of inodes blocks k); content = c })) (sym is));
   };
 }
 
 -- another name for the same content
-pub replaces_same : (inodes k : ℕ) (c d : Octets) (a b : List Octets) → c ≡ d → ReplacesContent inodes k c a b → ReplacesContent inodes k d a b
+pub replaces_same : (inodes k : ℕ) (c d : Octets) (a b : List Octets) → c ≡ d → ReplacesContent inodes k c a b
+    → ReplacesContent inodes k d a b
 replaces_same inodes k c d a b same r = subst (λ (o : Octets). ReplacesContent inodes k o a b) same r
 
 module _ (inodes k : ℕ) (content : Octets) (old new : List Octets) (low : k < inodes) (r : ReplacesContent inodes k content old new) where
@@ -87,7 +100,8 @@ module _ (inodes k : ℕ) (content : Octets) (old new : List Octets) (low : k < 
   pub there_now : IsFileAt (table inodes new) k r.name content
   there_now =
       ap (λ (t : List (Option File)). get_or t k None) r.makes.files_are
-      ∙ get_or-set_same (table inodes old) k (Some (record { name = r.name; content = content })) None (omega (arith, length-table inodes old))
+      ∙ get_or-set_same (table inodes old) k (Some (record { name = r.name; content = content })) None
+      (omega (arith, length-table inodes old))
 
   pub named_now : IsNamed inodes new k r.name content
   named_now = named_from_there inodes new r.makes.rule k r.name content there_now
@@ -98,7 +112,8 @@ module _ (inodes k : ℕ) (content : Octets) (old new : List Octets) (low : k < 
       ∙ ap (λ (o : Octets). length o) (sym named_now.content_is)
 
   -- one change after the other
-  pub replaces_then : (content' : Octets) (newer : List Octets) → ReplacesContent inodes k content' new newer → ReplacesContent inodes k content' old newer
+  pub replaces_then : (content' : Octets) (newer : List Octets) → ReplacesContent inodes k content' new newer
+      → ReplacesContent inodes k content' old newer
   replaces_then content' newer s =
       let same : s.name ≡ r.name = ap (λ (o : Option File). (file_or o).name) (sym s.there ∙ there_now) in
       record {
@@ -111,7 +126,8 @@ module _ (inodes k : ℕ) (content : Octets) (old new : List Octets) (low : k < 
           files_are =
               s.makes.files_are
               ∙ ap (λ (t : List (Option File)). set t k (Some (record { name = s.name; content = content' }))) r.makes.files_are
-              ∙ set-set (table inodes old) k (Some (record { name = r.name; content = content })) (Some (record { name = s.name; content = content' }))
+              ∙ set-set (table inodes old) k (Some (record { name = r.name; content = content }))
+              (Some (record { name = s.name; content = content' }))
               ∙ ap (λ (n : Octets). set (table inodes old) k (Some (record { name = n; content = content' }))) same;
         };
       }

@@ -21,4 +21,8 @@ double_le m n le = elim (cases_lt 1 m) [
     is_none k few = ap (λ (b : Bool). cond b 1 0) (le-ltb 1 k few)
 
 pub blocks_for_le : (was size : ℕ) → was ≤ size → blocks_for was ≤ blocks_for size
-blocks_for_le was size le = omega (arith, le, double_le (indirect_for (content_blocks was)) (indirect_for (content_blocks size)) (omega (arith, le)))
+blocks_for_le was size le = omega (
+  arith,
+  le,
+  double_le (indirect_for (content_blocks was)) (indirect_for (content_blocks size)) (omega (arith, le)),
+)

@@ -9,7 +9,8 @@ overwritten_none at octets content =
     let none : at + 0 ≡ at = omega arith in
     ap (λ (n : ℕ). take at content ++ drop n content) none ∙ take-append-drop at content
 
-pub overwritten_more : (at n : ℕ) (front more content : Octets) → length front ≡ n → at + n ≤ length content → overwritten (at + n) more (overwritten at front content) ≡ overwritten at (front ++ more) content
+pub overwritten_more : (at n : ℕ) (front more content : Octets) → length front ≡ n → at + n ≤ length content
+    → overwritten (at + n) more (overwritten at front content) ≡ overwritten at (front ++ more) content
 overwritten_more at n front more content size fits =
     ap (λ (l : Octets). l ++ (more ++ drop (at + n + length more) (overwritten at front content))) kept
     ∙ ap (λ (l : Octets). take at content ++ front ++ (more ++ l)) rest
@@ -29,16 +30,19 @@ overwritten_more at n front more content size fits =
     rest : drop (at + n + length more) (overwritten at front content) ≡ drop (at + length front + length more) content
     rest =
         sym (drop-drop (length more) (at + n) (overwritten at front content))
-        ∙ ap (λ (l : Octets). drop (length more) l) (ap (λ (l : Octets). drop (at + n) l) parts ∙ drop_at (take at content ++ front) (drop (at + length front) content) (at + n) long)
+        ∙ ap (λ (l : Octets). drop (length more) l) (ap (λ (l : Octets). drop (at + n) l) parts
+        ∙ drop_at (take at content ++ front) (drop (at + length front) content) (at + n) long)
         ∙ drop-drop (length more) (at + length front) content
 
     all : at + length front + length more ≡ at + length (front ++ more)
     all = omega (arith, length-append front more)
 
 -- a write that goes on past the end
-pub overwritten_past : (at n : ℕ) (octets content : Octets) → length content ≡ at + n → n ≤ length octets → overwritten at (take n octets) content ++ drop n octets ≡ overwritten at octets content
+pub overwritten_past : (at n : ℕ) (octets content : Octets) → length content ≡ at + n → n ≤ length octets
+    → overwritten at (take n octets) content ++ drop n octets ≡ overwritten at octets content
 overwritten_past at n octets content size more =
-    ap (λ (l : Octets). take at content ++ (take n octets ++ l) ++ drop n octets) (drop_all (at + length (take n octets)) content (omega (arith, front)))
+    ap (λ (l : Octets). take at content ++ (take n octets ++ l) ++ drop n octets)
+    (drop_all (at + length (take n octets)) content (omega (arith, front)))
     ∙ ap (λ (l : Octets). take at content ++ l ++ drop n octets) (append-nil (take n octets))
     ∙ append_assoc (take at content) (take n octets) (drop n octets)
     ∙ ap (λ (l : Octets). take at content ++ l) (take-append-drop n octets ∙ sym (append-nil octets))

@@ -1,5 +1,7 @@
 -- The blocks that name blocks, while an inode gets more of them.
-use Rattle.std.proofs.Common.{◌≡◌, ◌≢◌, ◌⊎◌, inl, inr, ◌<◌, ◌≤◌, ℕ, zero, suc, ◌+◌, ◌-◌, ◌*◌, ◌/◌, ◌%◌, ◌^◌, cond, eqb, ltb, true, Bool, List, [], ◌∷◌, ◌++◌, length, get_or, map, replicate, refl, sym, ◌∙◌, ap, subst, arith, append_assoc, length-append}
+use Rattle.std.proofs.Common.{◌≡◌, ◌≢◌, ◌⊎◌, inl, inr, ◌<◌, ◌≤◌, ℕ, zero, suc, ◌+◌, ◌-◌, ◌*◌, ◌/◌, ◌%◌, ◌^◌, cond, eqb, ltb, true, Bool}
+use Rattle.std.proofs.Common.{List, [], ◌∷◌, ◌++◌, length, get_or, map, replicate, refl, sym, ◌∙◌, ap, subst, arith, append_assoc}
+use Rattle.std.proofs.Common.{length-append}
 use Rattle.std.specs.List.{All, Contains, range_with_len}
 use Rattle.std.proofs.lemmas.List.{append-nil}
 use Rattle.std.proofs.lemmas.List.Elements.{All-nil, All-replicate, Contains-append_right}
@@ -11,8 +13,10 @@ use Rattle.disk.proofs.Images.{length-overwritten}
 use Rattle.volume_format.proofs.Numbers.{number_at_apart, number_at_written}
 use Rattle.model.specs.Stream.{Octets}
 use Rattle.model.specs.Volume.{number_at}
-use Rattle.model.specs.Files.{Entry, double_blocks, double_pointer, indirect_for, indirect_of, indirect_pointer, pointer, is_marked_used, free_blocks}
-use Rattle.fs_inodes.specs.Growing.{AddsDouble, AddsTable, IsApart, IsTaken, NamesBlocks, PutsIndirect, TakesBlocks, TakesZeros, inode_entry, tables_to, with_double}
+use Rattle.model.specs.Files.{Entry, double_blocks, double_pointer, indirect_for, indirect_of, indirect_pointer, pointer, is_marked_used}
+use Rattle.model.specs.Files.{free_blocks}
+use Rattle.fs_inodes.specs.Growing.{AddsDouble, AddsTable, IsApart, IsTaken, NamesBlocks, PutsIndirect, TakesBlocks, TakesZeros}
+use Rattle.fs_inodes.specs.Growing.{inode_entry, tables_to, with_double}
 use Rattle.fs_layout.proofs.Entries.{zero_number}
 use Rattle.fs_layout.proofs.Keeps.{indirect_same, marks_same, same_entry}
 use Rattle.fs_inodes.proofs.Putting.{in_inode, in_block}
@@ -21,7 +25,8 @@ use Rattle.fs_inodes.proofs.Taking.{fresh_apart, fresh_taken, taken_still, takes
 pub map_same_below : (f g : ℕ → ℕ) (a n : ℕ) → ((i : ℕ) → i < a + n → f i ≡ g i) → map f (range_with_len a n) ≡ map g (range_with_len a n)
 map_same_below f g a zero same = refl
 map_same_below f g a (suc n) same =
-    ap (λ (y : ℕ). y ∷ map f (range_with_len (a + 1) n)) (same a (omega arith)) ∙ ap (λ (l : List ℕ). g a ∷ l) (map_same_below f g (a + 1) n (λ i low. same i (omega arith)))
+    ap (λ (y : ℕ). y ∷ map f (range_with_len (a + 1) n)) (same a (omega arith))
+    ∙ ap (λ (l : List ℕ). g a ∷ l) (map_same_below f g (a + 1) n (λ i low. same i (omega arith)))
 
 zeros_number : (at : ℕ) → number_at at 4 (replicate 4096 0) ≡ 0
 zeros_number at = zero_number at 4 (replicate 4096 0) (All-replicate (λ (o : ℕ). o ≡ 0) 4096 0 refl)
@@ -45,7 +50,8 @@ module _ (tables : ℕ) (e : Entry) (blocks : List Octets) (names : NamesBlocks 
   table_taken p some = elim (cases_lt p tables) [ inl low ↦ names.there p low | inr high ↦ absurd (some (names.none p high)) ]
 
   -- another entry that names the same
-  pub names_same : (f : Entry) (new : List Octets) → ((p : ℕ) → indirect_pointer f p ≡ indirect_pointer e p) → double_pointer f ≡ double_pointer e → ((b : ℕ) → IsTaken blocks b → IsTaken new b) → NamesBlocks tables f new
+  pub names_same : (f : Entry) (new : List Octets) → ((p : ℕ) → indirect_pointer f p ≡ indirect_pointer e p)
+      → double_pointer f ≡ double_pointer e → ((b : ℕ) → IsTaken blocks b → IsTaken new b) → NamesBlocks tables f new
   names_same f new same same_double keep = record {
     there = λ p low. subst (IsTaken new) (sym (same p)) (keep (indirect_pointer e p) (names.there p low));
     none = λ p high. same p ∙ names.none p high;
@@ -64,18 +70,25 @@ module _ (tables : ℕ) (e : Entry) (blocks : List Octets) (names : NamesBlocks 
     ];
   }
 
-pub entry_stays : (tables : ℕ) (inode : Octets) (old mid : List Octets) → NamesBlocks tables (inode_entry old inode) old → ((b : ℕ) → IsTaken old b → get_or mid b [] ≡ get_or old b []) → inode_entry mid inode ≡ inode_entry old inode
+pub entry_stays : (tables : ℕ) (inode : Octets) (old mid : List Octets) → NamesBlocks tables (inode_entry old inode) old
+    → ((b : ℕ) → IsTaken old b → get_or mid b [] ≡ get_or old b []) → inode_entry mid inode ≡ inode_entry old inode
 entry_stays tables inode old mid names same =
     same_entry old mid inode inode [] [] refl refl
-    (indirect_same old mid (number_at 56 4 inode) (λ some. same (number_at 56 4 inode) (double_taken tables (inode_entry old inode) old names some)))
-    (λ p. indirect_same old mid (indirect_pointer (inode_entry old inode) p) (λ some. same (indirect_pointer (inode_entry old inode) p) (table_taken tables (inode_entry old inode) old names p some)))
+    (indirect_same old mid (number_at 56 4 inode)
+    (λ some. same (number_at 56 4 inode) (double_taken tables (inode_entry old inode) old names some)))
+    (λ p. indirect_same old mid (indirect_pointer (inode_entry old inode) p)
+    (λ some. same (indirect_pointer (inode_entry old inode) p) (table_taken tables (inode_entry old inode) old names p some)))
 
-pub names_stay : (tables : ℕ) (inode : Octets) (old mid : List Octets) → NamesBlocks tables (inode_entry old inode) old → ((b : ℕ) → IsTaken old b → get_or mid b [] ≡ get_or old b []) → ((b : ℕ) → IsTaken old b → IsTaken mid b) → NamesBlocks tables (inode_entry mid inode) mid
+pub names_stay : (tables : ℕ) (inode : Octets) (old mid : List Octets) → NamesBlocks tables (inode_entry old inode) old
+    → ((b : ℕ) → IsTaken old b → get_or mid b [] ≡ get_or old b []) → ((b : ℕ) → IsTaken old b → IsTaken mid b)
+    → NamesBlocks tables (inode_entry mid inode) mid
 names_stay tables inode old mid names same keep =
-    names_same tables (inode_entry old inode) old names (inode_entry mid inode) mid (λ p. ap (λ (e : Entry). indirect_pointer e p) (entry_stays tables inode old mid names same)) refl keep
+    names_same tables (inode_entry old inode) old names (inode_entry mid inode) mid
+    (λ p. ap (λ (e : Entry). indirect_pointer e p) (entry_stays tables inode old mid names same)) refl keep
 
 -- a block that the inode does not name gets zeros
-module _ (tables number : ℕ) (inode : Octets) (old mid : List Octets) (few : length old ≤ 65536) (names : NamesBlocks tables (inode_entry old inode) old) (zeros : TakesZeros number old mid) where
+module _ (tables number : ℕ) (inode : Octets) (old mid : List Octets) (few : length old ≤ 65536)
+    (names : NamesBlocks tables (inode_entry old inode) old) (zeros : TakesZeros number old mid) where
   zeros_same : (b : ℕ) → IsTaken old b → get_or mid b [] ≡ get_or old b []
   zeros_same b taken = zeros.blocks b taken.some (fresh_apart (number ∷ []) old mid zeros.takes number b (0, omega arith, refl) taken)
 
@@ -102,7 +115,8 @@ adds_no_double p inode old other = record {
   blocks = λ b some apart. refl;
 }
 
-module _ (number : ℕ) (inode : Octets) (old mid : List Octets) (size : length inode ≡ 64) (few : length old ≤ 65536) (reserved : (b : ℕ) → b < 2 → is_marked_used old b ≡ true) (names : NamesBlocks 1 (inode_entry old inode) old) (zeros : TakesZeros number old mid) where
+module _ (number : ℕ) (inode : Octets) (old mid : List Octets) (size : length inode ≡ 64) (few : length old ≤ 65536) (reserved : (b : ℕ)
+    → b < 2 → is_marked_used old b ≡ true) (names : NamesBlocks 1 (inode_entry old inode) old) (zeros : TakesZeros number old mid) where
   abbrev with_number : Octets
   with_number = overwritten 56 (little_bytes 4 number) inode
 
@@ -126,9 +140,11 @@ module _ (number : ℕ) (inode : Octets) (old mid : List Octets) (size : length 
 
   same_numbers : (q : ℕ) → indirect_pointer (inode_entry mid with_number) q ≡ indirect_pointer (inode_entry old inode) q
   same_numbers q =
-      ap (λ (m : ℕ). cond (eqb q 0) m (number_at (4 * (q - 1)) 4 (indirect_of mid (number_at 56 4 with_number)))) (before_is 52 4 (omega arith))
+      ap (λ (m : ℕ). cond (eqb q 0) m (number_at (4 * (q - 1)) 4 (indirect_of mid (number_at 56 4 with_number))))
+      (before_is 52 4 (omega arith))
       ∙ ap (λ (m : ℕ). cond (eqb q 0) (number_at 52 4 inode) m)
-      (ap (number_at (4 * (q - 1)) 4) octets_now ∙ zeros_number (4 * (q - 1)) ∙ sym (ap (number_at (4 * (q - 1)) 4) octets_were ∙ none_number (4 * (q - 1))))
+      (ap (number_at (4 * (q - 1)) 4) octets_now ∙ zeros_number (4 * (q - 1))
+      ∙ sym (ap (number_at (4 * (q - 1)) 4) octets_were ∙ none_number (4 * (q - 1))))
 
   pub adds_double : AddsDouble 1 inode (overwritten 56 (little_bytes 4 number) inode) old mid
   adds_double = record {
@@ -139,7 +155,8 @@ module _ (number : ℕ) (inode : Octets) (old mid : List Octets) (size : length 
     octets = λ q.
         ap (indirect_of mid) (same_numbers q)
         ∙ indirect_same old mid (indirect_pointer (inode_entry old inode) q) (λ named.
-        zeros_same 1 number inode old mid few names zeros (indirect_pointer (inode_entry old inode) q) (table_taken 1 (inode_entry old inode) old names q named));
+        zeros_same 1 number inode old mid few names zeros (indirect_pointer (inode_entry old inode) q)
+        (table_taken 1 (inode_entry old inode) old names q named));
     head = before_is;
     tail = λ a w behind. number_at_apart 56 (little_bytes 4 number) inode (omega (arith, size)) a w (inr (omega (arith, behind)));
     doubles = number ∷ [];
@@ -150,7 +167,8 @@ module _ (number : ℕ) (inode : Octets) (old mid : List Octets) (size : length 
 
 -- ---- a block of pointers
 
-module _ (i : ℕ) (inode : Octets) (old : List Octets) (other : i % 1024 ≢ 10) (names : NamesBlocks (indirect_for i) (inode_entry old inode) old) where
+module _ (i : ℕ) (inode : Octets) (old : List Octets) (other : i % 1024 ≢ 10)
+    (names : NamesBlocks (indirect_for i) (inode_entry old inode) old) where
   same_count : indirect_for i ≡ indirect_for (i + 1)
   same_count = omega (arith, other)
 
@@ -168,13 +186,16 @@ module _ (i : ℕ) (inode : Octets) (old : List Octets) (other : i % 1024 ≢ 10
     doubles = [];
     doubles_are = sym (append-nil (double_blocks (inode_entry old inode)));
     tables = [];
-    tables_are = ap (tables_to (inode_entry old inode)) (sym same_count) ∙ sym (append-nil (tables_to (inode_entry old inode) (indirect_for i)));
+    tables_are = ap (tables_to (inode_entry old inode)) (sym same_count)
+        ∙ sym (append-nil (tables_to (inode_entry old inode) (indirect_for i)));
     takes = takes_none old;
     fewer = ap (λ (n : ℕ). free_blocks old + with_double n) (sym same_count);
     blocks = λ b some apart second. refl;
   }
 
-module _ (i p table : ℕ) (inode inode1 : Octets) (old mid then : List Octets) (few : length old ≤ 65536) (reserved : (b : ℕ) → b < 2 → is_marked_used old b ≡ true) (is : i ≡ 1024 * p + 10) (named : NamesBlocks (indirect_for i) (inode_entry old inode) old) (zeros : TakesZeros table old mid) (double : AddsDouble p inode inode1 mid then) where
+module _ (i p table : ℕ) (inode inode1 : Octets) (old mid then : List Octets) (few : length old ≤ 65536) (reserved : (b : ℕ) → b < 2
+    → is_marked_used old b ≡ true) (is : i ≡ 1024 * p + 10) (named : NamesBlocks (indirect_for i) (inode_entry old inode) old)
+    (zeros : TakesZeros table old mid) (double : AddsDouble p inode inode1 mid then) where
   count_is : indirect_for i ≡ p
   count_is = omega (arith, is)
 
@@ -205,12 +226,14 @@ module _ (i p table : ℕ) (inode inode1 : Octets) (old mid then : List Octets) 
   -- a block taken before is not the double-indirect block, if that is new
   not_double : (b : ℕ) → IsTaken mid b → p ≡ 1 → double.doubles ≡ number_at 56 4 inode1 ∷ [] → b ≢ number_at 56 4 inode1
   not_double b taken one are =
-      fresh_apart double.doubles mid then double.takes (number_at 56 4 inode1) b (subst (λ (l : List ℕ). Contains l (number_at 56 4 inode1)) (sym are) (0, omega arith, refl)) taken
+      fresh_apart double.doubles mid then double.takes (number_at 56 4 inode1) b
+      (subst (λ (l : List ℕ). Contains l (number_at 56 4 inode1)) (sym are) (0, omega arith, refl)) taken
 
   table_apart : table ≢ number_at 56 4 inode1
   table_apart = elim double.double [
     | inl stays ↦ elim (cases_lt 1 p) [
-      | inl more ↦ λ same. fresh_apart (table ∷ []) old mid zeros.takes table (number_at 56 4 inode) (0, omega arith, refl) (names.double more) (sym stays.2 ∙ sym same)
+      | inl more ↦ λ same. fresh_apart (table ∷ []) old mid zeros.takes table (number_at 56 4 inode) (0, omega arith, refl)
+          (names.double more) (sym stays.2 ∙ sym same)
       | inr less ↦ λ same. absurd (let none = names.no_double less in omega (arith, none, table_mid.some, same, stays.2))
     ]
     | inr comes ↦ not_double table table_mid comes.0 comes.1
@@ -219,14 +242,16 @@ module _ (i p table : ℕ) (inode inode1 : Octets) (old mid then : List Octets) 
   tables_apart : (q : ℕ) → q < p → indirect_pointer (inode_entry old inode) q ≢ number_at 56 4 inode1
   tables_apart q low = elim double.double [
     | inl stays ↦ λ same. names.apart q low (same ∙ stays.2)
-    | inr comes ↦ not_double (indirect_pointer (inode_entry old inode) q) (to_mid (indirect_pointer (inode_entry old inode) q) (names.there q low)) comes.0 comes.1
+    | inr comes ↦ not_double (indirect_pointer (inode_entry old inode) q)
+        (to_mid (indirect_pointer (inode_entry old inode) q) (names.there q low)) comes.0 comes.1
   ]
 
   -- what the next call requires
   pub double_there : 0 < p → (2 ≤ number_at 56 4 inode1) × (number_at 56 4 inode1 < length then)
   double_there some = elim double.double [
     | inl stays ↦
-        let taken = subst (IsTaken then) (sym stays.2) (to_then (number_at 56 4 inode) (to_mid (number_at 56 4 inode) (names.double (omega (arith, some, stays.0))))) in
+        let taken = subst (IsTaken then) (sym stays.2)
+        (to_then (number_at 56 4 inode) (to_mid (number_at 56 4 inode) (names.double (omega (arith, some, stays.0))))) in
         (taken.some, taken.there)
     | inr comes ↦ (comes.2.some, comes.2.there)
   ]
@@ -234,7 +259,8 @@ module _ (i p table : ℕ) (inode inode1 : Octets) (old mid then : List Octets) 
   pub double_apart : 0 < p → (q : ℕ) → q ≢ p → indirect_pointer (inode_entry then inode1) q ≢ number_at 56 4 inode1
   double_apart some q other same = elim (cases_lt q p) [
     | inl low ↦ tables_apart q low (sym (then_number q) ∙ same)
-    | inr high ↦ absurd (let none = names.none q high in let is = then_number q in let there = (double_there some).0 in omega (arith, none, is, there, same))
+    | inr high ↦ absurd (let none = names.none q high in let is = then_number q in let there = (double_there some).0 in
+        omega (arith, none, is, there, same))
   ]
 
   module _ (inode2 : Octets) (new : List Octets) (puts : PutsIndirect p table inode1 inode2 then new) where
@@ -264,7 +290,8 @@ module _ (i p table : ℕ) (inode inode1 : Octets) (old mid then : List Octets) 
 
     same_pointer : (j : ℕ) → pointer f j ≡ pointer e j
     same_pointer j = elim (cases_lt j 10) [
-      | inl low ↦ in_inode new inode2 j low ∙ puts.head (12 + 4 * j) 4 (omega (arith, low)) ∙ double.head (12 + 4 * j) 4 (omega (arith, low)) ∙ sym (in_inode old inode j low)
+      | inl low ↦ in_inode new inode2 j low ∙ puts.head (12 + 4 * j) 4 (omega (arith, low))
+          ∙ double.head (12 + 4 * j) 4 (omega (arith, low)) ∙ sym (in_inode old inode j low)
       | inr high ↦
           in_block new inode2 j high
           ∙ elim (cases_eq ((j - 10) / 1024) p) [
@@ -320,11 +347,14 @@ module _ (i p table : ℕ) (inode inode1 : Octets) (old mid then : List Octets) 
       differ = λ q r low_q low_r same. elim (cases_eq q p) [
         | inl q_is ↦ elim (cases_eq r p) [
           | inl r_is ↦ q_is ∙ sym r_is
-          | inr r_other ↦ absurd (was_apart r (below r low_r r_other) (sym (same_number r r_other) ∙ sym same ∙ ap (indirect_pointer f) q_is ∙ puts.here))
+          | inr r_other ↦ absurd (was_apart r (below r low_r r_other) (sym (same_number r r_other) ∙ sym same ∙ ap (indirect_pointer f) q_is
+              ∙ puts.here))
         ]
         | inr q_other ↦ elim (cases_eq r p) [
-          | inl r_is ↦ absurd (was_apart q (below q low_q q_other) (sym (same_number q q_other) ∙ same ∙ ap (indirect_pointer f) r_is ∙ puts.here))
-          | inr r_other ↦ names.differ q r (below q low_q q_other) (below r low_r r_other) (sym (same_number q q_other) ∙ same ∙ same_number r r_other)
+          | inl r_is ↦ absurd (was_apart q (below q low_q q_other) (sym (same_number q q_other) ∙ same ∙ ap (indirect_pointer f) r_is
+              ∙ puts.here))
+          | inr r_other ↦ names.differ q r (below q low_q q_other) (below r low_r r_other) (sym (same_number q q_other) ∙ same
+              ∙ same_number r r_other)
         ]
       ];
       double = λ more. subst (IsTaken new) (sym double_is) (elim double.double [
@@ -348,9 +378,12 @@ module _ (i p table : ℕ) (inode inode1 : Octets) (old mid then : List Octets) 
           ∙ sym (append-nil (double_blocks e))
           ∙ ap (λ (l : List ℕ). double_blocks e ++ l) (sym stays.1)
       | inr comes ↦
-          let was : double_blocks e ≡ [] = ap (λ (t : Bool). cond t [] (number_at 56 4 inode ∷ [])) (eq-eqb (number_at 56 4 inode) 0 (names.no_double (omega (arith, comes.0)))) in
+          let was : double_blocks e ≡ [] =
+          ap (λ (t : Bool). cond t [] (number_at 56 4 inode ∷ []))
+          (eq-eqb (number_at 56 4 inode) 0 (names.no_double (omega (arith, comes.0)))) in
           ap (λ (m : ℕ). cond (eqb m 0) [] (m ∷ [])) double_is
-          ∙ ap (λ (t : Bool). cond t [] (number_at 56 4 inode1 ∷ [])) (ne_eqb (number_at 56 4 inode1) 0 (λ none. absurd (omega (arith, none, comes.2.some))))
+          ∙ ap (λ (t : Bool). cond t [] (number_at 56 4 inode1 ∷ []))
+          (ne_eqb (number_at 56 4 inode1) 0 (λ none. absurd (omega (arith, none, comes.2.some))))
           ∙ sym comes.1
           ∙ ap (λ (l : List ℕ). l ++ double.doubles) (sym was)
     ]
@@ -358,7 +391,9 @@ module _ (i p table : ℕ) (inode inode1 : Octets) (old mid then : List Octets) 
     tables_new : tables_to f (p + 1) ≡ tables_to e p ++ table ∷ []
     tables_new =
         map-range_with_len_more (λ q. indirect_pointer f q) 0 p p (omega arith)
-        ∙ ap (λ (l : List ℕ). l ++ indirect_pointer f p ∷ []) (map_same_below (λ q. indirect_pointer f q) (λ q. indirect_pointer e q) 0 p (λ q low. same_number q (λ here. absurd (omega (arith, here, low)))))
+        ∙ ap (λ (l : List ℕ). l ++ indirect_pointer f p ∷ [])
+        (map_same_below (λ q. indirect_pointer f q) (λ q. indirect_pointer e q) 0 p
+        (λ q low. same_number q (λ here. absurd (omega (arith, here, low)))))
         ∙ ap (λ (m : ℕ). tables_to e p ++ m ∷ []) puts.here
 
     fewer_new : free_blocks new + with_double (p + 1) ≡ free_blocks old + with_double p
@@ -370,14 +405,18 @@ module _ (i p table : ℕ) (inode inode1 : Octets) (old mid then : List Octets) 
               let none : length double.doubles ≡ 0 = ap (λ (l : List ℕ). length l) stays.1 in
               let tests : cond {A = ℕ} (ltb 1 (p + 1)) 1 0 ≡ cond (ltb 1 p) 1 0 = (elim (cases_lt 1 p) [
                 | inl more ↦ ap (λ (t : Bool). cond {A = ℕ} t 1 0) (lt-ltb 1 (p + 1) (omega (arith, more)) ∙ sym (lt-ltb 1 p more))
-                | inr few_p ↦ ap (λ (t : Bool). cond {A = ℕ} t 1 0) (le-ltb 1 (p + 1) (omega (arith, few_p, stays.0)) ∙ sym (le-ltb 1 p few_p))
+                | inr few_p ↦ ap (λ (t : Bool). cond {A = ℕ} t 1 0) (le-ltb 1 (p + 1) (omega (arith, few_p, stays.0))
+                    ∙ sym (le-ltb 1 p few_p))
               ]) in
-              sums (free_blocks new) (free_blocks old) p (length double.doubles) (length (double.doubles ++ table ∷ [])) (cond (ltb 1 (p + 1)) 1 0) (cond (ltb 1 p) 1 0) less long (omega (arith, none, tests))
+              sums (free_blocks new) (free_blocks old) p (length double.doubles) (length (double.doubles ++ table ∷ []))
+              (cond (ltb 1 (p + 1)) 1 0) (cond (ltb 1 p) 1 0) less long (omega (arith, none, tests))
           | inr comes ↦
               let one : length double.doubles ≡ 1 = ap (λ (l : List ℕ). length l) comes.1 in
-              let now : cond {A = ℕ} (ltb 1 (p + 1)) 1 0 ≡ 1 = ap (λ (t : Bool). cond {A = ℕ} t 1 0) (lt-ltb 1 (p + 1) (omega (arith, comes.0))) in
+              let now : cond {A = ℕ} (ltb 1 (p + 1)) 1 0 ≡ 1 =
+              ap (λ (t : Bool). cond {A = ℕ} t 1 0) (lt-ltb 1 (p + 1) (omega (arith, comes.0))) in
               let was : cond {A = ℕ} (ltb 1 p) 1 0 ≡ 0 = ap (λ (t : Bool). cond {A = ℕ} t 1 0) (le-ltb 1 p (omega (arith, comes.0))) in
-              sums (free_blocks new) (free_blocks old) p (length double.doubles) (length (double.doubles ++ table ∷ [])) (cond (ltb 1 (p + 1)) 1 0) (cond (ltb 1 p) 1 0) less long (omega (arith, one, now, was))
+              sums (free_blocks new) (free_blocks old) p (length double.doubles) (length (double.doubles ++ table ∷ []))
+              (cond (ltb 1 (p + 1)) 1 0) (cond (ltb 1 p) 1 0) less long (omega (arith, one, now, was))
         ]
       where
         sums : (a b p d l x y : ℕ) → a + l ≡ b → l ≡ d + 1 → x ≡ d + y → a + (p + 1 + x) ≡ b + (p + y)
@@ -405,7 +444,8 @@ module _ (i p table : ℕ) (inode inode1 : Octets) (old mid then : List Octets) 
       tables = table ∷ [];
       tables_are = ap (tables_to f) count_then ∙ tables_new ∙ ap (λ (n : ℕ). tables_to e n ++ table ∷ []) (sym count_is);
       takes = all_taken;
-      fewer = ap (λ (n : ℕ). free_blocks new + with_double n) count_then ∙ fewer_new ∙ ap (λ (n : ℕ). free_blocks old + with_double n) (sym count_is);
+      fewer = ap (λ (n : ℕ). free_blocks new + with_double n) count_then ∙ fewer_new
+          ∙ ap (λ (n : ℕ). free_blocks old + with_double n) (sym count_is);
       blocks = λ b some apart second.
           let place : (i - 10) / 1024 ≡ p = omega (arith, is) in
           puts.blocks b (λ same. apart (same ∙ sym double_is)) ∙ double.blocks b some (λ same. apart (same ∙ sym double_is))

@@ -14,7 +14,8 @@ pub record PutsData (inodes : ℕ) (touched : ℕ → Type 0) (old new : List Oc
   pub blocks : (n : ℕ) → 2 ≤ n → ¬ (touched n) → get_or new n [] ≡ get_or old n []
   pub above : (n : ℕ) → touched n → first_data inodes ≤ n
 
-pub puts_both : (inodes : ℕ) (touched : ℕ → Type 0) (a b c : List Octets) → PutsData inodes touched a b → PutsData inodes touched b c → PutsData inodes touched a c
+pub puts_both : (inodes : ℕ) (touched : ℕ → Type 0) (a b c : List Octets) → PutsData inodes touched a b → PutsData inodes touched b c
+    → PutsData inodes touched a c
 puts_both inodes touched a b c first second = record {
   count = second.count ∙ first.count;
   whole = λ all. second.whole (first.whole all);
@@ -23,21 +24,28 @@ puts_both inodes touched a b c first second = record {
 }
 
 -- and then an inode
-pub puts_then_inode : (inodes k : ℕ) (inode : Octets) (touched : ℕ → Type 0) (a b c : List Octets) → HasRoom inodes a → k < inodes → PutsData inodes touched a b → PutsRecord 2 k inode b c → PutsEntry inodes k inode (slot_of inodes a k) touched a c
+pub puts_then_inode : (inodes k : ℕ) (inode : Octets) (touched : ℕ → Type 0) (a b c : List Octets) → HasRoom inodes a → k < inodes
+    → PutsData inodes touched a b → PutsRecord 2 k inode b c → PutsEntry inodes k inode (slot_of inodes a k) touched a c
 puts_then_inode inodes k inode touched a b c room low first second =
     let then = puts_inode inodes k inode b c room.whole low second in
     record {
       count = second.count ∙ first.count;
       inode_is = then.inode_is;
       slot_is = then.slot_is ∙ slot k low;
-      inodes_other = λ l below other. then.inodes_other l below other ∙ ap (λ (o : Octets). part (l % 64 * 64) 64 o) (first.blocks (2 + l / 64) (omega arith) (λ is. let high = first.above (2 + l / 64) is in omega (arith, room.whole)));
+      inodes_other = λ l below other. then.inodes_other l below other
+          ∙ ap (λ (o : Octets). part (l % 64 * 64) 64 o)
+          (first.blocks (2 + l / 64) (omega arith) (λ is. let high = first.above (2 + l / 64) is in omega (arith, room.whole)));
       slots_other = λ l below other. then.slots_other l below other ∙ slot l below;
       data_same = λ n high apart. then.data_same n high (λ none. none) ∙ first.blocks n (omega arith) apart;
     }
   where
     slot : (l : ℕ) → l < inodes → slot_of inodes b l ≡ slot_of inodes a l
-    slot l below = ap (λ (o : Octets). part (l % 64 * 64) 64 o) (first.blocks (2 + inodes / 64 + l / 64) (omega arith) (λ is. let high = first.above (2 + inodes / 64 + l / 64) is in omega (arith, room.whole)))
+    slot l below = ap (λ (o : Octets). part (l % 64 * 64) 64 o)
+        (first.blocks (2 + inodes / 64 + l / 64) (omega arith) (λ is. let high = first.above (2 + inodes / 64 + l / 64) is in
+        omega (arith, room.whole)))
 
 -- what another entry owns is none of these
-pub untouched_by : (inodes k : ℕ) (old : List Octets) → IsFileSystem inodes old → k < inodes → (n : ℕ) → Contains (owned (entry inodes old k)) n → (l b : ℕ) → l < inodes → l ≢ k → Contains (owned (entry inodes old l)) b → ¬ (b ≡ n)
-untouched_by inodes k old fs low n owns l b below other has is = other (fs.one_owner l k b below low has (subst (λ (m : ℕ). Contains (owned (entry inodes old k)) m) (sym is) owns))
+pub untouched_by : (inodes k : ℕ) (old : List Octets) → IsFileSystem inodes old → k < inodes → (n : ℕ)
+    → Contains (owned (entry inodes old k)) n → (l b : ℕ) → l < inodes → l ≢ k → Contains (owned (entry inodes old l)) b → ¬ (b ≡ n)
+untouched_by inodes k old fs low n owns l b below other has is =
+    other (fs.one_owner l k b below low has (subst (λ (m : ℕ). Contains (owned (entry inodes old k)) m) (sym is) owns))

@@ -1,5 +1,6 @@
 -- An inode loses its last pointer, and the blocks of pointers that only that pointer needed.
-use Rattle.std.proofs.Common.{◌≡◌, ◌≢◌, ◌⊎◌, inl, inr, ◌<◌, ◌≤◌, ℕ, zero, suc, ◌+◌, ◌-◌, ◌*◌, ◌/◌, ◌%◌, cond, eqb, Bool, false, List, [], ◌∷◌, ◌++◌, length, map, refl, sym, ◌∙◌, ap, subst, arith}
+use Rattle.std.proofs.Common.{◌≡◌, ◌≢◌, ◌⊎◌, inl, inr, ◌<◌, ◌≤◌, ℕ, zero, suc, ◌+◌, ◌-◌, ◌*◌, ◌/◌, ◌%◌, cond, eqb, Bool, false, List, []}
+use Rattle.std.proofs.Common.{◌∷◌, ◌++◌, length, map, refl, sym, ◌∙◌, ap, subst, arith}
 use Rattle.std.specs.List.{Contains, range_with_len}
 use Rattle.std.proofs.lemmas.List.{append-nil}
 use Rattle.std.proofs.lemmas.List.Elements.{Contains-append_cases, Contains-append_left, Contains-append_right}
@@ -26,7 +27,9 @@ one_number n b (suc k, low, is) = absurd (omega arith)
 
 -- ---- a block of pointers is dropped
 
-module _ (p : ℕ) (inode : Octets) (old mid : List Octets) (few : length old ≤ 65536) (size : length inode ≡ 64) (names : NamesBlocks (p + 1) (inode_entry old inode) old) (first : SetsMark (indirect_pointer (inode_entry old inode) p) false old mid) where
+module _ (p : ℕ) (inode : Octets) (old mid : List Octets) (few : length old ≤ 65536) (size : length inode ≡ 64)
+    (names : NamesBlocks (p + 1) (inode_entry old inode) old)
+    (first : SetsMark (indirect_pointer (inode_entry old inode) p) false old mid) where
   abbrev e : Entry
   e = inode_entry old inode
 
@@ -42,7 +45,8 @@ module _ (p : ℕ) (inode : Octets) (old mid : List Octets) (few : length old �
   pub double_apart : 0 < p → (q : ℕ) → q ≢ p → indirect_pointer (inode_entry mid inode) q ≢ number_at 56 4 inode
   double_apart some q other same = elim (cases_lt q (p + 1)) [
     | inl low ↦ names.apart q low (sym is ∙ same)
-    | inr high ↦ absurd (let none = names.none q high in let there = (names.double (omega (arith, some))).some in omega (arith, none, there, is, same))
+    | inr high ↦ absurd (let none = names.none q high in let there = (names.double (omega (arith, some))).some in
+        omega (arith, none, there, is, same))
   ]
     where
       is : indirect_pointer (inode_entry mid inode) q ≡ indirect_pointer (inode_entry old inode) q
@@ -89,14 +93,17 @@ module _ (p : ℕ) (inode : Octets) (old mid : List Octets) (few : length old �
     before_is a w before = number_at_apart 56 (little_bytes 4 0) inode (omega (arith, size)) a w (inl before)
 
     none_named : (q : ℕ) → q ≢ 0 → indirect_pointer f q ≡ 0
-    none_named q some = in_double then without q some ∙ ap (number_at (4 * (q - 1)) 4) (no_block then (number_at 56 4 without) zeroed) ∙ none_number (4 * (q - 1))
+    none_named q some = in_double then without q some ∙ ap (number_at (4 * (q - 1)) 4) (no_block then (number_at 56 4 without) zeroed)
+        ∙ none_number (4 * (q - 1))
 
     same_number : (q : ℕ) → q ≢ p → indirect_pointer f q ≡ indirect_pointer e q
     same_number q other = elim (cases_eq q 0) [
       | inl none ↦
-          ap (λ (t : Bool). cond t (number_at 52 4 without) (number_at (4 * (q - 1)) 4 (indirect_of then (number_at 56 4 without)))) (eq-eqb q 0 none)
+          ap (λ (t : Bool). cond t (number_at 52 4 without) (number_at (4 * (q - 1)) 4 (indirect_of then (number_at 56 4 without))))
+          (eq-eqb q 0 none)
           ∙ before_is 52 4 (omega arith)
-          ∙ sym (ap (λ (t : Bool). cond t (number_at 52 4 inode) (number_at (4 * (q - 1)) 4 (indirect_of old (number_at 56 4 inode)))) (eq-eqb q 0 none))
+          ∙ sym (ap (λ (t : Bool). cond t (number_at 52 4 inode) (number_at (4 * (q - 1)) 4 (indirect_of old (number_at 56 4 inode))))
+          (eq-eqb q 0 none))
       | inr some ↦ none_named q some ∙ sym (names.none q (omega (arith, some, other, one)))
     ]
 
@@ -111,7 +118,8 @@ module _ (p : ℕ) (inode : Octets) (old mid : List Octets) (few : length old �
       other = same_number;
       octets = λ q other.
           ap (indirect_of then) (same_number q other)
-          ∙ indirect_same old then (indirect_pointer e q) (λ named. let some = (table_taken (p + 1) e old names q named).some in second.blocks (indirect_pointer e q) some ∙ first.blocks (indirect_pointer e q) some);
+          ∙ indirect_same old then (indirect_pointer e q) (λ named. let some = (table_taken (p + 1) e old names q named).some in
+          second.blocks (indirect_pointer e q) some ∙ first.blocks (indirect_pointer e q) some);
       doubles = number_at 56 4 inode ∷ [];
       double = inr (one, refl, zeroed);
       gives_up = record {
@@ -131,7 +139,8 @@ module _ (p : ℕ) (inode : Octets) (old mid : List Octets) (few : length old �
 
 -- ---- the last pointer is dropped
 
-module _ (i : ℕ) (inode inode' : Octets) (old new : List Octets) (names : NamesBlocks (indirect_for (i + 1)) (inode_entry old inode) old) where
+module _ (i : ℕ) (inode inode' : Octets) (old new : List Octets)
+    (names : NamesBlocks (indirect_for (i + 1)) (inode_entry old inode) old) where
   abbrev was : Entry
   was = inode_entry old inode
 
@@ -174,7 +183,8 @@ module _ (i : ℕ) (inode inode' : Octets) (old new : List Octets) (names : Name
     }
 
   -- its block of pointers is dropped too
-  module _ (p : ℕ) (is : i ≡ 1024 * p + 10) (last : (j : ℕ) → i < j → pointer (inode_entry old inode) j ≡ 0) (drop : DropsTable p inode inode' old new) where
+  module _ (p : ℕ) (is : i ≡ 1024 * p + 10) (last : (j : ℕ) → i < j → pointer (inode_entry old inode) j ≡ 0)
+      (drop : DropsTable p inode inode' old new) where
     count_is : indirect_for i ≡ p
     count_is = omega (arith, is)
 
@@ -197,7 +207,8 @@ module _ (i : ℕ) (inode inode' : Octets) (old new : List Octets) (names : Name
       | inl low ↦ in_inode new inode' j low ∙ drop.head (12 + 4 * j) 4 (omega (arith, low)) ∙ sym (in_inode old inode j low)
       | inr high ↦ elim (cases_eq ((j - 10) / 1024) p) [
         | inl there ↦ zero_there j high there ∙ sym (last j (omega (arith, is, high, there, other)))
-        | inr elsewhere ↦ in_block new inode' j high ∙ ap (number_at (4 * ((j - 10) % 1024)) 4) (drop.octets ((j - 10) / 1024) elsewhere) ∙ sym (in_block old inode j high)
+        | inr elsewhere ↦ in_block new inode' j high ∙ ap (number_at (4 * ((j - 10) % 1024)) 4) (drop.octets ((j - 10) / 1024) elsewhere)
+            ∙ sym (in_block old inode j high)
       ]
     ]
 
@@ -208,9 +219,11 @@ module _ (i : ℕ) (inode inode' : Octets) (old new : List Octets) (names : Name
           ∙ sym (append-nil (double_blocks now))
           ∙ ap (λ (l : List ℕ). double_blocks now ++ l) (sym stays.1)
       | inr goes ↦
-          let none : double_blocks now ≡ [] = ap (λ (t : Bool). cond t [] (number_at 56 4 inode' ∷ [])) (eq-eqb (number_at 56 4 inode') 0 goes.2) in
+          let none : double_blocks now ≡ [] =
+          ap (λ (t : Bool). cond t [] (number_at 56 4 inode' ∷ [])) (eq-eqb (number_at 56 4 inode') 0 goes.2) in
           let some = (named.double (omega (arith, goes.0))).some in
-          ap (λ (t : Bool). cond t [] (number_at 56 4 inode ∷ [])) (ne_eqb (number_at 56 4 inode) 0 (λ zero_is. absurd (omega (arith, zero_is, some))))
+          ap (λ (t : Bool). cond t [] (number_at 56 4 inode ∷ []))
+          (ne_eqb (number_at 56 4 inode) 0 (λ zero_is. absurd (omega (arith, zero_is, some))))
           ∙ sym goes.1
           ∙ ap (λ (l : List ℕ). l ++ drop.doubles) (sym none)
     ]
@@ -240,7 +253,9 @@ module _ (i : ℕ) (inode inode' : Octets) (old new : List Octets) (names : Name
       tables_are =
           ap (tables_to was) count_was
           ∙ map-range_with_len_more (λ q. indirect_pointer was q) 0 p p (omega arith)
-          ∙ ap (λ (l : List ℕ). l ++ indirect_pointer was p ∷ []) (map_same_below (λ q. indirect_pointer was q) (λ q. indirect_pointer now q) 0 p (λ q less. sym (drop.other q (omega (arith, less)))))
+          ∙ ap (λ (l : List ℕ). l ++ indirect_pointer was p ∷ [])
+          (map_same_below (λ q. indirect_pointer was q) (λ q. indirect_pointer now q) 0 p
+          (λ q less. sym (drop.other q (omega (arith, less)))))
           ∙ ap (λ (n : ℕ). tables_to now n ++ indirect_pointer was p ∷ []) (sym count_is);
       gives_up = drop.gives_up;
       blocks = λ b some apart second. drop.blocks b some apart;

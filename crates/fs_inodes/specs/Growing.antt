@@ -1,9 +1,11 @@
 -- Files that grow.
-use Rattle.std.specs.Prelude.{◌≡◌, ◌≢◌, ◌⊎◌, ◌<◌, ◌≤◌, ℕ, ◌+◌, ◌-◌, ◌/◌, ◌==◌, true, false, nat_lt, if◌then◌else◌, Some, List, [], ◌∷◌, ◌++◌, map, replicate, length, slice_index_or, slice_set}
+use Rattle.std.specs.Prelude.{◌≡◌, ◌≢◌, ◌⊎◌, ◌<◌, ◌≤◌, ℕ, ◌+◌, ◌-◌, ◌/◌, ◌==◌, true, false, nat_lt, if◌then◌else◌, Some, List, [], ◌∷◌}
+use Rattle.std.specs.Prelude.{◌++◌, map, replicate, length, slice_index_or, slice_set}
 use Rattle.std.specs.List.{All, Contains, range_with_len}
 use Rattle.model.specs.Stream.{Octets}
 use Rattle.model.specs.Volume.{number_at, AreDistinct}
-use Rattle.model.specs.Files.{Entry, double_blocks, double_pointer, entry_of, indirect_for, indirect_pointer, pointer, table, is_marked_used, free_blocks}
+use Rattle.model.specs.Files.{Entry, double_blocks, double_pointer, entry_of, indirect_for, indirect_pointer, pointer, table}
+use Rattle.model.specs.Files.{is_marked_used, free_blocks}
 pub use Rattle.model.specs.Room.{blocks_for}
 use Rattle.fs_layout.specs.Table.{IsFileAt, Makes}
 
@@ -91,7 +93,8 @@ tables_to e tables = map (λ p. indirect_pointer e p) (range_with_len 0 tables)
 -- each block that is taken is below each that stays free
 abbrev pub TakesLowest : List Octets → List Octets → Type 0
 TakesLowest old new =
-    (b c : ℕ) → b < length new → c < length new → is_marked_used old b ≡ false → is_marked_used new b ≡ true → is_marked_used new c ≡ false → b < c
+    (b c : ℕ) → b < length new → c < length new → is_marked_used old b ≡ false → is_marked_used new b ≡ true → is_marked_used new c ≡ false
+    → b < c
 
 -- these free blocks, the lowest ones, are marked, and no other mark changes
 pub record TakesBlocks (fresh : List ℕ) (old new : List Octets) : Type 0 where
@@ -135,15 +138,18 @@ pub record AddsTable (i : ℕ) (inode inode' : Octets) (old new : List Octets) :
   pub head : (a w : ℕ) → a + w ≤ 52 → number_at a w inode' ≡ number_at a w inode
   pub tail : (a w : ℕ) → 60 ≤ a → number_at a w inode' ≡ number_at a w inode
   pub names : NamesBlocks (indirect_for (i + 1)) (inode_entry new inode') new
-  pub double_stays : (double_pointer (inode_entry old inode) ≡ 0) ⊎ (double_pointer (inode_entry new inode') ≡ double_pointer (inode_entry old inode))
-  pub tables_stay : (p : ℕ) → (indirect_pointer (inode_entry old inode) p ≡ 0) ⊎ (indirect_pointer (inode_entry new inode') p ≡ indirect_pointer (inode_entry old inode) p)
+  pub double_stays : (double_pointer (inode_entry old inode) ≡ 0)
+      ⊎ (double_pointer (inode_entry new inode') ≡ double_pointer (inode_entry old inode))
+  pub tables_stay : (p : ℕ) → (indirect_pointer (inode_entry old inode) p ≡ 0)
+      ⊎ (indirect_pointer (inode_entry new inode') p ≡ indirect_pointer (inode_entry old inode) p)
   pub doubles : List ℕ
   pub doubles_are : double_blocks (inode_entry new inode') ≡ double_blocks (inode_entry old inode) ++ doubles
   pub tables : List ℕ
   pub tables_are : tables_to (inode_entry new inode') (indirect_for (i + 1)) ≡ tables_to (inode_entry old inode) (indirect_for i) ++ tables
   pub takes : TakesBlocks (doubles ++ tables) old new
   pub fewer : free_blocks new + with_double (indirect_for (i + 1)) ≡ free_blocks old + with_double (indirect_for i)
-  pub blocks : (b : ℕ) → 2 ≤ b → b ≢ double_pointer (inode_entry new inode') → b ≢ indirect_pointer (inode_entry new inode') ((i - 10) / 1024)
+  pub blocks : (b : ℕ) → 2 ≤ b → b ≢ double_pointer (inode_entry new inode')
+      → b ≢ indirect_pointer (inode_entry new inode') ((i - 10) / 1024)
       → slice_index_or new b [] ≡ slice_index_or old b []
 
 -- a file gets its i-th block, and the blocks of pointers that the i-th is the first to need
@@ -156,15 +162,18 @@ pub record AddsBlock (i number : ℕ) (inode inode' : Octets) (old new : List Oc
   pub head : (a w : ℕ) → a + w ≤ 12 → number_at a w inode' ≡ number_at a w inode
   pub tail : (a w : ℕ) → 60 ≤ a → number_at a w inode' ≡ number_at a w inode
   pub names : NamesBlocks (indirect_for (i + 1)) (inode_entry new inode') new
-  pub double_stays : (double_pointer (inode_entry old inode) ≡ 0) ⊎ (double_pointer (inode_entry new inode') ≡ double_pointer (inode_entry old inode))
-  pub tables_stay : (p : ℕ) → (indirect_pointer (inode_entry old inode) p ≡ 0) ⊎ (indirect_pointer (inode_entry new inode') p ≡ indirect_pointer (inode_entry old inode) p)
+  pub double_stays : (double_pointer (inode_entry old inode) ≡ 0)
+      ⊎ (double_pointer (inode_entry new inode') ≡ double_pointer (inode_entry old inode))
+  pub tables_stay : (p : ℕ) → (indirect_pointer (inode_entry old inode) p ≡ 0)
+      ⊎ (indirect_pointer (inode_entry new inode') p ≡ indirect_pointer (inode_entry old inode) p)
   pub doubles : List ℕ
   pub doubles_are : double_blocks (inode_entry new inode') ≡ double_blocks (inode_entry old inode) ++ doubles
   pub tables : List ℕ
   pub tables_are : tables_to (inode_entry new inode') (indirect_for (i + 1)) ≡ tables_to (inode_entry old inode) (indirect_for i) ++ tables
   pub takes : TakesBlocks (doubles ++ (tables ++ number ∷ [])) old new
   pub fewer : free_blocks new + with_indirect (i + 1) ≡ free_blocks old + with_indirect i
-  pub blocks : (b : ℕ) → 2 ≤ b → b ≢ double_pointer (inode_entry new inode') → b ≢ indirect_pointer (inode_entry new inode') ((i - 10) / 1024)
+  pub blocks : (b : ℕ) → 2 ≤ b → b ≢ double_pointer (inode_entry new inode')
+      → b ≢ indirect_pointer (inode_entry new inode') ((i - 10) / 1024)
       → slice_index_or new b [] ≡ slice_index_or old b []
 
 -- ---- the file grows
@@ -192,4 +201,5 @@ Appends inodes name octets old new =
 -- the file of this name cannot grow by this many octets in a volume of this format
 abbrev pub CannotGrow : ℕ → ℕ → Octets → ℕ → List Octets → Type 0
 CannotGrow format inodes name more blocks =
-    (k : ℕ) × (content : Octets) × IsFileAt (table inodes blocks) k name content × HasNoRoomFor format blocks (length content) (length content + more)
+    (k : ℕ) × (content : Octets) × IsFileAt (table inodes blocks) k name content
+    × HasNoRoomFor format blocks (length content) (length content + more)

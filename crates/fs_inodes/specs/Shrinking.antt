@@ -22,7 +22,8 @@ pub record DropsTable (p : ℕ) (inode inode' : Octets) (old new : List Octets) 
   pub other : (q : ℕ) → q ≢ p → indirect_pointer (inode_entry new inode') q ≡ indirect_pointer (inode_entry old inode) q
   pub octets : (q : ℕ) → q ≢ p → (inode_entry new inode').pointers q ≡ (inode_entry old inode).pointers q
   pub doubles : List ℕ
-  pub double : ((p ≢ 1) × (doubles ≡ []) × (number_at 56 4 inode' ≡ number_at 56 4 inode)) ⊎ ((p ≡ 1) × (doubles ≡ number_at 56 4 inode ∷ []) × (number_at 56 4 inode' ≡ 0))
+  pub double : ((p ≢ 1) × (doubles ≡ []) × (number_at 56 4 inode' ≡ number_at 56 4 inode))
+      ⊎ ((p ≡ 1) × (doubles ≡ number_at 56 4 inode ∷ []) × (number_at 56 4 inode' ≡ 0))
   pub gives_up : GivesUp (doubles ++ indirect_pointer (inode_entry old inode) p ∷ []) old new
   pub blocks : (b : ℕ) → 2 ≤ b → b ≢ number_at 56 4 inode → slice_index_or new b [] ≡ slice_index_or old b []
 

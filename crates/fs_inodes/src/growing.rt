@@ -3,11 +3,13 @@
 ghost use Rattle.std.specs.Prelude.{◌≡◌, ◌≢◌, ℕ, ◌+◌, ◌-◌, ◌/◌, ◌%◌, ◌<◌, ◌≤◌, [], ◌∷◌, length, replicate, true, IfOk, OnOk};
 ghost use Rattle.model.specs.Volume.{number_at};
 ghost use Rattle.fs_layout.specs.Blocks.{IsThere};
-ghost use Rattle.model.specs.Files.{HasRoom, IsFileSystem, IsFile, entry, indirect_for, indirect_pointer, size, is_marked_used, free_blocks};
+ghost use Rattle.model.specs.Files.{HasRoom, IsFileSystem, IsFile, entry, indirect_for, indirect_pointer, size, is_marked_used};
+ghost use Rattle.model.specs.Files.{free_blocks};
 ghost use Rattle.model.specs.Room.{content_blocks};
 ghost use Rattle.fs_layout.specs.Marks.{NoneFreeBelow};
 ghost use Rattle.fs_layout.specs.Touches.{Touches, TouchesData, touched_by_growth};
-ghost use Rattle.fs_inodes.specs.Growing.{IsApart, PutsIndirect, PutsPointer, TakesZeros, AddsDouble, AddsTable, AddsBlock, NamesBlocks, inode_entry, with_double, with_indirect, GrowsBy, HasRoomFor};
+ghost use Rattle.fs_inodes.specs.Growing.{IsApart, PutsIndirect, PutsPointer, TakesZeros, AddsDouble, AddsTable, AddsBlock, NamesBlocks};
+ghost use Rattle.fs_inodes.specs.Growing.{inode_entry, with_double, with_indirect, GrowsBy, HasRoomFor};
 
 use crate::room::blocks_more;
 use fs_layout::inodes::{

@@ -16,7 +16,8 @@ pub fn piece<B: Blocks>(blocks: &B, inodes: u32, at: u32, place: u64, count: u64
     requires rule { IsFileSystem inodes (B.blocks blocks.now) }
     requires below { at < inodes }
     requires file { IsFile (entry inodes (B.blocks blocks.now) at) }
-    ensures { result.now ≡ take (min count (4096 - place % 4096)) (drop place (content_of (B.blocks blocks.now) (entry inodes (B.blocks blocks.now) at))) }
+    ensures { result.now ≡ take (min count (4096 - place % 4096))
+        (drop place (content_of (B.blocks blocks.now) (entry inodes (B.blocks blocks.now) at))) }
 {
     let mut inode = [0; RECORD_SIZE];
     get_record(blocks, INODES_AT, at, &mut inode);
@@ -44,7 +45,8 @@ pub fn read_into<B: Blocks>(
     requires rule { IsFileSystem inodes (B.blocks blocks.now) }
     requires below { at < inodes }
     requires file { IsFile (entry inodes (B.blocks blocks.now) at) }
-    ensures { OnOk result (into.new.items ≡ into.old.items ++ take count (drop place (content_of (B.blocks blocks.now) (entry inodes (B.blocks blocks.now) at)))) }
+    ensures { OnOk result (into.new.items ≡ into.old.items ++ take count
+        (drop place (content_of (B.blocks blocks.now) (entry inodes (B.blocks blocks.now) at)))) }
 {
     let end = size_of(blocks, inodes, at).min(place.saturating_add(count));
     let mut from = place;
@@ -69,7 +71,8 @@ pub fn read_entry<B: Blocks>(
     requires rule { IsFileSystem inodes (B.blocks blocks.now) }
     requires below { at < inodes }
     requires file { IsFile (entry inodes (B.blocks blocks.now) at) }
-    ensures { IfOk result (λ octets. octets.items ≡ take count (drop place (content_of (B.blocks blocks.now) (entry inodes (B.blocks blocks.now) at)))) }
+    ensures { IfOk result (λ octets. octets.items
+        ≡ take count (drop place (content_of (B.blocks blocks.now) (entry inodes (B.blocks blocks.now) at)))) }
 {
     let mut octets = Vec::new(alloc);
     read_into(blocks, inodes, at, place, count, &mut octets)?;

@@ -1,5 +1,6 @@
 -- How many numbers pass a test.
-use Rattle.std.proofs.Common.{◌≡◌, ◌<◌, ℕ, zero, suc, ◌+◌, ◌*◌, ◌/◌, ◌%◌, ◌^◌, cond, eqb, Bool, count_by, List, [], ◌∷◌, get_or, refl, sym, ◌∙◌, ap, arith}
+use Rattle.std.proofs.Common.{◌≡◌, ◌<◌, ℕ, zero, suc, ◌+◌, ◌*◌, ◌/◌, ◌%◌, ◌^◌, cond, eqb, Bool, count_by, List, [], ◌∷◌, get_or, refl, sym}
+use Rattle.std.proofs.Common.{◌∙◌, ap, arith}
 use Rattle.std.specs.List.{range_with_len}
 use Rattle.std.proofs.lemmas.List.Sums.{sum_by-cons}
 use Rattle.model.specs.Stream.{Octets}
@@ -9,7 +10,8 @@ use Rattle.fs_layout.specs.Bits.{bit_of}
 pub count_cons : (p : ℕ → Bool) (x : ℕ) (xs : List ℕ) → count_by p (x ∷ xs) ≡ cond (p x) 1 0 + count_by p xs
 count_cons p x xs = sum_by-cons (λ n. cond (p n) 1 0) x xs
 
-pub count_same : (p q : ℕ → Bool) (a b n : ℕ) → ((i : ℕ) → i < n → p (a + i) ≡ q (b + i)) → count_by p (range_with_len a n) ≡ count_by q (range_with_len b n)
+pub count_same : (p q : ℕ → Bool) (a b n : ℕ) → ((i : ℕ) → i < n → p (a + i) ≡ q (b + i))
+    → count_by p (range_with_len a n) ≡ count_by q (range_with_len b n)
 count_same p q a b zero same = refl
 count_same p q a b (suc n) same =
     count_cons p a (range_with_len (a + 1) n)
@@ -23,10 +25,12 @@ count_same p q a b (suc n) same =
     moved : (i : ℕ) → p (a + suc i) ≡ q (b + suc i) → p (a + 1 + i) ≡ q (b + 1 + i)
     moved i e = let x : a + 1 + i ≡ a + suc i = omega arith in let y : b + suc i ≡ b + 1 + i = omega arith in ap p x ∙ e ∙ ap q y
 
-pub count_split : (p : ℕ → Bool) (a n m : ℕ) → count_by p (range_with_len a (n + m)) ≡ count_by p (range_with_len a n) + count_by p (range_with_len (a + n) m)
+pub count_split : (p : ℕ → Bool) (a n m : ℕ)
+    → count_by p (range_with_len a (n + m)) ≡ count_by p (range_with_len a n) + count_by p (range_with_len (a + n) m)
 count_split p a zero m =
     let x : 0 + m ≡ m = omega arith in let y : a ≡ a + 0 = omega arith in
-    ap (λ (k : ℕ). count_by p (range_with_len a k)) x ∙ ap (λ (k : ℕ). count_by p (range_with_len k m)) y ∙ (let z : count_by p (range_with_len (a + 0) m) ≡ 0 + count_by p (range_with_len (a + 0) m) = omega arith in z)
+    ap (λ (k : ℕ). count_by p (range_with_len a k)) x ∙ ap (λ (k : ℕ). count_by p (range_with_len k m)) y
+    ∙ (let z : count_by p (range_with_len (a + 0) m) ≡ 0 + count_by p (range_with_len (a + 0) m) = omega arith in z)
 count_split p a (suc n) m =
     let x : suc n + m ≡ suc (n + m) = omega arith in
     let y : a + 1 + n ≡ a + suc n = omega arith in
@@ -36,7 +40,11 @@ count_split p a (suc n) m =
     let other = count_cons p a (range_with_len (a + 1) n) in
     ap (λ (k : ℕ). count_by p (range_with_len a k)) x ∙ one ∙ sums (cond (p a) 1 0) rest moved other
   where
-    sums : (t : ℕ) → count_by p (range_with_len (a + 1) (n + m)) ≡ count_by p (range_with_len (a + 1) n) + count_by p (range_with_len (a + 1 + n) m) → count_by p (range_with_len (a + 1 + n) m) ≡ count_by p (range_with_len (a + suc n) m) → count_by p (a ∷ range_with_len (a + 1) n) ≡ t + count_by p (range_with_len (a + 1) n) → t + count_by p (range_with_len (a + 1) (n + m)) ≡ count_by p (a ∷ range_with_len (a + 1) n) + count_by p (range_with_len (a + suc n) m)
+    sums : (t : ℕ) → count_by p (range_with_len (a + 1) (n + m)) ≡ count_by p (range_with_len (a + 1) n) + count_by p
+        (range_with_len (a + 1 + n) m) → count_by p (range_with_len (a + 1 + n) m) ≡ count_by p (range_with_len (a + suc n) m)
+        → count_by p (a ∷ range_with_len (a + 1) n) ≡ t + count_by p (range_with_len (a + 1) n)
+        → t + count_by p (range_with_len (a + 1) (n + m)) ≡ count_by p (a ∷ range_with_len (a + 1) n) + count_by p
+        (range_with_len (a + suc n) m)
     sums t e f g = omega arith
 
 pub count_next : (p : ℕ → Bool) (a n : ℕ) → count_by p (range_with_len a (n + 1)) ≡ count_by p (range_with_len a n) + cond (p (a + n)) 1 0

@@ -23,7 +23,8 @@ distinct_none i j less low = absurd (omega arith)
 pub distinct_one : (x : ℕ) → AreDistinct (x ∷ [])
 distinct_one x i j less low = absurd (omega arith)
 
-pub distinct_append : (xs ys : List ℕ) → AreDistinct xs → AreDistinct ys → ((b : ℕ) → Contains xs b → ¬ (Contains ys b)) → AreDistinct (xs ++ ys)
+pub distinct_append : (xs ys : List ℕ) → AreDistinct xs → AreDistinct ys → ((b : ℕ) → Contains xs b → ¬ (Contains ys b))
+    → AreDistinct (xs ++ ys)
 distinct_append [] ys first second apart = second
 distinct_append (x ∷ xs) ys first second apart =
     distinct_cons x (xs ++ ys)
@@ -36,7 +37,8 @@ distinct_append (x ∷ xs) ys first second apart =
 pub distinct_left : (xs ys : List ℕ) → AreDistinct (xs ++ ys) → AreDistinct xs
 distinct_left [] ys all = distinct_none
 distinct_left (x ∷ xs) ys all =
-    distinct_cons x xs (λ has. distinct_head x (xs ++ ys) all (Contains-append_left xs ys x has)) (distinct_left xs ys (distinct_tail x (xs ++ ys) all))
+    distinct_cons x xs (λ has. distinct_head x (xs ++ ys) all (Contains-append_left xs ys x has))
+    (distinct_left xs ys (distinct_tail x (xs ++ ys) all))
 
 pub distinct_right : (xs ys : List ℕ) → AreDistinct (xs ++ ys) → AreDistinct ys
 distinct_right [] ys all = all
@@ -51,7 +53,8 @@ distinct_apart (x ∷ xs) ys all b (suc k, low, is) there = distinct_apart xs ys
 -- ---- numbers added after the first part of a list, and others within the rest
 
 module _ (A a R r R' : List ℕ) where
-  pub two_cases : ((x : ℕ) → Contains R' x → Contains R x ⊎ Contains r x) → (x : ℕ) → Contains ((A ++ a) ++ R') x → Contains (A ++ R) x ⊎ Contains (a ++ r) x
+  pub two_cases : ((x : ℕ) → Contains R' x → Contains R x ⊎ Contains r x) → (x : ℕ) → Contains ((A ++ a) ++ R') x
+      → Contains (A ++ R) x ⊎ Contains (a ++ r) x
   two_cases rest x has = elim (Contains-append_cases (A ++ a) R' x has) [
     | inl front ↦ elim (Contains-append_cases A a x front) [
       | inl was ↦ inl (Contains-append_left A R x was)
@@ -75,10 +78,12 @@ module _ (A a R r R' : List ℕ) where
     | inr behind ↦ Contains-append_right (A ++ a) R' x (rest x behind)
   ]
 
-  pub two_distinct : ((x : ℕ) → Contains R' x → Contains R x ⊎ Contains r x) → AreDistinct R' → AreDistinct (A ++ R) → AreDistinct (a ++ r) → ((x : ℕ) → Contains (A ++ R) x → ¬ (Contains (a ++ r) x)) → AreDistinct ((A ++ a) ++ R')
+  pub two_distinct : ((x : ℕ) → Contains R' x → Contains R x ⊎ Contains r x) → AreDistinct R' → AreDistinct (A ++ R) → AreDistinct (a ++ r)
+      → ((x : ℕ) → Contains (A ++ R) x → ¬ (Contains (a ++ r) x)) → AreDistinct ((A ++ a) ++ R')
   two_distinct rest inner was new apart =
       distinct_append (A ++ a) R'
-      (distinct_append A a (distinct_left A R was) (distinct_left a r new) (λ x one other. apart x (Contains-append_left A R x one) (Contains-append_left a r x other)))
+      (distinct_append A a (distinct_left A R was) (distinct_left a r new)
+      (λ x one other. apart x (Contains-append_left A R x one) (Contains-append_left a r x other)))
       inner
       (λ x front behind. elim (Contains-append_cases A a x front) [
         | inl one ↦ elim (rest x behind) [
@@ -91,11 +96,17 @@ module _ (A a R r R' : List ℕ) where
         ]
       ])
 
-  pub two_apart : AreDistinct (A ++ R) → AreDistinct (a ++ r) → ((x : ℕ) → Contains (A ++ R) x → ¬ (Contains (a ++ r) x)) → (AreDistinct R) × (AreDistinct r) × ((x : ℕ) → Contains R x → ¬ (Contains r x))
-  two_apart was new apart = (distinct_right A R was, distinct_right a r new, λ x one other. apart x (Contains-append_right A R x one) (Contains-append_right a r x other))
+  pub two_apart : AreDistinct (A ++ R) → AreDistinct (a ++ r) → ((x : ℕ) → Contains (A ++ R) x → ¬ (Contains (a ++ r) x))
+      → (AreDistinct R) × (AreDistinct r) × ((x : ℕ) → Contains R x → ¬ (Contains r x))
+  two_apart was new apart = (
+    distinct_right A R was,
+    distinct_right a r new,
+    λ x one other. apart x (Contains-append_right A R x one) (Contains-append_right a r x other),
+  )
 
 -- the fronts of two parts, if that of the second is known
-split_two : (A a R r R' : List ℕ) → ((x : ℕ) → Contains R x → Contains R' x) → ((x : ℕ) → Contains r x → Contains R' x) → AreDistinct R → ((x : ℕ) → Contains R x → ¬ (Contains r x)) → AreDistinct ((A ++ a) ++ R')
+split_two : (A a R r R' : List ℕ) → ((x : ℕ) → Contains R x → Contains R' x) → ((x : ℕ) → Contains r x → Contains R' x) → AreDistinct R
+    → ((x : ℕ) → Contains R x → ¬ (Contains r x)) → AreDistinct ((A ++ a) ++ R')
     → AreDistinct (A ++ R) × ((x : ℕ) → Contains (A ++ R) x → ¬ (Contains (a ++ r) x))
 split_two A a R r R' were new distinct apart all =
     let front = distinct_left (A ++ a) R' all in
@@ -128,18 +139,22 @@ module _ (A a B b C c : List ℕ) where
   pub three_new : (x : ℕ) → Contains (a ++ (b ++ c)) x → Contains ((A ++ a) ++ ((B ++ b) ++ (C ++ c))) x
   three_new = two_new A a (B ++ C) (b ++ c) ((B ++ b) ++ (C ++ c)) (two_new B b C c (C ++ c) (λ x has. Contains-append_right C c x has))
 
-  pub three_distinct : AreDistinct (A ++ (B ++ C)) → AreDistinct (a ++ (b ++ c)) → ((x : ℕ) → Contains (A ++ (B ++ C)) x → ¬ (Contains (a ++ (b ++ c)) x)) → AreDistinct ((A ++ a) ++ ((B ++ b) ++ (C ++ c)))
+  pub three_distinct : AreDistinct (A ++ (B ++ C)) → AreDistinct (a ++ (b ++ c))
+      → ((x : ℕ) → Contains (A ++ (B ++ C)) x → ¬ (Contains (a ++ (b ++ c)) x)) → AreDistinct ((A ++ a) ++ ((B ++ b) ++ (C ++ c)))
   three_distinct were new apart =
       let second = two_apart A a (B ++ C) (b ++ c) ((B ++ b) ++ (C ++ c)) were new apart in
       let third = two_apart B b C c (C ++ c) second.0 second.1 second.2 in
       two_distinct A a (B ++ C) (b ++ c) ((B ++ b) ++ (C ++ c)) second_cases
-      (two_distinct B b C c (C ++ c) (λ x. Contains-append_cases C c x) (distinct_append C c third.0 third.1 third.2) second.0 second.1 second.2)
+      (two_distinct B b C c (C ++ c) (λ x. Contains-append_cases C c x) (distinct_append C c third.0 third.1 third.2) second.0 second.1
+      second.2)
       were new apart
 
   -- the three lists without those after them
-  pub three_split : AreDistinct ((A ++ a) ++ ((B ++ b) ++ (C ++ c))) → AreDistinct (A ++ (B ++ C)) × ((x : ℕ) → Contains (A ++ (B ++ C)) x → ¬ (Contains (a ++ (b ++ c)) x))
+  pub three_split : AreDistinct ((A ++ a) ++ ((B ++ b) ++ (C ++ c)))
+      → AreDistinct (A ++ (B ++ C)) × ((x : ℕ) → Contains (A ++ (B ++ C)) x → ¬ (Contains (a ++ (b ++ c)) x))
   three_split all =
       let rest = distinct_right (A ++ a) ((B ++ b) ++ (C ++ c)) all in
       let inner = split_two B b C c (C ++ c) (λ x has. Contains-append_left C c x has) (λ x has. Contains-append_right C c x has)
       (distinct_left C c (distinct_right (B ++ b) (C ++ c) rest)) (distinct_apart C c (distinct_right (B ++ b) (C ++ c) rest)) rest in
-      split_two A a (B ++ C) (b ++ c) ((B ++ b) ++ (C ++ c)) (two_was B b C c (C ++ c) (λ x has. Contains-append_left C c x has)) (two_new B b C c (C ++ c) (λ x has. Contains-append_right C c x has)) inner.0 inner.1 all
+      split_two A a (B ++ C) (b ++ c) ((B ++ b) ++ (C ++ c)) (two_was B b C c (C ++ c) (λ x has. Contains-append_left C c x has))
+      (two_new B b C c (C ++ c) (λ x has. Contains-append_right C c x has)) inner.0 inner.1 all

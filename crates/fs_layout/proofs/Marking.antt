@@ -1,5 +1,6 @@
 -- Marks that change, and how many are left.
-use Rattle.std.proofs.Common.{◌≡◌, ◌≢◌, inl, inr, ◌<◌, ◌≤◌, ℕ, zero, suc, ◌+◌, ◌-◌, ◌*◌, ◌/◌, ◌%◌, cond, not, Bool, true, false, count_by, List, [], length, get_or, set, refl, sym, ◌∙◌, ap, arith, length-set}
+use Rattle.std.proofs.Common.{◌≡◌, ◌≢◌, inl, inr, ◌<◌, ◌≤◌, ℕ, zero, suc, ◌+◌, ◌-◌, ◌*◌, ◌/◌, ◌%◌, cond, not, Bool, true, false, count_by}
+use Rattle.std.proofs.Common.{List, [], length, get_or, set, refl, sym, ◌∙◌, ap, arith, length-set}
 use Rattle.std.specs.List.{range_with_len}
 use Rattle.std.proofs.lemmas.List.{get_or-set_same, get_or-set_other}
 use Rattle.std.proofs.lemmas.List.Elements.{All-set}
@@ -17,26 +18,32 @@ mark_at blocks b =
     let is : b ≡ 32768 * (b / 32768) + b % 32768 = omega arith in
     ap (λ (n : ℕ). is_marked_used blocks n) is ∙ mark_is_bit blocks (b / 32768) (b % 32768) (omega arith)
 
-pub mark_in : (blocks : List Octets) (n b : ℕ) (bitmap : Octets) → bitmap ≡ get_or blocks n [] → 32768 * n ≤ b → b < 32768 * n + 32768 → is_marked_used blocks b ≡ bit_of bitmap (b - 32768 * n)
+pub mark_in : (blocks : List Octets) (n b : ℕ) (bitmap : Octets) → bitmap ≡ get_or blocks n [] → 32768 * n ≤ b → b < 32768 * n + 32768
+    → is_marked_used blocks b ≡ bit_of bitmap (b - 32768 * n)
 mark_in blocks n b bitmap is low high =
     let block : b / 32768 ≡ n = omega arith in
     let bit : b % 32768 ≡ b - 32768 * n = omega arith in
-    mark_at blocks b ∙ ap (λ (k : ℕ). bit_of (get_or blocks k []) (b % 32768)) block ∙ ap (λ (o : Octets). bit_of o (b % 32768)) (sym is) ∙ ap (λ (k : ℕ). bit_of bitmap k) bit
+    mark_at blocks b ∙ ap (λ (k : ℕ). bit_of (get_or blocks k []) (b % 32768)) block ∙ ap (λ (o : Octets). bit_of o (b % 32768)) (sym is)
+    ∙ ap (λ (k : ℕ). bit_of bitmap k) bit
 
 -- a bit of a block of the bitmap is changed
-pub sets_mark : (block n : ℕ) (value : Bool) (bitmap : Octets) (old : List Octets) → block / 32768 ≡ n → n < 2 → n < length old → SetsBit (block % 32768) value (get_or old n []) bitmap → SetsMark block value old (set old n bitmap)
+pub sets_mark : (block n : ℕ) (value : Bool) (bitmap : Octets) (old : List Octets) → block / 32768 ≡ n → n < 2 → n < length old
+    → SetsBit (block % 32768) value (get_or old n []) bitmap → SetsMark block value old (set old n bitmap)
 sets_mark block n value bitmap old is few there sets = record {
   count = length-set old n bitmap;
   whole = λ all. All-set (λ b. length b ≡ 4096) old n bitmap (sets.size ∙ all n [] there) all;
-  here = mark_at (set old n bitmap) block ∙ ap (λ (k : ℕ). bit_of (get_or (set old n bitmap) k []) (block % 32768)) is ∙ ap (λ (o : Octets). bit_of o (block % 32768)) written ∙ sets.here;
+  here = mark_at (set old n bitmap) block ∙ ap (λ (k : ℕ). bit_of (get_or (set old n bitmap) k []) (block % 32768)) is
+      ∙ ap (λ (o : Octets). bit_of o (block % 32768)) written ∙ sets.here;
   other = λ b small apart. elim (cases_eq (b / 32768) n) [
     | inl same ↦
         let differs : b % 32768 ≢ block % 32768 = omega arith in
-        mark_at (set old n bitmap) b ∙ ap (λ (k : ℕ). bit_of (get_or (set old n bitmap) k []) (b % 32768)) same ∙ ap (λ (o : Octets). bit_of o (b % 32768)) written
+        mark_at (set old n bitmap) b ∙ ap (λ (k : ℕ). bit_of (get_or (set old n bitmap) k []) (b % 32768)) same
+        ∙ ap (λ (o : Octets). bit_of o (b % 32768)) written
         ∙ sets.other (b % 32768) differs
         ∙ ap (λ (k : ℕ). bit_of (get_or old k []) (b % 32768)) (sym same) ∙ sym (mark_at old b)
     | inr elsewhere ↦
-        mark_at (set old n bitmap) b ∙ ap (λ (o : Octets). bit_of o (b % 32768)) (get_or-set_other old n (b / 32768) bitmap [] elsewhere) ∙ sym (mark_at old b)
+        mark_at (set old n bitmap) b ∙ ap (λ (o : Octets). bit_of o (b % 32768)) (get_or-set_other old n (b / 32768) bitmap [] elsewhere)
+        ∙ sym (mark_at old b)
   ];
   blocks = λ k high. get_or-set_other old n k bitmap [] (omega arith);
 }
@@ -47,7 +54,8 @@ sets_mark block n value bitmap old is few there sets = record {
 -- ---- the lowest free block
 
 module _ (blocks : List Octets) where
-  pub lowest_in_first : (bitmap : Octets) (count bit : ℕ) → bitmap ≡ get_or blocks 0 [] → count ≤ length blocks → count ≤ 32768 → IsLowestClear bitmap count bit → IsLowestFree blocks bit
+  pub lowest_in_first : (bitmap : Octets) (count bit : ℕ) → bitmap ≡ get_or blocks 0 [] → count ≤ length blocks → count ≤ 32768
+      → IsLowestClear bitmap count bit → IsLowestFree blocks bit
   lowest_in_first bitmap count bit is within few found = record {
     below = omega (arith, found.below);
     free = low bit (omega (arith, found.below)) ∙ found.clear;
@@ -55,21 +63,27 @@ module _ (blocks : List Octets) where
   }
     where
       low : (b : ℕ) → b < 32768 → is_marked_used blocks b ≡ bit_of bitmap b
-      low b small = let none : b - 32768 * 0 ≡ b = omega arith in mark_in blocks 0 b bitmap is (omega arith) (omega arith) ∙ ap (λ (k : ℕ). bit_of bitmap k) none
+      low b small = let none : b - 32768 * 0 ≡ b = omega arith in mark_in blocks 0 b bitmap is (omega arith) (omega arith)
+          ∙ ap (λ (k : ℕ). bit_of bitmap k) none
 
   -- below a number none is free, so these bits are set
-  pub bits_set : (n from b : ℕ) (bitmap : Octets) → bitmap ≡ get_or blocks n [] → NoneFreeBelow from blocks → b < 32768 → 32768 * n + b < from → 32768 * n + b < length blocks → bit_of bitmap b ≡ true
+  pub bits_set : (n from b : ℕ) (bitmap : Octets) → bitmap ≡ get_or blocks n [] → NoneFreeBelow from blocks → b < 32768
+      → 32768 * n + b < from → 32768 * n + b < length blocks → bit_of bitmap b ≡ true
   bits_set n from b bitmap is none low less within =
       let at : 32768 * n + b - 32768 * n ≡ b = omega arith in
-      sym (mark_in blocks n (32768 * n + b) bitmap is (omega arith) (omega arith) ∙ ap (λ (k : ℕ). bit_of bitmap k) at) ∙ none (32768 * n + b) less within
+      sym (mark_in blocks n (32768 * n + b) bitmap is (omega arith) (omega arith) ∙ ap (λ (k : ℕ). bit_of bitmap k) at)
+      ∙ none (32768 * n + b) less within
 
   -- the first block of the bitmap is full
-  pub first_full : (bitmap : Octets) (count : ℕ) → bitmap ≡ get_or blocks 0 [] → count ≤ 32768 → ((b : ℕ) → b < count → bit_of bitmap b ≡ true) → (b : ℕ) → b < count → is_marked_used blocks b ≡ true
+  pub first_full : (bitmap : Octets) (count : ℕ) → bitmap ≡ get_or blocks 0 [] → count ≤ 32768
+      → ((b : ℕ) → b < count → bit_of bitmap b ≡ true) → (b : ℕ) → b < count → is_marked_used blocks b ≡ true
   first_full bitmap count is few full b low =
       let none : b - 32768 * 0 ≡ b = omega arith in
       mark_in blocks 0 b bitmap is (omega arith) (omega arith) ∙ ap (λ (k : ℕ). bit_of bitmap k) none ∙ full b low
 
-  pub lowest_in_second : (bitmap : Octets) (bit : ℕ) → bitmap ≡ get_or blocks 1 [] → length blocks ≤ 65536 → ((b : ℕ) → b < 32768 → is_marked_used blocks b ≡ true) → IsLowestClear bitmap (length blocks - 32768) bit → IsLowestFree blocks (32768 + bit)
+  pub lowest_in_second : (bitmap : Octets) (bit : ℕ) → bitmap ≡ get_or blocks 1 [] → length blocks ≤ 65536
+      → ((b : ℕ) → b < 32768 → is_marked_used blocks b ≡ true) → IsLowestClear bitmap (length blocks - 32768) bit
+      → IsLowestFree blocks (32768 + bit)
   lowest_in_second bitmap bit is few before found = record {
     below = omega (arith, found.below);
     free = high bit (omega (arith, found.below)) ∙ found.clear;
@@ -82,9 +96,12 @@ module _ (blocks : List Octets) where
   }
     where
       high : (b : ℕ) → b < 32768 → is_marked_used blocks (32768 + b) ≡ bit_of bitmap b
-      high b small = let at : 32768 + b - 32768 * 1 ≡ b = omega arith in mark_in blocks 1 (32768 + b) bitmap is (omega arith) (omega arith) ∙ ap (λ (k : ℕ). bit_of bitmap k) at
+      high b small = let at : 32768 + b - 32768 * 1 ≡ b = omega arith in mark_in blocks 1 (32768 + b) bitmap is (omega arith) (omega arith)
+          ∙ ap (λ (k : ℕ). bit_of bitmap k) at
 
-  pub second_full : (bitmap : Octets) → bitmap ≡ get_or blocks 1 [] → length blocks ≤ 65536 → ((b : ℕ) → b < 32768 → is_marked_used blocks b ≡ true) → ((b : ℕ) → b < length blocks - 32768 → bit_of bitmap b ≡ true) → HasNoFreeBlock blocks
+  pub second_full : (bitmap : Octets) → bitmap ≡ get_or blocks 1 [] → length blocks ≤ 65536
+      → ((b : ℕ) → b < 32768 → is_marked_used blocks b ≡ true) → ((b : ℕ) → b < length blocks - 32768 → bit_of bitmap b ≡ true)
+      → HasNoFreeBlock blocks
   second_full bitmap is few before full b low = elim (cases_lt b 32768) [
     | inl first ↦ before b first
     | inr second ↦ mark_in blocks 1 b bitmap is (omega arith) (omega arith) ∙ full (b - 32768 * 1) (omega arith)
@@ -99,34 +116,45 @@ count_none p a n none = count_same p (λ i. false) a 0 n none ∙ never n
     never zero = refl
     never (suc n) =
         let more : suc n ≡ n + 1 = omega arith in
-        ap (λ (k : ℕ). count_by {X = ℕ} (λ i. false) (range_with_len 0 k)) more ∙ count_more (λ i. false) n ∙ (let z : count_by {X = ℕ} (λ i. false) (range_with_len 0 n) + 0 ≡ count_by {X = ℕ} (λ i. false) (range_with_len 0 n) = omega arith in z) ∙ never n
+        ap (λ (k : ℕ). count_by {X = ℕ} (λ i. false) (range_with_len 0 k)) more ∙ count_more (λ i. false) n
+        ∙ (let z : count_by {X = ℕ} (λ i. false) (range_with_len 0 n) + 0 ≡ count_by {X = ℕ} (λ i. false) (range_with_len 0 n) =
+        omega arith in z) ∙ never n
 
 pub none_free : (blocks : List Octets) → HasNoFreeBlock blocks → free_blocks blocks ≡ 0
 none_free blocks full =
-    count_none (λ b. not (is_marked_used blocks b)) 0 (length blocks) (λ i low. let at : 0 + i ≡ i = omega arith in ap (λ (k : ℕ). not (is_marked_used blocks k)) at ∙ ap not (full i low))
+    count_none (λ b. not (is_marked_used blocks b)) 0 (length blocks) (λ i low. let at : 0 + i ≡ i = omega arith in
+    ap (λ (k : ℕ). not (is_marked_used blocks k)) at ∙ ap not (full i low))
 
 -- one number fewer passes
-pub count_one_less : (p q : ℕ → Bool) (b n : ℕ) → b < n → p b ≡ true → q b ≡ false → ((i : ℕ) → i < n → i ≢ b → q i ≡ p i) → count_by q (range_with_len 0 n) + 1 ≡ count_by p (range_with_len 0 n)
+pub count_one_less : (p q : ℕ → Bool) (b n : ℕ) → b < n → p b ≡ true → q b ≡ false → ((i : ℕ) → i < n → i ≢ b → q i ≡ p i)
+    → count_by q (range_with_len 0 n) + 1 ≡ count_by p (range_with_len 0 n)
 count_one_less p q b n low was is same =
     let whole : (b + 1) + (n - (b + 1)) ≡ n = omega arith in
-    let front : count_by q (range_with_len 0 b) ≡ count_by p (range_with_len 0 b) = count_same q p 0 0 b (λ i less. let at : 0 + i ≡ i = omega arith in ap q at ∙ same i (omega arith) (omega arith) ∙ ap p (sym at)) in
-    let rest : count_by q (range_with_len (0 + (b + 1)) (n - (b + 1))) ≡ count_by p (range_with_len (0 + (b + 1)) (n - (b + 1))) = count_same q p (0 + (b + 1)) (0 + (b + 1)) (n - (b + 1)) (λ i less. same (0 + (b + 1) + i) (omega arith) (omega arith)) in
+    let front : count_by q (range_with_len 0 b) ≡ count_by p (range_with_len 0 b) =
+    count_same q p 0 0 b (λ i less. let at : 0 + i ≡ i = omega arith in ap q at ∙ same i (omega arith) (omega arith) ∙ ap p (sym at)) in
+    let rest : count_by q (range_with_len (0 + (b + 1)) (n - (b + 1))) ≡ count_by p (range_with_len (0 + (b + 1)) (n - (b + 1))) =
+    count_same q p (0 + (b + 1)) (0 + (b + 1)) (n - (b + 1)) (λ i less. same (0 + (b + 1) + i) (omega arith) (omega arith)) in
     let splits_p = count_split p 0 (b + 1) (n - (b + 1)) in
     let splits_q = count_split q 0 (b + 1) (n - (b + 1)) in
     let one_p = count_more p b ∙ ap (λ (t : Bool). count_by p (range_with_len 0 b) + cond t 1 0) was in
     let one_q = count_more q b ∙ ap (λ (t : Bool). count_by q (range_with_len 0 b) + cond t 1 0) is in
-    sums (ap (λ (k : ℕ). count_by p (range_with_len 0 k)) whole) (ap (λ (k : ℕ). count_by q (range_with_len 0 k)) whole) splits_p splits_q one_p one_q front rest
+    sums (ap (λ (k : ℕ). count_by p (range_with_len 0 k)) whole) (ap (λ (k : ℕ). count_by q (range_with_len 0 k)) whole) splits_p splits_q
+    one_p one_q front rest
   where
-    sums : {a a' b b' c c' d d' e e' : ℕ} → a ≡ b → a' ≡ b' → a ≡ c + d → a' ≡ c' + d' → c ≡ e + 1 → c' ≡ e' + 0 → e' ≡ e → d' ≡ d → b' + 1 ≡ b
+    sums : {a a' b b' c c' d d' e e' : ℕ} → a ≡ b → a' ≡ b' → a ≡ c + d → a' ≡ c' + d' → c ≡ e + 1 → c' ≡ e' + 0 → e' ≡ e → d' ≡ d
+        → b' + 1 ≡ b
     sums h1 h2 h3 h4 h5 h6 h7 h8 = omega arith
 
-pub one_less_free : (block : ℕ) (old new : List Octets) → length old ≤ 65536 → TakesBlock block old new → free_blocks new + 1 ≡ free_blocks old
+pub one_less_free : (block : ℕ) (old new : List Octets) → length old ≤ 65536 → TakesBlock block old new
+    → free_blocks new + 1 ≡ free_blocks old
 one_less_free block old new few takes =
     ap (λ (n : ℕ). count_by (λ b. not (is_marked_used new b)) (range_with_len 0 n) + 1) takes.sets.count
-    ∙ count_one_less (λ b. not (is_marked_used old b)) (λ b. not (is_marked_used new b)) block (length old) takes.lowest.below (ap not takes.lowest.free) (ap not takes.sets.here) (λ i low apart. ap not (takes.sets.other i (omega arith) apart))
+    ∙ count_one_less (λ b. not (is_marked_used old b)) (λ b. not (is_marked_used new b)) block (length old) takes.lowest.below
+    (ap not takes.lowest.free) (ap not takes.sets.here) (λ i low apart. ap not (takes.sets.other i (omega arith) apart))
 
 -- below a number none is free still
-pub none_after_taken : (n block : ℕ) (old new : List Octets) → length old ≤ 65536 → TakesBlock block old new → NoneFreeBelow n old → NoneFreeBelow n new
+pub none_after_taken : (n block : ℕ) (old new : List Octets) → length old ≤ 65536 → TakesBlock block old new → NoneFreeBelow n old
+    → NoneFreeBelow n new
 none_after_taken n block old new few takes none b less low = elim (cases_eq b block) [
   | inl same ↦ ap (λ (k : ℕ). is_marked_used new k) same ∙ takes.sets.here
   | inr other ↦
@@ -135,7 +163,10 @@ none_after_taken n block old new few takes none b less low = elim (cases_eq b bl
 ]
 
 -- the same marks
-pub same_free : (old new : List Octets) → length new ≡ length old → ((b : ℕ) → b < length old → is_marked_used new b ≡ is_marked_used old b) → free_blocks new ≡ free_blocks old
+pub same_free : (old new : List Octets) → length new ≡ length old → ((b : ℕ) → b < length old → is_marked_used new b ≡ is_marked_used old b)
+    → free_blocks new ≡ free_blocks old
 same_free old new count same =
     ap (λ (n : ℕ). count_by (λ b. not (is_marked_used new b)) (range_with_len 0 n)) count
-    ∙ count_same (λ b. not (is_marked_used new b)) (λ b. not (is_marked_used old b)) 0 0 (length old) (λ i low. let at : 0 + i ≡ i = omega arith in ap (λ (k : ℕ). not (is_marked_used new k)) at ∙ ap not (same i low) ∙ ap (λ (k : ℕ). not (is_marked_used old k)) (sym at))
+    ∙ count_same (λ b. not (is_marked_used new b)) (λ b. not (is_marked_used old b)) 0 0 (length old) (λ i low. let at : 0 + i ≡ i =
+    omega arith in ap (λ (k : ℕ). not (is_marked_used new k)) at ∙ ap not (same i low)
+    ∙ ap (λ (k : ℕ). not (is_marked_used old k)) (sym at))

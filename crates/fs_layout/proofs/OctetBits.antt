@@ -1,5 +1,6 @@
 -- The bits of an octet, counted.
-use Rattle.std.proofs.Common.{◌≡◌, ◌<◌, ℕ, zero, suc, ◌+◌, ◌-◌, ◌*◌, ◌/◌, ◌%◌, ◌^◌, cond, eqb, not, Bool, true, false, count_by, List, [], ◌∷◌, get_or, length, refl, sym, ◌∙◌, ap, arith}
+use Rattle.std.proofs.Common.{◌≡◌, ◌<◌, ℕ, zero, suc, ◌+◌, ◌-◌, ◌*◌, ◌/◌, ◌%◌, ◌^◌, cond, eqb, not, Bool, true, false, count_by, List, []}
+use Rattle.std.proofs.Common.{◌∷◌, get_or, length, refl, sym, ◌∙◌, ap, arith}
 use Rattle.std.specs.Prelude.{count_ones}
 use Rattle.std.specs.Int.Count.{ones-ones}
 use Rattle.std.specs.List.{range_with_len}
@@ -47,14 +48,17 @@ set_bits (suc d) n small =
     moved i =
         let next : 0 + 1 + i ≡ suc i = omega arith in
         let same : 0 + i ≡ i = omega arith in
-        ap (has_bit n) next ∙ ap (λ (k : ℕ). eqb (n / k % 2) 1) (pow-succ' 2 i) ∙ ap (λ (k : ℕ). eqb (k % 2) 1) (sym (div-div-eq-div-mul n 2 (2 ^ i))) ∙ ap (has_bit (n / 2)) (sym same)
+        ap (has_bit n) next ∙ ap (λ (k : ℕ). eqb (n / k % 2) 1) (pow-succ' 2 i)
+        ∙ ap (λ (k : ℕ). eqb (k % 2) 1) (sym (div-div-eq-div-mul n 2 (2 ^ i))) ∙ ap (has_bit (n / 2)) (sym same)
 
 count_not : (p : ℕ → Bool) (xs : List ℕ) → count_by p xs + count_by (λ x. not (p x)) xs ≡ length xs
 count_not p [] = refl
 count_not p (x ∷ xs) =
     either (p x) (count_cons p x xs) (count_cons (λ y. not (p y)) x xs) (count_not p xs)
   where
-    either : (t : Bool) → count_by p (x ∷ xs) ≡ cond t 1 0 + count_by p xs → count_by (λ y. not (p y)) (x ∷ xs) ≡ cond (not t) 1 0 + count_by (λ y. not (p y)) xs → count_by p xs + count_by (λ y. not (p y)) xs ≡ length xs
+    either : (t : Bool) → count_by p (x ∷ xs) ≡ cond t 1 0 + count_by p xs
+        → count_by (λ y. not (p y)) (x ∷ xs) ≡ cond (not t) 1 0 + count_by (λ y. not (p y)) xs
+        → count_by p xs + count_by (λ y. not (p y)) xs ≡ length xs
         → count_by p (x ∷ xs) + count_by (λ y. not (p y)) (x ∷ xs) ≡ suc (length xs)
     either true set clear rest = omega arith
     either false set clear rest = omega arith
@@ -67,14 +71,18 @@ clear_bits_of n small =
     omega (arith, all, many, set)
 
 -- the bits of one octet more
-pub octet_more : (octets : Octets) (place clear here : ℕ) → clear ≡ count_by (λ b. not (bit_of octets b)) (range_with_len 0 (8 * place)) → here ≡ count_by (λ j. not (has_bit (get_or octets place 0) j)) (range_with_len 0 8)
+pub octet_more : (octets : Octets) (place clear here : ℕ) → clear ≡ count_by (λ b. not (bit_of octets b)) (range_with_len 0 (8 * place))
+    → here ≡ count_by (λ j. not (has_bit (get_or octets place 0) j)) (range_with_len 0 8)
     → clear + here ≡ count_by (λ b. not (bit_of octets b)) (range_with_len 0 (8 * (place + 1)))
 octet_more octets place clear here so_far counted =
     let many : 8 * (place + 1) ≡ 8 * place + 8 = omega arith in
     let split = count_split (λ b. not (bit_of octets b)) 0 (8 * place) 8 in
     let at : 0 + 8 * place ≡ 8 * place + 0 = omega arith in
-    let same = count_same (λ b. not (bit_of octets b)) (λ j. not (has_bit (get_or octets place 0) j)) (0 + 8 * place) 0 8 (λ i low. moved i low) in
-    ap (λ (k : ℕ). k + here) so_far ∙ ap (λ (k : ℕ). count_by (λ b. not (bit_of octets b)) (range_with_len 0 (8 * place)) + k) (counted ∙ sym same) ∙ sym split ∙ ap (λ (k : ℕ). count_by (λ b. not (bit_of octets b)) (range_with_len 0 k)) (sym many)
+    let same = count_same (λ b. not (bit_of octets b)) (λ j. not (has_bit (get_or octets place 0) j)) (0 + 8 * place) 0 8
+    (λ i low. moved i low) in
+    ap (λ (k : ℕ). k + here) so_far
+    ∙ ap (λ (k : ℕ). count_by (λ b. not (bit_of octets b)) (range_with_len 0 (8 * place)) + k) (counted ∙ sym same) ∙ sym split
+    ∙ ap (λ (k : ℕ). count_by (λ b. not (bit_of octets b)) (range_with_len 0 k)) (sym many)
   where
     moved : (i : ℕ) → i < 8 → not (bit_of octets (0 + 8 * place + i)) ≡ not (has_bit (get_or octets place 0) (0 + i))
     moved i low =

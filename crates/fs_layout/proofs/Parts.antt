@@ -1,5 +1,6 @@
 -- Numbers in records.
-use Rattle.std.proofs.Common.{◌≡◌, ◌<◌, ◌≤◌, ℕ, ◌+◌, ◌-◌, ◌*◌, ◌/◌, ◌%◌, eqb, List, [], get_or, take, drop, sym, ◌∙◌, ap, arith, count_by, Bool}
+use Rattle.std.proofs.Common.{◌≡◌, ◌<◌, ◌≤◌, ℕ, ◌+◌, ◌-◌, ◌*◌, ◌/◌, ◌%◌, eqb, List, [], get_or, take, drop, sym, ◌∙◌, ap, arith, count_by}
+use Rattle.std.proofs.Common.{Bool}
 use Rattle.std.specs.List.{range_with_len}
 use Rattle.std.proofs.lemmas.List.{drop-take, drop-drop}
 use Rattle.byteorder.specs.Endian.{little_number}
@@ -20,7 +21,8 @@ number_in_part from a n octets fits =
     ∙ ap (λ (l : Octets). little_number n l) (drop-drop a from octets)
 
 -- the kind of an inode in its block
-pub kind_in_block : (inodes : ℕ) (blocks : List Octets) (block : Octets) (t i : ℕ) → i < 64 → block ≡ get_or blocks (2 + t) [] → eqb (kind (entry inodes blocks (0 + 64 * t + i))) 0 ≡ eqb (number_at (64 * (0 + i)) 4 block) 0
+pub kind_in_block : (inodes : ℕ) (blocks : List Octets) (block : Octets) (t i : ℕ) → i < 64 → block ≡ get_or blocks (2 + t) []
+    → eqb (kind (entry inodes blocks (0 + 64 * t + i))) 0 ≡ eqb (number_at (64 * (0 + i)) 4 block) 0
 kind_in_block inodes blocks block t i low is =
     let k : ℕ = 0 + 64 * t + i in
     let at : (0 + 64 * t + i) % 64 * 64 + 0 ≡ 64 * (0 + i) = omega arith in
@@ -32,7 +34,9 @@ kind_in_block inodes blocks block t i low is =
     ∙ ap (λ (o : Octets). number_at (64 * (0 + i)) 4 o) (sym is))
 
 -- one block of 64 more
-pub table_more : (p q : ℕ → Bool) (t m free count : ℕ) → m ≡ 64 → free ≡ count_by p (range_with_len 0 (64 * t)) → count ≡ count_by q (range_with_len 0 m) → ((i : ℕ) → i < m → p (0 + 64 * t + i) ≡ q (0 + i)) → free + count ≡ count_by p (range_with_len 0 (64 * (t + 1)))
+pub table_more : (p q : ℕ → Bool) (t m free count : ℕ) → m ≡ 64 → free ≡ count_by p (range_with_len 0 (64 * t))
+    → count ≡ count_by q (range_with_len 0 m) → ((i : ℕ) → i < m → p (0 + 64 * t + i) ≡ q (0 + i))
+    → free + count ≡ count_by p (range_with_len 0 (64 * (t + 1)))
 table_more p q t m free count is so_far here same =
     let length_is : 64 * t + m ≡ 64 * (t + 1) = omega arith in
     ap (λ (n : ℕ). n + count) so_far

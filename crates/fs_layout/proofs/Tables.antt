@@ -1,5 +1,6 @@
 -- Files by inode.
-use Rattle.std.proofs.Common.{◌≡◌, ◌≢◌, inl, inr, ◌<◌, ◌≤◌, ℕ, cond, eqb, Option, Some, None, List, [], length, get_or, set, sym, ◌∙◌, ap, arith, length-set}
+use Rattle.std.proofs.Common.{◌≡◌, ◌≢◌, inl, inr, ◌<◌, ◌≤◌, ℕ, cond, eqb, Option, Some, None, List, [], length, get_or, set, sym, ◌∙◌, ap}
+use Rattle.std.proofs.Common.{arith, length-set}
 use Rattle.std.proofs.lemmas.List.{get_or_past, ext_get_or, get_or-set_same, get_or-set_other}
 use Rattle.std.proofs.lemmas.List.FromFn.{length-map-range_with_len, get_or-map-range_with_len}
 use Rattle.std.proofs.lemmas.Bool.{cases_lt, cases_eq}
@@ -21,11 +22,18 @@ module _ (inodes : ℕ) (blocks : List Octets) where
 
   pub file_at_free : (k : ℕ) → IsFree (entry inodes blocks k) → file_at inodes blocks k ≡ None
   file_at_free k free =
-      ap (λ (n : ℕ). cond (eqb n 0) None (Some (record { name = name_in (slot_of inodes blocks k); content = content_of blocks (entry inodes blocks k) }))) (free_kind (entry inodes blocks k) free)
+      ap (λ (n : ℕ). cond (eqb n 0) None
+      (Some (record { name = name_in (slot_of inodes blocks k); content = content_of blocks (entry inodes blocks k) })))
+      (free_kind (entry inodes blocks k) free)
 
-  pub file_at_file : (k : ℕ) → IsFile (entry inodes blocks k) → file_at inodes blocks k ≡ Some (record { name = name_in (slot_of inodes blocks k); content = content_of blocks (entry inodes blocks k) })
+  pub file_at_file : (k : ℕ) → IsFile (entry inodes blocks k)
+      → file_at inodes blocks k ≡ Some (record {
+        name = name_in (slot_of inodes blocks k);
+        content = content_of blocks (entry inodes blocks k);
+      })
   file_at_file k file =
-      ap (λ (n : ℕ). cond (eqb n 0) None (Some (record { name = name_in (slot_of inodes blocks k); content = content_of blocks (entry inodes blocks k) }))) file.kind_is
+      ap (λ (n : ℕ). cond (eqb n 0) None
+      (Some (record { name = name_in (slot_of inodes blocks k); content = content_of blocks (entry inodes blocks k) }))) file.kind_is
 
   -- a file of this name
   pub record IsNamed (k : ℕ) (name content : Octets) : Type 0 where
@@ -53,22 +61,27 @@ module _ (inodes : ℕ) (blocks : List Octets) where
       ]
     ]
 
-    pub file_from_slot : (k : ℕ) (name : Octets) → k < inodes → 1 ≤ length name → slot_of inodes blocks k ≡ slot_octets name → IsFile (entry inodes blocks k)
+    pub file_from_slot : (k : ℕ) (name : Octets) → k < inodes → 1 ≤ length name → slot_of inodes blocks k ≡ slot_octets name
+        → IsFile (entry inodes blocks k)
     file_from_slot k name low some slot = elim (fs.each k low) [
       | inl free ↦ absurd (free_slot (entry inodes blocks k) free name some slot)
       | inr file ↦ file
     ]
 
-    pub there_from_slot : (k : ℕ) (name : Octets) → k < inodes → 1 ≤ length name → slot_of inodes blocks k ≡ slot_octets name → IsFileAt (table inodes blocks) k name (content_of blocks (entry inodes blocks k))
+    pub there_from_slot : (k : ℕ) (name : Octets) → k < inodes → 1 ≤ length name → slot_of inodes blocks k ≡ slot_octets name
+        → IsFileAt (table inodes blocks) k name (content_of blocks (entry inodes blocks k))
     there_from_slot k name low some slot =
         get_or-table k low ∙ file_at_file k (file_from_slot k name low some slot)
-        ∙ ap (λ (n : Octets). Some (record { name = n; content = content_of blocks (entry inodes blocks k) })) (ap name_in slot ∙ name_in-slot_octets name)
+        ∙ ap (λ (n : Octets). Some (record { name = n; content = content_of blocks (entry inodes blocks k) })) (ap name_in slot
+        ∙ name_in-slot_octets name)
 
-    pub no_slot : (name : Octets) → ((k : ℕ) → k < inodes → slot_of inodes blocks k ≢ slot_octets name) → ¬ (IsThere (table inodes blocks) name)
+    pub no_slot : (name : Octets) → ((k : ℕ) → k < inodes → slot_of inodes blocks k ≢ slot_octets name)
+        → ¬ (IsThere (table inodes blocks) name)
     no_slot name none (k, content, is) = let named = named_from_there k name content is in none k named.below named.slot
 
 -- a name has one file
-pub there_once : (inodes : ℕ) (blocks : List Octets) → IsFileSystem inodes blocks → (k l : ℕ) (name c d : Octets) → IsFileAt (table inodes blocks) k name c → IsFileAt (table inodes blocks) l name d → c ≡ d
+pub there_once : (inodes : ℕ) (blocks : List Octets) → IsFileSystem inodes blocks → (k l : ℕ) (name c d : Octets)
+    → IsFileAt (table inodes blocks) k name c → IsFileAt (table inodes blocks) l name d → c ≡ d
 there_once inodes blocks fs k l name c d first second =
     let one = named_from_there inodes blocks fs k name c first in
     let other = named_from_there inodes blocks fs l name d second in
@@ -76,9 +89,12 @@ there_once inodes blocks fs k l name c d first second =
     one.content_is ∙ ap (λ (n : ℕ). content_of blocks (entry inodes blocks n)) same ∙ sym other.content_is
 
 -- one inode has another file
-pub table_set : (inodes k : ℕ) (old new : List Octets) (file : Option File) → k < inodes → ((l : ℕ) → l < inodes → l ≢ k → file_at inodes new l ≡ file_at inodes old l) → file_at inodes new k ≡ file → table inodes new ≡ set (table inodes old) k file
+pub table_set : (inodes k : ℕ) (old new : List Octets) (file : Option File) → k < inodes
+    → ((l : ℕ) → l < inodes → l ≢ k → file_at inodes new l ≡ file_at inodes old l) → file_at inodes new k ≡ file
+    → table inodes new ≡ set (table inodes old) k file
 table_set inodes k old new file low others here =
-    ext_get_or None (table inodes new) (set (table inodes old) k file) (length-table inodes new ∙ sym (length-set (table inodes old) k file ∙ length-table inodes old)) each
+    ext_get_or None (table inodes new) (set (table inodes old) k file) (length-table inodes new
+    ∙ sym (length-set (table inodes old) k file ∙ length-table inodes old)) each
   where
     each : (l : ℕ) → l < length (table inodes new) → get_or (table inodes new) l None ≡ get_or (set (table inodes old) k file) l None
     each l inside =
@@ -86,7 +102,8 @@ table_set inodes k old new file low others here =
         elim (cases_eq l k) [
           | inl same ↦
               get_or-table inodes new l below ∙ ap (λ (m : ℕ). file_at inodes new m) same ∙ here
-              ∙ sym (ap (λ (m : ℕ). get_or (set (table inodes old) k file) m None) same ∙ get_or-set_same (table inodes old) k file None (omega (arith, length-table inodes old)))
+              ∙ sym (ap (λ (m : ℕ). get_or (set (table inodes old) k file) m None) same
+              ∙ get_or-set_same (table inodes old) k file None (omega (arith, length-table inodes old)))
           | inr other ↦
               get_or-table inodes new l below ∙ others l below other
               ∙ sym (get_or-set_other (table inodes old) k l file None other ∙ get_or-table inodes old l below)

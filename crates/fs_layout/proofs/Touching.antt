@@ -1,5 +1,6 @@
 -- Changes one after the other, and the blocks that they reach.
-use Rattle.std.proofs.Common.{◌≡◌, ◌≢◌, ◌⊎◌, inl, inr, ◌<◌, ◌≤◌, ℕ, ◌+◌, ◌-◌, ◌*◌, ◌/◌, ◌%◌, cond, eqb, ltb, Bool, List, [], ◌∷◌, ◌++◌, length, get_or, map, set, refl, sym, ◌∙◌, ap, subst, arith, length-append}
+use Rattle.std.proofs.Common.{◌≡◌, ◌≢◌, ◌⊎◌, inl, inr, ◌<◌, ◌≤◌, ℕ, ◌+◌, ◌-◌, ◌*◌, ◌/◌, ◌%◌, cond, eqb, ltb, Bool, List, [], ◌∷◌, ◌++◌}
+use Rattle.std.proofs.Common.{length, get_or, map, set, refl, sym, ◌∙◌, ap, subst, arith, length-append}
 use Rattle.std.specs.List.{Contains, range_with_len}
 use Rattle.std.proofs.lemmas.Bool.{cases_lt, le-ltb, lt-ltb, ne_eqb}
 use Rattle.std.proofs.lemmas.List.{get_or-set_other}
@@ -8,7 +9,8 @@ use Rattle.std.proofs.lemmas.List.FromFn.{length-map-range_with_len, get_or-map-
 use Rattle.model.specs.Stream.{Octets}
 use Rattle.model.specs.Room.{content_blocks, pointers_put}
 use Rattle.fs_layout.specs.Blocks.{PutsRecord}
-use Rattle.fs_layout.specs.Touches.{SameBut, Touches, TouchesInode, TouchesData, inode_block, slot_block, double_of, table_of, blocks_reached, touched_by_cut, touched_by_growth}
+use Rattle.fs_layout.specs.Touches.{SameBut, Touches, TouchesInode, TouchesData, inode_block, slot_block, double_of, table_of}
+use Rattle.fs_layout.specs.Touches.{blocks_reached, touched_by_cut, touched_by_growth}
 
 -- ---- lists of numbers
 
@@ -22,7 +24,8 @@ only : (x b : ℕ) → Contains (x ∷ []) b → b ≡ x
 only x b has = elim (Contains-push_cases [] x b has) [ inl none ↦ absurd (omega (arith, none.1)) | inr is ↦ sym is ]
 
 pub not_two : (x y b : ℕ) → b ≢ x → b ≢ y → ¬ (Contains (x ∷ y ∷ []) b)
-not_two x y b other another has = elim (Contains-push_cases (x ∷ []) y b has) [ inl first ↦ other (only x b first) | inr is ↦ another (sym is) ]
+not_two x y b other another has =
+    elim (Contains-push_cases (x ∷ []) y b has) [ inl first ↦ other (only x b first) | inr is ↦ another (sym is) ]
 
 -- ---- the law
 
@@ -55,12 +58,14 @@ put_in_bitmap number block old low = record {
 
 -- ---- an inode and its slot
 
-pub inode_then_slot : (inodes k : ℕ) (octets slot : Octets) (old mid new : List Octets) → PutsRecord 2 k octets old mid → PutsRecord (2 + inodes / 64) k slot mid new → SameBut (inode_block k ∷ slot_block inodes k ∷ []) old new
+pub inode_then_slot : (inodes k : ℕ) (octets slot : Octets) (old mid new : List Octets) → PutsRecord 2 k octets old mid
+    → PutsRecord (2 + inodes / 64) k slot mid new → SameBut (inode_block k ∷ slot_block inodes k ∷ []) old new
 inode_then_slot inodes k octets slot old mid new first second b some lacks =
     second.blocks b (λ is. lacks (is_later (inode_block k) (slot_block inodes k ∷ []) b (is_first (slot_block inodes k) [] b is)))
     ∙ first.blocks b (λ is. lacks (is_first (inode_block k) (slot_block inodes k ∷ []) b is))
 
-pub slot_then_inode : (inodes k : ℕ) (octets slot : Octets) (old mid new : List Octets) → PutsRecord (2 + inodes / 64) k slot old mid → PutsRecord 2 k octets mid new → Touches 2 old new
+pub slot_then_inode : (inodes k : ℕ) (octets slot : Octets) (old mid new : List Octets) → PutsRecord (2 + inodes / 64) k slot old mid
+    → PutsRecord 2 k octets mid new → Touches 2 old new
 slot_then_inode inodes k octets slot old mid new first second = record {
   others = inode_block k ∷ slot_block inodes k ∷ [];
   few = omega arith;
@@ -75,7 +80,8 @@ pub inode_none : (k from : ℕ) (old : List Octets) → TouchesInode k from from
 inode_none k from old = record { same = λ b some other named. refl; double = inl refl; tables = λ p. inl refl }
 
 -- blocks are freed from the end
-pub inode_then : (k from mid_at to : ℕ) (old mid new : List Octets) → from ≤ mid_at → mid_at ≤ to → TouchesInode k mid_at to old mid → TouchesInode k from mid_at mid new → TouchesInode k from to old new
+pub inode_then : (k from mid_at to : ℕ) (old mid new : List Octets) → from ≤ mid_at → mid_at ≤ to → TouchesInode k mid_at to old mid
+    → TouchesInode k from mid_at mid new → TouchesInode k from to old new
 inode_then k from mid_at to old mid new low high first second = record {
   same = λ b some other named.
       second.same b some other (λ i above below. (
@@ -105,7 +111,8 @@ pub record Naming (d : ℕ) (t : ℕ → ℕ) (from to end : ℕ) : Type 0 where
   pub few : length blocks ≤ pointers_put (to - from) end
   pub apart : (b : ℕ) → 2 ≤ b → ¬ (Contains blocks b) → (i : ℕ) → from ≤ i → i < to → (b ≢ d) × (b ≢ t ((i - 10) / 1024))
 
-module _ (d : ℕ) (t : ℕ → ℕ) (from to end : ℕ) (counted : to ≡ (end + 4095) / 4096) (within : from ≤ to) (no_double : to ≤ 1034 → d ≡ 0) (no_table : to ≤ 10 → t 0 ≡ 0) where
+module _ (d : ℕ) (t : ℕ → ℕ) (from to end : ℕ) (counted : to ≡ (end + 4095) / 4096) (within : from ≤ to) (no_double : to ≤ 1034
+    → d ≡ 0) (no_table : to ≤ 10 → t 0 ≡ 0) where
   -- the place of the first of them, and their number
   abbrev first : ℕ
   first = (from - 10) / 1024
@@ -120,8 +127,11 @@ module _ (d : ℕ) (t : ℕ → ℕ) (from to end : ℕ) (counted : to ≡ (end 
   is_theirs i above below =
       let place : (i - 10) / 1024 - first < many = omega (arith, above, below) in
       let at : first + ((i - 10) / 1024 - first) ≡ (i - 10) / 1024 = omega (arith, above) in
-      let long = length-map-range_with_len t first many in
-      ((i - 10) / 1024 - first, omega (arith, place, long), get_or-map-range_with_len t first many ((i - 10) / 1024 - first) ((i - 10) / 1024) (t ((i - 10) / 1024)) place at)
+      let long = length-map-range_with_len t first many in (
+        (i - 10) / 1024 - first,
+        omega (arith, place, long),
+        get_or-map-range_with_len t first many ((i - 10) / 1024 - first) ((i - 10) / 1024) (t ((i - 10) / 1024)) place at,
+      )
 
   value : from < to → pointers_put (to - from) end ≡ cond (ltb 4235264 end) (2 + (to - from + 1022) / 1024) (cond (ltb 40960 end) 1 0)
   value some =
@@ -139,7 +149,8 @@ module _ (d : ℕ) (t : ℕ → ℕ) (from to end : ℕ) (counted : to ≡ (end 
   few_middle middle some = omega (arith, length-map-range_with_len t first many, some, counted, middle)
 
   value_huge : 4235264 < end → from < to → pointers_put (to - from) end ≡ 2 + (to - from + 1022) / 1024
-  value_huge huge some = value some ∙ ap (λ (b : Bool). cond {A = ℕ} b (2 + (to - from + 1022) / 1024) (cond (ltb 40960 end) 1 0)) (lt-ltb 4235264 end huge)
+  value_huge huge some = value some
+      ∙ ap (λ (b : Bool). cond {A = ℕ} b (2 + (to - from + 1022) / 1024) (cond (ltb 40960 end) 1 0)) (lt-ltb 4235264 end huge)
 
   few_huge : from < to → length their ≤ 1 + (to - from + 1022) / 1024
   few_huge some = omega (arith, length-map-range_with_len t first many, some)
@@ -154,7 +165,8 @@ module _ (d : ℕ) (t : ℕ → ℕ) (from to end : ℕ) (counted : to ≡ (end 
         apart = λ b some lacks i above below.
             let place : (i - 10) / 1024 ≡ 0 = omega (arith, below, counted, small) in (
               (λ is. absurd (let none = no_double (omega (arith, counted, small)) in omega (arith, some, is, none))),
-              (λ is. absurd (let none = no_table (omega (arith, counted, small)) in let same = ap t place in omega (arith, some, is, none, same))),
+              (λ is. absurd (let none = no_table (omega (arith, counted, small)) in let same = ap t place in
+                  omega (arith, some, is, none, same))),
             );
       }
       | inl large ↦ elim (cases_lt 4235264 end) [
@@ -179,9 +191,12 @@ module _ (d : ℕ) (t : ℕ → ℕ) (from to end : ℕ) (counted : to ≡ (end 
   ]
 
 -- a file of `was` octets is cut to `size`
-module _ (k was size : ℕ) (old new : List Octets) (less : size ≤ was) (no_double : content_blocks was ≤ 1034 → double_of old k ≡ 0) (no_table : content_blocks was ≤ 10 → table_of old k 0 ≡ 0) (touches : TouchesInode k (content_blocks size) (content_blocks was) old new) where
+module _ (k was size : ℕ) (old new : List Octets) (less : size ≤ was) (no_double : content_blocks was ≤ 1034
+    → double_of old k ≡ 0) (no_table : content_blocks was ≤ 10
+    → table_of old k 0 ≡ 0) (touches : TouchesInode k (content_blocks size) (content_blocks was) old new) where
   named : Naming (double_of old k) (table_of old k) (content_blocks size) (content_blocks was) was
-  named = naming (double_of old k) (table_of old k) (content_blocks size) (content_blocks was) was refl (omega (arith, less)) no_double no_table
+  named = naming (double_of old k) (table_of old k) (content_blocks size) (content_blocks was) was refl
+      (omega (arith, less)) no_double no_table
 
   pub inode_touches : Touches (touched_by_cut was size) old new
   inode_touches = record {
@@ -193,15 +208,18 @@ module _ (k was size : ℕ) (old new : List Octets) (less : size ≤ was) (no_do
   }
 
   -- then its inode and its slot are freed
-  pub inode_and_slot : (inodes : ℕ) (newer : List Octets) → SameBut (inode_block k ∷ slot_block inodes k ∷ []) new newer → Touches (1 + touched_by_cut was size) old newer
+  pub inode_and_slot : (inodes : ℕ) (newer : List Octets) → SameBut (inode_block k ∷ slot_block inodes k ∷ []) new newer
+      → Touches (1 + touched_by_cut was size) old newer
   inode_and_slot inodes newer second = record {
     others = slot_block inodes k ∷ inode_block k ∷ named.blocks;
     few = omega (arith, named.few);
     same = λ b some lacks.
         let slot : b ≢ slot_block inodes k = λ is. lacks (is_first (slot_block inodes k) (inode_block k ∷ named.blocks) b is) in
-        let other : b ≢ inode_block k = λ is. lacks (is_later (slot_block inodes k) (inode_block k ∷ named.blocks) b (is_first (inode_block k) named.blocks b is)) in
+        let other : b ≢ inode_block k =
+        λ is. lacks (is_later (slot_block inodes k) (inode_block k ∷ named.blocks) b (is_first (inode_block k) named.blocks b is)) in
         second b some (not_two (inode_block k) (slot_block inodes k) b other slot)
-        ∙ touches.same b some other (named.apart b some (λ has. lacks (is_later (slot_block inodes k) (inode_block k ∷ named.blocks) b (is_later (inode_block k) named.blocks b has))));
+        ∙ touches.same b some other (named.apart b some
+        (λ has. lacks (is_later (slot_block inodes k) (inode_block k ∷ named.blocks) b (is_later (inode_block k) named.blocks b has))));
   }
 
 -- ---- data
@@ -209,10 +227,12 @@ module _ (k was size : ℕ) (old new : List Octets) (less : size ≤ was) (no_do
 pub data_none : (k from : ℕ) (old : List Octets) → TouchesData k [] from from old old
 data_none k from old = record { same = λ b some other named lacks. refl; double = inr refl; tables = λ p. inr refl }
 
-pub data_then : (k : ℕ) (xs ys : List ℕ) (from mid_at to : ℕ) (old mid new : List Octets) → from ≤ mid_at → mid_at ≤ to → TouchesData k xs from mid_at old mid → TouchesData k ys mid_at to mid new → TouchesData k (ys ++ xs) from to old new
+pub data_then : (k : ℕ) (xs ys : List ℕ) (from mid_at to : ℕ) (old mid new : List Octets) → from ≤ mid_at → mid_at ≤ to
+    → TouchesData k xs from mid_at old mid → TouchesData k ys mid_at to mid new → TouchesData k (ys ++ xs) from to old new
 data_then k xs ys from mid_at to old mid new low high first second = record {
   same = λ b some other named lacks.
-      second.same b some other (λ i above below. named i (omega (arith, above, low)) below) (λ has. lacks (Contains-append_left ys xs b has))
+      second.same b some other (λ i above below. named i (omega (arith, above, low)) below)
+      (λ has. lacks (Contains-append_left ys xs b has))
       ∙ first.same b some other (λ i above below. (
         elim second.double [
           | inl none ↦ λ is. omega (arith, some, is, none)
@@ -243,7 +263,8 @@ pub record Reached (place from count n : ℕ) : Type 0 where
 pub reached_none : (place count : ℕ) → Reached place 0 count 0
 reached_none place count = record { few = omega arith; none = λ is. refl; edge = inl refl }
 
-pub reached_more : (place from some count x : ℕ) (xs : List ℕ) → Reached place from count (length xs) → from < count → 0 < some → (from + some < count → (place + (from + some)) % 4096 ≡ 0) → from + some ≤ count → Reached place (from + some) count (length (x ∷ xs))
+pub reached_more : (place from some count x : ℕ) (xs : List ℕ) → Reached place from count (length xs) → from < count → 0 < some
+    → (from + some < count → (place + (from + some)) % 4096 ≡ 0) → from + some ≤ count → Reached place (from + some) count (length (x ∷ xs))
 reached_more place from some count x xs so_far left positive whole within = record {
   few = elim so_far.edge [
     | inl start ↦ omega (arith, so_far.none start, start, positive)
@@ -271,30 +292,45 @@ pub record Spread (k size from count : ℕ) (old new : List Octets) : Type 0 whe
 pub spread_none : (k size count : ℕ) (old : List Octets) → Spread k size 0 count old old
 spread_none k size count old = record {
   blocks = [];
-  touched = let none : size ≡ size + 0 = omega arith in subst (λ (n : ℕ). TouchesData k [] (content_blocks size) (content_blocks n) old old) none (data_none k (content_blocks size) old);
+  touched = let none : size ≡ size + 0 = omega arith in
+      subst (λ (n : ℕ). TouchesData k [] (content_blocks size) (content_blocks n) old old) none (data_none k (content_blocks size) old);
   reached = reached_none size count;
 }
 
-pub spread_more : (k size from some count : ℕ) (old mid new : List Octets) → Spread k size from count old mid → (block : ℕ) × TouchesData k (block ∷ []) (content_blocks (size + from)) (content_blocks (size + from + some)) mid new → from < count → 0 < some → (from + some < count → (size + (from + some)) % 4096 ≡ 0) → from + some ≤ count → Spread k size (from + some) count old new
+pub spread_more : (k size from some count : ℕ) (old mid new : List Octets) → Spread k size from count old mid
+    → (block : ℕ) × TouchesData k (block ∷ []) (content_blocks (size + from)) (content_blocks (size + from + some)) mid new → from < count
+    → 0 < some → (from + some < count → (size + (from + some)) % 4096 ≡ 0) → from + some ≤ count → Spread k size (from + some) count old new
 spread_more k size from some count old mid new so_far (block, piece) left positive whole within = record {
   blocks = block ∷ so_far.blocks;
   touched =
       let sum : size + from + some ≡ size + (from + some) = omega arith in
       subst (λ (n : ℕ). TouchesData k (block ∷ so_far.blocks) (content_blocks size) (content_blocks n) old new) sum
-      (data_then k so_far.blocks (block ∷ []) (content_blocks size) (content_blocks (size + from)) (content_blocks (size + from + some)) old mid new (omega arith) (omega arith) so_far.touched piece);
+      (data_then k so_far.blocks (block ∷ []) (content_blocks size) (content_blocks (size + from))
+      (content_blocks (size + from + some)) old mid new (omega arith) (omega arith) so_far.touched piece);
   reached = reached_more size from some count block so_far.blocks so_far.reached left positive whole within;
 }
 
-module _ (k size count : ℕ) (old new : List Octets) (no_double : content_blocks (size + count) ≤ 1034 → double_of new k ≡ 0) (no_table : content_blocks (size + count) ≤ 10 → table_of new k 0 ≡ 0) (so_far : Spread k size count count old new) where
+module _ (k size count : ℕ) (old new : List Octets) (no_double : content_blocks (size + count) ≤ 1034
+    → double_of new k ≡ 0) (no_table : content_blocks (size + count) ≤ 10
+    → table_of new k 0 ≡ 0) (so_far : Spread k size count count old new) where
   spread_named : Naming (double_of new k) (table_of new k) (content_blocks size) (content_blocks (size + count)) (size + count)
-  spread_named = naming (double_of new k) (table_of new k) (content_blocks size) (content_blocks (size + count)) (size + count) refl (omega arith) no_double no_table
+  spread_named = naming (double_of new k) (table_of new k) (content_blocks size) (content_blocks (size + count)) (size + count) refl
+      (omega arith) no_double no_table
 
   pub spread_all : Touches (touched_by_growth size count) old new
   spread_all = record {
     others = inode_block k ∷ (spread_named.blocks ++ so_far.blocks);
-    few = omega (arith, length-append spread_named.blocks so_far.blocks, spread_named.few, reached_all size count count (length so_far.blocks) so_far.reached (omega arith));
+    few = omega (
+      arith,
+      length-append spread_named.blocks so_far.blocks,
+      spread_named.few,
+      reached_all size count count (length so_far.blocks) so_far.reached (omega arith),
+    );
     same = λ b some lacks.
         so_far.touched.same b some (λ is. lacks (is_first (inode_block k) (spread_named.blocks ++ so_far.blocks) b is))
-        (spread_named.apart b some (λ has. lacks (is_later (inode_block k) (spread_named.blocks ++ so_far.blocks) b (Contains-append_left spread_named.blocks so_far.blocks b has))))
-        (λ has. lacks (is_later (inode_block k) (spread_named.blocks ++ so_far.blocks) b (Contains-append_right spread_named.blocks so_far.blocks b has)));
+        (spread_named.apart b some (λ has. lacks
+        (is_later (inode_block k) (spread_named.blocks ++ so_far.blocks) b
+        (Contains-append_left spread_named.blocks so_far.blocks b has))))
+        (λ has. lacks (is_later (inode_block k) (spread_named.blocks ++ so_far.blocks) b
+        (Contains-append_right spread_named.blocks so_far.blocks b has)));
   }

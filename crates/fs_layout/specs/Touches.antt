@@ -58,7 +58,8 @@ touched_by_truncation was size = if nat_lt was size then touched_by_growth was (
 -- the most blocks that change when this many octets are written at a place of a file of this size: those that the
 -- octets touch, one of which may be counted twice, its inode's, and those that name the new blocks
 abbrev pub touched_by_write : ℕ → ℕ → ℕ → ℕ
-touched_by_write size place count = 2 + blocks_reached place count + pointers_put (content_blocks (place + count) - content_blocks size) (place + count)
+touched_by_write size place count =
+    2 + blocks_reached place count + pointers_put (content_blocks (place + count) - content_blocks size) (place + count)
 
 -- no block changes except the bitmap, the inode's, and those that named these blocks of its octets; each block that
 -- names blocks stays or is freed
@@ -70,6 +71,7 @@ pub record TouchesInode (k from to : ℕ) (old new : List Octets) : Type 0 where
 -- no block changes except the bitmap, the inode's, these of its octets, and those that name the new ones; each block
 -- that names blocks stays or is new
 pub record TouchesData (k : ℕ) (blocks : List ℕ) (from to : ℕ) (old new : List Octets) : Type 0 where
-  pub same : (b : ℕ) → 2 ≤ b → b ≢ inode_block k → NamesNone k from to new b → ¬ (Contains blocks b) → slice_index_or new b [] ≡ slice_index_or old b []
+  pub same : (b : ℕ) → 2 ≤ b → b ≢ inode_block k → NamesNone k from to new b → ¬ (Contains blocks b)
+      → slice_index_or new b [] ≡ slice_index_or old b []
   pub double : (double_of old k ≡ 0) ⊎ (double_of new k ≡ double_of old k)
   pub tables : (p : ℕ) → (table_of old k p ≡ 0) ⊎ (table_of new k p ≡ table_of old k p)

@@ -69,7 +69,8 @@ pub fn pointer_at<B: Blocks>(blocks: &B, inode: &[u8], i: u32) -> u32
     requires whole { length inode.now ≡ 64 }
     requires few { i < 66560 }
     requires double { 1034 ≤ i → IsThere (number_at 56 4 inode.now) (B.blocks blocks.now) }
-    requires indirect { 10 ≤ i → IsThere (indirect_pointer (entry_of (B.blocks blocks.now) inode.now []) ((i - 10) / 1024)) (B.blocks blocks.now) }
+    requires indirect { 10 ≤ i → IsThere (indirect_pointer (entry_of (B.blocks blocks.now) inode.now []) ((i - 10) / 1024))
+        (B.blocks blocks.now) }
     ensures { result ≡ pointer (entry_of (B.blocks blocks.now) inode.now []) i }
 {
     if i < DIRECT_POINTERS {

@@ -1,5 +1,6 @@
 -- What is left of a device whose gates are written back.
-use Rattle.std.proofs.Common.{◌≡◌, ◌⊎◌, inl, inr, ⊎_elim, ◌<◌, ◌≤◌, ℕ, suc, ◌+◌, ◌-◌, Bool, IsTrue, List, [], ◌∷◌, length, get_or, refl, sym, ◌∙◌, ap, subst, arith, Result, Ok, Err, IsErr}
+use Rattle.std.proofs.Common.{◌≡◌, ◌⊎◌, inl, inr, ⊎_elim, ◌<◌, ◌≤◌, ℕ, suc, ◌+◌, ◌-◌, Bool, IsTrue, List, [], ◌∷◌, length, get_or, refl}
+use Rattle.std.proofs.Common.{sym, ◌∙◌, ap, subst, arith, Result, Ok, Err, IsErr}
 use Rattle.std.proofs.lemmas.List.{ext_get_or}
 use Rattle.std.proofs.lemmas.Bool.{cases_order}
 use Rattle.disk.specs.Calls.{Makes, Writes}
@@ -16,7 +17,8 @@ use Rattle.gates.proofs.Looking.{all_within, gate_back, tells_then}
 
 -- an octet over itself
 same_octet : (at octet : ℕ) (image : List ℕ) → at < length image → octet ≡ get_or image at 0 → overwritten at (octet ∷ []) image ≡ image
-same_octet at octet image low is = ext_get_or 0 (overwritten at (octet ∷ []) image) image (length-overwritten at (octet ∷ []) image fits) each
+same_octet at octet image low is =
+    ext_get_or 0 (overwritten at (octet ∷ []) image) image (length-overwritten at (octet ∷ []) image fits) each
   where
     fits : at + length (octet ∷ []) ≤ length image
     fits = omega (arith, low)
@@ -37,7 +39,8 @@ torn_nowhere : (device : Device) (c : List ℕ) → IsTornAtGates device c c
 torn_nowhere device c = record { size = refl; others = λ k other. refl; octets = λ k. inl refl }
 
 -- one gate more
-torn_once_more : (device : Device) (at : ℕ) (a b c : List ℕ) → IsGate device at → IsTornAtGates device a b → Torn at 1 b c → IsTornAtGates device a c
+torn_once_more : (device : Device) (at : ℕ) (a b c : List ℕ) → IsGate device at → IsTornAtGates device a b → Torn at 1 b c
+    → IsTornAtGates device a c
 torn_once_more device at a b c gate so_far torn = record {
   size = torn.size ∙ so_far.size;
   others = λ k other. apart k (λ same. other (subst (λ (n : ℕ). IsGate device n) (sym same) gate)) ∙ so_far.others k other;
@@ -153,7 +156,8 @@ all_written first now partly = record {
 }
 
 -- before the first write
-pub unwritten : (e : DiskError) (first now : Device) → IsLook first now → (e ≡ DiskError.Fault) × (now.failures ≡ first.failures → ⊥) → Leaves (Err e) first now
+pub unwritten : (e : DiskError) (first now : Device) → IsLook first now → (e ≡ DiskError.Fault) × (now.failures ≡ first.failures → ⊥)
+    → Leaves (Err e) first now
 unwritten e first now look fault = record {
   content = λ t. tt;
   untaken = λ t is. absurd (apart e fault.0 is);
@@ -202,9 +206,11 @@ module _ (a b c : Device) (look : IsLook a b) (seen : IsSeen a b) where
   crash_then : (result : Result (Unit {0}) DiskError) → Leaves result b c → IsTrue a.tells → (x : List ℕ) → c.may_leave x → MayLeaveTorn a x
   crash_then result left t x leaves = torn_back t x (left.crash (tells_then a b look t) x leaves)
 
-  since_back : (result : Result (Unit {0}) DiskError) → Leaves result b c → IsTrue a.tells → (time : ℕ) (x : List ℕ) → time ≤ a.clock → c.left_since time x → a.left_since time x ⊎ MayLeaveTorn a x
+  since_back : (result : Result (Unit {0}) DiskError) → Leaves result b c → IsTrue a.tells → (time : ℕ) (x : List ℕ) → time ≤ a.clock
+      → c.left_since time x → a.left_since time x ⊎ MayLeaveTorn a x
   since_back result left t time x before leaves =
-      ⊎_elim (λ earlier. inl (look.since t time x before earlier)) (λ torn. inr (torn_back t x torn)) (left.since (tells_then a b look t) time x (omega (arith, before, look.time.later)) leaves)
+      ⊎_elim (λ earlier. inl (look.since t time x before earlier)) (λ torn. inr (torn_back t x torn))
+      (left.since (tells_then a b look t) time x (omega (arith, before, look.time.later)) leaves)
 
   pub leaves_then : (result : Result (Unit {0}) DiskError) → Leaves result b c → Leaves result a c
   leaves_then (Ok x) left = record {
@@ -231,30 +237,37 @@ module _ (a b c : Device) (look : IsLook a b) (seen : IsSeen a b) where
 module _ (D : Type 0) (device : D → Device) (sized : (d : D) → IsTrue (device d).tells → length (device d).content ≡ (device d).size) where
   go : (first : D) (octets : List ℕ) (s : ℕ) (result : Result (Unit {0}) DiskError) (now new : D)
       → ((k : ℕ) → k < length octets → IsItsGate (device first) (gate_at (s + k)) (get_or octets k 0))
-      → IsPartly (device first) (device now) → Makes device (writes_from s octets) result now new → Leaves result (device first) (device new)
+      → IsPartly (device first) (device now) → Makes device (writes_from s octets) result now new
+      → Leaves result (device first) (device new)
   go first [] s result now new its partly made =
       subst (λ (d : D). Leaves result (device first) (device d)) (sym made.1)
-      (subst (λ (r : Result (Unit {0}) DiskError). Leaves r (device first) (device now)) (sym made.0) (all_written (device first) (device now) partly))
+      (subst (λ (r : Result (Unit {0}) DiskError). Leaves r (device first) (device now)) (sym made.0)
+      (all_written (device first) (device now) partly))
   go first (octet ∷ octets) s result now new its partly (inl did) =
       go first octets (s + 1) result did.0 new
-      (λ k low. let place : s + suc k ≡ s + 1 + k = omega arith in subst (λ (n : ℕ). IsItsGate (device first) (gate_at n) (get_or octets k 0)) place (its (suc k) (omega (arith, low))))
+      (λ k low. let place : s + suc k ≡ s + 1 + k = omega arith in
+      subst (λ (n : ℕ). IsItsGate (device first) (gate_at n) (get_or octets k 0)) place (its (suc k) (omega (arith, low))))
       (one_more_write (device first) (device now) (device did.0) (gate_at s) octet (here s octet octets its) partly did.1.0) did.1.1
     where
       here : (s octet : ℕ) (octets : List ℕ)
           → ((k : ℕ) → k < length (octet ∷ octets) → IsItsGate (device first) (gate_at (s + k)) (get_or (octet ∷ octets) k 0))
           → IsItsGate (device first) (gate_at s) octet
-      here s octet octets its = let none : s + 0 ≡ s = omega arith in subst (λ (n : ℕ). IsItsGate (device first) (gate_at n) octet) none (its 0 (omega arith))
+      here s octet octets its = let none : s + 0 ≡ s = omega arith in
+          subst (λ (n : ℕ). IsItsGate (device first) (gate_at n) octet) none (its 0 (omega arith))
   go first (octet ∷ octets) s (Ok x) now new its partly (inr refused) = absurd (no_err x refused.0)
     where
       no_err : (x : Unit {0}) → IsErr {T = Unit {0}} {E = DiskError} (Ok x) → ⊥
       no_err x is = cc
   go first (octet ∷ octets) s (Err e) now new its partly (inr refused) =
       refused_write (device first) (device now) (device new) (gate_at s) octet
-      (let none : s + 0 ≡ s = omega arith in subst (λ (n : ℕ). IsItsGate (device first) (gate_at n) octet) none (its 0 (omega arith))) partly e refused.1
+      (let none : s + 0 ≡ s = omega arith in
+      subst (λ (n : ℕ). IsItsGate (device first) (gate_at n) octet) none (its 0 (omega arith))) partly e refused.1
 
   -- all of it
-  pub leaves : (result : Result (Unit {0}) DiskError) (first last : D) → WritesThem device result first last → Leaves result (device first) (device last)
-  leaves result first last them = go first them.octets 0 result them.read last its (looked (device first) (device them.read) them.look them.seen) them.written
+  pub leaves : (result : Result (Unit {0}) DiskError) (first last : D) → WritesThem device result first last
+      → Leaves result (device first) (device last)
+  leaves result first last them =
+      go first them.octets 0 result them.read last its (looked (device first) (device them.read) them.look them.seen) them.written
     where
       is_gate : (k : ℕ) → k < length them.octets → IsCount (length them.octets) (device first) → IsGate (device first) (gate_at k)
       is_gate k low (inl many) = (many.0, (k, (omega (arith, low, many.1), refl)))
@@ -263,7 +276,8 @@ module _ (D : Type 0) (device : D → Device) (sized : (d : D) → IsTrue (devic
       inside : IsTrue (device first).tells → (k : ℕ) → IsGate (device first) (gate_at k) → gate_at k < length (device first).content
       inside t k gate =
           let size = sized first t in
-          let within = all_within (segment_count (device first).content) (home_size (device first).content) (device first).size gate.0.low gate.0.exactly gate.1.0 gate.1.1.0 in
+          let within = all_within (segment_count (device first).content) (home_size (device first).content)
+          (device first).size gate.0.low gate.0.exactly gate.1.0 gate.1.1.0 in
           let same = gate.1.1.1 in
           omega (arith, size, within, same)
 
@@ -275,4 +289,5 @@ module _ (D : Type 0) (device : D → Device) (sized : (d : D) → IsTrue (devic
       }
 
       its : (k : ℕ) → k < length them.octets → IsItsGate (device first) (gate_at (0 + k)) (get_or them.octets k 0)
-      its k low = let same : k ≡ 0 + k = omega arith in subst (λ (n : ℕ). IsItsGate (device first) (gate_at n) (get_or them.octets k 0)) same (its_own k low)
+      its k low = let same : k ≡ 0 + k = omega arith in
+          subst (λ (n : ℕ). IsItsGate (device first) (gate_at n) (get_or them.octets k 0)) same (its_own k low)

@@ -1,5 +1,6 @@
 -- Reads that change nothing, one after the other, and what follows them.
-use Rattle.std.proofs.Common.{◌≡◌, ◌⊎◌, inl, inr, ◌<◌, ◌≤◌, ℕ, ◌+◌, ◌-◌, ◌*◌, Bool, if◌then◌else◌, IsTrue, List, length, Result, refl, sym, ◌∙◌, ap, subst, arith}
+use Rattle.std.proofs.Common.{◌≡◌, ◌⊎◌, inl, inr, ◌<◌, ◌≤◌, ℕ, ◌+◌, ◌-◌, ◌*◌, Bool, if◌then◌else◌, IsTrue, List, length, Result, refl, sym}
+use Rattle.std.proofs.Common.{◌∙◌, ap, subst, arith}
 use Rattle.std.proofs.lemmas.Bool.{cases_eq, eq-eqb, ne_eqb}
 use Rattle.disk.specs.Device.{Device}
 use Rattle.disk.specs.declared.DiskError.{DiskError}
@@ -23,11 +24,16 @@ none_seen a = record { content = λ t. refl; failures = refl }
 
 pub look_then : (a b c : Device) → IsLook a b → IsLook b c → IsLook a c
 look_then a b c first second = record {
-  time = record { size = second.time.size ∙ first.time.size; tells = second.time.tells ∙ first.time.tells; later = omega (arith, first.time.later, second.time.later) };
+  time = record {
+    size = second.time.size ∙ first.time.size;
+    tells = second.time.tells ∙ first.time.tells;
+    later = omega (arith, first.time.later, second.time.later);
+  };
   writes = second.writes ∙ first.writes;
   syncs = second.syncs ∙ first.syncs;
   crash = λ t image left. first.crash t image (second.crash (tells_then a b first t) image left);
-  since = λ t time image before left. first.since t time image before (second.since (tells_then a b first t) time image (omega (arith, before, first.time.later)) left);
+  since = λ t time image before left. first.since t time image before
+      (second.since (tells_then a b first t) time image (omega (arith, before, first.time.later)) left);
 }
 
 pub seen_then : (a b c : Device) → IsLook a b → IsSeen a b → IsSeen b c → IsSeen a c
@@ -55,19 +61,30 @@ all_within segments blocks size low is i there = elim (cases_eq i 0) [
 
 -- the count that a superblock tells
 pub count_of : (device : Device) (superblock : List ℕ) (n : ℕ) → superblock ≡ block 0 device.content → (size : ℕ) → size ≡ device.size
-    → (IsSuperblock superblock size × (n ≡ number_at 16 4 superblock + 1)) ⊎ ((IsSuperblock superblock size → ⊥) × (n ≡ 0)) → IsCount n device
+    → (IsSuperblock superblock size × (n ≡ number_at 16 4 superblock + 1)) ⊎ ((IsSuperblock superblock size → ⊥) × (n ≡ 0))
+    → IsCount n device
 count_of device superblock n is size same (inl told) =
-    inl (subst (λ (k : ℕ). IsSuperblock (block 0 device.content) k) same (subst (λ (x : List ℕ). IsSuperblock x size) is told.0), told.1 ∙ ap (λ (x : List ℕ). number_at 16 4 x + 1) is)
+    inl (
+      subst (λ (k : ℕ). IsSuperblock (block 0 device.content) k) same (subst (λ (x : List ℕ). IsSuperblock x size) is told.0),
+      told.1
+          ∙ ap (λ (x : List ℕ). number_at 16 4 x + 1) is,
+    )
 count_of device superblock n is size same (inr none) =
-    inr (λ it. none.0 (subst (λ (x : List ℕ). IsSuperblock x size) (sym is) (subst (λ (k : ℕ). IsSuperblock (block 0 device.content) k) (sym same) it)), none.1)
+    inr (
+      λ it. none.0 (subst (λ (x : List ℕ). IsSuperblock x size) (sym is)
+          (subst (λ (k : ℕ). IsSuperblock (block 0 device.content) k) (sym same) it)),
+      none.1,
+    )
 
 -- the same superblock, and the same size
 module _ (a b : Device) (look : IsLook a b) (seen : IsSeen a b) (t : IsTrue a.tells) where
   pub segments_back : HasSegments b → HasSegments a
-  segments_back is = subst (λ (n : ℕ). IsSuperblock (block 0 a.content) n) look.time.size (subst (λ (x : List ℕ). IsSuperblock (block 0 x) b.size) (seen.content t) is)
+  segments_back is = subst (λ (n : ℕ). IsSuperblock (block 0 a.content) n) look.time.size
+      (subst (λ (x : List ℕ). IsSuperblock (block 0 x) b.size) (seen.content t) is)
 
   pub segments_on : HasSegments a → HasSegments b
-  segments_on is = subst (λ (n : ℕ). IsSuperblock (block 0 b.content) n) (sym look.time.size) (subst (λ (x : List ℕ). IsSuperblock (block 0 x) a.size) (sym (seen.content t)) is)
+  segments_on is = subst (λ (n : ℕ). IsSuperblock (block 0 b.content) n) (sym look.time.size)
+      (subst (λ (x : List ℕ). IsSuperblock (block 0 x) a.size) (sym (seen.content t)) is)
 
   pub count_back : (n : ℕ) → IsCount n b → IsCount n a
   count_back n (inl many) = inl (segments_back many.0, many.1 ∙ ap (λ (x : List ℕ). segment_count x + 1) (seen.content t))
@@ -81,11 +98,15 @@ module _ (a b : Device) (look : IsLook a b) (seen : IsSeen a b) (t : IsTrue a.te
   gates_back octets gates = subst (λ (x : List ℕ). AreGates octets x) (seen.content t) gates
 
   pub gate_back : (k : ℕ) → IsGate b k → IsGate a k
-  gate_back k gate = (segments_back gate.0, (gate.1.0, (subst (λ (x : List ℕ). gate.1.0 < segment_count x + 1) (seen.content t) gate.1.1.0, gate.1.1.1)))
+  gate_back k gate = (
+    segments_back gate.0,
+    (gate.1.0, (subst (λ (x : List ℕ). gate.1.0 < segment_count x + 1) (seen.content t) gate.1.1.0, gate.1.1.1)),
+  )
 
 -- what is written back after them
 module _ (D : Type 0) (device : D → Device) where
-  pub back_then : (result : Result (Unit {0}) DiskError) (a b c : D) → IsLook (device a) (device b) → IsSeen (device a) (device b) → WritesBack device result b c → WritesBack device result a c
+  pub back_then : (result : Result (Unit {0}) DiskError) (a b c : D) → IsLook (device a) (device b) → IsSeen (device a) (device b)
+      → WritesBack device result b c → WritesBack device result a c
   back_then result a b c look seen (inl them) = inl (record {
     octets = them.octets;
     few = them.few;

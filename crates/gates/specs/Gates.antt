@@ -1,5 +1,6 @@
 -- The gates of a volume, read and written back.
-use Rattle.std.specs.Prelude.{◌≡◌, ◌⊎◌, ◌<◌, ◌≤◌, ℕ, ◌+◌, ◌-◌, ◌*◌, ◌==◌, if◌then◌else◌, IsTrue, List, [], ◌∷◌, length, slice_index, Result, IfErr, IsErr, OnOk}
+use Rattle.std.specs.Prelude.{◌≡◌, ◌⊎◌, ◌<◌, ◌≤◌, ℕ, ◌+◌, ◌-◌, ◌*◌, ◌==◌, if◌then◌else◌, IsTrue, List, [], ◌∷◌, length, slice_index, Result}
+use Rattle.std.specs.Prelude.{IfErr, IsErr, OnOk}
 use Rattle.disk.specs.Calls.{Call, Makes}
 use Rattle.disk.specs.Calls.Call.{Write}
 use Rattle.disk.specs.Device.{Device, Elapses, HasCause, LeavesNoMore, LeftNoMore}

@@ -85,7 +85,8 @@ fn read_first<D: Disk>(disk: &mut D, block: &mut Vec<u8>) -> Result<(), DiskErro
 // The number of gates of the volume with this superblock, on a device of `size` octets.
 fn count_told(superblock: &[u8], size: u64) -> usize
     requires { length superblock.now ≡ 4096 }
-    ensures count { (IsSuperblock superblock.now size × (result ≡ number_at 16 4 superblock.now + 1)) ⊎ ((IsSuperblock superblock.now size → ⊥) × (result ≡ 0)) }
+    ensures count { (IsSuperblock superblock.now size × (result ≡ number_at 16 4 superblock.now + 1))
+        ⊎ ((IsSuperblock superblock.now size → ⊥) × (result ≡ 0)) }
     ensures few { result ≤ 9 }
     ensures within { AreWithin result size }
 {
@@ -128,7 +129,8 @@ fn read_gate<D: Disk>(disk: &mut D, gate: u32) -> Result<u8, DiskError>
     requires within { gate_at gate < (D.device disk.old).size }
     ensures look { IsLook (D.device disk.old) (D.device disk.new) }
     ensures seen { OnOk result (IsSeen (D.device disk.old) (D.device disk.new)) }
-    ensures value { IsTrue (D.device disk.old).tells → IfOk result (λ octet. octet ≡ slice_index (D.device disk.old).content (gate_at gate)) }
+    ensures value { IsTrue (D.device disk.old).tells
+        → IfOk result (λ octet. octet ≡ slice_index (D.device disk.old).content (gate_at gate)) }
     ensures fault { IfErr result (λ error. (error ≡ DiskError.Fault) × ((D.device disk.new).failures ≢ (D.device disk.old).failures)) }
 {
     let mut octet = [0];

@@ -1,10 +1,13 @@
 -- What a command holds is in the grammar of its arguments.
-use Rattle.std.specs.Prelude.{◌≡◌, ℕ, Bool, true, false, cond, ◌&&◌, ◌||◌, List, [], ◌∷◌, Option, Some, None, option_map, option_and_then, unwrap_or}
+use Rattle.std.specs.Prelude.{◌≡◌, ℕ, Bool, true, false, cond, ◌&&◌, ◌||◌, List, [], ◌∷◌, Option, Some, None, option_map, option_and_then}
+use Rattle.std.specs.Prelude.{unwrap_or}
 use Rattle.std.proofs.Common.{refl}
 use Rattle.std.specs.List.{list_all}
 use Rattle.std.proofs.lemmas.Bool.{and_parts}
 use Rattle.model.specs.Commands as commands
-use Rattle.model.specs.Commands.{Listing, active, times, newsgroups, overview, command_of, fetch, list_of, list_with, listing_of, newgroups_of, newnews_of, is_date_word, is_time_word, is_zone, keyword_of, parsed_by, parsed_line, parsed_words, words}
+use Rattle.model.specs.Commands.{Listing, active, times, newsgroups, overview, command_of, fetch, list_of, list_with, listing_of}
+use Rattle.model.specs.Commands.{newgroups_of, newnews_of, is_date_word, is_time_word, is_zone, keyword_of, parsed_by, parsed_line}
+use Rattle.model.specs.Commands.{parsed_words, words}
 use Rattle.model.specs.Names.{begins, is_blank, is_visible, is_group_name, is_message_id, is_wildmat, number_of, range_of}
 use Rattle.model.specs.declared.command.Command.{Command}
 use Rattle.model.specs.declared.command.Command.TheVariants as command
@@ -29,7 +32,8 @@ fetched : (p : Part) (s : Option Selector) → ((x : Selector) → s ≡ Some x 
 fetched p None each = tt
 fetched p (Some x) each = each x refl
 
-is_selector : (word : List ℕ) (b : Bool) → is_message_id word ≡ b → (n : Option ℕ) (p : Part) → Holds (option_map (command.Fetch p) (cond b (Some (selector.Id word)) (option_map selector.Number n)))
+is_selector : (word : List ℕ) (b : Bool) → is_message_id word ≡ b → (n : Option ℕ) (p : Part)
+    → Holds (option_map (command.Fetch p) (cond b (Some (selector.Id word)) (option_map selector.Number n)))
 is_selector word true is n p = is
 is_selector word false is None p = tt
 is_selector word false is (Some n) p = tt
@@ -57,7 +61,8 @@ list_holds (Some w) is (Some overview) = tt
 
 newgroups_holds : (day time : List ℕ) → Holds (newgroups_of day time)
 newgroups_holds day time =
-    tested (is_date_word day && is_time_word time) (Some (command.NewGroups day time)) None (λ is. and_parts (is_date_word day) (is_time_word time) is) tt
+    tested (is_date_word day && is_time_word time) (Some (command.NewGroups day time)) None
+    (λ is. and_parts (is_date_word day) (is_time_word time) is) tt
 
 newnews_holds : (w day time : List ℕ) → Holds (newnews_of w day time)
 newnews_holds w day time =
@@ -93,22 +98,29 @@ command_holds commands.group (name ∷ []) = tested (is_group_name name) (Some (
 command_holds commands.group (a ∷ b ∷ more) = tt
 command_holds commands.listgroup [] = tt
 command_holds commands.listgroup (name ∷ []) = tested (is_group_name name) (Some (command.ListGroup name)) None (λ is. is) tt
-command_holds commands.listgroup (name ∷ word ∷ []) = tested (is_group_name name) (option_map (command.ListGroupRange name) (range_of word)) None (λ is. group_ranged name (range_of word) is) tt
+command_holds commands.listgroup (name ∷ word ∷ []) =
+    tested (is_group_name name) (option_map (command.ListGroupRange name) (range_of word)) None
+    (λ is. group_ranged name (range_of word) is) tt
 command_holds commands.listgroup (a ∷ b ∷ c ∷ more) = tt
 command_holds commands.over [] = tt
-command_holds commands.over (word ∷ []) = tested (is_message_id word) (Some (command.OverId word)) (option_map command.OverRange (range_of word)) (λ is. is) (ranged (range_of word))
+command_holds commands.over (word ∷ []) =
+    tested (is_message_id word) (Some (command.OverId word)) (option_map command.OverRange (range_of word)) (λ is. is)
+    (ranged (range_of word))
 command_holds commands.over (a ∷ b ∷ more) = tt
 command_holds commands.list [] = tt
 command_holds commands.list (word ∷ []) = list_holds None tt (listing_of word)
-command_holds commands.list (word ∷ w ∷ []) = tested (is_wildmat w) (list_with (Some w) word) None (λ is. list_holds (Some w) is (listing_of word)) tt
+command_holds commands.list (word ∷ w ∷ []) =
+    tested (is_wildmat w) (list_with (Some w) word) None (λ is. list_holds (Some w) is (listing_of word)) tt
 command_holds commands.list (a ∷ b ∷ c ∷ more) = tt
 command_holds commands.newgroups [] = tt
 command_holds commands.newgroups (a ∷ []) = tt
-command_holds commands.newgroups (day ∷ time ∷ zone) = tested (is_zone zone) (newgroups_of day time) None (λ is. newgroups_holds day time) tt
+command_holds commands.newgroups (day ∷ time ∷ zone) =
+    tested (is_zone zone) (newgroups_of day time) None (λ is. newgroups_holds day time) tt
 command_holds commands.newnews [] = tt
 command_holds commands.newnews (a ∷ []) = tt
 command_holds commands.newnews (a ∷ b ∷ []) = tt
-command_holds commands.newnews (w ∷ day ∷ time ∷ zone) = tested (is_zone zone) (newnews_of w day time) None (λ is. newnews_holds w day time) tt
+command_holds commands.newnews (w ∷ day ∷ time ∷ zone) =
+    tested (is_zone zone) (newnews_of w day time) None (λ is. newnews_holds w day time) tt
 command_holds commands.ihave [] = tt
 command_holds commands.ihave (id ∷ []) = tested (is_message_id id) (Some (command.Ihave id)) None (λ is. is) tt
 command_holds commands.ihave (a ∷ b ∷ more) = tt
@@ -120,7 +132,8 @@ found_holds (Some c) holds = holds
 words_hold : (clean : Bool) (ws : List (List ℕ)) → IsParsed (parsed_words clean ws)
 words_hold clean [] = tt
 words_hold clean (word ∷ ws) = by_keyword clean (keyword_of word) where
-  by_keyword : (b : Bool) (k : Option commands.Keyword) → IsParsed (unwrap_or (option_map (λ keyword. parsed_by b keyword ws) k) parsed.Unknown)
+  by_keyword : (b : Bool) (k : Option commands.Keyword)
+      → IsParsed (unwrap_or (option_map (λ keyword. parsed_by b keyword ws) k) parsed.Unknown)
   by_keyword b None = tt
   by_keyword true (Some k) = found_holds (command_of k ws) (command_holds k ws)
   by_keyword false (Some k) = tt

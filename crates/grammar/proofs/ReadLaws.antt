@@ -35,7 +35,8 @@ five_words commands.quit a b c d e more = refl
 five_words commands.stat a b c d e more = refl
 
 -- the arguments give the command of their words
-pub command_of_words : (keyword : commands.Keyword) (given : Arguments) (ws : List (List ℕ)) → Says given ws → command_of keyword (words_of given) ≡ command_of keyword ws
+pub command_of_words : (keyword : commands.Keyword) (given : Arguments) (ws : List (List ℕ)) → Says given ws
+    → command_of keyword (words_of given) ≡ command_of keyword ws
 command_of_words keyword arguments.None ws says = ap (command_of keyword) (sym says)
 command_of_words keyword (arguments.One a) ws says = ap (command_of keyword) (sym says)
 command_of_words keyword (arguments.Two a b) ws says = ap (command_of keyword) (sym says)
@@ -84,7 +85,8 @@ module _ (line : List ℕ) where
             ∙ line-known
 
         -- else the line is the command of its keyword and words, or bad
-        pub line-clean : true ≡ clean → (found : Option Command) → found ≡ command_of keyword rest → unwrap_or (option_map parsed.Command found) parsed.Bad ≡ parsed_line line
+        pub line-clean : true ≡ clean → (found : Option Command) → found ≡ command_of keyword rest
+            → unwrap_or (option_map parsed.Command found) parsed.Bad ≡ parsed_line line
         line-clean all found same =
             ap (λ o. unwrap_or (option_map parsed.Command o) parsed.Bad) same
             ∙ sym (cond-true clean (unwrap_or (option_map parsed.Command (command_of keyword rest)) parsed.Bad) parsed.Bad (sym all))

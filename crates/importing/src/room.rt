@@ -62,7 +62,8 @@ fn used_in_block<D: Disk>(journal: &mut Journal<D>, block: u64) -> Result<u32, J
     ensures size { journal.new.size ≡ journal.old.size }
     ensures tells { (D.device journal.new.disk).tells ≡ (D.device journal.old.disk).tells }
     ensures blocks { IsTrue (D.device journal.old.disk).tells → journal.new.blocks ≡ journal.old.blocks }
-    ensures value { IsTrue (D.device journal.old.disk).tells → IfOk result (λ used. used ≡ used_in (slice_index_or journal.old.blocks block [])) }
+    ensures value { IsTrue (D.device journal.old.disk).tells
+        → IfOk result (λ used. used ≡ used_in (slice_index_or journal.old.blocks block [])) }
 {
     let mut octets = [0; BLOCK_SIZE];
     journal.load(block, &mut octets)?;

@@ -1,5 +1,6 @@
 -- What the callers of the pushes know: laws for their premises.
-use Rattle.std.proofs.Common.{◌≡◌, ◌^◌, ℕ, zero, suc, ◌<◌, ◌≤◌, List, [], ◌∷◌, ◌++◌, length, map, get_or, refl, sym, ◌∙◌, ap, subst, arith, inl, inr, Bool, true, false, cond, eqb, eq-eqb}
+use Rattle.std.proofs.Common.{◌≡◌, ◌^◌, ℕ, zero, suc, ◌<◌, ◌≤◌, List, [], ◌∷◌, ◌++◌, length, map, get_or, refl, sym, ◌∙◌, ap, subst, arith}
+use Rattle.std.proofs.Common.{inl, inr, Bool, true, false, cond, eqb, eq-eqb}
 use Rattle.std.specs.Prelude.{Option, Some, None, Contains, IsPermutation, bytes_eq, filter, find, flat_map, nat_le, ◌&&◌, ◌||◌}
 use Rattle.std.specs.List.{list_all, list_any, range_with_len}
 use Rattle.std.proofs.lemmas.Bool.{and_parts, leb-true, or_from}
@@ -29,17 +30,20 @@ use Rattle.index.proofs.Growing.{overview_size}
 
 -- ---- a new group
 
-lacks : (name : Octets) (gs : List NewsGroup) → find (λ (g : NewsGroup). is_name name g.name) gs ≡ None → list_any (bytes_eq name) (map (λ (g : NewsGroup). g.name) gs) ≡ false
+lacks : (name : Octets) (gs : List NewsGroup) → find (λ (g : NewsGroup). is_name name g.name) gs ≡ None
+    → list_any (bytes_eq name) (map (λ (g : NewsGroup). g.name) gs) ≡ false
 lacks name [] none = refl
 lacks name (g ∷ gs) none = by_test (bytes_eq g.name name) refl none (lacks name gs) where
   by_test : (b : Bool) → bytes_eq g.name name ≡ b → cond b (Some g) (find (λ (h : NewsGroup). is_name name h.name) gs) ≡ None
       → (find (λ (h : NewsGroup). is_name name h.name) gs ≡ None → list_any (bytes_eq name) (map (λ (h : NewsGroup). h.name) gs) ≡ false)
       → (bytes_eq name g.name || list_any (bytes_eq name) (map (λ (h : NewsGroup). h.name) gs)) ≡ false
   by_test true at is rest = absurd (cc)
-  by_test false at is rest = or_from (bytes_eq name g.name) (list_any (bytes_eq name) (map (λ (h : NewsGroup). h.name) gs)) (bytes_swap g.name name at) (rest is)
+  by_test false at is rest = or_from (bytes_eq name g.name) (list_any (bytes_eq name) (map (λ (h : NewsGroup). h.name) gs))
+      (bytes_swap g.name name at) (rest is)
 
 -- what `push_group` asks for, by `MayMake`
-pub no_head : (S : Spool) (x : IndexView) (name : Octets) → Indexes S x → group_named S name ≡ None → list_any (bytes_eq name) (heads x.groups) ≡ false
+pub no_head : (S : Spool) (x : IndexView) (name : Octets) → Indexes S x → group_named S name ≡ None
+    → list_any (bytes_eq name) (heads x.groups) ≡ false
 unfolding group_named
 no_head S x name is none =
     ap (λ (gs : List GroupIndex). list_any (bytes_eq name) (heads gs)) is.groups_are
@@ -56,10 +60,14 @@ fewer p (n ∷ names) = by_test (p n) (fewer p names) where
   by_test false rest = omega arith
 
 -- what `push_article` asks for, by `MayFile`
-pub few_groups : (host : Octets) (S : Spool) (text : Octets) (filed : List Octets) (moment : ℕ) → MayFile host S text filed moment → length filed ≤ 16
+pub few_groups : (host : Octets) (S : Spool) (text : Octets) (filed : List Octets) (moment : ℕ) → MayFile host S text filed moment
+    → length filed ≤ 16
 few_groups host S text filed moment may =
-    let good = and_parts (nat_le (length (groups_of text)) 16 && list_all is_group_name (groups_of text)) (are_distinct (groups_of text)) (no_cause Carried text (carried_cause text may.carried)).good_groups in
-    let few : length (groups_of text) ≤ 16 = leb-true (length (groups_of text)) 16 (and_parts (nat_le (length (groups_of text)) 16) (list_all is_group_name (groups_of text)) good.0).0 in
+    let good = and_parts (nat_le (length (groups_of text)) 16 && list_all is_group_name (groups_of text)) (are_distinct (groups_of text))
+    (no_cause Carried text (carried_cause text may.carried)).good_groups in
+    let few : length (groups_of text) ≤ 16 =
+    leb-true (length (groups_of text)) 16
+    (and_parts (nat_le (length (groups_of text)) 16) (list_all is_group_name (groups_of text)) good.0).0 in
     let count : length filed ≡ length (filter (is_here S) (groups_of text)) = ap (λ (names : List Octets). length names) may.filed in
     omega (arith, few, count, fewer (is_here S) (groups_of text))
 
@@ -75,18 +83,22 @@ among_groups S gs k g = Contains (flat_map (group_files S) gs) (record { name = 
 in_groups : (S : Spool) (gs : List NewsGroup) (k : ℕ) (g : NewsGroup) → k < length gs → get_or gs k g ≡ g → among_groups S gs k g
 in_groups S [] k g low at = absurd (omega arith)
 in_groups S (h ∷ gs) zero g low at =
-    Contains-append_left (group_files S h) (flat_map (group_files S) gs) (record { name = overview_name g.name; content = overview_file S g.name })
+    Contains-append_left (group_files S h) (flat_map (group_files S) gs)
+    (record { name = overview_name g.name; content = overview_file S g.name })
     (2, (omega arith), ap (λ (n : NewsGroup). record { name = overview_name n.name; content = overview_file S n.name }) at)
 in_groups S (h ∷ gs) (suc k) g low at =
-    Contains-append_right (group_files S h) (flat_map (group_files S) gs) (record { name = overview_name g.name; content = overview_file S g.name })
+    Contains-append_right (group_files S h) (flat_map (group_files S) gs)
+    (record { name = overview_name g.name; content = overview_file S g.name })
     (in_groups S gs k g (omega arith) at)
 
-overview_there : (S : Spool) (g : NewsGroup) → Contains (groups S) g → Contains (files_of S) (record { name = overview_name g.name; content = overview_file S g.name })
+overview_there : (S : Spool) (g : NewsGroup) → Contains (groups S) g
+    → Contains (files_of S) (record { name = overview_name g.name; content = overview_file S g.name })
 unfolding files_by_kind
 overview_there S g among =
     let f : File = record { name = overview_name g.name; content = overview_file S g.name } in
     Contains-permutation (files_by_kind S) (files_of S) f (IsPermutation-sym (files_of S) (files_by_kind S) (files_kinds S))
-    (Contains-append_left (flat_map (group_files S) (groups S)) (map article_file (articles S) ++ map expiry_file (expiries S)) f (in_groups S (groups S) among.0 g among.1 among.2))
+    (Contains-append_left (flat_map (group_files S) (groups S)) (map article_file (articles S) ++ map expiry_file (expiries S)) f
+    (in_groups S (groups S) among.0 g among.1 among.2))
 
 -- a file that is held has the octets of an inode
 record IsHeld (inodes : ℕ) (blocks : List Octets) (f : File) : Type 0 where
@@ -106,39 +118,76 @@ in_table : (t : List (Option File)) (f : File) → Contains (files_in t) f → I
 in_table [] f among = let low = among.1 in absurd (omega (arith, low))
 in_table (None ∷ t) f among = one_on None t f (in_table t f among)
 in_table (Some h ∷ t) f among = by_place among.0 among.1 among.2 (λ later. in_table t f later) where
-  by_place : (k : ℕ) → k < length (h ∷ files_in t) → get_or (h ∷ files_in t) k f ≡ f → (Contains (files_in t) f → IsAt t f) → IsAt (Some h ∷ t) f
+  by_place : (k : ℕ) → k < length (h ∷ files_in t) → get_or (h ∷ files_in t) k f ≡ f → (Contains (files_in t) f → IsAt t f)
+      → IsAt (Some h ∷ t) f
   by_place zero low at rest = record { at = 0; low = omega arith; its = λ d. ap Some at }
   by_place (suc k) low at rest = one_on (Some h) t f (rest (k, (omega arith), at))
 
 held_at : (inodes : ℕ) (blocks : List Octets) (f : File) → Contains (files_in (table inodes blocks)) f → IsHeld inodes blocks f
 held_at inodes blocks f among =
     let its = in_table (table inodes blocks) f among in
-    let low : its.at < inodes = (let small = its.low in omega (arith, small, length-map-range_with_len (λ k. file_at inodes blocks k) 0 inodes)) in
-    record { at = its.at; low = low; its = sym (get_or-map-range_with_len (λ k. file_at inodes blocks k) 0 inodes its.at its.at None low (omega arith)) ∙ its.its None }
+    let low : its.at < inodes = (let small = its.low in
+    omega (arith, small, length-map-range_with_len (λ k. file_at inodes blocks k) 0 inodes)) in
+    record {
+      at = its.at;
+      low = low;
+      its = sym (get_or-map-range_with_len (λ k. file_at inodes blocks k) 0 inodes its.at its.at None low (omega arith)) ∙ its.its None;
+    }
 
-small_file : (inodes : ℕ) (blocks : List Octets) (files : List File) (f : File) → HoldsFiles inodes blocks files → IsHeld inodes blocks f → length f.content ≤ 268_435_456
+small_file : (inodes : ℕ) (blocks : List Octets) (files : List File) (f : File) → HoldsFiles inodes blocks files → IsHeld inodes blocks f
+    → length f.content ≤ 268_435_456
 small_file inodes blocks files f holds held = elim (holds.rule.each held.at held.low) [
   | inl free ↦ absurd (none_there (kind (entry inodes blocks held.at)) (free_kind (entry inodes blocks held.at) free) held.its)
-  | inr file ↦ (let fits = file.small in let few = its_size (eqb (kind (entry inodes blocks held.at)) 0) held.its in omega (arith, fits, few))
+  | inr file ↦ (let fits = file.small in let few = its_size (eqb (kind (entry inodes blocks held.at)) 0) held.its in
+      omega (arith, fits, few))
 ]
   where
-    none_there : (n : ℕ) → n ≡ 0 → cond (eqb n 0) None (Some (record { name = Rattle.model.specs.Files.name_in (Rattle.model.specs.Files.slot_of inodes blocks held.at); content = content_of blocks (entry inodes blocks held.at) })) ≡ Some f → ⊥
-    none_there n zero_is same = absurd (let none : None ≡ Some f = ap (λ (b : Bool). cond b None (Some (record { name = Rattle.model.specs.Files.name_in (Rattle.model.specs.Files.slot_of inodes blocks held.at); content = content_of blocks (entry inodes blocks held.at) }))) (sym (eq-eqb n 0 zero_is)) ∙ same in cc)
+    none_there : (n : ℕ) → n ≡ 0 → cond (eqb n 0) None
+        (Some (record {
+          name = Rattle.model.specs.Files.name_in (Rattle.model.specs.Files.slot_of inodes blocks held.at);
+          content = content_of blocks (entry inodes blocks held.at);
+        })) ≡ Some f → ⊥
+    none_there n zero_is same = absurd (let none : None ≡ Some f =
+        ap (λ (b : Bool). cond b None (Some
+        (record {
+          name = Rattle.model.specs.Files.name_in (Rattle.model.specs.Files.slot_of inodes blocks held.at);
+          content = content_of blocks (entry inodes blocks held.at);
+        }))) (sym (eq-eqb n 0 zero_is)) ∙ same in cc)
 
-    its_size : (b : Bool) → cond b None (Some (record { name = Rattle.model.specs.Files.name_in (Rattle.model.specs.Files.slot_of inodes blocks held.at); content = content_of blocks (entry inodes blocks held.at) })) ≡ Some f → length f.content ≤ size (entry inodes blocks held.at)
+    its_size : (b : Bool) → cond b None
+        (Some (record {
+          name = Rattle.model.specs.Files.name_in (Rattle.model.specs.Files.slot_of inodes blocks held.at);
+          content = content_of blocks (entry inodes blocks held.at);
+        })) ≡ Some f → length f.content ≤ size (entry inodes blocks held.at)
     its_size true same = absurd (cc)
     its_size false same =
-        let one : record { name = Rattle.model.specs.Files.name_in (Rattle.model.specs.Files.slot_of inodes blocks held.at); content = content_of blocks (entry inodes blocks held.at) } ≡ f = cc in
+        let one : record {
+          name = Rattle.model.specs.Files.name_in (Rattle.model.specs.Files.slot_of inodes blocks held.at);
+          content = content_of blocks (entry inodes blocks held.at);
+        } ≡ f = cc in
         let long : length (content_of blocks (entry inodes blocks held.at)) ≡ length f.content = ap (λ (g : File). length g.content) one in
-        omega (arith, long, length-take (size (entry inodes blocks held.at)) (flat_map (λ i. Rattle.std.specs.Prelude.slice_index_or blocks (Rattle.model.specs.Files.pointer (entry inodes blocks held.at) i) []) (range_with_len 0 (Rattle.model.specs.Files.block_count (entry inodes blocks held.at)))))
+        omega (
+          arith,
+          long,
+          length-take (size (entry inodes blocks held.at))
+              (flat_map (λ i. Rattle.std.specs.Prelude.slice_index_or blocks
+              (Rattle.model.specs.Files.pointer (entry inodes blocks held.at) i) [])
+              (range_with_len 0 (Rattle.model.specs.Files.block_count (entry inodes blocks held.at)))),
+        )
 
-pub overview_small : (host : Octets) (inodes : ℕ) (blocks : List Octets) (S : Spool) (g : NewsGroup) → Holds host inodes blocks S → Contains (groups S) g → length (overview_file S g.name) ≤ 268_435_456
+pub overview_small : (host : Octets) (inodes : ℕ) (blocks : List Octets) (S : Spool) (g : NewsGroup) → Holds host inodes blocks S
+    → Contains (groups S) g → length (overview_file S g.name) ≤ 268_435_456
 overview_small host inodes blocks S g holds among =
     let f : File = record { name = overview_name g.name; content = overview_file S g.name } in
-    let there : Contains holds.files f = Contains-permutation (files_of S) holds.files f (IsPermutation-sym holds.files (files_of S) holds.same) (overview_there S g among) in
-    small_file inodes blocks holds.files f holds.held (held_at inodes blocks f (subst (λ (fs : List File). Contains fs f) holds.held.contents there))
+    let there : Contains holds.files f =
+    Contains-permutation (files_of S) holds.files f (IsPermutation-sym holds.files (files_of S) holds.same)
+    (overview_there S g among) in
+    small_file inodes blocks holds.files f holds.held
+    (held_at inodes blocks f (subst (λ (fs : List File). Contains fs f) holds.held.contents there))
 
-ends_among : (S : Spool) (gs : List NewsGroup) (limit k : ℕ) (i : GroupIndex) → ((g : NewsGroup) → Contains gs g → length (overview_file S g.name) < limit) → Rattle.std.specs.Prelude.slice_get (map (group_index S) gs) k ≡ Some i → end_of i < limit
+ends_among : (S : Spool) (gs : List NewsGroup) (limit k : ℕ) (i : GroupIndex)
+    → ((g : NewsGroup) → Contains gs g → length (overview_file S g.name) < limit)
+    → Rattle.std.specs.Prelude.slice_get (map (group_index S) gs) k ≡ Some i → end_of i < limit
 ends_among S [] limit k i small at = absurd (cc)
 ends_among S (g ∷ gs) limit zero i small at =
     let one : group_index S g ≡ i = same_Some (group_index S g) i at in
@@ -146,10 +195,12 @@ ends_among S (g ∷ gs) limit zero i small at =
     let few = small g (0, (omega arith), refl) in
     let same : end_of (group_index S g) ≡ end_of i = ap end_of one in
     omega (arith, its, few, same)
-ends_among S (g ∷ gs) limit (suc k) i small at = ends_among S gs limit k i (λ h among. small h (suc among.0, (let low = among.1 in omega (arith, low)), among.2)) at
+ends_among S (g ∷ gs) limit (suc k) i small at =
+    ends_among S gs limit k i (λ h among. small h (suc among.0, (let low = among.1 in omega (arith, low)), among.2)) at
 
 -- what `push_article` asks for, of a spool that blocks hold
-pub overviews_end : (host : Octets) (inodes : ℕ) (blocks : List Octets) (S : Spool) (x : IndexView) → Holds host inodes blocks S → Indexes S x → EndBelow (2 ^ 32) x.groups
+pub overviews_end : (host : Octets) (inodes : ℕ) (blocks : List Octets) (S : Spool) (x : IndexView) → Holds host inodes blocks S
+    → Indexes S x → EndBelow (2 ^ 32) x.groups
 overviews_end host inodes blocks S x holds is k i at =
     ends_among S (groups S) (2 ^ 32) k i (λ g among. let few = overview_small host inodes blocks S g holds among in omega (arith, few))
     (ap (λ (gs : List GroupIndex). Rattle.std.specs.Prelude.slice_get gs k) (sym is.groups_are) ∙ at)

@@ -1,5 +1,6 @@
 -- The index of a spool with one change more.
-use Rattle.std.proofs.Common.{◌≡◌, ℕ, zero, suc, ◌+◌, ◌<◌, ◌≤◌, List, [], ◌∷◌, ◌++◌, length, map, take, get_or, refl, sym, ◌∙◌, ap, arith, zero-add, Bool, true, false, cond, length-append}
+use Rattle.std.proofs.Common.{◌≡◌, ℕ, zero, suc, ◌+◌, ◌<◌, ◌≤◌, List, [], ◌∷◌, ◌++◌, length, map, take, get_or, refl, sym, ◌∙◌, ap, arith}
+use Rattle.std.proofs.Common.{zero-add, Bool, true, false, cond, length-append}
 use Rattle.std.specs.Prelude.{Option, Some, None, bytes_eq, find, filter, filter_map, flat_map, option_map, not, ◌||◌, ◌&&◌, nat_le}
 use Rattle.std.specs.List.{list_any, list_all}
 use Rattle.std.specs.Option.{option_or}
@@ -13,7 +14,8 @@ use Rattle.model.specs.Article.{Carried, are_distinct, groups_of, id}
 use Rattle.model.specs.Names.{is_group_name}
 use Rattle.model.specs.Indexed.{GroupIndex, ends_from, group_index, line_start, new_index, note_of, value_of, with_article, with_expiry}
 use Rattle.model.specs.Lawful.{IsLawful, MayExpire, MayFile, MayMake}
-use Rattle.model.specs.Spool.{Spool, Entry, entries_from, entries, NewsArticle, NewsGroup, article_filed, articles, by_id, filed_in, group_made, group_named, groups, has_id, is_here, is_name}
+use Rattle.model.specs.Spool.{Spool, Entry, entries_from, entries, NewsArticle, NewsGroup, article_filed, articles, by_id, filed_in}
+use Rattle.model.specs.Spool.{group_made, group_named, groups, has_id, is_here, is_name}
 use Rattle.model.specs.SpoolFiles.{next_line, overview_file, overview_lines, overview_of}
 use Rattle.model.specs.declared.change.Change.{Change}
 use Rattle.model.specs.declared.change.Change.TheVariants.{Group, Article, Expire}
@@ -48,10 +50,13 @@ count_entries S = entries_count 1 S
 
 pub notes_count : (S : Spool) (x : IndexView) → Indexes S x → length x.notes ≡ length S
 notes_count S x is =
-    ap (λ (ns : List Note). length ns) is.notes_are ∙ length-map (map note_of (entries S)) kept ∙ length-map (entries S) note_of ∙ count_entries S
+    ap (λ (ns : List Note). length ns) is.notes_are ∙ length-map (map note_of (entries S)) kept ∙ length-map (entries S) note_of
+    ∙ count_entries S
 
-pub new_serial : (S : Spool) (x : IndexView) (notes : List Note) (count : ℕ) → notes ≡ x.notes → Indexes S x → count ≡ length notes → count + 1 ≡ length S + 1
-new_serial S x notes count same is counted = let all : length notes ≡ length S = ap (λ (ns : List Note). length ns) same ∙ notes_count S x is in omega (arith, all, counted)
+pub new_serial : (S : Spool) (x : IndexView) (notes : List Note) (count : ℕ) → notes ≡ x.notes → Indexes S x → count ≡ length notes
+    → count + 1 ≡ length S + 1
+new_serial S x notes count same is counted = let all : length notes ≡ length S = ap (λ (ns : List Note). length ns) same
+    ∙ notes_count S x is in omega (arith, all, counted)
 
 -- ---- one change more
 
@@ -59,30 +64,39 @@ more_entries : (S : Spool) (c : Change) → entries (S ++ c ∷ []) ≡ entries 
 unfolding entries
 more_entries S c = entries_push 1 S c
 
-notes_more : (S : Spool) (x : IndexView) (c : Change) → Indexes S x → x.notes ++ kept (note_of (record { serial = length S + 1; change = c })) ∷ [] ≡ map kept (map note_of (entries (S ++ c ∷ [])))
+notes_more : (S : Spool) (x : IndexView) (c : Change) → Indexes S x
+    → x.notes ++ kept (note_of (record { serial = length S + 1; change = c })) ∷ [] ≡ map kept (map note_of (entries (S ++ c ∷ [])))
 notes_more S x c is =
     let e : Entry = record { serial = length S + 1; change = c } in
     ap (λ ns. ns ++ kept (note_of e) ∷ []) is.notes_are
     ∙ sym (map_push kept (map note_of (entries S)) (note_of e))
     ∙ ap (map kept) (sym (notes_grow S c))
 
-groups_of_more : (S : Spool) (c : Change) → groups (S ++ c ∷ []) ≡ groups S ++ filter_map group_made (record { serial = length S + 1; change = c } ∷ [])
+groups_of_more : (S : Spool) (c : Change)
+    → groups (S ++ c ∷ []) ≡ groups S ++ filter_map group_made (record { serial = length S + 1; change = c } ∷ [])
 unfolding groups
-groups_of_more S c = ap (filter_map group_made) (more_entries S c) ∙ filter_map-append group_made (entries S) (record { serial = length S + 1; change = c } ∷ [])
+groups_of_more S c = ap (filter_map group_made) (more_entries S c)
+    ∙ filter_map-append group_made (entries S) (record { serial = length S + 1; change = c } ∷ [])
 
-articles_of_more : (S : Spool) (c : Change) → articles (S ++ c ∷ []) ≡ articles S ++ filter_map article_filed (record { serial = length S + 1; change = c } ∷ [])
+articles_of_more : (S : Spool) (c : Change)
+    → articles (S ++ c ∷ []) ≡ articles S ++ filter_map article_filed (record { serial = length S + 1; change = c } ∷ [])
 unfolding articles
-articles_of_more S c = ap (filter_map article_filed) (more_entries S c) ∙ filter_map-append article_filed (entries S) (record { serial = length S + 1; change = c } ∷ [])
+articles_of_more S c = ap (filter_map article_filed) (more_entries S c)
+    ∙ filter_map-append article_filed (entries S) (record { serial = length S + 1; change = c } ∷ [])
 
 -- no article more
-ids_same : (S : Spool) (c : Change) (wanted : Octets) → filter_map article_filed (record { serial = length S + 1; change = c } ∷ []) ≡ [] → by_id (S ++ c ∷ []) wanted ≡ by_id S wanted
+ids_same : (S : Spool) (c : Change) (wanted : Octets) → filter_map article_filed (record { serial = length S + 1; change = c } ∷ []) ≡ []
+    → by_id (S ++ c ∷ []) wanted ≡ by_id S wanted
 unfolding by_id
-ids_same S c wanted none = ap (find (has_id wanted)) (articles_of_more S c ∙ ap (λ (as' : List NewsArticle). articles S ++ as') none ∙ append-nil (articles S))
+ids_same S c wanted none = ap (find (has_id wanted)) (articles_of_more S c ∙ ap (λ (as' : List NewsArticle). articles S ++ as') none
+    ∙ append-nil (articles S))
 
 ids_more : (S : Spool) (text : Octets) (filed : List Octets) (moment : ℕ) (wanted : Octets) →
-    by_id (S ++ Article text filed moment ∷ []) wanted ≡ option_or (by_id S wanted) (cond (bytes_eq (id text) wanted) (Some (record { serial = length S + 1; text = text; groups = filed; moment = moment })) None)
+    by_id (S ++ Article text filed moment ∷ []) wanted ≡ option_or (by_id S wanted)
+    (cond (bytes_eq (id text) wanted) (Some (record { serial = length S + 1; text = text; groups = filed; moment = moment })) None)
 unfolding by_id
-ids_more S text filed moment wanted = ap (find (has_id wanted)) (articles_of_more S (Article text filed moment)) ∙ find-append (has_id wanted) (articles S) _
+ids_more S text filed moment wanted = ap (find (has_id wanted)) (articles_of_more S (Article text filed moment))
+    ∙ find-append (has_id wanted) (articles S) _
 
 map_same : {X Y : Type 0} (f h : X → Y) (xs : List X) → ((x : X) → f x ≡ h x) → map f xs ≡ map h xs
 map_same f h [] same = refl
@@ -90,7 +104,9 @@ map_same f h (x ∷ xs) same = λ i. same x i ∷ map_same f h xs same i
 
 -- ---- a group more
 
-map_apart : {Y : Type 0} (f h : NewsGroup → Y) (name : Octets) (gs : List NewsGroup) → ((g : NewsGroup) → bytes_eq name g.name ≡ false → f g ≡ h g) → find (λ (g : NewsGroup). is_name name g.name) gs ≡ None → map f gs ≡ map h gs
+map_apart : {Y : Type 0} (f h : NewsGroup → Y) (name : Octets) (gs : List NewsGroup)
+    → ((g : NewsGroup) → bytes_eq name g.name ≡ false → f g ≡ h g) → find (λ (g : NewsGroup). is_name name g.name) gs ≡ None
+    → map f gs ≡ map h gs
 map_apart f h name [] same none = refl
 map_apart f h name (g ∷ gs) same none = by_test (bytes_eq g.name name) refl none (λ later. map_apart f h name gs same later) where
   by_test : (b : Bool) → bytes_eq g.name name ≡ b → cond b (Some g) (find (λ (x : NewsGroup). is_name name x.name) gs) ≡ None
@@ -102,20 +118,27 @@ groups_apart : (host : Octets) (S : Spool) (name : Octets) (status : ℕ) (descr
     → map (group_index (S ++ Group name status description moment ∷ [])) (groups S) ≡ map (group_index S) (groups S)
 unfolding group_named
 groups_apart host S name status description moment none =
-    map_apart (group_index (S ++ Group name status description moment ∷ [])) (group_index S) name (groups S) (λ g apart. groups_grow.others S name status description moment g apart) none
+    map_apart (group_index (S ++ Group name status description moment ∷ [])) (group_index S) name (groups S)
+    (λ g apart. groups_grow.others S name status description moment g apart) none
 
-pub group_indexed : (host : Octets) (S : Spool) (x y : IndexView) (name : Octets) (status : ℕ) (description : Octets) (moment : ℕ) (new : GroupIndex) (note : Note) → IsLawful host S → MayMake S name status description moment → Indexes S x
-    → y.notes ≡ x.notes ++ note ∷ [] → note ≡ kept (note_of (record { serial = length S + 1; change = Group name status description moment }))
-    → y.groups ≡ x.groups ++ new ∷ [] → new ≡ new_index S (record { serial = length S + 1; name = name; status = status; description = description; moment = moment })
+pub group_indexed : (host : Octets) (S : Spool) (x y : IndexView) (name : Octets) (status : ℕ) (description : Octets) (moment : ℕ)
+    (new : GroupIndex) (note : Note) → IsLawful host S → MayMake S name status description moment → Indexes S x
+    → y.notes ≡ x.notes ++ note ∷ []
+    → note ≡ kept (note_of (record { serial = length S + 1; change = Group name status description moment }))
+    → y.groups ≡ x.groups ++ new ∷ []
+    → new ≡ new_index S (record { serial = length S + 1; name = name; status = status; description = description; moment = moment })
     → y.ids ≡ x.ids → Indexes (S ++ Group name status description moment ∷ []) y
 group_indexed host S x y name status description moment new note lawful may is notes note_is groups' new_is ids = record {
   notes_are = notes ∙ ap (λ (n : Note). x.notes ++ n ∷ []) note_is ∙ notes_more S x c is;
   groups_are =
-      groups' ∙ ap (λ (i : GroupIndex). x.groups ++ i ∷ []) (new_is ∙ sym (groups_grow.its_own host S name status description moment g lawful may refl))
-      ∙ ap (λ (gs : List GroupIndex). gs ++ group_index R g ∷ []) (is.groups_are ∙ sym (groups_apart host S name status description moment may.new))
+      groups' ∙ ap (λ (i : GroupIndex). x.groups ++ i ∷ []) (new_is
+      ∙ sym (groups_grow.its_own host S name status description moment g lawful may refl))
+      ∙ ap (λ (gs : List GroupIndex). gs ++ group_index R g ∷ []) (is.groups_are
+      ∙ sym (groups_apart host S name status description moment may.new))
       ∙ sym (map_push (group_index R) (groups S) g) ∙ ap (map (group_index R)) (sym (groups_of_more S c));
   ids_are = λ wanted.
-      ap (λ (es : List (Octets × ℕ)). value_of es wanted) ids ∙ is.ids_are wanted ∙ ap (option_map (λ (a : NewsArticle). a.serial)) (sym (ids_same S c wanted refl));
+      ap (λ (es : List (Octets × ℕ)). value_of es wanted) ids ∙ is.ids_are wanted
+      ∙ ap (option_map (λ (a : NewsArticle). a.serial)) (sym (ids_same S c wanted refl));
 } where
   c : Change
   c = Group name status description moment
@@ -128,7 +151,8 @@ group_indexed host S x y name status description moment new note lawful may is n
 
 -- ---- an expiry more
 
-pub expiry_indexed : (host : Octets) (S : Spool) (x y : IndexView) (name : Octets) (number : ℕ) (note : Note) → MayExpire S name number → Indexes S x
+pub expiry_indexed : (host : Octets) (S : Spool) (x y : IndexView) (name : Octets) (number : ℕ) (note : Note) → MayExpire S name number
+    → Indexes S x
     → y.notes ≡ x.notes ++ note ∷ [] → note ≡ kept (note_of (record { serial = length S + 1; change = Expire name number }))
     → y.groups ≡ map (λ i. cond (bytes_eq name i.group.name) (with_expiry S number i) i) x.groups
     → y.ids ≡ x.ids → Indexes (S ++ Expire name number ∷ []) y
@@ -137,10 +161,12 @@ expiry_indexed host S x y name number note may is notes note_is groups' ids = re
   groups_are =
       groups' ∙ ap (map (λ (i : GroupIndex). cond (bytes_eq name i.group.name) (with_expiry S number i) i)) is.groups_are
       ∙ map_twice (λ (i : GroupIndex). cond (bytes_eq name i.group.name) (with_expiry S number i) i) (group_index S) (groups S)
-      ∙ map_same (λ (g : NewsGroup). cond (bytes_eq name g.name) (with_expiry S number (group_index S g)) (group_index S g)) (group_index R) (groups S) (λ g. sym (expiries_grow host S name number g may))
+      ∙ map_same (λ (g : NewsGroup). cond (bytes_eq name g.name) (with_expiry S number (group_index S g)) (group_index S g)) (group_index R)
+      (groups S) (λ g. sym (expiries_grow host S name number g may))
       ∙ ap (map (group_index R)) (sym (groups_of_more S c ∙ append-nil (groups S)));
   ids_are = λ wanted.
-      ap (λ (es : List (Octets × ℕ)). value_of es wanted) ids ∙ is.ids_are wanted ∙ ap (option_map (λ (a : NewsArticle). a.serial)) (sym (ids_same S c wanted refl));
+      ap (λ (es : List (Octets × ℕ)). value_of es wanted) ids ∙ is.ids_are wanted
+      ∙ ap (option_map (λ (a : NewsArticle). a.serial)) (sym (ids_same S c wanted refl));
 } where
   c : Change
   c = Expire name number
@@ -150,13 +176,15 @@ expiry_indexed host S x y name number note may is notes note_is groups' ids = re
 
 -- ---- an article more
 
-filter_lacks : (p : Octets → Bool) (x : Octets) (names : List Octets) → list_any (bytes_eq x) names ≡ false → list_any (bytes_eq x) (filter p names) ≡ false
+filter_lacks : (p : Octets → Bool) (x : Octets) (names : List Octets) → list_any (bytes_eq x) names ≡ false
+    → list_any (bytes_eq x) (filter p names) ≡ false
 filter_lacks p x [] none = refl
 filter_lacks p x (y ∷ names) none =
     let parts = or_parts (bytes_eq x y) (list_any (bytes_eq x) names) none in
     by_test (p y) parts.0 (filter_lacks p x names parts.1)
   where
-    by_test : (b : Bool) → bytes_eq x y ≡ false → list_any (bytes_eq x) (filter p names) ≡ false → list_any (bytes_eq x) (cond b (y ∷ filter p names) (filter p names)) ≡ false
+    by_test : (b : Bool) → bytes_eq x y ≡ false → list_any (bytes_eq x) (filter p names) ≡ false
+        → list_any (bytes_eq x) (cond b (y ∷ filter p names) (filter p names)) ≡ false
     by_test true other rest = or_from (bytes_eq x y) (list_any (bytes_eq x) (filter p names)) other rest
     by_test false other rest = rest
 
@@ -167,17 +195,22 @@ filter_distinct p (x ∷ names) distinct =
     let parts = and_parts (not (list_any (bytes_eq x) names)) (are_distinct names) distinct in
     by_test (p x) (filter_lacks p x names (not-true (list_any (bytes_eq x) names) parts.0)) (filter_distinct p names parts.1)
   where
-    by_test : (b : Bool) → list_any (bytes_eq x) (filter p names) ≡ false → are_distinct (filter p names) ≡ true → are_distinct (cond b (x ∷ filter p names) (filter p names)) ≡ true
+    by_test : (b : Bool) → list_any (bytes_eq x) (filter p names) ≡ false → are_distinct (filter p names) ≡ true
+        → are_distinct (cond b (x ∷ filter p names) (filter p names)) ≡ true
     by_test true none rest = ap (λ (t : Bool). not t && are_distinct (filter p names)) none ∙ rest
     by_test false none rest = rest
 
-pub filed_distinct : (host : Octets) (S : Spool) (text : Octets) (filed : List Octets) (moment : ℕ) → MayFile host S text filed moment → are_distinct filed ≡ true
+pub filed_distinct : (host : Octets) (S : Spool) (text : Octets) (filed : List Octets) (moment : ℕ) → MayFile host S text filed moment
+    → are_distinct filed ≡ true
 filed_distinct host S text filed moment may =
     ap are_distinct may.filed
-    ∙ filter_distinct (is_here S) (groups_of text) (and_parts (nat_le (length (groups_of text)) 16 && list_all is_group_name (groups_of text)) (are_distinct (groups_of text)) (no_cause Carried text (carried_cause text may.carried)).good_groups).1
+    ∙ filter_distinct (is_here S) (groups_of text)
+    (and_parts (nat_le (length (groups_of text)) 16 && list_all is_group_name (groups_of text)) (are_distinct (groups_of text))
+    (no_cause Carried text (carried_cause text may.carried)).good_groups).1
 
 -- a name differs from all in front of it
-lacks_front : (x h : Octets) (names : List Octets) (k : ℕ) → k < length names → list_any (bytes_eq x) names ≡ false → bytes_eq (get_or names k []) h ≡ true → bytes_eq x h ≡ false
+lacks_front : (x h : Octets) (names : List Octets) (k : ℕ) → k < length names → list_any (bytes_eq x) names ≡ false
+    → bytes_eq (get_or names k []) h ≡ true → bytes_eq x h ≡ false
 lacks_front x h [] k low none at = absurd (omega arith)
 lacks_front x h (y ∷ names) zero low none at =
     let parts = or_parts (bytes_eq x y) (list_any (bytes_eq x) names) none in
@@ -186,13 +219,16 @@ lacks_front x h (y ∷ names) (suc k) low none at =
     let parts = or_parts (bytes_eq x y) (list_any (bytes_eq x) names) none in
     lacks_front x h names k (omega arith) parts.1 at
 
-once : (names : List Octets) (k : ℕ) (h : Octets) → are_distinct names ≡ true → k < length names → bytes_eq (get_or names k []) h ≡ true → list_any (is_name h) (take k names) ≡ false
+once : (names : List Octets) (k : ℕ) (h : Octets) → are_distinct names ≡ true → k < length names → bytes_eq (get_or names k []) h ≡ true
+    → list_any (is_name h) (take k names) ≡ false
 unfolding are_distinct
 once [] k h distinct low at = absurd (omega arith)
 once (x ∷ names) zero h distinct low at = refl
 once (x ∷ names) (suc k) h distinct low at =
     let parts = and_parts (not (list_any (bytes_eq x) names)) (are_distinct names) distinct in
-    or_from (bytes_eq x h) (list_any (is_name h) (take k names)) (lacks_front x h names k (omega arith) (not-true (list_any (bytes_eq x) names) parts.0) at) (once names k h parts.1 (omega arith) at)
+    or_from (bytes_eq x h) (list_any (is_name h) (take k names))
+    (lacks_front x h names k (omega arith) (not-true (list_any (bytes_eq x) names) parts.0) at)
+    (once names k h parts.1 (omega arith) at)
 
 -- where the last line ends
 last_from : ℕ → List ℕ → ℕ
@@ -220,24 +256,36 @@ overview_size S g =
     let ls : List Octets = overview_lines (filed_in S g.name) in
     end_is (ends_from 0 ls) ∙ ends_total 0 ls ∙ zero-add (length (flat_map (λ l. l) ls))
 
-module _ (S : Spool) (text : Octets) (filed : List Octets) (sizes : List ℕ) (distinct : are_distinct filed ≡ true) (sized : AreLineSizes S text filed sizes) (g : NewsGroup) where
+module _ (S : Spool) (text : Octets) (filed : List Octets) (sizes : List ℕ) (distinct : are_distinct filed ≡ true)
+    (sized : AreLineSizes S text filed sizes) (g : NewsGroup) where
   its : GroupIndex
   its = group_index S g
 
-  line_is : (name : Octets) (size : ℕ) → bytes_eq name g.name ≡ true → size ≡ length (next_line S text name) → with_line (length S + 1) size (group_index S g) ≡ with_article S text (group_index S g)
+  line_is : (name : Octets) (size : ℕ) → bytes_eq name g.name ≡ true → size ≡ length (next_line S text name)
+      → with_line (length S + 1) size (group_index S g) ≡ with_article S text (group_index S g)
   line_is name size at is =
       let ends : end_of (group_index S g) + size ≡ length (overview_file S g.name) + length (next_line S text g.name) =
       (λ i. overview_size S g i + (is ∙ ap (λ (n : Octets). length (next_line S text n)) ((bytes_eq-Decides name g.name).0 at)) i) in
-      ap (λ (n : ℕ). record (group_index S g) { filed = (group_index S g).filed ++ (length S + 1) ∷ []; ends = (group_index S g).ends ++ n ∷ []; last = length S + 1 }) ends
+      ap (λ (n : ℕ). record (group_index S g) {
+        filed = (group_index S g).filed ++ (length S + 1) ∷ [];
+        ends = (group_index S g).ends ++ n ∷ [];
+        last = length S + 1;
+      }) ends
 
   step : (b t : Bool) (name : Octets) (size : ℕ) → bytes_eq name g.name ≡ t → (t ≡ true → b ≡ false) → size ≡ length (next_line S text name)
-      → filed_once (length S + 1) name size (cond b (with_article S text (group_index S g)) (group_index S g)) ≡ cond (b || t) (with_article S text (group_index S g)) (group_index S g)
+      → filed_once (length S + 1) name size (cond b (with_article S text (group_index S g)) (group_index S g))
+      ≡ cond (b || t) (with_article S text (group_index S g)) (group_index S g)
   step true true name size at apart is = absurd (let clash : true ≡ false = apart refl in cc)
-  step true false name size at apart is = ap (λ (z : Bool). cond z (with_line (length S + 1) size (with_article S text (group_index S g))) (with_article S text (group_index S g))) at
-  step false true name size at apart is = ap (λ (z : Bool). cond z (with_line (length S + 1) size (group_index S g)) (group_index S g)) at ∙ line_is name size at is
+  step true false name size at apart is =
+      ap (λ (z : Bool). cond z (with_line (length S + 1) size (with_article S text (group_index S g)))
+      (with_article S text (group_index S g))) at
+  step false true name size at apart is = ap (λ (z : Bool). cond z (with_line (length S + 1) size (group_index S g)) (group_index S g)) at
+      ∙ line_is name size at is
   step false false name size at apart is = ap (λ (z : Bool). cond z (with_line (length S + 1) size (group_index S g)) (group_index S g)) at
 
-  filed_front : (k : ℕ) → k ≤ length filed → filed_by (length S + 1) filed sizes k (group_index S g) ≡ cond (list_any (is_name g.name) (take k filed)) (with_article S text (group_index S g)) (group_index S g)
+  filed_front : (k : ℕ) → k ≤ length filed
+      → filed_by (length S + 1) filed sizes k (group_index S g) ≡ cond (list_any (is_name g.name) (take k filed))
+      (with_article S text (group_index S g)) (group_index S g)
   filed_front zero low = refl
   filed_front (suc k) low =
       let name : Octets = get_or filed k [] in
@@ -245,17 +293,21 @@ module _ (S : Spool) (text : Octets) (filed : List Octets) (sizes : List ℕ) (d
       let more : list_any (is_name g.name) (take (suc k) filed) ≡ (list_any (is_name g.name) (take k filed) || bytes_eq name g.name) =
       ap (λ (n : ℕ). list_any (is_name g.name) (take n filed)) next ∙ list_any_more (is_name g.name) filed k [] (omega arith) in
       ap (filed_once (length S + 1) name (get_or sizes k 0)) (filed_front k (omega arith))
-      ∙ step (list_any (is_name g.name) (take k filed)) (bytes_eq name g.name) name (get_or sizes k 0) refl (λ at. once filed k g.name distinct (omega arith) at) (sized k (omega arith))
+      ∙ step (list_any (is_name g.name) (take k filed)) (bytes_eq name g.name) name (get_or sizes k 0) refl
+      (λ at. once filed k g.name distinct (omega arith) at) (sized k (omega arith))
       ∙ ap (λ (b : Bool). cond b (with_article S text (group_index S g)) (group_index S g)) (sym more)
 
-  filed_all : (text' : Octets) (moment : ℕ) → text' ≡ text → filed_by (length S + 1) filed sizes (length filed) (group_index S g) ≡ group_index (S ++ Article text filed moment ∷ []) g
+  filed_all : (text' : Octets) (moment : ℕ) → text' ≡ text
+      → filed_by (length S + 1) filed sizes (length filed) (group_index S g) ≡ group_index (S ++ Article text filed moment ∷ []) g
   filed_all text' moment same =
       filed_front (length filed) (omega arith)
-      ∙ ap (λ (names : List Octets). cond (list_any (is_name g.name) names) (with_article S text (group_index S g)) (group_index S g)) (take_all (length filed) filed (omega arith))
+      ∙ ap (λ (names : List Octets). cond (list_any (is_name g.name) names) (with_article S text (group_index S g)) (group_index S g))
+      (take_all (length filed) filed (omega arith))
       ∙ sym (articles_grow S text filed moment g)
 
 -- the id that is new
-found : {X : Type 0} (serial : X → ℕ) (old : Option X) (new : X) (b d : Bool) → (b ≡ true → d ≡ true) → (d ≡ true → b ≡ true) → (b ≡ true → old ≡ None)
+found : {X : Type 0} (serial : X → ℕ) (old : Option X) (new : X) (b d : Bool) → (b ≡ true → d ≡ true) → (d ≡ true → b ≡ true)
+    → (b ≡ true → old ≡ None)
     → cond b (Some (serial new)) (option_map serial old) ≡ option_map serial (option_or old (cond d (Some new) None))
 found {X} serial old new true true one two none = ap (λ (o : Option X). option_map serial (option_or o (Some new))) (sym (none refl))
 found {X} serial old new false false one two none = kept_same old where
@@ -268,10 +320,12 @@ found serial old new false true one two none = absurd (let clash : false ≡ tru
 same_key : (q key : Octets) → bytes_eq q key ≡ true → bytes_eq key q ≡ true
 same_key q key is = (bytes_eq-Decides key q).1 (sym ((bytes_eq-Decides q key).0 is))
 
-pub article_indexed : (host : Octets) (S : Spool) (x y : IndexView) (text key : Octets) (filed : List Octets) (moment : ℕ) (sizes : List ℕ) (note : Note) (serial : ℕ) → MayFile host S text filed moment → Indexes S x
+pub article_indexed : (host : Octets) (S : Spool) (x y : IndexView) (text key : Octets) (filed : List Octets) (moment : ℕ) (sizes : List ℕ)
+    (note : Note) (serial : ℕ) → MayFile host S text filed moment → Indexes S x
     → y.notes ≡ x.notes ++ note ∷ [] → note ≡ kept (note_of (record { serial = length S + 1; change = Article text filed moment }))
     → AreLineSizes S text filed sizes → serial ≡ length S + 1 → y.groups ≡ map (filed_by serial filed sizes (length filed)) x.groups
-    → key ≡ id text → ((q : Octets) → value_of y.ids q ≡ cond (bytes_eq q key) (Some serial) (value_of x.ids q)) → Indexes (S ++ Article text filed moment ∷ []) y
+    → key ≡ id text → ((q : Octets) → value_of y.ids q ≡ cond (bytes_eq q key) (Some serial) (value_of x.ids q))
+    → Indexes (S ++ Article text filed moment ∷ []) y
 article_indexed host S x y text key filed moment sizes note serial may is notes note_is sized serial_is groups' key_is ids = record {
   notes_are = notes ∙ ap (λ (n : Note). x.notes ++ n ∷ []) note_is ∙ notes_more S x c is;
   groups_are =
@@ -285,7 +339,8 @@ article_indexed host S x y text key filed moment sizes note serial may is notes 
       ids q ∙ ap (λ (k : Octets). cond (bytes_eq q k) (Some serial) (value_of x.ids q)) key_is
       ∙ ap (λ (n : ℕ). cond (bytes_eq q (id text)) (Some n) (value_of x.ids q)) serial_is
       ∙ ap (λ (o : Option ℕ). cond (bytes_eq q (id text)) (Some (length S + 1)) o) (is.ids_are q)
-      ∙ found (λ (a : NewsArticle). a.serial) (by_id S q) (record { serial = length S + 1; text = text; groups = filed; moment = moment }) (bytes_eq q (id text)) (bytes_eq (id text) q)
+      ∙ found (λ (a : NewsArticle). a.serial) (by_id S q) (record { serial = length S + 1; text = text; groups = filed; moment = moment })
+      (bytes_eq q (id text)) (bytes_eq (id text) q)
       (same_key q (id text)) (same_key (id text) q) (λ at. ap (by_id S) ((bytes_eq-Decides q (id text)).0 at) ∙ may.new)
       ∙ ap (option_map (λ (a : NewsArticle). a.serial)) (sym (ids_more S text filed moment q));
 } where

@@ -1,5 +1,6 @@
 -- Loops over lists: whether one passes, and the greatest.
-use Rattle.std.proofs.Common.{◌≡◌, ℕ, zero, suc, ◌+◌, ◌<◌, List, [], ◌∷◌, ◌++◌, length, map, take, get_or, refl, sym, ◌∙◌, ap, arith, Bool, true, false, cond}
+use Rattle.std.proofs.Common.{◌≡◌, ℕ, zero, suc, ◌+◌, ◌<◌, List, [], ◌∷◌, ◌++◌, length, map, take, get_or, refl, sym, ◌∙◌, ap, arith, Bool}
+use Rattle.std.proofs.Common.{true, false, cond}
 use Rattle.std.specs.Prelude.{Some, filter, max, slice_get, ◌&&◌, ◌||◌}
 use Rattle.std.specs.List.{list_any}
 use Rattle.std.proofs.lemmas.List.{map_push, take_more}
@@ -40,7 +41,8 @@ greatest_push (m ∷ ns) n = ap (max m) (greatest_push ns n) ∙ joined m (great
   joined : (a b c : ℕ) → max a (max b c) ≡ max (max a b) c
   joined a b c = omega arith
 
-pub greatest_step : {X : Type 0} (f : X → ℕ) (xs : List X) (i : ℕ) (x : X) (last : ℕ) → i < length xs → x ≡ get_or xs i x → last ≡ greatest (map f (take i xs)) → max last (f x) ≡ greatest (map f (take (i + 1) xs))
+pub greatest_step : {X : Type 0} (f : X → ℕ) (xs : List X) (i : ℕ) (x : X) (last : ℕ) → i < length xs → x ≡ get_or xs i x
+    → last ≡ greatest (map f (take i xs)) → max last (f x) ≡ greatest (map f (take (i + 1) xs))
 greatest_step f xs i x last low is before =
     ap (λ (n : ℕ). max n (f x)) before
     ∙ ap (max (greatest (map f (take i xs)))) (ap f is)

@@ -1,5 +1,6 @@
 -- What the look-ups find is what the changes say.
-use Rattle.std.proofs.Common.{◌≡◌, ℕ, zero, suc, ◌-◌, ◌<◌, ◌≤◌, List, [], ◌∷◌, ◌++◌, length, map, get_or, refl, sym, ◌∙◌, ap, subst, arith, Bool, true, false, cond, inl, inr}
+use Rattle.std.proofs.Common.{◌≡◌, ℕ, zero, suc, ◌-◌, ◌<◌, ◌≤◌, List, [], ◌∷◌, ◌++◌, length, map, get_or, refl, sym, ◌∙◌, ap, subst, arith}
+use Rattle.std.proofs.Common.{Bool, true, false, cond, inl, inr}
 use Rattle.std.specs.Prelude.{Option, Some, None, bytes_eq, find, filter, filter_map, option_map, slice_get, nat_le, nat_lt, is_some, ◌==◌}
 use Rattle.std.proofs.lemmas.Bool.{cases_lt, cond-false, leb-true, leb-false, le-leb, lt-leb, ltb-true, true≢false}
 use Rattle.std.proofs.lemmas.List.{append_assoc, length-map, get_or-map}
@@ -8,7 +9,8 @@ use Rattle.std.proofs.lemmas.Slice.Eq.{bytes_eq-Decides}
 use Rattle.model.specs.Stream.{Octets}
 use Rattle.model.specs.Indexed.{GroupIndex, group_index, line_start, value_of}
 use Rattle.model.specs.Lawful.{IsLawful, IsLawfulAfter}
-use Rattle.model.specs.Spool.{Spool, entries_from, entries, Expiry, NewsArticle, NewsGroup, by_number, expired_at, expiries, expiries_of, expiry_made, filed_in, group_named, groups, is_here, is_name, low, numbered, serial_of}
+use Rattle.model.specs.Spool.{Spool, entries_from, entries, Expiry, NewsArticle, NewsGroup, by_number, expired_at, expiries, expiries_of}
+use Rattle.model.specs.Spool.{expiry_made, filed_in, group_named, groups, is_here, is_name, low, numbered, serial_of}
 use Rattle.model.specs.declared.change.Change.TheVariants.{Group, Article, Expire}
 use Rattle.model.proofs.Filing.{named_front, new_has_nothing}
 use Rattle.model.proofs.Joined.{bytes_differ}
@@ -20,7 +22,8 @@ use Rattle.index.proofs.Naming.{Places, here, named_at, nowhere, others, within}
 
 -- ---- the first that passes
 
-first_at : {X : Type 0} (p : X → Bool) (xs : List X) (k : ℕ) (d : X) → k < length xs → p (get_or xs k d) ≡ true → ((j : ℕ) → j < k → p (get_or xs j d) ≡ false) → find p xs ≡ Some (get_or xs k d)
+first_at : {X : Type 0} (p : X → Bool) (xs : List X) (k : ℕ) (d : X) → k < length xs → p (get_or xs k d) ≡ true
+    → ((j : ℕ) → j < k → p (get_or xs j d) ≡ false) → find p xs ≡ Some (get_or xs k d)
 first_at p [] k d low at before = absurd (omega arith)
 first_at p (x ∷ xs) zero d low at before = ap (λ (b : Bool). cond b (Some x) (find p xs)) at
 first_at p (x ∷ xs) (suc k) d low at before =
@@ -29,12 +32,14 @@ first_at p (x ∷ xs) (suc k) d low at before =
 
 none_first : {X : Type 0} (p : X → Bool) (xs : List X) (d : X) → ((j : ℕ) → j < length xs → p (get_or xs j d) ≡ false) → find p xs ≡ None
 none_first p [] d apart = refl
-none_first p (x ∷ xs) d apart = ap (λ (b : Bool). cond b (Some x) (find p xs)) (apart 0 (omega arith)) ∙ none_first p xs d (λ j small. apart (suc j) (omega arith))
+none_first p (x ∷ xs) d apart = ap (λ (b : Bool). cond b (Some x) (find p xs)) (apart 0 (omega arith))
+    ∙ none_first p xs d (λ j small. apart (suc j) (omega arith))
 
 find_mapped : {X Y : Type 0} (f : X → Y) (p : Y → Bool) (xs : List X) → find p (map f xs) ≡ option_map f (find (λ x. p (f x)) xs)
 find_mapped f p [] = refl
 find_mapped f p (x ∷ xs) = by_test (p (f x)) (find_mapped f p xs) where
-  by_test : (b : Bool) → find p (map f xs) ≡ option_map f (find (λ y. p (f y)) xs) → cond b (Some (f x)) (find p (map f xs)) ≡ option_map f (cond b (Some x) (find (λ y. p (f y)) xs))
+  by_test : (b : Bool) → find p (map f xs) ≡ option_map f (find (λ y. p (f y)) xs)
+      → cond b (Some (f x)) (find p (map f xs)) ≡ option_map f (cond b (Some x) (find (λ y. p (f y)) xs))
   by_test true rest = refl
   by_test false rest = rest
 
@@ -51,46 +56,58 @@ swapped : (a b : Octets) (t : Bool) → bytes_eq a b ≡ t → bytes_eq b a ≡ 
 swapped a b true is = (bytes_eq-Decides b a).1 (sym ((bytes_eq-Decides a b).0 is))
 swapped a b false is = bytes_differ b a (λ same. true≢false (sym ((bytes_eq-Decides a b).1 (sym same)) ∙ is))
 
-found_in_spool : (S : Spool) (name : Octets) → find (λ (i : GroupIndex). is_name name i.group.name) (map (group_index S) (groups S)) ≡ option_map (group_index S) (group_named S name)
+found_in_spool : (S : Spool) (name : Octets)
+    → find (λ (i : GroupIndex). is_name name i.group.name) (map (group_index S) (groups S)) ≡ option_map (group_index S)
+    (group_named S name)
 unfolding group_named
 found_in_spool S name = find_mapped (group_index S) (λ (i : GroupIndex). is_name name i.group.name) (groups S)
 
-module _ {R : Type 0} (sh : R → GroupIndex) (gs : List R) (places : Places) (named : AreNamed places (heads (map sh gs))) (name : Octets) where
+module _ {R : Type 0} (sh : R → GroupIndex) (gs : List R) (places : Places) (named : AreNamed places (heads (map sh gs)))
+    (name : Octets) where
   size : length (heads (map sh gs)) ≡ length gs
   size = length-map (map sh gs) (λ (i : GroupIndex). i.group.name) ∙ length-map gs sh
 
   its_name : (j : ℕ) (d : R) → j < length gs → name_at (heads (map sh gs)) j ≡ (get_or (map sh gs) j (sh d)).group.name
   its_name j d low = named_at (map sh gs) j (sh d) (omega (arith, length-map gs sh))
 
-  pub found_there : (k : ℕ) (d : R) → value_of places name ≡ Some k → find (λ (i : GroupIndex). is_name name i.group.name) (map sh gs) ≡ Some (sh (get_or gs k d))
+  pub found_there : (k : ℕ) (d : R) → value_of places name ≡ Some k
+      → find (λ (i : GroupIndex). is_name name i.group.name) (map sh gs) ≡ Some (sh (get_or gs k d))
   found_there k d is =
       let low : k < length gs = within sh gs places name k named is in
       first_at (λ (i : GroupIndex). is_name name i.group.name) (map sh gs) k (sh d) (omega (arith, length-map gs sh))
       (swapped name _ true (ap (bytes_eq name) (sym (its_name k d low)) ∙ here places (heads (map sh gs)) name k named is))
-      (λ j before. swapped name _ false (ap (bytes_eq name) (sym (its_name j d (omega arith))) ∙ others places (heads (map sh gs)) name k j named is (omega (arith, size)) (omega arith)))
+      (λ j before. swapped name _ false (ap (bytes_eq name) (sym (its_name j d (omega arith)))
+      ∙ others places (heads (map sh gs)) name k j named is (omega (arith, size)) (omega arith)))
       ∙ ap (λ (i : GroupIndex). Some i) (get_or-map sh gs k d (sh d) low)
 
   pub found_nowhere : (d : R) → value_of places name ≡ None → find (λ (i : GroupIndex). is_name name i.group.name) (map sh gs) ≡ None
   found_nowhere d is =
       none_first (λ (i : GroupIndex). is_name name i.group.name) (map sh gs) (sh d)
       (λ j low. let below : j < length gs = omega (arith, length-map gs sh) in
-      swapped name _ false (ap (bytes_eq name) (sym (its_name j d below)) ∙ nowhere places (heads (map sh gs)) name j named is (omega (arith, size))))
+      swapped name _ false (ap (bytes_eq name) (sym (its_name j d below))
+      ∙ nowhere places (heads (map sh gs)) name j named is (omega (arith, size))))
 
-pub group_found : {R : Type 0} (sh : R → GroupIndex) (gs : List R) (places : Places) (named : AreNamed places (heads (map sh gs))) (name : Octets) (k : ℕ) (d : R) (x : IndexView) (S : Spool) → map sh gs ≡ x.groups → Indexes S x
+pub group_found : {R : Type 0} (sh : R → GroupIndex) (gs : List R) (places : Places) (named : AreNamed places (heads (map sh gs)))
+    (name : Octets) (k : ℕ) (d : R) (x : IndexView) (S : Spool) → map sh gs ≡ x.groups → Indexes S x
     → value_of places name ≡ Some k → Some (sh (get_or gs k d)) ≡ option_map (group_index S) (group_named S name)
 group_found sh gs places named name k d x S view is at =
-    sym (found_there sh gs places named name k d at) ∙ ap (find (λ (i : GroupIndex). is_name name i.group.name)) (view ∙ is.groups_are) ∙ found_in_spool S name
+    sym (found_there sh gs places named name k d at) ∙ ap (find (λ (i : GroupIndex). is_name name i.group.name)) (view ∙ is.groups_are)
+    ∙ found_in_spool S name
 
 none_of_empty : {X : Type 0} (p : X → Bool) (xs : List X) → length xs ≡ 0 → find p xs ≡ None
 none_of_empty p [] none = refl
 none_of_empty p (x ∷ xs) none = absurd (omega arith)
 
-pub group_not_found : {R : Type 0} (sh : R → GroupIndex) (gs : List R) (places : Places) (named : AreNamed places (heads (map sh gs))) (name : Octets) (x : IndexView) (S : Spool) → map sh gs ≡ x.groups → Indexes S x
+pub group_not_found : {R : Type 0} (sh : R → GroupIndex) (gs : List R) (places : Places) (named : AreNamed places (heads (map sh gs)))
+    (name : Octets) (x : IndexView) (S : Spool) → map sh gs ≡ x.groups → Indexes S x
     → value_of places name ≡ None → None ≡ option_map (group_index S) (group_named S name)
-group_not_found {R} sh gs places named name x S view is at = sym (by_list gs named refl) ∙ ap (find (λ (i : GroupIndex). is_name name i.group.name)) (view ∙ is.groups_are) ∙ found_in_spool S name where
-  by_list : (rs : List R) → AreNamed places (heads (map sh rs)) → rs ≡ gs → find (λ (i : GroupIndex). is_name name i.group.name) (map sh gs) ≡ None
-  by_list [] all same = none_of_empty (λ (i : GroupIndex). is_name name i.group.name) (map sh gs) (length-map gs sh ∙ ap (λ (l : List R). length l) (sym same))
-  by_list (r ∷ rs) all same = found_nowhere sh gs places named name r at
+group_not_found {R} sh gs places named name x S view is at = sym (by_list gs named refl)
+    ∙ ap (find (λ (i : GroupIndex). is_name name i.group.name)) (view ∙ is.groups_are) ∙ found_in_spool S name where
+      by_list : (rs : List R) → AreNamed places (heads (map sh rs)) → rs ≡ gs
+          → find (λ (i : GroupIndex). is_name name i.group.name) (map sh gs) ≡ None
+      by_list [] all same = none_of_empty (λ (i : GroupIndex). is_name name i.group.name) (map sh gs) (length-map gs sh
+          ∙ ap (λ (l : List R). length l) (sym same))
+      by_list (r ∷ rs) all same = found_nowhere sh gs places named name r at
 
 -- ---- numbers
 
@@ -102,7 +119,8 @@ pub record IsGroup (S : Spool) (name : Octets) (i : GroupIndex) : Type 0 where
 pub group_is : (S : Spool) (name : Octets) (i : GroupIndex) → Some i ≡ option_map (group_index S) (group_named S name) → IsGroup S name i
 unfolding group_named
 group_is S name i is = by_group (find (λ (g : NewsGroup). is_name name g.name) (groups S)) refl is where
-  by_group : (o : Option NewsGroup) → find (λ (g : NewsGroup). is_name name g.name) (groups S) ≡ o → Some i ≡ option_map (group_index S) o → IsGroup S name i
+  by_group : (o : Option NewsGroup) → find (λ (g : NewsGroup). is_name name g.name) (groups S) ≡ o → Some i ≡ option_map (group_index S) o
+      → IsGroup S name i
   by_group None found same = absurd (cc)
   by_group (Some g) found same = record {
     group = g;
@@ -116,21 +134,27 @@ not_here S name is = by_group (group_named S name) is where
   by_group None same = refl
   by_group (Some g) same = absurd (cc)
 
-number_in_list : (filed : List NewsArticle) (low n : ℕ) (b z : Bool) → cond b None (cond z None (slice_get (map (λ (a : NewsArticle). a.serial) filed) (n - 1))) ≡ option_map (λ (a : NewsArticle). a.serial) (cond b None (cond z None (slice_get filed (n - 1))))
+number_in_list : (filed : List NewsArticle) (low n : ℕ) (b z : Bool)
+    → cond b None (cond z None (slice_get (map (λ (a : NewsArticle). a.serial) filed) (n - 1))) ≡ option_map (λ (a : NewsArticle). a.serial)
+    (cond b None (cond z None (slice_get filed (n - 1))))
 number_in_list filed low n true z = refl
 number_in_list filed low n false true = refl
 number_in_list filed low n false false = slice_get-map (λ (a : NewsArticle). a.serial) filed (n - 1)
 
-pub number_found : (S : Spool) (name : Octets) (i : GroupIndex) (n : ℕ) → Some i ≡ option_map (group_index S) (group_named S name) → filed_at i n ≡ option_map (λ (a : NewsArticle). a.serial) (by_number S name n)
+pub number_found : (S : Spool) (name : Octets) (i : GroupIndex) (n : ℕ) → Some i ≡ option_map (group_index S) (group_named S name)
+    → filed_at i n ≡ option_map (λ (a : NewsArticle). a.serial) (by_number S name n)
 number_found S name i n is =
     let its = group_is S name i is in
     ap (λ (j : GroupIndex). filed_at j n) its.its_index
     ∙ number_in_list (filed_in S its.group.name) (low S its.group.name) n (nat_lt n (low S its.group.name)) (n == 0)
     ∙ ap (λ (g : Octets). option_map (λ (a : NewsArticle). a.serial) (by_number S g n)) its.its_name
 
-pub number_not_found : (host : Octets) (S : Spool) (name : Octets) (n : ℕ) → IsLawful host S → None ≡ option_map (group_index S) (group_named S name) → None ≡ option_map (λ (a : NewsArticle). a.serial) (by_number S name n)
+pub number_not_found : (host : Octets) (S : Spool) (name : Octets) (n : ℕ) → IsLawful host S
+    → None ≡ option_map (group_index S) (group_named S name) → None ≡ option_map (λ (a : NewsArticle). a.serial) (by_number S name n)
 number_not_found host S name n lawful is =
-    none_in (nat_lt n (low S name)) (n == 0) ∙ ap (λ (filed : List NewsArticle). option_map (λ (a : NewsArticle). a.serial) (cond (nat_lt n (low S name)) None (numbered filed n))) (sym (new_has_nothing host S name lawful (not_here S name is))) where
+    none_in (nat_lt n (low S name)) (n == 0)
+    ∙ ap (λ (filed : List NewsArticle). option_map (λ (a : NewsArticle). a.serial)
+    (cond (nat_lt n (low S name)) None (numbered filed n))) (sym (new_has_nothing host S name lawful (not_here S name is))) where
       none_in : (b z : Bool) → None ≡ option_map (λ (a : NewsArticle). a.serial) (cond b None (cond z None (slice_get [] (n - 1))))
       none_in true z = refl
       none_in false true = refl
@@ -138,7 +162,8 @@ number_not_found host S name n lawful is =
 
 -- ---- expiries
 
-nothing_expired : (host : Octets) (before cs : Spool) (n : ℕ) (name : Octets) → IsLawfulAfter host before cs → group_named (before ++ cs) name ≡ None
+nothing_expired : (host : Octets) (before cs : Spool) (n : ℕ) (name : Octets) → IsLawfulAfter host before cs
+    → group_named (before ++ cs) name ≡ None
     → filter (λ (e : Expiry). is_name name e.group) (filter_map expiry_made (entries_from n cs)) ≡ []
 nothing_expired host before [] n name lawful none = refl
 nothing_expired host before (Group g status description moment ∷ cs) n name lawful none =
@@ -146,8 +171,10 @@ nothing_expired host before (Group g status description moment ∷ cs) n name la
 nothing_expired host before (Article text gs moment ∷ cs) n name lawful none =
     nothing_expired host (before ++ Article text gs moment ∷ []) cs (suc n) name lawful.1 (rw append_assoc none)
 nothing_expired host before (Expire h number ∷ cs) n name lawful none =
-    let absent : is_here before name ≡ false = ap (λ (o : Option NewsGroup). is_some o) (named_front before (Expire h number ∷ cs) name none) in
-    let other : bytes_eq h name ≡ false = bytes_differ h name (λ same. true≢false (sym lawful.0.here ∙ ap (is_here before) same ∙ absent)) in
+    let absent : is_here before name ≡ false =
+    ap (λ (o : Option NewsGroup). is_some o) (named_front before (Expire h number ∷ cs) name none) in
+    let other : bytes_eq h name ≡ false =
+    bytes_differ h name (λ same. true≢false (sym lawful.0.here ∙ ap (is_here before) same ∙ absent)) in
     let rest = nothing_expired host (before ++ Expire h number ∷ []) cs (suc n) name lawful.1 (rw append_assoc none) in
     cond-false (bytes_eq h name) _ _ other ∙ rest
 
@@ -155,25 +182,31 @@ none_expired : (host : Octets) (S : Spool) (name : Octets) → IsLawful host S �
 unfolding expiries_of expiries entries
 none_expired host S name lawful none = nothing_expired host [] S 1 name lawful none
 
-pub expiry_not_found : (host : Octets) (S : Spool) (name : Octets) (n : ℕ) → IsLawful host S → None ≡ option_map (group_index S) (group_named S name) → 0 ≡ expired_at S name n
+pub expiry_not_found : (host : Octets) (S : Spool) (name : Octets) (n : ℕ) → IsLawful host S
+    → None ≡ option_map (group_index S) (group_named S name) → 0 ≡ expired_at S name n
 unfolding expired_at
 expiry_not_found host S name n lawful is =
-    ap (λ (es : List Expiry). serial_of (find (λ (e : Expiry). nat_le n e.number) es)) (sym (none_expired host S name lawful (not_here S name is)))
+    ap (λ (es : List Expiry). serial_of (find (λ (e : Expiry). nat_le n e.number) es))
+    (sym (none_expired host S name lawful (not_here S name is)))
 
-pub expiry_found : (host : Octets) (S : Spool) (name : Octets) (i : GroupIndex) (n serial : ℕ) → IsLawful host S → Some i ≡ option_map (group_index S) (group_named S name)
-    → (Rise (map (λ (e : Expiry). e.number) i.expired) → serial ≡ serial_of (find (λ (e : Expiry). nat_le n e.number) i.expired)) → serial ≡ expired_at S name n
+pub expiry_found : (host : Octets) (S : Spool) (name : Octets) (i : GroupIndex) (n serial : ℕ) → IsLawful host S
+    → Some i ≡ option_map (group_index S) (group_named S name)
+    → (Rise (map (λ (e : Expiry). e.number) i.expired) → serial ≡ serial_of (find (λ (e : Expiry). nat_le n e.number) i.expired))
+    → serial ≡ expired_at S name n
 unfolding expired_at
 expiry_found host S name i n serial lawful is at =
     let its = group_is S name i is in
     let all : i.expired ≡ expiries_of S name = ap (λ (j : GroupIndex). j.expired) its.its_index ∙ ap (expiries_of S) its.its_name in
     let numbers : Rise (map (λ (e : Expiry). e.number) i.expired) =
     subst (λ (es : List Expiry). Rise (map (λ (e : Expiry). e.number) es)) (sym all)
-    (λ j k less low. expiries_rise host S name j k lawful less (omega (arith, length-map (expiries_of S name) (λ (e : Expiry). e.number)))) in
+    (λ j k less low. expiries_rise host S name j k lawful less (omega (arith, length-map (expiries_of S name) (λ (e : Expiry). e.number))))
+    in
     at numbers ∙ ap (λ (es : List Expiry). serial_of (find (λ (e : Expiry). nat_le n e.number) es)) all
 
 -- ---- by halving
 
-pub rising_parts : {X : Type 0} (number : X → ℕ) (xs : List X) → Rise (map number xs) → (i j : ℕ) (d : X) → i ≤ j → j < length xs → number (get_or xs i d) ≤ number (get_or xs j d)
+pub rising_parts : {X : Type 0} (number : X → ℕ) (xs : List X) → Rise (map number xs) → (i j : ℕ) (d : X) → i ≤ j → j < length xs
+    → number (get_or xs i d) ≤ number (get_or xs j d)
 rising_parts number xs rise i j d order low = elim (cases_lt i j) [
   | inl less ↦
       let first : get_or (map number xs) i 0 ≡ number (get_or xs i d) = get_or-map number xs i d 0 (omega arith) in
@@ -184,44 +217,56 @@ rising_parts number xs rise i j d order low = elim (cases_lt i j) [
       subst (λ (k : ℕ). number (get_or xs i d) ≤ number (get_or xs k d)) same (omega arith)
 ]
 
-pub counted : {X : Type 0} (p : X → Bool) (xs : List X) (i : ℕ) → i ≤ length xs → ((k : ℕ) (d : X) → k < i → p (get_or xs k d) ≡ true) → ((k : ℕ) (d : X) → i ≤ k → k < length xs → p (get_or xs k d) ≡ false) → i ≡ length (filter p xs)
+pub counted : {X : Type 0} (p : X → Bool) (xs : List X) (i : ℕ) → i ≤ length xs → ((k : ℕ) (d : X) → k < i → p (get_or xs k d) ≡ true)
+    → ((k : ℕ) (d : X) → i ≤ k → k < length xs → p (get_or xs k d) ≡ false) → i ≡ length (filter p xs)
 counted p [] i low front back = omega arith
 counted p (x ∷ xs) zero low front back =
     counted p xs 0 (omega arith) (λ k d less. absurd (omega arith)) (λ k d order less. back (suc k) d (omega arith) (omega arith))
     ∙ ap (λ (b : Bool). length (cond b (x ∷ filter p xs) (filter p xs))) (sym (back 0 x (omega arith) (omega arith)))
 counted p (x ∷ xs) (suc i) low front back =
-    ap suc (counted p xs i (omega arith) (λ k d less. front (suc k) d (omega arith)) (λ k d order less. back (suc k) d (omega arith) (omega arith)))
+    ap suc (counted p xs i (omega arith) (λ k d less. front (suc k) d (omega arith))
+    (λ k d order less. back (suc k) d (omega arith) (omega arith)))
     ∙ ap (λ (b : Bool). length (cond b (x ∷ filter p xs) (filter p xs))) (sym (front 0 x (omega arith)))
 
-pub filter_mapped : {X : Type 0} (number : X → ℕ) (p : ℕ → Bool) (xs : List X) → length (filter p (map number xs)) ≡ length (filter (λ x. p (number x)) xs)
+pub filter_mapped : {X : Type 0} (number : X → ℕ) (p : ℕ → Bool) (xs : List X)
+    → length (filter p (map number xs)) ≡ length (filter (λ x. p (number x)) xs)
 filter_mapped number p [] = refl
 filter_mapped {X} number p (x ∷ xs) = by_test (p (number x)) (filter_mapped number p xs) where
   by_test : (b : Bool) → length (filter p (map number xs)) ≡ length (filter (λ (y : X). p (number y)) xs)
-      → length (cond b (number x ∷ filter p (map number xs)) (filter p (map number xs))) ≡ length (cond b (x ∷ filter (λ (y : X). p (number y)) xs) (filter (λ (y : X). p (number y)) xs))
+      → length (cond b (number x ∷ filter p (map number xs)) (filter p (map number xs)))
+      ≡ length (cond b (x ∷ filter (λ (y : X). p (number y)) xs) (filter (λ (y : X). p (number y)) xs))
   by_test true rest = ap suc rest
   by_test false rest = rest
 
-pub upto_parts : {X : Type 0} (number : X → ℕ) (n : ℕ) (xs : List X) → Rise (map number xs) → (i j : ℕ) (d : X) → i ≤ j → j < length xs → nat_le (number (get_or xs j d)) n ≡ true → nat_le (number (get_or xs i d)) n ≡ true
+pub upto_parts : {X : Type 0} (number : X → ℕ) (n : ℕ) (xs : List X) → Rise (map number xs) → (i j : ℕ) (d : X) → i ≤ j → j < length xs
+    → nat_le (number (get_or xs j d)) n ≡ true → nat_le (number (get_or xs i d)) n ≡ true
 upto_parts number n xs rise i j d order low at =
     le-leb (number (get_or xs i d)) n (omega (arith, rising_parts number xs rise i j d order low, leb-true (number (get_or xs j d)) n at))
 
-pub below_parts : {X : Type 0} (number : X → ℕ) (n : ℕ) (xs : List X) → Rise (map number xs) → (i j : ℕ) (d : X) → i ≤ j → j < length xs → nat_lt (number (get_or xs j d)) n ≡ true → nat_lt (number (get_or xs i d)) n ≡ true
+pub below_parts : {X : Type 0} (number : X → ℕ) (n : ℕ) (xs : List X) → Rise (map number xs) → (i j : ℕ) (d : X) → i ≤ j → j < length xs
+    → nat_lt (number (get_or xs j d)) n ≡ true → nat_lt (number (get_or xs i d)) n ≡ true
 below_parts number n xs rise i j d order low at =
-    le-leb (suc (number (get_or xs i d))) n (omega (arith, rising_parts number xs rise i j d order low, ltb-true (number (get_or xs j d)) n at))
+    le-leb (suc (number (get_or xs i d))) n
+    (omega (arith, rising_parts number xs rise i j d order low, ltb-true (number (get_or xs j d)) n at))
 
 -- the first that reaches the number
-pub first_reaching : (E : List Expiry) (n k : ℕ) (d : Expiry) → k < length E → nat_lt (get_or E k d).number n ≡ false → ((j : ℕ) → j < k → nat_lt (get_or E j d).number n ≡ true) → find (λ (e : Expiry). nat_le n e.number) E ≡ Some (get_or E k d)
+pub first_reaching : (E : List Expiry) (n k : ℕ) (d : Expiry) → k < length E → nat_lt (get_or E k d).number n ≡ false
+    → ((j : ℕ) → j < k → nat_lt (get_or E j d).number n ≡ true) → find (λ (e : Expiry). nat_le n e.number) E ≡ Some (get_or E k d)
 first_reaching E n k d low at before =
-    first_at (λ (e : Expiry). nat_le n e.number) E k d low (le-leb n (get_or E k d).number (omega (arith, leb-false (suc (get_or E k d).number) n at)))
+    first_at (λ (e : Expiry). nat_le n e.number) E k d low
+    (le-leb n (get_or E k d).number (omega (arith, leb-false (suc (get_or E k d).number) n at)))
     (λ j small. lt-leb n (get_or E j d).number (ltb-true (get_or E j d).number n (before j small)))
 
-pub none_reaching : (E : List Expiry) (n : ℕ) → ((j : ℕ) (d : Expiry) → j < length E → nat_lt (get_or E j d).number n ≡ true) → find (λ (e : Expiry). nat_le n e.number) E ≡ None
+pub none_reaching : (E : List Expiry) (n : ℕ) → ((j : ℕ) (d : Expiry) → j < length E → nat_lt (get_or E j d).number n ≡ true)
+    → find (λ (e : Expiry). nat_le n e.number) E ≡ None
 none_reaching [] n before = refl
 none_reaching (e ∷ E) n before =
-    none_first (λ (x : Expiry). nat_le n x.number) (e ∷ E) e (λ j low. lt-leb n (get_or (e ∷ E) j e).number (ltb-true (get_or (e ∷ E) j e).number n (before j e low)))
+    none_first (λ (x : Expiry). nat_le n x.number) (e ∷ E) e
+    (λ j low. lt-leb n (get_or (e ∷ E) j e).number (ltb-true (get_or (e ∷ E) j e).number n (before j e low)))
 
 -- an element of a mapped list
-pub mapped_get : {X Y : Type 0} (f : X → Y) (P : Y → Type 0) (xs : List X) (j : ℕ) (d : Y) → j < length (map f xs) → (j < length xs → (e : X) → P (f (get_or xs j e))) → P (get_or (map f xs) j d)
+pub mapped_get : {X Y : Type 0} (f : X → Y) (P : Y → Type 0) (xs : List X) (j : ℕ) (d : Y) → j < length (map f xs)
+    → (j < length xs → (e : X) → P (f (get_or xs j e))) → P (get_or (map f xs) j d)
 mapped_get f P [] j d low all = absurd (omega arith)
 mapped_get f P (x ∷ xs) zero d low all = all (omega arith) x
 mapped_get f P (x ∷ xs) (suc j) d low all = mapped_get f P xs j d (omega arith) (λ small e. all (omega arith) e)

@@ -20,12 +20,14 @@ module _ {K X : Type 0} (text : K → List ℕ) where
   abbrev pub plain : List (K × X) → List (List ℕ × X)
   plain es = map {A = K × X} {B = List ℕ × X} (λ (e : K × X). (text e.0, e.1)) es
 
-  pub found_plain : (q : List ℕ) (es : List (K × X)) → lookup (is_at (λ k. slice_cmp nat_cmp q (text k))) es ≡ lookup (λ k. bytes_eq q k) (plain es)
+  pub found_plain : (q : List ℕ) (es : List (K × X))
+      → lookup (is_at (λ k. slice_cmp nat_cmp q (text k))) es ≡ lookup (λ k. bytes_eq q k) (plain es)
   found_plain q [] = refl
   found_plain q (e ∷ es) = λ i. cond (is_eq-slice_cmp q (text e.0) i) (Some e.1) (found_plain q es i)
 
   pub found_inserted : (q : List ℕ) (k : K) (v : X) (es : List (K × X)) →
-      lookup (λ a. bytes_eq q a) (plain (insert_entry (order text) es k v)) ≡ cond (bytes_eq q (text k)) (Some v) (lookup (λ a. bytes_eq q a) (plain es))
+      lookup (λ a. bytes_eq q a) (plain (insert_entry (order text) es k v)) ≡ cond (bytes_eq q (text k)) (Some v)
+      (lookup (λ a. bytes_eq q a) (plain es))
   found_inserted q k v [] = refl
   found_inserted q k v (e ∷ es) = by_order (order text k e.0) refl (found_inserted q k v es) where
     rest : Option X
@@ -35,12 +37,15 @@ module _ {K X : Type 0} (text : K → List ℕ) where
     at_equal true = refl
     at_equal false = refl
 
-    behind : (b d : Bool) (later : Option X) → (b ≡ true → d ≡ false) → later ≡ cond d (Some v) rest → cond b (Some e.1) later ≡ cond d (Some v) (cond b (Some e.1) rest)
+    behind : (b d : Bool) (later : Option X) → (b ≡ true → d ≡ false) → later ≡ cond d (Some v) rest
+        → cond b (Some e.1) later ≡ cond d (Some v) (cond b (Some e.1) rest)
     behind true d later apart is = ap (λ (c : Bool). cond c (Some v) (Some e.1)) (sym (apart refl))
     behind false d later apart is = is
 
-    by_order : (o : Ordering) → order text k e.0 ≡ o → lookup (λ a. bytes_eq q a) (plain (insert_entry (order text) es k v)) ≡ cond (bytes_eq q (text k)) (Some v) rest →
-        lookup (λ a. bytes_eq q a) (plain (match_ordering o ((k, v) ∷ e ∷ es) ((e.0, v) ∷ es) (e ∷ insert_entry (order text) es k v))) ≡ cond (bytes_eq q (text k)) (Some v) (cond (bytes_eq q (text e.0)) (Some e.1) rest)
+    by_order : (o : Ordering) → order text k e.0 ≡ o
+        → lookup (λ a. bytes_eq q a) (plain (insert_entry (order text) es k v)) ≡ cond (bytes_eq q (text k)) (Some v) rest →
+        lookup (λ a. bytes_eq q a) (plain (match_ordering o ((k, v) ∷ e ∷ es) ((e.0, v) ∷ es) (e ∷ insert_entry (order text) es k v)))
+        ≡ cond (bytes_eq q (text k)) (Some v) (cond (bytes_eq q (text e.0)) (Some e.1) rest)
     by_order Less is later = refl
     by_order Equal is later =
         let same : text e.0 ≡ text k = sym (exact_bytes (text k) (text e.0) is) in
@@ -54,5 +59,6 @@ module _ {K X : Type 0} (text : K → List ℕ) where
             let one : q ≡ text e.0 = (bytes_eq-Decides q (text e.0)).0 here in
             let two : q ≡ text k = (bytes_eq-Decides q (text k)).0 at in
             let same : text k ≡ text e.0 = sym two ∙ one in
-            let tied : order text k e.0 ≡ Equal = ap (λ (t : List ℕ). slice_cmp nat_cmp t (text e.0)) same ∙ tied_itself nat_list_cmp_total (text e.0) in
+            let tied : order text k e.0 ≡ Equal = ap (λ (t : List ℕ). slice_cmp nat_cmp t (text e.0)) same
+            ∙ tied_itself nat_list_cmp_total (text e.0) in
             absurd (let clash : Equal ≡ Greater = sym tied ∙ is in cc)

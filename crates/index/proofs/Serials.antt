@@ -9,7 +9,8 @@ use Rattle.std.proofs.lemmas.Option.{same_Some, slice_get-map}
 use Rattle.model.specs.Stream.{Octets}
 use Rattle.model.specs.Indexed.{GroupIndex, group_index, note_of}
 use Rattle.model.specs.Lawful.{IsLawful}
-use Rattle.model.specs.Spool.{Spool, Entry, NewsArticle, article_filed, as_it_is, entries, entries_from, expired_at, filed_in, gone_at, greatest, group_named, is_gone, is_in, low}
+use Rattle.model.specs.Spool.{Spool, Entry, NewsArticle, article_filed, as_it_is, entries, entries_from, expired_at, filed_in, gone_at}
+use Rattle.model.specs.Spool.{greatest, group_named, is_gone, is_in, low}
 use Rattle.model.specs.declared.change.Change.{Change}
 use Rattle.model.specs.declared.change.Change.TheVariants.{Group, Article, Expire}
 use Rattle.model.proofs.Filing.{new_has_nothing}
@@ -25,10 +26,12 @@ use Rattle.index.proofs.LookUps.{filter_mapped, group_is, not_here}
 
 -- ---- notes
 
-pub noted : (S : Spool) (x : IndexView) (n : ℕ) → Indexes S x → note_at x.notes n ≡ option_map (λ (e : Entry). kept (note_of e)) (entry_with S n)
+pub noted : (S : Spool) (x : IndexView) (n : ℕ) → Indexes S x
+    → note_at x.notes n ≡ option_map (λ (e : Entry). kept (note_of e)) (entry_with S n)
 noted S x zero is = refl
 noted S x (suc k) is =
-    ap (λ (ns : List Note). slice_get ns k) is.notes_are ∙ slice_get-map kept (map note_of (entries S)) k ∙ ap (option_map kept) (slice_get-map note_of (entries S) k) ∙ twice (slice_get (entries S) k)
+    ap (λ (ns : List Note). slice_get ns k) is.notes_are ∙ slice_get-map kept (map note_of (entries S)) k
+    ∙ ap (option_map kept) (slice_get-map note_of (entries S) k) ∙ twice (slice_get (entries S) k)
   where
     twice : (o : Option Entry) → option_map kept (option_map note_of o) ≡ option_map (λ (e : Entry). kept (note_of e)) o
     twice None = refl
@@ -38,56 +41,72 @@ with_entry : (S : Spool) (n : ℕ) → article_with S n ≡ option_and_then arti
 with_entry S zero = refl
 with_entry S (suc k) = refl
 
-pub said : {X : Type 0} (says : Note → Option X) (of : NewsArticle → X) → ((e : Entry) → says (kept (note_of e)) ≡ option_map of (article_filed e)) → (S : Spool) (n : ℕ) (note : Note)
+pub said : {X : Type 0} (says : Note → Option X) (of : NewsArticle → X)
+    → ((e : Entry) → says (kept (note_of e)) ≡ option_map of (article_filed e)) → (S : Spool) (n : ℕ) (note : Note)
     → Some note ≡ option_map (λ (e : Entry). kept (note_of e)) (entry_with S n) → says note ≡ option_map of (article_with S n)
 said says of each S n note is = by_entry (entry_with S n) is ∙ ap (option_map of) (sym (with_entry S n)) where
-  by_entry : (o : Option Entry) → Some note ≡ option_map (λ (e : Entry). kept (note_of e)) o → says note ≡ option_map of (option_and_then article_filed o)
+  by_entry : (o : Option Entry) → Some note ≡ option_map (λ (e : Entry). kept (note_of e)) o
+      → says note ≡ option_map of (option_and_then article_filed o)
   by_entry None same = absurd (cc)
   by_entry (Some e) same = ap says (same_Some note (kept (note_of e)) same) ∙ each e
 
-pub unsaid : {X : Type 0} (of : NewsArticle → X) (S : Spool) (n : ℕ) → None ≡ option_map (λ (e : Entry). kept (note_of e)) (entry_with S n) → None ≡ option_map of (article_with S n)
+pub unsaid : {X : Type 0} (of : NewsArticle → X) (S : Spool) (n : ℕ) → None ≡ option_map (λ (e : Entry). kept (note_of e)) (entry_with S n)
+    → None ≡ option_map of (article_with S n)
 unsaid of S n is = by_entry (entry_with S n) is ∙ ap (option_map of) (sym (with_entry S n)) where
-  by_entry : (o : Option Entry) → None ≡ option_map (λ (e : Entry). kept (note_of e)) o → None ≡ option_map of (option_and_then article_filed o)
+  by_entry : (o : Option Entry) → None ≡ option_map (λ (e : Entry). kept (note_of e)) o
+      → None ≡ option_map of (option_and_then article_filed o)
   by_entry None same = refl
   by_entry (Some e) same = absurd (cc)
 
 pub each_size : (e : Entry) → size_in (kept (note_of e)) ≡ option_map (λ (a : NewsArticle). length a.text) (article_filed e)
 each_size e = by_change e.serial e.change where
-  by_change : (n : ℕ) (c : Change) → size_in (kept (note_of (record { serial = n; change = c }))) ≡ option_map (λ (a : NewsArticle). length a.text) (article_filed (record { serial = n; change = c }))
+  by_change : (n : ℕ) (c : Change)
+      → size_in (kept (note_of (record { serial = n; change = c }))) ≡ option_map (λ (a : NewsArticle). length a.text)
+      (article_filed (record { serial = n; change = c }))
   by_change n (Group name status description moment) = refl
   by_change n (Article text filed moment) = refl
   by_change n (Expire group number) = refl
 
 pub each_moment : (e : Entry) → moment_in (kept (note_of e)) ≡ option_map (λ (a : NewsArticle). a.moment) (article_filed e)
 each_moment e = by_change e.serial e.change where
-  by_change : (n : ℕ) (c : Change) → moment_in (kept (note_of (record { serial = n; change = c }))) ≡ option_map (λ (a : NewsArticle). a.moment) (article_filed (record { serial = n; change = c }))
+  by_change : (n : ℕ) (c : Change)
+      → moment_in (kept (note_of (record { serial = n; change = c }))) ≡ option_map (λ (a : NewsArticle). a.moment)
+      (article_filed (record { serial = n; change = c }))
   by_change n (Group name status description moment) = refl
   by_change n (Article text filed moment) = refl
   by_change n (Expire group number) = refl
 
 pub each_groups : (e : Entry) → groups_in (kept (note_of e)) ≡ option_map (λ (a : NewsArticle). a.groups) (article_filed e)
 each_groups e = by_change e.serial e.change where
-  by_change : (n : ℕ) (c : Change) → groups_in (kept (note_of (record { serial = n; change = c }))) ≡ option_map (λ (a : NewsArticle). a.groups) (article_filed (record { serial = n; change = c }))
+  by_change : (n : ℕ) (c : Change)
+      → groups_in (kept (note_of (record { serial = n; change = c }))) ≡ option_map (λ (a : NewsArticle). a.groups)
+      (article_filed (record { serial = n; change = c }))
   by_change n (Group name status description moment) = refl
   by_change n (Article text filed moment) = refl
   by_change n (Expire group number) = refl
 
 -- ---- numbers
 
-pub number_upto_found : (S : Spool) (name : Octets) (i : GroupIndex) (serial number : ℕ) → Some i ≡ option_map (group_index S) (group_named S name)
+pub number_upto_found : (S : Spool) (name : Octets) (i : GroupIndex) (serial number : ℕ)
+    → Some i ≡ option_map (group_index S) (group_named S name)
     → (Rise i.filed → number ≡ length (filter (λ n. nat_le n serial) i.filed)) → number ≡ number_upto S name serial
 number_upto_found S name i serial number is at =
     let its = group_is S name i is in
     let all : i.filed ≡ map (λ (a : NewsArticle). a.serial) (filed_in S name) =
     ap (λ (j : GroupIndex). j.filed) its.its_index ∙ ap (λ (g : Octets). map (λ (a : NewsArticle). a.serial) (filed_in S g)) its.its_name in
-    let rise : Rise i.filed = subst Rise (sym all) (λ j k less small. filed_rise S name j k less (omega (arith, length-map (filed_in S name) (λ (a : NewsArticle). a.serial)))) in
-    at rise ∙ ap (λ (ns : List ℕ). length (filter (λ n. nat_le n serial) ns)) all ∙ filter_mapped (λ (a : NewsArticle). a.serial) (λ n. nat_le n serial) (filed_in S name)
+    let rise : Rise i.filed = subst Rise (sym all)
+    (λ j k less small. filed_rise S name j k less (omega (arith, length-map (filed_in S name) (λ (a : NewsArticle). a.serial)))) in
+    at rise ∙ ap (λ (ns : List ℕ). length (filter (λ n. nat_le n serial) ns)) all
+    ∙ filter_mapped (λ (a : NewsArticle). a.serial) (λ n. nat_le n serial) (filed_in S name)
 
-pub number_upto_none : (host : Octets) (S : Spool) (name : Octets) (serial : ℕ) → IsLawful host S → None ≡ option_map (group_index S) (group_named S name) → 0 ≡ number_upto S name serial
+pub number_upto_none : (host : Octets) (S : Spool) (name : Octets) (serial : ℕ) → IsLawful host S
+    → None ≡ option_map (group_index S) (group_named S name) → 0 ≡ number_upto S name serial
 number_upto_none host S name serial lawful is =
-    ap (λ (as' : List NewsArticle). length (filter (λ (b : NewsArticle). nat_le b.serial serial) as')) (sym (new_has_nothing host S name lawful (not_here S name is)))
+    ap (λ (as' : List NewsArticle). length (filter (λ (b : NewsArticle). nat_le b.serial serial) as'))
+    (sym (new_has_nothing host S name lawful (not_here S name is)))
 
-pub still_found : (S : Spool) (name : Octets) (i : GroupIndex) (serial least number : ℕ) → Some i ≡ option_map (group_index S) (group_named S name) → least ≡ i.low
+pub still_found : (S : Spool) (name : Octets) (i : GroupIndex) (serial least number : ℕ)
+    → Some i ≡ option_map (group_index S) (group_named S name) → least ≡ i.low
     → (Rise i.filed → number ≡ length (filter (λ n. nat_le n serial) i.filed)) → nat_le least number ≡ is_still_in S serial name
 still_found S name i serial least number is low_is at =
     let its = group_is S name i is in
@@ -95,7 +114,8 @@ still_found S name i serial least number is low_is at =
     let counted = number_upto_found S name i serial number is at in
     λ j. nat_le (lowest j) (counted j)
 
-pub still_nowhere : (host : Octets) (S : Spool) (name : Octets) (serial : ℕ) → IsLawful host S → None ≡ option_map (group_index S) (group_named S name) → false ≡ is_still_in S serial name
+pub still_nowhere : (host : Octets) (S : Spool) (name : Octets) (serial : ℕ) → IsLawful host S
+    → None ≡ option_map (group_index S) (group_named S name) → false ≡ is_still_in S serial name
 still_nowhere host S name serial lawful is =
     let none = number_upto_none host S name serial lawful is in
     sym (lt-leb (low S name) (number_upto S name serial) (omega (arith, none)))
@@ -114,7 +134,8 @@ filed_serial : (e : Entry) (a : NewsArticle) → article_filed e ≡ Some a → 
 filed_serial e a is = by_change e.serial e.change is where
   by_change : (n : ℕ) (c : Change) → article_filed (record { serial = n; change = c }) ≡ Some a → a.serial ≡ n
   by_change n (Group name status description moment) same = absurd (cc)
-  by_change n (Article text filed moment) same = let one : record { serial = n; text = text; groups = filed; moment = moment } ≡ a = cc in ap (λ (b : NewsArticle). b.serial) (sym one)
+  by_change n (Article text filed moment) same = let one : record { serial = n; text = text; groups = filed; moment = moment } ≡ a = cc in
+      ap (λ (b : NewsArticle). b.serial) (sym one)
   by_change n (Expire group number) same = absurd (cc)
 
 with_serial : (S : Spool) (n : ℕ) (a : NewsArticle) → article_with S n ≡ Some a → a.serial ≡ n
@@ -132,11 +153,18 @@ record IsFiled (S : Spool) (n : ℕ) (names : List Octets) : Type 0 where
   pub serial_is : article.serial ≡ n
   pub groups_are : names ≡ article.groups
 
-is_filed : (S : Spool) (n : ℕ) (names : List Octets) → Some names ≡ option_map (λ (a : NewsArticle). a.groups) (article_with S n) → IsFiled S n names
+is_filed : (S : Spool) (n : ℕ) (names : List Octets) → Some names ≡ option_map (λ (a : NewsArticle). a.groups) (article_with S n)
+    → IsFiled S n names
 is_filed S n names is = by_article (article_with S n) refl is where
-  by_article : (o : Option NewsArticle) → article_with S n ≡ o → Some names ≡ option_map (λ (a : NewsArticle). a.groups) o → IsFiled S n names
+  by_article : (o : Option NewsArticle) → article_with S n ≡ o → Some names ≡ option_map (λ (a : NewsArticle). a.groups) o
+      → IsFiled S n names
   by_article None at same = absurd (cc)
-  by_article (Some a) at same = record { article = a; there = at; serial_is = with_serial S n a at; groups_are = same_Some names a.groups same }
+  by_article (Some a) at same = record {
+    article = a;
+    there = at;
+    serial_is = with_serial S n a at;
+    groups_are = same_Some names a.groups same;
+  }
 
 none_filed : (S : Spool) (n : ℕ) → None ≡ option_map (λ (a : NewsArticle). a.groups) (article_with S n) → article_with S n ≡ None
 none_filed S n is = by_article (article_with S n) is where
@@ -155,7 +183,8 @@ module _ (S : Spool) (n : ℕ) (names : List Octets) (its : IsFiled S n names) w
   unfolding is_gone
   here_still any = sym (gone ∙ ap (λ (b : Bool). cond (not b) (Some (gone_at S its.article)) None) (sym still ∙ any))
 
-  out_since : (last : ℕ) → list_any (is_still_in S n) names ≡ false → last ≡ greatest (map (λ g. expired_at S g (number_upto S g n)) names) → Some last ≡ gone_with S n
+  out_since : (last : ℕ) → list_any (is_still_in S n) names ≡ false → last ≡ greatest (map (λ g. expired_at S g (number_upto S g n)) names)
+      → Some last ≡ gone_with S n
   unfolding is_gone gone_at
   out_since last none last_is =
       let at : last ≡ gone_at S its.article =
@@ -168,21 +197,27 @@ module _ (S : Spool) (n : ℕ) (names : List Octets) (its : IsFiled S n names) w
       any_filtered test (is_still_in S n) names
       ∙ ap (λ (m : ℕ). list_any test (filter (is_still_in S m) names)) (sym its.serial_is)
       ∙ ap (λ (gs : List Octets). list_any test (filter (is_in S its.article) gs)) its.groups_are
-      ∙ ap (λ (o : Option NewsArticle). list_any test (unwrap_or (option_map (λ (b : NewsArticle). (as_it_is S b).groups) o) [])) (sym its.there)
+      ∙ ap (λ (o : Option NewsArticle). list_any test (unwrap_or (option_map (λ (b : NewsArticle). (as_it_is S b).groups) o) []))
+      (sym its.there)
 
-pub still_there : (S : Spool) (n : ℕ) (names : List Octets) → Some names ≡ option_map (λ (a : NewsArticle). a.groups) (article_with S n) → list_any (is_still_in S n) names ≡ true → None ≡ gone_with S n
+pub still_there : (S : Spool) (n : ℕ) (names : List Octets) → Some names ≡ option_map (λ (a : NewsArticle). a.groups) (article_with S n)
+    → list_any (is_still_in S n) names ≡ true → None ≡ gone_with S n
 still_there S n names is any = here_still S n names (is_filed S n names is) any
 
-pub taken_out : (S : Spool) (n : ℕ) (names : List Octets) (last : ℕ) → Some names ≡ option_map (λ (a : NewsArticle). a.groups) (article_with S n) → list_any (is_still_in S n) names ≡ false
+pub taken_out : (S : Spool) (n : ℕ) (names : List Octets) (last : ℕ)
+    → Some names ≡ option_map (λ (a : NewsArticle). a.groups) (article_with S n) → list_any (is_still_in S n) names ≡ false
     → last ≡ greatest (map (λ g. expired_at S g (number_upto S g n)) names) → Some last ≡ gone_with S n
 taken_out S n names last is none last_is = out_since S n names (is_filed S n names is) last none last_is
 
-pub in_one : (S : Spool) (n : ℕ) (names : List Octets) (test : Octets → Bool) → Some names ≡ option_map (λ (a : NewsArticle). a.groups) (article_with S n)
+pub in_one : (S : Spool) (n : ℕ) (names : List Octets) (test : Octets → Bool)
+    → Some names ≡ option_map (λ (a : NewsArticle). a.groups) (article_with S n)
     → list_any (λ g. test g && is_still_in S n g) names ≡ list_any test (groups_now S n)
 in_one S n names test is = one_of S n names (is_filed S n names is) test
 
 pub none_there : (S : Spool) (n : ℕ) → None ≡ option_map (λ (a : NewsArticle). a.groups) (article_with S n) → None ≡ gone_with S n
 none_there S n is = ap (option_and_then (λ (b : NewsArticle). cond (is_gone S b) (Some (gone_at S b)) None)) (sym (none_filed S n is))
 
-pub in_none : (S : Spool) (n : ℕ) (test : Octets → Bool) → None ≡ option_map (λ (a : NewsArticle). a.groups) (article_with S n) → false ≡ list_any test (groups_now S n)
-in_none S n test is = ap (λ (o : Option NewsArticle). list_any test (unwrap_or (option_map (λ (b : NewsArticle). (as_it_is S b).groups) o) [])) (sym (none_filed S n is))
+pub in_none : (S : Spool) (n : ℕ) (test : Octets → Bool) → None ≡ option_map (λ (a : NewsArticle). a.groups) (article_with S n)
+    → false ≡ list_any test (groups_now S n)
+in_none S n test is = ap (λ (o : Option NewsArticle). list_any test
+    (unwrap_or (option_map (λ (b : NewsArticle). (as_it_is S b).groups) o) [])) (sym (none_filed S n is))

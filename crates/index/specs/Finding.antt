@@ -1,5 +1,6 @@
 -- Look-ups in the index of a group.
-use Rattle.std.specs.Prelude.{ℕ, zero, suc, ◌-◌, ◌<◌, ◌==◌, nat_le, nat_lt, if◌then◌else◌, Bool, List, filter, length, slice_get, slice_index, Option, None}
+use Rattle.std.specs.Prelude.{ℕ, zero, suc, ◌-◌, ◌<◌, ◌==◌, nat_le, nat_lt, if◌then◌else◌, Bool, List, filter, length, slice_get}
+use Rattle.std.specs.Prelude.{slice_index, Option, None}
 use Rattle.model.specs.Stream.{Octets}
 use Rattle.model.specs.Indexed.{GroupIndex}
 use Rattle.model.specs.Spool.{Spool, Entry, entries, filed_in, low}

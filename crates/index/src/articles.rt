@@ -25,7 +25,8 @@ impl Index {
     /// What is kept of the change with this serial.
     pub fn note(&self, serial: u64) -> Option<&Note>
         ensures at { option_map (λ n. n.now) result ≡ note_at self.now.notes serial }
-        ensures change { (S : Spool) → Indexes S self.now → option_map (λ n. n.now) result ≡ option_map (λ e. kept (note_of e)) (entry_with S serial) }
+        ensures change { (S : Spool) → Indexes S self.now
+            → option_map (λ n. n.now) result ≡ option_map (λ e. kept (note_of e)) (entry_with S serial) }
     {
         note_in(&self.notes, serial)
     }
@@ -43,7 +44,8 @@ impl Index {
     /// The groups that the article with this serial was filed in, if there is one, including those that it was removed
     /// from.
     pub fn groups_of(&self, serial: u64) -> Option<&[Text]>
-        ensures { (S : Spool) → Indexes S self.now → option_map (λ names. names.now) result ≡ option_map (λ a. a.groups) (article_with S serial) }
+        ensures { (S : Spool) → Indexes S self.now
+            → option_map (λ names. names.now) result ≡ option_map (λ a. a.groups) (article_with S serial) }
     {
         match self.note(serial) {
             Some(note) => note.groups(),
@@ -65,8 +67,10 @@ impl Index {
     /// there is no such article. If `from` is 0 or negative, the answer is 0. It takes logarithmic time.
     pub fn older_than(&self, from: i64) -> u64
         ensures few { (S : Spool) → Indexes S self.now → result ≤ length S }
-        ensures older { (S : Spool) → Indexes S self.now → (serial : ℕ) → serial ≤ result → IfSome (article_with S serial) (λ a. is_since from a.moment ≡ false) }
-        ensures next { (S : Spool) → Indexes S self.now → is_since from 0 ≡ false → result < length S → option_map (λ a. is_since from a.moment) (article_with S (result + 1)) ≡ Some true }
+        ensures older { (S : Spool) → Indexes S self.now → (serial : ℕ) → serial ≤ result
+            → IfSome (article_with S serial) (λ a. is_since from a.moment ≡ false) }
+        ensures next { (S : Spool) → Indexes S self.now → is_since from 0 ≡ false → result < length S
+            → option_map (λ a. is_since from a.moment) (article_with S (result + 1)) ≡ Some true }
         ensures none { is_since from 0 ≡ true → result ≡ 0 }
     {
         match u64::try_from(from) {
@@ -98,7 +102,8 @@ impl Index {
     /// The serial of the expiry that removed the article with this serial from the group that it was filed in, or 0 if
     /// none did.
     pub fn taken_at(&self, group: &[u8], serial: u64) -> u64
-        ensures { (host : Octets) (S : Spool) → IsLawful host S → Indexes S self.now → result ≡ expired_at S group.now (number_upto S group.now serial) }
+        ensures { (host : Octets) (S : Spool) → IsLawful host S → Indexes S self.now
+            → result ≡ expired_at S group.now (number_upto S group.now serial) }
     {
         self.expired_at(group, self.number_in(group, serial))
     }
@@ -122,7 +127,8 @@ impl Index {
     /// Whether the article with this serial is in a group whose name the wildmat matches.
     pub fn is_in_one(&self, serial: u64, wildmat: &[u8]) -> bool
         requires { IsTrue (model.is_wildmat wildmat.now) }
-        ensures { (host : Octets) (S : Spool) → IsLawful host S → Indexes S self.now → result ≡ list_any (model.wildmat_matches wildmat.now) (groups_now S serial) }
+        ensures { (host : Octets) (S : Spool) → IsLawful host S → Indexes S self.now
+            → result ≡ list_any (model.wildmat_matches wildmat.now) (groups_now S serial) }
     {
         match self.groups_of(serial) {
             Some(groups) => self.is_in_taken(groups, serial, wildmat),
@@ -145,7 +151,8 @@ impl Index {
     /// The greatest serial of the expiries that removed the article with this serial from the groups that it was filed
     /// in.
     fn last_taken(&self, groups: &[Text], serial: u64) -> u64
-        ensures { (host : Octets) (S : Spool) → IsLawful host S → Indexes S self.now → result ≡ greatest (map (λ g. expired_at S g (number_upto S g serial)) groups.now) }
+        ensures { (host : Octets) (S : Spool) → IsLawful host S → Indexes S self.now
+            → result ≡ greatest (map (λ g. expired_at S g (number_upto S g serial)) groups.now) }
     {
         let mut last: u64 = 0;
         for name in groups {
@@ -158,7 +165,8 @@ impl Index {
     /// wildmat matches.
     fn is_in_taken(&self, groups: &[Text], serial: u64, wildmat: &[u8]) -> bool
         requires { IsTrue (model.is_wildmat wildmat.now) }
-        ensures { (host : Octets) (S : Spool) → IsLawful host S → Indexes S self.now → result ≡ list_any (λ g. model.wildmat_matches wildmat.now g && is_still_in S serial g) groups.now }
+        ensures { (host : Octets) (S : Spool) → IsLawful host S → Indexes S self.now
+            → result ≡ list_any (λ g. model.wildmat_matches wildmat.now g && is_still_in S serial g) groups.now }
     {
         for name in groups {
             if self.is_in_if_taken(name.as_slice(), serial, wildmat) {
@@ -171,7 +179,8 @@ impl Index {
     /// Whether the wildmat matches the group's name, and the article with this serial is still in the group.
     fn is_in_if_taken(&self, group: &[u8], serial: u64, wildmat: &[u8]) -> bool
         requires { IsTrue (model.is_wildmat wildmat.now) }
-        ensures { (host : Octets) (S : Spool) → IsLawful host S → Indexes S self.now → result ≡ (model.wildmat_matches wildmat.now group.now && is_still_in S serial group.now) }
+        ensures { (host : Octets) (S : Spool) → IsLawful host S → Indexes S self.now
+            → result ≡ (model.wildmat_matches wildmat.now group.now && is_still_in S serial group.now) }
     {
         wildmat_matches(wildmat, group) && self.is_in(group, serial)
     }

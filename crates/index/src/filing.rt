@@ -1,7 +1,8 @@
 //! Files changes in the index of groups. For an article, room is made in each of its groups first. Then the lines are
 //! added, which cannot fail any more.
 
-ghost use Rattle.std.specs.Prelude.{◌≡◌, ◌+◌, ◌^◌, ◌<◌, ◌≤◌, ℕ, List, [], None, Some, map, length, slice_index_or, MatchOption, OnErr, OnOk};
+ghost use Rattle.std.specs.Prelude.{◌≡◌, ◌+◌, ◌^◌, ◌<◌, ◌≤◌, ℕ, List, [], None, Some, map, length, slice_index_or, MatchOption, OnErr};
+ghost use Rattle.std.specs.Prelude.{OnOk};
 ghost use Rattle.std.specs.List.{All};
 ghost use Rattle.model.specs.Indexed.{value_of};
 ghost use Rattle.index.specs.Shown.{shown};
@@ -16,7 +17,8 @@ use std::alloc::AllocError;
 /// The place of the group with this name.
 pub(crate) fn place_of(places: &Keys, groups: &[Group], name: &[u8]) -> Option<usize>
     requires { AreNamed places.now (heads (map shown groups.now)) }
-    ensures { MatchOption result (value_of places.now name.now ≡ None) (λ k. (k < length groups.now) × (value_of places.now name.now ≡ Some k)) }
+    ensures { MatchOption result (value_of places.now name.now ≡ None)
+        (λ k. (k < length groups.now) × (value_of places.now name.now ≡ Some k)) }
 {
     match places.get(name) {
         Some(place) => Some(place as usize),
@@ -84,7 +86,8 @@ pub(crate) fn reserve_lines(
 ) -> Result<(), AllocError>
     requires { AreNamed places.now (heads (map shown groups.old)) }
     ensures same { map shown groups.new ≡ map shown groups.old }
-    ensures room { OnOk result ((k : ℕ) → k < length filed.now → HasRoomFor places.now groups.new (slice_index_or filed.now k []) (length filed.now)) }
+    ensures room { OnOk result ((k : ℕ) → k < length filed.now
+        → HasRoomFor places.now groups.new (slice_index_or filed.now k []) (length filed.now)) }
 {
     for name in filed {
         reserve_one(groups, places, name.as_slice(), filed.len())?;

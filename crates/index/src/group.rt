@@ -1,6 +1,7 @@
 //! What the index keeps of a group.
 
-ghost use Rattle.std.specs.Prelude.{◌≡◌, ◌+◌, ◌-◌, ◌^◌, ◌<◌, ◌≤◌, ◌∷◌, ◌++◌, [], true, false, map, filter, find, length, nat_le, nat_lt, slice_index, IfOk, OnOk, OnErr, vec_len, vec_capacity};
+ghost use Rattle.std.specs.Prelude.{◌≡◌, ◌+◌, ◌-◌, ◌^◌, ◌<◌, ◌≤◌, ◌∷◌, ◌++◌, [], true, false, map, filter, find, length, nat_le, nat_lt};
+ghost use Rattle.std.specs.Prelude.{slice_index, IfOk, OnOk, OnErr, vec_len, vec_capacity};
 ghost use Rattle.std.specs.List.Sorted.{IsPartitionPoint, IsPartitionedBy};
 ghost use Rattle.model.specs.Indexed.{line_start};
 ghost use Rattle.model.specs.Spool.{serial_of};
@@ -170,7 +171,8 @@ impl Group {
 
     /// The serial of the expiry that removed this number from it, or 0 if none did.
     pub fn expired_at(&self, number: u64) -> u64
-        ensures { Rise (map (λ e. e.number) (shown self.now).expired) → result ≡ serial_of (find (λ e. nat_le number e.number) (shown self.now).expired) }
+        ensures { Rise (map (λ e. e.number) (shown self.now).expired)
+            → result ≡ serial_of (find (λ e. nat_le number e.number) (shown self.now).expired) }
     {
         let place = expiries_below(&self.expired, number);
         if place == self.expired.len() {
@@ -224,7 +226,8 @@ impl Group {
 /// The number of lines at the start that belong to articles up to this serial.
 fn lines_up_to(lines: &[Line], serial: u64) -> usize
     ensures bound { result ≤ length lines.now }
-    ensures partitioned { IsPartitionedBy (λ l. nat_le l.serial serial) lines.now → IsPartitionPoint (λ l. nat_le l.serial serial ≡ true) (λ l. nat_le l.serial serial ≡ false) lines.now result }
+    ensures partitioned { IsPartitionedBy (λ l. nat_le l.serial serial) lines.now
+        → IsPartitionPoint (λ l. nat_le l.serial serial ≡ true) (λ l. nat_le l.serial serial ≡ false) lines.now result }
 {
     lines.partition_point(|line| line.serial <= serial)
 }
@@ -232,7 +235,8 @@ fn lines_up_to(lines: &[Line], serial: u64) -> usize
 /// The number of expiries at the start that do not reach this number.
 fn expiries_below(expired: &[Expired], number: u64) -> usize
     ensures bound { result ≤ length expired.now }
-    ensures partitioned { IsPartitionedBy (λ e. nat_lt e.number number) expired.now → IsPartitionPoint (λ e. nat_lt e.number number ≡ true) (λ e. nat_lt e.number number ≡ false) expired.now result }
+    ensures partitioned { IsPartitionedBy (λ e. nat_lt e.number number) expired.now
+        → IsPartitionPoint (λ e. nat_lt e.number number ≡ true) (λ e. nat_lt e.number number ≡ false) expired.now result }
 {
     expired.partition_point(|expiry| expiry.number < number)
 }

@@ -23,7 +23,8 @@ pub(crate) fn push_latest(latest: &mut Vec<u64>, note: &Note)
 /// The number of moments at the start that are below this one.
 pub(crate) fn moments_below(latest: &[u64], moment: u64) -> usize
     ensures bound { result ≤ length latest.now }
-    ensures partitioned { IsPartitionedBy (λ m. nat_lt m moment) latest.now → IsPartitionPoint (λ m. nat_lt m moment ≡ true) (λ m. nat_lt m moment ≡ false) latest.now result }
+    ensures partitioned { IsPartitionedBy (λ m. nat_lt m moment) latest.now
+        → IsPartitionPoint (λ m. nat_lt m moment ≡ true) (λ m. nat_lt m moment ≡ false) latest.now result }
 {
     latest.partition_point(|at| *at < moment)
 }

@@ -1,7 +1,8 @@
 //! The index of a spool in memory: what its look-ups need besides the files, always equal to the list of changes.
 #![tactic(auto)]
 
-ghost use Rattle.std.specs.Prelude.{◌≡◌, ◌+◌, ◌-◌, ◌^◌, ◌<◌, ◌≤◌, ◌∷◌, ◌++◌, [], false, map, length, option_map, slice_get, Some, IfSome, OnOk, OnErr, bytes_eq, is_some};
+ghost use Rattle.std.specs.Prelude.{◌≡◌, ◌+◌, ◌-◌, ◌^◌, ◌<◌, ◌≤◌, ◌∷◌, ◌++◌, [], false, map, length, option_map, slice_get, Some, IfSome};
+ghost use Rattle.std.specs.Prelude.{OnOk, OnErr, bytes_eq, is_some};
 ghost use Rattle.std.specs.List.{All, list_any};
 ghost use Rattle.std.specs.Option.{option_and_then};
 ghost use Rattle.model.specs.Stream.{Octets};
@@ -103,7 +104,8 @@ impl Index {
     /// The group with this name.
     pub fn group(&self, name: &[u8]) -> Option<&Group>
         ensures here { is_some result ≡ list_any (bytes_eq name.now) (heads self.now.groups) }
-        ensures spool { (S : Spool) → Indexes S self.now → option_map (λ g. shown g.now) result ≡ option_map (group_index S) (group_named S name.now) }
+        ensures spool { (S : Spool) → Indexes S self.now
+            → option_map (λ g. shown g.now) result ≡ option_map (group_index S) (group_named S name.now) }
     {
         match place_of(&self.places, &self.groups, name) {
             Some(place) => Some(&self.groups[place]),
@@ -113,7 +115,8 @@ impl Index {
 
     /// The serial of the article that is in the group under this number; `None` if the group does not exist.
     pub fn by_number(&self, group: &[u8], number: u64) -> Option<u64>
-        ensures { (host : Octets) (S : Spool) → IsLawful host S → Indexes S self.now → result ≡ option_map (λ a. a.serial) (by_number S group.now number) }
+        ensures { (host : Octets) (S : Spool) → IsLawful host S → Indexes S self.now
+            → result ≡ option_map (λ a. a.serial) (by_number S group.now number) }
     {
         match self.group(group) {
             Some(group) => group.by_number(number),
@@ -147,7 +150,8 @@ impl Index {
         moment: u64,
     ) -> Result<(), AllocError>
         requires { list_any (bytes_eq name.now) (heads self.old.groups) ≡ false }
-        ensures ok { OnOk result ((host : Octets) (S : Spool) → IsLawful host S → MayMake S name.now status description.now moment → Indexes S self.old
+        ensures ok { OnOk result ((host : Octets) (S : Spool) → IsLawful host S → MayMake S name.now status description.now moment
+            → Indexes S self.old
             → Indexes (S ++ Change.Group name.now status description.now moment ∷ []) self.new) }
         ensures err { OnErr result (self.new ≡ self.old) }
     {
@@ -181,7 +185,8 @@ impl Index {
         requires sizes { length sizes.now ≡ length filed }
         requires small { All (λ n. n < 2 ^ 32) sizes.now }
         requires fits { EndBelow (2 ^ 32) self.old.groups }
-        ensures ok { OnOk result ((host : Octets) (S : Spool) (text : Octets) → MayFile host S text filed moment → id.now ≡ article.id text → size ≡ length text
+        ensures ok { OnOk result ((host : Octets) (S : Spool) (text : Octets) → MayFile host S text filed moment → id.now ≡ article.id text
+            → size ≡ length text
             → AreLineSizes S text filed sizes.now → Indexes S self.old → Indexes (S ++ Change.Article text filed moment ∷ []) self.new) }
         ensures err { OnErr result (self.new ≡ self.old) }
     {

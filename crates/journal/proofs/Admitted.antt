@@ -1,7 +1,9 @@
 -- What a crash leaves at each call of a batch: a law of the segments for each kind of call.
-use Rattle.std.proofs.Common.{◌≡◌, inl, inr, ◌<◌, ◌≤◌, ℕ, ◌+◌, ◌*◌, true, false, eqb, List, [], ◌∷◌, ◌++◌, length, drop, refl, sym, ◌∙◌, ap, subst, arith}
+use Rattle.std.proofs.Common.{◌≡◌, inl, inr, ◌<◌, ◌≤◌, ℕ, ◌+◌, ◌*◌, true, false, eqb, List, [], ◌∷◌, ◌++◌, length, drop, refl, sym, ◌∙◌, ap}
+use Rattle.std.proofs.Common.{subst, arith}
 use Rattle.std.proofs.lemmas.List.{drop_more}
-use Rattle.model.specs.Volume.{AreDistinct, Batch, IsDescriptor, StandsFor, batch_in, block, descriptor_place, gate_closed, gate_place, home_size, image_place, is_open, laid_over, logical_blocks, number_at, segment_count}
+use Rattle.model.specs.Volume.{AreDistinct, Batch, IsDescriptor, StandsFor, batch_in, block, descriptor_place, gate_closed, gate_place}
+use Rattle.model.specs.Volume.{home_size, image_place, is_open, laid_over, logical_blocks, number_at, segment_count}
 use Rattle.segments.specs.Held.{AreOpen, HaveLess, Held, IsHomeOfHeld, IsWrittenIn}
 use Rattle.segments.specs.Images.{IsCarried, IsHomeOfOpen, SameBut}
 use Rattle.segments.proofs.Blocks.{first-overwritten, overwritten_same, same_but_back, same_but_more, same_but_then}
@@ -20,7 +22,8 @@ abbrev pub Bears : Flight → Next → List ℕ → Type 0
 Bears f (Image i) x = is_open f.batch.place x ≡ false
 Bears f Seal x = is_open f.batch.place x ≡ false
 Bears f Commit x =
-    (is_open f.batch.place x ≡ false) × AreOpen f.held x × IsWrittenIn f.batch.place f.batch.descriptor f.batch.images x × HaveLess (held_as f.batch).batch.number f.held
+    (is_open f.batch.place x ≡ false) × AreOpen f.held x × IsWrittenIn f.batch.place f.batch.descriptor f.batch.images x
+    × HaveLess (held_as f.batch).batch.number f.held
 Bears f (Home j i) x = AreOpen (all_of f) x
 Bears f Settle x = AreOpen (all_of f) x
 Bears f (Finish j) x = (j < length (all_of f)) × AreOpen (drop j (all_of f)) x × IsCarried x
@@ -55,16 +58,19 @@ module _ (x label : List ℕ) (m : ℕ) (stands : StandsFor x label (logical_blo
       let room : 4096 * gate_place m + 1 ≤ length c = omega (arith, fits, same.size) in
       let shut_c : is_open m (gate_closed m c) ≡ false = ap (λ (n : ℕ). eqb n 1) (first-overwritten (gate_place m) 0 c room) in
       let both =
-      same_but_then (λ k. k ≡ gate_place m) (gate_closed m x) x (gate_closed m c) (same_but_back (λ k. k ≡ gate_place m) x (gate_closed m x) shut_same)
+      same_but_then (λ k. k ≡ gate_place m) (gate_closed m x) x (gate_closed m c)
+      (same_but_back (λ k. k ≡ gate_place m) x (gate_closed m x) shut_same)
       (same_but_then (λ k. k ≡ gate_place m) x c (gate_closed m c) same (overwritten_same (gate_place m) (0 ∷ []) c (omega arith) room)) in
-      (gate_kept (gate_closed m x) (gate_closed m c) label (logical_blocks (gate_closed m x)) m stands_shut there_shut both (shut_c ∙ sym is_shut)).has_blocks
+      (gate_kept (gate_closed m x) (gate_closed m c) label (logical_blocks (gate_closed m x)) m stands_shut there_shut both (shut_c
+      ∙ sym is_shut)).has_blocks
 
   -- and where it is closed nothing changes
   pub shut_already : is_open m x ≡ false → logical_blocks (gate_closed m x) ≡ logical_blocks x
   shut_already shut = (gate_kept x (gate_closed m x) label (logical_blocks x) m stands there shut_same (is_shut ∙ sym shut)).has_blocks
 
 -- the descriptor of the batch that stands in the segment is valid
-module _ (f : Flight) (blocks : ℕ) (staged : IsStaged blocks f.batch) (x : List ℕ) (written : IsWrittenIn f.batch.place f.batch.descriptor f.batch.images x) where
+module _ (f : Flight) (blocks : ℕ) (staged : IsStaged blocks f.batch) (x : List ℕ)
+    (written : IsWrittenIn f.batch.place f.batch.descriptor f.batch.images x) where
   pub batch_valid : home_size x ≡ blocks → IsDescriptor (home_size x) (block (descriptor_place f.batch.place) x)
   batch_valid is =
       let valid : IsDescriptor blocks f.batch.descriptor = record {
@@ -74,9 +80,11 @@ module _ (f : Flight) (blocks : ℕ) (staged : IsStaged blocks f.batch) (x : Lis
         below = subst (λ (l : List ℕ). Rattle.std.specs.List.All (λ n. n < blocks) l) (sym staged.lists) staged.sound.below;
         distinct = subst (λ (l : List ℕ). AreDistinct l) (sym staged.lists) staged.distinct;
       } in
-      subst (λ (b : List ℕ). IsDescriptor (home_size x) b) (sym written.descriptor_is) (subst (λ (n : ℕ). IsDescriptor n f.batch.descriptor) (sym is) valid)
+      subst (λ (b : List ℕ). IsDescriptor (home_size x) b) (sym written.descriptor_is)
+      (subst (λ (n : ℕ). IsDescriptor n f.batch.descriptor) (sym is) valid)
 
-module _ (f : Flight) (x label : List ℕ) (stands : StandsFor x label (logical_blocks x)) (there : f.batch.place < segment_count x) (count : segment_count x ≡ f.segments) (staged : IsStaged (home_size x) f.batch) where
+module _ (f : Flight) (x label : List ℕ) (stands : StandsFor x label (logical_blocks x)) (there : f.batch.place < segment_count x)
+    (count : segment_count x ≡ f.segments) (staged : IsStaged (home_size x) f.batch) where
   abbrev m : ℕ
   m = f.batch.place
 
@@ -87,21 +95,26 @@ module _ (f : Flight) (x label : List ℕ) (stands : StandsFor x label (logical_
   written_shut : IsWrittenIn m f.batch.descriptor f.batch.images x → IsWrittenIn m f.batch.descriptor f.batch.images shut
   written_shut written = record {
     descriptor_is = (shut_same x label m stands there).same (descriptor_place m) (λ e. absurd (omega (arith, e))) ∙ written.descriptor_is;
-    images_are = λ k within. (shut_same x label m stands there).same (image_place m k) (λ e. absurd (omega (arith, e))) ∙ written.images_are k within;
+    images_are = λ k within. (shut_same x label m stands there).same (image_place m k) (λ e. absurd (omega (arith, e)))
+        ∙ written.images_are k within;
   }
 
-  laid_same : (y : List ℕ) (bs : List (List ℕ)) → IsWrittenIn m f.batch.descriptor f.batch.images y → laid_over bs (batch_in m y).numbers (batch_in m y).images ≡ laid_over bs f.batch.numbers f.batch.images
+  laid_same : (y : List ℕ) (bs : List (List ℕ)) → IsWrittenIn m f.batch.descriptor f.batch.images y
+      → laid_over bs (batch_in m y).numbers (batch_in m y).images ≡ laid_over bs f.batch.numbers f.batch.images
   laid_same y bs written = ap (λ (b : Batch). laid_over bs b.numbers b.images) (batch_is f.batch (home_size x) staged y written)
 
   -- the sync that commits lays the batch over
-  pub committed : AreOpen f.held shut → is_open m x ≡ true → IsWrittenIn m f.batch.descriptor f.batch.images x → HaveLess (held_as f.batch).batch.number f.held
+  pub committed : AreOpen f.held shut → is_open m x ≡ true → IsWrittenIn m f.batch.descriptor f.batch.images x
+      → HaveLess (held_as f.batch).batch.number f.held
       → (logical_blocks x ≡ laid_over (logical_blocks shut) f.batch.numbers f.batch.images) × AreOpen (all_of f) x
   committed are opened written less =
       let here = written_shut written in
       let is = batch_is f.batch (home_size x) staged shut here in
       let now =
-      opened_open shut x label (logical_blocks shut) m f.held (stands_shut x label m stands there) (is_shut x label m stands there) (there_shut x label m stands there)
-      (batch_valid f (home_size x) staged shut here (size_shut x label m stands there)) are (subst (λ (b : Batch). HaveLess b.number f.held) (sym is) less)
+      opened_open shut x label (logical_blocks shut) m f.held (stands_shut x label m stands there) (is_shut x label m stands there)
+      (there_shut x label m stands there)
+      (batch_valid f (home_size x) staged shut here (size_shut x label m stands there)) are
+      (subst (λ (b : Batch). HaveLess b.number f.held) (sym is) less)
       (same_but_back (λ k. k ≡ gate_place m) x shut (shut_same x label m stands there)) opened in (
         now.0.has_blocks ∙ laid_same shut (logical_blocks shut) here,
         subst (λ (b : Batch). AreOpen (f.held ++ record { place = m; batch = b } ∷ []) x) is now.1,
@@ -112,29 +125,39 @@ module _ (f : Flight) (x label : List ℕ) (stands : StandsFor x label (logical_
   whole_case c same = torn x c label (logical_blocks x) stands (same_but_more (λ k. ⊥) (IsHomeOfOpen x) x c (λ k e. absurd e) same)
 
   -- the gate of the batch, at the commit
-  commit_case : (c : List ℕ) → Bears f Commit x → SameBut (λ k. k ≡ gate_place m) x c → IsAdmitted Commit label (logical_blocks shut) (laid_over (logical_blocks shut) f.batch.numbers f.batch.images) c
+  commit_case : (c : List ℕ) → Bears f Commit x → SameBut (λ k. k ≡ gate_place m) x c
+      → IsAdmitted Commit label (logical_blocks shut) (laid_over (logical_blocks shut) f.batch.numbers f.batch.images) c
   commit_case c bears same =
       let is = batch_is f.batch (home_size x) staged x bears.2 in
       let same_blocks = sym (shut_already x label m stands there bears.0) in
-      elim (opened_or_not x c label (logical_blocks x) m stands bears.0 there (batch_valid f (home_size x) staged x bears.2 refl) (less_than x (batch_in m x).number f.held bears.1 (subst (λ (b : Batch). HaveLess b.number f.held) (sym is) bears.3)) same) [
+      elim (opened_or_not x c label (logical_blocks x) m stands bears.0 there (batch_valid f (home_size x) staged x bears.2 refl)
+      (less_than x (batch_in m x).number f.held bears.1 (subst (λ (b : Batch). HaveLess b.number f.held) (sym is) bears.3)) same) [
         | inl without ↦ inl (subst (λ (bs : List (List ℕ)). StandsFor c label bs) same_blocks without)
         | inr after ↦
-            inr (refl, subst (λ (bs : List (List ℕ)). StandsFor c label bs) (laid_same x (logical_blocks x) bears.2 ∙ ap (λ (bs : List (List ℕ)). laid_over bs f.batch.numbers f.batch.images) same_blocks) after)
+            inr (
+              refl,
+              subst (λ (bs : List (List ℕ)). StandsFor c label bs) (laid_same x (logical_blocks x) bears.2
+                  ∙ ap (λ (bs : List (List ℕ)). laid_over bs f.batch.numbers f.batch.images) same_blocks) after,
+            )
       ]
 
   -- the homes of the images of open segments
   home_case : (c : List ℕ) → AreOpen (all_of f) x → SameBut (IsHomeOfHeld f.segments (all_of f)) x c → StandsFor c label (logical_blocks x)
-  home_case c are same = torn_held x c label (logical_blocks x) (all_of f) stands are (subst (λ (n : ℕ). SameBut (IsHomeOfHeld n (all_of f)) x c) (sym count) same)
+  home_case c are same = torn_held x c label (logical_blocks x) (all_of f) stands are
+      (subst (λ (n : ℕ). SameBut (IsHomeOfHeld n (all_of f)) x c) (sym count) same)
 
   -- and the gate of the first one, once they are carried
-  finish_case : (j : ℕ) (c : List ℕ) → Bears f (Finish j) x → SameBut (λ k. k ≡ gate_place (held_at (all_of f) j).place) x c → StandsFor c label (logical_blocks x)
+  finish_case : (j : ℕ) (c : List ℕ) → Bears f (Finish j) x → SameBut (λ k. k ≡ gate_place (held_at (all_of f) j).place) x c
+      → StandsFor c label (logical_blocks x)
   finish_case j c bears same =
       let h = held_at (all_of f) j in
       let are = subst (λ (hs : List Held). AreOpen hs x) (drop_more (all_of f) j none_held bears.0) bears.1 in
-      (closed_or_not x c label (logical_blocks x) h.place stands are.each.0.0 (first_is_least x h (drop (j + 1) (all_of f)) are) bears.2 same).0
+      (closed_or_not x c label (logical_blocks x) h.place stands are.each.0.0 (first_is_least x h (drop (j + 1) (all_of f)) are) bears.2
+      same).0
 
   -- at each call
-  pub images_stand : (next : Next) (c : List ℕ) → Bears f next x → SameBut (Touched f next) x c → IsAdmitted next label (blocks_without m next x) (laid_over (blocks_without m next x) f.batch.numbers f.batch.images) c
+  pub images_stand : (next : Next) (c : List ℕ) → Bears f next x → SameBut (Touched f next) x c
+      → IsAdmitted next label (blocks_without m next x) (laid_over (blocks_without m next x) f.batch.numbers f.batch.images) c
   images_stand Idle c bears same = inl (whole_case c same)
   images_stand Descriptor c bears same = inl (whole_case c same)
   images_stand (Image i) c bears same = inl (unread x c label (logical_blocks x) m stands bears there same)

@@ -1,5 +1,6 @@
 -- A journal that takes a batch.
-use Rattle.std.proofs.Common.{◌≡◌, ◌≢◌, ◌⊎◌, inl, inr, ◌<◌, ◌≤◌, ℕ, zero, suc, ◌+◌, ◌*◌, Bool, true, false, cond, eqb, List, [], ◌∷◌, ◌++◌, length, map, take, refl, sym, ◌∙◌, ap, subst, arith}
+use Rattle.std.proofs.Common.{◌≡◌, ◌≢◌, ◌⊎◌, inl, inr, ◌<◌, ◌≤◌, ℕ, zero, suc, ◌+◌, ◌*◌, Bool, true, false, cond, eqb, List, [], ◌∷◌, ◌++◌}
+use Rattle.std.proofs.Common.{length, map, take, refl, sym, ◌∙◌, ap, subst, arith}
 use Rattle.std.specs.List.{All}
 use Rattle.std.proofs.lemmas.Bool.{cases_Bool, cases_eq, eqb-false}
 use Rattle.std.proofs.lemmas.List.{length-take-le, map_more}
@@ -25,10 +26,12 @@ among_last s (g ∷ hs) h (inr rest) = elim (among_last s hs h rest) [
 ]
 
 -- the first segments have the first places
-among_low : (room : List Staged) (n : ℕ) → n ≤ length room → ((t : ℕ) → t < n → (staged_at room t).place ≡ t) → (k : ℕ) → k ≤ n → (s : ℕ) → IsAmong s (map held_as (take k room)) → s < n
+among_low : (room : List Staged) (n : ℕ) → n ≤ length room → ((t : ℕ) → t < n → (staged_at room t).place ≡ t) → (k : ℕ) → k ≤ n → (s : ℕ)
+    → IsAmong s (map held_as (take k room)) → s < n
 among_low room n few places zero low s among = absurd among
 among_low room n few places (suc k) low s among =
-    let here = subst (λ (hs : List Held). IsAmong s hs) (ap (λ (m : ℕ). map held_as (take m room)) (let e : suc k ≡ k + 1 = omega arith in e) ∙ map_more held_as room k none_staged (omega (arith, low, few))) among in
+    let here = subst (λ (hs : List Held). IsAmong s hs) (ap (λ (m : ℕ). map held_as (take m room)) (let e : suc k ≡ k + 1 = omega arith in
+    e) ∙ map_more held_as room k none_staged (omega (arith, low, few))) among in
     elim (among_last s (map held_as (take k room)) (held_as (staged_at room k)) here) [
       | inl before ↦ among_low room n few places k (omega (arith, low)) s before
       | inr is ↦ omega (arith, is, low, places k (omega (arith, low)))
@@ -43,17 +46,21 @@ among_end : (s : ℕ) (hs : List Held) (h : Held) → s ≡ h.place → IsAmong 
 among_end s [] h is = inl is
 among_end s (g ∷ hs) h is = inr (among_end s hs h is)
 
-among_all : (room : List Staged) (n : ℕ) → n ≤ length room → ((t : ℕ) → t < n → (staged_at room t).place ≡ t) → (k : ℕ) → k ≤ n → (s : ℕ) → s < k → IsAmong s (map held_as (take k room))
+among_all : (room : List Staged) (n : ℕ) → n ≤ length room → ((t : ℕ) → t < n → (staged_at room t).place ≡ t) → (k : ℕ) → k ≤ n → (s : ℕ)
+    → s < k → IsAmong s (map held_as (take k room))
 among_all room n few places zero low s below = absurd (omega (arith, below))
 among_all room n few places (suc k) low s below =
-    subst (λ (hs : List Held). IsAmong s hs) (sym (map_more held_as room k none_staged (omega (arith, low, few))) ∙ ap (λ (m : ℕ). map held_as (take m room)) (let e : k + 1 ≡ suc k = omega arith in e))
+    subst (λ (hs : List Held). IsAmong s hs) (sym (map_more held_as room k none_staged (omega (arith, low, few)))
+    ∙ ap (λ (m : ℕ). map held_as (take m room)) (let e : k + 1 ≡ suc k = omega arith in e))
     (elim (cases_eq s k) [
       | inl is ↦ among_end s (map held_as (take k room)) (held_as (staged_at room k)) (is ∙ sym (places k (omega (arith, low))))
-      | inr other ↦ among_front s (map held_as (take k room)) (held_as (staged_at room k)) (among_all room n few places k (omega (arith, low)) s (omega (arith, below, other)))
+      | inr other ↦ among_front s (map held_as (take k room)) (held_as (staged_at room k))
+          (among_all room n few places k (omega (arith, low)) s (omega (arith, below, other)))
     ])
 
 -- the batch that was taken
-taken_staged : (blocks place number last : ℕ) (ns octets : List ℕ) (s : Staged) → IsTaken place number last ns octets s → 1 ≤ length ns → length ns ≤ 512 → All (λ n. n < blocks) ns → AreDistinct ns → length octets ≡ 4096 * length ns → IsStaged blocks s
+taken_staged : (blocks place number last : ℕ) (ns octets : List ℕ) (s : Staged) → IsTaken place number last ns octets s → 1 ≤ length ns
+    → length ns ≤ 512 → All (λ n. n < blocks) ns → AreDistinct ns → length octets ≡ 4096 * length ns → IsStaged blocks s
 taken_staged blocks place number last ns octets s taken some few below distinct room =
     record {
       size = taken.size;
@@ -62,12 +69,24 @@ taken_staged blocks place number last ns octets s taken some few below distinct 
       lists = taken.lists ∙ sym taken.numbers_are;
       distinct = subst (λ (l : List ℕ). AreDistinct l) (sym taken.numbers_are) distinct;
       sound =
-          subst (λ (l : List ℕ). IsSound blocks (record { number = number_at 0 8 s.descriptor; last = number_at 8 8 s.descriptor; numbers = l; images = s.images })) (sym taken.numbers_are)
-          (subst (λ (is : List (List ℕ)). IsSound blocks (record { number = number_at 0 8 s.descriptor; last = number_at 8 8 s.descriptor; numbers = ns; images = is })) (sym taken.images_are)
+          subst (λ (l : List ℕ). IsSound blocks (record {
+            number = number_at 0 8 s.descriptor;
+            last = number_at 8 8 s.descriptor;
+            numbers = l;
+            images = s.images;
+          })) (sym taken.numbers_are)
+          (subst (λ (is : List (List ℕ)). IsSound blocks (record {
+            number = number_at 0 8 s.descriptor;
+            last = number_at 8 8 s.descriptor;
+            numbers = ns;
+            images = is;
+          })) (sym taken.images_are)
           (sound_of blocks (number_at 0 8 s.descriptor) (number_at 8 8 s.descriptor) ns octets some few below (omega (arith, room))));
     }
 
-module _ (device : Device) (blocks : ℕ) (superblock : List ℕ) (room after : List Staged) (filled : ℕ) (is_last : Bool) (kept : IsKept device blocks superblock Idle false room filled is_last) (m : ℕ) (m_is : m ≡ cond is_last 0 (filled + 1)) (size : length after ≡ length room) (same : (t : ℕ) → t ≢ m → staged_at after t ≡ staged_at room t) where
+module _ (device : Device) (blocks : ℕ) (superblock : List ℕ) (room after : List Staged) (filled : ℕ) (is_last : Bool)
+    (kept : IsKept device blocks superblock Idle false room filled is_last) (m : ℕ) (m_is : m ≡ cond is_last 0 (filled + 1))
+    (size : length after ≡ length room) (same : (t : ℕ) → t ≢ m → staged_at after t ≡ staged_at room t) where
   was_last : is_last ≡ true → m ≡ 0
   was_last is = m_is ∙ ap (λ (b : Bool). cond b 0 (filled + 1)) is
 
@@ -83,7 +102,8 @@ module _ (device : Device) (blocks : ℕ) (superblock : List ℕ) (room after : 
   -- the segments that are open are those before it
   pub held_now : map held_as (take m after) ≡ left_of (flight_in room filled is_last)
   held_now = elim (cases_Bool is_last) [
-    | inl is ↦ ap (λ (k : ℕ). map held_as (take k after)) (was_last is) ∙ ap (λ (b : Bool). cond b [] (all_of (flight_in room filled is_last))) (sym is)
+    | inl is ↦ ap (λ (k : ℕ). map held_as (take k after)) (was_last is)
+        ∙ ap (λ (b : Bool). cond b [] (all_of (flight_in room filled is_last))) (sym is)
     | inr is ↦
         ap (map held_as) (take_same room after m size (omega (arith, there)) (λ t low. same t (λ e. absurd (omega (arith, low, e)))))
         ∙ ap (λ (k : ℕ). map held_as (take k room)) (was_more is) ∙ map_more held_as room filled none_staged kept.there
@@ -91,40 +111,50 @@ module _ (device : Device) (blocks : ℕ) (superblock : List ℕ) (room after : 
   ]
 
   pub length_now : length (left_of (flight_in room filled is_last)) ≡ m
-  length_now = sym (ap length held_now) ∙ Rattle.std.proofs.lemmas.List.length-map (take m after) held_as ∙ length-take-le m after (omega (arith, size, there))
+  length_now = sym (ap length held_now) ∙ Rattle.std.proofs.lemmas.List.length-map (take m after) held_as
+      ∙ length-take-le m after (omega (arith, size, there))
 
   -- they are all those below it
   pub lowest : (s : ℕ) → s < m → IsAmong s (left_of (flight_in room filled is_last))
   lowest s below = elim (cases_Bool is_last) [
     | inl is ↦ absurd (omega (arith, below, was_last is))
     | inr is ↦
-        subst (λ (hs : List Held). IsAmong s hs) (map_more held_as room filled none_staged kept.there ∙ ap (λ (b : Bool). cond b [] (all_of (flight_in room filled is_last))) (sym is))
-        (among_all room (filled + 1) (omega (arith, kept.there)) (λ t low. (kept.order is t (omega (arith, low))).0) (filled + 1) (omega arith) s (omega (arith, below, was_more is)))
+        subst (λ (hs : List Held). IsAmong s hs) (map_more held_as room filled none_staged kept.there
+        ∙ ap (λ (b : Bool). cond b [] (all_of (flight_in room filled is_last))) (sym is))
+        (among_all room (filled + 1) (omega (arith, kept.there)) (λ t low. (kept.order is t (omega (arith, low))).0) (filled + 1)
+        (omega arith) s (omega (arith, below, was_more is)))
   ]
 
   pub not_among : IsAmong m (left_of (flight_in room filled is_last)) → ⊥
   not_among among = elim (cases_Bool is_last) [
     | inl is ↦ subst (λ (b : Bool). IsAmong m (cond b [] (all_of (flight_in room filled is_last)))) is among
     | inr is ↦
-        let here = subst (λ (hs : List Held). IsAmong m hs) (ap (λ (b : Bool). cond b [] (all_of (flight_in room filled is_last))) is ∙ sym (map_more held_as room filled none_staged kept.there)) among in
-        let low = among_low room (filled + 1) (omega (arith, kept.there)) (λ t low. (kept.order is t (omega (arith, low))).0) (filled + 1) (omega arith) m here in
+        let here = subst (λ (hs : List Held). IsAmong m hs) (ap (λ (b : Bool). cond b [] (all_of (flight_in room filled is_last))) is
+        ∙ sym (map_more held_as room filled none_staged kept.there)) among in
+        let low = among_low room (filled + 1) (omega (arith, kept.there)) (λ t low. (kept.order is t (omega (arith, low))).0) (filled + 1)
+        (omega arith) m here in
         absurd (omega (arith, low, was_more is))
   ]
 
-  closed : (x : List ℕ) → AreOpen (left_of (flight_in room filled is_last)) x → m < Rattle.model.specs.Volume.segment_count x → is_open m x ≡ false
+  closed : (x : List ℕ) → AreOpen (left_of (flight_in room filled is_last)) x → m < Rattle.model.specs.Volume.segment_count x
+      → is_open m x ≡ false
   closed x are within = elim (cases_Bool (is_open m x)) [
     | inr shut ↦ shut
     | inl opened ↦ absurd (not_among (are.all m (within, opened)))
   ]
 
-  module _ (last : ℕ) (ns octets : List ℕ) (taken : IsTaken m (m + 1) last ns octets (staged_at after m)) (some : 1 ≤ length ns) (few : length ns ≤ 512) (below : All (λ n. n < blocks) ns) (distinct : AreDistinct ns) (whole : length octets ≡ 4096 * length ns) where
+  module _ (last : ℕ) (ns octets : List ℕ) (taken : IsTaken m (m + 1) last ns octets (staged_at after m)) (some : 1 ≤ length ns)
+      (few : length ns ≤ 512) (below : All (λ n. n < blocks) ns) (distinct : AreDistinct ns)
+      (whole : length octets ≡ 4096 * length ns) where
     abbrev next_last : Bool
     next_last = eqb (m + 1) (length after)
 
     staged_now : (t : ℕ) → t ≤ m → IsStaged blocks (staged_at after t)
     staged_now t low = elim (cases_eq t m) [
-      | inl is ↦ subst (λ (k : ℕ). IsStaged blocks (staged_at after k)) (sym is) (taken_staged blocks m (m + 1) last ns octets (staged_at after m) taken some few below distinct whole)
-      | inr other ↦ subst (IsStaged blocks) (sym (same t other)) (kept.staged (before t low other) t (omega (arith, was_more (before t low other), low, other)))
+      | inl is ↦ subst (λ (k : ℕ). IsStaged blocks (staged_at after k)) (sym is)
+          (taken_staged blocks m (m + 1) last ns octets (staged_at after m) taken some few below distinct whole)
+      | inr other ↦ subst (IsStaged blocks) (sym (same t other))
+          (kept.staged (before t low other) t (omega (arith, was_more (before t low other), low, other)))
     ]
       where
         before : (t : ℕ) → t ≤ m → t ≢ m → is_last ≡ false
@@ -135,16 +165,19 @@ module _ (device : Device) (blocks : ℕ) (superblock : List ℕ) (room after : 
 
     order_now : (t : ℕ) → t ≤ m → ((staged_at after t).place ≡ t) × (number_at 0 8 (staged_at after t).descriptor ≡ t + 1)
     order_now t low = elim (cases_eq t m) [
-      | inl is ↦ subst (λ (k : ℕ). ((staged_at after k).place ≡ k) × (number_at 0 8 (staged_at after k).descriptor ≡ k + 1)) (sym is) (taken.place_is, taken.number_is)
+      | inl is ↦ subst (λ (k : ℕ). ((staged_at after k).place ≡ k) × (number_at 0 8 (staged_at after k).descriptor ≡ k + 1)) (sym is)
+          (taken.place_is, taken.number_is)
       | inr other ↦
           elim (cases_Bool is_last) [
             | inl is ↦ absurd (omega (arith, was_last is, low, other))
-            | inr is ↦ subst (λ (s : Staged). (s.place ≡ t) × (number_at 0 8 s.descriptor ≡ t + 1)) (sym (same t other)) (kept.order is t (omega (arith, was_more is, low, other)))
+            | inr is ↦ subst (λ (s : Staged). (s.place ≡ t) × (number_at 0 8 s.descriptor ≡ t + 1)) (sym (same t other))
+                (kept.order is t (omega (arith, was_more is, low, other)))
           ]
     ]
 
     pub greatest : HaveLess (number_at 0 8 (staged_at after m).descriptor) (left_of (flight_in room filled is_last))
-    greatest = subst (λ (hs : List Held). HaveLess (number_at 0 8 (staged_at after m).descriptor) hs) held_now (less_before after m next_last (omega (arith, size, there)) order_now)
+    greatest = subst (λ (hs : List Held). HaveLess (number_at 0 8 (staged_at after m).descriptor) hs) held_now
+        (less_before after m next_last (omega (arith, size, there)) order_now)
 
     pub begun : IsKept device blocks superblock Descriptor false after m next_last
     begun = record {
@@ -173,7 +206,8 @@ module _ (device : Device) (blocks : ℕ) (superblock : List ℕ) (room after : 
             admits = λ c left. inl (stands_at c (told.admits c left));
             holds = λ runs. (
               subst (λ (hs : List Held). AreOpen hs device.content) (sym held_now) are,
-              subst (λ (k : ℕ). is_open k device.content ≡ false) (sym taken.place_is) (closed device.content are (omega (arith, told.count, there))),
+              subst (λ (k : ℕ). is_open k device.content ≡ false) (sym taken.place_is)
+                  (closed device.content are (omega (arith, told.count, there))),
             );
             same = λ runs c left. told.same refl c left;
           };

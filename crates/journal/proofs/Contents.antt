@@ -1,10 +1,12 @@
 -- What each write leaves of the content.
-use Rattle.std.proofs.Common.{◌≡◌, inl, inr, ◌<◌, ◌≤◌, ℕ, ◌+◌, ◌*◌, true, false, eqb, List, [], ◌∷◌, length, get_or, take, drop, refl, sym, ◌∙◌, ap, subst, arith}
+use Rattle.std.proofs.Common.{◌≡◌, inl, inr, ◌<◌, ◌≤◌, ℕ, ◌+◌, ◌*◌, true, false, eqb, List, [], ◌∷◌, length, get_or, take, drop, refl, sym}
+use Rattle.std.proofs.Common.{◌∙◌, ap, subst, arith}
 use Rattle.std.proofs.lemmas.Bool.{cases_eq}
 use Rattle.std.proofs.lemmas.List.{drop_more, take_more}
 use Rattle.std.proofs.Math.Seq.{take-length}
 use Rattle.disk.specs.Image.{overwritten}
-use Rattle.model.specs.Volume.{StandsFor, all_laid_over, block, descriptor_place, gate_closed, gate_place, home, home_place, home_size, image_place, is_open, logical_blocks, segment_count}
+use Rattle.model.specs.Volume.{StandsFor, all_laid_over, block, descriptor_place, gate_closed, gate_place, home, home_place, home_size}
+use Rattle.model.specs.Volume.{image_place, is_open, logical_blocks, segment_count}
 use Rattle.segments.specs.Held.{AreOpen, Held, IsHomeOfHeld, IsHomeOnTheWay, batches_of}
 use Rattle.segments.specs.Images.{IsInside, SameBut}
 use Rattle.segments.proofs.Blocks.{block-overwritten, first-overwritten, overwritten_same, same_but_more, same_but_then}
@@ -46,9 +48,11 @@ module _ (f : Flight) (x label : List ℕ) (stands : StandsFor x label (logical_
     shut_in shut = ap (λ (b : List ℕ). eqb (get_or b 0 0) 1) (same_in.same (gate_place m) (λ e. absurd (omega (arith, e, inside.0)))) ∙ shut
 
     open_in : is_open m x ≡ false → AreOpen f.held x → AreOpen f.held y
-    open_in shut are = unread_open x y label (logical_blocks x) m stands shut there (same_but_more (λ n. n ≡ k) (IsInside m) x y (λ n e. (omega (arith, e, inside.0), omega (arith, e, inside.1))) same_in) f.held are
+    open_in shut are = unread_open x y label (logical_blocks x) m stands shut there
+        (same_but_more (λ n. n ≡ k) (IsInside m) x y (λ n e. (omega (arith, e, inside.0), omega (arith, e, inside.1))) same_in) f.held are
 
-  pub holds_descriptor : length f.batch.descriptor ≡ 4096 → Holds f Next.Descriptor x → Holds f (Image 0) (overwritten (4096 * descriptor_place m) f.batch.descriptor x)
+  pub holds_descriptor : length f.batch.descriptor ≡ 4096 → Holds f Next.Descriptor x
+      → Holds f (Image 0) (overwritten (4096 * descriptor_place m) f.batch.descriptor x)
   holds_descriptor whole holds =
       let inside : IsInside m (descriptor_place m) = (omega arith, omega arith) in (
         open_in (descriptor_place m) f.batch.descriptor inside whole holds.1 holds.0,
@@ -57,7 +61,9 @@ module _ (f : Flight) (x label : List ℕ) (stands : StandsFor x label (logical_
         λ k within. absurd (omega (arith, within)),
       )
 
-  pub holds_image : (n : ℕ) (sizes : List ℕ) (i : ℕ) → n ≡ length f.batch.images → i < n → n ≤ 512 → length (get_or f.batch.images i []) ≡ 4096 → Holds f (Image i) x → Holds f (following n sizes (Image i)) (overwritten (4096 * image_place m i) (get_or f.batch.images i []) x)
+  pub holds_image : (n : ℕ) (sizes : List ℕ) (i : ℕ) → n ≡ length f.batch.images → i < n → n ≤ 512
+      → length (get_or f.batch.images i []) ≡ 4096 → Holds f (Image i) x
+      → Holds f (following n sizes (Image i)) (overwritten (4096 * image_place m i) (get_or f.batch.images i []) x)
   holds_image n sizes i n_is within few whole holds =
       after_image (λ s. Holds f s (overwritten (4096 * image_place m i) (get_or f.batch.images i []) x)) n sizes i
       (λ e. (are, shut, record { descriptor_is = second; images_are = λ k low. images k (omega (arith, low, e, n_is)) }))
@@ -78,10 +84,12 @@ module _ (f : Flight) (x label : List ℕ) (stands : StandsFor x label (logical_
       second : block (descriptor_place m) (overwritten (4096 * image_place m i) (get_or f.batch.images i []) x) ≡ f.batch.descriptor
       second = same.same (descriptor_place m) (λ e. absurd (omega (arith, e))) ∙ holds.2
 
-      images : (k : ℕ) → k < i + 1 → block (image_place m k) (overwritten (4096 * image_place m i) (get_or f.batch.images i []) x) ≡ get_or f.batch.images k []
+      images : (k : ℕ) → k < i + 1 → block (image_place m k) (overwritten (4096 * image_place m i) (get_or f.batch.images i []) x)
+          ≡ get_or f.batch.images k []
       images k low = elim (cases_eq k i) [
         | inl is ↦
-            subst (λ (n : ℕ). block (image_place m n) (overwritten (4096 * image_place m i) (get_or f.batch.images i []) x) ≡ get_or f.batch.images n []) (sym is)
+            subst (λ (n : ℕ). block (image_place m n) (overwritten (4096 * image_place m i) (get_or f.batch.images i []) x)
+            ≡ get_or f.batch.images n []) (sym is)
             (put_in (image_place m i) (get_or f.batch.images i []) inside whole)
         | inr other ↦ same.same (image_place m k) (λ e. absurd (other (omega (arith, e)))) ∙ holds.3 k (omega (arith, low, other))
       ]
@@ -96,7 +104,8 @@ module _ (f : Flight) (x label : List ℕ) (stands : StandsFor x label (logical_
       let z = gate_closed m y in
       let back : SameBut (λ k. k ≡ gate_place m) y z = overwritten_same (gate_place m) (0 ∷ []) y (omega arith) room in
       let shut : is_open m z ≡ false = ap (λ (n : ℕ). eqb n 1) (first-overwritten (gate_place m) 0 y room) in (
-        held_kept x z label (logical_blocks x) m stands there (same_but_then (λ k. k ≡ gate_place m) x y z same back) (shut ∙ sym holds.1) f.held holds.0,
+        held_kept x z label (logical_blocks x) m stands there (same_but_then (λ k. k ≡ gate_place m) x y z same back) (shut
+            ∙ sym holds.1) f.held holds.0,
         ap (λ (n : ℕ). eqb n 1) (first-overwritten (gate_place m) 1 x fits),
         record {
           descriptor_is = same.same (descriptor_place m) (λ e. absurd (omega (arith, e))) ∙ holds.2.descriptor_is;
@@ -112,7 +121,8 @@ module _ (f : Flight) (x label : List ℕ) (stands : StandsFor x label (logical_
   pub holds_first : AreOpen (all_of f) x → Holds f (Home 0 0) x
   holds_first are = (are, (home x, refl))
 
-  module _ (n j i : ℕ) (last : f.is_last ≡ true) (here : j < length (all_of f)) (sound : IsSound (home_size x) (held_at (all_of f) j).batch) (within : i < length (held_at (all_of f) j).batch.numbers) (holds : Holds f (Home j i) x) where
+  module _ (n j i : ℕ) (last : f.is_last ≡ true) (here : j < length (all_of f)) (sound : IsSound (home_size x) (held_at (all_of f) j).batch)
+      (within : i < length (held_at (all_of f) j).batch.numbers) (holds : Holds f (Home j i) x) where
     abbrev h : Held
     h = held_at (all_of f) j
 
@@ -140,25 +150,36 @@ module _ (f : Flight) (x label : List ℕ) (stands : StandsFor x label (logical_
     homes : SameBut (IsHomeOfHeld (segment_count x) (all_of f)) x z
     homes =
         subst (λ (k : ℕ). SameBut (IsHomeOfHeld k (all_of f)) x z) (sym count)
-        (same_but_more (λ k. k ≡ place) (IsHomeOfHeld f.segments (all_of f)) x z (λ k e. subst (IsHomeOfHeld f.segments (all_of f)) (sym e) (home_of_held f.segments (all_of f) j i none_held here within)) same)
+        (same_but_more (λ k. k ≡ place) (IsHomeOfHeld f.segments (all_of f)) x z
+        (λ k e. subst (IsHomeOfHeld f.segments (all_of f)) (sym e) (home_of_held f.segments (all_of f) j i none_held here within)) same)
 
     are : AreOpen (all_of f) z
     are = torn_held_open x z label (logical_blocks x) (all_of f) stands holds.0 homes
 
     more : IsHomeOnTheWay first (take j (all_of f)) h.batch (i + 1) z
     more =
-        subst (λ (k : ℕ). IsHomeOnTheWay first (take j (all_of f)) h.batch (i + 1) (overwritten (4096 * home_place k (get_or h.batch.numbers i 0)) image x)) count
-        (one_home first (take j (all_of f)) h.batch i x within (omega (arith, within, sound.images)) whole below (omega (arith, whole_size)) holds.1.1)
+        subst (λ (k : ℕ). IsHomeOnTheWay first (take j (all_of f)) h.batch (i + 1)
+        (overwritten (4096 * home_place k (get_or h.batch.numbers i 0)) image x)) count
+        (one_home first (take j (all_of f)) h.batch i x within (omega (arith, within, sound.images)) whole below
+        (omega (arith, whole_size)) holds.1.1)
 
     ended : i + 1 ≡ get_or (sizes_of f) j 0 → home z ≡ all_laid_over first (batches_of (take (j + 1) (all_of f)))
     ended e =
-        all_home first (take j (all_of f)) h z sound.images (subst (λ (k : ℕ). IsHomeOnTheWay first (take j (all_of f)) h.batch k z) (e ∙ size_at f j last here) more)
+        all_home first (take j (all_of f)) h z sound.images (subst (λ (k : ℕ). IsHomeOnTheWay first (take j (all_of f)) h.batch k z) (e
+        ∙ size_at f j last here) more)
         ∙ ap (λ (hs : List Held). all_laid_over first (batches_of hs)) (sym (take_more (all_of f) j none_held here))
 
     pub holds_home : Holds f (following n (sizes_of f) (Home j i)) z
     holds_home =
         after_home (λ s. Holds f s z) n (sizes_of f) j i
-        (λ e g. (are, (first, ended e ∙ ap (λ (hs : List Held). all_laid_over first (batches_of hs)) (ap (λ (k : ℕ). take k (all_of f)) (g ∙ length-sizes f last) ∙ take-length (all_of f)))))
+        (λ e g. (
+          are,
+          (
+            first,
+            ended e ∙ ap (λ (hs : List Held). all_laid_over first (batches_of hs))
+                (ap (λ (k : ℕ). take k (all_of f)) (g ∙ length-sizes f last) ∙ take-length (all_of f)),
+          ),
+        ))
         (λ e g. (are, (first, none_home first (take (j + 1) (all_of f)) (held_at (all_of f) (j + 1)).batch z (ended e))))
         (λ e. (are, (first, more)))
 
@@ -167,10 +188,12 @@ module _ (f : Flight) (x label : List ℕ) (stands : StandsFor x label (logical_
   holds_settled holds = (holds.0, carried_home x holds.1.0 (full_open x) (holds.1.1 ∙ ap (all_laid_over holds.1.0) (sym holds.0.batches)))
 
   -- and the first gate is closed
-  pub holds_closed : (j : ℕ) → j < length (all_of f) → Holds f (CloseGate j) x → Holds f (Finish j) (overwritten (4096 * gate_place (held_at (all_of f) j).place) (0 ∷ []) x)
+  pub holds_closed : (j : ℕ) → j < length (all_of f) → Holds f (CloseGate j) x
+      → Holds f (Finish j) (overwritten (4096 * gate_place (held_at (all_of f) j).place) (0 ∷ []) x)
   holds_closed j here holds =
       let h = held_at (all_of f) j in
       let are = subst (λ (hs : List Held). AreOpen hs x) (drop_more (all_of f) j none_held here) holds.0 in
       let there = are.each.0.0.0 in
-      let closed = closed_open x (gate_closed h.place x) label (logical_blocks x) h (drop (j + 1) (all_of f)) stands are holds.1 (shut_same x label h.place stands there) (is_shut x label h.place stands there) in
+      let closed = closed_open x (gate_closed h.place x) label (logical_blocks x) h (drop (j + 1) (all_of f)) stands are holds.1
+      (shut_same x label h.place stands there) (is_shut x label h.place stands there) in
       (closed.1.1, closed.1.0)

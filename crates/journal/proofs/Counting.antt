@@ -22,7 +22,8 @@ abbrev pub Asks : Bool → Device → Device → Type 0
 Asks true old new = IsSync old new
 Asks false old new = IsWrite old new
 
-pub asks_by : (T E : Type 0) (next : Next) (segments : ℕ) (held : List Held) (place : ℕ) (descriptor : List ℕ) (images : List (List ℕ)) (x : T) (old new : Device)
+pub asks_by : (T E : Type 0) (next : Next) (segments : ℕ) (held : List Held) (place : ℕ) (descriptor : List ℕ) (images : List (List ℕ))
+    (x : T) (old new : Device)
     → Does {T = T} {E = E} (call_at next segments held place descriptor images) (Ok x) old new → next ≢ Idle → Asks (is_sync next) old new
 asks_by T E Idle segments held place descriptor images x old new did flies = absurd (flies refl)
 asks_by T E Descriptor segments held place descriptor images x old new did flies = did.asks
@@ -40,16 +41,22 @@ pub writes_on : (n : ℕ) (sizes : List ℕ) (next : Next) (first : ℕ) (old ne
     → IsMore (writes_made n sizes next) first old.writes → IsMore (writes_made n sizes (following n sizes next)) first new.writes
 writes_on n sizes next first old new flies asks more = go (is_sync next) asks (one_more_write n sizes next flies)
   where
-    go : (b : Bool) → Asks b old new → writes_made n sizes (following n sizes next) ≡ (if b then writes_made n sizes next else writes_made n sizes next + 1)
+    go : (b : Bool) → Asks b old new
+        → writes_made n sizes (following n sizes next) ≡ (if b then writes_made n sizes next else writes_made n sizes next + 1)
         → IsMore (writes_made n sizes (following n sizes next)) first new.writes
-    go true asked is = subst (λ (m : ℕ). IsMore m first new.writes) (sym is) (same_count (writes_made n sizes next) first old.writes new.writes more asked.writes)
-    go false asked is = subst (λ (m : ℕ). IsMore m first new.writes) (sym is) (one_count (writes_made n sizes next) first old.writes new.writes more asked.writes)
+    go true asked is = subst (λ (m : ℕ). IsMore m first new.writes) (sym is)
+        (same_count (writes_made n sizes next) first old.writes new.writes more asked.writes)
+    go false asked is = subst (λ (m : ℕ). IsMore m first new.writes) (sym is)
+        (one_count (writes_made n sizes next) first old.writes new.writes more asked.writes)
 
 pub syncs_on : (n : ℕ) (sizes : List ℕ) (next : Next) (first : ℕ) (old new : Device) → next ≢ Idle → Asks (is_sync next) old new
     → IsMore (syncs_made sizes next) first old.syncs → IsMore (syncs_made sizes (following n sizes next)) first new.syncs
 syncs_on n sizes next first old new flies asks more = go (is_sync next) asks (one_more_sync n sizes next flies)
   where
-    go : (b : Bool) → Asks b old new → syncs_made sizes (following n sizes next) ≡ (if b then syncs_made sizes next + 1 else syncs_made sizes next)
+    go : (b : Bool) → Asks b old new
+        → syncs_made sizes (following n sizes next) ≡ (if b then syncs_made sizes next + 1 else syncs_made sizes next)
         → IsMore (syncs_made sizes (following n sizes next)) first new.syncs
-    go false asked is = subst (λ (m : ℕ). IsMore m first new.syncs) (sym is) (same_count (syncs_made sizes next) first old.syncs new.syncs more asked.syncs)
-    go true asked is = subst (λ (m : ℕ). IsMore m first new.syncs) (sym is) (one_count (syncs_made sizes next) first old.syncs new.syncs more asked.syncs)
+    go false asked is = subst (λ (m : ℕ). IsMore m first new.syncs) (sym is)
+        (same_count (syncs_made sizes next) first old.syncs new.syncs more asked.syncs)
+    go true asked is = subst (λ (m : ℕ). IsMore m first new.syncs) (sym is)
+        (one_count (syncs_made sizes next) first old.syncs new.syncs more asked.syncs)

@@ -1,5 +1,6 @@
 -- Calls after the commit, one after the other.
-use Rattle.std.proofs.Common.{◌≡◌, ◌≢◌, ◌⊎◌, inl, inr, ⊎_elim, ◌<◌, ◌≤◌, ℕ, ◌+◌, ◌-◌, ◌%◌, ◌^◌, if◌then◌else◌, Bool, true, false, eqb, IsTrue, List, [], ◌∷◌, ◌++◌, length, refl, sym, ◌∙◌, ap, subst, arith, Result, Ok, Err, IfErr}
+use Rattle.std.proofs.Common.{◌≡◌, ◌≢◌, ◌⊎◌, inl, inr, ⊎_elim, ◌<◌, ◌≤◌, ℕ, ◌+◌, ◌-◌, ◌%◌, ◌^◌, if◌then◌else◌, Bool, true, false, eqb}
+use Rattle.std.proofs.Common.{IsTrue, List, [], ◌∷◌, ◌++◌, length, refl, sym, ◌∙◌, ap, subst, arith, Result, Ok, Err, IfErr}
 use Rattle.std.specs.List.{sum}
 use Rattle.std.proofs.lemmas.Bool.{cond_both}
 use Rattle.disk.specs.Device.{Device}
@@ -52,7 +53,8 @@ following_not_commit n sizes Settle c = λ e. cc
 following_not_commit n sizes (CloseGate j) c = λ e. cc
 following_not_commit n sizes (Finish j) c = after_gate (λ g. g ≢ Commit) n sizes j (λ e. λ f. cc) (λ e. λ f. cc)
 
-after_checkpoint : {D : Type 0} (journal : JournalView D) (last : ℕ) (sizes : List ℕ) (next : Next) → IsCheckpoint next → blocks_after journal (answer last sizes next) ≡ journal.blocks
+after_checkpoint : {D : Type 0} (journal : JournalView D) (last : ℕ) (sizes : List ℕ) (next : Next) → IsCheckpoint next
+    → blocks_after journal (answer last sizes next) ≡ journal.blocks
 after_checkpoint journal last sizes Idle c = absurd c
 after_checkpoint journal last sizes Descriptor c = absurd c
 after_checkpoint journal last sizes (Image i) c = absurd c
@@ -62,14 +64,17 @@ after_checkpoint journal last sizes Commit c = absurd c
 after_checkpoint journal last sizes (Home j i) c = refl
 after_checkpoint journal last sizes Settle c = refl
 after_checkpoint journal last sizes (CloseGate j) c = refl
-after_checkpoint journal last sizes (Finish j) c = cond_both (eqb (j + 1) (length sizes)) Ended Working (λ p. blocks_after journal p ≡ journal.blocks) (λ e. refl) (λ e. refl)
+after_checkpoint journal last sizes (Finish j) c =
+    cond_both (eqb (j + 1) (length sizes)) Ended Working (λ p. blocks_after journal p ≡ journal.blocks) (λ e. refl) (λ e. refl)
 
-stands : (next : Next) (label : List ℕ) (blocks after : List (List ℕ)) (c : List ℕ) → next ≢ Commit → IsAdmitted next label blocks after c → StandsFor c label blocks
+stands : (next : Next) (label : List ℕ) (blocks after : List (List ℕ)) (c : List ℕ) → next ≢ Commit → IsAdmitted next label blocks after c
+    → StandsFor c label blocks
 stands next label blocks after c other (inl s) = s
 stands next label blocks after c other (inr commits) = absurd (other commits.0)
 
 -- each stays after the commit, also at a fault
-following_checkpoint : (n : ℕ) (sizes : List ℕ) (next : Next) → IsCheckpoint next → (following n sizes next ≢ Commit) × (at_fault n sizes next ≢ Commit)
+following_checkpoint : (n : ℕ) (sizes : List ℕ) (next : Next) → IsCheckpoint next
+    → (following n sizes next ≢ Commit) × (at_fault n sizes next ≢ Commit)
 following_checkpoint n sizes Idle c = absurd c
 following_checkpoint n sizes Descriptor c = absurd c
 following_checkpoint n sizes (Image i) c = absurd c
@@ -114,16 +119,23 @@ left_more n sizes Settle l = tt
 left_more n sizes (CloseGate j) l = tt
 left_more n sizes (Finish j) l = after_gate IsLeft n sizes j (λ e. tt) (λ e. tt)
 
-fewer_left : (n : ℕ) (sizes : List ℕ) (next : Next) → next ≢ Idle → calls_made n sizes (following n sizes next) ≤ all_calls n sizes → all_calls n sizes - calls_made n sizes (following n sizes next) < all_calls n sizes - calls_made n sizes next
+fewer_left : (n : ℕ) (sizes : List ℕ) (next : Next) → next ≢ Idle → calls_made n sizes (following n sizes next) ≤ all_calls n sizes
+    → all_calls n sizes - calls_made n sizes (following n sizes next) < all_calls n sizes - calls_made n sizes next
 fewer_left n sizes next other bound = omega (arith, bound, one_more_call n sizes next other)
 
-next_not_commit : {D : Type 0} (device : D → Device) (old new : JournalView D) (result : Result Progress JournalError) → IsCheckpoint old.next → MakesCall device old new result → new.next ≢ Commit
-next_not_commit device old new (Ok p) checkpoint call = subst (λ (n : Next). n ≢ Commit) (sym call.next.0) (following_checkpoint (length old.numbers) (sizes old) old.next checkpoint).0
-next_not_commit device old new (Err e) checkpoint call = subst (λ (n : Next). n ≢ Commit) (sym (call.halts call.no_other).1) (following_checkpoint (length old.numbers) (sizes old) old.next checkpoint).1
+next_not_commit : {D : Type 0} (device : D → Device) (old new : JournalView D) (result : Result Progress JournalError)
+    → IsCheckpoint old.next → MakesCall device old new result → new.next ≢ Commit
+next_not_commit device old new (Ok p) checkpoint call =
+    subst (λ (n : Next). n ≢ Commit) (sym call.next.0) (following_checkpoint (length old.numbers) (sizes old) old.next checkpoint).0
+next_not_commit device old new (Err e) checkpoint call =
+    subst (λ (n : Next). n ≢ Commit) (sym (call.halts call.no_other).1)
+    (following_checkpoint (length old.numbers) (sizes old) old.next checkpoint).1
 
 -- the blocks after such a call
-blocks_same : {D : Type 0} (device : D → Device) (old new : JournalView D) (result : Result Progress JournalError) → IsCheckpoint old.next → MakesCall device old new result → IsTrue (device old.disk).tells → new.blocks ≡ old.blocks
-blocks_same device old new (Ok p) checkpoint call t = call.blocks t ∙ ap (λ (q : Progress). blocks_after old q) call.answers ∙ after_checkpoint old old.last (sizes old) old.next checkpoint
+blocks_same : {D : Type 0} (device : D → Device) (old new : JournalView D) (result : Result Progress JournalError) → IsCheckpoint old.next
+    → MakesCall device old new result → IsTrue (device old.disk).tells → new.blocks ≡ old.blocks
+blocks_same device old new (Ok p) checkpoint call t = call.blocks t ∙ ap (λ (q : Progress). blocks_after old q) call.answers
+    ∙ after_checkpoint old old.last (sizes old) old.next checkpoint
 blocks_same device old new (Err e) checkpoint call t = call.blocks t
 
 pub same_then : {D : Type 0} (a b c : JournalView D) → IsSameBatch a b → IsSameBatch b c → IsSameBatch a c
@@ -142,16 +154,32 @@ same_then a b c first second = record {
 }
 
 pub same_itself : {D : Type 0} (a : JournalView D) → IsSameBatch a a
-same_itself a = record { label = refl; format = refl; size = refl; segments = refl; held = refl; place = refl; number = refl; last = refl; numbers = refl; images = refl; is_last = refl }
+same_itself a = record {
+  label = refl;
+  format = refl;
+  size = refl;
+  segments = refl;
+  held = refl;
+  place = refl;
+  number = refl;
+  last = refl;
+  numbers = refl;
+  images = refl;
+  is_last = refl;
+}
 
 -- the same batch has the same images to be carried home
 pub same_sizes : {D : Type 0} (old new : JournalView D) → IsSameBatch old new → sizes new ≡ sizes old
 same_sizes old new same =
     λ i. if same.is_last i
-    then counts_of (same.held i ++ record { place = same.place i; batch = record { number = same.number i; last = same.last i; numbers = same.numbers i; images = same.images i } } ∷ [])
+    then counts_of (same.held i ++ record {
+      place = same.place i;
+      batch = record { number = same.number i; last = same.last i; numbers = same.numbers i; images = same.images i };
+    } ∷ [])
     else []
 
-pub during_then : {D : Type 0} (device : D → Device) (old mid new : JournalView D) (result : Result Progress JournalError) → IsDuring device old mid → IsCheckpoint mid.next → MakesCall device mid new result → IsDuring device old new
+pub during_then : {D : Type 0} (device : D → Device) (old mid new : JournalView D) (result : Result Progress JournalError)
+    → IsDuring device old mid → IsCheckpoint mid.next → MakesCall device mid new result → IsDuring device old new
 during_then device old mid new result so_far checkpoint call = record {
   tells = call.time.tells ∙ so_far.tells;
   size = call.time.size ∙ so_far.size;
@@ -159,7 +187,8 @@ during_then device old mid new result so_far checkpoint call = record {
   same = same_then old mid new so_far.same call.same;
   blocks = λ t. same_blocks t;
   since = λ t time c before left.
-      ⊎_elim (λ earlier. so_far.since t time c before earlier) (λ now. inr (admitted t c now)) (call.since (mid_tells t) time c (omega (arith, before, so_far.later)) left);
+      ⊎_elim (λ earlier. so_far.since t time c before earlier) (λ now. inr (admitted t c now))
+      (call.since (mid_tells t) time c (omega (arith, before, so_far.later)) left);
   now = λ t c left. admitted t c (call.now (subst (λ (b : Bool). IsTrue b) (sym call.time.tells) (mid_tells t)) c left);
 }
   where
@@ -172,12 +201,15 @@ during_then device old mid new result so_far checkpoint call = record {
     admitted : IsTrue (device old.disk).tells → (c : List ℕ) → Admits new c → IsVolume old.format old.label old.blocks c
     admitted t c left =
         let s = stands new.next new.label new.blocks (with_batch new) c (next_not_commit device mid new result checkpoint call) left.0 in (
-          subst (λ (bs : List (List ℕ)). StandsFor c old.label bs) (same_blocks t) (subst (λ (l : List ℕ). StandsFor c l new.blocks) (call.same.label ∙ so_far.same.label) s),
+          subst (λ (bs : List (List ℕ)). StandsFor c old.label bs) (same_blocks t)
+              (subst (λ (l : List ℕ). StandsFor c l new.blocks) (call.same.label ∙ so_far.same.label) s),
           omega (arith, left.1, call.same.format, so_far.same.format),
         )
 
 -- before the first call
-pub during_start : {D : Type 0} (device : D → Device) (old : JournalView D) → (IsTrue (device old.disk).tells → (c : List ℕ) → (device old.disk).may_leave c → IsVolume old.format old.label old.blocks c) → IsDuring device old old
+pub during_start : {D : Type 0} (device : D → Device) (old : JournalView D)
+    → (IsTrue (device old.disk).tells → (c : List ℕ) → (device old.disk).may_leave c → IsVolume old.format old.label old.blocks c)
+    → IsDuring device old old
 during_start device old now = record {
   tells = refl;
   size = refl;
@@ -203,10 +235,13 @@ enough_made n sizes Settle c = (omega arith, omega arith)
 enough_made n sizes (CloseGate j) c = (omega arith, omega arith)
 enough_made n sizes (Finish j) c = (omega arith, omega arith)
 
-more_writes : (n : ℕ) (sizes : List ℕ) (w : ℕ) (next : Next) (old now new : Device) → next ≢ Idle → IsCheckpoint next → Asks (is_sync next) now new → n + 2 + w ≡ writes_made n sizes (following n sizes next) → ((v : ℕ) → n + 2 + v ≡ writes_made n sizes next → IsMore v old.writes now.writes) → IsMore w old.writes new.writes
+more_writes : (n : ℕ) (sizes : List ℕ) (w : ℕ) (next : Next) (old now new : Device) → next ≢ Idle → IsCheckpoint next
+    → Asks (is_sync next) now new → n + 2 + w ≡ writes_made n sizes (following n sizes next)
+    → ((v : ℕ) → n + 2 + v ≡ writes_made n sizes next → IsMore v old.writes now.writes) → IsMore w old.writes new.writes
 more_writes n sizes w next old now new flies checkpoint asks is so_far = go (is_sync next) asks (is ∙ one_more_write n sizes next flies)
   where
-    go : (b : Bool) → Asks b now new → n + 2 + w ≡ (if b then writes_made n sizes next else writes_made n sizes next + 1) → IsMore w old.writes new.writes
+    go : (b : Bool) → Asks b now new → n + 2 + w ≡ (if b then writes_made n sizes next else writes_made n sizes next + 1)
+        → IsMore w old.writes new.writes
     go true asked is = same_count w old.writes now.writes new.writes (so_far w is) asked.writes
     go false asked is =
         let v = w - 1 in
@@ -215,10 +250,13 @@ more_writes n sizes w next old now new flies checkpoint asks is so_far = go (is_
         let sum : v + 1 ≡ w = omega (arith, is, enough) in
         subst (λ (m : ℕ). IsMore m old.writes new.writes) sum (one_count v old.writes now.writes new.writes (so_far v before) asked.writes)
 
-more_syncs : (n : ℕ) (sizes : List ℕ) (s : ℕ) (next : Next) (old now new : Device) → next ≢ Idle → IsCheckpoint next → Asks (is_sync next) now new → 2 + s ≡ syncs_made sizes (following n sizes next) → ((r : ℕ) → 2 + r ≡ syncs_made sizes next → IsMore r old.syncs now.syncs) → IsMore s old.syncs new.syncs
+more_syncs : (n : ℕ) (sizes : List ℕ) (s : ℕ) (next : Next) (old now new : Device) → next ≢ Idle → IsCheckpoint next
+    → Asks (is_sync next) now new → 2 + s ≡ syncs_made sizes (following n sizes next)
+    → ((r : ℕ) → 2 + r ≡ syncs_made sizes next → IsMore r old.syncs now.syncs) → IsMore s old.syncs new.syncs
 more_syncs n sizes s next old now new flies checkpoint asks is so_far = go (is_sync next) asks (is ∙ one_more_sync n sizes next flies)
   where
-    go : (b : Bool) → Asks b now new → 2 + s ≡ (if b then syncs_made sizes next + 1 else syncs_made sizes next) → IsMore s old.syncs new.syncs
+    go : (b : Bool) → Asks b now new → 2 + s ≡ (if b then syncs_made sizes next + 1 else syncs_made sizes next)
+        → IsMore s old.syncs new.syncs
     go false asked is = same_count s old.syncs now.syncs new.syncs (so_far s is) asked.syncs
     go true asked is =
         let r = s - 1 in
@@ -233,10 +271,12 @@ pub record IsOnTheWay {D : Type 0} (device : D → Device) (old now : JournalVie
   pub left : IsLeft now.next
   pub running : now.halted ≡ false
   pub failures : (device now.disk).failures ≡ (device old.disk).failures
-  pub writes : (w : ℕ) → length now.numbers + 2 + w ≡ writes_made (length now.numbers) (sizes now) now.next → IsMore w (device old.disk).writes (device now.disk).writes
+  pub writes : (w : ℕ) → length now.numbers + 2 + w ≡ writes_made (length now.numbers) (sizes now) now.next
+      → IsMore w (device old.disk).writes (device now.disk).writes
   pub syncs : (s : ℕ) → 2 + s ≡ syncs_made (sizes now) now.next → IsMore s (device old.disk).syncs (device now.disk).syncs
 
-module _ {D : Type 0} (device : D → Device) (old now new : JournalView D) (so_far : IsOnTheWay device old now) (flies : now.next ≢ Idle) where
+module _ {D : Type 0} (device : D → Device) (old now new : JournalView D) (so_far : IsOnTheWay device old now)
+    (flies : now.next ≢ Idle) where
   checkpoint : IsCheckpoint now.next
   checkpoint = left_checkpoint now.next flies so_far.left
 
@@ -251,7 +291,8 @@ module _ {D : Type 0} (device : D → Device) (old now new : JournalView D) (so_
     later = omega (arith, so_far.during.later, retried.refused.time.later);
     same = same_then old now new so_far.during.same retried.same;
     blocks = λ t. retried.blocks (now_tells t) ∙ so_far.during.blocks t;
-    since = λ t time c before left. so_far.during.since t time c before (retried.refused.since (now_tells t) time c (omega (arith, before, so_far.during.later)) left);
+    since = λ t time c before left. so_far.during.since t time c before
+        (retried.refused.since (now_tells t) time c (omega (arith, before, so_far.during.later)) left);
     now = λ t c left. so_far.during.now t c (retried.refused.crash (now_tells t) c left);
   }
     where
@@ -259,12 +300,15 @@ module _ {D : Type 0} (device : D → Device) (old now new : JournalView D) (so_
       now_tells t = subst (λ (b : Bool). IsTrue b) (sym so_far.during.tells) t
 
   -- whatever is answered
-  pub stepped_on : (result : Result Progress JournalError) → OnMade result (MakesCall device now new result) → OnRetried result (IsRetried device now new) → IfErr result (λ error. (error ≡ Fault) ⊎ (error ≡ Memory)) → IsDuring device old new
+  pub stepped_on : (result : Result Progress JournalError) → OnMade result (MakesCall device now new result)
+      → OnRetried result (IsRetried device now new) → IfErr result (λ error. (error ≡ Fault) ⊎ (error ≡ Memory)) → IsDuring device old new
   stepped_on (Ok p) made retried errors = stepped (Ok p) made
   stepped_on (Err error) made retried (inl is) = stepped (Err error) (made is)
   stepped_on (Err error) made retried (inr is) = retried_during (retried is)
 
-  pub caused_by : (error : JournalError) → OnMade {T = Progress} (Err error) (MakesCall device now new (Err error)) → OnRetried {T = Progress} (Err error) (IsRetried device now new) → (error ≡ Fault) ⊎ (error ≡ Memory) → IsCaused error (device old.disk) (device new.disk)
+  pub caused_by : (error : JournalError) → OnMade {T = Progress} (Err error) (MakesCall device now new (Err error))
+      → OnRetried {T = Progress} (Err error) (IsRetried device now new) → (error ≡ Fault) ⊎ (error ≡ Memory)
+      → IsCaused error (device old.disk) (device new.disk)
   caused_by error made retried (inl is) = inl (is, λ same. (made is).failures.fault is (same ∙ sym so_far.failures))
   caused_by error made retried (inr is) = inr (is, (retried is).refused.failures ∙ so_far.failures)
 
@@ -272,22 +316,29 @@ module _ {D : Type 0} (device : D → Device) (old now new : JournalView D) (so_
   same_left p call = subst IsLeft (sym call.next.0) (left_more (length now.numbers) (sizes now) now.next so_far.left)
 
   -- one more write or one more sync
-  counted : (p : Progress) → MakesCall device now new (Ok p) → ((w : ℕ) → length new.numbers + 2 + w ≡ writes_made (length new.numbers) (sizes new) new.next → IsMore w (device old.disk).writes (device new.disk).writes)
+  counted : (p : Progress) → MakesCall device now new (Ok p)
+      → ((w : ℕ) → length new.numbers + 2 + w ≡ writes_made (length new.numbers) (sizes new) new.next
+      → IsMore w (device old.disk).writes (device new.disk).writes)
       × ((s : ℕ) → 2 + s ≡ syncs_made (sizes new) new.next → IsMore s (device old.disk).syncs (device new.disk).syncs)
   counted p call =
-      let asks = asks_by Progress JournalError now.next now.segments (all_held now) now.place (descriptor_of now.number now.last now.numbers) now.images p (device now.disk) (device new.disk) call.does flies in
+      let asks = asks_by Progress JournalError now.next now.segments (all_held now) now.place
+      (descriptor_of now.number now.last now.numbers) now.images p (device now.disk) (device new.disk) call.does flies in
       let n = length now.numbers in
       let size : length new.numbers ≡ n = ap length call.same.numbers in
       let same = same_sizes now new call.same in (
         λ w is.
             let w_is : n + 2 + w ≡ writes_made n (sizes now) (following n (sizes now) now.next) =
             subst (λ (g : Next). n + 2 + w ≡ writes_made n (sizes now) g) call.next.0
-            (subst (λ (l : List ℕ). n + 2 + w ≡ writes_made n l new.next) same (subst (λ (k : ℕ). k + 2 + w ≡ writes_made k (sizes new) new.next) size is)) in
-            more_writes n (sizes now) w now.next (device old.disk) (device now.disk) (device new.disk) flies checkpoint asks w_is so_far.writes,
+            (subst (λ (l : List ℕ). n + 2 + w ≡ writes_made n l new.next) same
+            (subst (λ (k : ℕ). k + 2 + w ≡ writes_made k (sizes new) new.next) size is)) in
+            more_writes n (sizes now) w now.next (device old.disk) (device now.disk)
+            (device new.disk) flies checkpoint asks w_is so_far.writes,
         λ s is.
             let s_is : 2 + s ≡ syncs_made (sizes now) (following n (sizes now) now.next) =
-            subst (λ (g : Next). 2 + s ≡ syncs_made (sizes now) g) call.next.0 (subst (λ (l : List ℕ). 2 + s ≡ syncs_made l new.next) same is) in
-            more_syncs n (sizes now) s now.next (device old.disk) (device now.disk) (device new.disk) flies checkpoint asks s_is so_far.syncs,
+            subst (λ (g : Next). 2 + s ≡ syncs_made (sizes now) g) call.next.0
+            (subst (λ (l : List ℕ). 2 + s ≡ syncs_made l new.next) same is) in
+            more_syncs n (sizes now) s now.next (device old.disk) (device now.disk)
+            (device new.disk) flies checkpoint asks s_is so_far.syncs,
       )
 
   pub on_the_way : (p : Progress) → MakesCall device now new (Ok p) → IsOnTheWay device old new
@@ -300,17 +351,22 @@ module _ {D : Type 0} (device : D → Device) (old now new : JournalView D) (so_
     syncs = λ s is. (counted p call).1 s is;
   }
 
-  pub fewer : (p : Progress) → MakesCall device now new (Ok p) → all_calls (length new.numbers) (sizes new) - calls new < all_calls (length now.numbers) (sizes now) - calls now
+  pub fewer : (p : Progress) → MakesCall device now new (Ok p)
+      → all_calls (length new.numbers) (sizes new) - calls new < all_calls (length now.numbers) (sizes now) - calls now
   fewer p call =
       let size : length new.numbers ≡ length now.numbers = ap length call.same.numbers in
-      let all : all_calls (length new.numbers) (sizes new) ≡ all_calls (length now.numbers) (sizes now) = ap (λ (k : ℕ). all_calls k (sizes new)) size ∙ ap (all_calls (length now.numbers)) (same_sizes now new call.same) in
+      let all : all_calls (length new.numbers) (sizes new) ≡ all_calls (length now.numbers) (sizes now) =
+      ap (λ (k : ℕ). all_calls k (sizes new)) size ∙ ap (all_calls (length now.numbers)) (same_sizes now new call.same) in
       omega (arith, all, call.counts.0, call.counts.1)
 
 -- before the first call of the loop, where n + 2 writes and 2 syncs were made
-pub at_start : {D : Type 0} (device : D → Device) (journal : JournalView D) → IsLeft journal.next → journal.next ≢ Commit → writes_made (length journal.numbers) (sizes journal) journal.next ≡ length journal.numbers + 2 → syncs_made (sizes journal) journal.next ≡ 2
+pub at_start : {D : Type 0} (device : D → Device) (journal : JournalView D) → IsLeft journal.next → journal.next ≢ Commit
+    → writes_made (length journal.numbers) (sizes journal) journal.next ≡ length journal.numbers + 2
+    → syncs_made (sizes journal) journal.next ≡ 2
     → journal.halted ≡ false → LeavesAdmitted device journal → IsOnTheWay device journal journal
 at_start device journal left other writes syncs running now = record {
-  during = during_start device journal (λ t c still. let admits = now t c still in (stands journal.next journal.label journal.blocks (with_batch journal) c other admits.0, admits.1));
+  during = during_start device journal (λ t c still. let admits = now t c still in
+      (stands journal.next journal.label journal.blocks (with_batch journal) c other admits.0, admits.1));
   left = left;
   running = running;
   failures = refl;
@@ -319,7 +375,9 @@ at_start device journal left other writes syncs running now = record {
 }
 
 -- as after the commit
-pub after_the_commit : {D : Type 0} (device : D → Device) (journal : JournalView D) → journal.next ≡ following (length journal.numbers) (sizes journal) Commit → journal.halted ≡ false → LeavesAdmitted device journal → IsOnTheWay device journal journal
+pub after_the_commit : {D : Type 0} (device : D → Device) (journal : JournalView D)
+    → journal.next ≡ following (length journal.numbers) (sizes journal) Commit → journal.halted ≡ false → LeavesAdmitted device journal
+    → IsOnTheWay device journal journal
 after_the_commit device journal is running now =
     let n = length journal.numbers in
     let all = sizes journal in
@@ -331,18 +389,23 @@ after_the_commit device journal is running now =
     running now
 
 -- and from the first home write on
-pub at_first_home : {D : Type 0} (device : D → Device) (journal : JournalView D) → journal.next ≡ Home 0 0 → journal.halted ≡ false → LeavesAdmitted device journal → IsOnTheWay device journal journal
+pub at_first_home : {D : Type 0} (device : D → Device) (journal : JournalView D) → journal.next ≡ Home 0 0 → journal.halted ≡ false
+    → LeavesAdmitted device journal → IsOnTheWay device journal journal
 at_first_home device journal is running now =
     let n = length journal.numbers in
     let all = sizes journal in
-    at_start device journal (subst IsLeft (sym is) tt) (subst (λ (g : Next). g ≢ Commit) (sym is) (λ f. cc)) (ap (writes_made n all) is ∙ omega arith) (ap (syncs_made all) is) running now
+    at_start device journal (subst IsLeft (sym is) tt) (subst (λ (g : Next). g ≢ Commit) (sym is) (λ f. cc)) (ap (writes_made n all) is
+    ∙ omega arith) (ap (syncs_made all) is) running now
 
 -- and after the last
-pub all_made : {D : Type 0} (device : D → Device) (old now : JournalView D) → IsOnTheWay device old now → 0 < length (sizes old) → now.next ≡ Idle
-    → IsMore (sum (sizes old) + length (sizes old)) (device old.disk).writes (device now.disk).writes × IsMore (1 + length (sizes old)) (device old.disk).syncs (device now.disk).syncs
+pub all_made : {D : Type 0} (device : D → Device) (old now : JournalView D) → IsOnTheWay device old now → 0 < length (sizes old)
+    → now.next ≡ Idle
+    → IsMore (sum (sizes old) + length (sizes old)) (device old.disk).writes (device now.disk).writes
+    × IsMore (1 + length (sizes old)) (device old.disk).syncs (device now.disk).syncs
 all_made device old now way some is =
     let same = same_sizes old now way.during.same in
     let n = length now.numbers in (
       way.writes (sum (sizes old) + length (sizes old)) (omega (arith, ap (writes_made n (sizes now)) is, ap sum same, ap length same)),
-      way.syncs (1 + length (sizes old)) (omega (arith, ap (syncs_made (sizes now)) is, ap length same, syncs_where (sizes now) (omega (arith, some, ap length same)))),
+      way.syncs (1 + length (sizes old))
+          (omega (arith, ap (syncs_made (sizes now)) is, ap length same, syncs_where (sizes now) (omega (arith, some, ap length same)))),
     )

@@ -1,5 +1,7 @@
 -- What an opening finds.
-use Rattle.std.proofs.Common.{◌≡◌, ◌≢◌, ◌⊎◌, inl, inr, ⊎_elim, ◌<◌, ◌≤◌, ℕ, ◌+◌, ◌*◌, ◌%◌, ◌^◌, [], ◌∷◌, suc, Bool, true, false, IsTrue, List, length, get_or, map, take, cond, refl, sym, ◌∙◌, ap, subst, arith, Result, Ok, Err, IfOk, IfErr, MatchResult}
+use Rattle.std.proofs.Common.{◌≡◌, ◌≢◌, ◌⊎◌, inl, inr, ⊎_elim, ◌<◌, ◌≤◌, ℕ, ◌+◌, ◌*◌, ◌%◌, ◌^◌, [], ◌∷◌, suc, Bool, true, false, IsTrue}
+use Rattle.std.proofs.Common.{List, length, get_or, map, take, cond, refl, sym, ◌∙◌, ap, subst, arith, Result, Ok, Err, IfOk, IfErr}
+use Rattle.std.proofs.Common.{MatchResult}
 use Rattle.std.specs.List.{filter, range_with_len, sum}
 use Rattle.std.proofs.lemmas.List.{get_or-take, length-map, length-take-le, map_more}
 use Rattle.std.proofs.lemmas.List.FromFn.{length-range_with_len}
@@ -17,10 +19,12 @@ use Rattle.journal_segments.specs.Found.{IsQuiet, IsStill}
 use Rattle.journal.specs.Inside.{IsFound, IsKept, IsSynced, IsVolume, LeftAs, Touched}
 use Rattle.journal_segments.specs.Found.{IsNoVolume}
 use Rattle.journal.specs.Opening.{AreSameVolume, Costs, IsMore, LeavesVolume, home_syncs, home_writes, LeftKept, Opens, Refuses, SyncsFirst}
-use Rattle.journal.specs.Journal.{AreWhole, HasWholeBlocks, IsCaused, IsDuring, IsReady, JournalView, LeavesAdmitted, all_held as held_with, still_open}
+use Rattle.journal.specs.Journal.{AreWhole, HasWholeBlocks, IsCaused, IsDuring, IsReady, JournalView, LeavesAdmitted, all_held as held_with}
+use Rattle.journal.specs.Journal.{still_open}
 use Rattle.journal.specs.declared.JournalError.{JournalError}
 use Rattle.journal.specs.declared.JournalError.TheVariants.{Fault, Memory, NotAVolume, Halted}
-use Rattle.model.specs.Volume.{batch_in, block, descriptor_place, format_in, format_number, home_place, home_size, label_of, number_at, is_open, open_segments, segment_count, IsSuperblock, IsDescriptor, StandsFor, logical_blocks}
+use Rattle.model.specs.Volume.{batch_in, block, descriptor_place, format_in, format_number, home_place, home_size, label_of, number_at}
+use Rattle.model.specs.Volume.{is_open, open_segments, segment_count, IsSuperblock, IsDescriptor, StandsFor, logical_blocks}
 use Rattle.journal.specs.declared.Next.TheVariants.{Idle, Home}
 use Rattle.segments.proofs.Blocks.{same_but_equal}
 use Rattle.journal.proofs.Transitions.{told_after}
@@ -38,14 +42,17 @@ memory_caused error old new (inl caused) e = absurd (let two : Fault ≡ Memory 
 memory_caused error old new (inr caused) e = caused.1
 
 not_caused : (error : JournalError) (old new : Device) → IsCaused error old new → (error ≢ NotAVolume) × (error ≢ Halted)
-not_caused error old new (inl caused) = (λ e. (let two : Fault ≡ NotAVolume = sym caused.0 ∙ e in cc), λ e. (let two : Fault ≡ Halted = sym caused.0 ∙ e in cc))
-not_caused error old new (inr caused) = (λ e. (let two : Memory ≡ NotAVolume = sym caused.0 ∙ e in cc), λ e. (let two : Memory ≡ Halted = sym caused.0 ∙ e in cc))
+not_caused error old new (inl caused) =
+    (λ e. (let two : Fault ≡ NotAVolume = sym caused.0 ∙ e in cc), λ e. (let two : Fault ≡ Halted = sym caused.0 ∙ e in cc))
+not_caused error old new (inr caused) =
+    (λ e. (let two : Memory ≡ NotAVolume = sym caused.0 ∙ e in cc), λ e. (let two : Memory ≡ Halted = sym caused.0 ∙ e in cc))
 
 pub caused_elsewhere : (error : JournalError) (old new : Device) → IsCaused error old new → error ≢ NotAVolume
 caused_elsewhere error old new caused = (not_caused error old new caused).0
 
 -- what each of some is, and a place among theirs
-among_staged : (P : ℕ → Type 0) (s : ℕ) (ss : List Staged) → ((k : ℕ) → k < length ss → P (staged_at ss k).place) → IsAmong s (map held_as ss) → P s
+among_staged : (P : ℕ → Type 0) (s : ℕ) (ss : List Staged) → ((k : ℕ) → k < length ss → P (staged_at ss k).place)
+    → IsAmong s (map held_as ss) → P s
 among_staged P s [] each among = absurd among
 among_staged P s (o ∷ os) each (inl is) = subst P (sym is) (each 0 (omega arith))
 among_staged P s (o ∷ os) each (inr rest) = among_staged P s os (λ k within. each (suc k) (omega (arith, within))) rest
@@ -55,7 +62,12 @@ writes_at : (x ss : List ℕ) → home_writes x ss ≡ writes_of (held_in_places
 writes_at x [] = refl
 writes_at x (s ∷ ss) =
     let d = block (descriptor_place s) x in
-    omega (arith, writes_at x ss, length-map (range_with_len 0 (number_at 16 4 d)) (λ i. number_at (24 + 4 * i) 4 d), length-range_with_len 0 (number_at 16 4 d))
+    omega (
+      arith,
+      writes_at x ss,
+      length-map (range_with_len 0 (number_at 16 4 d)) (λ i. number_at (24 + 4 * i) 4 d),
+      length-range_with_len 0 (number_at 16 4 d),
+    )
 
 writes_counted : (held : List Held) → writes_of held ≡ sum (counts_of held) + length (counts_of held)
 writes_counted [] = refl
@@ -69,7 +81,8 @@ no_places : (ss : List ℕ) → length ss ≡ 0 → ss ≡ []
 no_places [] none = refl
 no_places (s ∷ ss) none = absurd (omega (arith, none))
 
-module _ (device : Device) (superblock : List ℕ) (blocks : ℕ) (room : List Staged) (image_size : IsTrue device.tells → length device.content ≡ device.size) (now : IsTrue device.tells → device.may_leave device.content) where
+module _ (device : Device) (superblock : List ℕ) (blocks : ℕ) (room : List Staged) (image_size : IsTrue device.tells
+    → length device.content ≡ device.size) (now : IsTrue device.tells → device.may_leave device.content) where
   abbrev x : List ℕ
   x = device.content
 
@@ -107,7 +120,8 @@ module _ (device : Device) (superblock : List ℕ) (blocks : ℕ) (room : List S
     content_label t = ap (λ (b : List ℕ). part 20 128 b) (sym (found.superblock_is t))
 
     held_is : IsTrue device.tells → held ≡ held_in x
-    held_is t = found.found.are t (length room) (omega arith) ∙ ap (λ (k : ℕ). sorted_held (held_in_places x (filter (λ s. is_open s x) (range_with_len 0 k)))) (sym (content_count t))
+    held_is t = found.found.are t (length room) (omega arith)
+        ∙ ap (λ (k : ℕ). sorted_held (held_in_places x (filter (λ s. is_open s x) (range_with_len 0 k)))) (sym (content_count t))
 
     within : n ≤ length room
     within = omega (arith, found.found.within)
@@ -117,11 +131,13 @@ module _ (device : Device) (superblock : List ℕ) (blocks : ℕ) (room : List S
         among_staged (λ p. IsDescriptor (home_size x) (block (descriptor_place p) x)) s (take n room) each
         (subst (λ (hs : List Held). IsAmong s hs) (sym (held_is t)) (all_found x s opened))
       where
-        each : (k : ℕ) → k < length (take n room) → IsDescriptor (home_size x) (block (descriptor_place (staged_at (take n room) k).place) x)
+        each : (k : ℕ) → k < length (take n room)
+            → IsDescriptor (home_size x) (block (descriptor_place (staged_at (take n room) k).place) x)
         each k low =
             let less : k < n = omega (arith, low, length-take-le n room within) in
             let one = found.found.each k less in
-            subst (λ (o : Staged). IsDescriptor (home_size x) (block (descriptor_place o.place) x)) (sym (get_or-take n room k none_staged less))
+            subst (λ (o : Staged). IsDescriptor (home_size x) (block (descriptor_place o.place) x))
+            (sym (get_or-take n room k none_staged less))
             (subst (λ (b : ℕ). IsDescriptor b (block (descriptor_place (staged_at room k).place) x)) (sym (content_size t))
             (subst (λ (d : List ℕ). IsDescriptor blocks d) (sym (one.read.written t).descriptor_is) one.read.descriptor))
 
@@ -131,15 +147,24 @@ module _ (device : Device) (superblock : List ℕ) (blocks : ℕ) (room : List S
         (stands_rising x (content_superblock t) (valid_all t) (subst (λ (hs : List Held). AreRising hs) (held_is t) found.found.rise))
 
     are_held : IsTrue device.tells → AreOpen held x
-    are_held t = subst (λ (hs : List Held). AreOpen hs x) (sym (held_is t)) (found_open x (part 20 128 superblock) (logical_blocks x) (found_stands t))
+    are_held t = subst (λ (hs : List Held). AreOpen hs x) (sym (held_is t))
+        (found_open x (part 20 128 superblock) (logical_blocks x) (found_stands t))
 
     length_open : IsTrue device.tells → length (open_segments x) ≡ n
     length_open t =
-        omega (arith, ap length (held_is t), length-sorted (held_in_places x (open_segments x)), length-map (open_segments x) (λ s. let h : Held = record { place = s; batch = batch_in s x } in h), length-map (take n room) held_as, length-take-le n room within)
+        omega (
+          arith,
+          ap length (held_is t),
+          length-sorted (held_in_places x (open_segments x)),
+          length-map (open_segments x) (λ s. let h : Held = record { place = s; batch = batch_in s x } in h),
+          length-map (take n room) held_as,
+          length-take-le n room within,
+        )
 
     writes_open : IsTrue device.tells → home_writes x (open_segments x) ≡ sum (counts_of held) + length (counts_of held)
     writes_open t =
-        writes_at x (open_segments x) ∙ sym (writes_sorted (held_in_places x (open_segments x))) ∙ ap writes_of (sym (held_is t)) ∙ writes_counted held
+        writes_at x (open_segments x) ∙ sym (writes_sorted (held_in_places x (open_segments x))) ∙ ap writes_of (sym (held_is t))
+        ∙ writes_counted held
 
   -- with all segments closed
   module _ (found : IsFound device superblock blocks room 0) where
@@ -174,7 +199,8 @@ module _ (device : Device) (superblock : List ℕ) (blocks : ℕ) (room : List S
         stands = rest_stands t;
         size = content_size 0 found t;
         count = content_count 0 found t;
-        admits = λ c left. inl (subst (λ (y : List ℕ). StandsFor y (part 20 128 superblock) (logical_blocks x)) (sym (found.synced t c left)) (rest_stands t));
+        admits = λ c left. inl (subst (λ (y : List ℕ). StandsFor y (part 20 128 superblock) (logical_blocks x))
+            (sym (found.synced t c left)) (rest_stands t));
         holds = λ runs. are_held 0 found t;
         same = λ runs c left. same_but_equal (Touched f Idle) x c (found.synced t c left);
       };
@@ -208,7 +234,12 @@ module _ (device : Device) (superblock : List ℕ) (blocks : ℕ) (room : List S
     replay_writes t = writes_open n found t ∙ ap (λ (hs : List Held). sum (counts_of hs) + length (counts_of hs)) all_are
 
     pub replay_syncs : IsTrue device.tells → home_syncs (open_segments x) ≡ 1 + length (sizes_of flight)
-    replay_syncs t = omega (arith, some_syncs (open_segments x) (omega (arith, length_open n found t, is)), length_open n found t, length_sizes)
+    replay_syncs t = omega (
+      arith,
+      some_syncs (open_segments x) (omega (arith, length_open n found t, is)),
+      length_open n found t,
+      length_sizes,
+    )
 
     pub replay_stands : IsTrue device.tells → StandsFor x (part 20 128 superblock) (logical_blocks x)
     replay_stands = found_stands n found
@@ -238,7 +269,9 @@ module _ (device : Device) (superblock : List ℕ) (blocks : ℕ) (room : List S
       order = λ e. absurd e;
       described = λ e. cc;
       told = λ t.
-          told_after flight x (part 20 128 superblock) (replay_stands t) (subst (λ (k : ℕ). (staged_at room filled).place < k) (sym (content_count n found t)) place_there) (content_count n found t) (subst (λ (b : ℕ). IsStaged b (staged_at room filled)) (sym (content_size n found t)) (staged filled (omega arith)))
+          told_after flight x (part 20 128 superblock) (replay_stands t)
+          (subst (λ (k : ℕ). (staged_at room filled).place < k) (sym (content_count n found t)) place_there) (content_count n found t)
+          (subst (λ (b : ℕ). IsStaged b (staged_at room filled)) (sym (content_size n found t)) (staged filled (omega arith)))
           device blocks (Home 0 0) false (content_size n found t) (all_held t)
           (λ c left. same_but_equal (Touched flight (Home 0 0)) x c (found.synced t c left)) (now t)
           (λ runs. holds_first flight x (part 20 128 superblock) (replay_stands t) (content_count n found t) (all_held t));
@@ -247,7 +280,10 @@ module _ (device : Device) (superblock : List ℕ) (blocks : ℕ) (room : List S
     }
 
 -- a journal that was found, and a run of calls from it, after calls that changed nothing
-module _ {D : Type 0} (device : D → Device) (first : D) (journal : JournalView D) (quiet : IsQuiet (device first) (device journal.disk)) (still : IsStill (device first) (device journal.disk)) (stands : IsTrue (device journal.disk).tells → StandsFor (device journal.disk).content journal.label journal.blocks) (whole : HasWholeBlocks device journal) (format : IsTrue (device journal.disk).tells → format_number (device journal.disk).content ≡ journal.format) where
+module _ {D : Type 0} (device : D → Device) (first : D) (journal : JournalView D) (quiet : IsQuiet (device first) (device journal.disk))
+    (still : IsStill (device first) (device journal.disk)) (stands : IsTrue (device journal.disk).tells
+    → StandsFor (device journal.disk).content journal.label journal.blocks) (whole : HasWholeBlocks device journal)
+    (format : IsTrue (device journal.disk).tells → format_number (device journal.disk).content ≡ journal.format) where
   here : IsTrue (device first).tells → IsTrue (device journal.disk).tells
   here t = subst (λ (b : Bool). IsTrue b) (sym quiet.tells) t
 
@@ -272,9 +308,15 @@ module _ {D : Type 0} (device : D → Device) (first : D) (journal : JournalView
 
   kept_then : (last : Device) → LeftAs (device journal.disk) last journal.format journal.label journal.blocks → LeftKept (device first) last
   kept_then last left t time c before now =
-      ⊎_elim (λ earlier. inl (quiet.since t time c before earlier)) (λ (s : IsVolume journal.format journal.label journal.blocks c). inr (journal.label, (journal.blocks, (read t, (s.0, omega (arith, s.1, its_format t)))))) (left (here t) time c (omega (arith, before, quiet.later)) now)
+      ⊎_elim (λ earlier. inl (quiet.since t time c before earlier))
+      (λ (s : IsVolume journal.format journal.label journal.blocks c). inr (
+        journal.label,
+        (journal.blocks, (read t, (s.0, omega (arith, s.1, its_format t)))),
+      ))
+      (left (here t) time c (omega (arith, before, quiet.later)) now)
 
-  pub opens_replayed : journal.is_last ≡ true → (after : JournalView D) → IsReady after → IsDuring device journal after → (device after.disk).failures ≡ (device journal.disk).failures → Opens device first after
+  pub opens_replayed : journal.is_last ≡ true → (after : JournalView D) → IsReady after → IsDuring device journal after
+      → (device after.disk).failures ≡ (device journal.disk).failures → Opens device first after
   opens_replayed all after ready during failures = record {
     ready = ready;
     rest = ap (λ (b : Bool). cond b [] (held_with after)) (during.same.is_last ∙ all);
@@ -299,8 +341,10 @@ module _ {D : Type 0} (device : D → Device) (first : D) (journal : JournalView
     failures = failures ∙ still.failures;
   }
 
-  pub refuses_replayed : (last : D) (error : JournalError) → IsCaused error (device journal.disk) (device last) → Elapses (device journal.disk) (device last) → LeftAs (device journal.disk) (device last) journal.format journal.label journal.blocks
-      → (IsTrue (device journal.disk).tells → IsVolume journal.format journal.label journal.blocks (device last).content) → Refuses device first last error
+  pub refuses_replayed : (last : D) (error : JournalError) → IsCaused error (device journal.disk) (device last)
+      → Elapses (device journal.disk) (device last) → LeftAs (device journal.disk) (device last) journal.format journal.label journal.blocks
+      → (IsTrue (device journal.disk).tells → IsVolume journal.format journal.label journal.blocks (device last).content)
+      → Refuses device first last error
   refuses_replayed last error caused time left holds = record {
     since = kept_then (device last) left;
     time = record { size = time.size ∙ quiet.size; tells = time.tells ∙ quiet.tells; later = omega (arith, quiet.later, time.later) };
@@ -312,7 +356,10 @@ module _ {D : Type 0} (device : D → Device) (first : D) (journal : JournalView
   }
 
 -- a refusal after calls that changed nothing
-pub refuses_found : {D : Type 0} (device : D → Device) (first last : D) (error : JournalError) → IsQuiet (device first) (device last) → (error ≡ Fault → (device last).failures ≢ (device first).failures) → (error ≡ NotAVolume → IsTrue (device first).tells → IsNoVolume (device first).content) → error ≢ Memory → error ≢ Halted → Refuses device first last error
+pub refuses_found : {D : Type 0} (device : D → Device) (first last : D) (error : JournalError) → IsQuiet (device first) (device last)
+    → (error ≡ Fault → (device last).failures ≢ (device first).failures)
+    → (error ≡ NotAVolume → IsTrue (device first).tells → IsNoVolume (device first).content) → error ≢ Memory → error ≢ Halted
+    → Refuses device first last error
 refuses_found device first last error quiet fault no_volume no_memory not_halted = record {
   since = λ t time c before left. inl (quiet.since t time c before left);
   time = record { size = quiet.size; tells = quiet.tells; later = quiet.later };
@@ -324,7 +371,8 @@ refuses_found device first last error quiet fault no_volume no_memory not_halted
 }
 
 -- after a sync that wasn't good
-pub refuses_caused : {D : Type 0} (device : D → Device) (first last : D) (error : JournalError) → IsQuiet (device first) (device last) → IsCaused error (device first) (device last)
+pub refuses_caused : {D : Type 0} (device : D → Device) (first last : D) (error : JournalError) → IsQuiet (device first) (device last)
+    → IsCaused error (device first) (device last)
     → (IsTrue (device first).tells → error ≡ Memory → (device last).content ≡ (device first).content) → Refuses device first last error
 refuses_caused device first last error quiet caused same = record {
   since = λ t time c before left. inl (quiet.since t time c before left);
@@ -337,19 +385,25 @@ refuses_caused device first last error quiet caused same = record {
 }
 
 -- an opening that synced first
-module _ {D : Type 0} (device : D → Device) (first synced : D) (quiet : IsQuiet (device first) (device synced)) (still : IsSynced (device first) (device synced)) (only : IsTrue (device first).tells → LeavesOnly (device synced) (device first).content) where
+module _ {D : Type 0} (device : D → Device) (first synced : D) (quiet : IsQuiet (device first) (device synced))
+    (still : IsSynced (device first) (device synced)) (only : IsTrue (device first).tells
+    → LeavesOnly (device synced) (device first).content) where
   synced_tells : IsTrue (device first).tells → IsTrue (device synced).tells
   synced_tells t = subst (λ (b : Bool). IsTrue b) (sym quiet.tells) t
 
-  kept_since : (last : Device) → LeftKept (device synced) last → IsTrue (device first).tells → (t : ℕ) (c : List ℕ) → t ≤ (device synced).clock → last.left_since t c → (device synced).left_since t c ⊎ AreSameVolume (device first).content c
+  kept_since : (last : Device) → LeftKept (device synced) last → IsTrue (device first).tells → (t : ℕ) (c : List ℕ)
+      → t ≤ (device synced).clock → last.left_since t c → (device synced).left_since t c ⊎ AreSameVolume (device first).content c
   kept_since last left t time c before now =
-      subst (λ (x : List ℕ). (device synced).left_since time c ⊎ AreSameVolume x c) (still.content t) (left (synced_tells t) time c before now)
+      subst (λ (x : List ℕ). (device synced).left_since time c ⊎ AreSameVolume x c) (still.content t)
+      (left (synced_tells t) time c before now)
 
   kept_all : (last : Device) → LeftKept (device synced) last → LeftKept (device first) last
   kept_all last left t time c before now =
-      ⊎_elim (λ earlier. inl (quiet.since t time c before earlier)) (λ same. inr same) (kept_since last left t time c (omega (arith, before, quiet.later)) now)
+      ⊎_elim (λ earlier. inl (quiet.since t time c before earlier)) (λ same. inr same)
+      (kept_since last left t time c (omega (arith, before, quiet.later)) now)
 
-  pub syncs_first : (last : D) → (device synced).clock ≤ (device last).clock → LeftKept (device synced) (device last) → SyncsFirst device first last
+  pub syncs_first : (last : D) → (device synced).clock ≤ (device last).clock → LeftKept (device synced) (device last)
+      → SyncsFirst device first last
   syncs_first last later left = record {
     synced = synced;
     no_write = quiet.writes;
@@ -362,7 +416,11 @@ module _ {D : Type 0} (device : D → Device) (first synced : D) (quiet : IsQuie
   }
 
   time_all : (last : Device) → Elapses (device synced) last → Elapses (device first) last
-  time_all last time = record { size = time.size ∙ quiet.size; tells = time.tells ∙ quiet.tells; later = omega (arith, quiet.later, time.later) }
+  time_all last time = record {
+    size = time.size ∙ quiet.size;
+    tells = time.tells ∙ quiet.tells;
+    later = omega (arith, quiet.later, time.later);
+  }
 
   pub opens_synced : (journal : JournalView D) → Opens device synced journal → Opens device first journal
   opens_synced journal opens = record {
@@ -388,40 +446,55 @@ module _ {D : Type 0} (device : D → Device) (first synced : D) (quiet : IsQuie
     not_halted = refuses.not_halted;
   }
 
-  pub costs_synced : (last : D) → (IsTrue (device synced).tells → Costs 0 (device synced).content (device synced) (device last)) → IsTrue (device first).tells → Costs 1 (device first).content (device first) (device last)
+  pub costs_synced : (last : D) → (IsTrue (device synced).tells → Costs 0 (device synced).content (device synced) (device last))
+      → IsTrue (device first).tells → Costs 1 (device first).content (device first) (device last)
   costs_synced last costs t =
       let same = still.content t in
       let cost = subst (λ (x : List ℕ). Costs 0 x (device synced) (device last)) same (costs (synced_tells t)) in
       let n = home_syncs (open_segments (device first).content) in
       record {
-        writes = subst (λ (w : ℕ). IsMore (home_writes (device first).content (open_segments (device first).content)) w (device last).writes) quiet.writes cost.writes;
-        syncs = cost.syncs ∙ ap (λ (s : ℕ). (s + (0 + n)) % 2 ^ 64) still.syncs ∙ mod-add-mod ((device first).syncs + 1) (2 ^ 64) (0 + n) ∙ ap (λ (s : ℕ). s % 2 ^ 64) (omega arith);
+        writes = subst (λ (w : ℕ). IsMore (home_writes (device first).content (open_segments (device first).content)) w
+            (device last).writes) quiet.writes cost.writes;
+        syncs = cost.syncs ∙ ap (λ (s : ℕ). (s + (0 + n)) % 2 ^ 64) still.syncs ∙ mod-add-mod ((device first).syncs + 1) (2 ^ 64) (0 + n)
+            ∙ ap (λ (s : ℕ). s % 2 ^ 64) (omega arith);
       }
 
 -- a journal at rest, after reads alone
-pub costs_none : (old new : Device) → IsQuiet old new → IsStill old new → (IsTrue new.tells → open_segments new.content ≡ []) → IsTrue old.tells → Costs 0 old.content old new
+pub costs_none : (old new : Device) → IsQuiet old new → IsStill old new → (IsTrue new.tells → open_segments new.content ≡ [])
+    → IsTrue old.tells → Costs 0 old.content old new
 costs_none old new quiet still none t =
-    let segments : open_segments old.content ≡ [] = subst (λ (x : List ℕ). open_segments x ≡ []) (still.content t) (none (subst (λ (b : Bool). IsTrue b) (sym quiet.tells) t)) in
+    let segments : open_segments old.content ≡ [] =
+    subst (λ (x : List ℕ). open_segments x ≡ []) (still.content t) (none (subst (λ (b : Bool). IsTrue b) (sym quiet.tells) t)) in
     record {
-      writes = ap (λ (w : ℕ). w % 2 ^ 64) (quiet.writes ∙ sym (ap (λ (ss : List ℕ). old.writes + home_writes old.content ss) segments ∙ plus-zero old.writes));
-      syncs = ap (λ (s : ℕ). s % 2 ^ 64) (still.syncs ∙ sym (ap (λ (ss : List ℕ). old.syncs + (0 + home_syncs ss)) segments ∙ plus-zero old.syncs));
+      writes = ap (λ (w : ℕ). w % 2 ^ 64) (quiet.writes
+          ∙ sym (ap (λ (ss : List ℕ). old.writes + home_writes old.content ss) segments ∙ plus-zero old.writes));
+      syncs = ap (λ (s : ℕ). s % 2 ^ 64) (still.syncs
+          ∙ sym (ap (λ (ss : List ℕ). old.syncs + (0 + home_syncs ss)) segments ∙ plus-zero old.syncs));
     }
   where
     plus-zero : (n : ℕ) → n + 0 ≡ n
     plus-zero n = omega arith
 
 -- and one that was carried home after them
-pub costs_replayed : (old mid new : Device) (n k : ℕ) → IsQuiet old mid → IsStill old mid → (IsTrue mid.tells → home_writes mid.content (open_segments mid.content) ≡ n) → (IsTrue mid.tells → home_syncs (open_segments mid.content) ≡ k) → IsMore n mid.writes new.writes → IsMore k mid.syncs new.syncs → IsTrue old.tells → Costs 0 old.content old new
+pub costs_replayed : (old mid new : Device) (n k : ℕ) → IsQuiet old mid → IsStill old mid
+    → (IsTrue mid.tells → home_writes mid.content (open_segments mid.content) ≡ n)
+    → (IsTrue mid.tells → home_syncs (open_segments mid.content) ≡ k) → IsMore n mid.writes new.writes → IsMore k mid.syncs new.syncs
+    → IsTrue old.tells → Costs 0 old.content old new
 costs_replayed old mid new n k quiet still writes syncs more_writes more_syncs t =
     let here = subst (λ (b : Bool). IsTrue b) (sym quiet.tells) t in
-    let all : home_writes old.content (open_segments old.content) ≡ n = subst (λ (x : List ℕ). home_writes x (open_segments x) ≡ n) (still.content t) (writes here) in
-    let both : home_syncs (open_segments old.content) ≡ k = subst (λ (x : List ℕ). home_syncs (open_segments x) ≡ k) (still.content t) (syncs here) in
+    let all : home_writes old.content (open_segments old.content) ≡ n =
+    subst (λ (x : List ℕ). home_writes x (open_segments x) ≡ n) (still.content t) (writes here) in
+    let both : home_syncs (open_segments old.content) ≡ k =
+    subst (λ (x : List ℕ). home_syncs (open_segments x) ≡ k) (still.content t) (syncs here) in
     record {
       writes = more_writes ∙ ap (λ (w : ℕ). (w + n) % 2 ^ 64) quiet.writes ∙ ap (λ (p : ℕ). (old.writes + p) % 2 ^ 64) (sym all);
-      syncs = more_syncs ∙ ap (λ (s : ℕ). (s + k) % 2 ^ 64) still.syncs ∙ ap (λ (p : ℕ). p % 2 ^ 64) (let e : old.syncs + k ≡ old.syncs + (0 + home_syncs (open_segments old.content)) = omega (arith, both) in e);
+      syncs = more_syncs ∙ ap (λ (s : ℕ). (s + k) % 2 ^ 64) still.syncs
+          ∙ ap (λ (p : ℕ). p % 2 ^ 64) (let e : old.syncs + k ≡ old.syncs + (0 + home_syncs (open_segments old.content)) =
+          omega (arith, both) in e);
     }
 
-pub match_both : {T E : Type 0} (r : Result T E) (P P' : T → Type 0) (Q Q' : E → Type 0) → IfOk r P → IfErr r Q → ((x : T) → P x → P' x) → ((y : E) → Q y → Q' y) → MatchResult r P' Q'
+pub match_both : {T E : Type 0} (r : Result T E) (P P' : T → Type 0) (Q Q' : E → Type 0) → IfOk r P → IfErr r Q → ((x : T) → P x → P' x)
+    → ((y : E) → Q y → Q' y) → MatchResult r P' Q'
 match_both (Ok x) P P' Q Q' ok err f h = f x ok
 match_both (Err y) P P' Q Q' ok err f h = h y err
 
@@ -430,6 +503,7 @@ err_weaker (Ok x) P Q f h = h
 err_weaker (Err y) P Q f h = f y h
 
 -- an opening's end, where both of two facts of a refusal are known
-pub err_weaker_both : {T E : Type 0} (r : Result T E) (P P' Q : E → Type 0) → ((y : E) → P y → P' y → Q y) → IfErr r P → IfErr r P' → IfErr r Q
+pub err_weaker_both : {T E : Type 0} (r : Result T E) (P P' Q : E → Type 0) → ((y : E) → P y → P' y → Q y) → IfErr r P → IfErr r P'
+    → IfErr r Q
 err_weaker_both (Ok x) P P' Q f h h' = h
 err_weaker_both (Err y) P P' Q f h h' = f y h h'

@@ -1,5 +1,6 @@
 -- The opening of the format's gate: what the journal keeps after it, and what a crash within it leaves.
-use Rattle.std.proofs.Common.{◌≡◌, ◌≢◌, ◌⊎◌, inl, inr, ⊎_elim, ◌<◌, ◌≤◌, ℕ, ◌+◌, ◌-◌, ◌*◌, Bool, true, false, IsTrue, cond, eqb, List, [], ◌∷◌, length, get_or, map, take, refl, sym, ◌∙◌, ap, subst, arith, Result, Ok, Err}
+use Rattle.std.proofs.Common.{◌≡◌, ◌≢◌, ◌⊎◌, inl, inr, ⊎_elim, ◌<◌, ◌≤◌, ℕ, ◌+◌, ◌-◌, ◌*◌, Bool, true, false, IsTrue, cond, eqb, List, []}
+use Rattle.std.proofs.Common.{◌∷◌, length, get_or, map, take, refl, sym, ◌∙◌, ap, subst, arith, Result, Ok, Err}
 use Rattle.std.proofs.lemmas.Bool.{true≢false}
 use Rattle.disk.specs.Device.{Device, Elapses, IsRefused, IsTornImage, LeavesNoMore, LeavesOnly, LeftNoMore, LeftTornAt, TearsAt, one_more}
 use Rattle.disk.specs.declared.DiskError.{DiskError}
@@ -21,14 +22,16 @@ use Rattle.journal.specs.declared.JournalError.{JournalError}
 use Rattle.journal.specs.declared.JournalError.TheVariants.{Fault, Memory}
 use Rattle.journal.specs.declared.Next.{Next}
 use Rattle.journal.proofs.Whole.{kept_refused}
-use Rattle.model.specs.Volume.{StandsFor, block, format_in, format_number, home_place, home_size, laid_over, logical_blocks, number_at, segment_count}
+use Rattle.model.specs.Volume.{StandsFor, block, format_in, format_number, home_place, home_size, laid_over, logical_blocks, number_at}
+use Rattle.model.specs.Volume.{segment_count}
 use Rattle.journal.specs.declared.Next.TheVariants.{Commit, Descriptor, Idle}
 
 at_rest : (label : List ℕ) (bs after : List (List ℕ)) (c : List ℕ) → IsAdmitted Idle label bs after c → StandsFor c label bs
 at_rest label bs after c (inl stands) = stands
 at_rest label bs after c (inr commits) = let wrong = commits.0 in absurd (cc)
 
-module _ (old : Device) (blocks : ℕ) (superblock : List ℕ) (room : List Staged) (filled : ℕ) (is_last : Bool) (kept : IsKept old blocks superblock Idle false room filled is_last) (first : format_in superblock ≡ 1) where
+module _ (old : Device) (blocks : ℕ) (superblock : List ℕ) (room : List Staged) (filled : ℕ) (is_last : Bool)
+    (kept : IsKept old blocks superblock Idle false room filled is_last) (first : format_in superblock ≡ 1) where
   abbrev f : Flight
   f = flight_in room filled is_last
 
@@ -41,22 +44,35 @@ module _ (old : Device) (blocks : ℕ) (superblock : List ℕ) (room : List Stag
   -- an image that the write may leave
   pub still_stands : IsTrue old.tells → (c : List ℕ) → IsTornImage 148 1 old c → StandsFor c label (logical_blocks x)
   still_stands t c from =
-      format_unread from.0 c label (logical_blocks x) (at_rest label (logical_blocks x) (laid_over (logical_blocks x) f.batch.numbers f.batch.images) from.0 ((kept.told t).admits from.0 from.1)) from.2
+      format_unread from.0 c label (logical_blocks x)
+      (at_rest label (logical_blocks x) (laid_over (logical_blocks x) f.batch.numbers f.batch.images) from.0
+      ((kept.told t).admits from.0 from.1)) from.2
 
-  pub still_admitted : IsTrue old.tells → (c : List ℕ) → IsTornImage 148 1 old c → IsAdmitted Idle label (logical_blocks x) (laid_over (logical_blocks x) f.batch.numbers f.batch.images) c × (format_in superblock ≤ format_number c)
+  pub still_admitted : IsTrue old.tells → (c : List ℕ) → IsTornImage 148 1 old c
+      → IsAdmitted Idle label (logical_blocks x) (laid_over (logical_blocks x) f.batch.numbers f.batch.images) c
+      × (format_in superblock ≤ format_number c)
   still_admitted t c from = (inl (still_stands t c from), omega (arith, first, some_format (block 0 c)))
 
   same_home : (t : IsTrue old.tells) (c : List ℕ) → StandsFor c label (logical_blocks x) → home_size c ≡ home_size x
-  same_home t c stands = sym (stands_length c label (logical_blocks x) stands) ∙ stands_length x label (logical_blocks x) (kept.told t).stands
+  same_home t c stands = sym (stands_length c label (logical_blocks x) stands)
+      ∙ stands_length x label (logical_blocks x) (kept.told t).stands
 
-  same_count : (t : IsTrue old.tells) (c : List ℕ) → StandsFor c label (logical_blocks x) → length c ≡ length x → segment_count c ≡ segment_count x
-  same_count t c stands size = omega (arith, stands.has_superblock.exactly, (kept.told t).stands.has_superblock.exactly, size, same_home t c stands)
+  same_count : (t : IsTrue old.tells) (c : List ℕ) → StandsFor c label (logical_blocks x) → length c ≡ length x
+      → segment_count c ≡ segment_count x
+  same_count t c stands size = omega (
+    arith,
+    stands.has_superblock.exactly,
+    (kept.told t).stands.has_superblock.exactly,
+    size,
+    same_home t c stands,
+  )
 
   torn_size : (t : IsTrue old.tells) (c : List ℕ) → IsTornImage 148 1 old c → length c ≡ length x
   torn_size t c from = from.2.size ∙ ((kept.told t).same refl from.0 from.1).size
 
   -- where the write failed, or the sync after it
-  module _ (new : Device) (time : Elapses old new) (law : IsTrue new.tells → new.may_leave new.content) (torn : IsTrue old.tells → (c : List ℕ) → new.may_leave c → IsTornImage 148 1 old c) where
+  module _ (new : Device) (time : Elapses old new) (law : IsTrue new.tells → new.may_leave new.content) (torn : IsTrue old.tells
+      → (c : List ℕ) → new.may_leave c → IsTornImage 148 1 old c) where
     before : IsTrue new.tells → IsTrue old.tells
     before t = subst (λ (b : Bool). IsTrue b) time.tells t
 
@@ -87,7 +103,8 @@ module _ (old : Device) (blocks : ℕ) (superblock : List ℕ) (room : List Stag
             stands = subst (λ (bs : List (List ℕ)). StandsFor new.content label bs) (sym same) stands;
             size = same_home (before t) new.content stands ∙ was.size;
             count = same_count (before t) new.content stands (torn_size (before t) new.content its) ∙ was.count;
-            admits = λ c left. inl (subst (λ (bs : List (List ℕ)). StandsFor c label bs) (sym same) (still_stands (before t) c (torn (before t) c left)));
+            admits = λ c left. inl (subst (λ (bs : List (List ℕ)). StandsFor c label bs) (sym same)
+                (still_stands (before t) c (torn (before t) c left)));
             holds = λ runs. absurd (true≢false runs);
             same = λ runs. absurd (true≢false runs);
           };
@@ -96,7 +113,8 @@ module _ (old : Device) (blocks : ℕ) (superblock : List ℕ) (room : List Stag
     }
 
   -- where both were good
-  module _ (new : Device) (time : Elapses old new) (after : List ℕ) (content : IsTrue old.tells → new.content ≡ overwritten 148 (2 ∷ []) x) (only : IsTrue old.tells → LeavesOnly new (overwritten 148 (2 ∷ []) x))
+  module _ (new : Device) (time : Elapses old new) (after : List ℕ) (content : IsTrue old.tells → new.content ≡ overwritten 148 (2 ∷ []) x)
+      (only : IsTrue old.tells → LeavesOnly new (overwritten 148 (2 ∷ []) x))
       (after_size : length after ≡ 4096) (after_label : part 20 128 after ≡ label) (after_format : format_in after ≡ 2) where
     before_both : IsTrue new.tells → IsTrue old.tells
     before_both t = subst (λ (b : Bool). IsTrue b) time.tells t
@@ -136,21 +154,27 @@ module _ (old : Device) (blocks : ℕ) (superblock : List ℕ) (room : List Stag
           let was = kept.told t in
           let bs = (stands_now t).has_blocks in
           let told : IsTold new blocks label Idle false f = record {
-            stands = subst (λ (z : List ℕ). StandsFor z label (logical_blocks z)) (sym (content t)) (subst (λ (l : List (List ℕ)). StandsFor y label l) (sym bs) (stands_now t));
+            stands = subst (λ (z : List ℕ). StandsFor z label (logical_blocks z)) (sym (content t))
+                (subst (λ (l : List (List ℕ)). StandsFor y label l) (sym bs) (stands_now t));
             size = ap home_size (content t) ∙ same_home t y (stands_now t) ∙ was.size;
             count = ap segment_count (content t) ∙ same_count t y (stands_now t) (tears t).size ∙ was.count;
-            admits = λ c left. inl (subst (λ (z : List ℕ). StandsFor z label (logical_blocks new.content)) (sym (only t c left)) (subst (λ (l : List (List ℕ)). StandsFor y label l) (sym (opened_blocks t)) (stands_now t)));
-            holds = λ runs. subst (λ (z : List ℕ). AreOpen (left_of f) z) (sym (content t)) (format_open x y label (logical_blocks x) was.stands (tears t) (left_of f) (was.holds refl));
+            admits = λ c left. inl (subst (λ (z : List ℕ). StandsFor z label (logical_blocks new.content)) (sym (only t c left))
+                (subst (λ (l : List (List ℕ)). StandsFor y label l) (sym (opened_blocks t)) (stands_now t)));
+            holds = λ runs. subst (λ (z : List ℕ). AreOpen (left_of f) z) (sym (content t))
+                (format_open x y label (logical_blocks x) was.stands (tears t) (left_of f) (was.holds refl));
             same = λ runs c left. same_but_equal (Touched f Idle) new.content c (only t c left ∙ sym (content t));
           } in
           subst (λ (l : List ℕ). IsTold new blocks l Idle false f) (sym after_label) told;
-      format_is = λ now_tells runs. let t = before_both now_tells in ap format_number (content t) ∙ gate_opens x (fits t) ∙ sym after_format;
-      formats = λ now_tells c left. let t = before_both now_tells in omega (arith, ap format_number (only t c left), gate_opens x (fits t), after_format);
+      format_is = λ now_tells runs. let t = before_both now_tells in ap format_number (content t) ∙ gate_opens x (fits t)
+          ∙ sym after_format;
+      formats = λ now_tells c left. let t = before_both now_tells in
+          omega (arith, ap format_number (only t c left), gate_opens x (fits t), after_format);
     }
 
 -- ---- as those who use the journal see it
 
-module _ {D : Type 0} (device : D → Device) (before later : D) (blocks : ℕ) (superblock : List ℕ) (room : List Staged) (filled : ℕ) (is_last : Bool) where
+module _ {D : Type 0} (device : D → Device) (before later : D) (blocks : ℕ) (superblock : List ℕ) (room : List Staged) (filled : ℕ)
+    (is_last : Bool) where
   abbrev its : Flight
   its = flight_in room filled is_last
 
@@ -173,8 +197,21 @@ module _ {D : Type 0} (device : D → Device) (before later : D) (blocks : ℕ) 
     is_last = is_last;
   }
 
-  same_but : (super after : List ℕ) (next : Next) (h k : Bool) → part 20 128 after ≡ part 20 128 super → IsSameButFormat (view before super next h) (view later after next k)
-  same_but super after next h k label = record { label = label; size = refl; segments = refl; next = refl; held = refl; place = refl; number = refl; last = refl; numbers = refl; images = refl; is_last = refl }
+  same_but : (super after : List ℕ) (next : Next) (h k : Bool) → part 20 128 after ≡ part 20 128 super
+      → IsSameButFormat (view before super next h) (view later after next k)
+  same_but super after next h k label = record {
+    label = label;
+    size = refl;
+    segments = refl;
+    next = refl;
+    held = refl;
+    place = refl;
+    number = refl;
+    last = refl;
+    numbers = refl;
+    images = refl;
+    is_last = refl;
+  }
 
   abbrev Kept : Next → Bool → Type 0
   Kept next h = IsKept (device before) blocks superblock next h room filled is_last
@@ -186,26 +223,41 @@ module _ {D : Type 0} (device : D → Device) (before later : D) (blocks : ℕ) 
   gate = Call.Write 148 (2 ∷ [])
 
   -- the torn images of the write, also after a sync that failed
-  torn_after : (mid : D) → TearsAt 148 1 (device before) (device mid) → LeavesNoMore (device mid) (device later) → (c : List ℕ) → (device later).may_leave c → IsTornImage 148 1 (device before) c
+  torn_after : (mid : D) → TearsAt 148 1 (device before) (device mid) → LeavesNoMore (device mid) (device later) → (c : List ℕ)
+      → (device later).may_leave c → IsTornImage 148 1 (device before) c
   torn_after mid tears no_more c left = tears c (no_more c left)
 
-  since_after : (mid : D) (t : ℕ) (c : List ℕ) → (device before).clock ≤ (device mid).clock → t ≤ (device before).clock → LeftTornAt 148 1 (device before) (device mid) → LeftNoMore (device mid) (device later) → (device later).left_since t c → (device before).left_since t c ⊎ IsTornImage 148 1 (device before) c
+  since_after : (mid : D) (t : ℕ) (c : List ℕ) → (device before).clock ≤ (device mid).clock → t ≤ (device before).clock
+      → LeftTornAt 148 1 (device before) (device mid) → LeftNoMore (device mid) (device later) → (device later).left_since t c
+      → (device before).left_since t c ⊎ IsTornImage 148 1 (device before) c
   since_after mid t c clock low tears no_more left = tears t c low (no_more t c (omega (arith, clock, low)) left)
 
   module _ (law : IsTrue (device later).tells → (device later).may_leave (device later).content) (first : format_in superblock ≡ 1) where
     -- both calls were good
-    idle_ok : (mid : D) (after : List ℕ) → length after ≡ 4096 → part 20 128 after ≡ part 20 128 superblock → format_in after ≡ 2 → (x y : Unit {0}) → Kept Idle false → Asked gate (Ok x) before mid → Asked Call.Sync (Ok y) mid later
-        → IsKept (device later) blocks after Idle false room filled is_last × Upgrades device (view before superblock Idle false) (view later after Idle false) (Ok tt)
+    idle_ok : (mid : D) (after : List ℕ) → length after ≡ 4096 → part 20 128 after ≡ part 20 128 superblock → format_in after ≡ 2
+        → (x y : Unit {0}) → Kept Idle false → Asked gate (Ok x) before mid → Asked Call.Sync (Ok y) mid later
+        → IsKept (device later) blocks after Idle false room filled is_last × Upgrades device (view before superblock Idle false)
+        (view later after Idle false) (Ok tt)
     idle_ok mid after size label format x y kept wrote synced =
-        let mid_tells : IsTrue (device before).tells → IsTrue (device mid).tells = λ t. subst (λ (b : Bool). IsTrue b) (sym wrote.time.tells) t in
-        let time : Elapses (device before) (device later) = record { size = synced.time.size ∙ wrote.time.size; tells = synced.time.tells ∙ wrote.time.tells; later = omega (arith, wrote.time.later, synced.time.later) } in
-        let content : IsTrue (device before).tells → (device later).content ≡ overwritten 148 (2 ∷ []) (device before).content = λ t. synced.does.content (mid_tells t) ∙ wrote.does.content t in
-        let only : IsTrue (device before).tells → LeavesOnly (device later) (overwritten 148 (2 ∷ []) (device before).content) = λ t c left. synced.does.durable (mid_tells t) c left ∙ wrote.does.content t in
-        let now = opened_kept (device before) blocks superblock room filled is_last kept first (device later) time after content only size label format in (
+        let mid_tells : IsTrue (device before).tells → IsTrue (device mid).tells =
+        λ t. subst (λ (b : Bool). IsTrue b) (sym wrote.time.tells) t in
+        let time : Elapses (device before) (device later) =
+        record {
+          size = synced.time.size ∙ wrote.time.size;
+          tells = synced.time.tells ∙ wrote.time.tells;
+          later = omega (arith, wrote.time.later, synced.time.later);
+        } in
+        let content : IsTrue (device before).tells → (device later).content ≡ overwritten 148 (2 ∷ []) (device before).content =
+        λ t. synced.does.content (mid_tells t) ∙ wrote.does.content t in
+        let only : IsTrue (device before).tells → LeavesOnly (device later) (overwritten 148 (2 ∷ []) (device before).content) =
+        λ t c left. synced.does.durable (mid_tells t) c left ∙ wrote.does.content t in
+        let now = opened_kept (device before) blocks superblock room filled is_last kept first
+        (device later) time after content only size label format in (
           now,
           record {
             same = same_but superblock after Idle false false label;
-            blocks = opened_blocks (device before) blocks superblock room filled is_last kept first (device later) time after content only size label format;
+            blocks = opened_blocks (device before) blocks superblock room filled is_last kept first
+                (device later) time after content only size label format;
             format = format;
             running = refl;
             synced = λ t c left. only t c left ∙ sym (content t);
@@ -218,23 +270,30 @@ module _ {D : Type 0} (device : D → Device) (before later : D) (blocks : ℕ) 
             memory = tt;
             now = λ t c left. ((now.told t).admits c left, now.formats t c left);
             since = λ t time' c low left.
-                ⊎_elim (λ earlier. inl earlier) (λ from. inr (still_admitted (device before) blocks superblock room filled is_last kept first t c from))
+                ⊎_elim (λ earlier. inl earlier)
+                (λ from. inr (still_admitted (device before) blocks superblock room filled is_last kept first t c from))
                 (since_after mid time' c wrote.time.later low (wrote.does.since t) (synced.does.since (mid_tells t)) left);
           },
         )
 
     -- the write failed, or the sync after it: the images are torn ones
-    cut_off : (e : JournalError) → Elapses (device before) (device later) → Kept Idle false → (IsTrue (device before).tells → (c : List ℕ) → (device later).may_leave c → IsTornImage 148 1 (device before) c)
-        → (IsTrue (device before).tells → (t : ℕ) (c : List ℕ) → t ≤ (device before).clock → (device later).left_since t c → (device before).left_since t c ⊎ IsTornImage 148 1 (device before) c)
-        → (e ≡ Fault) ⊎ (e ≡ Memory) → (e ≡ Fault → (device later).failures ≢ (device before).failures) → (e ≡ Memory → (device later).failures ≡ (device before).failures)
-        → IsKept (device later) blocks superblock Idle true room filled is_last × Upgrades device (view before superblock Idle false) (view later superblock Idle true) (Err e)
+    cut_off : (e : JournalError) → Elapses (device before) (device later) → Kept Idle false
+        → (IsTrue (device before).tells → (c : List ℕ) → (device later).may_leave c → IsTornImage 148 1 (device before) c)
+        → (IsTrue (device before).tells → (t : ℕ) (c : List ℕ) → t ≤ (device before).clock → (device later).left_since t c
+        → (device before).left_since t c ⊎ IsTornImage 148 1 (device before) c)
+        → (e ≡ Fault) ⊎ (e ≡ Memory) → (e ≡ Fault → (device later).failures ≢ (device before).failures)
+        → (e ≡ Memory → (device later).failures ≡ (device before).failures)
+        → IsKept (device later) blocks superblock Idle true room filled is_last × Upgrades device (view before superblock Idle false)
+        (view later superblock Idle true) (Err e)
     cut_off e time kept torn since which fault memory =
         let now = cut_kept (device before) blocks superblock room filled is_last kept first (device later) time law torn in
-        let later_tells : IsTrue (device before).tells → IsTrue (device later).tells = λ t. subst (λ (b : Bool). IsTrue b) (sym time.tells) t in (
+        let later_tells : IsTrue (device before).tells → IsTrue (device later).tells =
+        λ t. subst (λ (b : Bool). IsTrue b) (sym time.tells) t in (
           now,
           record {
             same = same_but superblock superblock Idle false true refl;
-            blocks = λ t. cut_blocks (device before) blocks superblock room filled is_last kept first (device later) time law torn (later_tells t);
+            blocks = λ t. cut_blocks (device before) blocks superblock room filled is_last kept first (device later) time law torn
+                (later_tells t);
             format = tt;
             running = tt;
             synced = λ t. tt;
@@ -246,35 +305,58 @@ module _ {D : Type 0} (device : D → Device) (before later : D) (blocks : ℕ) 
             halts = λ is. refl;
             memory = memory;
             now = λ t c left. ((now.told t).admits c left, now.formats t c left);
-            since = λ t time' c low left. ⊎_elim (λ earlier. inl earlier) (λ from. inr (still_admitted (device before) blocks superblock room filled is_last kept first t c from)) (since t time' c low left);
+            since = λ t time' c low left. ⊎_elim (λ earlier. inl earlier)
+                (λ from. inr (still_admitted (device before) blocks superblock room filled is_last kept first t c from))
+                (since t time' c low left);
           },
         )
 
-    idle_unwritten : (e : DiskError) → e ≡ disk_errors.Fault → Kept Idle false → Asked {T = Unit {0}} gate (Err e) before later → IsKept (device later) blocks superblock Idle true room filled is_last × Upgrades device (view before superblock Idle false) (view later superblock Idle true) (Err Fault)
+    idle_unwritten : (e : DiskError) → e ≡ disk_errors.Fault → Kept Idle false → Asked {T = Unit {0}} gate (Err e) before later
+        → IsKept (device later) blocks superblock Idle true room filled is_last × Upgrades device (view before superblock Idle false)
+        (view later superblock Idle true) (Err Fault)
     idle_unwritten e is kept wrote =
         let does = wrote.does is in
-        cut_off Fault wrote.time kept does.crash does.since (inl refl) (λ f. wrote.cause.fault is) (λ m. absurd (let both : Fault ≡ Memory = m in cc))
+        cut_off Fault wrote.time kept does.crash does.since (inl refl) (λ f. wrote.cause.fault is)
+        (λ m. absurd (let both : Fault ≡ Memory = m in cc))
 
-    idle_unsynced : (mid : D) (x : Unit {0}) (e : DiskError) → e ≡ disk_errors.Fault → Kept Idle false → Asked gate (Ok x) before mid → Asked {T = Unit {0}} Call.Sync (Err e) mid later → IsKept (device later) blocks superblock Idle true room filled is_last × Upgrades device (view before superblock Idle false) (view later superblock Idle true) (Err Fault)
+    idle_unsynced : (mid : D) (x : Unit {0}) (e : DiskError) → e ≡ disk_errors.Fault → Kept Idle false → Asked gate (Ok x) before mid
+        → Asked {T = Unit {0}} Call.Sync (Err e) mid later
+        → IsKept (device later) blocks superblock Idle true room filled is_last × Upgrades device (view before superblock Idle false)
+        (view later superblock Idle true) (Err Fault)
     idle_unsynced mid x e is kept wrote failed =
-        let mid_tells : IsTrue (device before).tells → IsTrue (device mid).tells = λ t. subst (λ (b : Bool). IsTrue b) (sym wrote.time.tells) t in
+        let mid_tells : IsTrue (device before).tells → IsTrue (device mid).tells =
+        λ t. subst (λ (b : Bool). IsTrue b) (sym wrote.time.tells) t in
         let does = failed.does is in
-        cut_off Fault (record { size = failed.time.size ∙ wrote.time.size; tells = failed.time.tells ∙ wrote.time.tells; later = omega (arith, wrote.time.later, failed.time.later) }) kept
+        cut_off Fault (record {
+          size = failed.time.size ∙ wrote.time.size;
+          tells = failed.time.tells ∙ wrote.time.tells;
+          later = omega (arith, wrote.time.later, failed.time.later);
+        }) kept
         (λ t c left. torn_after mid (wrote.does.crash t) (does.crash (mid_tells t)) c left)
         (λ t time' c low left. since_after mid time' c wrote.time.later low (wrote.does.since t) (does.since (mid_tells t)) left)
         (inl refl) (λ f same. failed.cause.fault is (same ∙ sym wrote.cause.ok)) (λ m. absurd (let both : Fault ≡ Memory = m in cc))
 
-    idle_unsynced_for_memory : (mid : D) (x : Unit {0}) (e : DiskError) → e ≡ disk_errors.Memory → Kept Idle false → Asked gate (Ok x) before mid → Asked {T = Unit {0}} Call.Sync (Err e) mid later → IsKept (device later) blocks superblock Idle true room filled is_last × Upgrades device (view before superblock Idle false) (view later superblock Idle true) (Err Memory)
+    idle_unsynced_for_memory : (mid : D) (x : Unit {0}) (e : DiskError) → e ≡ disk_errors.Memory → Kept Idle false
+        → Asked gate (Ok x) before mid → Asked {T = Unit {0}} Call.Sync (Err e) mid later
+        → IsKept (device later) blocks superblock Idle true room filled is_last × Upgrades device (view before superblock Idle false)
+        (view later superblock Idle true) (Err Memory)
     idle_unsynced_for_memory mid x e is kept wrote failed =
-        let mid_tells : IsTrue (device before).tells → IsTrue (device mid).tells = λ t. subst (λ (b : Bool). IsTrue b) (sym wrote.time.tells) t in
+        let mid_tells : IsTrue (device before).tells → IsTrue (device mid).tells =
+        λ t. subst (λ (b : Bool). IsTrue b) (sym wrote.time.tells) t in
         let refused = failed.refused is in
-        cut_off Memory (record { size = failed.time.size ∙ wrote.time.size; tells = failed.time.tells ∙ wrote.time.tells; later = omega (arith, wrote.time.later, failed.time.later) }) kept
+        cut_off Memory (record {
+          size = failed.time.size ∙ wrote.time.size;
+          tells = failed.time.tells ∙ wrote.time.tells;
+          later = omega (arith, wrote.time.later, failed.time.later);
+        }) kept
         (λ t c left. torn_after mid (wrote.does.crash t) (refused.crash (mid_tells t)) c left)
         (λ t time' c low left. since_after mid time' c wrote.time.later low (wrote.does.since t) (refused.since (mid_tells t)) left)
         (inr refl) (λ f. absurd (let both : Memory ≡ Fault = f in cc)) (λ m. refused.failures ∙ wrote.cause.ok)
 
     -- the write was refused for want of memory: nothing changed
-    idle_refused : Kept Idle false → IsRefused (device before) (device later) → IsKept (device later) blocks superblock Idle false room filled is_last × Upgrades device (view before superblock Idle false) (view later superblock Idle false) (Err Memory)
+    idle_refused : Kept Idle false → IsRefused (device before) (device later)
+        → IsKept (device later) blocks superblock Idle false room filled is_last × Upgrades device (view before superblock Idle false)
+        (view later superblock Idle false) (Err Memory)
     idle_refused kept refused =
         let now = kept_refused (device before) blocks superblock Idle false room filled is_last kept (device later) refused in (
           now,
@@ -303,25 +385,35 @@ module _ {D : Type 0} (device : D → Device) (before later : D) (blocks : ℕ) 
           let now : Kept Idle false = subst (λ (b : Bool). Kept Idle b) running (subst (λ (n : Next). Kept n h) is kept) in
           subst (λ (n : Next). P n h) (sym is) (subst (λ (b : Bool). P Idle b) (sym running) (p now))
 
-      pub when_ok : (mid : D) (after : List ℕ) → length after ≡ 4096 → part 20 128 after ≡ part 20 128 superblock → format_in after ≡ 2 → (x y : Unit {0}) → Asked gate (Ok x) before mid → Asked Call.Sync (Ok y) mid later
-          → IsKept (device later) blocks after next h room filled is_last × Upgrades device (view before superblock next h) (view later after next h) (Ok tt)
+      pub when_ok : (mid : D) (after : List ℕ) → length after ≡ 4096 → part 20 128 after ≡ part 20 128 superblock → format_in after ≡ 2
+          → (x y : Unit {0}) → Asked gate (Ok x) before mid → Asked Call.Sync (Ok y) mid later
+          → IsKept (device later) blocks after next h room filled is_last
+          × Upgrades device (view before superblock next h) (view later after next h) (Ok tt)
       when_ok mid after size label format x y wrote synced =
-          at_idle (λ (n : Next) (b : Bool). IsKept (device later) blocks after n b room filled is_last × Upgrades device (view before superblock n b) (view later after n b) (Ok tt))
+          at_idle (λ (n : Next) (b : Bool). IsKept (device later) blocks after n b room filled is_last
+          × Upgrades device (view before superblock n b) (view later after n b) (Ok tt))
           (λ now. idle_ok mid after size label format x y now wrote synced)
 
       abbrev Cut : JournalError → Next → Bool → Type 0
-      Cut e n b = IsKept (device later) blocks superblock n true room filled is_last × Upgrades device (view before superblock n b) (view later superblock n true) (Err e)
+      Cut e n b = IsKept (device later) blocks superblock n true room filled is_last
+          × Upgrades device (view before superblock n b) (view later superblock n true) (Err e)
 
       pub when_unwritten : (e : DiskError) → e ≡ disk_errors.Fault → Asked {T = Unit {0}} gate (Err e) before later → Cut Fault next h
       when_unwritten e fails wrote = at_idle (Cut Fault) (λ now. idle_unwritten e fails now wrote)
 
-      pub when_unsynced : (mid : D) (x : Unit {0}) (e : DiskError) → e ≡ disk_errors.Fault → Asked gate (Ok x) before mid → Asked {T = Unit {0}} Call.Sync (Err e) mid later → Cut Fault next h
+      pub when_unsynced : (mid : D) (x : Unit {0}) (e : DiskError) → e ≡ disk_errors.Fault → Asked gate (Ok x) before mid
+          → Asked {T = Unit {0}} Call.Sync (Err e) mid later → Cut Fault next h
       when_unsynced mid x e fails wrote failed = at_idle (Cut Fault) (λ now. idle_unsynced mid x e fails now wrote failed)
 
-      pub when_unsynced_for_memory : (mid : D) (x : Unit {0}) (e : DiskError) → e ≡ disk_errors.Memory → Asked gate (Ok x) before mid → Asked {T = Unit {0}} Call.Sync (Err e) mid later → Cut Memory next h
-      when_unsynced_for_memory mid x e fails wrote failed = at_idle (Cut Memory) (λ now. idle_unsynced_for_memory mid x e fails now wrote failed)
+      pub when_unsynced_for_memory : (mid : D) (x : Unit {0}) (e : DiskError) → e ≡ disk_errors.Memory → Asked gate (Ok x) before mid
+          → Asked {T = Unit {0}} Call.Sync (Err e) mid later → Cut Memory next h
+      when_unsynced_for_memory mid x e fails wrote failed =
+          at_idle (Cut Memory) (λ now. idle_unsynced_for_memory mid x e fails now wrote failed)
 
-      pub when_refused : IsRefused (device before) (device later) → IsKept (device later) blocks superblock next h room filled is_last × Upgrades device (view before superblock next h) (view later superblock next h) (Err Memory)
+      pub when_refused : IsRefused (device before) (device later)
+          → IsKept (device later) blocks superblock next h room filled is_last
+          × Upgrades device (view before superblock next h) (view later superblock next h) (Err Memory)
       when_refused refused =
-          at_idle (λ (n : Next) (b : Bool). IsKept (device later) blocks superblock n b room filled is_last × Upgrades device (view before superblock n b) (view later superblock n b) (Err Memory))
+          at_idle (λ (n : Next) (b : Bool). IsKept (device later) blocks superblock n b room filled is_last
+          × Upgrades device (view before superblock n b) (view later superblock n b) (Err Memory))
           (λ now. idle_refused now refused)

@@ -50,7 +50,8 @@ past_at_fault n sizes (CloseGate j) is = refl
 past_at_fault n sizes (Finish j) is = refl
 
 -- and answers no commit
-pub past_answer : (P : Progress → Type 0) (last : ℕ) (sizes : List ℕ) (call : Next) → P Working → P Ended → is_to_commit call ≡ false → P (answer last sizes call)
+pub past_answer : (P : Progress → Type 0) (last : ℕ) (sizes : List ℕ) (call : Next) → P Working → P Ended → is_to_commit call ≡ false
+    → P (answer last sizes call)
 past_answer P last sizes Idle working ended is = working
 past_answer P last sizes Descriptor working ended is = absurd (cc is)
 past_answer P last sizes (Image i) working ended is = absurd (cc is)
@@ -63,7 +64,8 @@ past_answer P last sizes (CloseGate j) working ended is = working
 past_answer P last sizes (Finish j) working ended is = cond_both (eqb (j + 1) (length sizes)) Ended Working P (λ e. ended) (λ e. working)
 
 -- before it a call commits, or the batch waits on, also at a fault
-pub waits_or_commits : (n : ℕ) (sizes : List ℕ) (call : Next) → is_to_commit call ≡ true → (call ≡ Commit) ⊎ ((is_to_commit (following n sizes call) ≡ true) × ((last : ℕ) → answer last sizes call ≡ Working))
+pub waits_or_commits : (n : ℕ) (sizes : List ℕ) (call : Next) → is_to_commit call ≡ true
+    → (call ≡ Commit) ⊎ ((is_to_commit (following n sizes call) ≡ true) × ((last : ℕ) → answer last sizes call ≡ Working))
 waits_or_commits n sizes Idle is = absurd (cc is)
 waits_or_commits n sizes Descriptor is = inr (refl, λ last. refl)
 waits_or_commits n sizes (Image i) is = inr (after_image (λ f. is_to_commit f ≡ true) n sizes i (λ e. refl) (λ e. refl), λ last. refl)
@@ -98,4 +100,5 @@ committed_at last l sizes Commit is = (refl, cc is)
 committed_at last l sizes (Home j i) is = absurd (cc is)
 committed_at last l sizes Settle is = absurd (cc is)
 committed_at last l sizes (CloseGate j) is = absurd (cc is)
-committed_at last l sizes (Finish j) is = absurd (cond_both (eqb (j + 1) (length sizes)) Ended Working (λ p. Committed last ≡ p → ⊥) (λ e f. cc) (λ e f. cc) is)
+committed_at last l sizes (Finish j) is =
+    absurd (cond_both (eqb (j + 1) (length sizes)) Ended Working (λ p. Committed last ≡ p → ⊥) (λ e f. cc) (λ e f. cc) is)

@@ -17,7 +17,8 @@ use Rattle.journal.proofs.Admitted.{size_shut, stands_shut}
 pub stands_whole : (x label : List ℕ) (blocks : List (List ℕ)) → StandsFor x label blocks → AreWhole (home_size x) blocks
 stands_whole x label blocks stands = record { count = stands_length x label blocks stands; whole = sizes_whole x label blocks stands }
 
-module _ (device : Device) (blocks : ℕ) (superblock : List ℕ) (next : Next) (halted : Bool) (room : List Staged) (filled : ℕ) (is_last : Bool) (kept : IsKept device blocks superblock next halted room filled is_last) where
+module _ (device : Device) (blocks : ℕ) (superblock : List ℕ) (next : Next) (halted : Bool) (room : List Staged) (filled : ℕ)
+    (is_last : Bool) (kept : IsKept device blocks superblock next halted room filled is_last) where
   abbrev f : Flight
   f = flight_in room filled is_last
 
@@ -28,7 +29,8 @@ module _ (device : Device) (blocks : ℕ) (superblock : List ℕ) (next : Next) 
   label = part 20 128 superblock
 
   -- what the journal keeps has whole blocks
-  pub kept_whole : (IsTrue device.tells → device.may_leave device.content) → IsTrue device.tells → AreWhole blocks (blocks_without m next device.content)
+  pub kept_whole : (IsTrue device.tells → device.may_leave device.content) → IsTrue device.tells
+      → AreWhole blocks (blocks_without m next device.content)
   kept_whole now t =
       let told = kept.told t in
       let there : m < segment_count device.content = subst (λ (n : ℕ). m < n) (sym told.count) kept.place in
@@ -38,7 +40,8 @@ module _ (device : Device) (blocks : ℕ) (superblock : List ℕ) (next : Next) 
         | inr commits ↦
             subst (λ (s : Next). AreWhole (home_size device.content) (blocks_without m s device.content)) (sym commits.0)
             (subst (λ (n : ℕ). AreWhole n (blocks_without m Commit device.content)) (size_shut device.content label m told.stands there)
-            (stands_whole (gate_closed m device.content) label (blocks_without m Commit device.content) (stands_shut device.content label m told.stands there)))
+            (stands_whole (gate_closed m device.content) label (blocks_without m Commit device.content)
+            (stands_shut device.content label m told.stands there)))
       ])
 
   -- and it is kept by what leaves all that the device means
@@ -64,10 +67,12 @@ module _ (device : Device) (blocks : ℕ) (superblock : List ℕ) (next : Next) 
           size = ap home_size same.content ∙ told.size;
           count = ap segment_count same.content ∙ told.count;
           admits = λ c left.
-              subst (λ (x : List ℕ). IsAdmitted next label (blocks_without m next x) (laid_over (blocks_without m next x) f.batch.numbers f.batch.images) c) (sym same.content)
+              subst (λ (x : List ℕ). IsAdmitted next label (blocks_without m next x)
+              (laid_over (blocks_without m next x) f.batch.numbers f.batch.images) c) (sym same.content)
               (told.admits c ((same.may_leave c).0 left));
           holds = λ runs. subst (λ (x : List ℕ). Holds f next x) (sym same.content) (told.holds runs);
-          same = λ runs c left. subst (λ (x : List ℕ). SameBut (Touched f next) x c) (sym same.content) (told.same runs c ((same.may_leave c).0 left));
+          same = λ runs c left. subst (λ (x : List ℕ). SameBut (Touched f next) x c) (sym same.content)
+              (told.same runs c ((same.may_leave c).0 left));
         };
     format_is = λ t runs. ap format_number same.content ∙ kept.format_is (subst (λ (b : Bool). IsTrue b) same.tells t) runs;
     formats = λ t c left. kept.formats (subst (λ (b : Bool). IsTrue b) same.tells t) c ((same.may_leave c).0 left);
@@ -98,11 +103,15 @@ module _ (device : Device) (blocks : ℕ) (superblock : List ℕ) (next : Next) 
           size = ap home_size content ∙ told.size;
           count = ap segment_count content ∙ told.count;
           admits = λ c left.
-              subst (λ (x : List ℕ). IsAdmitted next label (blocks_without m next x) (laid_over (blocks_without m next x) f.batch.numbers f.batch.images) c) (sym content)
+              subst (λ (x : List ℕ). IsAdmitted next label (blocks_without m next x)
+              (laid_over (blocks_without m next x) f.batch.numbers f.batch.images) c) (sym content)
               (told.admits c (same.crash before c left));
           holds = λ runs. subst (λ (x : List ℕ). Holds f next x) (sym content) (told.holds runs);
-          same = λ runs c left. subst (λ (x : List ℕ). SameBut (Touched f next) x c) (sym content) (told.same runs c (same.crash before c left));
+          same = λ runs c left. subst (λ (x : List ℕ). SameBut (Touched f next) x c) (sym content)
+              (told.same runs c (same.crash before c left));
         };
-    format_is = λ t runs. let before : IsTrue device.tells = subst (λ (b : Bool). IsTrue b) same.time.tells t in ap format_number (same.content before) ∙ kept.format_is before runs;
-    formats = λ t c left. let before : IsTrue device.tells = subst (λ (b : Bool). IsTrue b) same.time.tells t in kept.formats before c (same.crash before c left);
+    format_is = λ t runs. let before : IsTrue device.tells = subst (λ (b : Bool). IsTrue b) same.time.tells t in
+        ap format_number (same.content before) ∙ kept.format_is before runs;
+    formats = λ t c left. let before : IsTrue device.tells = subst (λ (b : Bool). IsTrue b) same.time.tells t in
+        kept.formats before c (same.crash before c left);
   }

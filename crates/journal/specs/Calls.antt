@@ -1,12 +1,15 @@
 -- The device calls of a batch, and what each does.
-use Rattle.std.specs.Prelude.{◌≡◌, ◌≤◌, ℕ, ◌+◌, ◌*◌, false, true, IsTrue, List, [], ◌∷◌, length, slice_index, slice_index_or, Result, OnOk, IfOk, IfErr, MatchResult}
+use Rattle.std.specs.Prelude.{◌≡◌, ◌≤◌, ℕ, ◌+◌, ◌*◌, false, true, IsTrue, List, [], ◌∷◌, length, slice_index, slice_index_or, Result, OnOk}
+use Rattle.std.specs.Prelude.{IfOk, IfErr, MatchResult}
 use Rattle.disk.specs.declared.DiskError.{DiskError}
-use Rattle.disk.specs.Device.{Device, Elapses, HasCause, IsRefused, IsSync, IsWrite, LeavesNoMore, LeavesOnly, LeftNoMore, LeftTornAt, OnAsked, OnRefused, TearsAt}
+use Rattle.disk.specs.Device.{Device, Elapses, HasCause, IsRefused, IsSync, IsWrite, LeavesNoMore, LeavesOnly, LeftNoMore, LeftTornAt}
+use Rattle.disk.specs.Device.{OnAsked, OnRefused, TearsAt}
 use Rattle.disk.specs.Image.{overwritten}
 use Rattle.model.specs.Volume.{descriptor_of, descriptor_place, gate_place, home_place, image_place}
 use Rattle.segments.specs.Held.{Held}
 use Rattle.journal.specs.Flight.{held_at}
-use Rattle.journal.specs.Journal.{CountsFailures, IsSameBatch, JournalView, LeavesAdmitted, LeftAdmitted, all_held, calls, sizes, with_batch}
+use Rattle.journal.specs.Journal.{CountsFailures, IsSameBatch, JournalView, LeavesAdmitted, LeftAdmitted, all_held, calls, sizes}
+use Rattle.journal.specs.Journal.{with_batch}
 use Rattle.journal.specs.Order.{IsMore, all_calls, answer, at_fault, following, syncs_made, writes_made}
 use Rattle.journal.specs.declared.Progress.{Progress}
 use Rattle.journal.specs.declared.Progress.TheVariants.{Committed}
@@ -26,12 +29,14 @@ abbrev pub call_at : Next → ℕ → List Held → ℕ → List ℕ → List (L
 call_at Descriptor segments held place descriptor images = Write (4096 * descriptor_place place) descriptor
 call_at (Image i) segments held place descriptor images = Write (4096 * image_place place i) (slice_index_or images i [])
 call_at OpenGate segments held place descriptor images = Write (4096 * gate_place place) (1 ∷ [])
-call_at (Home j i) segments held place descriptor images = Write (4096 * home_place segments (slice_index (held_at held j).batch.numbers i)) (slice_index_or (held_at held j).batch.images i [])
+call_at (Home j i) segments held place descriptor images =
+    Write (4096 * home_place segments (slice_index (held_at held j).batch.numbers i)) (slice_index_or (held_at held j).batch.images i [])
 call_at (CloseGate j) segments held place descriptor images = Write (4096 * gate_place (held_at held j).place) (0 ∷ [])
 call_at next segments held place descriptor images = Sync
 
 abbrev pub call_of : {D : Type 0} → JournalView D → Call
-call_of journal = call_at journal.next journal.segments (all_held journal) journal.place (descriptor_of journal.number journal.last journal.numbers) journal.images
+call_of journal = call_at journal.next journal.segments (all_held journal) journal.place
+    (descriptor_of journal.number journal.last journal.numbers) journal.images
 
 -- exactly one write was asked, of these octets at this place
 pub record Writes {T E : Type 0} (at : ℕ) (octets : List ℕ) (result : Result T E) (old new : Device) : Type 0 where
@@ -78,10 +83,12 @@ pub record MakesCall {D : Type 0} (device : D → Device) (old new : JournalView
   -- what the device has counted since the batch began is what the batch has made
   pub writes : (first : ℕ) → IsMore (writes_made (length old.numbers) (sizes old) old.next) first (device old.disk).writes
       → OnOk result (IsMore (writes_made (length old.numbers) (sizes old) new.next) first (device new.disk).writes)
-  pub syncs : (first : ℕ) → IsMore (syncs_made (sizes old) old.next) first (device old.disk).syncs → OnOk result (IsMore (syncs_made (sizes old) new.next) first (device new.disk).syncs)
+  pub syncs : (first : ℕ) → IsMore (syncs_made (sizes old) old.next) first (device old.disk).syncs
+      → OnOk result (IsMore (syncs_made (sizes old) new.next) first (device new.disk).syncs)
   pub no_other : IfErr result (λ error. error ≡ Fault)
   pub halts : IfErr result (λ error. error ≡ Fault → (new.halted ≡ true) × (new.next ≡ at_fault (length old.numbers) (sizes old) old.next))
-  pub blocks : IsTrue (device old.disk).tells → MatchResult result (λ progress. new.blocks ≡ blocks_after old progress) (λ _. new.blocks ≡ old.blocks)
+  pub blocks : IsTrue (device old.disk).tells
+      → MatchResult result (λ progress. new.blocks ≡ blocks_after old progress) (λ _. new.blocks ≡ old.blocks)
   -- a crash now leaves an image that the journal admits, and so does one at any moment of the call
   pub now : LeavesAdmitted device new
   pub since : LeftAdmitted device old new

@@ -35,4 +35,9 @@ sizes_of flight = if flight.is_last then counts_of (all_of flight) else []
 
 -- the batch in the segment with this index, while the segments before it are open
 abbrev pub flight_in : List Staged → ℕ → Bool → Flight
-flight_in room filled is_last = record { segments = length room; held = map held_as (take filled room); batch = staged_at room filled; is_last = is_last }
+flight_in room filled is_last = record {
+  segments = length room;
+  held = map held_as (take filled room);
+  batch = staged_at room filled;
+  is_last = is_last;
+}

@@ -1,8 +1,11 @@
 -- What the fields of a journal keep between two calls.
-use Rattle.std.specs.Prelude.{◌≡◌, ◌⊎◌, ◌<◌, ◌≤◌, ℕ, ◌+◌, ◌*◌, Bool, true, false, IsTrue, List, [], length, drop, slice_index, slice_index_or, take}
+use Rattle.std.specs.Prelude.{◌≡◌, ◌⊎◌, ◌<◌, ◌≤◌, ℕ, ◌+◌, ◌*◌, Bool, true, false, IsTrue, List, [], length, drop, slice_index}
+use Rattle.std.specs.Prelude.{slice_index_or, take}
 use Rattle.disk.specs.Device.{Device, LeavesOnly, one_more}
 use Rattle.disk.specs.Image.{part}
-use Rattle.model.specs.Volume.{gate_place, descriptor_place, image_place, home_place, descriptor_of, block, number_at, home_size, is_open, segment_count, IsSuperblock, StandsFor, format_in, format_number, all_laid_over, home, laid_over, logical_blocks, gate_closed}
+use Rattle.model.specs.Volume.{gate_place, descriptor_place, image_place, home_place, descriptor_of, block, number_at, home_size, is_open}
+use Rattle.model.specs.Volume.{segment_count, IsSuperblock, StandsFor, format_in, format_number, all_laid_over, home, laid_over}
+use Rattle.model.specs.Volume.{logical_blocks, gate_closed}
 use Rattle.segments.specs.Held.{AreOpen, IsHomeOfHeld, IsHomeOnTheWay, IsWrittenIn, batches_of}
 use Rattle.segments.specs.Images.{IsCarried, IsInside, SameBut}
 use Rattle.journal_segments.specs.Staged.{IsStaged, Staged, staged_at}
@@ -33,15 +36,19 @@ Holds flight (Image i) image =
     × (block (descriptor_place flight.batch.place) image ≡ flight.batch.descriptor)
     × ((k : ℕ) → k < i → block (image_place flight.batch.place k) image ≡ slice_index_or flight.batch.images k [])
 Holds flight Seal image =
-    AreOpen flight.held image × (is_open flight.batch.place image ≡ false) × IsWrittenIn flight.batch.place flight.batch.descriptor flight.batch.images image
+    AreOpen flight.held image × (is_open flight.batch.place image ≡ false)
+    × IsWrittenIn flight.batch.place flight.batch.descriptor flight.batch.images image
 Holds flight OpenGate image =
-    AreOpen flight.held image × (is_open flight.batch.place image ≡ false) × IsWrittenIn flight.batch.place flight.batch.descriptor flight.batch.images image
+    AreOpen flight.held image × (is_open flight.batch.place image ≡ false)
+    × IsWrittenIn flight.batch.place flight.batch.descriptor flight.batch.images image
 Holds flight Commit image =
     AreOpen flight.held (gate_closed flight.batch.place image) × (is_open flight.batch.place image ≡ true)
     × IsWrittenIn flight.batch.place flight.batch.descriptor flight.batch.images image
 Holds flight (Home j i) image =
-    AreOpen (all_of flight) image × ((first : List (List ℕ)) × IsHomeOnTheWay first (take j (all_of flight)) (held_at (all_of flight) j).batch i image)
-Holds flight Settle image = AreOpen (all_of flight) image × ((first : List (List ℕ)) × (home image ≡ all_laid_over first (batches_of (all_of flight))))
+    AreOpen (all_of flight) image ×
+    ((first : List (List ℕ)) × IsHomeOnTheWay first (take j (all_of flight)) (held_at (all_of flight) j).batch i image)
+Holds flight Settle image = AreOpen (all_of flight) image
+    × ((first : List (List ℕ)) × (home image ≡ all_laid_over first (batches_of (all_of flight))))
 Holds flight (CloseGate j) image = AreOpen (drop j (all_of flight)) image × IsCarried image
 Holds flight (Finish j) image = AreOpen (drop (j + 1) (all_of flight)) image × IsCarried image
 
@@ -85,13 +92,15 @@ pub record IsTold (device : Device) (blocks : ℕ) (its_label : List ℕ) (next 
   pub size : home_size device.content ≡ blocks
   pub count : segment_count device.content ≡ flight.segments
   pub admits : (c : List ℕ) → device.may_leave c
-      → IsAdmitted next its_label (blocks_without flight.batch.place next device.content) (laid_over (blocks_without flight.batch.place next device.content) flight.batch.numbers flight.batch.images) c
+      → IsAdmitted next its_label (blocks_without flight.batch.place next device.content)
+      (laid_over (blocks_without flight.batch.place next device.content) flight.batch.numbers flight.batch.images) c
   pub holds : halted ≡ false → Holds flight next device.content
   pub same : halted ≡ false → (c : List ℕ) → device.may_leave c → SameBut (Touched flight next) device.content c
 
 -- What the journal keeps. Among its segments in memory, the one with the index `filled` belongs to the batch in flight,
 -- and those before it are the open ones.
-pub record IsKept (device : Device) (blocks : ℕ) (superblock : List ℕ) (next : Next) (halted : Bool) (room : List Staged) (filled : ℕ) (is_last : Bool) : Type 0 where
+pub record IsKept (device : Device) (blocks : ℕ) (superblock : List ℕ) (next : Next) (halted : Bool) (room : List Staged) (filled : ℕ)
+    (is_last : Bool) : Type 0 where
   pub size : device.size ≡ 4096 * home_place (length room) blocks
   pub low : 1024 ≤ blocks
   pub high : blocks ≤ 65536
@@ -104,10 +113,12 @@ pub record IsKept (device : Device) (blocks : ℕ) (superblock : List ℕ) (next
   pub within : IsWithin (length (staged_at room filled).numbers) (sizes_of (flight_in room filled is_last)) next
   pub staged : IsLive is_last next → (t : ℕ) → t ≤ filled → IsStaged blocks (staged_at room t)
   -- until all are carried home the open segments are the first ones, with the batch numbers from 1 on
-  pub order : IsOrdered is_last next → (t : ℕ) → t ≤ filled → ((staged_at room t).place ≡ t) × (number_at 0 8 (staged_at room t).descriptor ≡ t + 1)
+  pub order : IsOrdered is_last next → (t : ℕ) → t ≤ filled
+      → ((staged_at room t).place ≡ t) × (number_at 0 8 (staged_at room t).descriptor ≡ t + 1)
   -- a descriptor that is still to be written has zeros after its numbers
   pub described : next ≡ Descriptor
-      → (staged_at room filled).descriptor ≡ descriptor_of (number_at 0 8 (staged_at room filled).descriptor) (number_at 8 8 (staged_at room filled).descriptor) (staged_at room filled).numbers
+      → (staged_at room filled).descriptor ≡ descriptor_of (number_at 0 8 (staged_at room filled).descriptor)
+      (number_at 8 8 (staged_at room filled).descriptor) (staged_at room filled).numbers
   pub told : IsTrue device.tells → IsTold device blocks (part 20 128 superblock) next halted (flight_in room filled is_last)
   -- the format in memory is that of the content, and a crash leaves no lower one
   pub format_is : IsTrue device.tells → halted ≡ false → format_number device.content ≡ format_in superblock

@@ -1,5 +1,6 @@
 -- The journal as its callers see it, and what a crash leaves of it.
-use Rattle.std.specs.Prelude.{◌≡◌, ◌≢◌, ◌⊎◌, ℕ, ◌+◌, ◌≤◌, ◌==◌, Bool, false, if◌then◌else◌, IsTrue, List, [], ◌∷◌, ◌++◌, length, Result, OnOk, IfErr}
+use Rattle.std.specs.Prelude.{◌≡◌, ◌≢◌, ◌⊎◌, ℕ, ◌+◌, ◌≤◌, ◌==◌, Bool, false, if◌then◌else◌, IsTrue, List, [], ◌∷◌, ◌++◌, length, Result}
+use Rattle.std.specs.Prelude.{OnOk, IfErr}
 use Rattle.std.specs.List.{All}
 use Rattle.disk.specs.Device.{Device}
 use Rattle.segments.specs.Held.{Held}
@@ -47,7 +48,10 @@ IsReady journal = (journal.halted ≡ false) × IsIdle journal
 
 -- the segments that are open once the batch in flight is committed
 abbrev pub all_held : {D : Type 0} → JournalView D → List Held
-all_held journal = journal.held ++ record { place = journal.place; batch = record { number = journal.number; last = journal.last; numbers = journal.numbers; images = journal.images } } ∷ []
+all_held journal = journal.held ++ record {
+  place = journal.place;
+  batch = record { number = journal.number; last = journal.last; numbers = journal.numbers; images = journal.images };
+} ∷ []
 
 -- those that are open while no batch is in flight
 abbrev pub still_open : {D : Type 0} → JournalView D → List Held
@@ -83,7 +87,8 @@ with_batch journal = laid_over journal.blocks journal.numbers journal.images
 -- an image that a crash may leave. It stands for the blocks or, from the moment the gate's opening is asked until the
 -- batch is committed, for the blocks with the batch. It has no lower format
 abbrev pub Admits : {D : Type 0} → JournalView D → List ℕ → Type 0
-Admits journal image = IsAdmitted journal.next journal.label journal.blocks (with_batch journal) image × (journal.format ≤ format_number image)
+Admits journal image = IsAdmitted journal.next journal.label journal.blocks (with_batch journal) image
+    × (journal.format ≤ format_number image)
 
 -- each image that a crash at this moment may leave is one that the journal admits
 abbrev pub LeavesAdmitted : {D : Type 0} → (D → Device) → JournalView D → Type 0

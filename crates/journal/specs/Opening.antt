@@ -11,7 +11,8 @@ use Rattle.journal.specs.declared.JournalError.TheVariants.{Fault, Memory, NotAV
 
 -- two images of volumes with the same label and logical blocks, the second in no lower format
 abbrev pub AreSameVolume : List ℕ → List ℕ → Type 0
-AreSameVolume old new = (its_label : List ℕ) × ((blocks : List (List ℕ)) × (StandsFor old its_label blocks × IsVolume (format_number old) its_label blocks new))
+AreSameVolume old new = (its_label : List ℕ)
+    × ((blocks : List (List ℕ)) × (StandsFor old its_label blocks × IsVolume (format_number old) its_label blocks new))
 
 -- a crash since an earlier time might have left what it might have left before, or the same volume as was read
 abbrev pub LeftKept : Device → Device → Type 0
@@ -61,7 +62,8 @@ pub record SyncsFirst {D : Type 0} (device : D → Device) (first last : D) : Ty
 
 -- or no sync was good, and nothing was written
 abbrev pub NeverSyncs : {D : Type 0} → (D → Device) → D → D → Type 0
-NeverSyncs device first last = ((device last).writes ≡ (device first).writes) × (IsTrue (device first).tells → LeftNoMore (device first) (device last))
+NeverSyncs device first last = ((device last).writes ≡ (device first).writes) × (IsTrue (device first).tells
+    → LeftNoMore (device first) (device last))
 
 -- the writes that carry these open segments home: each of their images, and each gate
 abbrev pub home_writes : List ℕ → List ℕ → ℕ

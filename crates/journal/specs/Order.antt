@@ -16,7 +16,8 @@ following n sizes (Image i) = if i + 1 == n then Seal else Image (i + 1)
 following n sizes Seal = OpenGate
 following n sizes OpenGate = Commit
 following n sizes Commit = if length sizes == 0 then Idle else Home 0 0
-following n sizes (Home j i) = if i + 1 == slice_index sizes j then (if j + 1 == length sizes then Settle else Home (j + 1) 0) else Home j (i + 1)
+following n sizes (Home j i) = if i + 1 == slice_index sizes j then (if j + 1 == length sizes then Settle else Home (j + 1) 0) else Home j
+    (i + 1)
 following n sizes Settle = CloseGate 0
 following n sizes (CloseGate j) = Finish j
 following n sizes (Finish j) = if j + 1 == length sizes then Idle else CloseGate (j + 1)

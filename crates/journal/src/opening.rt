@@ -1,6 +1,7 @@
 //! Opens the volume on a device.
 
-ghost use Rattle.std.specs.Prelude.{MatchResult, ◌≤◌, ◌⊎◌, OnOk, IfOk, IfErr, IsTrue, ◌≡◌, ◌+◌, ◌<◌, [], true, false, length, slice_index, sum};
+ghost use Rattle.std.specs.Prelude.{MatchResult, ◌≤◌, ◌⊎◌, OnOk, IfOk, IfErr, IsTrue, ◌≡◌, ◌+◌, ◌<◌, [], true, false, length, slice_index};
+ghost use Rattle.std.specs.Prelude.{sum};
 ghost use Rattle.disk.specs.Device.{Elapses, LeavesOnly};
 ghost use Rattle.model.specs.Volume.{StandsFor, format_number, open_segments};
 ghost use Rattle.journal_segments.specs.Staged.{staged_at};
@@ -30,9 +31,11 @@ impl<D: Disk> Journal<D> {
     pub fn open(alloc: Global, disk: D) -> Result<Journal<D>, Refused<D>>
         ensures ok { IfOk result (Opens D.device disk) }
         ensures err { IfErr result (λ refused. Refuses D.device disk refused.disk refused.error) }
-        ensures moment { MatchResult result (λ journal. SyncsFirst D.device disk journal.disk) (λ refused. SyncsFirst D.device disk refused.disk ⊎ NeverSyncs D.device disk refused.disk) }
+        ensures moment { MatchResult result (λ journal. SyncsFirst D.device disk journal.disk)
+            (λ refused. SyncsFirst D.device disk refused.disk ⊎ NeverSyncs D.device disk refused.disk) }
         ensures judged { IfErr result (λ refused. refused.error ≡ JournalError.NotAVolume → SyncsFirst D.device disk refused.disk) }
-        ensures cost { IsTrue (D.device disk).tells → IfOk result (λ journal. Costs 1 (D.device disk).content (D.device disk) (D.device journal.disk)) }
+        ensures cost { IsTrue (D.device disk).tells
+            → IfOk result (λ journal. Costs 1 (D.device disk).content (D.device disk) (D.device journal.disk)) }
     {
         match Room::new(alloc) {
             Ok(room) => open_in(room, disk),
@@ -89,9 +92,11 @@ fn leave_first(room: &mut Vec<Segment>, n: usize)
 fn open_in<D: Disk>(room: Room, mut disk: D) -> Result<Journal<D>, Refused<D>>
     ensures ok { IfOk result (Opens D.device disk) }
     ensures err { IfErr result (λ refused. Refuses D.device disk refused.disk refused.error) }
-    ensures moment { MatchResult result (λ journal. SyncsFirst D.device disk journal.disk) (λ refused. SyncsFirst D.device disk refused.disk ⊎ NeverSyncs D.device disk refused.disk) }
+    ensures moment { MatchResult result (λ journal. SyncsFirst D.device disk journal.disk)
+        (λ refused. SyncsFirst D.device disk refused.disk ⊎ NeverSyncs D.device disk refused.disk) }
     ensures judged { IfErr result (λ refused. refused.error ≡ JournalError.NotAVolume → SyncsFirst D.device disk refused.disk) }
-    ensures cost { IsTrue (D.device disk).tells → IfOk result (λ journal. Costs 1 (D.device disk).content (D.device disk) (D.device journal.disk)) }
+    ensures cost { IsTrue (D.device disk).tells
+        → IfOk result (λ journal. Costs 1 (D.device disk).content (D.device disk) (D.device journal.disk)) }
 {
     match sync_first(&mut disk) {
         Ok(()) => open_synced(room, disk),
@@ -102,7 +107,8 @@ fn open_in<D: Disk>(room: Room, mut disk: D) -> Result<Journal<D>, Refused<D>>
 // Opens the volume on a device that was synced.
 fn open_synced<D: Disk>(room: Room, mut disk: D) -> Result<Journal<D>, Refused<D>>
     requires { IsTrue (D.device disk).tells → LeavesOnly (D.device disk) (D.device disk).content }
-    ensures cost { IsTrue (D.device disk).tells → IfOk result (λ journal. Costs 0 (D.device disk).content (D.device disk) (D.device journal.disk)) }
+    ensures cost { IsTrue (D.device disk).tells
+        → IfOk result (λ journal. Costs 0 (D.device disk).content (D.device disk) (D.device journal.disk)) }
     ensures ok { IfOk result (Opens D.device disk) }
     ensures err { IfErr result (λ refused. Refuses D.device disk refused.disk refused.error) }
 {
@@ -125,10 +131,15 @@ fn replay<D: Disk>(mut journal: Journal<D>) -> Result<Journal<D>, Refused<D>>
     requires running { journal.halted ≡ false }
     requires some { (0 < length (sizes journal)) × (0 < slice_index (sizes journal) 0) }
     requires now { LeavesAdmitted D.device journal }
-    ensures cost { IfOk result (λ after. IsMore (sum (sizes journal) + length (sizes journal)) (D.device journal.disk).writes (D.device after.disk).writes × IsMore (1 + length (sizes journal)) (D.device journal.disk).syncs (D.device after.disk).syncs) }
-    ensures ok { IfOk result (λ after. IsReady after × IsDuring D.device journal after × ((D.device after.disk).failures ≡ (D.device journal.disk).failures)) }
-    ensures err { IfErr result (λ refused. IsCaused refused.error (D.device journal.disk) (D.device refused.disk) × Elapses (D.device journal.disk) (D.device refused.disk) × LeftAs (D.device journal.disk) (D.device refused.disk) journal.format journal.label journal.blocks) }
-    ensures left { IfErr result (λ refused. IsTrue (D.device journal.disk).tells → IsVolume journal.format journal.label journal.blocks (D.device refused.disk).content) }
+    ensures cost { IfOk result (λ after. IsMore (sum (sizes journal) + length (sizes journal)) (D.device journal.disk).writes
+        (D.device after.disk).writes × IsMore (1 + length (sizes journal)) (D.device journal.disk).syncs (D.device after.disk).syncs) }
+    ensures ok { IfOk result (λ after. IsReady after × IsDuring D.device journal after
+        × ((D.device after.disk).failures ≡ (D.device journal.disk).failures)) }
+    ensures err { IfErr result (λ refused. IsCaused refused.error (D.device journal.disk) (D.device refused.disk)
+        × Elapses (D.device journal.disk) (D.device refused.disk)
+        × LeftAs (D.device journal.disk) (D.device refused.disk) journal.format journal.label journal.blocks) }
+    ensures left { IfErr result (λ refused. IsTrue (D.device journal.disk).tells
+        → IsVolume journal.format journal.label journal.blocks (D.device refused.disk).content) }
 {
     match journal.carry_home() {
         Ok(()) => Ok(journal),
@@ -175,7 +186,8 @@ fn to_be_replayed<D: Disk>(
     requires some { 0 < found }
     requires found { IsFound (D.device disk) superblock.items blocks room.items found }
     ensures disk { result.disk ≡ disk }
-    ensures open { IsTrue (D.device disk).tells → home_writes (D.device disk).content (open_segments (D.device disk).content) ≡ sum (sizes result) + length (sizes result) }
+    ensures open { IsTrue (D.device disk).tells
+        → home_writes (D.device disk).content (open_segments (D.device disk).content) ≡ sum (sizes result) + length (sizes result) }
     ensures syncs { IsTrue (D.device disk).tells → home_syncs (open_segments (D.device disk).content) ≡ 1 + length (sizes result) }
     ensures next { result.next ≡ Next.Home 0 0 }
     ensures rest { result.is_last ≡ true }
@@ -230,7 +242,8 @@ fn sync_first<D: Disk>(disk: &mut D) -> Result<(), JournalError>
     ensures synced { OnOk result (IsSynced (D.device disk.old) (D.device disk.new)) }
     ensures durable { IsTrue (D.device disk.old).tells → OnOk result (LeavesOnly (D.device disk.new) (D.device disk.old).content) }
     ensures cause { IfErr result (λ error. IsCaused error (D.device disk.old) (D.device disk.new)) }
-    ensures left { IsTrue (D.device disk.old).tells → IfErr result (λ error. error ≡ JournalError.Memory → (D.device disk.new).content ≡ (D.device disk.old).content) }
+    ensures left { IsTrue (D.device disk.old).tells
+        → IfErr result (λ error. error ≡ JournalError.Memory → (D.device disk.new).content ≡ (D.device disk.old).content) }
 {
     match disk.sync() {
         Ok(()) => Ok(()),

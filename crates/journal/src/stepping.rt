@@ -1,6 +1,7 @@
 //! Makes the device calls of a batch, one per step.
 
-ghost use Rattle.std.specs.Prelude.{◌≡◌, ◌≢◌, ◌≤◌, ◌<◌, ◌+◌, ◌*◌, ◌⊎◌, ◌==◌, ◌^◌, ℕ, List, length, [], ◌∷◌, slice_index, slice_index_or, sum, true, false, OnOk, IfErr, IsTrue, if◌then◌else◌};
+ghost use Rattle.std.specs.Prelude.{◌≡◌, ◌≢◌, ◌≤◌, ◌<◌, ◌+◌, ◌*◌, ◌⊎◌, ◌==◌, ◌^◌, ℕ, List, length, [], ◌∷◌, slice_index, slice_index_or};
+ghost use Rattle.std.specs.Prelude.{sum, true, false, OnOk, IfErr, IsTrue, if◌then◌else◌};
 ghost use Rattle.model.specs.Volume.{descriptor_place, gate_place, home_place, image_place};
 ghost use Rattle.journal_segments.specs.Staged.{staged_at};
 ghost use Rattle.journal.specs.Flight.{all_of, flight_in, sizes_of};
@@ -30,7 +31,8 @@ impl<D: Disk> Journal<D> {
         ensures call { self.old.halted ≡ false → (IsIdle self.old → ⊥) → OnMade result (MakesCall D.device self.old self.new result) }
         ensures retried { self.old.halted ≡ false → (IsIdle self.old → ⊥) → OnRetried result (IsRetried D.device self.old self.new) }
         ensures no_other { self.old.halted ≡ false → IfErr result (λ error. (error ≡ JournalError.Fault) ⊎ (error ≡ JournalError.Memory)) }
-        ensures memory { IfErr result (λ error. error ≡ JournalError.Memory → IsTrue (is_growing self.old.next D.write_grows D.sync_grows)) }
+        ensures memory { IfErr result (λ error. error ≡ JournalError.Memory
+            → IsTrue (is_growing self.old.next D.write_grows D.sync_grows)) }
 
         // A crash now leaves an image that the journal admits, and so does one at any moment of the step.
         ensures now { LeavesAdmitted D.device self.new }
@@ -65,8 +67,11 @@ impl<D: Disk> Journal<D> {
         requires some { (0 < length (sizes self.old)) × (0 < slice_index (sizes self.old) 0) }
         requires now { LeavesAdmitted D.device self.old }
         ensures during { IsDuring D.device self.old self.new }
-        ensures cost { OnOk result (IsMore (sum (sizes self.old) + length (sizes self.old)) (D.device self.old.disk).writes (D.device self.new.disk).writes × IsMore (1 + length (sizes self.old)) (D.device self.old.disk).syncs (D.device self.new.disk).syncs) }
-        ensures ok { OnOk result ((self.new.next ≡ Next.Idle) × (self.new.halted ≡ false) × ((D.device self.new.disk).failures ≡ (D.device self.old.disk).failures)) }
+        ensures cost { OnOk result (IsMore (sum (sizes self.old) + length (sizes self.old)) (D.device self.old.disk).writes
+            (D.device self.new.disk).writes × IsMore (1 + length (sizes self.old)) (D.device self.old.disk).syncs
+            (D.device self.new.disk).syncs) }
+        ensures ok { OnOk result ((self.new.next ≡ Next.Idle) × (self.new.halted ≡ false)
+            × ((D.device self.new.disk).failures ≡ (D.device self.old.disk).failures)) }
         ensures cause { IfErr result (λ error. IsCaused error (D.device self.old.disk) (D.device self.new.disk)) }
     {
         while !is_idle(self.next) {
@@ -80,10 +85,14 @@ impl<D: Disk> Journal<D> {
 /// If a closed segment is left, that sync ends the batch, after n + 2 writes and 2 syncs. Otherwise the batch ends at
 /// call n + 5, plus one for each image that the open segments carry home and two for each gate.
 pub fn each_call_is_the_next()
-    ensures next { (n : ℕ) (sizes : List ℕ) (next : Next) → next ≢ Next.Idle → calls_made n sizes (following n sizes next) ≡ calls_made n sizes next + 1 }
-    ensures writes { (n : ℕ) (sizes : List ℕ) (next : Next) → next ≢ Next.Idle → writes_made n sizes (following n sizes next) ≡ (if is_sync next then writes_made n sizes next else writes_made n sizes next + 1) }
-    ensures syncs { (n : ℕ) (sizes : List ℕ) (next : Next) → next ≢ Next.Idle → syncs_made sizes (following n sizes next) ≡ (if is_sync next then syncs_made sizes next + 1 else syncs_made sizes next) }
-    ensures cost { (n : ℕ) (sizes : List ℕ) → (writes_made n sizes (following n sizes Next.Commit) ≡ n + 2) × (syncs_made sizes (following n sizes Next.Commit) ≡ 2) }
+    ensures next { (n : ℕ) (sizes : List ℕ) (next : Next) → next ≢ Next.Idle
+        → calls_made n sizes (following n sizes next) ≡ calls_made n sizes next + 1 }
+    ensures writes { (n : ℕ) (sizes : List ℕ) (next : Next) → next ≢ Next.Idle
+        → writes_made n sizes (following n sizes next) ≡ (if is_sync next then writes_made n sizes next else writes_made n sizes next + 1) }
+    ensures syncs { (n : ℕ) (sizes : List ℕ) (next : Next) → next ≢ Next.Idle
+        → syncs_made sizes (following n sizes next) ≡ (if is_sync next then syncs_made sizes next + 1 else syncs_made sizes next) }
+    ensures cost { (n : ℕ) (sizes : List ℕ)
+        → (writes_made n sizes (following n sizes Next.Commit) ≡ n + 2) × (syncs_made sizes (following n sizes Next.Commit) ≡ 2) }
     ensures committed { (n : ℕ) (sizes : List ℕ) → calls_made n sizes (following n sizes Next.Commit) ≡ n + 4 }
     ensures ended { (n : ℕ) (sizes : List ℕ) → 0 < length sizes → calls_made n sizes Next.Idle ≡ n + 5 + sum sizes + 2 * length sizes }
 {}
@@ -112,7 +121,8 @@ fn ask<D: Disk>(
     requires place { (staged_at room.now.items filled).place < length room.now.items }
     requires image { (i : ℕ) → next ≡ Next.Image i → i < length (staged_at room.now.items filled).numbers }
     requires carried { (j i : ℕ) → next ≡ Next.Home j i → (j ≤ filled) × (i < length (staged_at room.now.items j).numbers) }
-    requires home { (j i : ℕ) → next ≡ Next.Home j i → 4096 * home_place (length room.now.items) (slice_index (staged_at room.now.items j).numbers i) + 4096 ≤ (D.device disk.old).size }
+    requires home { (j i : ℕ) → next ≡ Next.Home j i
+        → 4096 * home_place (length room.now.items) (slice_index (staged_at room.now.items j).numbers i) + 4096 ≤ (D.device disk.old).size }
     requires gate { (j : ℕ) → next ≡ Next.CloseGate j → (j ≤ filled) × ((staged_at room.now.items j).place < length room.now.items) }
     ensures asked { IsAsked (call_at next (length room.now.items) (all_of (flight_in room.now.items filled true)) (staged_at room.now.items filled).place (staged_at room.now.items filled).descriptor (staged_at room.now.items filled).images) result (D.device disk.old) (D.device disk.new) }
     ensures memory { IfErr result (λ error. error ≡ DiskError.Memory → IsTrue (is_growing next D.write_grows D.sync_grows)) }
@@ -206,7 +216,8 @@ fn call_after(next: Next, room: &Vec<Segment>, filled: usize, is_last: bool) -> 
     requires there { filled < length room.now.items }
     requires few { length room.now.items ≤ 8 }
     requires within { IsWithin (length (staged_at room.now.items filled).numbers) (sizes_of (flight_in room.now.items filled is_last)) next }
-    ensures { result ≡ following (length (staged_at room.now.items filled).numbers) (sizes_of (flight_in room.now.items filled is_last)) next }
+    ensures { result ≡ following (length (staged_at room.now.items filled).numbers) (sizes_of (flight_in room.now.items filled is_last))
+        next }
 {
     match next {
         Next::Descriptor => Next::Image(0),

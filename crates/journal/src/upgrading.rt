@@ -24,7 +24,8 @@ impl<D: Disk> Journal<D> {
         requires ready { IsReady self.old }
         requires first { self.old.format ≡ 1 }
         ensures upgrades { Upgrades D.device self.old self.new result }
-        ensures memory { IfErr result (λ error. error ≡ JournalError.Memory → IsTrue D.sync_grows ⊎ (IsTrue D.write_grows × IsUnasked D.device self.old self.new)) }
+        ensures memory { IfErr result (λ error. error ≡ JournalError.Memory
+            → IsTrue D.sync_grows ⊎ (IsTrue D.write_grows × IsUnasked D.device self.old self.new)) }
     {
         match write_gate_of_format(&mut self.disk) {
             Ok(()) => {}

@@ -1,5 +1,6 @@
 -- What was read into memory, or taken into it, is a batch.
-use Rattle.std.proofs.Common.{◌≡◌, ◌<◌, ◌≤◌, ℕ, ◌*◌, IsTrue, List, [], length, get_or, take, sym, ◌∙◌, ap, subst, arith, length-take, zero-add}
+use Rattle.std.proofs.Common.{◌≡◌, ◌<◌, ◌≤◌, ℕ, ◌*◌, IsTrue, List, [], length, get_or, take, sym, ◌∙◌, ap, subst, arith, length-take}
+use Rattle.std.proofs.Common.{zero-add}
 use Rattle.std.specs.List.{All}
 use Rattle.disk.specs.Device.{Device}
 use Rattle.disk.proofs.Images.{length-part}
@@ -12,7 +13,9 @@ use Rattle.journal_segments.specs.Found.{AreLoaded, IsReadFrom}
 image_at : (n i : ℕ) (octets : List ℕ) → i < n → get_or (blocks_from 0 n octets) i [] ≡ block i octets
 image_at n i octets within = get_or-blocks_from 0 n i octets within ∙ ap (λ (k : ℕ). block k octets) (zero-add i)
 
-pub sound_of : (blocks number last : ℕ) (ns octets : List ℕ) → 1 ≤ length ns → length ns ≤ 512 → All (λ n. n < blocks) ns → 4096 * length ns ≤ length octets → IsSound blocks (record { number = number; last = last; numbers = ns; images = blocks_from 0 (length ns) octets })
+pub sound_of : (blocks number last : ℕ) (ns octets : List ℕ) → 1 ≤ length ns → length ns ≤ 512 → All (λ n. n < blocks) ns
+    → 4096 * length ns ≤ length octets
+    → IsSound blocks (record { number = number; last = last; numbers = ns; images = blocks_from 0 (length ns) octets })
 sound_of blocks number last ns octets some few below room = record {
   some = some;
   few = few;
@@ -23,9 +26,17 @@ sound_of blocks number last ns octets some few below room = record {
       ap length (image_at (length ns) i octets inside) ∙ length-part (4096 * i) 4096 octets (omega (arith, inside, room));
 }
 
-pub read_from : (device : Device) (blocks place count : ℕ) (descriptor numbers octets : List ℕ) → (length descriptor ≡ 4096) × (length numbers ≡ 512) × (length octets ≡ 2097152) → IsDescriptor blocks descriptor × (number_at 16 4 descriptor ≡ count) × (take count numbers ≡ listed descriptor)
-    → (IsTrue device.tells → descriptor ≡ block (descriptor_place place) device.content) → (IsTrue device.tells → AreLoaded place count device.content octets)
-    → IsReadFrom device blocks (record { place = place; descriptor = descriptor; numbers = take count numbers; images = blocks_from 0 (length (take count numbers)) octets })
+pub read_from : (device : Device) (blocks place count : ℕ) (descriptor numbers octets : List ℕ)
+    → (length descriptor ≡ 4096) × (length numbers ≡ 512) × (length octets ≡ 2097152)
+    → IsDescriptor blocks descriptor × (number_at 16 4 descriptor ≡ count) × (take count numbers ≡ listed descriptor)
+    → (IsTrue device.tells → descriptor ≡ block (descriptor_place place) device.content)
+    → (IsTrue device.tells → AreLoaded place count device.content octets)
+    → IsReadFrom device blocks (record {
+      place = place;
+      descriptor = descriptor;
+      numbers = take count numbers;
+      images = blocks_from 0 (length (take count numbers)) octets;
+    })
 read_from device blocks place count descriptor numbers octets room valid value images =
     let few : count ≤ 512 = omega (arith, valid.0.few, valid.1) in
     let size : length (take count numbers) ≡ count = omega (arith, length-take count numbers, room.1, few) in
@@ -36,13 +47,16 @@ read_from device blocks place count descriptor numbers octets room valid value i
         zero = valid.0.zero;
         lists = sym valid.2;
         distinct = subst (λ (l : List ℕ). AreDistinct l) (sym valid.2) valid.0.distinct;
-        sound = sound_of blocks (number_at 0 8 descriptor) (number_at 8 8 descriptor) (take count numbers) octets (omega (arith, valid.0.some, valid.1, size)) (omega (arith, few, size)) (subst (λ (l : List ℕ). All (λ n. n < blocks) l) (sym valid.2) valid.0.below) (omega (arith, size, few, room.2));
+        sound = sound_of blocks (number_at 0 8 descriptor) (number_at 8 8 descriptor) (take count numbers) octets
+            (omega (arith, valid.0.some, valid.1, size)) (omega (arith, few, size))
+            (subst (λ (l : List ℕ). All (λ n. n < blocks) l) (sym valid.2) valid.0.below) (omega (arith, size, few, room.2));
       };
       descriptor = valid.0;
       written = λ t. record {
         descriptor_is = sym (value t);
         images_are = λ i within.
-            let inside : i < length (take count numbers) = omega (arith, within, length-blocks_from 0 (length (take count numbers)) octets) in
+            let inside : i < length (take count numbers) =
+            omega (arith, within, length-blocks_from 0 (length (take count numbers)) octets) in
             images t i (omega (arith, inside, size)) ∙ sym (image_at (length (take count numbers)) i octets inside);
       };
     }

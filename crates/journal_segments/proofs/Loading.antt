@@ -1,5 +1,6 @@
 -- Reads that change nothing, one after the other.
-use Rattle.std.proofs.Common.{◌≡◌, inl, inr, ◌≤◌, ℕ, ◌+◌, ◌*◌, IsTrue, Bool, List, ◌++◌, length, get_or, take, drop, eqb, sym, ◌∙◌, ap, subst, arith}
+use Rattle.std.proofs.Common.{◌≡◌, inl, inr, ◌≤◌, ℕ, ◌+◌, ◌*◌, IsTrue, Bool, List, ◌++◌, length, get_or, take, drop, eqb, sym, ◌∙◌, ap}
+use Rattle.std.proofs.Common.{subst, arith}
 use Rattle.std.proofs.lemmas.List.{drop-drop}
 use Rattle.std.proofs.lemmas.Bool.{cases_eq}
 use Rattle.disk.specs.Device.{Device}
@@ -15,7 +16,8 @@ quiet_then a b c first second = record {
   tells = second.tells ∙ first.tells;
   later = omega (arith, first.later, second.later);
   writes = second.writes ∙ first.writes;
-  since = λ t time image before left. first.since t time image before (second.since (subst (λ (x : Bool). IsTrue x) (sym first.tells) t) time image (omega (arith, before, first.later)) left);
+  since = λ t time image before left. first.since t time image before
+      (second.since (subst (λ (x : Bool). IsTrue x) (sym first.tells) t) time image (omega (arith, before, first.later)) left);
   crash = λ t image left. first.crash t image (second.crash (subst (λ (x : Bool). IsTrue x) (sym first.tells) t) image left);
 }
 
@@ -26,10 +28,13 @@ still_then a b c quiet first second = record {
   syncs = second.syncs ∙ first.syncs;
 }
 
-pub loaded_more : (s i : ℕ) (x octets : List ℕ) → 4096 * image_place s i + 4096 ≤ length x → 4096 * i + 4096 ≤ length octets → AreLoaded s i x octets → AreLoaded s (i + 1) x (overwritten (4096 * i) (block (image_place s i) x) octets)
+pub loaded_more : (s i : ℕ) (x octets : List ℕ) → 4096 * image_place s i + 4096 ≤ length x → 4096 * i + 4096 ≤ length octets
+    → AreLoaded s i x octets → AreLoaded s (i + 1) x (overwritten (4096 * i) (block (image_place s i) x) octets)
 loaded_more s i x octets within room loaded k low = elim (cases_eq k i) [
-  | inl is ↦ subst (λ (m : ℕ). block (image_place s m) x ≡ block m (overwritten (4096 * i) (block (image_place s i) x) octets)) (sym is) (sym (block-overwritten i (block (image_place s i) x) octets whole fits))
-  | inr other ↦ loaded k (omega (arith, low, other)) ∙ sym ((overwritten_same i (block (image_place s i) x) octets (omega (arith, whole)) fits).same k other)
+  | inl is ↦ subst (λ (m : ℕ). block (image_place s m) x ≡ block m (overwritten (4096 * i) (block (image_place s i) x) octets)) (sym is)
+      (sym (block-overwritten i (block (image_place s i) x) octets whole fits))
+  | inr other ↦ loaded k (omega (arith, low, other))
+      ∙ sym ((overwritten_same i (block (image_place s i) x) octets (omega (arith, whole)) fits).same k other)
 ]
   where
     whole : length (block (image_place s i) x) ≡ 4096
@@ -42,10 +47,12 @@ loaded_more s i x octets within room loaded k low = elim (cases_eq k i) [
 pub gate_at : (s : ℕ) (x gate : List ℕ) → gate ≡ part (4096 * gate_place s) 1 x → eqb (get_or gate 0 0) 1 ≡ is_open s x
 gate_at s x gate is =
     ap (λ (l : List ℕ). eqb (get_or l 0 0) 1) is
-    ∙ ap (λ (n : ℕ). eqb n 1) (get_or-part (4096 * gate_place s) 1 x 0 0 (omega arith) ∙ sym (get_or-part (4096 * gate_place s) 4096 x 0 0 (omega arith)))
+    ∙ ap (λ (n : ℕ). eqb n 1) (get_or-part (4096 * gate_place s) 1 x 0 0 (omega arith)
+    ∙ sym (get_or-part (4096 * gate_place s) 4096 x 0 0 (omega arith)))
 
 -- a part that was read into its place
-pub put_block : (a k : ℕ) (xs ys whole : List ℕ) → ys ≡ whole → a + k ≡ a + length whole → take a xs ++ (ys ++ drop k (drop a xs)) ≡ overwritten a whole xs
+pub put_block : (a k : ℕ) (xs ys whole : List ℕ) → ys ≡ whole → a + k ≡ a + length whole
+    → take a xs ++ (ys ++ drop k (drop a xs)) ≡ overwritten a whole xs
 put_block a k xs ys whole is size =
     ap (λ (l : List ℕ). take a xs ++ (l ++ drop k (drop a xs))) is
     ∙ ap (λ (l : List ℕ). take a xs ++ (whole ++ l)) (drop-drop k a xs ∙ ap (λ (n : ℕ). drop n xs) size)

@@ -13,7 +13,10 @@ pub record Staged : Type 0 where
 
 -- the batch that it holds
 abbrev pub held_as : Staged → Held
-held_as s = record { place = s.place; batch = record { number = number_at 0 8 s.descriptor; last = number_at 8 8 s.descriptor; numbers = s.numbers; images = s.images } }
+held_as s = record {
+  place = s.place;
+  batch = record { number = number_at 0 8 s.descriptor; last = number_at 8 8 s.descriptor; numbers = s.numbers; images = s.images };
+}
 
 -- the number of that batch
 abbrev pub number_of : Staged → ℕ

@@ -13,7 +13,8 @@ pub fn lay_over(room: &Vec<Segment>, n: usize, block: u64, octets: &mut [u8])
     requires whole { length octets.old ≡ 4096 }
     requires full { (t : ℕ) → t < n → length (staged_at room.now.items t).images ≡ length (staged_at room.now.items t).numbers }
     ensures whole { length octets.new ≡ 4096 }
-    ensures laid { (blocks : List (List ℕ)) → block < length blocks → slice_index_or blocks block [] ≡ octets.old → slice_index_or (all_laid_over blocks (batches_of (map held_as (take n room.now.items)))) block [] ≡ octets.new }
+    ensures laid { (blocks : List (List ℕ)) → block < length blocks → slice_index_or blocks block [] ≡ octets.old
+        → slice_index_or (all_laid_over blocks (batches_of (map held_as (take n room.now.items)))) block [] ≡ octets.new }
 {
     for i in 0..n {
         lay_image(&room[i], block, octets);
@@ -25,7 +26,8 @@ fn lay_image(segment: &Segment, block: u64, octets: &mut [u8])
     requires whole { length octets.old ≡ 4096 }
     requires full { length segment.now.images ≡ length segment.now.numbers }
     ensures whole { length octets.new ≡ 4096 }
-    ensures laid { (blocks : List (List ℕ)) → block < length blocks → slice_index_or blocks block [] ≡ octets.old → slice_index_or (laid_over blocks segment.now.numbers segment.now.images) block [] ≡ octets.new }
+    ensures laid { (blocks : List (List ℕ)) → block < length blocks → slice_index_or blocks block [] ≡ octets.old
+        → slice_index_or (laid_over blocks segment.now.numbers segment.now.images) block [] ≡ octets.new }
 {
     for i in 0..segment.count() {
         if u64::from(segment.number(i)) == block {

@@ -2,7 +2,8 @@
 
 ghost use Rattle.std.specs.Prelude.{◌^◌, OnOk, IfOk, IfErr, IsErrOf, take, IsTrue, ◌≡◌, ◌≢◌, ◌+◌, ◌*◌, ◌<◌, ◌≤◌, length};
 ghost use Rattle.disk.specs.Image.{overwritten, part};
-ghost use Rattle.model.specs.Volume.{IsDescriptor, IsSuperblock, is_open, number_at, block, listed, image_place, descriptor_place, gate_place};
+ghost use Rattle.model.specs.Volume.{IsDescriptor, IsSuperblock, is_open, number_at, block, listed, image_place, descriptor_place};
+ghost use Rattle.model.specs.Volume.{gate_place};
 ghost use Rattle.journal_segments.specs.Found.{AreLoaded, IsQuiet, IsStill};
 
 use crate::SegmentError;
@@ -48,10 +49,12 @@ pub fn load_superblock<D: Disk>(
     ensures room { length superblock.new.items ≡ 4096 }
     ensures quiet { IsQuiet (D.device disk.old) (D.device disk.new) }
     ensures still { OnOk result (IsStill (D.device disk.old) (D.device disk.new)) }
-    ensures sizes { IfOk result (λ sizes. IsSuperblock superblock.new.items (D.device disk.old).size × (number_at 12 4 superblock.new.items ≡ sizes.blocks) × (number_at 16 4 superblock.new.items ≡ sizes.segments)) }
+    ensures sizes { IfOk result (λ sizes. IsSuperblock superblock.new.items (D.device disk.old).size
+        × (number_at 12 4 superblock.new.items ≡ sizes.blocks) × (number_at 16 4 superblock.new.items ≡ sizes.segments)) }
     ensures value { IsTrue (D.device disk.old).tells → OnOk result (superblock.new.items ≡ block 0 (D.device disk.old).content) }
     ensures fault { IsErrOf result SegmentError.Fault → (D.device disk.new).failures ≢ (D.device disk.old).failures }
-    ensures no_volume { IsErrOf result SegmentError.NotAVolume → IsTrue (D.device disk.old).tells → IsSuperblock (block 0 (D.device disk.old).content) (D.device disk.old).size → ⊥ }
+    ensures no_volume { IsErrOf result SegmentError.NotAVolume → IsTrue (D.device disk.old).tells
+        → IsSuperblock (block 0 (D.device disk.old).content) (D.device disk.old).size → ⊥ }
 {
     let size = disk.len();
     if size < 4096 {
@@ -89,7 +92,8 @@ fn load_image<D: Disk>(
     requires room { 4096 * i + 4096 ≤ length images.old }
     ensures quiet { IsQuiet (D.device disk.old) (D.device disk.new) }
     ensures still { OnOk result (IsStill (D.device disk.old) (D.device disk.new)) }
-    ensures value { IsTrue (D.device disk.old).tells → OnOk result (images.new ≡ overwritten (4096 * i) (block (image_place place i) (D.device disk.old).content) images.old) }
+    ensures value { IsTrue (D.device disk.old).tells
+        → OnOk result (images.new ≡ overwritten (4096 * i) (block (image_place place i) (D.device disk.old).content) images.old) }
     ensures cause { IfErr result (λ error. (error ≡ SegmentError.Fault) × ((D.device disk.new).failures ≢ (D.device disk.old).failures)) }
 {
     let at = BLOCK * i;
@@ -114,11 +118,15 @@ pub(crate) fn load_batch<D: Disk>(
     ensures room { (length descriptor.new.items ≡ 4096) × (length numbers.new.items ≡ 512) × (length images.new.items ≡ 2097152) }
     ensures quiet { IsQuiet (D.device disk.old) (D.device disk.new) }
     ensures still { OnOk result (IsStill (D.device disk.old) (D.device disk.new)) }
-    ensures valid { IfOk result (λ count. IsDescriptor blocks descriptor.new.items × (number_at 16 4 descriptor.new.items ≡ count) × (take count numbers.new.items ≡ listed descriptor.new.items)) }
-    ensures value { IsTrue (D.device disk.old).tells → OnOk result (descriptor.new.items ≡ block (descriptor_place place) (D.device disk.old).content) }
-    ensures images { IsTrue (D.device disk.old).tells → IfOk result (λ count. AreLoaded place count (D.device disk.old).content images.new.items) }
+    ensures valid { IfOk result (λ count. IsDescriptor blocks descriptor.new.items × (number_at 16 4 descriptor.new.items ≡ count)
+        × (take count numbers.new.items ≡ listed descriptor.new.items)) }
+    ensures value { IsTrue (D.device disk.old).tells
+        → OnOk result (descriptor.new.items ≡ block (descriptor_place place) (D.device disk.old).content) }
+    ensures images { IsTrue (D.device disk.old).tells
+        → IfOk result (λ count. AreLoaded place count (D.device disk.old).content images.new.items) }
     ensures fault { IsErrOf result SegmentError.Fault → (D.device disk.new).failures ≢ (D.device disk.old).failures }
-    ensures no_volume { IsErrOf result SegmentError.NotAVolume → IsTrue (D.device disk.old).tells → IsDescriptor blocks (block (descriptor_place place) (D.device disk.old).content) → ⊥ }
+    ensures no_volume { IsErrOf result SegmentError.NotAVolume → IsTrue (D.device disk.old).tells
+        → IsDescriptor blocks (block (descriptor_place place) (D.device disk.old).content) → ⊥ }
 {
     read_block(disk, descriptor_block(place), descriptor)?;
     match read_descriptor(descriptor.as_slice(), blocks, numbers) {

@@ -1,6 +1,7 @@
 //! A segment in memory.
 
-ghost use Rattle.std.specs.Prelude.{◌≡◌, ◌≢◌, ◌≤◌, ◌<◌, ◌+◌, ◌*◌, ◌++◌, IfOk, IsErrOf, IsTrue, OnOk, length, drop, slice_index, slice_index_or, []};
+ghost use Rattle.std.specs.Prelude.{◌≡◌, ◌≢◌, ◌≤◌, ◌<◌, ◌+◌, ◌*◌, ◌++◌, IfOk, IsErrOf, IsTrue, OnOk, length, drop, slice_index};
+ghost use Rattle.std.specs.Prelude.{slice_index_or, []};
 ghost use Rattle.model.specs.Volume.{IsDescriptor, block, descriptor_place, gate_place, number_at};
 ghost use Rattle.journal_segments.specs.Staged.{number_of};
 ghost use Rattle.journal_segments.specs.Found.{IsQuiet, IsReadFrom, IsStill, IsTaken};
@@ -137,7 +138,8 @@ impl Segment {
         ensures still { OnOk result (IsStill (D.device disk.old) (D.device disk.new)) }
         ensures read { OnOk result (IsReadFrom (D.device disk.old) blocks self.new) }
         ensures fault { IsErrOf result SegmentError.Fault → (D.device disk.new).failures ≢ (D.device disk.old).failures }
-        ensures no_volume { IsErrOf result SegmentError.NotAVolume → IsTrue (D.device disk.old).tells → IsDescriptor blocks (block (descriptor_place place) (D.device disk.old).content) → ⊥ }
+        ensures no_volume { IsErrOf result SegmentError.NotAVolume → IsTrue (D.device disk.old).tells
+            → IsDescriptor blocks (block (descriptor_place place) (D.device disk.old).content) → ⊥ }
     {
         self.place = place;
         let count = load_batch(

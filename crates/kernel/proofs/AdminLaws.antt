@@ -10,13 +10,15 @@ use Rattle.spool_files.specs.View.{SpoolView, Adds}
 use Rattle.spool_files.specs.Refusals.{expiry_refusal, group_refusal, has_number, is_full_for}
 use Rattle.spool_files.specs.declared.errors.AddError.TheVariants as add
 use Rattle.spool_files.specs.declared.errors.ExpireError.TheVariants as expire
-use Rattle.kernel.specs.Kernel.{Administers, Exists, Full, Halted, KernelView, LaterDirty, NotFound, Refusal, TooManySessions, admin_refusal_of, early_refusal, expire_refusal_of, first_failing, join_refusal, only_tested}
+use Rattle.kernel.specs.Kernel.{Administers, Exists, Full, Halted, KernelView, LaterDirty, NotFound, Refusal, TooManySessions}
+use Rattle.kernel.specs.Kernel.{admin_refusal_of, early_refusal, expire_refusal_of, first_failing, join_refusal, only_tested}
 use Rattle.seats.specs.Seats.{Seat}
 use Rattle.kernel.specs.Stored.{kernel_of}
 use Rattle.kernel.proofs.ExecLaws.{changed_dirties}
 
 -- a call that only tests answers `Ok` where no test fails
-pub passed : {E : Type 0} (as_error : Refusal → E) (refusal : Option Refusal) (done : Unit {0}) → Ok done ≡ only_tested as_error refusal → refusal ≡ None
+pub passed : {E : Type 0} (as_error : Refusal → E) (refusal : Option Refusal) (done : Unit {0}) → Ok done ≡ only_tested as_error refusal
+    → refusal ≡ None
 passed as_error None done is = refl
 passed as_error (Some refusal) done is = absurd (cc is)
 
@@ -42,7 +44,8 @@ early_first k c r is = go k.halted refl (nat_lt 256 (length k.dirty)) refl
 pub early_none : (k : KernelView) → early_refusal k ≡ None → (k.halted ≡ false) × (nat_lt 256 (length k.dirty) ≡ false)
 early_none k is = go k.halted refl (nat_lt 256 (length k.dirty)) refl
   where
-    go : (h : Bool) → k.halted ≡ h → (b : Bool) → nat_lt 256 (length k.dirty) ≡ b → (k.halted ≡ false) × (nat_lt 256 (length k.dirty) ≡ false)
+    go : (h : Bool) → k.halted ≡ h → (b : Bool) → nat_lt 256 (length k.dirty) ≡ b
+        → (k.halted ≡ false) × (nat_lt 256 (length k.dirty) ≡ false)
     go true halted b late = absurd (let some : Some Halted ≡ None = rw halted at is in cc some)
     go false halted true late = absurd (let some : Some LaterDirty ≡ None = rw (halted, late) at is in cc some)
     go false halted false late = (halted, late)
@@ -50,20 +53,25 @@ early_none k is = go k.halted refl (nat_lt 256 (length k.dirty)) refl
 pub few_dirty : (k : KernelView) → early_refusal k ≡ None → length k.dirty ≤ 256
 few_dirty k is = ltb-false 256 (length k.dirty) (early_none k is).1
 
-module _ (s : SpoolView) (d : ℕ) (f : Option ℕ) (h : Bool) (j : ℕ) (seats : List Seat) (name : Octets) (status : ℕ) (description : Octets) (moment : ℕ) (early : early_refusal (kernel_of s d f h j seats) ≡ None) where
+module _ (s : SpoolView) (d : ℕ) (f : Option ℕ) (h : Bool) (j : ℕ) (seats : List Seat) (name : Octets) (status : ℕ) (description : Octets)
+    (moment : ℕ) (early : early_refusal (kernel_of s d f h j seats) ≡ None) where
   abbrev was : KernelView
   was = kernel_of s d f h j seats
 
   abbrev c : Change
   c = Group name status description moment
 
-  by_tests : (here full : Bool) → is_here s.changes name ≡ here → is_full_for s c ≡ full → admin_refusal_of was c ≡ first_failing ((false, Halted) ∷ (false, LaterDirty) ∷ (here, Exists) ∷ (full, Full) ∷ [])
-  by_tests here full a b = λ i. first_failing (((early_none was early).0 i, Halted) ∷ ((early_none was early).1 i, LaterDirty) ∷ (a i, Exists) ∷ (b i, Full) ∷ [])
+  by_tests : (here full : Bool) → is_here s.changes name ≡ here → is_full_for s c ≡ full
+      → admin_refusal_of was c ≡ first_failing ((false, Halted) ∷ (false, LaterDirty) ∷ (here, Exists) ∷ (full, Full) ∷ [])
+  by_tests here full a b = λ i. first_failing
+      (((early_none was early).0 i, Halted) ∷ ((early_none was early).1 i, LaterDirty) ∷ (a i, Exists) ∷ (b i, Full) ∷ [])
 
   pub exists_when : group_refusal s name c ≡ Some add.Exists → admin_refusal_of was c ≡ Some Exists
   exists_when = go (is_here s.changes name) (is_full_for s c) refl refl
     where
-      go : (here full : Bool) → is_here s.changes name ≡ here → is_full_for s c ≡ full → (if here then Some add.Exists else if full then Some add.Full else None) ≡ Some add.Exists → admin_refusal_of was c ≡ Some Exists
+      go : (here full : Bool) → is_here s.changes name ≡ here → is_full_for s c ≡ full
+          → (if here then Some add.Exists else if full then Some add.Full else None) ≡ Some add.Exists
+          → admin_refusal_of was c ≡ Some Exists
       go true full a b is = by_tests true full a b
       go false true a b is = absurd (cc is)
       go false false a b is = absurd (cc is)
@@ -71,7 +79,8 @@ module _ (s : SpoolView) (d : ℕ) (f : Option ℕ) (h : Bool) (j : ℕ) (seats 
   pub full_when : group_refusal s name c ≡ Some add.Full → admin_refusal_of was c ≡ Some Full
   full_when = go (is_here s.changes name) (is_full_for s c) refl refl
     where
-      go : (here full : Bool) → is_here s.changes name ≡ here → is_full_for s c ≡ full → (if here then Some add.Exists else if full then Some add.Full else None) ≡ Some add.Full → admin_refusal_of was c ≡ Some Full
+      go : (here full : Bool) → is_here s.changes name ≡ here → is_full_for s c ≡ full
+          → (if here then Some add.Exists else if full then Some add.Full else None) ≡ Some add.Full → admin_refusal_of was c ≡ Some Full
       go true full a b is = absurd (cc is)
       go false true a b is = by_tests false true a b
       go false false a b is = absurd (cc is)
@@ -79,13 +88,15 @@ module _ (s : SpoolView) (d : ℕ) (f : Option ℕ) (h : Bool) (j : ℕ) (seats 
   pub none_when : group_refusal s name c ≡ None → admin_refusal_of was c ≡ None
   none_when = go (is_here s.changes name) (is_full_for s c) refl refl
     where
-      go : (here full : Bool) → is_here s.changes name ≡ here → is_full_for s c ≡ full → (if here then Some add.Exists else if full then Some add.Full else None) ≡ None → admin_refusal_of was c ≡ None
+      go : (here full : Bool) → is_here s.changes name ≡ here → is_full_for s c ≡ full
+          → (if here then Some add.Exists else if full then Some add.Full else None) ≡ None → admin_refusal_of was c ≡ None
       go true full a b is = absurd (cc is)
       go false true a b is = absurd (cc is)
       go false false a b is = by_tests false false a b
 
 module _ (s : SpoolView) (d : ℕ) (f : Option ℕ) (h : Bool) (j : ℕ) (seats : List Seat) (c : Change) where
-  pub administers : (s' : SpoolView) (serial : ℕ) → serial ≡ length s.changes + 1 → Adds s s' c → Administers (kernel_of s d f h j seats) (kernel_of s' d f h j seats) c serial
+  pub administers : (s' : SpoolView) (serial : ℕ) → serial ≡ length s.changes + 1 → Adds s s' c
+      → Administers (kernel_of s d f h j seats) (kernel_of s' d f h j seats) c serial
   administers s' serial is adds =
       record {
         serial_is = is;
@@ -94,26 +105,32 @@ module _ (s : SpoolView) (d : ℕ) (f : Option ℕ) (h : Bool) (j : ℕ) (seats 
         rest = (adds.host, adds.inodes, refl, refl, refl, refl, refl);
       }
 
-module _ (s : SpoolView) (d : ℕ) (f : Option ℕ) (h : Bool) (j : ℕ) (seats : List Seat) (group : Octets) (number : ℕ) (early : early_refusal (kernel_of s d f h j seats) ≡ None) where
+module _ (s : SpoolView) (d : ℕ) (f : Option ℕ) (h : Bool) (j : ℕ) (seats : List Seat) (group : Octets) (number : ℕ)
+    (early : early_refusal (kernel_of s d f h j seats) ≡ None) where
   by_expiry : (has full : Bool) → has_number s.changes group number ≡ has → is_full_for s (Expire group number) ≡ full
-      → expire_refusal_of (kernel_of s d f h j seats) (Expire group number) ≡ first_failing ((false, Halted) ∷ (false, LaterDirty) ∷ (not has, NotFound) ∷ (full, Full) ∷ [])
+      → expire_refusal_of (kernel_of s d f h j seats) (Expire group number)
+      ≡ first_failing ((false, Halted) ∷ (false, LaterDirty) ∷ (not has, NotFound) ∷ (full, Full) ∷ [])
   by_expiry has full a b =
       let now = early_none (kernel_of s d f h j seats) early in
       λ i. first_failing ((now.0 i, Halted) ∷ (now.1 i, LaterDirty) ∷ (not (a i), NotFound) ∷ (b i, Full) ∷ [])
 
-  pub not_found_when : expiry_refusal s group number ≡ Some expire.NotFound → expire_refusal_of (kernel_of s d f h j seats) (Expire group number) ≡ Some NotFound
+  pub not_found_when : expiry_refusal s group number ≡ Some expire.NotFound
+      → expire_refusal_of (kernel_of s d f h j seats) (Expire group number) ≡ Some NotFound
   not_found_when = go (has_number s.changes group number) (is_full_for s (Expire group number)) refl refl
     where
-      go : (has full : Bool) → has_number s.changes group number ≡ has → is_full_for s (Expire group number) ≡ full → (if has then (if full then Some expire.Full else None) else Some expire.NotFound) ≡ Some expire.NotFound
+      go : (has full : Bool) → has_number s.changes group number ≡ has → is_full_for s (Expire group number) ≡ full
+          → (if has then (if full then Some expire.Full else None) else Some expire.NotFound) ≡ Some expire.NotFound
           → expire_refusal_of (kernel_of s d f h j seats) (Expire group number) ≡ Some NotFound
       go true true a b is = absurd (cc is)
       go true false a b is = absurd (cc is)
       go false full a b is = by_expiry false full a b
 
-  pub no_room_when : expiry_refusal s group number ≡ Some expire.Full → expire_refusal_of (kernel_of s d f h j seats) (Expire group number) ≡ Some Full
+  pub no_room_when : expiry_refusal s group number ≡ Some expire.Full
+      → expire_refusal_of (kernel_of s d f h j seats) (Expire group number) ≡ Some Full
   no_room_when = go (has_number s.changes group number) (is_full_for s (Expire group number)) refl refl
     where
-      go : (has full : Bool) → has_number s.changes group number ≡ has → is_full_for s (Expire group number) ≡ full → (if has then (if full then Some expire.Full else None) else Some expire.NotFound) ≡ Some expire.Full
+      go : (has full : Bool) → has_number s.changes group number ≡ has → is_full_for s (Expire group number) ≡ full
+          → (if has then (if full then Some expire.Full else None) else Some expire.NotFound) ≡ Some expire.Full
           → expire_refusal_of (kernel_of s d f h j seats) (Expire group number) ≡ Some Full
       go true true a b is = by_expiry true true a b
       go true false a b is = absurd (cc is)
@@ -122,19 +139,22 @@ module _ (s : SpoolView) (d : ℕ) (f : Option ℕ) (h : Bool) (j : ℕ) (seats 
   pub expires_when : expiry_refusal s group number ≡ None → expire_refusal_of (kernel_of s d f h j seats) (Expire group number) ≡ None
   expires_when = go (has_number s.changes group number) (is_full_for s (Expire group number)) refl refl
     where
-      go : (has full : Bool) → has_number s.changes group number ≡ has → is_full_for s (Expire group number) ≡ full → (if has then (if full then Some expire.Full else None) else Some expire.NotFound) ≡ None
+      go : (has full : Bool) → has_number s.changes group number ≡ has → is_full_for s (Expire group number) ≡ full
+          → (if has then (if full then Some expire.Full else None) else Some expire.NotFound) ≡ None
           → expire_refusal_of (kernel_of s d f h j seats) (Expire group number) ≡ None
       go true true a b is = absurd (cc is)
       go true false a b is = by_expiry true false a b
       go false full a b is = absurd (cc is)
 
 -- the refusal of a change that was refused for no want of memory
-pub said : {E : Type 0} (memory e r : E) (refusal : Option E) → e ≡ r → (r ≡ memory → ⊥) → ((e ≡ memory) × (refusal ≡ None)) ⊎ (refusal ≡ Some e) → refusal ≡ Some r
+pub said : {E : Type 0} (memory e r : E) (refusal : Option E) → e ≡ r → (r ≡ memory → ⊥)
+    → ((e ≡ memory) × (refusal ≡ None)) ⊎ (refusal ≡ Some e) → refusal ≡ Some r
 said memory e r refusal is other (inl none) = absurd (other (sym is ∙ none.0))
 said memory e r refusal is other (inr told) = told ∙ ap Some is
 
 -- no test of a change that was refused for want of memory fails
-pub unsaid : {E : Type 0} (memory e : E) (refusal : Option E) → e ≡ memory → (refusal ≡ Some memory → ⊥) → ((e ≡ memory) × (refusal ≡ None)) ⊎ (refusal ≡ Some e) → refusal ≡ None
+pub unsaid : {E : Type 0} (memory e : E) (refusal : Option E) → e ≡ memory → (refusal ≡ Some memory → ⊥)
+    → ((e ≡ memory) × (refusal ≡ None)) ⊎ (refusal ≡ Some e) → refusal ≡ None
 unsaid memory e refusal is never (inl none) = none.1
 unsaid memory e refusal is never (inr told) = absurd (never (told ∙ ap Some is))
 

@@ -1,6 +1,8 @@
 -- What `exec` does, from its parts.
-use Rattle.std.proofs.Common.{◌≡◌, ◌≢◌, ◌⊎◌, inl, inr, ℕ, zero, suc, ◌≤◌, ◌<◌, Bool, true, false, List, [], ◌∷◌, length, refl, ap, sym, ◌∙◌, subst, arith, rules, set}
-use Rattle.std.specs.Prelude.{Option, Some, None, Result, Ok, Err, MatchResult, IsSome, is_none, is_some, not, ◌||◌, ◌&&◌, bytes_eq, nat_le, nat_lt, slice_get, slice_index_or, if◌then◌else◌}
+use Rattle.std.proofs.Common.{◌≡◌, ◌≢◌, ◌⊎◌, inl, inr, ℕ, zero, suc, ◌≤◌, ◌<◌, Bool, true, false, List, [], ◌∷◌, length, refl, ap, sym, ◌∙◌}
+use Rattle.std.proofs.Common.{subst, arith, rules, set}
+use Rattle.std.specs.Prelude.{Option, Some, None, Result, Ok, Err, MatchResult, IsSome, is_none, is_some, not, ◌||◌, ◌&&◌, bytes_eq, nat_le}
+use Rattle.std.specs.Prelude.{nat_lt, slice_get, slice_index_or, if◌then◌else◌}
 use Rattle.std.proofs.Math.Bool.{or-false, or-true}
 use Rattle.std.proofs.lemmas.Bool.{le-leb, leb-true, ltb-false}
 use Rattle.model.specs.declared.session.Answer.{Answer}
@@ -27,7 +29,8 @@ use Rattle.spool_files.specs.View as changed
 use Rattle.std.specs.Cmp.{both_ways}
 use Rattle.std.specs.List.{Contains}
 use Rattle.volume.specs.Volume.{Differs}
-use Rattle.kernel.specs.Kernel.{KernelView, Refusal, NoSession, LaterOut, LaterDirty, Dirties, Executed, Execs, Tested, exec_refusal, first_failing, is_block, is_dirty, mark_for, mode_at, seat_of, buffered}
+use Rattle.kernel.specs.Kernel.{KernelView, Refusal, NoSession, LaterOut, LaterDirty, Dirties, Executed, Execs, Tested, exec_refusal}
+use Rattle.kernel.specs.Kernel.{first_failing, is_block, is_dirty, mark_for, mode_at, seat_of, buffered}
 use Rattle.seats.specs.Seats.{Seat, answered_by, with_seat}
 use Rattle.seats.specs.Kept.{RiseFrom}
 use Rattle.kernel.specs.Serving.{Grows, answer_in, mark_in}
@@ -38,13 +41,17 @@ use Rattle.kernel.proofs.TakingLaws.{among, contained}
 
 -- ---- tests in their order
 
-pub tested_refused : {A E V : Type 0} (as_error : Refusal → E) (memory : E) (refusal : Option Refusal) (r : Refusal) (old new : V) (result : Result A E) (done : A → Type 0)
+pub tested_refused : {A E V : Type 0} (as_error : Refusal → E) (memory : E) (refusal : Option Refusal) (r : Refusal) (old new : V)
+    (result : Result A E) (done : A → Type 0)
     → refusal ≡ Some r → result ≡ Err (as_error r) → new ≡ old → Tested as_error memory refusal old new result done
 tested_refused as_error memory None r old new result done is said same = absurd (cc is)
-tested_refused as_error memory (Some q) r old new result done is said same = let this : r ≡ q = cc is in (said ∙ ap (λ (x : Refusal). Err (as_error x)) this, same)
+tested_refused as_error memory (Some q) r old new result done is said same = let this : r ≡ q = cc is in
+    (said ∙ ap (λ (x : Refusal). Err (as_error x)) this, same)
 
-pub tested_done : {A E V : Type 0} (as_error : Refusal → E) (memory : E) (refusal : Option Refusal) (old new : V) (result : Result A E) (done : A → Type 0)
-    → refusal ≡ None → MatchResult result done (λ error. (error ≡ memory) × (new ≡ old)) → Tested as_error memory refusal old new result done
+pub tested_done : {A E V : Type 0} (as_error : Refusal → E) (memory : E) (refusal : Option Refusal) (old new : V) (result : Result A E)
+    (done : A → Type 0)
+    → refusal ≡ None → MatchResult result done (λ error. (error ≡ memory) × (new ≡ old))
+    → Tested as_error memory refusal old new result done
 tested_done as_error memory None old new result done is h = h
 tested_done as_error memory (Some q) old new result done is h = absurd (cc is)
 
@@ -53,15 +60,18 @@ module _ (k : KernelView) (sid : ℕ) (m : Message) where
   by_tests a b c = first_failing ((a, NoSession) ∷ (b, LaterOut) ∷ (c, LaterDirty) ∷ [])
 
   pub no_session : mode_at k sid ≡ None → exec_refusal k sid m ≡ Some NoSession
-  no_session is = ap (λ (o : Option Mode). by_tests (is_none o) (nat_le 1048576 (buffered k sid)) (not k.halted && is_block m && nat_lt 256 (length k.dirty))) is
+  no_session is = ap (λ (o : Option Mode). by_tests (is_none o) (nat_le 1048576 (buffered k sid))
+      (not k.halted && is_block m && nat_lt 256 (length k.dirty))) is
 
   pub later_out : is_none (mode_at k sid) ≡ false → nat_le 1048576 (buffered k sid) ≡ true → exec_refusal k sid m ≡ Some LaterOut
   later_out there many = λ i. by_tests (there i) (many i) (not k.halted && is_block m && nat_lt 256 (length k.dirty))
 
-  pub later_dirty : is_none (mode_at k sid) ≡ false → nat_le 1048576 (buffered k sid) ≡ false → (not k.halted && is_block m && nat_lt 256 (length k.dirty)) ≡ true → exec_refusal k sid m ≡ Some LaterDirty
+  pub later_dirty : is_none (mode_at k sid) ≡ false → nat_le 1048576 (buffered k sid) ≡ false
+      → (not k.halted && is_block m && nat_lt 256 (length k.dirty)) ≡ true → exec_refusal k sid m ≡ Some LaterDirty
   later_dirty there few many = λ i. by_tests (there i) (few i) (many i)
 
-  pub none_fails : is_none (mode_at k sid) ≡ false → nat_le 1048576 (buffered k sid) ≡ false → (not k.halted && is_block m && nat_lt 256 (length k.dirty)) ≡ false → exec_refusal k sid m ≡ None
+  pub none_fails : is_none (mode_at k sid) ≡ false → nat_le 1048576 (buffered k sid) ≡ false
+      → (not k.halted && is_block m && nat_lt 256 (length k.dirty)) ≡ false → exec_refusal k sid m ≡ None
   none_fails there few clean = λ i. by_tests (there i) (few i) (clean i)
 
 -- ---- what is done
@@ -70,11 +80,13 @@ bytes_eq-same : (xs : Octets) → bytes_eq xs xs ≡ true
 bytes_eq-same xs = search (rules, bytes_eq-Decides)
 
 -- no change dirties nothing
-same_dirties : (s : SpoolView) (d : ℕ) (f : Option ℕ) (h : Bool) (j : ℕ) (seats seats' : List Seat) → Dirties (kernel_of s d f h j seats) (kernel_of s d f h j seats')
+same_dirties : (s : SpoolView) (d : ℕ) (f : Option ℕ) (h : Bool) (j : ℕ) (seats seats' : List Seat)
+    → Dirties (kernel_of s d f h j seats) (kernel_of s d f h j seats')
 same_dirties s d f h j seats seats' =
     record {
       size = refl;
-      exactly = λ k inside. sym (ap (λ (b : Bool). is_dirty (kernel_of s d f h j seats) k || not b) (bytes_eq-same (slice_index_or s.blocks k [])) ∙ or-false (is_dirty (kernel_of s d f h j seats) k));
+      exactly = λ k inside. sym (ap (λ (b : Bool). is_dirty (kernel_of s d f h j seats) k || not b)
+          (bytes_eq-same (slice_index_or s.blocks k [])) ∙ or-false (is_dirty (kernel_of s d f h j seats) k));
       few = omega arith;
     }
 
@@ -94,12 +106,14 @@ one_of true b is = inl refl
 one_of false b is = inr is
 
 -- the dirty blocks as the spool says them
-pub changed_dirties : (s s' : SpoolView) (d : ℕ) (f : Option ℕ) (h : Bool) (j : ℕ) (seats seats' : List Seat) → changed.Dirties s.blocks s'.blocks s.dirty s'.dirty
+pub changed_dirties : (s s' : SpoolView) (d : ℕ) (f : Option ℕ) (h : Bool) (j : ℕ) (seats seats' : List Seat)
+    → changed.Dirties s.blocks s'.blocks s.dirty s'.dirty
     → Dirties (kernel_of s d f h j seats) (kernel_of s' d f h j seats')
 changed_dirties s s' d f h j seats seats' is =
     record {
       size = is.size;
-      exactly = λ k inside. both_ways (is_dirty new k) (is_dirty old k || other k) (λ now. from k ((is.exactly k).0 (contained k s'.dirty now))) (λ said. among k s'.dirty ((is.exactly k).1 (to k said)));
+      exactly = λ k inside. both_ways (is_dirty new k) (is_dirty old k || other k)
+          (λ now. from k ((is.exactly k).0 (contained k s'.dirty now))) (λ said. among k s'.dirty ((is.exactly k).1 (to k said)));
       few = is.few;
     } where
       old : KernelView
@@ -113,7 +127,8 @@ changed_dirties s s' d f h j seats seats' is =
 
       from : (k : ℕ) → Contains s.dirty k ⊎ Differs s.blocks s'.blocks k → (is_dirty old k || other k) ≡ true
       from k (inl was) = ap (λ (b : Bool). b || other k) (among k s.dirty was)
-      from k (inr differs) = ap (λ (b : Bool). is_dirty old k || b) (is_other (slice_index_or s.blocks k []) (slice_index_or s'.blocks k []) differs) ∙ or-true (is_dirty old k)
+      from k (inr differs) = ap (λ (b : Bool). is_dirty old k || b)
+          (is_other (slice_index_or s.blocks k []) (slice_index_or s'.blocks k []) differs) ∙ or-true (is_dirty old k)
 
       to : (k : ℕ) → (is_dirty old k || other k) ≡ true → Contains s.dirty k ⊎ Differs s.blocks s'.blocks k
       to k said = elim (one_of (is_dirty old k) (other k) said) [
@@ -121,8 +136,11 @@ changed_dirties s s' d f h j seats seats' is =
         | inr now ↦ inr (differ (slice_index_or s.blocks k []) (slice_index_or s'.blocks k []) now)
       ]
 
-grown_dirties : (s s' : SpoolView) (d : ℕ) (f : Option ℕ) (h : Bool) (j : ℕ) (seats seats' : List Seat) (c : Option Change) → Grows s s' c → Dirties (kernel_of s d f h j seats) (kernel_of s' d f h j seats')
-grown_dirties s s' d f h j seats seats' None is = subst (λ (r : SpoolView). Dirties (kernel_of s d f h j seats) (kernel_of r d f h j seats')) (sym is) (same_dirties s d f h j seats seats')
+grown_dirties : (s s' : SpoolView) (d : ℕ) (f : Option ℕ) (h : Bool) (j : ℕ) (seats seats' : List Seat) (c : Option Change) → Grows s s' c
+    → Dirties (kernel_of s d f h j seats) (kernel_of s' d f h j seats')
+grown_dirties s s' d f h j seats seats' None is =
+    subst (λ (r : SpoolView). Dirties (kernel_of s d f h j seats) (kernel_of r d f h j seats')) (sym is)
+    (same_dirties s d f h j seats seats')
 grown_dirties s s' d f h j seats seats' (Some c) adds = changed_dirties s s' d f h j seats seats' adds.dirties
 
 grown_inodes : (s s' : SpoolView) (c : Option Change) → Grows s s' c → s'.inodes ≡ s.inodes
@@ -133,8 +151,10 @@ grown_still : (s s' : SpoolView) (c : Option Change) → Grows s s' c → c ≡ 
 grown_still s s' None is none = (ap (λ (r : SpoolView). r.blocks) is, ap (λ (r : SpoolView). r.dirty) is)
 grown_still s s' (Some c) adds none = absurd (cc none)
 
-pub executes : (s s' : SpoolView) (d : ℕ) (f : Option ℕ) (h : Bool) (j : ℕ) (seats : List Seat) (at : ℕ) (seat seat' : Seat) (m : Message) (t : ℕ) (mark : Mark) → RiseFrom 0 seats → slice_get seats at ≡ Some seat
-    → Grows s s' (answer_in s seat.session m t mark).change → seat' ≡ answered_by s.host s.changes m t mark seat → Executed (kernel_of s d f h j seats) (kernel_of s' d f h j (set seats at seat')) seat m t mark
+pub executes : (s s' : SpoolView) (d : ℕ) (f : Option ℕ) (h : Bool) (j : ℕ) (seats : List Seat) (at : ℕ) (seat seat' : Seat) (m : Message)
+    (t : ℕ) (mark : Mark) → RiseFrom 0 seats → slice_get seats at ≡ Some seat
+    → Grows s s' (answer_in s seat.session m t mark).change → seat' ≡ answered_by s.host s.changes m t mark seat
+    → Executed (kernel_of s d f h j seats) (kernel_of s' d f h j (set seats at seat')) seat m t mark
 executes s s' d f h j seats at seat seat' m t mark rise place grows is =
     let g = grown s s' (answer_in s seat.session m t mark).change grows in
     record {
@@ -159,7 +179,8 @@ set_same (suc at) (first ∷ seats) seat new is same = ap (λ (xs : List Seat). 
 
 -- ---- one session's message
 
-module _ (s : SpoolView) (d : ℕ) (f : Option ℕ) (h : Bool) (j : ℕ) (seats : List Seat) (at : ℕ) (seat : Seat) (sid : ℕ) (m : Message) (t : ℕ) (rise : RiseFrom 0 seats) (place : slice_get seats at ≡ Some seat) (number : seat.number ≡ sid) where
+module _ (s : SpoolView) (d : ℕ) (f : Option ℕ) (h : Bool) (j : ℕ) (seats : List Seat) (at : ℕ) (seat : Seat) (sid : ℕ) (m : Message)
+    (t : ℕ) (rise : RiseFrom 0 seats) (place : slice_get seats at ≡ Some seat) (number : seat.number ≡ sid) where
   abbrev was : KernelView
   was = kernel_of s d f h j seats
 
@@ -177,46 +198,68 @@ module _ (s : SpoolView) (d : ℕ) (f : Option ℕ) (h : Bool) (j : ℕ) (seats 
       buffered_by (Some x) = octets_held x.held
 
   -- a test fails
-  pub refused : (old : KernelView) (read : Seat) (r : Refusal) (e : ExecError) → was ≡ old → read ≡ seat → exec_refusal was sid m ≡ Some r → e ≡ of_exec r
-      → Tested of_exec Memory (exec_refusal old sid m) old (kernel_of s d f h j (set seats at read)) (Err e) (Execs old (kernel_of s d f h j (set seats at read)) sid m t)
+  pub refused : (old : KernelView) (read : Seat) (r : Refusal) (e : ExecError) → was ≡ old → read ≡ seat → exec_refusal was sid m ≡ Some r
+      → e ≡ of_exec r
+      → Tested of_exec Memory (exec_refusal old sid m) old (kernel_of s d f h j (set seats at read)) (Err e)
+      (Execs old (kernel_of s d f h j (set seats at read)) sid m t)
   refused old read r e v same fails error =
       let new : KernelView = kernel_of s d f h j (set seats at read) in
       subst (λ (o : KernelView). Tested of_exec Memory (exec_refusal o sid m) o new (Err e) (Execs o new sid m t)) v
-      (tested_refused of_exec Memory (exec_refusal was sid m) r was new (Err e) (Execs was new sid m t) fails (ap (λ (x : ExecError). Err x) error) (ap (λ (xs : List Seat). kernel_of s d f h j xs) (set_same at seats seat read place same)))
+      (tested_refused of_exec Memory (exec_refusal was sid m) r was new (Err e) (Execs was new sid m t) fails
+      (ap (λ (x : ExecError). Err x) error) (ap (λ (xs : List Seat). kernel_of s d f h j xs) (set_same at seats seat read place same)))
 
   -- memory is refused
   pub out_of_memory : (old : KernelView) (s' : SpoolView) (read : Seat) → was ≡ old → read ≡ seat → s' ≡ s → exec_refusal was sid m ≡ None
-      → Tested of_exec Memory (exec_refusal old sid m) old (kernel_of s' d f h j (set seats at read)) (Err Memory) (Execs old (kernel_of s' d f h j (set seats at read)) sid m t)
+      → Tested of_exec Memory (exec_refusal old sid m) old (kernel_of s' d f h j (set seats at read)) (Err Memory)
+      (Execs old (kernel_of s' d f h j (set seats at read)) sid m t)
   out_of_memory old s' read v same spool passes =
       let new : KernelView = kernel_of s' d f h j (set seats at read) in
       subst (λ (o : KernelView). Tested of_exec Memory (exec_refusal o sid m) o new (Err Memory) (Execs o new sid m t)) v
-      (tested_done of_exec Memory (exec_refusal was sid m) was new (Err Memory) (Execs was new sid m t) passes (refl, λ i. kernel_of (spool i) d f h j (set_same at seats seat read place same i)))
+      (tested_done of_exec Memory (exec_refusal was sid m) was new (Err Memory) (Execs was new sid m t) passes (
+        refl,
+        λ i. kernel_of (spool i) d f h j (set_same at seats seat read place same i),
+      ))
 
   -- the message is served
-  pub done : (old : KernelView) (s' : SpoolView) (seat' : Seat) (answered : Option Mode × Mark) → was ≡ old → exec_refusal was sid m ≡ None → answered.1 ≡ mark_for was seat.session m t
-      → Grows s s' (answer_in s seat.session m t answered.1).change → seat' ≡ answered_by s.host s.changes m t answered.1 seat → answered.0 ≡ mode_of seat'.session.awaits
-      → Tested of_exec Memory (exec_refusal old sid m) old (kernel_of s' d f h j (set seats at seat')) (Ok answered) (Execs old (kernel_of s' d f h j (set seats at seat')) sid m t)
+  pub done : (old : KernelView) (s' : SpoolView) (seat' : Seat) (answered : Option Mode × Mark) → was ≡ old → exec_refusal was sid m ≡ None
+      → answered.1 ≡ mark_for was seat.session m t
+      → Grows s s' (answer_in s seat.session m t answered.1).change → seat' ≡ answered_by s.host s.changes m t answered.1 seat
+      → answered.0 ≡ mode_of seat'.session.awaits
+      → Tested of_exec Memory (exec_refusal old sid m) old (kernel_of s' d f h j (set seats at seat')) (Ok answered)
+      (Execs old (kernel_of s' d f h j (set seats at seat')) sid m t)
   done old s' seat' answered v passes marked grows is next =
       let new : KernelView = kernel_of s' d f h j (set seats at seat') in
       let same : seat'.number ≡ seat.number = ap (λ (x : Seat). x.number) is in
       let read = mode_found new at seat' (RiseFrom-set 0 at seats seat seat' rise place same) (set_get at seats seat seat' place) in
       subst (λ (o : KernelView). Tested of_exec Memory (exec_refusal o sid m) o new (Ok answered) (Execs o new sid m t)) v
       (tested_done of_exec Memory (exec_refusal was sid m) was new (Ok answered) (Execs was new sid m t) passes
-      (record { seat = seat; is_there = there; mark_is = marked; executed = executes s s' d f h j seats at seat seat' m t answered.1 rise place grows is; reads_next = next ∙ (sym read ∙ ap (mode_at new) (same ∙ number)) }))
+      (record {
+        seat = seat;
+        is_there = there;
+        mark_is = marked;
+        executed = executes s s' d f h j seats at seat seat' m t answered.1 rise place grows is;
+        reads_next = next ∙ (sym read ∙ ap (mode_at new) (same ∙ number));
+      }))
 
 -- the mark, where the kernel is halted and where it is not
-pub stopped_mark : (s : SpoolView) (d : ℕ) (f : Option ℕ) (h : Bool) (j : ℕ) (seats : List Seat) (x : Session) (m : Message) (t : ℕ) → h ≡ true → mark.Stopped ≡ mark_for (kernel_of s d f h j seats) x m t
+pub stopped_mark : (s : SpoolView) (d : ℕ) (f : Option ℕ) (h : Bool) (j : ℕ) (seats : List Seat) (x : Session) (m : Message) (t : ℕ)
+    → h ≡ true → mark.Stopped ≡ mark_for (kernel_of s d f h j seats) x m t
 stopped_mark s d f h j seats x m t is =
-    sym (ap (λ (b : Bool). if b then mark.Stopped else if is_long s.host s.changes x m then mark.Long else if is_full (length s.blocks) s.inodes s.changes (answer_in s x m t mark.Served).change then mark.Full else mark.Served) is)
+    sym (ap (λ (b : Bool). if b then mark.Stopped else if is_long s.host s.changes x m then mark.Long else if is_full
+    (length s.blocks) s.inodes s.changes (answer_in s x m t mark.Served).change then mark.Full else mark.Served) is)
 
-room_is : (blocks inodes : ℕ) (S : Spool) (change : Option Change) → lacks_room_for (λ c. is_full blocks inodes S (Some c)) change ≡ is_full blocks inodes S change
+room_is : (blocks inodes : ℕ) (S : Spool) (change : Option Change)
+    → lacks_room_for (λ c. is_full blocks inodes S (Some c)) change ≡ is_full blocks inodes S change
 room_is blocks inodes S None = refl
 room_is blocks inodes S (Some c) = refl
 
-pub served_mark : (s : SpoolView) (d : ℕ) (f : Option ℕ) (h : Bool) (j : ℕ) (seats : List Seat) (x : Session) (m : Message) (t : ℕ) → h ≡ false → mark_in s x m t ≡ mark_for (kernel_of s d f h j seats) x m t
+pub served_mark : (s : SpoolView) (d : ℕ) (f : Option ℕ) (h : Bool) (j : ℕ) (seats : List Seat) (x : Session) (m : Message) (t : ℕ)
+    → h ≡ false → mark_in s x m t ≡ mark_for (kernel_of s d f h j seats) x m t
 served_mark s d f h j seats x m t is =
-    ap (λ (b : Bool). if is_long s.host s.changes x m then mark.Long else if b then mark.Full else mark.Served) (room_is (length s.blocks) s.inodes s.changes (answer_in s x m t mark.Served).change)
-    ∙ sym (ap (λ (b : Bool). if b then mark.Stopped else if is_long s.host s.changes x m then mark.Long else if is_full (length s.blocks) s.inodes s.changes (answer_in s x m t mark.Served).change then mark.Full else mark.Served) is)
+    ap (λ (b : Bool). if is_long s.host s.changes x m then mark.Long else if b then mark.Full else mark.Served)
+    (room_is (length s.blocks) s.inodes s.changes (answer_in s x m t mark.Served).change)
+    ∙ sym (ap (λ (b : Bool). if b then mark.Stopped else if is_long s.host s.changes x m then mark.Long else if is_full
+    (length s.blocks) s.inodes s.changes (answer_in s x m t mark.Served).change then mark.Full else mark.Served) is)
 
 -- a session that is told that the service ends changes nothing
 pub stopped_stays : (s : SpoolView) (x : Session) (m : Message) (t : ℕ) → Grows s s (answer_in s x m t mark.Stopped).change
@@ -244,13 +287,18 @@ leb-not a b lt = go (nat_le a b) refl
     go false is = is
 
 pub stopped_changes_nothing : (s : SpoolView) (x : Session) (m : Message) (t : ℕ) → IsSome (answer_in s x m t mark.Stopped).change → ⊥
-stopped_changes_nothing s x m t some = let none = ap (λ (a : Answer). is_some a.change) (stopped_answer s.host s.changes x m t) in cc (some, none)
+stopped_changes_nothing s x m t some = let none = ap (λ (a : Answer). is_some a.change) (stopped_answer s.host s.changes x m t) in
+    cc (some, none)
 
-pub stopped_mode : (s : SpoolView) (m : Message) (t : ℕ) (before after : Seat) → after ≡ answered_by s.host s.changes m t mark.Stopped before → None ≡ mode_of after.session.awaits
-stopped_mode s m t before after is = sym (ap (λ (x : Seat). mode_of x.session.awaits) is ∙ ap (λ (a : Answer). mode_of a.next.awaits) (stopped_answer s.host s.changes before.session m t))
+pub stopped_mode : (s : SpoolView) (m : Message) (t : ℕ) (before after : Seat)
+    → after ≡ answered_by s.host s.changes m t mark.Stopped before → None ≡ mode_of after.session.awaits
+stopped_mode s m t before after is =
+    sym (ap (λ (x : Seat). mode_of x.session.awaits) is
+    ∙ ap (λ (a : Answer). mode_of a.next.awaits) (stopped_answer s.host s.changes before.session m t))
 
 -- where an article comes, there are few dirty blocks
-pub room_for : (s : SpoolView) (x : Session) (m : Message) (t : ℕ) (mark : Mark) → (is_block m && nat_lt 256 (length s.dirty)) ≡ false → IsSome (answer_in s x m t mark).change → length s.dirty ≤ 256
+pub room_for : (s : SpoolView) (x : Session) (m : Message) (t : ℕ) (mark : Mark) → (is_block m && nat_lt 256 (length s.dirty)) ≡ false
+    → IsSome (answer_in s x m t mark).change → length s.dirty ≤ 256
 room_for s x m t mark early some = go (is_block m) (nat_lt 256 (length s.dirty)) refl refl early
   where
     go : (a b : Bool) → is_block m ≡ a → nat_lt 256 (length s.dirty) ≡ b → (a && b) ≡ false → length s.dirty ≤ 256

@@ -50,7 +50,11 @@ pub record Grown (s s' : SpoolView) (more : List Change) : Type 0 where
   pub changes : s'.changes ≡ s.changes ++ more
 
 pub grown : (s s' : SpoolView) (c : Option Change) → Grows s s' c → Grown s s' (option_to_list c)
-grown s s' None is = record { host = ap (λ (r : SpoolView). r.host) is; changes = ap (λ (r : SpoolView). r.changes) is ∙ sym (append-nil s.changes) }
+grown s s' None is = record {
+  host = ap (λ (r : SpoolView). r.host) is;
+  changes = ap (λ (r : SpoolView). r.changes) is
+      ∙ sym (append-nil s.changes);
+}
 grown s s' (Some c) adds = record { host = adds.host; changes = adds.changes }
 
 flying_more : (f : Option ℕ) (d n m : ℕ) → n ≤ m → IfSome f (λ last. (d ≤ last) × (last ≤ n)) → IfSome f (λ last. (d ≤ last) × (last ≤ m))
@@ -58,17 +62,27 @@ flying_more None d n m le h = tt
 flying_more (Some last) d n m le h = (h.0, omega (arith, h.1))
 
 -- no block behind the last is dirty
-all_below : (s s' : SpoolView) → Dirties s.blocks s'.blocks s.dirty s'.dirty → All (λ n. n < length s.blocks) s.dirty → All (λ n. n < length s'.blocks) s'.dirty
-all_below s s' dirties below = All-from_get_or (λ n. n < length s'.blocks) s'.dirty 0 (λ i low. at (get_or s'.dirty i 0) ((dirties.exactly (get_or s'.dirty i 0)).0 (i, low, get_or_default s'.dirty i (get_or s'.dirty i 0) 0 low))) where
-  at : (k : ℕ) → Contains s.dirty k ⊎ Differs s.blocks s'.blocks k → k < length s'.blocks
-  at k (inl was) = omega (arith, dirties.size, subst (λ n. n < length s.blocks) (get_or_default s.dirty was.0 0 k was.1 ∙ was.2) (All-get_or (λ n. n < length s.blocks) s.dirty was.0 0 was.1 below))
-  at k (inr differs) = elim (cases_lt k (length s'.blocks)) [
-    | inl low ↦ low
-    | inr high ↦ absurd (differs (get_or_past s.blocks k [] (omega (arith, high, dirties.size)) ∙ sym (get_or_past s'.blocks k [] (omega (arith, high)))))
-  ]
+all_below : (s s' : SpoolView) → Dirties s.blocks s'.blocks s.dirty s'.dirty → All (λ n. n < length s.blocks) s.dirty
+    → All (λ n. n < length s'.blocks) s'.dirty
+all_below s s' dirties below = All-from_get_or (λ n. n < length s'.blocks) s'.dirty 0
+    (λ i low. at (get_or s'.dirty i 0)
+    ((dirties.exactly (get_or s'.dirty i 0)).0 (i, low, get_or_default s'.dirty i (get_or s'.dirty i 0) 0 low))) where
+      at : (k : ℕ) → Contains s.dirty k ⊎ Differs s.blocks s'.blocks k → k < length s'.blocks
+      at k (inl was) = omega (
+        arith,
+        dirties.size,
+        subst (λ n. n < length s.blocks) (get_or_default s.dirty was.0 0 k was.1
+            ∙ was.2) (All-get_or (λ n. n < length s.blocks) s.dirty was.0 0 was.1 below),
+      )
+      at k (inr differs) = elim (cases_lt k (length s'.blocks)) [
+        | inl low ↦ low
+        | inr high ↦ absurd (differs (get_or_past s.blocks k [] (omega (arith, high, dirties.size))
+            ∙ sym (get_or_past s'.blocks k [] (omega (arith, high)))))
+      ]
 
 -- all but the sessions, after a change or none
-pub kept_grown : (s s' : SpoolView) (d : ℕ) (f : Option ℕ) (halted : Bool) (j : ℕ) (seats : List Seat) (c : Option Change) → (IsSome c → length s.dirty ≤ 256) → (IsSome c → IsSpool s') → Grows s s' c
+pub kept_grown : (s s' : SpoolView) (d : ℕ) (f : Option ℕ) (halted : Bool) (j : ℕ) (seats : List Seat) (c : Option Change)
+    → (IsSome c → length s.dirty ≤ 256) → (IsSome c → IsSpool s') → Grows s s' c
     → IsKept (kernel_of s d f halted j seats) → IsKept (kernel_of s' d f halted j seats)
 kept_grown s s' d f halted j seats None room sound is h = subst (λ (r : SpoolView). IsKept (kernel_of r d f halted j seats)) (sym is) h
 kept_grown s s' d f halted j seats (Some c) room sound adds h =
@@ -82,7 +96,8 @@ kept_grown s s' d f halted j seats (Some c) room sound adds h =
       below = all_below s s' adds.dirties h.below;
       distinct = adds.dirties.distinct;
       few_seats = h.few_seats;
-      seats = subst (λ (p : Octets × Spool). All (IsSeat p.0 p.1 j) seats) (λ i. (sym adds.host i, sym adds.changes i)) (seats_more s.host s.changes (c ∷ []) j seats h.seats);
+      seats = subst (λ (p : Octets × Spool). All (IsSeat p.0 p.1 j) seats) (λ i. (sym adds.host i, sym adds.changes i))
+          (seats_more s.host s.changes (c ∷ []) j seats h.seats);
       rising = h.rising;
     }
 
@@ -96,18 +111,30 @@ filled : (xs : Octets) → xs ≢ [] → 0 < length xs
 filled [] h = absurd (h refl)
 filled (x ∷ xs) h = omega arith
 
-pub kept_served : (s s' : SpoolView) (d : ℕ) (f : Option ℕ) (halted : Bool) (j : ℕ) (seats : List Seat) (at : ℕ) (seat seat' : Seat) (m : Message) (t : ℕ) (mark : Mark)
-    → slice_get seats at ≡ Some seat → IsSome (mode_of seat.session.awaits) → (IsSome (answer_in s seat.session m t mark).change → length s.dirty ≤ 256) → (IsSome (answer_in s seat.session m t mark).change → IsSpool s') → Grows s s' (answer_in s seat.session m t mark).change
-    → seat' ≡ answered_by s.host s.changes m t mark seat → IsKept (kernel_of s d f halted j seats) → IsKept (kernel_of s' d f halted j (set seats at seat'))
+pub kept_served : (s s' : SpoolView) (d : ℕ) (f : Option ℕ) (halted : Bool) (j : ℕ) (seats : List Seat) (at : ℕ) (seat seat' : Seat)
+    (m : Message) (t : ℕ) (mark : Mark)
+    → slice_get seats at ≡ Some seat → IsSome (mode_of seat.session.awaits)
+    → (IsSome (answer_in s seat.session m t mark).change → length s.dirty ≤ 256)
+    → (IsSome (answer_in s seat.session m t mark).change → IsSpool s') → Grows s s' (answer_in s seat.session m t mark).change
+    → seat' ≡ answered_by s.host s.changes m t mark seat → IsKept (kernel_of s d f halted j seats)
+    → IsKept (kernel_of s' d f halted j (set seats at seat'))
 kept_served s s' d f halted j seats at seat seat' m t mark place awaited room sound grows is h =
     let k = kept_grown s s' d f halted j seats (answer_in s seat.session m t mark).change room sound grows h in
     let g = grown s s' (answer_in s seat.session m t mark).change grows in
     let was = all_at (IsSeat s.host s.changes j) at seats seat h.seats place in
     let full = filled (answer_in s seat.session m t mark).reply ((lawful s.host).replies s.changes seat.session m t mark) in
     let outputs = SeatIsKept-answered s.host s.changes seat.session m t mark seat.given seat.held awaited full was.outputs in
-    let now : IsSeat s.host (s.changes ++ option_to_list (answer_in s seat.session m t mark).change) j (answered_by s.host s.changes m t mark seat) =
-    record { outputs = outputs; awaits = some_awaits seat.held _ _; lawful = session_stays s.host s.changes seat.session m t mark was.lawful; some = was.some; spent = was.spent } in
-    let here : IsSeat s'.host s'.changes j seat' = subst (λ (p : Octets × Spool × Seat). IsSeat p.0 p.1 j p.2) (λ i. (sym g.host i, sym g.changes i, sym is i)) now in
+    let now : IsSeat s.host (s.changes ++ option_to_list (answer_in s seat.session m t mark).change) j
+    (answered_by s.host s.changes m t mark seat) =
+    record {
+      outputs = outputs;
+      awaits = some_awaits seat.held _ _;
+      lawful = session_stays s.host s.changes seat.session m t mark was.lawful;
+      some = was.some;
+      spent = was.spent;
+    } in
+    let here : IsSeat s'.host s'.changes j seat' =
+    subst (λ (p : Octets × Spool × Seat). IsSeat p.0 p.1 j p.2) (λ i. (sym g.host i, sym g.changes i, sym is i)) now in
     record {
       cache = k.cache;
       durable = k.durable;
@@ -126,8 +153,10 @@ no_block (Block block) is text same = cc is
 no_block TooLong is text same = cc same
 
 -- only a block makes a change
-pub only_blocks_change : (s : SpoolView) (x : Session) (m : Message) (t : ℕ) (mark : Mark) → is_block m ≡ false → IsSome (answer_in s x m t mark).change → ⊥
-only_blocks_change s x m t mark other some = let none = its_changes s.host s.changes x m t mark (no_block m other) in cc (some, ap (λ (o : Option Change). is_some o) none)
+pub only_blocks_change : (s : SpoolView) (x : Session) (m : Message) (t : ℕ) (mark : Mark) → is_block m ≡ false
+    → IsSome (answer_in s x m t mark).change → ⊥
+only_blocks_change s x m t mark other some = let none = its_changes s.host s.changes x m t mark (no_block m other) in
+    cc (some, ap (λ (o : Option Change). is_some o) none)
 
 -- ---- join, leave, take_ready
 
@@ -135,7 +164,17 @@ only_blocks_change s x m t mark other some = let none = its_changes s.host s.cha
 new_is_kept : (host : Octets) (S : Spool) (j : ℕ) → IsSeat host S (j + 1) (new_seat host (j + 1))
 new_is_kept host S j =
     record {
-      outputs = inl (0, record { cut_within = filled (greeting host) (lawful host).greets; octets = refl; dependency = refl; ends = refl; first_output = refl }, refl);
+      outputs = inl (
+        0,
+        record {
+          cut_within = filled (greeting host) (lawful host).greets;
+          octets = refl;
+          dependency = refl;
+          ends = refl;
+          first_output = refl;
+        },
+        refl,
+      );
       awaits = tt;
       lawful = tt;
       some = omega arith;
@@ -146,16 +185,24 @@ length-filter-le : (p : Seat → Bool) (seats : List Seat) → length (filter p 
 length-filter-le p [] = omega arith
 length-filter-le p (seat ∷ seats) = go (p seat) (length-filter-le p seats)
   where
-    go : (b : Bool) → length (filter p seats) ≤ length seats → length (if b then seat ∷ filter p seats else filter p seats) ≤ suc (length seats)
+    go : (b : Bool) → length (filter p seats) ≤ length seats
+        → length (if b then seat ∷ filter p seats else filter p seats) ≤ suc (length seats)
     go true le = omega arith
     go false le = omega arith
 
-pub kept_joined : (s : SpoolView) (d : ℕ) (f : Option ℕ) (halted : Bool) (j : ℕ) (seats : List Seat) (new : Seat) → new ≡ new_seat s.host (j + 1) → length seats < 64
+pub kept_joined : (s : SpoolView) (d : ℕ) (f : Option ℕ) (halted : Bool) (j : ℕ) (seats : List Seat) (new : Seat)
+    → new ≡ new_seat s.host (j + 1) → length seats < 64
     → IsKept (kernel_of s d f halted j seats) → IsKept (kernel_of s d f halted (j + 1) (seats ++ new ∷ []))
 kept_joined s d f halted j seats new is few h =
     let this : IsSeat s.host s.changes (j + 1) new = subst (IsSeat s.host s.changes (j + 1)) (sym is) (new_is_kept s.host s.changes j) in
     let others : All (IsSeat s.host s.changes (j + 1)) seats =
-    All-weaker (IsSeat s.host s.changes j) (IsSeat s.host s.changes (j + 1)) (λ seat k. record { outputs = k.outputs; awaits = k.awaits; lawful = k.lawful; some = k.some; spent = omega (arith, k.spent) }) seats h.seats in
+    All-weaker (IsSeat s.host s.changes j) (IsSeat s.host s.changes (j + 1)) (λ seat k. record {
+      outputs = k.outputs;
+      awaits = k.awaits;
+      lawful = k.lawful;
+      some = k.some;
+      spent = omega (arith, k.spent);
+    }) seats h.seats in
     record {
       cache = h.cache;
       durable = h.durable;
@@ -165,10 +212,16 @@ kept_joined s d f halted j seats new is few h =
       distinct = h.distinct;
       few_seats = omega (arith, length-append seats (new ∷ []));
       seats = All-push (IsSeat s.host s.changes (j + 1)) seats new others this;
-      rising = RiseFrom-push 0 seats new h.rising (omega (arith, ap (λ (x : Seat). x.number) is)) (λ k seat place. omega (arith, (all_at (IsSeat s.host s.changes j) k seats seat h.seats place).spent, ap (λ (x : Seat). x.number) is));
+      rising = RiseFrom-push 0 seats new h.rising (omega (arith, ap (λ (x : Seat). x.number) is))
+          (λ k seat place. omega (
+            arith,
+            (all_at (IsSeat s.host s.changes j) k seats seat h.seats place).spent,
+            ap (λ (x : Seat). x.number) is,
+          ));
     }
 
-pub kept_left : (s : SpoolView) (d : ℕ) (f : Option ℕ) (halted : Bool) (j : ℕ) (seats : List Seat) (p : Seat → Bool) → IsKept (kernel_of s d f halted j seats) → IsKept (kernel_of s d f halted j (filter p seats))
+pub kept_left : (s : SpoolView) (d : ℕ) (f : Option ℕ) (halted : Bool) (j : ℕ) (seats : List Seat) (p : Seat → Bool)
+    → IsKept (kernel_of s d f halted j seats) → IsKept (kernel_of s d f halted j (filter p seats))
 kept_left s d f halted j seats p h =
     record {
       cache = h.cache;
@@ -182,7 +235,8 @@ kept_left s d f halted j seats p h =
       rising = RiseFrom-filter p 0 seats h.rising;
     }
 
-pub kept_released : (s : SpoolView) (d : ℕ) (f : Option ℕ) (halted : Bool) (j : ℕ) (seats : List Seat) → IsKept (kernel_of s d f halted j seats) → IsKept (kernel_of s d f halted j (ready d 65536 seats).seats)
+pub kept_released : (s : SpoolView) (d : ℕ) (f : Option ℕ) (halted : Bool) (j : ℕ) (seats : List Seat)
+    → IsKept (kernel_of s d f halted j seats) → IsKept (kernel_of s d f halted j (ready d 65536 seats).seats)
 kept_released s d f halted j seats h =
     record {
       cache = h.cache;
@@ -202,11 +256,15 @@ pub kept_gave : (s : SpoolView) (d : ℕ) (f : Option ℕ) (halted : Bool) (j : 
 kept_gave s d f halted j seats entries number h = go (find (λ (seat : Seat). seat.number == number) seats) refl
   where
     after : (seat : Seat) (at : ℕ) → slice_get seats at ≡ Some seat → (ended : Bool) → (given_of d entries seat).ended ≡ ended
-        → IsKept (kernel_of s d f halted j (if ended then filter (λ (other : Seat). not (other.number == seat.number)) seats else with_seat seats (seat_given seat (given_of d entries seat))))
+        → IsKept (kernel_of s d f halted j
+        (if ended then filter (λ (other : Seat). not (other.number == seat.number)) seats else with_seat seats
+        (seat_given seat (given_of d entries seat))))
     after seat at place true is = kept_left s d f halted j seats (λ (other : Seat). not (other.number == seat.number)) h
     after seat at place false is =
         let new : Seat = seat_given seat (given_of d entries seat) in
-        let this : IsSeat s.host s.changes j new = seat_gives s.host s.changes j d (65536 - octets_in entries) seat (all_at (IsSeat s.host s.changes j) at seats seat h.seats place) is in
+        let this : IsSeat s.host s.changes j new =
+        seat_gives s.host s.changes j d (65536 - octets_in entries) seat
+        (all_at (IsSeat s.host s.changes j) at seats seat h.seats place) is in
         subst (λ (xs : List Seat). IsKept (kernel_of s d f halted j xs)) (with_seat_set 0 at seats seat new h.rising place refl)
         (record {
           cache = h.cache;
@@ -220,7 +278,8 @@ kept_gave s d f halted j seats entries number h = go (find (λ (seat : Seat). se
           rising = RiseFrom-set 0 at seats seat new h.rising place refl;
         })
 
-    go : (o : Option Seat) → find (λ (seat : Seat). seat.number == number) seats ≡ o → IsKept (kernel_of s d f halted j (ready_by d entries seats o).seats)
+    go : (o : Option Seat) → find (λ (seat : Seat). seat.number == number) seats ≡ o
+        → IsKept (kernel_of s d f halted j (ready_by d entries seats o).seats)
     go None is = h
     go (Some seat) is = let place = find_place number seats seat is in after seat place.0 place.1 (given_of d entries seat).ended refl
 
@@ -236,17 +295,22 @@ abbrev mode_by : Option Seat → Option Mode
 mode_by None = None
 mode_by (Some seat) = mode_of seat.session.awaits
 
-pub mode_found : (k : KernelView) (at : ℕ) (seat : Seat) → RiseFrom 0 k.seats → slice_get k.seats at ≡ Some seat → mode_at k seat.number ≡ mode_of seat.session.awaits
+pub mode_found : (k : KernelView) (at : ℕ) (seat : Seat) → RiseFrom 0 k.seats → slice_get k.seats at ≡ Some seat
+    → mode_at k seat.number ≡ mode_of seat.session.awaits
 mode_found k at seat rise place = ap mode_by (find_at 0 at k.seats seat rise place)
 
 pub mode_missing : (k : KernelView) (sid : ℕ) → find (λ (s : Seat). s.number == sid) k.seats ≡ None → mode_at k sid ≡ None
 mode_missing k sid none = ap mode_by none
 
-pub filter_missing : (sid : ℕ) (seats : List Seat) → find (λ (s : Seat). s.number == sid) seats ≡ None → filter (λ (s : Seat). not (s.number == sid)) seats ≡ seats
+pub filter_missing : (sid : ℕ) (seats : List Seat) → find (λ (s : Seat). s.number == sid) seats ≡ None
+    → filter (λ (s : Seat). not (s.number == sid)) seats ≡ seats
 filter_missing sid [] none = refl
 filter_missing sid (first ∷ seats) none = go (λ h. filter_missing sid seats h) (first.number == sid) refl none
   where
-    go : (find (λ (s : Seat). s.number == sid) seats ≡ None → filter (λ (s : Seat). not (s.number == sid)) seats ≡ seats) → (b : Bool) → (first.number == sid) ≡ b → (if b then Some first else find (λ (s : Seat). s.number == sid) seats) ≡ None
-        → (if not (first.number == sid) then first ∷ filter (λ (s : Seat). not (s.number == sid)) seats else filter (λ (s : Seat). not (s.number == sid)) seats) ≡ first ∷ seats
+    go : (find (λ (s : Seat). s.number == sid) seats ≡ None → filter (λ (s : Seat). not (s.number == sid)) seats ≡ seats) → (b : Bool)
+        → (first.number == sid) ≡ b → (if b then Some first else find (λ (s : Seat). s.number == sid) seats) ≡ None
+        → (if not (first.number == sid) then first ∷ filter (λ (s : Seat). not (s.number == sid)) seats else filter
+        (λ (s : Seat). not (s.number == sid)) seats) ≡ first ∷ seats
     go later true is h = absurd (cc h)
-    go later false is h = ap (λ (b : Bool). if not b then first ∷ filter (λ (s : Seat). not (s.number == sid)) seats else filter (λ (s : Seat). not (s.number == sid)) seats) is ∙ ap (λ (ss : List Seat). first ∷ ss) (later h)
+    go later false is h = ap (λ (b : Bool). if not b then first ∷ filter (λ (s : Seat). not (s.number == sid)) seats else filter
+        (λ (s : Seat). not (s.number == sid)) seats) is ∙ ap (λ (ss : List Seat). first ∷ ss) (later h)

@@ -1,5 +1,7 @@
 -- The kernel as its callers see it, and what each call does.
-use Rattle.std.specs.Prelude.{All, bytes_eq, slice_index_or, ◌≡◌, ◌⊎◌, ℕ, ◌+◌, ◌-◌, ◌^◌, ◌≤◌, ◌<◌, Bool, true, false, not, ◌&&◌, ◌||◌, ◌==◌, nat_lt, nat_le, if◌then◌else◌, List, [], ◌∷◌, ◌++◌, map, filter, find, length, Option, Some, None, is_none, is_some, Result, Ok, Err, MatchResult}
+use Rattle.std.specs.Prelude.{All, bytes_eq, slice_index_or, ◌≡◌, ◌⊎◌, ℕ, ◌+◌, ◌-◌, ◌^◌, ◌≤◌, ◌<◌, Bool, true, false, not, ◌&&◌, ◌||◌, ◌==◌}
+use Rattle.std.specs.Prelude.{nat_lt, nat_le, if◌then◌else◌, List, [], ◌∷◌, ◌++◌, map, filter, find, length, Option, Some, None, is_none}
+use Rattle.std.specs.Prelude.{is_some, Result, Ok, Err, MatchResult}
 use Rattle.std.specs.List.{list_any}
 use Rattle.std.specs.Option.{option_to_list}
 use Rattle.model.specs.Stream.{Octets}
@@ -82,11 +84,13 @@ FitsMode None m = Unit {0}
 FitsMode (Some m) other = ⊥
 
 abbrev pub join_refusal : KernelView → Option Refusal
-join_refusal kernel = first_failing ((kernel.halted, Halted) ∷ (nat_le 64 (length kernel.seats) || kernel.joined == 2 ^ 64 - 1, TooManySessions) ∷ [])
+join_refusal kernel = first_failing
+    ((kernel.halted, Halted) ∷ (nat_le 64 (length kernel.seats) || kernel.joined == 2 ^ 64 - 1, TooManySessions) ∷ [])
 
 abbrev pub exec_refusal : KernelView → ℕ → Message → Option Refusal
 exec_refusal kernel number m =
-    first_failing ((is_none (mode_at kernel number), NoSession) ∷ (nat_le 1048576 (buffered kernel number), LaterOut) ∷ (not kernel.halted && is_block m && nat_lt 256 (length kernel.dirty), LaterDirty) ∷ [])
+    first_failing ((is_none (mode_at kernel number), NoSession) ∷ (nat_le 1048576 (buffered kernel number), LaterOut) ∷
+    (not kernel.halted && is_block m && nat_lt 256 (length kernel.dirty), LaterDirty) ∷ [])
 
 -- ---- exec
 
@@ -95,7 +99,8 @@ abbrev pub mark_for : KernelView → Session → Message → ℕ → Mark
 mark_for kernel x m t =
     if kernel.halted then mark.Stopped
     else if is_long kernel.host kernel.spool x m then mark.Long
-    else if is_full (length kernel.blocks) kernel.inodes kernel.spool (answer kernel.host kernel.spool x m t mark.Served).change then mark.Full
+    else if is_full (length kernel.blocks) kernel.inodes kernel.spool (answer kernel.host kernel.spool x m t mark.Served).change then
+    mark.Full
     else mark.Served
 
 abbrev pub answered : KernelView → Message → ℕ → Mark → Seat → Seat
@@ -143,7 +148,8 @@ Tested as_error memory (Some refusal) old new result done = (result ≡ Err (as_
 Tested as_error memory None old new result done = MatchResult result done (λ error. (error ≡ memory) × (new ≡ old))
 
 -- the same, but memory may be refused before a test is reached, though not before one of the early tests
-abbrev pub TestedOrMemory : {A E V : Type 0} → (Refusal → E) → E → Option Refusal → Option Refusal → V → V → Result A E → (A → Type 0) → Type 0
+abbrev pub TestedOrMemory : {A E V : Type 0} → (Refusal → E) → E → Option Refusal → Option Refusal → V → V → Result A E → (A → Type 0)
+    → Type 0
 TestedOrMemory as_error memory early refusal old new result done =
     MatchResult result
     (λ answer. (refusal ≡ None) × done answer)
@@ -235,4 +241,5 @@ pub record Administers (old new : KernelView) (change : Change) (serial : ℕ) :
   pub serial_is : serial ≡ length old.spool + 1
   pub spool : new.spool ≡ old.spool ++ change ∷ []
   pub blocks : Dirties old new
-  pub rest : (new.host ≡ old.host) × (new.inodes ≡ old.inodes) × (new.seats ≡ old.seats) × (new.durable ≡ old.durable) × (new.in_flight ≡ old.in_flight) × (new.halted ≡ old.halted) × (new.joined ≡ old.joined)
+  pub rest : (new.host ≡ old.host) × (new.inodes ≡ old.inodes) × (new.seats ≡ old.seats) × (new.durable ≡ old.durable)
+      × (new.in_flight ≡ old.in_flight) × (new.halted ≡ old.halted) × (new.joined ≡ old.joined)

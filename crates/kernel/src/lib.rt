@@ -144,7 +144,8 @@ impl Kernel {
     /// number is never used again. Refused as `Halted` (E4), `TooManySessions` (E7) or `Memory` (E2), tested in that
     /// order; a refusal changes nothing.
     pub fn join(&mut self, alloc: Global) -> Result<u64, JoinError>
-        ensures { Tested of_join JoinError.Memory (join_refusal self.old) self.old self.new result (λ sid. (sid ≡ self.new.joined) × (self.new ≡ joined self.old)) }
+        ensures { Tested of_join JoinError.Memory (join_refusal self.old) self.old self.new result
+            (λ sid. (sid ≡ self.new.joined) × (self.new ≡ joined self.old)) }
     {
         self.may_join()?;
         let number = self.joined + 1;
@@ -286,7 +287,8 @@ impl Kernel {
     pub fn take_batch(&mut self, into: &mut BatchBuf) -> Option<Ticket>
         ensures when { IsSome result ↔ IsTrue (has_batch self.old) }
         ensures nothing { IsNone result → (self.new ≡ self.old) × (into.new ≡ into.old) }
-        ensures takes { IfSome result (λ ticket. Takes self.old self.new into.new.numbers (blocks_from 0 (length into.new.numbers) into.new.images) ticket.last) }
+        ensures takes { IfSome result (λ ticket. Takes self.old self.new into.new.numbers
+            (blocks_from 0 (length into.new.numbers) into.new.images) ticket.last) }
         ensures size { IsSome result → length into.new.images ≡ 4096 * length into.new.numbers }
     {
         if self.halted || self.in_flight.is_some() || self.spool.dirty_len() == 0 {
@@ -302,7 +304,8 @@ impl Kernel {
     /// Notes that the batch in flight is on disk: its changes are durable. `Stale` (E13) exactly if the ticket is not
     /// that of the batch in flight or the kernel is halted; then nothing changes. It takes no memory.
     pub fn committed(&mut self, ticket: Ticket) -> Result<(), Stale>
-        ensures ok { IfOk result (λ done. (self.old.in_flight ≡ Some ticket.last) × (self.old.halted ≡ false) × (self.new ≡ made_durable self.old ticket.last)) }
+        ensures ok { IfOk result (λ done. (self.old.in_flight ≡ Some ticket.last) × (self.old.halted ≡ false)
+            × (self.new ≡ made_durable self.old ticket.last)) }
         ensures stale { OnErr result (((self.old.in_flight ≢ Some ticket.last) ⊎ (self.old.halted ≡ true)) × (self.new ≡ self.old)) }
     {
         if self.halted || self.in_flight != Some(ticket.last) {

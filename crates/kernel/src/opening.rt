@@ -7,7 +7,8 @@ ghost use Rattle.model.specs.Layout.{HoldsIn};
 ghost use Rattle.model.specs.Names.{is_host};
 ghost use Rattle.model.specs.Spool.{Spool as Changes};
 ghost use Rattle.labels.specs.Label.{IsNoLabel};
-ghost use Rattle.kernel.specs.Opening.{CostsUpgrade, HasFailed, IsDamaged, IsOpened, IsStill, IsUnsynced, OnlyReads, OpensOver, ReadsAndUpgrades};
+ghost use Rattle.kernel.specs.Opening.{CostsUpgrade, HasFailed, IsDamaged, IsOpened, IsStill, IsUnsynced, OnlyReads, OpensOver};
+ghost use Rattle.kernel.specs.Opening.{ReadsAndUpgrades};
 
 use crate::Kernel;
 use disk::Disk;
@@ -51,10 +52,12 @@ impl Kernel {
         ensures format { OnOk result (journal.new.format ≡ 2) }
         ensures reads { ReadsAndUpgrades D.device journal.old journal.new }
         ensures cost { OnOk result (CostsUpgrade journal.old.format (D.device journal.old.disk) (D.device journal.new.disk)) }
-        ensures judged { IfErr result (λ error. (error ≡ OpenError.NotAVolume) ⊎ (error ≡ OpenError.Damaged) → OnlyReads D.device journal.old journal.new) }
+        ensures judged { IfErr result (λ error. (error ≡ OpenError.NotAVolume) ⊎ (error ≡ OpenError.Damaged)
+            → OnlyReads D.device journal.old journal.new) }
         ensures still { MatchResult result (λ kernel. IsStill D.device journal.old journal.new)
             (λ error. error ≢ OpenError.Fault
-            → IsStill D.device journal.old journal.new ⊎ ((error ≡ OpenError.Memory) × IsTrue D.sync_grows × IsUnsynced D.device journal.old journal.new)) }
+            → IsStill D.device journal.old journal.new
+            ⊎ ((error ≡ OpenError.Memory) × IsTrue D.sync_grows × IsUnsynced D.device journal.old journal.new)) }
         ensures fault { IfErr result (λ error. error ≡ OpenError.Fault → HasFailed D.device journal.old journal.new) }
         ensures no_label { IfErr result (λ error. error ≡ OpenError.NotAVolume → IsNoLabel journal.old.label journal.old.size) }
         ensures damaged { IfErr result (λ error. error ≡ OpenError.Damaged → IsDamaged D.device journal.old) }
@@ -73,7 +76,8 @@ fn load<D: Disk>(alloc: Global, journal: &mut Journal<D>) -> Result<Kernel, Open
     requires { IsReady journal.old }
     ensures ok { IfOk result (IsOpened D.device journal.old) }
     ensures reads { OnlyReads D.device journal.old journal.new }
-    ensures still { MatchResult result (λ kernel. IsStill D.device journal.old journal.new) (λ error. error ≢ OpenError.Fault → IsStill D.device journal.old journal.new) }
+    ensures still { MatchResult result (λ kernel. IsStill D.device journal.old journal.new) (λ error. error ≢ OpenError.Fault
+        → IsStill D.device journal.old journal.new) }
     ensures fault { IfErr result (λ error. error ≡ OpenError.Fault → HasFailed D.device journal.old journal.new) }
     ensures no_label { IfErr result (λ error. error ≡ OpenError.NotAVolume → IsNoLabel journal.old.label journal.old.size) }
     ensures damaged { IfErr result (λ error. error ≡ OpenError.Damaged → IsDamaged D.device journal.old) }

@@ -1,5 +1,6 @@
 -- What is read of a label is what was written, and what is read in one that has its form makes it again.
-use Rattle.std.proofs.Common.{◌≡◌, ◌<◌, ◌≤◌, ℕ, zero, suc, ◌+◌, ◌-◌, ◌/◌, ◌%◌, ◌==◌, Bool, true, false, [], ◌∷◌, ◌++◌, length, get_or, take, drop, replicate, refl, sym, ◌∙◌, ap, arith, length-append, length-drop}
+use Rattle.std.proofs.Common.{◌≡◌, ◌<◌, ◌≤◌, ℕ, zero, suc, ◌+◌, ◌-◌, ◌/◌, ◌%◌, ◌==◌, Bool, true, false, [], ◌∷◌, ◌++◌, length, get_or, take}
+use Rattle.std.proofs.Common.{drop, replicate, refl, sym, ◌∙◌, ap, arith, length-append, length-drop}
 use Rattle.std.specs.Prelude.{nat_le}
 use Rattle.std.specs.List.{list_all}
 use Rattle.std.proofs.lemmas.Bool.{leb-true, eqb-true, and_parts}
@@ -40,7 +41,8 @@ are_zeros (x ∷ xs) h =
 
 -- ---- a number read in four octets is written so
 
-four_octets : (a b c d : ℕ) (rest : Octets) → a < 256 → b < 256 → c < 256 → d < 256 → little_bytes 4 (little_number 4 (a ∷ b ∷ c ∷ d ∷ rest)) ≡ a ∷ b ∷ c ∷ d ∷ []
+four_octets : (a b c d : ℕ) (rest : Octets) → a < 256 → b < 256 → c < 256 → d < 256
+    → little_bytes 4 (little_number 4 (a ∷ b ∷ c ∷ d ∷ rest)) ≡ a ∷ b ∷ c ∷ d ∷ []
 four_octets a b c d rest low second third high =
     let n : ℕ = little_number 4 (a ∷ b ∷ c ∷ d ∷ rest) in
     let is0 : n % 256 ≡ a = omega arith in
@@ -60,10 +62,12 @@ module _ (label : Octets) (blocks inodes : ℕ) (host : Octets) (is : IsLabel la
   short = leb-true (length host) 64 (and_parts (nat_le (length host) 64) _ is.host_is).0
 
   pub label_size : length label ≡ 128
-  label_size = ap length is.octets ∙ omega (arith, short, length-append host (replicate (123 - length host) 0), length-replicate {A = ℕ} (123 - length host) 0)
+  label_size = ap length is.octets
+      ∙ omega (arith, short, length-append host (replicate (123 - length host) 0), length-replicate {A = ℕ} (123 - length host) 0)
 
   pub reads_inodes : little_number 4 label ≡ inodes
-  reads_inodes = ap (little_number 4) is.octets ∙ little_number-reads_back 4 inodes (length host ∷ host ++ replicate (123 - length host) 0) (omega (arith, is.few))
+  reads_inodes = ap (little_number 4) is.octets
+      ∙ little_number-reads_back 4 inodes (length host ∷ host ++ replicate (123 - length host) 0) (omega (arith, is.few))
 
   counts_host : get_or label 4 0 ≡ length host
   counts_host = ap (λ (l : Octets). get_or l 4 0) is.octets
@@ -77,19 +81,22 @@ module _ (label : Octets) (blocks inodes : ℕ) (host : Octets) (is : IsLabel la
   pub reads_host : is_host (host_in label) ≡ true
   reads_host =
       let size : host_end label - 5 ≡ length host = omega (arith, counts_host) in
-      let same : host_in label ≡ host = ap (λ (n : ℕ). take n (drop 5 label)) size ∙ ap (take (length host)) behind ∙ take_at host (replicate (123 - length host) 0) (length host) refl in
+      let same : host_in label ≡ host = ap (λ (n : ℕ). take n (drop 5 label)) size ∙ ap (take (length host)) behind
+      ∙ take_at host (replicate (123 - length host) 0) (length host) refl in
       ap is_host same ∙ is.host_is
 
   pub reads_zeros : list_all is_zero (drop (host_end label) label) ≡ true
   reads_zeros =
       let end : host_end label ≡ 5 + length host = omega (arith, counts_host) in
       ap (λ (n : ℕ). list_all is_zero (drop n label)) end
-      ∙ ap (list_all is_zero) (sym (drop-drop (length host) 5 label) ∙ ap (drop (length host)) behind ∙ drop_at host (replicate (123 - length host) 0) (length host) refl)
+      ∙ ap (list_all is_zero) (sym (drop-drop (length host) 5 label) ∙ ap (drop (length host)) behind
+      ∙ drop_at host (replicate (123 - length host) 0) (length host) refl)
       ∙ zeros_pass (123 - length host)
 
 -- ---- and what has its form is a label
 
-pub makes_label : (label : Octets) (blocks : ℕ) → length label ≡ 128 → ((k : ℕ) → get_or label k 0 < 256) → HasRoom (little_number 4 label) blocks
+pub makes_label : (label : Octets) (blocks : ℕ) → length label ≡ 128 → ((k : ℕ) → get_or label k 0 < 256)
+    → HasRoom (little_number 4 label) blocks
     → is_host (host_in label) ≡ true → get_or label 4 0 ≤ 64 → list_all is_zero (drop (host_end label) label) ≡ true
     → IsLabel label blocks (little_number 4 label) (host_in label)
 makes_label [] blocks size octets room named short zeros = absurd (omega (arith, size))
@@ -120,7 +127,8 @@ makes_label (a ∷ b ∷ c ∷ d ∷ n ∷ rest) blocks size octets room named s
 
     made : label_octets (little_number 4 (a ∷ b ∷ c ∷ d ∷ n ∷ rest)) (host_in (a ∷ b ∷ c ∷ d ∷ n ∷ rest)) ≡ a ∷ b ∷ c ∷ d ∷ n ∷ rest
     made =
-        ap (λ (l : Octets). l ++ length (host_in (a ∷ b ∷ c ∷ d ∷ n ∷ rest)) ∷ host_in (a ∷ b ∷ c ∷ d ∷ n ∷ rest) ++ replicate (123 - length (host_in (a ∷ b ∷ c ∷ d ∷ n ∷ rest))) 0)
+        ap (λ (l : Octets). l ++ length (host_in (a ∷ b ∷ c ∷ d ∷ n ∷ rest)) ∷ host_in (a ∷ b ∷ c ∷ d ∷ n ∷ rest) ++ replicate
+        (123 - length (host_in (a ∷ b ∷ c ∷ d ∷ n ∷ rest))) 0)
         (four_octets a b c d (n ∷ rest) (octets 0) (octets 1) (octets 2) (octets 3))
         ∙ ap (λ (m : ℕ). a ∷ b ∷ c ∷ d ∷ m ∷ (host_in (a ∷ b ∷ c ∷ d ∷ n ∷ rest) ++ replicate (123 - m) 0)) counts
         ∙ ap (λ (l : Octets). a ∷ b ∷ c ∷ d ∷ n ∷ (l ++ replicate (123 - n) 0)) cut

@@ -1,5 +1,6 @@
 -- The lines of the groups that a list has, and the last serial that names one of them.
-use Rattle.std.proofs.Common.{◌≡◌, ℕ, ◌+◌, List, [], ◌∷◌, ◌++◌, map, refl, sym, ◌∙◌, ap, arith, append_assoc, append-nil, Bool, true, false, cond, length}
+use Rattle.std.proofs.Common.{◌≡◌, ℕ, ◌+◌, List, [], ◌∷◌, ◌++◌, map, refl, sym, ◌∙◌, ap, arith, append_assoc, append-nil, Bool, true, false}
+use Rattle.std.proofs.Common.{cond, length}
 use Rattle.std.specs.Prelude.{◌==◌, filter, flat_map, max, slice_get, take, Some, None, ℤ}
 use Rattle.std.proofs.lemmas.List.{map-append, take_more, take_all, length-map}
 use Rattle.std.proofs.lemmas.List.Concat.{flat_map-append}
@@ -22,7 +23,11 @@ use Rattle.listing_commands.specs.declared.groups.Show.TheVariants.{Active, Time
 -- what stands behind a text that is not stuffed does not matter
 stuffed_front : (name more : Octets) → stuffed_line more ≡ more → stuffed_line (name ++ more) ≡ stuffed_line name ++ more
 stuffed_front [] more plain = plain
-stuffed_front (x ∷ name) more plain = elim (x == 46) as (λ b. cond b (46 ∷ x ∷ (name ++ more)) (x ∷ (name ++ more)) ≡ cond b (46 ∷ x ∷ name) (x ∷ name) ++ more) [ true ↦ refl | false ↦ refl ]
+stuffed_front (x ∷ name) more plain =
+    elim (x == 46) as (λ b. cond b (46 ∷ x ∷ (name ++ more)) (x ∷ (name ++ more)) ≡ cond b (46 ∷ x ∷ name) (x ∷ name) ++ more) [
+      | true ↦ refl
+      | false ↦ refl
+    ]
 
 named : (show : Show) (l : Listed) → line (shown_as show l) ≡ l.group.name ++ rest_of show l
 named Active l = simp append_assoc
@@ -53,17 +58,21 @@ module _ (pick : Pick) (ks : List Known) (n : ℕ) (k : Known) (is : slice_get k
   pub line_more : (show : Show) → lines_of pick show (take (n + 1) ks) ≡ lines_of pick show (take n ks) ++ line_of pick show k
   line_more show =
       ap (flat_map (λ (h : Known). stuffed_line (line (shown_as show h.listed)))) one
-      ∙ flat_map-append (λ (h : Known). stuffed_line (line (shown_as show h.listed))) (picked pick (take n ks)) (cond (is_picked pick k.listed.group) (k ∷ []) [])
+      ∙ flat_map-append (λ (h : Known). stuffed_line (line (shown_as show h.listed))) (picked pick (take n ks))
+      (cond (is_picked pick k.listed.group) (k ∷ []) [])
       ∙ ap (λ os. lines_of pick show (take n ks) ++ os) (by_pass (is_picked pick k.listed.group))
     where
-      by_pass : (b : Bool) → flat_map (λ (h : Known). stuffed_line (line (shown_as show h.listed))) (cond b (k ∷ []) []) ≡ cond b (stuffed_line (line (shown_as show k.listed))) []
+      by_pass : (b : Bool) → flat_map (λ (h : Known). stuffed_line (line (shown_as show h.listed))) (cond b (k ∷ []) [])
+          ≡ cond b (stuffed_line (line (shown_as show k.listed))) []
       by_pass true = append-nil (stuffed_line (line (shown_as show k.listed)))
       by_pass false = refl
 
   pub last_more : last_of pick (take (n + 1) ks) ≡ later_of pick (last_of pick (take n ks)) k
   last_more = ap (λ hs. greatest (map (λ (h : Known). h.last) hs)) one ∙ by_pass (is_picked pick k.listed.group) where
-    by_pass : (b : Bool) → greatest (map (λ (h : Known). h.last) (picked pick (take n ks) ++ cond b (k ∷ []) [])) ≡ cond b (max (last_of pick (take n ks)) k.last) (last_of pick (take n ks))
-    by_pass true = ap greatest (map-append (λ (h : Known). h.last) (picked pick (take n ks)) (k ∷ [])) ∙ greatest_more (map (λ (h : Known). h.last) (picked pick (take n ks))) k.last
+    by_pass : (b : Bool) → greatest (map (λ (h : Known). h.last) (picked pick (take n ks) ++ cond b (k ∷ []) []))
+        ≡ cond b (max (last_of pick (take n ks)) k.last) (last_of pick (take n ks))
+    by_pass true = ap greatest (map-append (λ (h : Known). h.last) (picked pick (take n ks)) (k ∷ []))
+        ∙ greatest_more (map (λ (h : Known). h.last) (picked pick (take n ks))) k.last
     by_pass false = ap (λ hs. greatest (map (λ (h : Known). h.last) hs)) (append-nil (picked pick (take n ks)))
 
 pub all_taken : (S : Spool) → take (length (groups S)) (all_known S) ≡ all_known S
@@ -80,16 +89,23 @@ module _ (S : Spool) (pick : Pick) (test : NewsGroup → Bool) (same : (g : News
   kept [] = refl
   kept (g ∷ gs) = (λ i. cond (same g i) (known S g ∷ kept gs i) (kept gs i)) ∙ kept_first (known S) g (filter test gs) (test g)
 
-  shown_lines : (show : Show) (gs : List NewsGroup) → flat_map (λ (k : Known). stuffed_line (line (shown_as show k.listed))) (map (known S) gs) ≡ flat_map stuffed_line (map line (map (shown_as show) (map (λ (g : NewsGroup). (known S g).listed) gs)))
+  shown_lines : (show : Show) (gs : List NewsGroup)
+      → flat_map (λ (k : Known). stuffed_line (line (shown_as show k.listed))) (map (known S) gs)
+      ≡ flat_map stuffed_line (map line (map (shown_as show) (map (λ (g : NewsGroup). (known S g).listed) gs)))
   shown_lines show [] = refl
   shown_lines show (g ∷ gs) = ap (λ os. stuffed_line (line (shown_as show (known S g).listed)) ++ os) (shown_lines show gs)
 
-  lines_kept : (show : Show) → lines_of pick show (all_known S) ≡ flat_map stuffed_line (map line (map (shown_as show) (map (λ (g : NewsGroup). (known S g).listed) (filter test (groups S)))))
-  lines_kept show = ap (flat_map (λ (k : Known). stuffed_line (line (shown_as show k.listed)))) (kept (groups S)) ∙ shown_lines show (filter test (groups S))
+  lines_kept : (show : Show) → lines_of pick show (all_known S)
+      ≡ flat_map stuffed_line (map line (map (shown_as show) (map (λ (g : NewsGroup). (known S g).listed) (filter test (groups S)))))
+  lines_kept show = ap (flat_map (λ (k : Known). stuffed_line (line (shown_as show k.listed)))) (kept (groups S))
+      ∙ shown_lines show (filter test (groups S))
 
   -- the block that has these lines
-  pub block_kept : (show : Show) (status : Octets) → line status ++ lines_of pick show (all_known S) ++ dot_line ≡ block status (map (shown_as show) (map (λ (g : NewsGroup). (known S g).listed) (filter test (groups S))))
-  block_kept show status = append_assoc (line status) (lines_of pick show (all_known S)) dot_line ∙ ap (λ os. line status ++ (os ++ dot_line)) (lines_kept show)
+  pub block_kept : (show : Show) (status : Octets)
+      → line status ++ lines_of pick show (all_known S) ++ dot_line
+      ≡ block status (map (shown_as show) (map (λ (g : NewsGroup). (known S g).listed) (filter test (groups S))))
+  block_kept show status = append_assoc (line status) (lines_of pick show (all_known S)) dot_line
+      ∙ ap (λ os. line status ++ (os ++ dot_line)) (lines_kept show)
 
   lasts : (gs : List NewsGroup) → greatest (map (λ (k : Known). k.last) (map (known S) gs)) ≡ greatest_last S gs
   lasts [] = refl
@@ -100,7 +116,8 @@ module _ (S : Spool) (pick : Pick) (test : NewsGroup → Bool) (same : (g : News
 
 -- a list of the groups whose names pass a test
 module _ (host : Octets) (S : Spool) (pick : Pick) (test : Octets → Bool) (same : (g : NewsGroup) → is_picked pick g ≡ test g.name) where
-  pub block_listed : (show : Show) (status : Octets) → line status ++ lines_of pick show (all_known S) ++ dot_line ≡ block status (map (shown_as show) (listed S test))
+  pub block_listed : (show : Show) (status : Octets)
+      → line status ++ lines_of pick show (all_known S) ++ dot_line ≡ block status (map (shown_as show) (listed S test))
   unfolding listed
   block_listed show status = block_kept S pick (λ (g : NewsGroup). test g.name) same show status
 
@@ -109,13 +126,19 @@ module _ (host : Octets) (S : Spool) (pick : Pick) (test : Octets → Bool) (sam
 
 -- a list of the groups made since a moment
 module _ (S : Spool) (pick : Pick) (from : ℤ) (same : (g : NewsGroup) → is_picked pick g ≡ is_since from g.moment) where
-  made_since : (gs : List NewsGroup) → filter (λ (l : Listed). is_since from l.group.moment) (map (λ (g : NewsGroup). (known S g).listed) (filter (λ (g : NewsGroup). true) gs)) ≡ map (λ (g : NewsGroup). (known S g).listed) (filter (λ (g : NewsGroup). is_since from g.moment) gs)
+  made_since : (gs : List NewsGroup)
+      → filter (λ (l : Listed). is_since from l.group.moment)
+      (map (λ (g : NewsGroup). (known S g).listed) (filter (λ (g : NewsGroup). true) gs)) ≡ map (λ (g : NewsGroup). (known S g).listed)
+      (filter (λ (g : NewsGroup). is_since from g.moment) gs)
   made_since [] = refl
   made_since (g ∷ gs) =
       (λ i. cond (is_since from g.moment) ((known S g).listed ∷ made_since gs i) (made_since gs i))
-      ∙ kept_first (λ (g : NewsGroup). (known S g).listed) g (filter (λ (g : NewsGroup). is_since from g.moment) gs) (is_since from g.moment)
+      ∙ kept_first (λ (g : NewsGroup). (known S g).listed) g (filter (λ (g : NewsGroup). is_since from g.moment) gs)
+      (is_since from g.moment)
 
-  pub block_since : (show : Show) (status : Octets) → line status ++ lines_of pick show (all_known S) ++ dot_line ≡ block status (map (shown_as show) (filter (λ (l : Listed). is_since from l.group.moment) (listed S (is_listed None))))
+  pub block_since : (show : Show) (status : Octets)
+      → line status ++ lines_of pick show (all_known S) ++ dot_line
+      ≡ block status (map (shown_as show) (filter (λ (l : Listed). is_since from l.group.moment) (listed S (is_listed None))))
   unfolding listed
   block_since show status =
       block_kept S pick (λ (g : NewsGroup). is_since from g.moment) same show status

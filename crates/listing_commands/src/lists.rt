@@ -24,7 +24,9 @@ pub fn list_active<L: LookUps>(
     wildmat: &Option<Text>,
 ) -> Result<Answered, AllocError>
     requires { IfSome wildmat.now (λ w. IsTrue (is_wildmat w)) }
-    ensures { IfOk result (λ r. r ≡ answered (answers.list_answer session.now answers.active_line (listed (L.changes spool.now) (answers.is_listed wildmat.now))) (list_reads (L.changes spool.now) wildmat.now)) }
+    ensures { IfOk result (λ r. r ≡ answered
+        (answers.list_answer session.now answers.active_line (listed (L.changes spool.now) (answers.is_listed wildmat.now)))
+        (list_reads (L.changes spool.now) wildmat.now)) }
 {
     list(alloc, spool, session, wildmat, Show::Active)
 }
@@ -37,7 +39,9 @@ pub fn list_times<L: LookUps>(
     wildmat: &Option<Text>,
 ) -> Result<Answered, AllocError>
     requires { IfSome wildmat.now (λ w. IsTrue (is_wildmat w)) }
-    ensures { IfOk result (λ r. r ≡ answered (answers.list_answer session.now answers.times_line (listed (L.changes spool.now) (answers.is_listed wildmat.now))) (list_reads (L.changes spool.now) wildmat.now)) }
+    ensures { IfOk result (λ r. r ≡ answered
+        (answers.list_answer session.now answers.times_line (listed (L.changes spool.now) (answers.is_listed wildmat.now)))
+        (list_reads (L.changes spool.now) wildmat.now)) }
 {
     list(alloc, spool, session, wildmat, Show::Times)
 }
@@ -50,7 +54,9 @@ pub fn list_newsgroups<L: LookUps>(
     wildmat: &Option<Text>,
 ) -> Result<Answered, AllocError>
     requires { IfSome wildmat.now (λ w. IsTrue (is_wildmat w)) }
-    ensures { IfOk result (λ r. r ≡ answered (answers.list_answer session.now answers.newsgroups_line (listed (L.changes spool.now) (answers.is_listed wildmat.now))) (list_reads (L.changes spool.now) wildmat.now)) }
+    ensures { IfOk result (λ r. r ≡ answered
+        (answers.list_answer session.now answers.newsgroups_line (listed (L.changes spool.now) (answers.is_listed wildmat.now)))
+        (list_reads (L.changes spool.now) wildmat.now)) }
 {
     list(alloc, spool, session, wildmat, Show::Newsgroups)
 }
@@ -64,7 +70,9 @@ fn list<L: LookUps>(
     show: Show,
 ) -> Result<Answered, AllocError>
     requires { IfSome wildmat.now (λ w. IsTrue (is_wildmat w)) }
-    ensures { IfOk result (λ r. r ≡ answered (answers.list_answer session.now (shown_as show) (listed (L.changes spool.now) (answers.is_listed wildmat.now))) (list_reads (L.changes spool.now) wildmat.now)) }
+    ensures { IfOk result (λ r. r ≡ answered
+        (answers.list_answer session.now (shown_as show) (listed (L.changes spool.now) (answers.is_listed wildmat.now)))
+        (list_reads (L.changes spool.now) wildmat.now)) }
 {
     let mut reply = Vec::new(alloc);
     push_heading(&mut reply, Heading::Information)?;
@@ -85,7 +93,10 @@ pub fn newgroups<L: LookUps>(
     moment: u64,
 ) -> Result<Answered, AllocError>
     requires { moment < moment_limit }
-    ensures { IfOk result (λ r. r ≡ answered (answers.if_dated session.now (since date.now time.now moment) (answers.newgroups_answer session.now (listed (L.changes spool.now) (answers.is_listed None)))) (since_reads (L.changes spool.now) (since date.now time.now moment))) }
+    ensures { IfOk result (λ r. r ≡ answered
+        (answers.if_dated session.now (since date.now time.now moment)
+        (answers.newgroups_answer session.now (listed (L.changes spool.now) (answers.is_listed None))))
+        (since_reads (L.changes spool.now) (since date.now time.now moment))) }
 {
     match read_since(date, time, moment) {
         Ok(from) => groups_since(alloc, spool, session, from),
@@ -99,7 +110,8 @@ fn groups_since<L: LookUps>(
     session: &Session,
     from: i64,
 ) -> Result<Answered, AllocError>
-    ensures { IfOk result (λ r. r ≡ answered (answers.newgroups_answer session.now (listed (L.changes spool.now) (answers.is_listed None)) from) (length (L.changes spool.now))) }
+    ensures { IfOk result (λ r. r ≡ answered
+        (answers.newgroups_answer session.now (listed (L.changes spool.now) (answers.is_listed None)) from) (length (L.changes spool.now))) }
 {
     let mut reply = Vec::new(alloc);
     push_heading(&mut reply, Heading::Groups)?;

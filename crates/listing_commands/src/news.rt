@@ -32,7 +32,10 @@ pub fn newnews<L: LookUps>(
 ) -> Result<Answered, AllocError>
     requires moment { moment < moment_limit }
     requires wildmat { IsTrue (is_wildmat wildmat.now) }
-    ensures { IfOk result (λ r. r ≡ answered (answers.if_dated session.now (since date.now time.now moment) (answers.newnews_answer session.now wildmat.now (articles_now (L.changes spool.now)))) (since_reads (L.changes spool.now) (since date.now time.now moment))) }
+    ensures { IfOk result (λ r. r ≡ answered
+        (answers.if_dated session.now (since date.now time.now moment)
+        (answers.newnews_answer session.now wildmat.now (articles_now (L.changes spool.now))))
+        (since_reads (L.changes spool.now) (since date.now time.now moment))) }
 {
     match read_since(date, time, moment) {
         Ok(from) => articles_since(alloc, spool, session, wildmat, from),
@@ -48,7 +51,8 @@ fn articles_since<L: LookUps>(
     from: i64,
 ) -> Result<Answered, AllocError>
     requires { IsTrue (is_wildmat wildmat.now) }
-    ensures { IfOk result (λ r. r ≡ answered (answers.newnews_answer session.now wildmat.now (articles_now (L.changes spool.now)) from) (length (L.changes spool.now))) }
+    ensures { IfOk result (λ r. r ≡ answered (answers.newnews_answer session.now wildmat.now (articles_now (L.changes spool.now)) from)
+        (length (L.changes spool.now))) }
 {
     let mut reply = Vec::new(alloc);
     push_heading(&mut reply, Heading::Articles)?;
@@ -65,7 +69,8 @@ fn push_articles<L: LookUps>(
     reply: &mut Vec<u8>,
 ) -> Result<(), AllocError>
     requires { IsTrue (is_wildmat wildmat.now) }
-    ensures { OnOk result (reply.new.items ≡ reply.old.items ++ new_lines (L.changes spool.now) wildmat.now from (articles (L.changes spool.now))) }
+    ensures { OnOk result (reply.new.items ≡ reply.old.items ++ new_lines (L.changes spool.now) wildmat.now from
+        (articles (L.changes spool.now))) }
 {
     for place in spool.older_than(from)..spool.len() {
         push_new(spool, wildmat, from, place + 1, reply)?;
@@ -82,7 +87,8 @@ fn push_new<L: LookUps>(
     reply: &mut Vec<u8>,
 ) -> Result<(), AllocError>
     requires { IsTrue (is_wildmat wildmat.now) }
-    ensures { OnOk result (reply.new.items ≡ reply.old.items ++ new_lines (L.changes spool.now) wildmat.now from (option_to_list (article_with (L.changes spool.now) serial))) }
+    ensures { OnOk result (reply.new.items ≡ reply.old.items ++ new_lines (L.changes spool.now) wildmat.now from
+        (option_to_list (article_with (L.changes spool.now) serial))) }
 {
     let Some(moment) = spool.moment(serial) else {
         return Ok(());

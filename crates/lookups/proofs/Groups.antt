@@ -17,10 +17,12 @@ pub record IsOf (S : Spool) (name : Octets) (v : GroupView) : Type 0 where
   pub closed : is_closed S name ≡ (v.status == 110)
   pub has : contents_if_here S name ≡ Some (contents S name)
 
-found_name : (name : Octets) (gs : List NewsGroup) (g : NewsGroup) → find (λ (h : NewsGroup). is_name name h.name) gs ≡ Some g → g.name ≡ name
+found_name : (name : Octets) (gs : List NewsGroup) (g : NewsGroup) → find (λ (h : NewsGroup). is_name name h.name) gs ≡ Some g
+    → g.name ≡ name
 found_name name [] g is = absurd (cc)
 found_name name (h ∷ gs) g is = by_name (bytes_eq h.name name) refl is (found_name name gs g) where
-  by_name : (b : Bool) → bytes_eq h.name name ≡ b → cond b (Some h) (find (λ (h : NewsGroup). is_name name h.name) gs) ≡ Some g → (find (λ (h : NewsGroup). is_name name h.name) gs ≡ Some g → g.name ≡ name) → g.name ≡ name
+  by_name : (b : Bool) → bytes_eq h.name name ≡ b → cond b (Some h) (find (λ (h : NewsGroup). is_name name h.name) gs) ≡ Some g
+      → (find (λ (h : NewsGroup). is_name name h.name) gs ≡ Some g → g.name ≡ name) → g.name ≡ name
   by_name true same found later = let one : h ≡ g = cc in ap (λ (k : NewsGroup). k.name) (sym one) ∙ (bytes_eq-Decides h.name name).0 same
   by_name false other found later = later found
 
@@ -41,7 +43,8 @@ is_of S name v says = by_found (group_named S name) refl says where
         high = ap (λ (k : Known). k.listed.high) one ∙ ap (high S) named;
         last = ap (λ (k : Known). k.last) one ∙ ap (last_naming S) named;
         here = ap (λ (o : Option NewsGroup). Rattle.std.specs.Prelude.is_some o) is;
-        closed = ap (λ (o : Option NewsGroup). Rattle.std.specs.Prelude.unwrap_or (option_map (λ (h : NewsGroup). h.status == 110) o) false) is ∙ ap (λ (k : Known). k.listed.group.status == 110) (sym one);
+        closed = ap (λ (o : Option NewsGroup). Rattle.std.specs.Prelude.unwrap_or (option_map (λ (h : NewsGroup). h.status == 110) o) false)
+            is ∙ ap (λ (k : Known). k.listed.group.status == 110) (sym one);
         has = ap (λ (o : Option NewsGroup). option_map (λ (h : NewsGroup). contents S name) o) is;
       }
 

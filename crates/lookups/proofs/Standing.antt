@@ -2,7 +2,8 @@
 use Rattle.std.proofs.Common.{◌≡◌, ℕ, zero, suc, ◌+◌, ◌-◌, List, [], ◌∷◌, refl, sym, ◌∙◌, ap, subst, arith, Bool, true, false, cond}
 use Rattle.std.specs.Prelude.{filter, filter_map, find, slice_get, Option, Some, None, option_map, option_and_then, unwrap_or}
 use Rattle.model.specs.Stream.{Octets}
-use Rattle.model.specs.Spool.{Spool, NewsArticle, article_filed, articles, by_id, by_number, entries, entries_from, filed_in, gone_at, is_gone, low, numbered, unless_gone}
+use Rattle.model.specs.Spool.{Spool, NewsArticle, article_filed, articles, by_id, by_number, entries, entries_from, filed_in, gone_at}
+use Rattle.model.specs.Spool.{is_gone, low, numbered, unless_gone}
 use Rattle.model.specs.declared.change.Change.TheVariants.{Group, Article, Expire}
 use Rattle.model.specs.Reads.{id_reads}
 use Rattle.lookups.specs.Held.{article_of, article_with, gone_with, text_of}
@@ -13,10 +14,12 @@ record Stands (n : ℕ) (S : Spool) (a : NewsArticle) : Type 0 where
   pub serial : a.serial ≡ n + at
   pub is : option_and_then article_filed (slice_get (entries_from n S) at) ≡ Some a
 
-one_on : (n : ℕ) (S : Spool) (c : Rattle.model.specs.declared.change.Change.Change) (a : NewsArticle) → Stands (suc n) S a → Stands n (c ∷ S) a
+one_on : (n : ℕ) (S : Spool) (c : Rattle.model.specs.declared.change.Change.Change) (a : NewsArticle) → Stands (suc n) S a
+    → Stands n (c ∷ S) a
 one_on n S c a later = record { at = suc later.at; serial = omega (arith, later.serial); is = later.is }
 
-found_from : (p : NewsArticle → Bool) (n : ℕ) (S : Spool) (a : NewsArticle) → find p (filter_map article_filed (entries_from n S)) ≡ Some a → Stands n S a
+found_from : (p : NewsArticle → Bool) (n : ℕ) (S : Spool) (a : NewsArticle) → find p (filter_map article_filed (entries_from n S)) ≡ Some a
+    → Stands n S a
 found_from p n [] a is = absurd (cc)
 found_from p n (Group name status description moment ∷ cs) a is = one_on n cs _ a (found_from p (suc n) cs a is)
 found_from p n (Expire group number ∷ cs) a is = one_on n cs _ a (found_from p (suc n) cs a is)
@@ -24,11 +27,15 @@ found_from p n (Article text groups moment ∷ cs) a is = by_pass (p filed) is (
   filed : NewsArticle
   filed = record { serial = n; text = text; groups = groups; moment = moment }
 
-  by_pass : (b : Bool) → cond b (Some filed) (find p (filter_map article_filed (entries_from (suc n) cs))) ≡ Some a → (find p (filter_map article_filed (entries_from (suc n) cs)) ≡ Some a → Stands (suc n) cs a) → Stands n (Article text groups moment ∷ cs) a
-  by_pass true same later = let one : filed ≡ a = cc in let serials : n ≡ a.serial = ap (λ (f : NewsArticle). f.serial) one in record { at = 0; serial = omega arith; is = same }
+  by_pass : (b : Bool) → cond b (Some filed) (find p (filter_map article_filed (entries_from (suc n) cs))) ≡ Some a
+      → (find p (filter_map article_filed (entries_from (suc n) cs)) ≡ Some a → Stands (suc n) cs a)
+      → Stands n (Article text groups moment ∷ cs) a
+  by_pass true same later = let one : filed ≡ a = cc in let serials : n ≡ a.serial = ap (λ (f : NewsArticle). f.serial) one in
+      record { at = 0; serial = omega arith; is = same }
   by_pass false same later = one_on n cs _ a (later same)
 
-filtered_from : (p : NewsArticle → Bool) (n : ℕ) (S : Spool) (i : ℕ) (a : NewsArticle) → slice_get (filter p (filter_map article_filed (entries_from n S))) i ≡ Some a → Stands n S a
+filtered_from : (p : NewsArticle → Bool) (n : ℕ) (S : Spool) (i : ℕ) (a : NewsArticle)
+    → slice_get (filter p (filter_map article_filed (entries_from n S))) i ≡ Some a → Stands n S a
 filtered_from p n [] i a is = absurd (cc)
 filtered_from p n (Group name status description moment ∷ cs) i a is = one_on n cs _ a (filtered_from p (suc n) cs i a is)
 filtered_from p n (Expire group number ∷ cs) i a is = one_on n cs _ a (filtered_from p (suc n) cs i a is)
@@ -39,8 +46,10 @@ filtered_from p n (Article text groups moment ∷ cs) i a is = by_pass (p filed)
   rest : List NewsArticle
   rest = filter p (filter_map article_filed (entries_from (suc n) cs))
 
-  by_pass : (b : Bool) (j : ℕ) → slice_get (cond b (filed ∷ rest) rest) j ≡ Some a → ((k : ℕ) → slice_get rest k ≡ Some a → Stands (suc n) cs a) → Stands n (Article text groups moment ∷ cs) a
-  by_pass true zero same later = let one : filed ≡ a = cc in let serials : n ≡ a.serial = ap (λ (f : NewsArticle). f.serial) one in record { at = 0; serial = omega arith; is = same }
+  by_pass : (b : Bool) (j : ℕ) → slice_get (cond b (filed ∷ rest) rest) j ≡ Some a
+      → ((k : ℕ) → slice_get rest k ≡ Some a → Stands (suc n) cs a) → Stands n (Article text groups moment ∷ cs) a
+  by_pass true zero same later = let one : filed ≡ a = cc in let serials : n ≡ a.serial = ap (λ (f : NewsArticle). f.serial) one in
+      record { at = 0; serial = omega arith; is = same }
   by_pass true (suc k) same later = one_on n cs _ a (later k same)
   by_pass false j same later = one_on n cs _ a (later j same)
 
@@ -76,15 +85,19 @@ pub record IsFound (S : Spool) (o : Option NewsArticle) (serial : ℕ) : Type 0 
 same_article : (S : Spool) (a : NewsArticle) → article_with S a.serial ≡ Some a → a ≡ article_of S a.serial
 same_article S a is =
     let text : text_of S a.serial ≡ a.text = ap (λ o. unwrap_or (option_map (λ (b : NewsArticle). b.text) o) []) is in
-    let groups : unwrap_or (option_map (λ (b : NewsArticle). b.groups) (article_with S a.serial)) [] ≡ a.groups = ap (λ o. unwrap_or (option_map (λ (b : NewsArticle). b.groups) o) []) is in
-    let moment : unwrap_or (option_map (λ (b : NewsArticle). b.moment) (article_with S a.serial)) 0 ≡ a.moment = ap (λ o. unwrap_or (option_map (λ (b : NewsArticle). b.moment) o) 0) is in
+    let groups : unwrap_or (option_map (λ (b : NewsArticle). b.groups) (article_with S a.serial)) [] ≡ a.groups =
+    ap (λ o. unwrap_or (option_map (λ (b : NewsArticle). b.groups) o) []) is in
+    let moment : unwrap_or (option_map (λ (b : NewsArticle). b.moment) (article_with S a.serial)) 0 ≡ a.moment =
+    ap (λ o. unwrap_or (option_map (λ (b : NewsArticle). b.moment) o) 0) is in
     λ i. record { serial = a.serial; text = sym text i; groups = sym groups i; moment = sym moment i }
 
-pub found : (S : Spool) (o : Option NewsArticle) (serial : ℕ) → ((a : NewsArticle) → o ≡ Some a → article_with S a.serial ≡ Some a) → Some serial ≡ option_map (λ a. a.serial) o → IsFound S o serial
+pub found : (S : Spool) (o : Option NewsArticle) (serial : ℕ) → ((a : NewsArticle) → o ≡ Some a → article_with S a.serial ≡ Some a)
+    → Some serial ≡ option_map (λ a. a.serial) o → IsFound S o serial
 found S None serial stand is = absurd (cc)
 found S (Some a) serial stand is =
     let same : serial ≡ a.serial = cc in
-    let its : IsFound S (Some a) a.serial = record { is = ap Some (same_article S a (stand a refl)); there = stand a refl ∙ ap Some (same_article S a (stand a refl)) } in
+    let its : IsFound S (Some a) a.serial =
+    record { is = ap Some (same_article S a (stand a refl)); there = stand a refl ∙ ap Some (same_article S a (stand a refl)) } in
     subst (IsFound S (Some a)) (sym same) its
 
 pub not_found : (o : Option NewsArticle) → None ≡ option_map (λ (a : NewsArticle). a.serial) o → o ≡ None
@@ -93,14 +106,24 @@ not_found (Some a) is = absurd (cc)
 
 -- ---- gone or here
 
-pub gone_located : (S : Spool) (o : Option NewsArticle) (serial expired : ℕ) → o ≡ Some (article_of S serial) → article_with S serial ≡ Some (article_of S serial) → Some expired ≡ gone_with S serial → (option_and_then (unless_gone S) o ≡ None) × (expired ≡ id_reads S o)
-gone_located S o serial expired is there gone = rw is (by_gone (is_gone S (article_of S serial)) (gone ∙ ap (option_and_then (λ a. cond (is_gone S a) (Some (gone_at S a)) None)) there)) where
-  by_gone : (b : Bool) → Some expired ≡ cond b (Some (gone_at S (article_of S serial))) None → (cond b None (Some (article_of S serial)) ≡ None) × (expired ≡ cond b (gone_at S (article_of S serial)) serial)
-  by_gone true same = (refl, cc)
-  by_gone false same = absurd (cc)
+pub gone_located : (S : Spool) (o : Option NewsArticle) (serial expired : ℕ) → o ≡ Some (article_of S serial)
+    → article_with S serial ≡ Some (article_of S serial) → Some expired ≡ gone_with S serial
+    → (option_and_then (unless_gone S) o ≡ None) × (expired ≡ id_reads S o)
+gone_located S o serial expired is there gone =
+    rw is (by_gone (is_gone S (article_of S serial)) (gone
+    ∙ ap (option_and_then (λ a. cond (is_gone S a) (Some (gone_at S a)) None)) there)) where
+      by_gone : (b : Bool) → Some expired ≡ cond b (Some (gone_at S (article_of S serial))) None
+          → (cond b None (Some (article_of S serial)) ≡ None) × (expired ≡ cond b (gone_at S (article_of S serial)) serial)
+      by_gone true same = (refl, cc)
+      by_gone false same = absurd (cc)
 
-pub here_located : (S : Spool) (o : Option NewsArticle) (serial : ℕ) → o ≡ Some (article_of S serial) → article_with S serial ≡ Some (article_of S serial) → None ≡ gone_with S serial → (option_and_then (unless_gone S) o ≡ Some (article_of S serial)) × (serial ≡ id_reads S o)
-here_located S o serial is there here = rw is (by_gone (is_gone S (article_of S serial)) (here ∙ ap (option_and_then (λ a. cond (is_gone S a) (Some (gone_at S a)) None)) there)) where
-  by_gone : (b : Bool) → None ≡ cond b (Some (gone_at S (article_of S serial))) None → (cond b None (Some (article_of S serial)) ≡ Some (article_of S serial)) × (serial ≡ cond b (gone_at S (article_of S serial)) serial)
-  by_gone true same = absurd (cc)
-  by_gone false same = (refl, refl)
+pub here_located : (S : Spool) (o : Option NewsArticle) (serial : ℕ) → o ≡ Some (article_of S serial)
+    → article_with S serial ≡ Some (article_of S serial) → None ≡ gone_with S serial
+    → (option_and_then (unless_gone S) o ≡ Some (article_of S serial)) × (serial ≡ id_reads S o)
+here_located S o serial is there here =
+    rw is (by_gone (is_gone S (article_of S serial)) (here
+    ∙ ap (option_and_then (λ a. cond (is_gone S a) (Some (gone_at S a)) None)) there)) where
+      by_gone : (b : Bool) → None ≡ cond b (Some (gone_at S (article_of S serial))) None
+          → (cond b None (Some (article_of S serial)) ≡ Some (article_of S serial)) × (serial ≡ cond b (gone_at S (article_of S serial)) serial)
+      by_gone true same = absurd (cc)
+      by_gone false same = (refl, refl)

@@ -1,9 +1,11 @@
 -- What look-ups into a spool give, in the words of the spool.
-use Rattle.std.specs.Prelude.{◌≡◌, ℕ, zero, suc, ◌+◌, ◌-◌, if◌then◌else◌, List, [], map, take, drop, flat_map, slice_get, Option, Some, None, option_map, option_and_then, unwrap_or}
+use Rattle.std.specs.Prelude.{◌≡◌, ℕ, zero, suc, ◌+◌, ◌-◌, if◌then◌else◌, List, [], map, take, drop, flat_map, slice_get, Option, Some}
+use Rattle.std.specs.Prelude.{None, option_map, option_and_then, unwrap_or}
 use Rattle.std.specs.List.{enumerate_from}
 use Rattle.model.specs.Stream.{Octets, line, stuffed}
 use Rattle.model.specs.Article.{header, body, overview_line}
-use Rattle.model.specs.Spool.{Spool, NewsGroup, NewsArticle, Listed, article_filed, as_it_is, entries, filed_in, gone_at, groups, high, is_gone, last_naming, low}
+use Rattle.model.specs.Spool.{Spool, NewsGroup, NewsArticle, Listed, article_filed, as_it_is, entries, filed_in, gone_at, groups, high}
+use Rattle.model.specs.Spool.{is_gone, last_naming, low}
 use Rattle.model.specs.declared.command.Part.{Part}
 use Rattle.model.specs.declared.command.Part.TheVariants as part
 use Rattle.lookups.specs.declared.GroupView.{GroupView}

@@ -10,7 +10,8 @@ use crate::LookUps;
 
 /// The serial of the article that is in the group under this number.
 pub fn find_number<L: LookUps>(spool: &L, group: &[u8], number: u64) -> Option<u64>
-    ensures is { MatchOption result (by_number (L.changes spool.now) group.now number ≡ None) (λ serial. by_number (L.changes spool.now) group.now number ≡ Some (article_of (L.changes spool.now) serial)) }
+    ensures is { MatchOption result (by_number (L.changes spool.now) group.now number ≡ None)
+        (λ serial. by_number (L.changes spool.now) group.now number ≡ Some (article_of (L.changes spool.now) serial)) }
     ensures there { IfSome result (λ serial. article_with (L.changes spool.now) serial ≡ Some (article_of (L.changes spool.now) serial)) }
 {
     match spool.by_number(group, number) {
@@ -21,7 +22,8 @@ pub fn find_number<L: LookUps>(spool: &L, group: &[u8], number: u64) -> Option<u
 
 /// The serial of the article with this message-id, even if it is gone.
 pub fn find_id<L: LookUps>(spool: &L, wanted: &[u8]) -> Option<u64>
-    ensures is { MatchOption result (by_id (L.changes spool.now) wanted.now ≡ None) (λ serial. by_id (L.changes spool.now) wanted.now ≡ Some (article_of (L.changes spool.now) serial)) }
+    ensures is { MatchOption result (by_id (L.changes spool.now) wanted.now ≡ None)
+        (λ serial. by_id (L.changes spool.now) wanted.now ≡ Some (article_of (L.changes spool.now) serial)) }
     ensures there { IfSome result (λ serial. article_with (L.changes spool.now) serial ≡ Some (article_of (L.changes spool.now) serial)) }
 {
     match spool.by_id(wanted) {
@@ -113,8 +115,10 @@ pub fn absent_reads<L: LookUps>(spool: &L, group: &[u8], number: u64) -> u64
 
 /// The article that is in the group under this number.
 pub fn locate_number<L: LookUps>(spool: &L, group: &[u8], number: u64) -> Located
-    ensures is { MatchOption result.serial (by_number (L.changes spool.now) group.now number ≡ None) (λ serial. by_number (L.changes spool.now) group.now number ≡ Some (article_of (L.changes spool.now) serial)) }
-    ensures there { IfSome result.serial (λ serial. article_with (L.changes spool.now) serial ≡ Some (article_of (L.changes spool.now) serial)) }
+    ensures is { MatchOption result.serial (by_number (L.changes spool.now) group.now number ≡ None)
+        (λ serial. by_number (L.changes spool.now) group.now number ≡ Some (article_of (L.changes spool.now) serial)) }
+    ensures there { IfSome result.serial
+        (λ serial. article_with (L.changes spool.now) serial ≡ Some (article_of (L.changes spool.now) serial)) }
     ensures reads { result.reads ≡ number_reads (L.changes spool.now) group.now number (by_number (L.changes spool.now) group.now number) }
 {
     match find_number(spool, group, number) {
@@ -131,8 +135,10 @@ pub fn locate_number<L: LookUps>(spool: &L, group: &[u8], number: u64) -> Locate
 
 /// The article with this message-id, unless it is gone.
 pub fn locate_id<L: LookUps>(spool: &L, wanted: &[u8]) -> Located
-    ensures is { MatchOption result.serial (here_by_id (L.changes spool.now) wanted.now ≡ None) (λ serial. here_by_id (L.changes spool.now) wanted.now ≡ Some (article_of (L.changes spool.now) serial)) }
-    ensures there { IfSome result.serial (λ serial. article_with (L.changes spool.now) serial ≡ Some (article_of (L.changes spool.now) serial)) }
+    ensures is { MatchOption result.serial (here_by_id (L.changes spool.now) wanted.now ≡ None)
+        (λ serial. here_by_id (L.changes spool.now) wanted.now ≡ Some (article_of (L.changes spool.now) serial)) }
+    ensures there { IfSome result.serial
+        (λ serial. article_with (L.changes spool.now) serial ≡ Some (article_of (L.changes spool.now) serial)) }
     ensures reads { result.reads ≡ id_reads (L.changes spool.now) (by_id (L.changes spool.now) wanted.now) }
 {
     let Some(serial) = find_id(spool, wanted) else {

@@ -2,7 +2,8 @@
 //! definitions of the crate `model` say what each answer is.
 #![tactic(auto)]
 
-ghost use Rattle.std.specs.Prelude.{◌≡◌, ℕ, ◌+◌, ◌<◌, ◌≤◌, ◌^◌, ◌++◌, IfSome, IsTrue, IsSome, OnOk, Some, true, false, length, option_map, slice_get};
+ghost use Rattle.std.specs.Prelude.{◌≡◌, ℕ, ◌+◌, ◌<◌, ◌≤◌, ◌^◌, ◌++◌, IfSome, IsTrue, IsSome, OnOk, Some, true, false, length, option_map};
+ghost use Rattle.std.specs.Prelude.{slice_get};
 ghost use Rattle.std.specs.List.{list_any};
 ghost use Rattle.model.specs.Stream.{Octets, line};
 ghost use Rattle.model.specs.Names.{is_host, is_wildmat, wildmat_matches};
@@ -93,8 +94,10 @@ pub trait LookUps {
     /// there is no such article. If `from` is 0 or negative, the answer is 0.
     fn older_than(&self, from: i64) -> u64
         ensures few { result ≤ length (changes self.now) }
-        ensures older { (serial : ℕ) → serial ≤ result → IfSome (article_with (changes self.now) serial) (λ a. is_since from a.moment ≡ false) }
-        ensures next { is_since from 0 ≡ false → result < length (changes self.now) → option_map (λ a. is_since from a.moment) (article_with (changes self.now) (result + 1)) ≡ Some true }
+        ensures older { (serial : ℕ) → serial ≤ result
+            → IfSome (article_with (changes self.now) serial) (λ a. is_since from a.moment ≡ false) }
+        ensures next { is_since from 0 ≡ false → result < length (changes self.now)
+            → option_map (λ a. is_since from a.moment) (article_with (changes self.now) (result + 1)) ≡ Some true }
         ensures none { is_since from 0 ≡ true → result ≡ 0 };
 
     /// Whether the article with this serial is in a group whose name the wildmat matches.

@@ -1,5 +1,6 @@
 -- A sync, block by block.
-use Rattle.std.proofs.Common.{◌≡◌, ◌≢◌, ◌⊎◌, inl, inr, ◌<◌, ◌≤◌, ℕ, ◌+◌, ◌-◌, ◌*◌, ◌/◌, min, Bool, true, false, List, length, get_or, replicate, sym, ◌∙◌, ap, arith}
+use Rattle.std.proofs.Common.{◌≡◌, ◌≢◌, ◌⊎◌, inl, inr, ◌<◌, ◌≤◌, ℕ, ◌+◌, ◌-◌, ◌*◌, ◌/◌, min, Bool, true, false, List, length, get_or}
+use Rattle.std.proofs.Common.{replicate, sym, ◌∙◌, ap, arith}
 use Rattle.std.proofs.lemmas.List.{get_or-replicate, length-replicate, get_or_past, ext_get_or}
 use Rattle.std.proofs.lemmas.Bool.{cases_lt, cases_Bool, false≢true}
 use Rattle.disk.specs.Image.{part, overwritten}
@@ -20,7 +21,8 @@ pub record IsSyncedTo (block : ℕ) (marked : List Bool) (present synced : List 
   pub covered : (k : ℕ) → get_or touched k false ≡ true → get_or marked (k / 4096) false ≡ true
   pub left : (k : ℕ) → get_or touched k false ≡ true → block ≤ k / 4096
 
-module _ (block : ℕ) (marked : List Bool) (present synced : List ℕ) (touched : List Bool) (so_far : IsSyncedTo block marked present synced touched) where
+module _ (block : ℕ) (marked : List Bool) (present synced : List ℕ) (touched : List Bool)
+    (so_far : IsSyncedTo block marked present synced touched) where
   pub unmarked_more : get_or marked block false ≡ false → IsSyncedTo (block + 1) marked present synced touched
   unmarked_more is = record {
     size = so_far.size;
@@ -28,12 +30,14 @@ module _ (block : ℕ) (marked : List Bool) (present synced : List ℕ) (touched
     same = so_far.same;
     covered = so_far.covered;
     left = λ k touches.
-        let other : k / 4096 ≢ block = λ at. false≢true (sym is ∙ (ap (λ (b : ℕ). get_or marked b false) (sym at) ∙ so_far.covered k touches)) in
+        let other : k / 4096 ≢ block = λ at. false≢true (sym is
+        ∙ (ap (λ (b : ℕ). get_or marked b false) (sym at) ∙ so_far.covered k touches)) in
         let from = so_far.left k touches in
         omega (arith, other, from);
   }
 
-  module _ (start end : ℕ) (from : start ≡ block * 4096) (below : start ≤ length present) (to : end ≡ start + min 4096 (length present - start)) where
+  module _ (start end : ℕ) (from : start ≡ block * 4096) (below : start ≤ length present)
+      (to : end ≡ start + min 4096 (length present - start)) where
     abbrev octets : List ℕ
     octets = part start (end - start) present
 
@@ -64,7 +68,8 @@ module _ (block : ℕ) (marked : List Bool) (present synced : List ℕ) (touched
 
     touched_outside : (k : ℕ) → (k < start) ⊎ (end ≤ k) → get_or (overwritten start none touched) k false ≡ get_or touched k false
     touched_outside k (inl low) = overwritten_below start none touched none_fit k false low
-    touched_outside k (inr high) = overwritten_above start none touched none_fit k false (omega (arith, length-replicate (end - start) false, below, to))
+    touched_outside k (inr high) = overwritten_above start none touched none_fit k false
+        (omega (arith, length-replicate (end - start) false, below, to))
 
     synced_inside : (k : ℕ) → start ≤ k → k < end → get_or (overwritten start octets synced) k 0 ≡ get_or present k 0
     synced_inside k low high =
@@ -87,11 +92,13 @@ module _ (block : ℕ) (marked : List Bool) (present synced : List ℕ) (touched
       left = λ k touches. left k (still k touches (cases k));
     }
       where
-        same : (k : ℕ) → get_or (overwritten start none touched) k false ≡ false → ((k < start) ⊎ (end ≤ k)) ⊎ ((start ≤ k) × (k < end)) → get_or present k 0 ≡ get_or (overwritten start octets synced) k 0
+        same : (k : ℕ) → get_or (overwritten start none touched) k false ≡ false → ((k < start) ⊎ (end ≤ k)) ⊎ ((start ≤ k) × (k < end))
+            → get_or present k 0 ≡ get_or (overwritten start octets synced) k 0
         same k untouched (inl out) = so_far.same k (sym (touched_outside k out) ∙ untouched) ∙ sym (synced_outside k out)
         same k untouched (inr inside) = sym (synced_inside k inside.0 inside.1)
 
-        still : (k : ℕ) → get_or (overwritten start none touched) k false ≡ true → ((k < start) ⊎ (end ≤ k)) ⊎ ((start ≤ k) × (k < end)) → ((k < start) ⊎ (end ≤ k)) × (get_or touched k false ≡ true)
+        still : (k : ℕ) → get_or (overwritten start none touched) k false ≡ true → ((k < start) ⊎ (end ≤ k)) ⊎ ((start ≤ k) × (k < end))
+            → ((k < start) ⊎ (end ≤ k)) × (get_or touched k false ≡ true)
         still k touches (inl out) = (out, sym (touched_outside k out) ∙ touches)
         still k touches (inr inside) = absurd (false≢true (sym (touched_inside k inside.0 inside.1) ∙ touches))
 

@@ -77,7 +77,8 @@ all_synced image m = record m { synced = image; present = image; touched = repli
 
 -- a sync makes what a read gives durable; if it fails, the octets and the touched ones stay as they are
 abbrev pub after_sync : MemoryView → MemoryView
-after_sync m = if fails_next Sync m.plan then record (asked Sync m) { syncs = one_more m.syncs } else all_synced m.present (record (asked Sync m) { syncs = one_more m.syncs })
+after_sync m = if fails_next Sync m.plan then record (asked Sync m) { syncs = one_more m.syncs } else all_synced m.present
+    (record (asked Sync m) { syncs = one_more m.syncs })
 
 -- the image that a crash with these picks leaves
 abbrev pub picked : List Pick → MemoryView → List ℕ

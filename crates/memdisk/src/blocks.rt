@@ -1,6 +1,7 @@
 //! The octets of the marked blocks. A sync and a crash cost only what was written since the last good sync.
 
-ghost use Rattle.std.specs.Prelude.{◌≡◌, ◌+◌, ◌-◌, ◌/◌, ◌<◌, ◌≤◌, ◌⊎◌, ℕ, IfOk, true, false, length, max, min, replicate, slice_index, slice_index_or};
+ghost use Rattle.std.specs.Prelude.{◌≡◌, ◌+◌, ◌-◌, ◌/◌, ◌<◌, ◌≤◌, ◌⊎◌, ℕ, IfOk, true, false, length, max, min, replicate, slice_index};
+ghost use Rattle.std.specs.Prelude.{slice_index_or};
 ghost use Rattle.disk.specs.Image.{overwritten, part};
 ghost use Rattle.memdisk.specs.Memory.{IsCrashImage, IsSound, IsSpanned};
 ghost use Rattle.memdisk.specs.Picks.{octet_of, pick_for, picked_from, settled};
@@ -50,8 +51,10 @@ impl Marks {
         requires { end / 4096 < length self.old.blocks.items }
         ensures size { length self.new.blocks.items ≡ length self.old.blocks.items }
         ensures covers { (k : ℕ) → at ≤ k → k < end → slice_index_or self.new.blocks.items (k / 4096) false ≡ true }
-        ensures no_other { (b : ℕ) → slice_index_or self.new.blocks.items b false ≡ true → slice_index_or self.old.blocks.items b false ≡ true ⊎ ((at / 4096 ≤ b) × (b ≤ (end - 1) / 4096)) }
-        ensures keeps { (b : ℕ) → slice_index_or self.old.blocks.items b false ≡ true → slice_index_or self.new.blocks.items b false ≡ true }
+        ensures no_other { (b : ℕ) → slice_index_or self.new.blocks.items b false ≡ true
+            → slice_index_or self.old.blocks.items b false ≡ true ⊎ ((at / 4096 ≤ b) × (b ≤ (end - 1) / 4096)) }
+        ensures keeps { (b : ℕ) → slice_index_or self.old.blocks.items b false ≡ true
+            → slice_index_or self.new.blocks.items b false ≡ true }
         ensures first { at < end → self.new.first ≡ min self.old.first (at / 4096) }
         ensures past { at < end → self.new.past ≡ max self.old.past ((end - 1) / 4096 + 1) }
     {
@@ -163,8 +166,10 @@ fn settle_range(
     requires count { count ≤ range.start }
     ensures count { result ≤ range.end }
     ensures size { length present.new.items ≡ length present.old.items }
-    ensures image { settled picks.now result range.end touched.now synced.now present.new.items ≡ settled picks.now count range.start touched.now synced.now present.old.items }
-    ensures untouched { (k : ℕ) → slice_index_or touched.now k false ≡ false → slice_index present.new.items k ≡ slice_index present.old.items k }
+    ensures image { settled picks.now result range.end touched.now synced.now present.new.items
+        ≡ settled picks.now count range.start touched.now synced.now present.old.items }
+    ensures untouched { (k : ℕ) → slice_index_or touched.now k false ≡ false
+        → slice_index present.new.items k ≡ slice_index present.old.items k }
 {
     let mut count = count;
     for at in range.start..range.end {

@@ -1,6 +1,8 @@
 -- How much room a change asks for, and how many blocks it changes.
-use Rattle.std.proofs.Common.{◌≡◌, ◌≤◌, ℕ, zero, suc, ◌+◌, ◌*◌, ◌/◌, ◌%◌, List, [], ◌∷◌, ◌++◌, length, refl, sym, ◌∙◌, ap, arith, Bool, true, false, cond, eqb, length-append}
-use Rattle.std.specs.Prelude.{flat_map, filter, filter_map, find, zip, bytes_eq, is_some, nat_lt, nat_le, ◌-◌, ◌&&◌, ◌||◌, Option, Some, None}
+use Rattle.std.proofs.Common.{◌≡◌, ◌≤◌, ℕ, zero, suc, ◌+◌, ◌*◌, ◌/◌, ◌%◌, List, [], ◌∷◌, ◌++◌, length, refl, sym, ◌∙◌, ap, arith, Bool}
+use Rattle.std.proofs.Common.{true, false, cond, eqb, length-append}
+use Rattle.std.specs.Prelude.{flat_map, filter, filter_map, find, zip, bytes_eq, is_some, nat_lt, nat_le, ◌-◌, ◌&&◌, ◌||◌, Option, Some}
+use Rattle.std.specs.Prelude.{None}
 use Rattle.std.specs.List.{Contains, list_all, list_any, sum_by}
 use Rattle.std.proofs.lemmas.Bool.{and_parts, or_parts, leb-true, ltb-false, le-ltb, false≢true}
 use Rattle.std.proofs.lemmas.List.Sums.{sum_by-cons, length-filter, count_by-le-length}
@@ -10,11 +12,16 @@ use Rattle.byteorder.specs.Numbers.{length-bytes_low_first}
 use Rattle.model.specs.Stream.{Octets}
 use Rattle.model.specs.Names.{is_group_name, is_group_octet, is_dotted}
 use Rattle.model.specs.Article.{Carried, are_distinct, cause, groups_of}
-use Rattle.model.specs.Spool.{Spool, entries_from, NewsArticle, NewsGroup, group_made, is_name, filed_in, group_named, groups, entries, is_here}
+use Rattle.model.specs.Spool.{Spool, entries_from, NewsArticle, NewsGroup, group_made, is_name, filed_in, group_named, groups, entries}
+use Rattle.model.specs.Spool.{is_here}
 use Rattle.model.specs.Records.{group_record, article_record, expiry_record}
-use Rattle.model.specs.SpoolFiles.{numbers_name, overview_name, number_record, number_records, numbers_of, numbers_file, overview_file, overview_lines, change_file, next_line, next_record, FileCall, Create, Append, filing_calls, files_of, making_calls}
+use Rattle.model.specs.SpoolFiles.{numbers_name, overview_name, number_record, number_records, numbers_of, numbers_file, overview_file}
+use Rattle.model.specs.SpoolFiles.{overview_lines, change_file, next_line, next_record, FileCall, Create, Append, filing_calls, files_of}
+use Rattle.model.specs.SpoolFiles.{making_calls}
 use Rattle.model.specs.Files.{indirect_for}
-use Rattle.model.specs.Room.{blocks_appended, blocks_asked, blocks_changed, blocks_filed, blocks_for, blocks_for_more, blocks_fresh, blocks_taken, content_blocks, extends_large, files_made, free_blocks_beside, free_inodes_beside, has_all_groups, is_full_for, is_large, largest_file, octets_asked, pointers_put}
+use Rattle.model.specs.Room.{blocks_appended, blocks_asked, blocks_changed, blocks_filed, blocks_for, blocks_for_more, blocks_fresh}
+use Rattle.model.specs.Room.{blocks_taken, content_blocks, extends_large, files_made, free_blocks_beside, free_inodes_beside}
+use Rattle.model.specs.Room.{has_all_groups, is_full_for, is_large, largest_file, octets_asked, pointers_put}
 use Rattle.model.specs.Lawful.{MayFile, IsLawfulAfter, IsLawful}
 use Rattle.model.specs.Laws.Room.{ChangesAskFew, FilesGrowByBlocks, NotFullHasRoom}
 use Rattle.model.specs.declared.change.Change.TheVariants.{Group, Article, Expire}
@@ -51,11 +58,24 @@ little_size size n = length-bytes_low_first 0 size n
 
 number_size : (serial offset : ℕ) (line : Octets) → length (number_record serial offset line) ≡ 16
 number_size serial offset line =
-    omega (arith, length-append (little_bytes 8 serial ++ little_bytes 4 offset) (little_bytes 4 (length line)), length-append (little_bytes 8 serial) (little_bytes 4 offset), little_size 8 serial, little_size 4 offset, little_size 4 (length line))
+    omega (
+      arith,
+      length-append (little_bytes 8 serial ++ little_bytes 4 offset) (little_bytes 4 (length line)),
+      length-append (little_bytes 8 serial) (little_bytes 4 offset),
+      little_size 8 serial,
+      little_size 4 offset,
+      little_size 4 (length line),
+    )
 
 group_size : (g : NewsGroup) → length (group_record g) ≡ 17 + length g.description
 group_size g =
-    omega (arith, length-append (little_bytes 8 g.serial ++ little_bytes 8 g.moment) (g.status ∷ g.description), length-append (little_bytes 8 g.serial) (little_bytes 8 g.moment), little_size 8 g.serial, little_size 8 g.moment)
+    omega (
+      arith,
+      length-append (little_bytes 8 g.serial ++ little_bytes 8 g.moment) (g.status ∷ g.description),
+      length-append (little_bytes 8 g.serial) (little_bytes 8 g.moment),
+      little_size 8 g.serial,
+      little_size 8 g.moment,
+    )
 
 names_size : (names : List Octets) → list_all is_group_name names ≡ true → length (flat_map (λ g. length g ∷ g) names) ≤ 41 * length names
 names_size [] good = omega arith
@@ -83,18 +103,26 @@ article_size a =
       little_size 4 (length a.text),
     )
 
-expiry_size : (n number : ℕ) (group : Octets) → length (expiry_record (record { serial = n; group = group; number = number })) ≡ 13 + length group
+expiry_size : (n number : ℕ) (group : Octets)
+    → length (expiry_record (record { serial = n; group = group; number = number })) ≡ 13 + length group
 expiry_size n number group =
-    omega (arith, length-append (little_bytes 8 n ++ little_bytes 4 number) (length group ∷ group), length-append (little_bytes 8 n) (little_bytes 4 number), little_size 8 n, little_size 4 number)
+    omega (
+      arith,
+      length-append (little_bytes 8 n ++ little_bytes 4 number) (length group ∷ group),
+      length-append (little_bytes 8 n) (little_bytes 4 number),
+      little_size 8 n,
+      little_size 4 number,
+    )
 
 -- ---- the groups of an article
 
 filter_all : (q p : Octets → Bool) (names : List Octets) → list_all q names ≡ true → list_all q (filter p names) ≡ true
 filter_all q p [] good = refl
-filter_all q p (x ∷ names) good = by_test (p x) (and_parts (q x) (list_all q names) good).0 (filter_all q p names (and_parts (q x) (list_all q names) good).1) where
-  by_test : (b : Bool) → q x ≡ true → list_all q (filter p names) ≡ true → list_all q (cond b (x ∷ filter p names) (filter p names)) ≡ true
-  by_test true first rest = ap (λ (t : Bool). t && list_all q (filter p names)) first ∙ rest
-  by_test false first rest = rest
+filter_all q p (x ∷ names) good =
+    by_test (p x) (and_parts (q x) (list_all q names) good).0 (filter_all q p names (and_parts (q x) (list_all q names) good).1) where
+      by_test : (b : Bool) → q x ≡ true → list_all q (filter p names) ≡ true → list_all q (cond b (x ∷ filter p names) (filter p names)) ≡ true
+      by_test true first rest = ap (λ (t : Bool). t && list_all q (filter p names)) first ∙ rest
+      by_test false first rest = rest
 
 record AreFew (names : List Octets) : Type 0 where
   count : length names ≤ 16
@@ -103,37 +131,55 @@ record AreFew (names : List Octets) : Type 0 where
 few_groups : (host : Octets) (S : Spool) (text : Octets) (gs : List Octets) (moment : ℕ) → MayFile host S text gs moment → AreFew gs
 few_groups host S text gs moment may =
     let good = (no_cause Carried text (carried_cause text may.carried)).good_groups in
-    let sound = (and_parts (nat_le (length (groups_of text)) 16 && list_all is_group_name (groups_of text)) (are_distinct (groups_of text)) good).0 in
+    let sound = (and_parts (nat_le (length (groups_of text)) 16 && list_all is_group_name (groups_of text))
+    (are_distinct (groups_of text)) good).0 in
     let parts = and_parts (nat_le (length (groups_of text)) 16) (list_all is_group_name (groups_of text)) sound in
     record {
-      count = omega (arith, ap (λ (l : List Octets). length l) may.filed, length-filter (is_here S) (groups_of text), count_by-le-length (is_here S) (groups_of text), leb-true (length (groups_of text)) 16 parts.0);
+      count = omega (
+        arith,
+        ap (λ (l : List Octets). length l) may.filed,
+        length-filter (is_here S) (groups_of text),
+        count_by-le-length (is_here S) (groups_of text),
+        leb-true (length (groups_of text)) 16 parts.0,
+      );
       named = ap (list_all is_group_name) may.filed ∙ filter_all is_group_name (is_here S) (groups_of text) parts.1;
     }
 
 -- a group that is here has a name
 here_from : (host : Octets) (before cs : Spool) (n : ℕ) (g : Octets) → IsLawfulAfter host before cs
-    → is_some (find (λ (group : NewsGroup). is_name g group.name) (filter_map group_made (entries_from n cs))) ≡ true → is_group_name g ≡ true
+    → is_some (find (λ (group : NewsGroup). is_name g group.name) (filter_map group_made (entries_from n cs))) ≡ true
+    → is_group_name g ≡ true
 here_from host before [] n g lawful here = absurd (false≢true here)
-here_from host before (Article text gs moment ∷ cs) n g lawful here = here_from host (before ++ Article text gs moment ∷ []) cs (suc n) g lawful.1 here
+here_from host before (Article text gs moment ∷ cs) n g lawful here =
+    here_from host (before ++ Article text gs moment ∷ []) cs (suc n) g lawful.1 here
 here_from host before (Expire h number ∷ cs) n g lawful here = here_from host (before ++ Expire h number ∷ []) cs (suc n) g lawful.1 here
-here_from host before (Group h status description moment ∷ cs) n g lawful here = by_name (bytes_eq h g) refl here (here_from host (before ++ Group h status description moment ∷ []) cs (suc n) g lawful.1) where
-  rest : Option NewsGroup
-  rest = find (λ (group : NewsGroup). is_name g group.name) (filter_map group_made (entries_from (suc n) cs))
+here_from host before (Group h status description moment ∷ cs) n g lawful here =
+    by_name (bytes_eq h g) refl here (here_from host (before ++ Group h status description moment ∷ []) cs (suc n) g lawful.1) where
+      rest : Option NewsGroup
+      rest = find (λ (group : NewsGroup). is_name g group.name) (filter_map group_made (entries_from (suc n) cs))
 
-  by_name : (b : Bool) → bytes_eq h g ≡ b → is_some (cond b (Some (record { serial = n; name = h; status = status; description = description; moment = moment })) rest) ≡ true → (is_some rest ≡ true → is_group_name g ≡ true) → is_group_name g ≡ true
-  by_name true is found later = ap is_group_name (sym ((bytes_eq-Decides h g).0 is)) ∙ lawful.0.is_name
-  by_name false is found later = later found
+      by_name : (b : Bool) → bytes_eq h g ≡ b
+          → is_some (cond b (Some (record { serial = n; name = h; status = status; description = description; moment = moment })) rest) ≡ true
+          → (is_some rest ≡ true → is_group_name g ≡ true) → is_group_name g ≡ true
+      by_name true is found later = ap is_group_name (sym ((bytes_eq-Decides h g).0 is)) ∙ lawful.0.is_name
+      by_name false is found later = later found
 
 here_short : (host : Octets) (S : Spool) (g : Octets) → IsLawful host S → is_here S g ≡ true → length g ≤ 40
 unfolding group_named groups entries
-here_short host S g lawful here = leb-true (length g) 40 (and_parts (nat_le (length g) 40) (is_dotted is_group_octet g) (here_from host [] S 1 g lawful here)).0
+here_short host S g lawful here =
+    leb-true (length g) 40 (and_parts (nat_le (length g) 40) (is_dotted is_group_octet g) (here_from host [] S 1 g lawful here)).0
 
 -- ---- numbers stand in whole records
 
 pub records_size : (offset : ℕ) (ps : List (NewsArticle × Octets)) → length (number_records offset ps) ≡ 16 * length ps
 records_size offset [] = refl
 records_size offset (p ∷ ps) =
-    omega (arith, length-append (number_record p.0.serial offset p.1) (number_records (offset + length p.1) ps), number_size p.0.serial offset p.1, records_size (offset + length p.1) ps)
+    omega (
+      arith,
+      length-append (number_record p.0.serial offset p.1) (number_records (offset + length p.1) ps),
+      number_size p.0.serial offset p.1,
+      records_size (offset + length p.1) ps,
+    )
 
 numbers_whole : (filed : List NewsArticle) → length (numbers_of filed) % 16 ≡ 0
 unfolding numbers_of
@@ -168,7 +214,8 @@ module _ (S : Spool) (text : Octets) (few : length S ≤ 32768) (carried : cause
         arith,
         size,
         numbers_whole (filed_in S g),
-        put_one (blocks_fresh (length (numbers_file S g)) (length (next_record S text g))) (length (numbers_file S g) + length (next_record S text g)) (omega (arith, size)),
+        put_one (blocks_fresh (length (numbers_file S g)) (length (next_record S text g)))
+            (length (numbers_file S g) + length (next_record S text g)) (omega (arith, size)),
       )
 
   filed_overview : (g : Octets) → blocks_appended (length (overview_file S g)) (length (next_line S text g)) ≤ 7
@@ -176,7 +223,8 @@ module _ (S : Spool) (text : Octets) (few : length S ≤ 32768) (carried : cause
       omega (
         arith,
         short_line g,
-        put_two (blocks_fresh (length (overview_file S g)) (length (next_line S text g))) (length (overview_file S g) + length (next_line S text g)) (omega (arith, short_line g)),
+        put_two (blocks_fresh (length (overview_file S g)) (length (next_line S text g)))
+            (length (overview_file S g) + length (next_line S text g)) (omega (arith, short_line g)),
       )
 
   filed_blocks : (g : Octets) → blocks_filed S text g ≤ 11
@@ -200,11 +248,17 @@ module _ (S : Spool) (text : Octets) (few : length S ≤ 32768) (carried : cause
         number_size (length S + 1) (length (overview_file S g)) (next_line S text g),
       )
 
-making_taken : (name octets : Octets) (more : List FileCall) → sum_by blocks_taken (making_calls name octets ++ more) ≡ blocks_for_more (length octets) + sum_by blocks_taken more
-making_taken name octets more = omega (arith, sum_by-cons blocks_taken (Create name) (Append name octets ∷ more), sum_by-cons blocks_taken (Append name octets) more)
+making_taken : (name octets : Octets) (more : List FileCall)
+    → sum_by blocks_taken (making_calls name octets ++ more) ≡ blocks_for_more (length octets) + sum_by blocks_taken more
+making_taken name octets more =
+    omega (arith, sum_by-cons blocks_taken (Create name) (Append name octets ∷ more), sum_by-cons blocks_taken (Append name octets) more)
 
 two_created : (first second : Octets) → sum_by blocks_taken (Create first ∷ Create second ∷ []) ≡ 0
-two_created first second = omega (arith, sum_by-cons blocks_taken (Create first) (Create second ∷ []), sum_by-cons blocks_taken (Create second) [])
+two_created first second = omega (
+  arith,
+  sum_by-cons blocks_taken (Create first) (Create second ∷ []),
+  sum_by-cons blocks_taken (Create second) [],
+)
 
 -- ---- changes
 
@@ -212,9 +266,25 @@ pub changes_ask_few : ChangesAskFew
 unfolding blocks_changed
 changes_ask_few host S (Group name status description moment) few lawful may =
     let its = change_file (record { serial = length S + 1; change = Group name status description moment }) in
-    let size : length its.content ≤ 217 = omega (arith, group_size (record { serial = length S + 1; name = name; status = status; description = description; moment = moment }), may.short) in
+    let size : length its.content ≤ 217 =
+    omega (
+      arith,
+      group_size (record {
+        serial = length S + 1;
+        name = name;
+        status = status;
+        description = description;
+        moment = moment;
+      }),
+      may.short,
+    ) in
     record {
-      blocks = omega (arith, making_taken its.name its.content (Create (numbers_name name) ∷ Create (overview_name name) ∷ []), two_created (numbers_name name) (overview_name name), size);
+      blocks = omega (
+        arith,
+        making_taken its.name its.content (Create (numbers_name name) ∷ Create (overview_name name) ∷ []),
+        two_created (numbers_name name) (overview_name name),
+        size,
+      );
       made = omega (arith, size);
       lines = λ text g gs m same. absurd (cc);
       changed = omega (arith, small_blocks (length its.content) (omega (arith, size)), size);
@@ -223,18 +293,41 @@ changes_ask_few host S (Article text gs moment) few lawful may =
     let its = change_file (record { serial = length S + 1; change = Article text gs moment }) in
     let groups_few = few_groups host S text gs moment may in
     let size : length its.content ≤ 262821 =
-    omega (arith, article_size (record { serial = length S + 1; text = text; groups = gs; moment = moment }), names_size gs groups_few.named, groups_few.count, carried_size text may.carried) in
+    omega (
+      arith,
+      article_size (record { serial = length S + 1; text = text; groups = gs; moment = moment }),
+      names_size gs groups_few.named,
+      groups_few.count,
+      carried_size text may.carried,
+    ) in
     record {
-      blocks = omega (arith, making_taken its.name its.content (flat_map (filing_calls S text) gs), filing_taken S text few may.carried gs, groups_few.count, size);
+      blocks = omega (
+        arith,
+        making_taken its.name its.content (flat_map (filing_calls S text) gs),
+        filing_taken S text few may.carried gs,
+        groups_few.count,
+        size,
+      );
       made = size;
-      lines = λ text' g gs' m same. let one : text' ≡ text = cc in omega (arith, ap (λ (t : Octets). length (next_line S t g)) one, short_line S text few may.carried g);
-      changed = omega (arith, middle_blocks (length its.content) (omega (arith, size)), all_filed S text few may.carried gs, groups_few.count, size);
+      lines = λ text' g gs' m same. let one : text' ≡ text = cc in
+          omega (arith, ap (λ (t : Octets). length (next_line S t g)) one, short_line S text few may.carried g);
+      changed = omega (
+        arith,
+        middle_blocks (length its.content) (omega (arith, size)),
+        all_filed S text few may.carried gs,
+        groups_few.count,
+        size,
+      );
     }
 changes_ask_few host S (Expire group number) few lawful may =
     let its = change_file (record { serial = length S + 1; change = Expire group number }) in
     let size : length its.content ≤ 53 = omega (arith, expiry_size (length S + 1) number group, here_short host S group lawful may.here) in
     let calls : sum_by blocks_taken (making_calls its.name its.content) ≡ blocks_for_more (length its.content) =
-    omega (arith, sum_by-cons blocks_taken (Create its.name) (Append its.name its.content ∷ []), sum_by-cons blocks_taken (Append its.name its.content) []) in
+    omega (
+      arith,
+      sum_by-cons blocks_taken (Create its.name) (Append its.name its.content ∷ []),
+      sum_by-cons blocks_taken (Append its.name its.content) [],
+    ) in
     record {
       blocks = omega (arith, calls, size);
       made = omega (arith, size);
@@ -244,13 +337,21 @@ changes_ask_few host S (Expire group number) few lawful may =
 
 -- ---- where the spool isn't full
 
-large_at : (S : Spool) (filed : List Octets) (g : Octets) → list_any (λ h. is_large (numbers_file S h) || is_large (overview_file S h)) filed ≡ false → Contains filed g → (is_large (numbers_file S g) ≡ false) × (is_large (overview_file S g) ≡ false)
+large_at : (S : Spool) (filed : List Octets) (g : Octets)
+    → list_any (λ h. is_large (numbers_file S h) || is_large (overview_file S h)) filed ≡ false → Contains filed g
+    → (is_large (numbers_file S g) ≡ false) × (is_large (overview_file S g) ≡ false)
 large_at S [] g none (k, low, is) = absurd (omega arith)
 large_at S (h ∷ filed) g none (zero, low, is) =
-    let here = or_parts (is_large (numbers_file S h)) (is_large (overview_file S h)) (or_parts (is_large (numbers_file S h) || is_large (overview_file S h)) (list_any (λ x. is_large (numbers_file S x) || is_large (overview_file S x)) filed) none).0 in
-    (ap (λ (x : Octets). is_large (numbers_file S x)) (sym is) ∙ here.0, ap (λ (x : Octets). is_large (overview_file S x)) (sym is) ∙ here.1)
+    let here = or_parts (is_large (numbers_file S h)) (is_large (overview_file S h))
+    (or_parts (is_large (numbers_file S h) || is_large (overview_file S h))
+    (list_any (λ x. is_large (numbers_file S x) || is_large (overview_file S x)) filed) none).0 in (
+      ap (λ (x : Octets). is_large (numbers_file S x)) (sym is) ∙ here.0,
+      ap (λ (x : Octets). is_large (overview_file S x)) (sym is)
+          ∙ here.1,
+    )
 large_at S (h ∷ filed) g none (suc k, low, is) =
-    large_at S filed g (or_parts (is_large (numbers_file S h) || is_large (overview_file S h)) (list_any (λ x. is_large (numbers_file S x) || is_large (overview_file S x)) filed) none).1 (k, omega arith, is)
+    large_at S filed g (or_parts (is_large (numbers_file S h) || is_large (overview_file S h))
+    (list_any (λ x. is_large (numbers_file S x) || is_large (overview_file S x)) filed) none).1 (k, omega arith, is)
 
 pub not_full_room : NotFullHasRoom
 unfolding is_full_for
@@ -267,7 +368,15 @@ not_full_room host blocks inodes S c few lawful may room =
       sizes = λ text filed moment g same has.
           let none : extends_large S (Article text filed moment) ≡ false = ap (extends_large S) (sym same) ∙ third.0 in
           let small = large_at S filed g none has in (
-            omega (arith, ltb-false (largest_file - octets_asked) (length (numbers_file S g)) small.0, number_size (length S + 1) (length (overview_file S g)) (next_line S text g)),
-            omega (arith, ltb-false (largest_file - octets_asked) (length (overview_file S g)) small.1, asks.lines text g filed moment same),
+            omega (
+              arith,
+              ltb-false (largest_file - octets_asked) (length (numbers_file S g)) small.0,
+              number_size (length S + 1) (length (overview_file S g)) (next_line S text g),
+            ),
+            omega (
+              arith,
+              ltb-false (largest_file - octets_asked) (length (overview_file S g)) small.1,
+              asks.lines text g filed moment same,
+            ),
           );
     }

@@ -2,7 +2,8 @@
 use Rattle.std.proofs.Common.{ℕ, suc, List, [], ◌∷◌, ◌++◌, map, sym, subst}
 use Rattle.std.specs.Prelude.{flat_map, filter_map, IsPermutation}
 use Rattle.std.proofs.lemmas.List.{append_assoc}
-use Rattle.std.proofs.lemmas.List.Sorted.{IsPermutation-append_right, IsPermutation-cons, IsPermutation-middle, IsPermutation-refl, IsPermutation-sym, IsPermutation-trans}
+use Rattle.std.proofs.lemmas.List.Sorted.{IsPermutation-append_right, IsPermutation-cons, IsPermutation-middle, IsPermutation-refl}
+use Rattle.std.proofs.lemmas.List.Sorted.{IsPermutation-sym, IsPermutation-trans}
 use Rattle.model.specs.Files.{File}
 use Rattle.model.specs.Spool.{Spool, Entry, entries_from, entries, group_made, article_filed, expiry_made, groups, articles, expiries}
 use Rattle.model.specs.SpoolFiles.{article_file, entry_files, expiry_file, files_by_kind, files_of, group_files}
@@ -19,24 +20,32 @@ module _ (S : Spool) where
   abbrev of_expiries : List Entry → List File
   of_expiries es = map expiry_file (filter_map expiry_made es)
 
-  by_kind : (n : ℕ) (R : Spool) → IsPermutation (flat_map (entry_files S) (entries_from n R)) (of_groups (entries_from n R) ++ (of_articles (entries_from n R) ++ of_expiries (entries_from n R)))
+  by_kind : (n : ℕ) (R : Spool) → IsPermutation (flat_map (entry_files S) (entries_from n R))
+      (of_groups (entries_from n R) ++ (of_articles (entries_from n R) ++ of_expiries (entries_from n R)))
   by_kind n [] = IsPermutation-refl []
   by_kind n (Group name status description moment ∷ R) =
       let es = entries_from (suc n) R in
-      let its : List File = group_files S (record { serial = n; name = name; status = status; description = description; moment = moment }) in
+      let its : List File = group_files S (record { serial = n; name = name; status = status; description = description; moment = moment })
+      in
       subst (IsPermutation (its ++ flat_map (entry_files S) es)) (sym (append_assoc its (of_groups es) (of_articles es ++ of_expiries es)))
-      (IsPermutation-append_right its (flat_map (entry_files S) es) (of_groups es ++ (of_articles es ++ of_expiries es)) (by_kind (suc n) R))
+      (IsPermutation-append_right its (flat_map (entry_files S) es) (of_groups es ++ (of_articles es ++ of_expiries es))
+      (by_kind (suc n) R))
   by_kind n (Article text gs moment ∷ R) =
       let es = entries_from (suc n) R in
       let its : File = article_file (record { serial = n; text = text; groups = gs; moment = moment }) in
-      IsPermutation-trans (its ∷ flat_map (entry_files S) es) (its ∷ (of_groups es ++ (of_articles es ++ of_expiries es))) (of_groups es ++ its ∷ (of_articles es ++ of_expiries es))
+      IsPermutation-trans (its ∷ flat_map (entry_files S) es) (its ∷ (of_groups es ++ (of_articles es ++ of_expiries es)))
+      (of_groups es ++ its ∷ (of_articles es ++ of_expiries es))
       (IsPermutation-cons its (flat_map (entry_files S) es) (of_groups es ++ (of_articles es ++ of_expiries es)) (by_kind (suc n) R))
-      (IsPermutation-sym (of_groups es ++ its ∷ (of_articles es ++ of_expiries es)) (its ∷ (of_groups es ++ (of_articles es ++ of_expiries es))) (IsPermutation-middle (of_groups es) its (of_articles es ++ of_expiries es)))
+      (IsPermutation-sym (of_groups es ++ its ∷ (of_articles es ++ of_expiries es))
+      (its ∷ (of_groups es ++ (of_articles es ++ of_expiries es)))
+      (IsPermutation-middle (of_groups es) its (of_articles es ++ of_expiries es)))
   by_kind n (Expire group number ∷ R) =
       let es = entries_from (suc n) R in
       let its : File = expiry_file (record { serial = n; group = group; number = number }) in
       let both = of_groups es ++ of_articles es in
-      let rest : IsPermutation (flat_map (entry_files S) es) (both ++ of_expiries es) = subst (IsPermutation (flat_map (entry_files S) es)) (sym (append_assoc (of_groups es) (of_articles es) (of_expiries es))) (by_kind (suc n) R) in
+      let rest : IsPermutation (flat_map (entry_files S) es) (both ++ of_expiries es) =
+      subst (IsPermutation (flat_map (entry_files S) es)) (sym (append_assoc (of_groups es) (of_articles es) (of_expiries es)))
+      (by_kind (suc n) R) in
       subst (IsPermutation (its ∷ flat_map (entry_files S) es)) (append_assoc (of_groups es) (of_articles es) (its ∷ of_expiries es))
       (IsPermutation-trans (its ∷ flat_map (entry_files S) es) (its ∷ (both ++ of_expiries es)) (both ++ its ∷ of_expiries es)
       (IsPermutation-cons its (flat_map (entry_files S) es) (both ++ of_expiries es) rest)

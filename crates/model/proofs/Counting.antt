@@ -1,16 +1,19 @@
 -- How many blocks and inodes are free beside the files that blocks hold.
-use Rattle.std.proofs.Common.{◌≡◌, ◌≢◌, inl, inr, ◌<◌, ◌≤◌, ℕ, zero, suc, ◌+◌, ◌/◌, cond, eqb, Bool, true, false, count_by, List, [], ◌∷◌, ◌++◌, length, map, refl, sym, ◌∙◌, ap, subst, arith, length-append}
+use Rattle.std.proofs.Common.{◌≡◌, ◌≢◌, inl, inr, ◌<◌, ◌≤◌, ℕ, zero, suc, ◌+◌, ◌/◌, cond, eqb, Bool, true, false, count_by, List, [], ◌∷◌}
+use Rattle.std.proofs.Common.{◌++◌, length, map, refl, sym, ◌∙◌, ap, subst, arith, length-append}
 use Rattle.std.specs.Prelude.{Option, Some, None, not, ◌||◌, ◌==◌}
 use Rattle.std.specs.List.{Contains, range_with_len, flat_map, list_any}
 use Rattle.std.specs.Option.{option_to_list}
-use Rattle.std.proofs.lemmas.Bool.{cases_lt, cases_eq, cond-true, cond-false, eqb-true, eq-eqb, ne_eqb, lt-ltb, le-ltb, false_from_ne_true, true≢false}
+use Rattle.std.proofs.lemmas.Bool.{cases_lt, cases_eq, cond-true, cond-false, eqb-true, eq-eqb, ne_eqb, lt-ltb, le-ltb, false_from_ne_true}
+use Rattle.std.proofs.lemmas.Bool.{true≢false}
 use Rattle.std.proofs.lemmas.List.{get_or_default}
 use Rattle.std.proofs.lemmas.List.Elements.{Contains-append_left, Contains-append_right, Contains-append_cases}
 use Rattle.std.proofs.lemmas.List.FromFn.{length-range_with_len}
 use Rattle.std.proofs.lemmas.List.Sums.{sum_by-cons, sum_by-append}
 use Rattle.model.specs.Stream.{Octets}
 use Rattle.model.specs.Volume.{AreDistinct}
-use Rattle.model.specs.Files.{File, HasRoom, IsFile, IsFree, IsFileSystem, content_of, entry, file_at, files_in, first_data, double_pointer, free_blocks, indirect_for, is_marked_used, kind, name_in, owned, size, slot_of, table, IsUsed}
+use Rattle.model.specs.Files.{File, HasRoom, IsFile, IsFree, IsFileSystem, content_of, entry, file_at, files_in, first_data, double_pointer}
+use Rattle.model.specs.Files.{free_blocks, indirect_for, is_marked_used, kind, name_in, owned, size, slot_of, table, IsUsed}
 use Rattle.model.specs.Room.{blocks_for, blocks_of_files, content_blocks}
 use Rattle.model.specs.Laws.Room.{FreeIsBeside}
 use Rattle.model.proofs.Owning.{free_kind, free_owns, owned_with, owned_without, content_size}
@@ -21,7 +24,8 @@ count_cons : (p : ℕ → Bool) (x : ℕ) (xs : List ℕ) → count_by p (x ∷ 
 count_cons p x xs = sum_by-cons (λ n. cond (p n) 1 0) x xs
 
 -- two tests that agree on a range
-count_same : (p q : ℕ → Bool) (a n : ℕ) → ((b : ℕ) → a ≤ b → b < a + n → p b ≡ q b) → count_by p (range_with_len a n) ≡ count_by q (range_with_len a n)
+count_same : (p q : ℕ → Bool) (a n : ℕ) → ((b : ℕ) → a ≤ b → b < a + n → p b ≡ q b)
+    → count_by p (range_with_len a n) ≡ count_by q (range_with_len a n)
 count_same p q a zero same = refl
 count_same p q a (suc n) same =
     count_cons p a (range_with_len (a + 1) n)
@@ -48,10 +52,18 @@ either_one true false apart = refl
 either_one false true apart = refl
 either_one false false apart = refl
 
-count_either : (p q : ℕ → Bool) → ((b : ℕ) → p b ≡ true → q b ≡ true → ⊥) → (xs : List ℕ) → count_by (λ b. p b || q b) xs ≡ count_by p xs + count_by q xs
+count_either : (p q : ℕ → Bool) → ((b : ℕ) → p b ≡ true → q b ≡ true → ⊥) → (xs : List ℕ)
+    → count_by (λ b. p b || q b) xs ≡ count_by p xs + count_by q xs
 count_either p q apart [] = refl
 count_either p q apart (x ∷ xs) =
-    omega (arith, count_cons (λ b. p b || q b) x xs, count_cons p x xs, count_cons q x xs, either_one (p x) (q x) (apart x), count_either p q apart xs)
+    omega (
+      arith,
+      count_cons (λ b. p b || q b) x xs,
+      count_cons p x xs,
+      count_cons q x xs,
+      either_one (p x) (q x) (apart x),
+      count_either p q apart xs,
+    )
 
 -- one number, another number
 other_number : (m a : ℕ) → m ≢ a → ◌≡◌ {A = ℕ} (cond (eqb m a) 1 0) 0
@@ -63,14 +75,29 @@ same_number m a same = cond-true {A = ℕ} (eqb m a) 1 0 (eq-eqb m a same)
 count_none : (m a n : ℕ) → m < a → count_by (λ b. eqb m b) (range_with_len a n) ≡ 0
 count_none m a zero below = refl
 count_none m a (suc n) below =
-    omega (arith, count_cons (λ b. eqb m b) a (range_with_len (a + 1) n), other_number m a (λ same. omega arith), count_none m (a + 1) n (omega arith))
+    omega (
+      arith,
+      count_cons (λ b. eqb m b) a (range_with_len (a + 1) n),
+      other_number m a (λ same. omega arith),
+      count_none m (a + 1) n (omega arith),
+    )
 
 -- a number of the range is there once
 count_one : (m a n : ℕ) → a ≤ m → m < a + n → count_by (λ b. eqb m b) (range_with_len a n) ≡ 1
 count_one m a zero low high = absurd (omega arith)
 count_one m a (suc n) low high = elim (cases_eq m a) [
-  | inl same ↦ omega (arith, count_cons (λ b. eqb m b) a (range_with_len (a + 1) n), same_number m a same, count_none m (a + 1) n (omega arith))
-  | inr other ↦ omega (arith, count_cons (λ b. eqb m b) a (range_with_len (a + 1) n), other_number m a other, count_one m (a + 1) n (omega arith) (omega arith))
+  | inl same ↦ omega (
+    arith,
+    count_cons (λ b. eqb m b) a (range_with_len (a + 1) n),
+    same_number m a same,
+    count_none m (a + 1) n (omega arith),
+  )
+  | inr other ↦ omega (
+    arith,
+    count_cons (λ b. eqb m b) a (range_with_len (a + 1) n),
+    other_number m a other,
+    count_one m (a + 1) n (omega arith) (omega arith),
+  )
 ]
 
 -- ---- lists without a number twice
@@ -81,8 +108,10 @@ Once (n ∷ ns) = (¬ (Contains ns n)) × Once ns
 
 once : (ns : List ℕ) → AreDistinct ns → Once ns
 once [] distinct = tt
-once (n ∷ ns) distinct =
-    ((λ has. distinct 0 (suc has.0) (omega arith) (omega (arith, has.1)) (sym (get_or_default ns has.0 0 n has.1 ∙ has.2))), once ns (λ i j less low same. distinct (suc i) (suc j) (omega arith) (omega arith) same))
+once (n ∷ ns) distinct = (
+  (λ has. distinct 0 (suc has.0) (omega arith) (omega (arith, has.1)) (sym (get_or_default ns has.0 0 n has.1 ∙ has.2))),
+  once ns (λ i j less low same. distinct (suc i) (suc j) (omega arith) (omega arith) same),
+)
 
 once_append : (xs ys : List ℕ) → Once xs → Once ys → ((b : ℕ) → Contains xs b → Contains ys b → ⊥) → Once (xs ++ ys)
 once_append [] ys first second apart = second
@@ -111,7 +140,8 @@ from_among (n ∷ ns) b is = by_first (eqb n b) refl is (from_among ns b) where
   by_first false here there rest = let found = rest there in (suc found.0, omega (arith, found.1), found.2)
 
 -- so many numbers below the limit
-count_among : (limit : ℕ) (ns : List ℕ) → Once ns → ((b : ℕ) → Contains ns b → b < limit) → count_by (among ns) (range_with_len 0 limit) ≡ length ns
+count_among : (limit : ℕ) (ns : List ℕ) → Once ns → ((b : ℕ) → Contains ns b → b < limit)
+    → count_by (among ns) (range_with_len 0 limit) ≡ length ns
 count_among limit [] distinct below = none 0 limit where
   none : (a n : ℕ) → count_by (λ (b : ℕ). false) (range_with_len a n) ≡ 0
   none a zero = refl
@@ -120,7 +150,8 @@ count_among limit (n ∷ ns) distinct below =
     let fits : n < 0 + limit = omega (arith, below n (0, omega arith, refl)) in
     let here = count_one n 0 limit (omega arith) fits in
     let rest = count_among limit ns distinct.1 (λ b has. below b (suc has.0, omega (arith, has.1), has.2)) in
-    let both = count_either (λ b. eqb n b) (among ns) (λ b first second. distinct.0 (subst (Contains ns) (sym (eqb-true n b first)) (from_among ns b second))) (range_with_len 0 limit) in
+    let both = count_either (λ b. eqb n b) (among ns)
+    (λ b first second. distinct.0 (subst (Contains ns) (sym (eqb-true n b first)) (from_among ns b second))) (range_with_len 0 limit) in
     omega (arith, here, rest, both)
 
 -- ---- the blocks in use
@@ -128,7 +159,8 @@ count_among limit (n ∷ ns) distinct below =
 range_has : (a n b : ℕ) → Contains (range_with_len a n) b → (a ≤ b) × (b < a + n)
 range_has a zero b (k, low, is) = absurd (omega arith)
 range_has a (suc n) b (zero, low, is) = (omega arith, omega arith)
-range_has a (suc n) b (suc k, low, is) = let rest = range_has (a + 1) n b (k, omega arith, is) in (omega (arith, rest.0), omega (arith, rest.1))
+range_has a (suc n) b (suc k, low, is) = let rest = range_has (a + 1) n b (k, omega arith, is) in
+    (omega (arith, rest.0), omega (arith, rest.1))
 
 in_range : (a n b : ℕ) → a ≤ b → b < a + n → Contains (range_with_len a n) b
 in_range a zero b low high = absurd (omega arith)
@@ -174,7 +206,8 @@ module _ (inodes : ℕ) (blocks : List Octets) (fs : IsFileSystem inodes blocks)
   owned_once : (a n : ℕ) → a + n ≤ inodes → Once (owned_from a n)
   owned_once a zero few = tt
   owned_once a (suc n) few =
-      once_append (owned_at a) (owned_from (a + 1) n) (once (owned_at a) (fs.distinct a (omega arith))) (owned_once (a + 1) n (omega arith)) (λ b here later.
+      once_append (owned_at a) (owned_from (a + 1) n) (once (owned_at a) (fs.distinct a (omega arith))) (owned_once (a + 1) n (omega arith))
+      (λ b here later.
       let other = owner (a + 1) n b later in
       let same : a ≡ other.inode = fs.one_owner a other.inode b (omega arith) (omega (arith, other.below)) here other.owns in
       omega (arith, same, other.from))
@@ -184,7 +217,8 @@ module _ (inodes : ℕ) (blocks : List Octets) (fs : IsFileSystem inodes blocks)
   used = range_with_len 0 (first_data inodes) ++ owned_from 0 inodes
 
   used_once : Once used
-  used_once = once_append (range_with_len 0 (first_data inodes)) (owned_from 0 inodes) (range_once 0 (first_data inodes)) (owned_once 0 inodes (omega arith)) (λ b reserved later.
+  used_once = once_append (range_with_len 0 (first_data inodes)) (owned_from 0 inodes) (range_once 0 (first_data inodes))
+      (owned_once 0 inodes (omega arith)) (λ b reserved later.
       let its = owner 0 inodes b later in
       omega (arith, (range_has 0 (first_data inodes) b reserved).1, (fs.within its.inode b (omega (arith, its.below)) its.owns).0))
 
@@ -202,19 +236,23 @@ module _ (inodes : ℕ) (blocks : List Octets) (fs : IsFileSystem inodes blocks)
 
   is_used : (b : ℕ) → IsUsed inodes blocks b → Contains used b
   is_used b holds = elim holds [
-    | inl reserved ↦ Contains-append_left (range_with_len 0 (first_data inodes)) (owned_from 0 inodes) b (in_range 0 (first_data inodes) b (omega arith) (omega arith))
-    | inr its ↦ Contains-append_right (range_with_len 0 (first_data inodes)) (owned_from 0 inodes) b (owned_in 0 inodes its.0 b (omega arith) (omega (arith, its.1)) its.2)
+    | inl reserved ↦ Contains-append_left (range_with_len 0 (first_data inodes)) (owned_from 0 inodes) b
+        (in_range 0 (first_data inodes) b (omega arith) (omega arith))
+    | inr its ↦ Contains-append_right (range_with_len 0 (first_data inodes)) (owned_from 0 inodes) b
+        (owned_in 0 inodes its.0 b (omega arith) (omega (arith, its.1)) its.2)
   ]
 
   marks_among : (b : ℕ) → b < 65536 → is_marked_used blocks b ≡ among used b
   marks_among b small = by_mark (is_marked_used blocks b) refl where
     by_mark : (t : Bool) → is_marked_used blocks b ≡ t → t ≡ among used b
     by_mark true is = sym (among_from used b (is_used b ((fs.bits b small).0 is)))
-    by_mark false is = sym (false_from_ne_true (among used b) (λ has. true≢false (sym ((fs.bits b small).1 (used_is b (from_among used b has))) ∙ is)))
+    by_mark false is = sym (false_from_ne_true (among used b)
+        (λ has. true≢false (sym ((fs.bits b small).1 (used_is b (from_among used b has))) ∙ is)))
 
   free_count : HasRoom inodes blocks → free_blocks blocks + length used ≡ length blocks
   free_count room =
-      let marked = count_same (is_marked_used blocks) (among used) 0 (length blocks) (λ b low high. marks_among b (omega (arith, room.count_few))) in
+      let marked = count_same (is_marked_used blocks) (among used) 0 (length blocks)
+      (λ b low high. marks_among b (omega (arith, room.count_few))) in
       let counted = count_among (length blocks) used used_once (λ b has. used_below b (omega (arith, room.room)) has) in
       omega (arith, count_not (is_marked_used blocks) 0 (length blocks), marked, counted)
 
@@ -232,17 +270,22 @@ module _ (inodes : ℕ) (blocks : List Octets) (fs : IsFileSystem inodes blocks)
   file_there : (k : ℕ) → IsFile (entry inodes blocks k) → there k ≡ Some (its_file k)
   file_there k file = ap (λ (n : ℕ). cond (eqb n 0) None (Some (its_file k))) file.kind_is
 
-  file_blocks : HasRoom inodes blocks → (k : ℕ) → k < inodes → IsFile (entry inodes blocks k) → length (owned_at k) ≡ blocks_for (length (content_of blocks (entry inodes blocks k)))
+  file_blocks : HasRoom inodes blocks → (k : ℕ) → k < inodes → IsFile (entry inodes blocks k)
+      → length (owned_at k) ≡ blocks_for (length (content_of blocks (entry inodes blocks k)))
   file_blocks room k low file =
       let e = entry inodes blocks k in
       let octets : length (content_of blocks e) ≡ size e = content_size blocks e room.blocks_whole (λ b has. (fs.within k b low has).1) in
       let same : blocks_for (length (content_of blocks e)) ≡ blocks_for (size e) = ap blocks_for octets in
       elim (cases_lt 1 (indirect_for (content_blocks (size e)))) [
         | inl large ↦
-            let more : blocks_for (size e) ≡ content_blocks (size e) + (indirect_for (content_blocks (size e)) + 1) = ap (λ (b : Bool). content_blocks (size e) + (indirect_for (content_blocks (size e)) + cond b 1 0)) (lt-ltb 1 (indirect_for (content_blocks (size e))) large) in
+            let more : blocks_for (size e) ≡ content_blocks (size e) + (indirect_for (content_blocks (size e)) + 1) =
+            ap (λ (b : Bool). content_blocks (size e) + (indirect_for (content_blocks (size e)) + cond b 1 0))
+            (lt-ltb 1 (indirect_for (content_blocks (size e))) large) in
             omega (arith, owned_with e (file.double_where.0 large), same, more)
         | inr small ↦
-            let more : blocks_for (size e) ≡ content_blocks (size e) + (indirect_for (content_blocks (size e)) + 0) = ap (λ (b : Bool). content_blocks (size e) + (indirect_for (content_blocks (size e)) + cond b 1 0)) (le-ltb 1 (indirect_for (content_blocks (size e))) small) in
+            let more : blocks_for (size e) ≡ content_blocks (size e) + (indirect_for (content_blocks (size e)) + 0) =
+            ap (λ (b : Bool). content_blocks (size e) + (indirect_for (content_blocks (size e)) + cond b 1 0))
+            (le-ltb 1 (indirect_for (content_blocks (size e))) small) in
             elim (cases_eq (double_pointer e) 0) [
               | inl none ↦ omega (arith, owned_without e none, same, more)
               | inr some ↦ absurd (let over = file.double_where.1 some in omega (arith, over, small))
@@ -251,13 +294,16 @@ module _ (inodes : ℕ) (blocks : List Octets) (fs : IsFileSystem inodes blocks)
 
   blocks_at : HasRoom inodes blocks → (k : ℕ) → k < inodes → length (owned_at k) ≡ blocks_of_files (option_to_list (there k))
   blocks_at room k low = elim (fs.each k low) [
-    | inl free ↦ ap (λ (l : List ℕ). length l) (free_owns (entry inodes blocks k) free) ∙ ap (λ (o : Option File). blocks_of_files (option_to_list o)) (sym (none_at k free))
+    | inl free ↦ ap (λ (l : List ℕ). length l) (free_owns (entry inodes blocks k) free)
+        ∙ ap (λ (o : Option File). blocks_of_files (option_to_list o)) (sym (none_at k free))
     | inr file ↦
-        let one : blocks_for (length (content_of blocks (entry inodes blocks k))) ≡ blocks_of_files (its_file k ∷ []) = omega (arith, sum_by-cons (λ (f : File). blocks_for (length f.content)) (its_file k) []) in
+        let one : blocks_for (length (content_of blocks (entry inodes blocks k))) ≡ blocks_of_files (its_file k ∷ []) =
+        omega (arith, sum_by-cons (λ (f : File). blocks_for (length f.content)) (its_file k) []) in
         file_blocks room k low file ∙ one ∙ ap (λ (o : Option File). blocks_of_files (option_to_list o)) (sym (file_there k file))
   ]
 
-  blocks_from : HasRoom inodes blocks → (a n : ℕ) → a + n ≤ inodes → length (owned_from a n) ≡ blocks_of_files (files_in (map there (range_with_len a n)))
+  blocks_from : HasRoom inodes blocks → (a n : ℕ) → a + n ≤ inodes
+      → length (owned_from a n) ≡ blocks_of_files (files_in (map there (range_with_len a n)))
   blocks_from room a zero few = refl
   blocks_from room a (suc n) few =
       omega (
@@ -265,7 +311,8 @@ module _ (inodes : ℕ) (blocks : List Octets) (fs : IsFileSystem inodes blocks)
         length-append (owned_at a) (owned_from (a + 1) n),
         blocks_at room a (omega arith),
         blocks_from room (a + 1) n (omega arith),
-        sum_by-append (λ (f : File). blocks_for (length f.content)) (option_to_list (there a)) (files_in (map there (range_with_len (a + 1) n))),
+        sum_by-append (λ (f : File). blocks_for (length f.content)) (option_to_list (there a))
+            (files_in (map there (range_with_len (a + 1) n))),
       )
 
   -- free inodes are those without a file
@@ -275,7 +322,8 @@ module _ (inodes : ℕ) (blocks : List Octets) (fs : IsFileSystem inodes blocks)
     by_kind true = refl
     by_kind false = refl
 
-  free_from : (a n : ℕ) → count_by (λ k. kind (entry inodes blocks k) == 0) (range_with_len a n) + length (files_in (map there (range_with_len a n))) ≡ n
+  free_from : (a n : ℕ) → count_by (λ k. kind (entry inodes blocks k) == 0) (range_with_len a n) + length
+      (files_in (map there (range_with_len a n))) ≡ n
   free_from a zero = refl
   free_from a (suc n) =
       omega (

@@ -1,6 +1,8 @@
 -- The files of a spool with one change more.
-use Rattle.std.proofs.Common.{◌≡◌, ◌<◌, ◌≤◌, ◌^◌, ℕ, zero, suc, ◌+◌, ◌/◌, ◌%◌, List, [], ◌∷◌, ◌++◌, length, map, refl, sym, ◌∙◌, ap, subst, arith, Bool, true, false, cond, length-append}
-use Rattle.std.specs.Prelude.{flat_map, filter, filter_map, find, zip, bytes_eq, is_some, nat_le, Option, Some, None, IsPermutation, not, ◌||◌, ◌&&◌}
+use Rattle.std.proofs.Common.{◌≡◌, ◌<◌, ◌≤◌, ◌^◌, ℕ, zero, suc, ◌+◌, ◌/◌, ◌%◌, List, [], ◌∷◌, ◌++◌, length, map, refl, sym, ◌∙◌, ap, subst}
+use Rattle.std.proofs.Common.{arith, Bool, true, false, cond, length-append}
+use Rattle.std.specs.Prelude.{flat_map, filter, filter_map, find, zip, bytes_eq, is_some, nat_le, Option, Some, None, IsPermutation, not}
+use Rattle.std.specs.Prelude.{◌||◌, ◌&&◌}
 use Rattle.std.specs.List.{enumerate_from, list_any, list_all}
 use Rattle.std.proofs.lemmas.Bool.{cond-true, cond-false, or_parts, or_from, and_parts, not-true, true≢false}
 use Rattle.std.proofs.lemmas.List.{append_assoc, append-nil, map-append, map-id, map_push, same_from_push, take_at}
@@ -12,9 +14,13 @@ use Rattle.model.specs.Stream.{Octets}
 use Rattle.model.specs.Article.{Carried, are_distinct, groups_of, overview_line}
 use Rattle.model.specs.Names.{is_group_name}
 use Rattle.model.specs.Files.{File}
-use Rattle.model.specs.Spool.{Spool, Entry, entries_from, entries, NewsArticle, NewsGroup, group_made, article_filed, is_name, groups, articles, filed_in, group_named, is_here}
+use Rattle.model.specs.Spool.{Spool, Entry, entries_from, entries, NewsArticle, NewsGroup, group_made, article_filed, is_name, groups}
+use Rattle.model.specs.Spool.{articles, filed_in, group_named, is_here}
 use Rattle.model.specs.Records.{last_digits}
-use Rattle.model.specs.SpoolFiles.{group_name, numbers_name, overview_name, article_name, expiry_name, number_record, number_records, overview_lines, overview_of, numbers_of, overview_file, numbers_file, change_file, entry_files, files_of, FileCall, appended, after_call, after_calls, next_line, next_record, filing_calls, making_calls, change_calls}
+use Rattle.model.specs.SpoolFiles.{group_name, numbers_name, overview_name, article_name, expiry_name, number_record, number_records}
+use Rattle.model.specs.SpoolFiles.{overview_lines, overview_of, numbers_of, overview_file, numbers_file, change_file, entry_files, files_of}
+use Rattle.model.specs.SpoolFiles.{FileCall, appended, after_call, after_calls, next_line, next_record, filing_calls, making_calls}
+use Rattle.model.specs.SpoolFiles.{change_calls}
 use Rattle.model.specs.Lawful.{MayFollow, IsLawfulAfter, IsLawful}
 use Rattle.model.specs.Laws.SpoolFiles.{FilesGrow, SpoolsGrow}
 use Rattle.model.specs.declared.change.Change.{Change}
@@ -26,43 +32,56 @@ use Rattle.model.proofs.Joined.{map_joined, map_twice, bytes_same, bytes_differ,
 
 -- ---- one element more
 
-pub entries_push : (n : ℕ) (S : Spool) (c : Change) → entries_from n (S ++ c ∷ []) ≡ entries_from n S ++ record { serial = length S + n; change = c } ∷ []
+pub entries_push : (n : ℕ) (S : Spool) (c : Change) → entries_from n (S ++ c ∷ []) ≡ entries_from n S ++ record {
+  serial = length S + n;
+  change = c;
+} ∷ []
 entries_push n [] c = let serial : n ≡ 0 + n = omega arith in ap (λ (m : ℕ). record { serial = m; change = c } ∷ []) serial
 entries_push n (d ∷ S) c =
     let serial : length S + suc n ≡ suc (length S) + n = omega arith in
-    ap (λ es. record { serial = n; change = d } ∷ es) (entries_push (suc n) S c ∙ ap (λ (m : ℕ). entries_from (suc n) S ++ record { serial = m; change = c } ∷ []) serial)
+    ap (λ es. record { serial = n; change = d } ∷ es) (entries_push (suc n) S c
+    ∙ ap (λ (m : ℕ). entries_from (suc n) S ++ record { serial = m; change = c } ∷ []) serial)
 
-enumerate_push : {X : Type 0} (n : ℕ) (xs : List X) (x : X) → enumerate_from n (xs ++ x ∷ []) ≡ enumerate_from n xs ++ (length xs + n, x) ∷ []
+enumerate_push : {X : Type 0} (n : ℕ) (xs : List X) (x : X)
+    → enumerate_from n (xs ++ x ∷ []) ≡ enumerate_from n xs ++ (length xs + n, x) ∷ []
 enumerate_push n [] x = let place : n ≡ 0 + n = omega arith in ap (λ (m : ℕ). (m, x) ∷ []) place
 enumerate_push n (y ∷ xs) x =
     let place : length xs + (n + 1) ≡ suc (length xs) + n = omega arith in
     ap (λ ys. (n, y) ∷ ys) (enumerate_push (n + 1) xs x ∙ ap (λ (m : ℕ). enumerate_from (n + 1) xs ++ (m, x) ∷ []) place)
 
-zip_push : {X Y : Type 0} (xs : List X) (ys : List Y) (x : X) (y : Y) → length xs ≡ length ys → zip (xs ++ x ∷ []) (ys ++ y ∷ []) ≡ zip xs ys ++ (x, y) ∷ []
+zip_push : {X Y : Type 0} (xs : List X) (ys : List Y) (x : X) (y : Y) → length xs ≡ length ys
+    → zip (xs ++ x ∷ []) (ys ++ y ∷ []) ≡ zip xs ys ++ (x, y) ∷ []
 zip_push [] [] x y same = refl
 zip_push [] (b ∷ ys) x y same = absurd (omega arith)
 zip_push (a ∷ xs) [] x y same = absurd (omega arith)
 zip_push (a ∷ xs) (b ∷ ys) x y same = ap (λ zs. (a, b) ∷ zs) (zip_push xs ys x y (omega arith))
 
-zip_lines : (xs : List NewsArticle) (ys : List Octets) → length xs ≡ length ys → flat_map (λ p. p.1) (zip xs ys) ≡ flat_map (λ line. line) ys
+zip_lines : (xs : List NewsArticle) (ys : List Octets) → length xs ≡ length ys
+    → flat_map (λ p. p.1) (zip xs ys) ≡ flat_map (λ line. line) ys
 zip_lines [] [] same = refl
 zip_lines [] (b ∷ ys) same = absurd (omega arith)
 zip_lines (a ∷ xs) [] same = absurd (omega arith)
 zip_lines (a ∷ xs) (b ∷ ys) same = ap (λ zs. b ++ zs) (zip_lines xs ys (omega arith))
 
 records_push : (offset : ℕ) (ps : List (NewsArticle × Octets)) (a : NewsArticle) (line : Octets)
-    → number_records offset (ps ++ (a, line) ∷ []) ≡ number_records offset ps ++ number_record a.serial (offset + length (flat_map (λ p. p.1) ps)) line
+    → number_records offset (ps ++ (a, line) ∷ []) ≡ number_records offset ps ++ number_record a.serial
+    (offset + length (flat_map (λ p. p.1) ps)) line
 records_push offset [] a line =
     let place : offset ≡ offset + 0 = omega arith in
     append-nil (number_record a.serial offset line) ∙ ap (λ (m : ℕ). number_record a.serial m line) place
 records_push offset (p ∷ ps) a line =
     let rest = records_push (offset + length p.1) ps a line in
-    let place : offset + length p.1 + length (flat_map (λ q. q.1) ps) ≡ offset + length (p.1 ++ flat_map (λ q. q.1) ps) = omega (arith, length-append p.1 (flat_map (λ q. q.1) ps)) in
-    ap (λ os. number_record p.0.serial offset p.1 ++ os) (rest ∙ ap (λ (m : ℕ). number_records (offset + length p.1) ps ++ number_record a.serial m line) place)
-    ∙ sym (append_assoc (number_record p.0.serial offset p.1) (number_records (offset + length p.1) ps) (number_record a.serial (offset + length (p.1 ++ flat_map (λ q. q.1) ps)) line))
+    let place : offset + length p.1 + length (flat_map (λ q. q.1) ps) ≡ offset + length (p.1 ++ flat_map (λ q. q.1) ps) =
+    omega (arith, length-append p.1 (flat_map (λ q. q.1) ps)) in
+    ap (λ os. number_record p.0.serial offset p.1 ++ os) (rest
+    ∙ ap (λ (m : ℕ). number_records (offset + length p.1) ps ++ number_record a.serial m line) place)
+    ∙ sym (append_assoc (number_record p.0.serial offset p.1) (number_records (offset + length p.1) ps)
+    (number_record a.serial (offset + length (p.1 ++ flat_map (λ q. q.1) ps)) line))
 
-pub lines_push : (filed : List NewsArticle) (a : NewsArticle) → overview_lines (filed ++ a ∷ []) ≡ overview_lines filed ++ overview_line (length filed + 1) a.text ∷ []
-lines_push filed a = ap (map (λ p. overview_line p.0 p.1.text)) (enumerate_push 1 filed a) ∙ map_push (λ p. overview_line p.0 p.1.text) (enumerate_from 1 filed) (length filed + 1, a)
+pub lines_push : (filed : List NewsArticle) (a : NewsArticle)
+    → overview_lines (filed ++ a ∷ []) ≡ overview_lines filed ++ overview_line (length filed + 1) a.text ∷ []
+lines_push filed a = ap (map (λ p. overview_line p.0 p.1.text)) (enumerate_push 1 filed a)
+    ∙ map_push (λ p. overview_line p.0 p.1.text) (enumerate_from 1 filed) (length filed + 1, a)
 
 pub lines_size : (filed : List NewsArticle) → length filed ≡ length (overview_lines filed)
 lines_size filed = omega (arith, length-map-lines) where
@@ -72,18 +91,22 @@ lines_size filed = omega (arith, length-map-lines) where
     mapped [] = refl
     mapped (p ∷ ps) = ap suc (mapped ps)
 
-pub overview_push : (filed : List NewsArticle) (a : NewsArticle) → overview_of (filed ++ a ∷ []) ≡ overview_of filed ++ overview_line (length filed + 1) a.text
+pub overview_push : (filed : List NewsArticle) (a : NewsArticle)
+    → overview_of (filed ++ a ∷ []) ≡ overview_of filed ++ overview_line (length filed + 1) a.text
 unfolding overview_of
 overview_push filed a =
     let last = overview_line (length filed + 1) a.text in
     ap (flat_map (λ line. line)) (lines_push filed a) ∙ flat_map-append (λ line. line) (overview_lines filed) (last ∷ [])
     ∙ ap (λ os. flat_map (λ line. line) (overview_lines filed) ++ os) (append-nil last)
 
-pub numbers_push : (filed : List NewsArticle) (a : NewsArticle) → numbers_of (filed ++ a ∷ []) ≡ numbers_of filed ++ number_record a.serial (length (overview_of filed)) (overview_line (length filed + 1) a.text)
+pub numbers_push : (filed : List NewsArticle) (a : NewsArticle)
+    → numbers_of (filed ++ a ∷ []) ≡ numbers_of filed ++ number_record a.serial (length (overview_of filed))
+    (overview_line (length filed + 1) a.text)
 unfolding overview_of numbers_of
 numbers_push filed a =
     let last = overview_line (length filed + 1) a.text in
-    let start : 0 + length (flat_map (λ p. p.1) (zip filed (overview_lines filed))) ≡ length (flat_map (λ line. line) (overview_lines filed)) =
+    let start : 0 + length (flat_map (λ p. p.1) (zip filed (overview_lines filed)))
+    ≡ length (flat_map (λ line. line) (overview_lines filed)) =
     omega (arith, ap (λ (os : Octets). length os) (zip_lines filed (overview_lines filed) (lines_size filed))) in
     ap (λ ls. number_records 0 (zip (filed ++ a ∷ []) ls)) (lines_push filed a)
     ∙ ap (number_records 0) (zip_push filed (overview_lines filed) a last (lines_size filed))
@@ -93,7 +116,8 @@ numbers_push filed a =
 -- ---- what is filed in a group
 
 pub filed_article : (S : Spool) (g text : Octets) (gs : List Octets) (moment : ℕ)
-    → filed_in (S ++ Article text gs moment ∷ []) g ≡ filed_in S g ++ cond (list_any (is_name g) gs) (record { serial = length S + 1; text = text; groups = gs; moment = moment } ∷ []) []
+    → filed_in (S ++ Article text gs moment ∷ []) g ≡ filed_in S g ++ cond (list_any (is_name g) gs)
+    (record { serial = length S + 1; text = text; groups = gs; moment = moment } ∷ []) []
 unfolding filed_in articles entries
 filed_article S g text gs moment =
     let e : Entry = record { serial = length S + 1; change = Article text gs moment } in
@@ -101,20 +125,24 @@ filed_article S g text gs moment =
     ∙ ap (filter (λ a. list_any (is_name g) a.groups)) (filter_map-append article_filed (entries_from 1 S) (e ∷ []))
     ∙ filter-append (λ a. list_any (is_name g) a.groups) (filter_map article_filed (entries_from 1 S)) (filter_map article_filed (e ∷ []))
 
-pub filed_no_more : (S : Spool) (g : Octets) (c : Change) → filter_map article_filed (record { serial = length S + 1; change = c } ∷ []) ≡ [] → filed_in (S ++ c ∷ []) g ≡ filed_in S g
+pub filed_no_more : (S : Spool) (g : Octets) (c : Change)
+    → filter_map article_filed (record { serial = length S + 1; change = c } ∷ []) ≡ [] → filed_in (S ++ c ∷ []) g ≡ filed_in S g
 unfolding filed_in articles entries
 filed_no_more S g c none =
     let e : Entry = record { serial = length S + 1; change = c } in
     let p : NewsArticle → Bool = λ a. list_any (is_name g) a.groups in
     ap (λ es. filter p (filter_map article_filed es)) (entries_push 1 S c)
-    ∙ ap (filter p) (filter_map-append article_filed (entries_from 1 S) (e ∷ []) ∙ ap (λ xs. filter_map article_filed (entries_from 1 S) ++ xs) none ∙ append-nil (filter_map article_filed (entries_from 1 S)))
+    ∙ ap (filter p) (filter_map-append article_filed (entries_from 1 S) (e ∷ [])
+    ∙ ap (λ xs. filter_map article_filed (entries_from 1 S) ++ xs) none ∙ append-nil (filter_map article_filed (entries_from 1 S)))
 
 -- ---- a group that isn't here has nothing
 
-none_here : (P : Spool) (name : Octets) → is_here P name ≡ false → (names : List Octets) → list_any (is_name name) (filter (is_here P) names) ≡ false
+none_here : (P : Spool) (name : Octets) → is_here P name ≡ false → (names : List Octets)
+    → list_any (is_name name) (filter (is_here P) names) ≡ false
 none_here P name absent [] = refl
 none_here P name absent (x ∷ names) = by_here (is_here P x) refl (none_here P name absent names) where
-  by_here : (b : Bool) → is_here P x ≡ b → list_any (is_name name) (filter (is_here P) names) ≡ false → list_any (is_name name) (cond b (x ∷ filter (is_here P) names) (filter (is_here P) names)) ≡ false
+  by_here : (b : Bool) → is_here P x ≡ b → list_any (is_name name) (filter (is_here P) names) ≡ false
+      → list_any (is_name name) (cond b (x ∷ filter (is_here P) names) (filter (is_here P) names)) ≡ false
   by_here false is rest = rest
   by_here true is rest =
       or_from (bytes_eq x name) (list_any (is_name name) (filter (is_here P) names))
@@ -124,9 +152,11 @@ pub named_front : (P Q : Spool) (name : Octets) → group_named (P ++ Q) name �
 unfolding group_named groups
 named_front P Q name none =
     let cut = absent_cut group_made (λ (group : NewsGroup). is_name name group.name) (length P) (P ++ Q) none in
-    subst (λ R. find (λ (group : NewsGroup). is_name name group.name) (filter_map group_made (entries R)) ≡ None) (take_at P Q (length P) refl) cut
+    subst (λ R. find (λ (group : NewsGroup). is_name name group.name) (filter_map group_made (entries R)) ≡ None)
+    (take_at P Q (length P) refl) cut
 
-nothing_filed : (host : Octets) (before cs : Spool) (n : ℕ) (name : Octets) → IsLawfulAfter host before cs → group_named (before ++ cs) name ≡ None
+nothing_filed : (host : Octets) (before cs : Spool) (n : ℕ) (name : Octets) → IsLawfulAfter host before cs
+    → group_named (before ++ cs) name ≡ None
     → filter (λ a. list_any (is_name name) a.groups) (filter_map article_filed (entries_from n cs)) ≡ []
 nothing_filed host before [] n name lawful none = refl
 nothing_filed host before (Group g status description moment ∷ cs) n name lawful none =
@@ -134,8 +164,10 @@ nothing_filed host before (Group g status description moment ∷ cs) n name lawf
 nothing_filed host before (Expire g number ∷ cs) n name lawful none =
     nothing_filed host (before ++ Expire g number ∷ []) cs (suc n) name lawful.1 (rw append_assoc none)
 nothing_filed host before (Article text gs moment ∷ cs) n name lawful none =
-    let absent : is_here before name ≡ false = ap (λ (o : Option NewsGroup). is_some o) (named_front before (Article text gs moment ∷ cs) name none) in
-    let never : list_any (is_name name) gs ≡ false = ap (list_any (is_name name)) lawful.0.filed ∙ none_here before name absent (groups_of text) in
+    let absent : is_here before name ≡ false =
+    ap (λ (o : Option NewsGroup). is_some o) (named_front before (Article text gs moment ∷ cs) name none) in
+    let never : list_any (is_name name) gs ≡ false = ap (list_any (is_name name)) lawful.0.filed
+    ∙ none_here before name absent (groups_of text) in
     let rest = nothing_filed host (before ++ Article text gs moment ∷ []) cs (suc n) name lawful.1 (rw append_assoc none) in
     cond-false (list_any (is_name name) gs) _ _ never ∙ rest
 
@@ -148,8 +180,12 @@ new_has_nothing host S name lawful none = nothing_filed host [] S 1 name lawful 
 apart : (name octets : Octets) (f : File) → bytes_eq name f.name ≡ false → appended name octets f ≡ f
 apart name octets f other = cond-false (bytes_eq name f.name) (record { name = f.name; content = f.content ++ octets }) f other
 
-hit : (name octets content : Octets) → appended name octets (record { name = name; content = content }) ≡ record { name = name; content = content ++ octets }
-hit name octets content = cond-true (bytes_eq name name) (record { name = name; content = content ++ octets }) (record { name = name; content = content }) (bytes_same name)
+hit : (name octets content : Octets) → appended name octets (record { name = name; content = content }) ≡ record {
+  name = name;
+  content = content ++ octets;
+}
+hit name octets content = cond-true (bytes_eq name name) (record { name = name; content = content ++ octets })
+    (record { name = name; content = content }) (bytes_same name)
 
 -- no file of these changes has this name
 abbrev LackFrom : Octets → ℕ → Spool → Type 0
@@ -160,7 +196,8 @@ LackFrom name n (c ∷ S) = (bytes_eq name (change_file (record { serial = n; ch
 abbrev IsOfChange : Octets → Type 0
 IsOfChange name = (g : Octets) → (bytes_eq name (numbers_name g) ≡ false) × (bytes_eq name (overview_name g) ≡ false)
 
-left_entry : (R : Spool) (name octets : Octets) → IsOfChange name → (n : ℕ) (c : Change) → bytes_eq name (change_file (record { serial = n; change = c })).name ≡ false
+left_entry : (R : Spool) (name octets : Octets) → IsOfChange name → (n : ℕ) (c : Change)
+    → bytes_eq name (change_file (record { serial = n; change = c })).name ≡ false
     → map (appended name octets) (entry_files R (record { serial = n; change = c })) ≡ entry_files R (record { serial = n; change = c })
 left_entry R name octets own n (Group g status description moment) other =
     let first = apart name octets (change_file (record { serial = n; change = Group g status description moment })) other in
@@ -180,11 +217,14 @@ left_alone R name octets own n [] lack = refl
 left_alone R name octets own n (c ∷ S) lack =
     let e : Entry = record { serial = n; change = c } in
     map-append (appended name octets) (entry_files R e) (flat_map (entry_files R) (entries_from (suc n) S))
-    ∙ ap (λ fs. fs ++ map (appended name octets) (flat_map (entry_files R) (entries_from (suc n) S))) (left_entry R name octets own n c lack.0)
+    ∙ ap (λ fs. fs ++ map (appended name octets) (flat_map (entry_files R) (entries_from (suc n) S)))
+    (left_entry R name octets own n c lack.0)
     ∙ ap (λ fs. entry_files R e ++ fs) (left_alone R name octets own (suc n) S lack.1)
 
 -- a group's name is new
-lacks_group : (name : Octets) (n : ℕ) (S : Spool) → find (λ (group : NewsGroup). is_name name group.name) (filter_map group_made (entries_from n S)) ≡ None → LackFrom (group_name name) n S
+lacks_group : (name : Octets) (n : ℕ) (S : Spool)
+    → find (λ (group : NewsGroup). is_name name group.name) (filter_map group_made (entries_from n S)) ≡ None
+    → LackFrom (group_name name) n S
 lacks_group name n [] none = tt
 lacks_group name n (Article text gs moment ∷ S) none = (refl, lacks_group name (suc n) S none)
 lacks_group name n (Expire g number ∷ S) none = (refl, lacks_group name (suc n) S none)
@@ -192,7 +232,9 @@ lacks_group name n (Group g status description moment ∷ S) none = by_name (byt
   rest : Option NewsGroup
   rest = find (λ (group : NewsGroup). is_name name group.name) (filter_map group_made (entries_from (suc n) S))
 
-  by_name : (b : Bool) → bytes_eq g name ≡ b → cond b (Some (record { serial = n; name = g; status = status; description = description; moment = moment })) rest ≡ None → (rest ≡ None → LackFrom (group_name name) (suc n) S)
+  by_name : (b : Bool) → bytes_eq g name ≡ b
+      → cond b (Some (record { serial = n; name = g; status = status; description = description; moment = moment })) rest ≡ None
+      → (rest ≡ None → LackFrom (group_name name) (suc n) S)
       → (bytes_eq name g ≡ false) × LackFrom (group_name name) (suc n) S
   by_name true is found later = absurd (cc)
   by_name false is found later = (bytes_swap g name is, later found)
@@ -208,12 +250,14 @@ digits_one (suc count) m n small small' same =
 
 serials_apart : (m n : ℕ) → n < m → m < 10 ^ 10 → bytes_eq (last_digits 10 m) (last_digits 10 n) ≡ false
 serials_apart m n less small =
-    bytes_differ (last_digits 10 m) (last_digits 10 n) (λ same. absurd (let one : m ≡ n = digits_one 10 m n small (omega (arith, less, small)) same in omega arith))
+    bytes_differ (last_digits 10 m) (last_digits 10 n)
+    (λ same. absurd (let one : m ≡ n = digits_one 10 m n small (omega (arith, less, small)) same in omega arith))
 
 lacks_article : (m n : ℕ) (S : Spool) → n + length S ≤ m → m < 10 ^ 10 → LackFrom (article_name m) n S
 lacks_article m n [] later small = tt
 lacks_article m n (Group g status description moment ∷ S) later small = (refl, lacks_article m (suc n) S (omega arith) small)
-lacks_article m n (Article text gs moment ∷ S) later small = (serials_apart m n (omega arith) small, lacks_article m (suc n) S (omega arith) small)
+lacks_article m n (Article text gs moment ∷ S) later small =
+    (serials_apart m n (omega arith) small, lacks_article m (suc n) S (omega arith) small)
 lacks_article m n (Expire g number ∷ S) later small = (refl, lacks_article m (suc n) S (omega arith) small)
 
 lacks_expiry : (m n : ℕ) (S : Spool) → n + length S ≤ m → m < 10 ^ 10 → LackFrom (expiry_name m) n S
@@ -224,7 +268,8 @@ lacks_expiry m n (Expire g number ∷ S) later small = (serials_apart m n (omega
 
 -- ---- a file is made
 
-made : (S : Spool) (name octets : Octets) → IsOfChange name → LackFrom name 1 S → after_calls (files_of S) (making_calls name octets) ≡ files_of S ++ record { name = name; content = octets } ∷ []
+made : (S : Spool) (name octets : Octets) → IsOfChange name → LackFrom name 1 S
+    → after_calls (files_of S) (making_calls name octets) ≡ files_of S ++ record { name = name; content = octets } ∷ []
 unfolding files_of entries
 made S name octets own lack =
     let fs = flat_map (entry_files S) (entries_from 1 S) in
@@ -238,18 +283,26 @@ calls_then fs (call ∷ calls) more = calls_then (after_call fs call) calls more
 
 -- ---- the files of the earlier changes
 
-entries_same : (f g : Entry → List File) → ((n : ℕ) (c : Change) → f (record { serial = n; change = c }) ≡ g (record { serial = n; change = c })) → (es : List Entry) → flat_map f es ≡ flat_map g es
+entries_same : (f g : Entry → List File)
+    → ((n : ℕ) (c : Change) → f (record { serial = n; change = c }) ≡ g (record { serial = n; change = c })) → (es : List Entry)
+    → flat_map f es ≡ flat_map g es
 entries_same f g same [] = refl
 entries_same f g same (e ∷ es) = ap (λ xs. xs ++ flat_map f es) (same e.serial e.change) ∙ ap (λ xs. g e ++ xs) (entries_same f g same es)
 
-index_same : (R S : Spool) → ((g : Octets) → filed_in R g ≡ filed_in S g) → (n : ℕ) (c : Change) → entry_files R (record { serial = n; change = c }) ≡ entry_files S (record { serial = n; change = c })
+index_same : (R S : Spool) → ((g : Octets) → filed_in R g ≡ filed_in S g) → (n : ℕ) (c : Change)
+    → entry_files R (record { serial = n; change = c }) ≡ entry_files S (record { serial = n; change = c })
 index_same R S same n (Group g status description moment) =
-    ap (λ filed. change_file (record { serial = n; change = Group g status description moment }) ∷ record { name = numbers_name g; content = numbers_of filed } ∷ record { name = overview_name g; content = overview_of filed } ∷ []) (same g)
+    ap (λ filed. change_file (record { serial = n; change = Group g status description moment }) ∷ record {
+      name = numbers_name g;
+      content = numbers_of filed;
+    } ∷ record { name = overview_name g; content = overview_of filed } ∷ []) (same g)
 index_same R S same n (Article text gs moment) = refl
 index_same R S same n (Expire g number) = refl
 
 -- the files of a spool with one change more, by change
-with_change : (S : Spool) (c : Change) → files_of (S ++ c ∷ []) ≡ flat_map (entry_files (S ++ c ∷ [])) (entries S) ++ entry_files (S ++ c ∷ []) (record { serial = length S + 1; change = c })
+with_change : (S : Spool) (c : Change)
+    → files_of (S ++ c ∷ []) ≡ flat_map (entry_files (S ++ c ∷ [])) (entries S) ++ entry_files (S ++ c ∷ [])
+    (record { serial = length S + 1; change = c })
 unfolding files_of entries
 with_change S c =
     let R = S ++ c ∷ [] in
@@ -273,9 +326,11 @@ module _ (S : Spool) (text : Octets) where
   filings (g ∷ gs) fs =
       let first = appended (numbers_name g) (next_record S text g) in
       let second = appended (overview_name g) (next_line S text g) in
-      filings gs (map second (map first fs)) ∙ ap (map (through gs)) (map_twice second first fs) ∙ map_twice (through gs) (λ f. second (first f)) fs
+      filings gs (map second (map first fs)) ∙ ap (map (through gs)) (map_twice second first fs)
+      ∙ map_twice (through gs) (λ f. second (first f)) fs
 
-  passes : (gs : List Octets) (f : File) → ((g : Octets) → (bytes_eq (numbers_name g) f.name ≡ false) × (bytes_eq (overview_name g) f.name ≡ false)) → through gs f ≡ f
+  passes : (gs : List Octets) (f : File)
+      → ((g : Octets) → (bytes_eq (numbers_name g) f.name ≡ false) × (bytes_eq (overview_name g) f.name ≡ false)) → through gs f ≡ f
   passes [] f other = refl
   passes (g ∷ gs) f other =
       let first = apart (numbers_name g) (next_record S text g) f (other g).0 in
@@ -283,15 +338,18 @@ module _ (S : Spool) (text : Octets) where
       ap (through gs) (ap (appended (overview_name g) (next_line S text g)) first ∙ second) ∙ passes gs f other
 
   -- the numbers of group h
-  numbers_pass : (h content : Octets) (gs : List Octets) → list_any (is_name h) gs ≡ false → through gs (record { name = numbers_name h; content = content }) ≡ record { name = numbers_name h; content = content }
+  numbers_pass : (h content : Octets) (gs : List Octets) → list_any (is_name h) gs ≡ false
+      → through gs (record { name = numbers_name h; content = content }) ≡ record { name = numbers_name h; content = content }
   numbers_pass h content [] none = refl
   numbers_pass h content (g ∷ gs) none =
       let parts = or_parts (bytes_eq g h) (list_any (is_name h) gs) none in
       let f : File = record { name = numbers_name h; content = content } in
-      ap (λ (x : File). through gs (appended (overview_name g) (next_line S text g) x)) (apart (numbers_name g) (next_record S text g) f parts.0)
+      ap (λ (x : File). through gs (appended (overview_name g) (next_line S text g) x))
+      (apart (numbers_name g) (next_record S text g) f parts.0)
       ∙ numbers_pass h content gs parts.1
 
-  overview_passes : (h content : Octets) (gs : List Octets) → list_any (is_name h) gs ≡ false → through gs (record { name = overview_name h; content = content }) ≡ record { name = overview_name h; content = content }
+  overview_passes : (h content : Octets) (gs : List Octets) → list_any (is_name h) gs ≡ false
+      → through gs (record { name = overview_name h; content = content }) ≡ record { name = overview_name h; content = content }
   overview_passes h content [] none = refl
   overview_passes h content (g ∷ gs) none =
       let parts = or_parts (bytes_eq g h) (list_any (is_name h) gs) none in
@@ -306,38 +364,60 @@ module _ (S : Spool) (text : Octets) where
       or_from (bytes_eq x h) (list_any (is_name h) gs) (ap (bytes_eq x) (sym same) ∙ bytes_swap g x parts.0) (others g h gs same parts.1)
 
   numbers_gain : (h content : Octets) (gs : List Octets) → are_distinct gs ≡ true
-      → through gs (record { name = numbers_name h; content = content }) ≡ record { name = numbers_name h; content = content ++ cond (list_any (is_name h) gs) (next_record S text h) [] }
+      → through gs (record { name = numbers_name h; content = content }) ≡ record {
+        name = numbers_name h;
+        content = content ++ cond (list_any (is_name h) gs) (next_record S text h) [];
+      }
   unfolding are_distinct
   numbers_gain h content [] distinct = ap (λ os. record { name = numbers_name h; content = os }) (sym (append-nil content))
-  numbers_gain h content (g ∷ gs) distinct = by_name (bytes_eq g h) refl (numbers_gain h content gs (and_parts (not (list_any (bytes_eq g) gs)) (are_distinct gs) distinct).1) where
-    f : File
-    f = record { name = numbers_name h; content = content }
+  numbers_gain h content (g ∷ gs) distinct =
+      by_name (bytes_eq g h) refl (numbers_gain h content gs
+      (and_parts (not (list_any (bytes_eq g) gs)) (are_distinct gs) distinct).1) where
+        f : File
+        f = record { name = numbers_name h; content = content }
 
-    by_name : (b : Bool) → bytes_eq g h ≡ b → through gs f ≡ record { name = numbers_name h; content = content ++ cond (list_any (is_name h) gs) (next_record S text h) [] }
-        → through gs (appended (overview_name g) (next_line S text g) (appended (numbers_name g) (next_record S text g) f)) ≡ record { name = numbers_name h; content = content ++ cond (b || list_any (is_name h) gs) (next_record S text h) [] }
-    by_name false is rest = ap (λ (x : File). through gs (appended (overview_name g) (next_line S text g) x)) (apart (numbers_name g) (next_record S text g) f is) ∙ rest
-    by_name true is rest =
-        let same : g ≡ h = (bytes_eq-Decides g h).0 is in
-        let once = others g h gs same (not-true (list_any (bytes_eq g) gs) (and_parts (not (list_any (bytes_eq g) gs)) (are_distinct gs) distinct).0) in
-        ap (λ (x : File). through gs (appended (overview_name g) (next_line S text g) x)) (ap (λ (n : Octets). appended (numbers_name n) (next_record S text n) f) same ∙ hit (numbers_name h) (next_record S text h) content)
-        ∙ numbers_pass h (content ++ next_record S text h) gs once
+        by_name : (b : Bool) → bytes_eq g h ≡ b
+            → through gs f ≡ record { name = numbers_name h; content = content ++ cond (list_any (is_name h) gs) (next_record S text h) [] }
+            → through gs (appended (overview_name g) (next_line S text g) (appended (numbers_name g) (next_record S text g) f))
+            ≡ record { name = numbers_name h; content = content ++ cond (b || list_any (is_name h) gs) (next_record S text h) [] }
+        by_name false is rest = ap (λ (x : File). through gs (appended (overview_name g) (next_line S text g) x))
+            (apart (numbers_name g) (next_record S text g) f is) ∙ rest
+        by_name true is rest =
+            let same : g ≡ h = (bytes_eq-Decides g h).0 is in
+            let once = others g h gs same (not-true (list_any (bytes_eq g) gs)
+            (and_parts (not (list_any (bytes_eq g) gs)) (are_distinct gs) distinct).0) in
+            ap (λ (x : File). through gs (appended (overview_name g) (next_line S text g) x))
+            (ap (λ (n : Octets). appended (numbers_name n) (next_record S text n) f) same
+            ∙ hit (numbers_name h) (next_record S text h) content)
+            ∙ numbers_pass h (content ++ next_record S text h) gs once
 
   overview_gains : (h content : Octets) (gs : List Octets) → are_distinct gs ≡ true
-      → through gs (record { name = overview_name h; content = content }) ≡ record { name = overview_name h; content = content ++ cond (list_any (is_name h) gs) (next_line S text h) [] }
+      → through gs (record { name = overview_name h; content = content }) ≡ record {
+        name = overview_name h;
+        content = content ++ cond (list_any (is_name h) gs) (next_line S text h) [];
+      }
   unfolding are_distinct
   overview_gains h content [] distinct = ap (λ os. record { name = overview_name h; content = os }) (sym (append-nil content))
-  overview_gains h content (g ∷ gs) distinct = by_name (bytes_eq g h) refl (overview_gains h content gs (and_parts (not (list_any (bytes_eq g) gs)) (are_distinct gs) distinct).1) where
-    f : File
-    f = record { name = overview_name h; content = content }
+  overview_gains h content (g ∷ gs) distinct =
+      by_name (bytes_eq g h) refl (overview_gains h content gs
+      (and_parts (not (list_any (bytes_eq g) gs)) (are_distinct gs) distinct).1) where
+        f : File
+        f = record { name = overview_name h; content = content }
 
-    by_name : (b : Bool) → bytes_eq g h ≡ b → through gs f ≡ record { name = overview_name h; content = content ++ cond (list_any (is_name h) gs) (next_line S text h) [] }
-        → through gs (appended (overview_name g) (next_line S text g) f) ≡ record { name = overview_name h; content = content ++ cond (b || list_any (is_name h) gs) (next_line S text h) [] }
-    by_name false is rest = ap (through gs) (apart (overview_name g) (next_line S text g) f is) ∙ rest
-    by_name true is rest =
-        let same : g ≡ h = (bytes_eq-Decides g h).0 is in
-        let once = others g h gs same (not-true (list_any (bytes_eq g) gs) (and_parts (not (list_any (bytes_eq g) gs)) (are_distinct gs) distinct).0) in
-        ap (through gs) (ap (λ (n : Octets). appended (overview_name n) (next_line S text n) f) same ∙ hit (overview_name h) (next_line S text h) content)
-        ∙ overview_passes h (content ++ next_line S text h) gs once
+        by_name : (b : Bool) → bytes_eq g h ≡ b
+            → through gs f ≡ record { name = overview_name h; content = content ++ cond (list_any (is_name h) gs) (next_line S text h) [] }
+            → through gs (appended (overview_name g) (next_line S text g) f) ≡ record {
+              name = overview_name h;
+              content = content ++ cond (b || list_any (is_name h) gs) (next_line S text h) [];
+            }
+        by_name false is rest = ap (through gs) (apart (overview_name g) (next_line S text g) f is) ∙ rest
+        by_name true is rest =
+            let same : g ≡ h = (bytes_eq-Decides g h).0 is in
+            let once = others g h gs same (not-true (list_any (bytes_eq g) gs)
+            (and_parts (not (list_any (bytes_eq g) gs)) (are_distinct gs) distinct).0) in
+            ap (through gs) (ap (λ (n : Octets). appended (overview_name n) (next_line S text n) f) same
+            ∙ hit (overview_name h) (next_line S text h) content)
+            ∙ overview_passes h (content ++ next_line S text h) gs once
 
 -- the numbers and the overview of a group after an article
 module _ (S : Spool) (text : Octets) (gs : List Octets) (moment : ℕ) (distinct : are_distinct gs ≡ true) where
@@ -349,17 +429,20 @@ module _ (S : Spool) (text : Octets) (gs : List Octets) (moment : ℕ) (distinct
 
   numbers_more : (h : Octets) → numbers_file longer h ≡ numbers_file S h ++ cond (list_any (is_name h) gs) (next_record S text h) []
   numbers_more h = ap numbers_of (filed_article S h text gs moment) ∙ by_test (list_any (is_name h) gs) where
-    by_test : (b : Bool) → numbers_of (filed_in S h ++ cond b (article ∷ []) []) ≡ numbers_of (filed_in S h) ++ cond b (next_record S text h) []
+    by_test : (b : Bool) → numbers_of (filed_in S h ++ cond b (article ∷ []) []) ≡ numbers_of (filed_in S h) ++ cond b
+        (next_record S text h) []
     by_test true = numbers_push (filed_in S h) article
     by_test false = ap numbers_of (append-nil (filed_in S h)) ∙ sym (append-nil (numbers_of (filed_in S h)))
 
   overview_more : (h : Octets) → overview_file longer h ≡ overview_file S h ++ cond (list_any (is_name h) gs) (next_line S text h) []
   overview_more h = ap overview_of (filed_article S h text gs moment) ∙ by_test (list_any (is_name h) gs) where
-    by_test : (b : Bool) → overview_of (filed_in S h ++ cond b (article ∷ []) []) ≡ overview_of (filed_in S h) ++ cond b (next_line S text h) []
+    by_test : (b : Bool) → overview_of (filed_in S h ++ cond b (article ∷ []) []) ≡ overview_of (filed_in S h) ++ cond b
+        (next_line S text h) []
     by_test true = overview_push (filed_in S h) article
     by_test false = ap overview_of (append-nil (filed_in S h)) ∙ sym (append-nil (overview_of (filed_in S h)))
 
-  entry_grows : (n : ℕ) (c : Change) → map (through S text gs) (entry_files S (record { serial = n; change = c })) ≡ entry_files longer (record { serial = n; change = c })
+  entry_grows : (n : ℕ) (c : Change)
+      → map (through S text gs) (entry_files S (record { serial = n; change = c })) ≡ entry_files longer (record { serial = n; change = c })
   entry_grows n (Article text' gs' moment') =
       let first = passes S text gs (change_file (record { serial = n; change = Article text' gs' moment' })) (λ g. (refl, refl)) in
       λ i. first i ∷ []
@@ -368,11 +451,14 @@ module _ (S : Spool) (text : Octets) (gs : List Octets) (moment : ℕ) (distinct
       λ i. first i ∷ []
   entry_grows n (Group h status description moment') =
       let first = passes S text gs (change_file (record { serial = n; change = Group h status description moment' })) (λ g. (refl, refl)) in
-      let second = numbers_gain S text h (numbers_file S h) gs distinct ∙ ap (λ os. record { name = numbers_name h; content = os }) (sym (numbers_more h)) in
-      let third = overview_gains S text h (overview_file S h) gs distinct ∙ ap (λ os. record { name = overview_name h; content = os }) (sym (overview_more h)) in
+      let second = numbers_gain S text h (numbers_file S h) gs distinct
+      ∙ ap (λ os. record { name = numbers_name h; content = os }) (sym (numbers_more h)) in
+      let third = overview_gains S text h (overview_file S h) gs distinct
+      ∙ ap (λ os. record { name = overview_name h; content = os }) (sym (overview_more h)) in
       λ i. first i ∷ second i ∷ third i ∷ []
 
-  article_grows : LackFrom (article_name (length S + 1)) 1 S → files_of longer ≡ after_calls (files_of S) (change_calls S (Article text gs moment))
+  article_grows : LackFrom (article_name (length S + 1)) 1 S
+      → files_of longer ≡ after_calls (files_of S) (change_calls S (Article text gs moment))
   article_grows lack =
       let its = change_file (record { serial = length S + 1; change = Article text gs moment }) in
       let creation = making_calls its.name its.content in
@@ -390,13 +476,15 @@ module _ (S : Spool) (text : Octets) (gs : List Octets) (moment : ℕ) (distinct
 
 -- ---- distinct groups
 
-filter_lacks : (p : Octets → Bool) (x : Octets) (names : List Octets) → list_any (bytes_eq x) names ≡ false → list_any (bytes_eq x) (filter p names) ≡ false
+filter_lacks : (p : Octets → Bool) (x : Octets) (names : List Octets) → list_any (bytes_eq x) names ≡ false
+    → list_any (bytes_eq x) (filter p names) ≡ false
 filter_lacks p x [] none = refl
 filter_lacks p x (y ∷ names) none =
     let parts = or_parts (bytes_eq x y) (list_any (bytes_eq x) names) none in
     by_test (p y) parts.0 (filter_lacks p x names parts.1)
   where
-    by_test : (b : Bool) → bytes_eq x y ≡ false → list_any (bytes_eq x) (filter p names) ≡ false → list_any (bytes_eq x) (cond b (y ∷ filter p names) (filter p names)) ≡ false
+    by_test : (b : Bool) → bytes_eq x y ≡ false → list_any (bytes_eq x) (filter p names) ≡ false
+        → list_any (bytes_eq x) (cond b (y ∷ filter p names) (filter p names)) ≡ false
     by_test true other rest = or_from (bytes_eq x y) (list_any (bytes_eq x) (filter p names)) other rest
     by_test false other rest = rest
 
@@ -407,13 +495,20 @@ filter_distinct p (x ∷ names) distinct =
     let parts = and_parts (not (list_any (bytes_eq x) names)) (are_distinct names) distinct in
     by_test (p x) (filter_lacks p x names (not-true (list_any (bytes_eq x) names) parts.0)) (filter_distinct p names parts.1)
   where
-    by_test : (b : Bool) → list_any (bytes_eq x) (filter p names) ≡ false → are_distinct (filter p names) ≡ true → are_distinct (cond b (x ∷ filter p names) (filter p names)) ≡ true
+    by_test : (b : Bool) → list_any (bytes_eq x) (filter p names) ≡ false → are_distinct (filter p names) ≡ true
+        → are_distinct (cond b (x ∷ filter p names) (filter p names)) ≡ true
     by_test true none rest = ap (λ (t : Bool). not t && are_distinct (filter p names)) none ∙ rest
     by_test false none rest = rest
 
 -- ---- the spool grows
 
-no_lines : (f : File) (g : Octets) → f ∷ record { name = numbers_name g; content = numbers_of [] } ∷ record { name = overview_name g; content = overview_of [] } ∷ [] ≡ f ∷ record { name = numbers_name g; content = [] } ∷ record { name = overview_name g; content = [] } ∷ []
+no_lines : (f : File) (g : Octets) → f ∷ record { name = numbers_name g; content = numbers_of [] } ∷ record {
+  name = overview_name g;
+  content = overview_of [];
+} ∷ [] ≡ f ∷ record { name = numbers_name g; content = [] } ∷ record {
+  name = overview_name g;
+  content = [];
+} ∷ []
 unfolding numbers_of overview_of
 no_lines f g = refl
 
@@ -421,7 +516,8 @@ lack_new : (T : Spool) (g : Octets) → group_named T g ≡ None → LackFrom (g
 unfolding group_named groups entries
 lack_new T g none = lacks_group g 1 T none
 
-lawful_push : (host : Octets) (R cs : Spool) (c : Change) → IsLawfulAfter host R cs → MayFollow host (R ++ cs) c → IsLawfulAfter host R (cs ++ c ∷ [])
+lawful_push : (host : Octets) (R cs : Spool) (c : Change) → IsLawfulAfter host R cs → MayFollow host (R ++ cs) c
+    → IsLawfulAfter host R (cs ++ c ∷ [])
 lawful_push host R [] c lawful may = (rw append-nil at may, tt)
 lawful_push host R (d ∷ cs) c lawful may = (lawful.0, lawful_push host (R ++ d ∷ []) cs c lawful.1 (rw append_assoc may))
 
@@ -432,22 +528,41 @@ files_grow host S (Group name status description moment) small lawful may =
     let R = S ++ c ∷ [] in
     let same : (g : Octets) → filed_in R g ≡ filed_in S g = λ g. filed_no_more S g c refl in
     let none : filed_in R name ≡ [] = same name ∙ new_has_nothing host S name lawful may.new in
-    let index : entry_files R (record { serial = length S + 1; change = c }) ≡ its ∷ record { name = numbers_name name; content = [] } ∷ record { name = overview_name name; content = [] } ∷ [] =
-    ap (λ filed. its ∷ record { name = numbers_name name; content = numbers_of filed } ∷ record { name = overview_name name; content = overview_of filed } ∷ []) none ∙ no_lines its name in
+    let index : entry_files R (record { serial = length S + 1; change = c }) ≡ its ∷ record {
+      name = numbers_name name;
+      content = [];
+    } ∷ record { name = overview_name name; content = [] } ∷ [] =
+    ap (λ filed. its ∷ record { name = numbers_name name; content = numbers_of filed } ∷ record {
+      name = overview_name name;
+      content = overview_of filed;
+    } ∷ []) none ∙ no_lines its name in
     with_change S c
-    ∙ ap (λ fs. fs ++ entry_files R (record { serial = length S + 1; change = c })) (entries_same (entry_files R) (entry_files S) (index_same R S same) (entries S) ∙ sym (files_by_change S))
+    ∙ ap (λ fs. fs ++ entry_files R (record { serial = length S + 1; change = c }))
+    (entries_same (entry_files R) (entry_files S) (index_same R S same) (entries S) ∙ sym (files_by_change S))
     ∙ ap (λ fs. files_of S ++ fs) index
-    ∙ sym (append_assoc (files_of S ++ its ∷ []) (record { name = numbers_name name; content = [] } ∷ []) (record { name = overview_name name; content = [] } ∷ []) ∙ append_assoc (files_of S) (its ∷ []) (record { name = numbers_name name; content = [] } ∷ record { name = overview_name name; content = [] } ∷ []))
-    ∙ ap (λ (fs : List File). (fs ++ record { name = numbers_name name; content = [] } ∷ []) ++ record { name = overview_name name; content = [] } ∷ []) (sym (made S its.name its.content (λ g. (refl, refl)) (lack_new S name may.new)))
+    ∙ sym (append_assoc (files_of S ++ its ∷ []) (record { name = numbers_name name; content = [] } ∷ [])
+    (record { name = overview_name name; content = [] } ∷ [])
+    ∙ append_assoc (files_of S) (its ∷ []) (record { name = numbers_name name; content = [] } ∷ record {
+      name = overview_name name;
+      content = [];
+    } ∷ []))
+    ∙ ap (λ (fs : List File). (fs ++ record { name = numbers_name name; content = [] } ∷ []) ++ record {
+      name = overview_name name;
+      content = [];
+    } ∷ []) (sym (made S its.name its.content (λ g. (refl, refl)) (lack_new S name may.new)))
 files_grow host S (Article text gs moment) small lawful may =
-    let distinct : are_distinct gs ≡ true = ap are_distinct may.filed ∙ filter_distinct (is_here S) (groups_of text) (and_parts (nat_le (length (groups_of text)) 16 && list_all is_group_name (groups_of text)) (are_distinct (groups_of text)) (no_cause Carried text (carried_cause text may.carried)).good_groups).1 in
+    let distinct : are_distinct gs ≡ true = ap are_distinct may.filed
+    ∙ filter_distinct (is_here S) (groups_of text)
+    (and_parts (nat_le (length (groups_of text)) 16 && list_all is_group_name (groups_of text)) (are_distinct (groups_of text))
+    (no_cause Carried text (carried_cause text may.carried)).good_groups).1 in
     article_grows S text gs moment distinct (lacks_article (length S + 1) 1 S (omega arith) small)
 files_grow host S (Expire g number) small lawful may =
     let c = Expire g number in
     let its = change_file (record { serial = length S + 1; change = c }) in
     let R = S ++ c ∷ [] in
     with_change S c
-    ∙ ap (λ fs. fs ++ its ∷ []) (entries_same (entry_files R) (entry_files S) (index_same R S (λ h. filed_no_more S h c refl)) (entries S) ∙ sym (files_by_change S))
+    ∙ ap (λ fs. fs ++ its ∷ []) (entries_same (entry_files R) (entry_files S) (index_same R S (λ h. filed_no_more S h c refl)) (entries S)
+    ∙ sym (files_by_change S))
     ∙ sym (made S its.name its.content (λ h. (refl, refl)) (lacks_expiry (length S + 1) 1 S (omega arith) small))
 
 pub spools_grow : SpoolsGrow

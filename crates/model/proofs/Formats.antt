@@ -1,5 +1,6 @@
 -- Format 1, defined on its own.
-use Rattle.std.proofs.Common.{◌≡◌, ◌≢◌, ◌⊎◌, inl, inr, ◌<◌, ◌≤◌, ℕ, zero, suc, ◌+◌, ◌-◌, ◌*◌, ◌/◌, ◌%◌, cond, eqb, ltb, Bool, true, false, List, [], ◌∷◌, ◌++◌, length, get_or, map, take, drop, refl, sym, ◌∙◌, ap, subst, arith}
+use Rattle.std.proofs.Common.{◌≡◌, ◌≢◌, ◌⊎◌, inl, inr, ◌<◌, ◌≤◌, ℕ, zero, suc, ◌+◌, ◌-◌, ◌*◌, ◌/◌, ◌%◌, cond, eqb, ltb, Bool, true, false}
+use Rattle.std.proofs.Common.{List, [], ◌∷◌, ◌++◌, length, get_or, map, take, drop, refl, sym, ◌∙◌, ap, subst, arith}
 use Rattle.std.specs.List.{All, flat_map, range_with_len}
 use Rattle.std.proofs.lemmas.Bool.{cases_eq, cases_lt, eq-eqb, ne_eqb, le-ltb, lt-ltb}
 use Rattle.std.proofs.lemmas.List.{get_or-drop}
@@ -7,8 +8,10 @@ use Rattle.std.proofs.lemmas.List.Elements.{All-nil}
 use Rattle.byteorder.specs.Endian.{little_from}
 use Rattle.model.specs.Stream.{Octets}
 use Rattle.model.specs.Volume.{number_at}
-use Rattle.model.specs.Files.{Entry, IsFile, block_count, content_of, double_pointer, entry_of, indirect_count, indirect_for, indirect_of, indirect_pointer, owned, pointer, size}
-use Rattle.model.specs.Laws.Formats.{EntryOne, FilesOfFormatOne, IsFileOne, ReadAsFormatOne, content_one, count_one, entry_one, indirect_one, owned_one, pointer_one, size_one}
+use Rattle.model.specs.Files.{Entry, IsFile, block_count, content_of, double_pointer, entry_of, indirect_count, indirect_for, indirect_of}
+use Rattle.model.specs.Files.{indirect_pointer, owned, pointer, size}
+use Rattle.model.specs.Laws.Formats.{EntryOne, FilesOfFormatOne, IsFileOne, ReadAsFormatOne, content_one, count_one, entry_one}
+use Rattle.model.specs.Laws.Formats.{indirect_one, owned_one, pointer_one, size_one}
 use Rattle.model.proofs.Owning.{zero_number}
 
 -- ---- numbers of zeros
@@ -24,7 +27,8 @@ from_zeros : (octets : Octets) (i n : ℕ) → ((k : ℕ) → i ≤ k → k < i 
 from_zeros octets i zero all = refl
 from_zeros octets i (suc n) all =
     let first : get_or octets i 0 ≡ 0 = all i (omega arith) (omega arith) in
-    let rest : little_from (suc i) n octets ≡ 0 = from_zeros octets (suc i) n (λ k low high. all k (omega (arith, low)) (omega (arith, high))) in
+    let rest : little_from (suc i) n octets ≡ 0 =
+    from_zeros octets (suc i) n (λ k low high. all k (omega (arith, low)) (omega (arith, high))) in
     omega (arith, first, rest)
 
 -- a number is zero exactly if its octets are
@@ -88,14 +92,16 @@ module _ (blocks : List Octets) (inode slot : Octets) where
   module _ (no_double : number_at 56 4 inode ≡ 0) where
     none_behind : (p : ℕ) → 0 < p → indirect_pointer e p ≡ 0
     none_behind p some =
-        ap (λ (b : Bool). cond b (number_at 52 4 inode) (number_at (4 * (p - 1)) 4 (indirect_of blocks (number_at 56 4 inode)))) (ne_eqb p 0 (λ is. absurd (omega (arith, is, some))))
+        ap (λ (b : Bool). cond b (number_at 52 4 inode) (number_at (4 * (p - 1)) 4 (indirect_of blocks (number_at 56 4 inode))))
+        (ne_eqb p 0 (λ is. absurd (omega (arith, is, some))))
         ∙ ap (number_at (4 * (p - 1)) 4) (none_there blocks (number_at 56 4 inode) no_double) ∙ nothing (4 * (p - 1))
 
     no_pointer : (i : ℕ) → 1034 ≤ i → pointer e i ≡ 0
     no_pointer i far =
         let test : ltb i 10 ≡ false = le-ltb i 10 (omega (arith, far)) in
         ap (λ (b : Bool). cond b (number_at (12 + 4 * i) 4 inode) (number_at (4 * ((i - 10) % 1024)) 4 (e.pointers ((i - 10) / 1024)))) test
-        ∙ ap (number_at (4 * ((i - 10) % 1024)) 4) (none_there blocks (indirect_pointer e ((i - 10) / 1024)) (none_behind ((i - 10) / 1024) (omega (arith, far))))
+        ∙ ap (number_at (4 * ((i - 10) % 1024)) 4)
+        (none_there blocks (indirect_pointer e ((i - 10) / 1024)) (none_behind ((i - 10) / 1024) (omega (arith, far))))
         ∙ nothing (4 * ((i - 10) % 1024))
 
   first_is : indirect_pointer e 0 ≡ indirect_one o
@@ -115,7 +121,11 @@ module _ (blocks : List Octets) (inode slot : Octets) where
         kind_is = file.kind_is;
         small = small;
         spare = spare_whole inode no_double file.spare;
-        indirect_where = (λ many. (file.indirect_where 0).0 (omega (arith, many)), λ some. let low = (file.indirect_where 0).1 some in omega (arith, low));
+        indirect_where = (
+          λ many. (file.indirect_where 0).0 (omega (arith, many)),
+          λ some. let low = (file.indirect_where 0).1 some in
+              omega (arith, low),
+        );
         no_other_pointer = λ i past low. sym (same_pointer i low) ∙ file.no_other_pointer i past;
         name_some = file.name_some;
         name_few = file.name_few;
@@ -134,9 +144,13 @@ module _ (blocks : List Octets) (inode slot : Octets) where
         double_where = (λ many. absurd (omega (arith, few, many)), λ some. absurd (some parts.0));
         indirect_where = λ p. elim (cases_eq p 0) [
           | inl is ↦
-              subst (λ (q : ℕ). (q < indirect_count e → indirect_pointer e q ≢ 0) × (indirect_pointer e q ≢ 0 → q < indirect_count e)) (sym is)
+              subst (λ (q : ℕ). (q < indirect_count e → indirect_pointer e q ≢ 0) × (indirect_pointer e q ≢ 0 → q < indirect_count e))
+              (sym is)
               ((λ low. file.indirect_where.0 (omega (arith, low))), (λ some. let many = file.indirect_where.1 some in omega (arith, many)))
-          | inr other ↦ ((λ low. absurd (omega (arith, few, low, other))), (λ some. absurd (some (none_behind parts.0 p (omega (arith, other))))))
+          | inr other ↦ (
+            (λ low. absurd (omega (arith, few, low, other))),
+            (λ some. absurd (some (none_behind parts.0 p (omega (arith, other))))),
+          )
         ];
         no_other_pointer = λ i past. elim (cases_lt i 1034) [
           | inl low ↦ same_pointer i low ∙ file.no_other_pointer i past low
@@ -155,7 +169,8 @@ map_same f g a (suc n) same =
     ap (λ (x : ℕ). x ∷ map f (range_with_len (a + 1) n)) (same a (omega arith) (omega arith))
     ∙ ap (λ (l : List ℕ). g a ∷ l) (map_same f g (a + 1) n (λ i low high. same i (omega (arith, low)) (omega (arith, high))))
 
-flat_same : (f g : ℕ → Octets) (a n : ℕ) → ((i : ℕ) → a ≤ i → i < a + n → f i ≡ g i) → flat_map f (range_with_len a n) ≡ flat_map g (range_with_len a n)
+flat_same : (f g : ℕ → Octets) (a n : ℕ) → ((i : ℕ) → a ≤ i → i < a + n → f i ≡ g i)
+    → flat_map f (range_with_len a n) ≡ flat_map g (range_with_len a n)
 flat_same f g a zero same = refl
 flat_same f g a (suc n) same =
     ap (λ (l : Octets). l ++ flat_map f (range_with_len (a + 1) n)) (same a (omega arith) (omega arith))
@@ -175,21 +190,27 @@ module _ (blocks : List Octets) (inode slot : Octets) (file : IsFileOne (entry_o
   double_is = (spare_parts inode file.spare).0
 
   same_data : map (λ i. pointer ee i) (range_with_len 0 (block_count ee)) ≡ map (λ i. pointer_one oo i) (range_with_len 0 (count_one oo))
-  same_data = map_same (λ i. pointer ee i) (λ i. pointer_one oo i) 0 (block_count ee) (λ i low high. same_pointer blocks inode slot i (omega (arith, high, file.small)))
+  same_data = map_same (λ i. pointer ee i) (λ i. pointer_one oo i) 0 (block_count ee)
+      (λ i low high. same_pointer blocks inode slot i (omega (arith, high, file.small)))
 
-  same_indirect : map (λ p. indirect_pointer ee p) (range_with_len 0 (indirect_count ee)) ≡ cond (eqb (indirect_one oo) 0) [] (indirect_one oo ∷ [])
+  same_indirect : map (λ p. indirect_pointer ee p) (range_with_len 0 (indirect_count ee)) ≡ cond (eqb (indirect_one oo) 0) []
+      (indirect_one oo ∷ [])
   same_indirect = elim (cases_eq (indirect_one oo) 0) [
     | inl none ↦
-        let zero_count : indirect_count ee ≡ 0 = elim (cases_lt 10 (count_one oo)) [ inl many ↦ absurd (file.indirect_where.0 many none) | inr few ↦ omega (arith, few) ] in
-        ap (λ (n : ℕ). map (λ p. indirect_pointer ee p) (range_with_len 0 n)) zero_count ∙ sym (ap (λ (b : Bool). cond b [] (indirect_one oo ∷ [])) (eq-eqb (indirect_one oo) 0 none))
+        let zero_count : indirect_count ee ≡ 0 =
+        elim (cases_lt 10 (count_one oo)) [ inl many ↦ absurd (file.indirect_where.0 many none) | inr few ↦ omega (arith, few) ] in
+        ap (λ (n : ℕ). map (λ p. indirect_pointer ee p) (range_with_len 0 n)) zero_count
+        ∙ sym (ap (λ (b : Bool). cond b [] (indirect_one oo ∷ [])) (eq-eqb (indirect_one oo) 0 none))
     | inr some ↦
         let one_count : indirect_count ee ≡ 1 = let many = file.indirect_where.1 some in omega (arith, many, file.small) in
-        ap (λ (n : ℕ). map (λ p. indirect_pointer ee p) (range_with_len 0 n)) one_count ∙ sym (ap (λ (b : Bool). cond b [] (indirect_one oo ∷ [])) (ne_eqb (indirect_one oo) 0 some))
+        ap (λ (n : ℕ). map (λ p. indirect_pointer ee p) (range_with_len 0 n)) one_count
+        ∙ sym (ap (λ (b : Bool). cond b [] (indirect_one oo ∷ [])) (ne_eqb (indirect_one oo) 0 some))
   ]
 
   same_owned : owned ee ≡ owned_one oo
   same_owned =
-      ap (λ (n : ℕ). cond (eqb n 0) [] (n ∷ []) ++ (map (λ p. indirect_pointer ee p) (range_with_len 0 (indirect_count ee)) ++ its_data)) double_is
+      ap (λ (n : ℕ). cond (eqb n 0) [] (n ∷ []) ++ (map (λ p. indirect_pointer ee p) (range_with_len 0 (indirect_count ee)) ++ its_data))
+      double_is
       ∙ ap (λ (l : List ℕ). l ++ its_data) same_indirect
       ∙ ap (λ (l : List ℕ). cond (eqb (indirect_one oo) 0) [] (indirect_one oo ∷ []) ++ l) same_data
 

@@ -1,5 +1,6 @@
 -- Blocks hold one spool.
-use Rattle.std.proofs.Common.{◌≡◌, ◌≢◌, inl, inr, ◌<◌, ◌≤◌, ◌^◌, ℕ, zero, suc, ◌+◌, List, [], ◌∷◌, ◌++◌, length, get_or, refl, sym, ◌∙◌, ap, subst, arith, Bool, true, false, length-append}
+use Rattle.std.proofs.Common.{◌≡◌, ◌≢◌, inl, inr, ◌<◌, ◌≤◌, ◌^◌, ℕ, zero, suc, ◌+◌, List, [], ◌∷◌, ◌++◌, length, get_or, refl, sym, ◌∙◌, ap}
+use Rattle.std.proofs.Common.{subst, arith, Bool, true, false, length-append}
 use Rattle.std.specs.Prelude.{flat_map, filter_map, replicate, Option, Some, None, nat_le, if◌then◌else◌, IsPermutation}
 use Rattle.std.specs.List.{Contains, list_any}
 use Rattle.std.specs.Option.{option_or, option_to_list}
@@ -33,7 +34,8 @@ carried_short text is = by_cause (cause_but_long Carried text) (is_short text) i
   by_cause (Some c) b none = absurd (cc)
 
 pub carried_size : (text : Octets) → cause Carried text ≡ None → length text ≤ 262144
-carried_size text is = leb-true (length text) 262144 (and_parts (nat_le (length (header text)) 8192) (nat_le (length text) 262144) (carried_short text is)).1
+carried_size text is = leb-true (length text) 262144
+    (and_parts (nat_le (length (header text)) 8192) (nat_le (length text) 262144) (carried_short text is)).1
 
 pub carried_cause : (text : Octets) → cause Carried text ≡ None → cause_but_long Carried text ≡ None
 unfolding cause
@@ -56,23 +58,28 @@ high_few S g =
     let p : NewsArticle → Bool = λ a. list_any (is_name g) a.groups in
     omega (arith, length-filter p (articles S), count_by-le-length p (articles S), filed_few 1 S)
 
-fits_one : (host : Octets) (before : Spool) (n : ℕ) (c : Change) → MayFollow host before c → n < 256 ^ 8 → length before ≤ 32768 → HasRoomInFile n c
+fits_one : (host : Octets) (before : Spool) (n : ℕ) (c : Change) → MayFollow host before c → n < 256 ^ 8 → length before ≤ 32768
+    → HasRoomInFile n c
 fits_one host before n (Group name status description moment) may small few = (small, omega (arith, may.in_time))
-fits_one host before n (Article text groups moment) may small few = (small, omega (arith, may.in_time), omega (arith, carried_size text may.carried))
+fits_one host before n (Article text groups moment) may small few =
+    (small, omega (arith, may.in_time), omega (arith, carried_size text may.carried))
 fits_one host before n (Expire group number) may small few = (small, omega (arith, may.to_high, high_few before group))
 
 pub no_change : Change
 no_change = Group [] 0 [] 0
 
-pub fits_from : (host : Octets) (before cs : Spool) → IsLawfulAfter host before cs → length before + length cs ≤ 32768 → (k : ℕ) → k < length cs → HasRoomInFile (1 + (length before + k)) (get_or cs k no_change)
+pub fits_from : (host : Octets) (before cs : Spool) → IsLawfulAfter host before cs → length before + length cs ≤ 32768 → (k : ℕ)
+    → k < length cs → HasRoomInFile (1 + (length before + k)) (get_or cs k no_change)
 fits_from host before [] lawful few k low = absurd (omega arith)
 fits_from host before (c ∷ cs) lawful few zero low = fits_one host before (1 + (length before + 0)) c lawful.0 (omega arith) (omega arith)
 fits_from host before (c ∷ cs) lawful few (suc k) low =
     let size = length-append before (c ∷ []) in
     let serial : 1 + (length (before ++ c ∷ []) + k) ≡ 1 + (length before + suc k) = omega (arith, size) in
-    subst (λ (m : ℕ). HasRoomInFile m (get_or cs k no_change)) serial (fits_from host (before ++ c ∷ []) cs lawful.1 (omega (arith, size)) k (omega arith))
+    subst (λ (m : ℕ). HasRoomInFile m (get_or cs k no_change)) serial
+    (fits_from host (before ++ c ∷ []) cs lawful.1 (omega (arith, size)) k (omega arith))
 
-pub fits_lawful : (host : Octets) (S : Spool) → IsLawfulAfter host [] S → length S ≤ 32768 → (k : ℕ) → k < length S → HasRoomInFile (1 + k) (get_or S k no_change)
+pub fits_lawful : (host : Octets) (S : Spool) → IsLawfulAfter host [] S → length S ≤ 32768 → (k : ℕ) → k < length S
+    → HasRoomInFile (1 + k) (get_or S k no_change)
 fits_lawful host S lawful few k low =
     let none : length {A = Change} [] ≡ 0 = refl in
     let serial : 1 + (length {A = Change} [] + k) ≡ 1 + k = omega (arith, none) in
@@ -80,20 +87,30 @@ fits_lawful host S lawful few k low =
 
 -- ---- the file of a change says it
 
-pub same_change : (n m : ℕ) (c d : Change) → HasRoomInFile n c → HasRoomInFile m d → change_file (record { serial = n; change = c }) ≡ change_file (record { serial = m; change = d }) → (n ≡ m) × (c ≡ d)
+pub same_change : (n m : ℕ) (c d : Change) → HasRoomInFile n c → HasRoomInFile m d
+    → change_file (record { serial = n; change = c }) ≡ change_file (record { serial = m; change = d }) → (n ≡ m) × (c ≡ d)
 same_change n m (Group name status description moment) (Group name' status' description' moment') fits fits' is =
     let names : 103 ∷ 46 ∷ name ≡ 103 ∷ 46 ∷ name' = ap (λ (f : File). f.name) is in
     let name_is : name ≡ name' = cc in
-    let contents : group_record (record { serial = n; name = name; status = status; description = description; moment = moment }) ≡ group_record (record { serial = m; name = name'; status = status'; description = description'; moment = moment' }) = ap (λ (f : File). f.content) is in
-    let grouped : little_bytes 8 n ++ (little_bytes 8 moment ++ status ∷ description) ≡ little_bytes 8 m ++ (little_bytes 8 moment' ++ status' ∷ description') = simp append_assoc at contents in
-    let serials = little_split 8 n m (little_bytes 8 moment ++ status ∷ description) (little_bytes 8 moment' ++ status' ∷ description') fits.0 fits'.0 grouped in
+    let contents : group_record (record { serial = n; name = name; status = status; description = description; moment = moment })
+    ≡ group_record (record { serial = m; name = name'; status = status'; description = description'; moment = moment' }) =
+    ap (λ (f : File). f.content) is in
+    let grouped : little_bytes 8 n ++ (little_bytes 8 moment ++ status ∷ description)
+    ≡ little_bytes 8 m ++ (little_bytes 8 moment' ++ status' ∷ description') = simp append_assoc at contents in
+    let serials = little_split 8 n m (little_bytes 8 moment ++ status ∷ description) (little_bytes 8 moment' ++ status' ∷ description')
+    fits.0 fits'.0 grouped in
     let moments = little_split 8 moment moment' (status ∷ description) (status' ∷ description') fits.1 fits'.1 serials.1 in
     let statuses : status ≡ status' = let same = moments.1 in cc in
     let descriptions : description ≡ description' = let same = moments.1 in cc in
     (serials.0, λ i. Group (name_is i) (statuses i) (descriptions i) (moments.0 i))
 same_change n m (Article text groups moment) (Article text' groups' moment') fits fits' is =
-    let contents : article_record (record { serial = n; text = text; groups = groups; moment = moment }) ≡ article_record (record { serial = m; text = text'; groups = groups'; moment = moment' }) = ap (λ (f : File). f.content) is in
-    let grouped : little_bytes 8 n ++ (little_bytes 8 moment ++ (little_bytes 4 (length text) ++ (length groups ∷ (flat_map (λ g. length g ∷ g) groups ++ text)))) ≡ little_bytes 8 m ++ (little_bytes 8 moment' ++ (little_bytes 4 (length text') ++ (length groups' ∷ (flat_map (λ g. length g ∷ g) groups' ++ text')))) = simp append_assoc at contents in
+    let contents : article_record (record { serial = n; text = text; groups = groups; moment = moment })
+    ≡ article_record (record { serial = m; text = text'; groups = groups'; moment = moment' }) = ap (λ (f : File). f.content) is in
+    let grouped : little_bytes 8 n ++
+    (little_bytes 8 moment ++ (little_bytes 4 (length text) ++ (length groups ∷ (flat_map (λ g. length g ∷ g) groups ++ text))))
+    ≡ little_bytes 8 m ++ (little_bytes 8 moment' ++
+    (little_bytes 4 (length text') ++ (length groups' ∷ (flat_map (λ g. length g ∷ g) groups' ++ text')))) =
+    simp append_assoc at contents in
     let serials = little_split 8 n m _ _ fits.0 fits'.0 grouped in
     let moments = little_split 8 moment moment' _ _ fits.1 fits'.1 serials.1 in
     let lengths = little_split 4 (length text) (length text') _ _ fits.2 fits'.2 moments.1 in
@@ -102,26 +119,37 @@ same_change n m (Article text groups moment) (Article text' groups' moment') fit
     let names = counted_lists groups groups' text text' counts lists in
     (serials.0, λ i. Article (names.1 i) (names.0 i) (moments.0 i))
 same_change n m (Expire group number) (Expire group' number') fits fits' is =
-    let contents : expiry_record (record { serial = n; group = group; number = number }) ≡ expiry_record (record { serial = m; group = group'; number = number' }) = ap (λ (f : File). f.content) is in
-    let grouped : little_bytes 8 n ++ (little_bytes 4 number ++ length group ∷ group) ≡ little_bytes 8 m ++ (little_bytes 4 number' ++ length group' ∷ group') = simp append_assoc at contents in
-    let serials = little_split 8 n m (little_bytes 4 number ++ length group ∷ group) (little_bytes 4 number' ++ length group' ∷ group') fits.0 fits'.0 grouped in
+    let contents : expiry_record (record { serial = n; group = group; number = number })
+    ≡ expiry_record (record { serial = m; group = group'; number = number' }) = ap (λ (f : File). f.content) is in
+    let grouped : little_bytes 8 n ++ (little_bytes 4 number ++ length group ∷ group)
+    ≡ little_bytes 8 m ++ (little_bytes 4 number' ++ length group' ∷ group') = simp append_assoc at contents in
+    let serials = little_split 8 n m (little_bytes 4 number ++ length group ∷ group) (little_bytes 4 number' ++ length group' ∷ group')
+    fits.0 fits'.0 grouped in
     let numbers = little_split 4 number number' (length group ∷ group) (length group' ∷ group') fits.1 fits'.1 serials.1 in
     let names : group ≡ group' = let same = numbers.1 in cc in
     (serials.0, λ i. Expire (names i) (numbers.0 i))
-same_change n m (Group name status description moment) (Article text' groups' moment') fits fits' is = absurd (let octets : 103 ≡ 97 = ap (λ (f : File). get_or f.name 0 0) is in omega arith)
-same_change n m (Group name status description moment) (Expire group' number') fits fits' is = absurd (let octets : 103 ≡ 120 = ap (λ (f : File). get_or f.name 0 0) is in omega arith)
-same_change n m (Article text groups moment) (Group name' status' description' moment') fits fits' is = absurd (let octets : 97 ≡ 103 = ap (λ (f : File). get_or f.name 0 0) is in omega arith)
-same_change n m (Article text groups moment) (Expire group' number') fits fits' is = absurd (let octets : 97 ≡ 120 = ap (λ (f : File). get_or f.name 0 0) is in omega arith)
-same_change n m (Expire group number) (Group name' status' description' moment') fits fits' is = absurd (let octets : 120 ≡ 103 = ap (λ (f : File). get_or f.name 0 0) is in omega arith)
-same_change n m (Expire group number) (Article text' groups' moment') fits fits' is = absurd (let octets : 120 ≡ 97 = ap (λ (f : File). get_or f.name 0 0) is in omega arith)
+same_change n m (Group name status description moment) (Article text' groups' moment') fits fits' is =
+    absurd (let octets : 103 ≡ 97 = ap (λ (f : File). get_or f.name 0 0) is in omega arith)
+same_change n m (Group name status description moment) (Expire group' number') fits fits' is =
+    absurd (let octets : 103 ≡ 120 = ap (λ (f : File). get_or f.name 0 0) is in omega arith)
+same_change n m (Article text groups moment) (Group name' status' description' moment') fits fits' is =
+    absurd (let octets : 97 ≡ 103 = ap (λ (f : File). get_or f.name 0 0) is in omega arith)
+same_change n m (Article text groups moment) (Expire group' number') fits fits' is =
+    absurd (let octets : 97 ≡ 120 = ap (λ (f : File). get_or f.name 0 0) is in omega arith)
+same_change n m (Expire group number) (Group name' status' description' moment') fits fits' is =
+    absurd (let octets : 120 ≡ 103 = ap (λ (f : File). get_or f.name 0 0) is in omega arith)
+same_change n m (Expire group number) (Article text' groups' moment') fits fits' is =
+    absurd (let octets : 120 ≡ 97 = ap (λ (f : File). get_or f.name 0 0) is in omega arith)
 
 -- numbers and overviews are no file of a change
-not_index : (octet n : ℕ) (c : Change) → octet ≢ 103 → octet ≢ 97 → octet ≢ 120 → get_or (change_file (record { serial = n; change = c })).name 0 0 ≢ octet
+not_index : (octet n : ℕ) (c : Change) → octet ≢ 103 → octet ≢ 97 → octet ≢ 120
+    → get_or (change_file (record { serial = n; change = c })).name 0 0 ≢ octet
 not_index octet n (Group name status description moment) group article expiry is = group (sym is)
 not_index octet n (Article text groups moment) group article expiry is = article (sym is)
 not_index octet n (Expire group' number) group article expiry is = expiry (sym is)
 
-index_apart : (S : Spool) (d : Change) (n : ℕ) (c : Change) → Contains (index_files S d) (change_file (record { serial = n; change = c })) → ⊥
+index_apart : (S : Spool) (d : Change) (n : ℕ) (c : Change) → Contains (index_files S d) (change_file (record { serial = n; change = c }))
+    → ⊥
 index_apart S (Group name status description moment) n c (zero, low, is) =
     not_index 110 n c (λ e. omega arith) (λ e. omega arith) (λ e. omega arith) (ap (λ (f : File). get_or f.name 0 0) (sym is))
 index_apart S (Group name status description moment) n c (suc zero, low, is) =
@@ -130,19 +158,27 @@ index_apart S (Group name status description moment) n c (suc (suc k), low, is) 
 index_apart S (Article text groups moment) n c (k, low, is) = omega arith
 index_apart S (Expire group number) n c (k, low, is) = omega arith
 
-pub source_is : (S : Spool) (n m : ℕ) (c d : Change) → Contains (entry_files S (record { serial = n; change = d })) (change_file (record { serial = m; change = c })) → change_file (record { serial = n; change = d }) ≡ change_file (record { serial = m; change = c })
+pub source_is : (S : Spool) (n m : ℕ) (c d : Change)
+    → Contains (entry_files S (record { serial = n; change = d })) (change_file (record { serial = m; change = c }))
+    → change_file (record { serial = n; change = d }) ≡ change_file (record { serial = m; change = c })
 source_is S n m c d (zero, low, is) = is
 source_is S n m c d (suc k, low, is) = absurd (index_apart S d m c (k, omega arith, is))
 
 -- ---- entries
 
-entry_in : (n : ℕ) (S : Spool) (k : ℕ) → k < length S → Contains (entries_from n S) (record { serial = n + k; change = get_or S k no_change })
+entry_in : (n : ℕ) (S : Spool) (k : ℕ) → k < length S
+    → Contains (entries_from n S) (record { serial = n + k; change = get_or S k no_change })
 entry_in n [] k low = absurd (omega arith)
-entry_in n (c ∷ S) zero low = let serial : n ≡ n + 0 = omega arith in (0, omega arith, ap (λ (m : ℕ). record { serial = m; change = c }) serial)
+entry_in n (c ∷ S) zero low = let serial : n ≡ n + 0 = omega arith in
+    (0, omega arith, ap (λ (m : ℕ). record { serial = m; change = c }) serial)
 entry_in n (c ∷ S) (suc k) low =
     let serial : suc n + k ≡ n + suc k = omega arith in
     let rest = entry_in (suc n) S k (omega arith) in
-    subst (λ (m : ℕ). Contains (entries_from n (c ∷ S)) (record { serial = m; change = get_or S k no_change })) serial (suc rest.0, omega (arith, rest.1), rest.2)
+    subst (λ (m : ℕ). Contains (entries_from n (c ∷ S)) (record { serial = m; change = get_or S k no_change })) serial (
+      suc rest.0,
+      omega (arith, rest.1),
+      rest.2,
+    )
 
 pub record StandsAt (n : ℕ) (S : Spool) (e : Entry) : Type 0 where
   pub at : ℕ
@@ -189,22 +225,31 @@ changes_few host inodes blocks S held =
 
 -- ---- one spool
 
-module _ (host other : Octets) (files : List File) (S R : Spool) (few : length S ≤ 32768) (few' : length R ≤ 32768) (lawful : IsLawfulAfter host [] S) (lawful' : IsLawfulAfter other [] R) (same : IsPermutation files (files_of S)) (same' : IsPermutation files (files_of R)) where
+module _ (host other : Octets) (files : List File) (S R : Spool) (few : length S ≤ 32768) (few' : length R ≤ 32768)
+    (lawful : IsLawfulAfter host [] S) (lawful' : IsLawfulAfter other [] R) (same : IsPermutation files (files_of S))
+    (same' : IsPermutation files (files_of R)) where
   -- a change of the one stands in the other at the same place
   included : (k : ℕ) → k < length S → (k < length R) × (get_or S k no_change ≡ get_or R k no_change)
   unfolding files_of entries
   included k low =
       let c = get_or S k no_change in
       let file = change_file (record { serial = 1 + k; change = c }) in
-      let in_first : Contains (files_of S) file = joined_has (entry_files S) (entries_from 1 S) (record { serial = 1 + k; change = c }) file (entry_in 1 S k low) (0, omega arith, refl) in
+      let in_first : Contains (files_of S) file =
+      joined_has (entry_files S) (entries_from 1 S) (record { serial = 1 + k; change = c }) file (entry_in 1 S k low) (
+        0,
+        omega arith,
+        refl,
+      ) in
       let in_files = Contains-permutation (files_of S) files file (IsPermutation-sym files (files_of S) same) in_first in
-      let in_other : Contains (flat_map (entry_files R) (entries_from 1 R)) file = Contains-permutation files (files_of R) file same' in_files in
+      let in_other : Contains (flat_map (entry_files R) (entries_from 1 R)) file =
+      Contains-permutation files (files_of R) file same' in_files in
       let source = joined_from (entry_files R) (entries_from 1 R) file in_other in
       let its = entry_at 1 R source.item source.here in
       let file_is = source_is R source.item.serial (1 + k) c source.item.change source.has in
       let fits : HasRoomInFile (1 + k) c = fits_lawful host S lawful few k low in
       let fits_other : HasRoomInFile (1 + its.at) (get_or R its.at no_change) = fits_lawful other R lawful' few' its.at its.below in
-      let fits_its : HasRoomInFile source.item.serial source.item.change = subst (λ (p : ℕ × Change). HasRoomInFile p.0 p.1) (λ i. (sym its.serial i, sym its.change i)) fits_other in
+      let fits_its : HasRoomInFile source.item.serial source.item.change =
+      subst (λ (p : ℕ × Change). HasRoomInFile p.0 p.1) (λ i. (sym its.serial i, sym its.change i)) fits_other in
       let one = same_change source.item.serial (1 + k) source.item.change c fits_its fits file_is in
       let place : its.at ≡ k = omega (arith, one.0, its.serial) in
       (omega (arith, its.below, place), sym one.1 ∙ its.change ∙ ap (λ (j : ℕ). get_or R j no_change) place)

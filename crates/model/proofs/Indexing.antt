@@ -1,5 +1,6 @@
 -- The index of a spool with one change more.
-use Rattle.std.proofs.Common.{◌≡◌, ◌≤◌, ℕ, zero, suc, ◌+◌, ◌-◌, List, [], ◌∷◌, ◌++◌, length, get_or, map, take, drop, refl, sym, ◌∙◌, ap, arith, Bool, true, false, cond, length-append}
+use Rattle.std.proofs.Common.{◌≡◌, ◌≤◌, ℕ, zero, suc, ◌+◌, ◌-◌, List, [], ◌∷◌, ◌++◌, length, get_or, map, take, drop, refl, sym, ◌∙◌, ap}
+use Rattle.std.proofs.Common.{arith, Bool, true, false, cond, length-append}
 use Rattle.std.specs.Prelude.{filter, filter_map, flat_map, bytes_eq, is_some, slice_get, zip, Option, Some, None}
 use Rattle.std.specs.List.{list_any}
 use Rattle.std.proofs.lemmas.Bool.{cond-true, cond-false, true≢false}
@@ -11,7 +12,9 @@ use Rattle.std.proofs.Math.Nat.{le-max_left, le-max_right}
 use Rattle.model.specs.Stream.{Octets}
 use Rattle.model.specs.Indexed.{ends_from, group_index, GroupIndex, line_start, new_index, note_of, with_article, with_expiry}
 use Rattle.model.specs.Lawful.{MayFollow, IsLawfulAfter, IsLawful}
-use Rattle.model.specs.Spool.{Spool, Entry, entries_from, entries, Expiry, NewsArticle, NewsGroup, expiries_of, filed_in, greatest, is_here, is_name, last_naming, last_naming_one, low, names_one, expiry_made, articles, expiries, groups, group_named, by_id}
+use Rattle.model.specs.Spool.{Spool, Entry, entries_from, entries, Expiry, NewsArticle, NewsGroup, expiries_of, filed_in, greatest, is_here}
+use Rattle.model.specs.Spool.{is_name, last_naming, last_naming_one, low, names_one, expiry_made, articles, expiries, groups, group_named}
+use Rattle.model.specs.Spool.{by_id}
 use Rattle.model.specs.SpoolFiles.{next_line, numbers_of, overview_lines, overview_of}
 use Rattle.model.specs.Laws.Indexed.{ArticlesGrow, EmptyIndex, ExpiriesGrow, GroupsGrow, LinesStand, NotesGrow, NumbersAreWhole}
 use Rattle.model.specs.declared.change.Change.{Change}
@@ -64,13 +67,17 @@ stands_from start (l ∷ ls) zero line is =
 stands_from start (l ∷ ls) (suc k) line is =
     let rest = stands_from (start + length l) ls k line is in
     let later = ends_from (start + length l) ls in
-    let at : start_from start ((start + length l) ∷ later) (suc k) ≡ start_from (start + length l) later k = next_start start (start + length l) later k in
-    let far : start_from start ((start + length l) ∷ later) (suc k) - start ≡ length l + (start_from (start + length l) later k - (start + length l)) = omega (arith, at, rest.behind) in
+    let at : start_from start ((start + length l) ∷ later) (suc k) ≡ start_from (start + length l) later k =
+    next_start start (start + length l) later k in
+    let far : start_from start ((start + length l) ∷ later) (suc k) - start
+    ≡ length l + (start_from (start + length l) later k - (start + length l)) = omega (arith, at, rest.behind) in
     record {
       behind = omega (arith, at, rest.behind);
       octets =
           ap (λ (n : ℕ). take (length line) (drop n (l ++ flat_map (λ x. x) ls))) far
-          ∙ ap (take (length line)) (sym (drop-drop (start_from (start + length l) later k - (start + length l)) (length l) (l ++ flat_map (λ x. x) ls)) ∙ ap (drop (start_from (start + length l) later k - (start + length l))) (drop_at l (flat_map (λ x. x) ls) (length l) refl))
+          ∙ ap (take (length line)) (sym (drop-drop (start_from (start + length l) later k - (start + length l)) (length l)
+          (l ++ flat_map (λ x. x) ls)) ∙ ap (drop (start_from (start + length l) later k - (start + length l)))
+          (drop_at l (flat_map (λ x. x) ls) (length l) refl))
           ∙ rest.octets;
       ends = rest.ends ∙ ap (λ (n : ℕ). n + length line) (sym at);
     }
@@ -85,20 +92,32 @@ lines_stand S g k line is =
     let ls = overview_lines (filed_in S g) in
     let its = stands_from 0 ls k line is in
     let at = first_start (ends_from 0 ls) k in
-    let from : line_start (ends_from 0 ls) k ≡ start_from 0 (ends_from 0 ls) k - 0 = omega (arith, at) in
-    (ap (λ (n : ℕ). take (length line) (drop n (flat_map (λ l. l) ls))) from ∙ its.octets, its.ends ∙ ap (λ (n : ℕ). n + length line) (sym at))
+    let from : line_start (ends_from 0 ls) k ≡ start_from 0 (ends_from 0 ls) k - 0 = omega (arith, at) in (
+      ap (λ (n : ℕ). take (length line) (drop n (flat_map (λ l. l) ls))) from ∙ its.octets,
+      its.ends
+          ∙ ap (λ (n : ℕ). n + length line) (sym at),
+    )
 
-ends_push : (start : ℕ) (ls : List Octets) (line : Octets) → ends_from start (ls ++ line ∷ []) ≡ ends_from start ls ++ (start + length (flat_map (λ l. l) ls) + length line) ∷ []
+ends_push : (start : ℕ) (ls : List Octets) (line : Octets)
+    → ends_from start (ls ++ line ∷ []) ≡ ends_from start ls ++ (start + length (flat_map (λ l. l) ls) + length line) ∷ []
 ends_push start [] line = let same : start + length line ≡ start + 0 + length line = omega arith in ap (λ (n : ℕ). n ∷ []) same
 ends_push start (l ∷ ls) line =
-    let same : start + length l + length (flat_map (λ x. x) ls) + length line ≡ start + length (l ++ flat_map (λ x. x) ls) + length line = omega (arith, length-append l (flat_map (λ x. x) ls)) in
-    ap (λ (ns : List ℕ). (start + length l) ∷ ns) (ends_push (start + length l) ls line ∙ ap (λ (n : ℕ). ends_from (start + length l) ls ++ n ∷ []) same)
+    let same : start + length l + length (flat_map (λ x. x) ls) + length line ≡ start + length (l ++ flat_map (λ x. x) ls) + length line =
+    omega (arith, length-append l (flat_map (λ x. x) ls)) in
+    ap (λ (ns : List ℕ). (start + length l) ∷ ns) (ends_push (start + length l) ls line
+    ∙ ap (λ (n : ℕ). ends_from (start + length l) ls ++ n ∷ []) same)
 
 -- ---- the last serial
 
 greatest_push : (ns : List ℕ) (m : ℕ) → greatest ns ≤ m → greatest (ns ++ m ∷ []) ≡ m
 greatest_push [] m small = omega arith
-greatest_push (n ∷ ns) m small = omega (arith, le-max_left n (greatest ns), le-max_right n (greatest ns), greatest_push ns m (omega (arith, le-max_right n (greatest ns))))
+greatest_push (n ∷ ns) m small =
+    omega (
+      arith,
+      le-max_left n (greatest ns),
+      le-max_right n (greatest ns),
+      greatest_push ns m (omega (arith, le-max_right n (greatest ns))),
+    )
 
 abbrev serials_of : (Octets → Bool) → List Entry → List ℕ
 serials_of test es = map (λ (e : Entry). e.serial) (filter (λ (e : Entry). names_one test e.change) es)
@@ -109,16 +128,19 @@ serials_most test n (c ∷ S) = by_test (names_one test c) (serials_most test (s
   later : List Entry
   later = filter (λ (e : Entry). names_one test e.change) (entries_from (suc n) S)
 
-  by_test : (b : Bool) → greatest (map (λ (e : Entry). e.serial) later) ≤ length S + suc n → greatest (map (λ (e : Entry). e.serial) (cond b (record { serial = n; change = c } ∷ later) later)) ≤ suc (length S) + n
+  by_test : (b : Bool) → greatest (map (λ (e : Entry). e.serial) later) ≤ length S + suc n
+      → greatest (map (λ (e : Entry). e.serial) (cond b (record { serial = n; change = c } ∷ later) later)) ≤ suc (length S) + n
   by_test true small = omega arith
   by_test false small = omega arith
 
-last_push : (S : Spool) (c : Change) (test : Octets → Bool) → last_naming_one (S ++ c ∷ []) test ≡ cond (names_one test c) (length S + 1) (last_naming_one S test)
+last_push : (S : Spool) (c : Change) (test : Octets → Bool)
+    → last_naming_one (S ++ c ∷ []) test ≡ cond (names_one test c) (length S + 1) (last_naming_one S test)
 unfolding last_naming_one entries
 last_push S c test =
     let e : Entry = record { serial = length S + 1; change = c } in
     ap (λ es. greatest (serials_of test es)) (entries_push 1 S c)
-    ∙ ap (λ (es : List Entry). greatest (map (λ (x : Entry). x.serial) es)) (filter-append (λ (x : Entry). names_one test x.change) (entries_from 1 S) (e ∷ []))
+    ∙ ap (λ (es : List Entry). greatest (map (λ (x : Entry). x.serial) es))
+    (filter-append (λ (x : Entry). names_one test x.change) (entries_from 1 S) (e ∷ []))
     ∙ by_test (names_one test c)
   where
     front : List Entry
@@ -127,74 +149,104 @@ last_push S c test =
     its : Entry
     its = record { serial = length S + 1; change = c }
 
-    by_test : (b : Bool) → greatest (map (λ (x : Entry). x.serial) (front ++ cond b (its ∷ []) [])) ≡ cond b (length S + 1) (greatest (map (λ (x : Entry). x.serial) front))
+    by_test : (b : Bool) → greatest (map (λ (x : Entry). x.serial) (front ++ cond b (its ∷ []) []))
+        ≡ cond b (length S + 1) (greatest (map (λ (x : Entry). x.serial) front))
     by_test false = ap (λ (es : List Entry). greatest (map (λ (x : Entry). x.serial) es)) (append-nil front)
-    by_test true = ap greatest (map_push (λ (x : Entry). x.serial) front its) ∙ greatest_push (map (λ (x : Entry). x.serial) front) (length S + 1) (serials_most test 1 S)
+    by_test true = ap greatest (map_push (λ (x : Entry). x.serial) front its)
+        ∙ greatest_push (map (λ (x : Entry). x.serial) front) (length S + 1) (serials_most test 1 S)
 
 -- ---- groups
 
-expired_same : (S : Spool) (g : Octets) (c : Change) → filter_map expiry_made (record { serial = length S + 1; change = c } ∷ []) ≡ [] → expiries_of (S ++ c ∷ []) g ≡ expiries_of S g
+expired_same : (S : Spool) (g : Octets) (c : Change) → filter_map expiry_made (record { serial = length S + 1; change = c } ∷ []) ≡ []
+    → expiries_of (S ++ c ∷ []) g ≡ expiries_of S g
 expired_same S g c none =
-    expiry_push S g c ∙ ap (λ (es : List Expiry). expiries_of S g ++ filter (λ (e : Expiry). is_name g e.group) es) none ∙ append-nil (expiries_of S g)
+    expiry_push S g c ∙ ap (λ (es : List Expiry). expiries_of S g ++ filter (λ (e : Expiry). is_name g e.group) es) none
+    ∙ append-nil (expiries_of S g)
 
 pub notes_grow : NotesGrow
 unfolding entries
 notes_grow S c = ap (map note_of) (entries_push 1 S c) ∙ map_push note_of (entries_from 1 S) (record { serial = length S + 1; change = c })
 
 -- the parts of a group's index
-made_index : (i j : GroupIndex) → i.group ≡ j.group → i.filed ≡ j.filed → i.ends ≡ j.ends → i.low ≡ j.low → i.expired ≡ j.expired → i.last ≡ j.last → i ≡ j
-made_index i j group filed ends low' expired last = λ t. record { group = group t; filed = filed t; ends = ends t; low = low' t; expired = expired t; last = last t }
+made_index : (i j : GroupIndex) → i.group ≡ j.group → i.filed ≡ j.filed → i.ends ≡ j.ends → i.low ≡ j.low → i.expired ≡ j.expired
+    → i.last ≡ j.last → i ≡ j
+made_index i j group filed ends low' expired last = λ t. record {
+  group = group t;
+  filed = filed t;
+  ends = ends t;
+  low = low' t;
+  expired = expired t;
+  last = last t;
+}
 
-index_parts : (S R : Spool) (g : NewsGroup) → filed_in R g.name ≡ filed_in S g.name → expiries_of R g.name ≡ expiries_of S g.name → last_naming R g.name ≡ last_naming S g.name → group_index R g ≡ group_index S g
-index_parts S R g filed expired last = made_index (group_index R g) (group_index S g) refl (ap (map (λ (a : NewsArticle). a.serial)) filed) (ap (λ (f : List NewsArticle). ends_from 0 (overview_lines f)) filed)
+index_parts : (S R : Spool) (g : NewsGroup) → filed_in R g.name ≡ filed_in S g.name → expiries_of R g.name ≡ expiries_of S g.name
+    → last_naming R g.name ≡ last_naming S g.name → group_index R g ≡ group_index S g
+index_parts S R g filed expired last =
+    made_index (group_index R g) (group_index S g) refl (ap (map (λ (a : NewsArticle). a.serial)) filed)
+    (ap (λ (f : List NewsArticle). ends_from 0 (overview_lines f)) filed)
     (ap (λ (es : List Expiry). 1 + greatest (map (λ (e : Expiry). e.number) es)) expired) expired last
 
-size : (filed : List NewsArticle) (line : Octets) → 0 + length (flat_map (λ l. l) (overview_lines filed)) + length line ≡ length (overview_of filed) + length line
+size : (filed : List NewsArticle) (line : Octets)
+    → 0 + length (flat_map (λ l. l) (overview_lines filed)) + length line ≡ length (overview_of filed) + length line
 unfolding overview_of
 size filed line = omega arith
 
 pub articles_grow : ArticlesGrow
-articles_grow S text gs moment g = by_test (list_any (is_name g.name) gs) (filed_article S g.name text gs moment) (last_push S (Article text gs moment) (is_name g.name)) where
-  R : Spool
-  R = S ++ Article text gs moment ∷ []
+articles_grow S text gs moment g =
+    by_test (list_any (is_name g.name) gs) (filed_article S g.name text gs moment)
+    (last_push S (Article text gs moment) (is_name g.name)) where
+      R : Spool
+      R = S ++ Article text gs moment ∷ []
 
-  its : NewsArticle
-  its = record { serial = length S + 1; text = text; groups = gs; moment = moment }
+      its : NewsArticle
+      its = record { serial = length S + 1; text = text; groups = gs; moment = moment }
 
-  expired : expiries_of R g.name ≡ expiries_of S g.name
-  expired = expired_same S g.name (Article text gs moment) refl
+      expired : expiries_of R g.name ≡ expiries_of S g.name
+      expired = expired_same S g.name (Article text gs moment) refl
 
-  by_test : (b : Bool) → filed_in R g.name ≡ filed_in S g.name ++ cond b (its ∷ []) [] → last_naming R g.name ≡ cond b (length S + 1) (last_naming S g.name) → group_index R g ≡ cond b (with_article S text (group_index S g)) (group_index S g)
-  by_test false filed last = index_parts S R g (filed ∙ append-nil (filed_in S g.name)) expired last
-  by_test true filed last =
-      made_index (group_index R g) (with_article S text (group_index S g)) refl
-      (ap (map (λ (a : NewsArticle). a.serial)) filed ∙ map_push (λ (a : NewsArticle). a.serial) (filed_in S g.name) its)
-      (ap (λ (f : List NewsArticle). ends_from 0 (overview_lines f)) filed ∙ ap (ends_from 0) (lines_push (filed_in S g.name) its) ∙ ends_push 0 (overview_lines (filed_in S g.name)) (next_line S text g.name) ∙ ap (λ (n : ℕ). ends_from 0 (overview_lines (filed_in S g.name)) ++ n ∷ []) (size (filed_in S g.name) (next_line S text g.name)))
-      (ap (λ (es : List Expiry). 1 + greatest (map (λ (e : Expiry). e.number) es)) expired) expired last
+      by_test : (b : Bool) → filed_in R g.name ≡ filed_in S g.name ++ cond b (its ∷ []) []
+          → last_naming R g.name ≡ cond b (length S + 1) (last_naming S g.name)
+          → group_index R g ≡ cond b (with_article S text (group_index S g)) (group_index S g)
+      by_test false filed last = index_parts S R g (filed ∙ append-nil (filed_in S g.name)) expired last
+      by_test true filed last =
+          made_index (group_index R g) (with_article S text (group_index S g)) refl
+          (ap (map (λ (a : NewsArticle). a.serial)) filed ∙ map_push (λ (a : NewsArticle). a.serial) (filed_in S g.name) its)
+          (ap (λ (f : List NewsArticle). ends_from 0 (overview_lines f)) filed ∙ ap (ends_from 0) (lines_push (filed_in S g.name) its)
+          ∙ ends_push 0 (overview_lines (filed_in S g.name)) (next_line S text g.name)
+          ∙ ap (λ (n : ℕ). ends_from 0 (overview_lines (filed_in S g.name)) ++ n ∷ []) (size (filed_in S g.name) (next_line S text g.name)))
+          (ap (λ (es : List Expiry). 1 + greatest (map (λ (e : Expiry). e.number) es)) expired) expired last
 
 pub expiries_grow : ExpiriesGrow
-expiries_grow host S h number g may = by_test (bytes_eq h g.name) refl (expiry_push S g.name (Expire h number)) (last_push S (Expire h number) (is_name g.name)) where
-  R : Spool
-  R = S ++ Expire h number ∷ []
+expiries_grow host S h number g may =
+    by_test (bytes_eq h g.name) refl (expiry_push S g.name (Expire h number)) (last_push S (Expire h number) (is_name g.name)) where
+      R : Spool
+      R = S ++ Expire h number ∷ []
 
-  its : Expiry
-  its = record { serial = length S + 1; group = h; number = number }
+      its : Expiry
+      its = record { serial = length S + 1; group = h; number = number }
 
-  filed : filed_in R g.name ≡ filed_in S g.name
-  filed = filed_no_more S g.name (Expire h number) refl
+      filed : filed_in R g.name ≡ filed_in S g.name
+      filed = filed_no_more S g.name (Expire h number) refl
 
-  by_test : (b : Bool) → bytes_eq h g.name ≡ b → expiries_of R g.name ≡ expiries_of S g.name ++ cond b (its ∷ []) [] → last_naming R g.name ≡ cond b (length S + 1) (last_naming S g.name) → group_index R g ≡ cond b (with_expiry S number (group_index S g)) (group_index S g)
-  by_test false is expired last = index_parts S R g filed (expired ∙ append-nil (expiries_of S g.name)) last
-  by_test true is expired last =
-      let same : h ≡ g.name = (bytes_eq-Decides h g.name).0 is in
-      let small : greatest (map (λ (e : Expiry). e.number) (expiries_of S g.name)) ≤ number = omega (arith, may.from_low, ap (low S) same) in
-      let all : expiries_of R g.name ≡ expiries_of S g.name ++ record { serial = length S + 1; group = g.name; number = number } ∷ [] =
-      expired ∙ ap (λ (n : Octets). expiries_of S g.name ++ record { serial = length S + 1; group = n; number = number } ∷ []) same in
-      made_index (group_index R g) (with_expiry S number (group_index S g)) refl (ap (map (λ (a : NewsArticle). a.serial)) filed) (ap (λ (f : List NewsArticle). ends_from 0 (overview_lines f)) filed)
-      (ap (λ (ns : List ℕ). 1 + greatest ns) (ap (map (λ (e : Expiry). e.number)) all ∙ map_push (λ (e : Expiry). e.number) (expiries_of S g.name) (record { serial = length S + 1; group = g.name; number = number })) ∙ ap (λ (n : ℕ). 1 + n) (greatest_push (map (λ (e : Expiry). e.number) (expiries_of S g.name)) number small))
-      all last
+      by_test : (b : Bool) → bytes_eq h g.name ≡ b → expiries_of R g.name ≡ expiries_of S g.name ++ cond b (its ∷ []) []
+          → last_naming R g.name ≡ cond b (length S + 1) (last_naming S g.name)
+          → group_index R g ≡ cond b (with_expiry S number (group_index S g)) (group_index S g)
+      by_test false is expired last = index_parts S R g filed (expired ∙ append-nil (expiries_of S g.name)) last
+      by_test true is expired last =
+          let same : h ≡ g.name = (bytes_eq-Decides h g.name).0 is in
+          let small : greatest (map (λ (e : Expiry). e.number) (expiries_of S g.name)) ≤ number =
+          omega (arith, may.from_low, ap (low S) same) in
+          let all : expiries_of R g.name ≡ expiries_of S g.name ++ record { serial = length S + 1; group = g.name; number = number } ∷ [] =
+          expired ∙ ap (λ (n : Octets). expiries_of S g.name ++ record { serial = length S + 1; group = n; number = number } ∷ []) same in
+          made_index (group_index R g) (with_expiry S number (group_index S g)) refl (ap (map (λ (a : NewsArticle). a.serial)) filed)
+          (ap (λ (f : List NewsArticle). ends_from 0 (overview_lines f)) filed)
+          (ap (λ (ns : List ℕ). 1 + greatest ns) (ap (map (λ (e : Expiry). e.number)) all
+          ∙ map_push (λ (e : Expiry). e.number) (expiries_of S g.name) (record { serial = length S + 1; group = g.name; number = number }))
+          ∙ ap (λ (n : ℕ). 1 + n) (greatest_push (map (λ (e : Expiry). e.number) (expiries_of S g.name)) number small))
+          all last
 
-nothing_expired : (host : Octets) (before cs : Spool) (n : ℕ) (name : Octets) → IsLawfulAfter host before cs → group_named (before ++ cs) name ≡ None
+nothing_expired : (host : Octets) (before cs : Spool) (n : ℕ) (name : Octets) → IsLawfulAfter host before cs
+    → group_named (before ++ cs) name ≡ None
     → filter (λ (e : Expiry). is_name name e.group) (filter_map expiry_made (entries_from n cs)) ≡ []
 nothing_expired host before [] n name lawful none = refl
 nothing_expired host before (Group g status description moment ∷ cs) n name lawful none =
@@ -202,8 +254,10 @@ nothing_expired host before (Group g status description moment ∷ cs) n name la
 nothing_expired host before (Article text gs moment ∷ cs) n name lawful none =
     nothing_expired host (before ++ Article text gs moment ∷ []) cs (suc n) name lawful.1 (rw append_assoc none)
 nothing_expired host before (Expire h number ∷ cs) n name lawful none =
-    let absent : is_here before name ≡ false = ap (λ (o : Option NewsGroup). is_some o) (named_front before (Expire h number ∷ cs) name none) in
-    let other : bytes_eq h name ≡ false = bytes_differ h name (λ same. true≢false (sym lawful.0.here ∙ ap (is_here before) same ∙ absent)) in
+    let absent : is_here before name ≡ false =
+    ap (λ (o : Option NewsGroup). is_some o) (named_front before (Expire h number ∷ cs) name none) in
+    let other : bytes_eq h name ≡ false =
+    bytes_differ h name (λ same. true≢false (sym lawful.0.here ∙ ap (is_here before) same ∙ absent)) in
     let rest = nothing_expired host (before ++ Expire h number ∷ []) cs (suc n) name lawful.1 (rw append_assoc none) in
     cond-false (bytes_eq h name) _ _ other ∙ rest
 
@@ -213,12 +267,15 @@ new_has_expired host S name lawful none = nothing_expired host [] S 1 name lawfu
 
 pub groups_grow : GroupsGrow
 groups_grow = record { others = others; its_own = its_own } where
-  others : (S : Spool) (name : Octets) (status : ℕ) (description : Octets) (moment : ℕ) (g : NewsGroup) → bytes_eq name g.name ≡ false → group_index (S ++ Group name status description moment ∷ []) g ≡ group_index S g
+  others : (S : Spool) (name : Octets) (status : ℕ) (description : Octets) (moment : ℕ) (g : NewsGroup) → bytes_eq name g.name ≡ false
+      → group_index (S ++ Group name status description moment ∷ []) g ≡ group_index S g
   others S name status description moment g other =
       let c = Group name status description moment in
-      index_parts S (S ++ c ∷ []) g (filed_no_more S g.name c refl) (expired_same S g.name c refl) (last_push S c (is_name g.name) ∙ cond-false (bytes_eq name g.name) (length S + 1) (last_naming S g.name) other)
+      index_parts S (S ++ c ∷ []) g (filed_no_more S g.name c refl) (expired_same S g.name c refl) (last_push S c (is_name g.name)
+      ∙ cond-false (bytes_eq name g.name) (length S + 1) (last_naming S g.name) other)
 
-  its_own : (host : Octets) (S : Spool) (name : Octets) (status : ℕ) (description : Octets) (moment : ℕ) (g : NewsGroup) → IsLawful host S → MayFollow host S (Group name status description moment) → g.name ≡ name
+  its_own : (host : Octets) (S : Spool) (name : Octets) (status : ℕ) (description : Octets) (moment : ℕ) (g : NewsGroup) → IsLawful host S
+      → MayFollow host S (Group name status description moment) → g.name ≡ name
       → group_index (S ++ Group name status description moment ∷ []) g ≡ new_index S g
   its_own host S name status description moment g lawful may same =
       let c = Group name status description moment in
@@ -226,8 +283,10 @@ groups_grow = record { others = others; its_own = its_own } where
       let none : group_named S g.name ≡ None = ap (group_named S) same ∙ may.new in
       let filed : filed_in R g.name ≡ [] = filed_no_more S g.name c refl ∙ new_has_nothing host S g.name lawful none in
       let expired : expiries_of R g.name ≡ [] = expired_same S g.name c refl ∙ new_has_expired host S g.name lawful none in
-      let last : last_naming R g.name ≡ length S + 1 = last_push S c (is_name g.name) ∙ cond-true (bytes_eq name g.name) (length S + 1) (last_naming S g.name) ((bytes_eq-Decides name g.name).1 (sym same)) in
-      made_index (group_index R g) (new_index S g) refl (ap (map (λ (a : NewsArticle). a.serial)) filed) (ap (λ (f : List NewsArticle). ends_from 0 (overview_lines f)) filed)
+      let last : last_naming R g.name ≡ length S + 1 = last_push S c (is_name g.name)
+      ∙ cond-true (bytes_eq name g.name) (length S + 1) (last_naming S g.name) ((bytes_eq-Decides name g.name).1 (sym same)) in
+      made_index (group_index R g) (new_index S g) refl (ap (map (λ (a : NewsArticle). a.serial)) filed)
+      (ap (λ (f : List NewsArticle). ends_from 0 (overview_lines f)) filed)
       (ap (λ (es : List Expiry). 1 + greatest (map (λ (e : Expiry). e.number) es)) expired) expired last
 
 pub empty_index : EmptyIndex

@@ -10,10 +10,12 @@ use Rattle.model.specs.Stream.{Octets}
 
 -- ---- joined lists
 
-pub joined_has : {X A : Type 0} (f : X → List A) (xs : List X) (x : X) (a : A) → Contains xs x → Contains (f x) a → Contains (flat_map f xs) a
+pub joined_has : {X A : Type 0} (f : X → List A) (xs : List X) (x : X) (a : A) → Contains xs x → Contains (f x) a
+    → Contains (flat_map f xs) a
 joined_has f [] x a (k, low, is) has = absurd (omega arith)
 joined_has f (y ∷ ys) x a (zero, low, is) has = Contains-append_left (f y) (flat_map f ys) a (subst (λ z. Contains (f z) a) (sym is) has)
-joined_has f (y ∷ ys) x a (suc k, low, is) has = Contains-append_right (f y) (flat_map f ys) a (joined_has f ys x a (k, omega arith, is) has)
+joined_has f (y ∷ ys) x a (suc k, low, is) has =
+    Contains-append_right (f y) (flat_map f ys) a (joined_has f ys x a (k, omega arith, is) has)
 
 -- which list an element comes from
 pub record IsFrom {X A : Type 0} (f : X → List A) (xs : List X) (a : A) : Type 0 where
@@ -47,4 +49,5 @@ pub bytes_differ : (xs ys : Octets) → xs ≢ ys → bytes_eq xs ys ≡ false
 bytes_differ xs ys other = false_from_ne_true (bytes_eq xs ys) (λ is. other ((bytes_eq-Decides xs ys).0 is))
 
 pub bytes_swap : (xs ys : Octets) → bytes_eq xs ys ≡ false → bytes_eq ys xs ≡ false
-bytes_swap xs ys other = false_from_ne_true (bytes_eq ys xs) (λ is. absurd (let one : bytes_eq xs ys ≡ true = (bytes_eq-Decides xs ys).1 (sym ((bytes_eq-Decides ys xs).0 is)) in cc))
+bytes_swap xs ys other = false_from_ne_true (bytes_eq ys xs)
+    (λ is. absurd (let one : bytes_eq xs ys ≡ true = (bytes_eq-Decides xs ys).1 (sym ((bytes_eq-Decides ys xs).0 is)) in cc))

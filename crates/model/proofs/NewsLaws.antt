@@ -21,9 +21,11 @@ pub lawful : (host : Octets) → IsLawful (service host)
 lawful host = its_lawfulness host
 
 -- only a block makes a change
-pub only_blocks_change : (host : Octets) (S : Spool) (x : Session) (m : Message) (t : ℕ) (mark : Mark) → ((text : Octets) → m ≢ message.Block text) → (answer host S x m t mark).change ≡ None
+pub only_blocks_change : (host : Octets) (S : Spool) (x : Session) (m : Message) (t : ℕ) (mark : Mark)
+    → ((text : Octets) → m ≢ message.Block text) → (answer host S x m t mark).change ≡ None
 only_blocks_change host S x m t mark other = its_changes host S x m t mark other
 
 -- a server that stopped says so, closes the session, and accepts nothing
-pub stopped_answer : (host : Octets) (S : Spool) (x : Session) (m : Message) (t : ℕ) → answer host S x m t mark.Stopped ≡ says (awaiting x awaits.Nothing) service_ends
+pub stopped_answer : (host : Octets) (S : Spool) (x : Session) (m : Message) (t : ℕ)
+    → answer host S x m t mark.Stopped ≡ says (awaiting x awaits.Nothing) service_ends
 stopped_answer host S x m t = its_end host S x m t

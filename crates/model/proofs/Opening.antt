@@ -1,16 +1,19 @@
 -- What an opening finds.
-use Rattle.std.proofs.Common.{◌≡◌, inl, inr, ◌<◌, ◌≤◌, ℕ, zero, suc, ◌+◌, ◌-◌, ◌*◌, Bool, true, false, cond, count_by, List, [], ◌∷◌, length, get_or, take, refl, sym, ◌∙◌, ap, subst, arith}
+use Rattle.std.proofs.Common.{◌≡◌, inl, inr, ◌<◌, ◌≤◌, ℕ, zero, suc, ◌+◌, ◌-◌, ◌*◌, Bool, true, false, cond, count_by, List, [], ◌∷◌}
+use Rattle.std.proofs.Common.{length, get_or, take, refl, sym, ◌∙◌, ap, subst, arith}
 use Rattle.std.specs.Prelude.{flat_map, filter_map, slice_get, Option, Some, None, IsPermutation}
 use Rattle.std.specs.List.{Contains, remove}
 use Rattle.std.proofs.lemmas.Bool.{cases_lt}
 use Rattle.std.proofs.lemmas.List.{nil_from_length, same_lists, get_or_default, get_or-take, length-take}
 use Rattle.std.proofs.lemmas.List.Elements.{All-contains}
-use Rattle.std.proofs.lemmas.List.Sorted.{Contains-permutation, IsPermutation-cons, IsPermutation-refl, IsPermutation-remove, IsPermutation-trans, IsPermutation-sym, length_permutation, sum_by-IsPermutation}
+use Rattle.std.proofs.lemmas.List.Sorted.{Contains-permutation, IsPermutation-cons, IsPermutation-refl, IsPermutation-remove}
+use Rattle.std.proofs.lemmas.List.Sorted.{IsPermutation-trans, IsPermutation-sym, length_permutation, sum_by-IsPermutation}
 use Rattle.std.proofs.lemmas.List.Sums.{sum_by-append, sum_by-cons}
 use Rattle.std.proofs.lemmas.Option.{get_or_from_slice_get, slice_get-get_or, slice_get_past}
 use Rattle.model.specs.Files.{File, files_in, table}
 use Rattle.model.specs.Spool.{Spool, Entry, entries_from, entries, group_made, groups}
-use Rattle.model.specs.SpoolFiles.{HasRoomInFile, change_file, entry_files, files_of, is_of_change, numbers_file, numbers_name, overview_file, overview_name}
+use Rattle.model.specs.SpoolFiles.{HasRoomInFile, change_file, entry_files, files_of, is_of_change, numbers_file, numbers_name}
+use Rattle.model.specs.SpoolFiles.{overview_file, overview_name}
 use Rattle.model.specs.Laws.SpoolFiles.{ChangesAreCounted, ChangesAreRead, FilesAreCounted, FilesMakeSpool, FrontsAreRead}
 use Rattle.model.specs.declared.change.Change.{Change}
 use Rattle.model.specs.declared.change.Change.TheVariants.{Group, Article, Expire}
@@ -26,16 +29,20 @@ changes_read host inodes blocks S n c room held fits has =
     let file = change_file (record { serial = n; change = c }) in
     let few = changes_few host inodes blocks S held in
     let in_files : Contains held.files file = subst (λ (fs : List File). Contains fs file) (sym held.held.contents) has in
-    let in_spool : Contains (flat_map (entry_files S) (entries_from 1 S)) file = Contains-permutation held.files (files_of S) file held.same in_files in
+    let in_spool : Contains (flat_map (entry_files S) (entries_from 1 S)) file =
+    Contains-permutation held.files (files_of S) file held.same in_files in
     let source = joined_from (entry_files S) (entries_from 1 S) file in_spool in
     let its = entry_at 1 S source.item source.here in
     let file_is = source_is S source.item.serial n c source.item.change source.has in
-    let lawful : HasRoomInFile (1 + its.at) (get_or S its.at no_change) = fits_lawful host S held.lawful (omega (arith, few)) its.at its.below in
-    let fits_its : HasRoomInFile source.item.serial source.item.change = subst (λ (p : ℕ × Change). HasRoomInFile p.0 p.1) (λ i. (sym its.serial i, sym its.change i)) lawful in
+    let lawful : HasRoomInFile (1 + its.at) (get_or S its.at no_change) =
+    fits_lawful host S held.lawful (omega (arith, few)) its.at its.below in
+    let fits_its : HasRoomInFile source.item.serial source.item.change =
+    subst (λ (p : ℕ × Change). HasRoomInFile p.0 p.1) (λ i. (sym its.serial i, sym its.change i)) lawful in
     let one = same_change source.item.serial n source.item.change c fits_its fits file_is in
     let place : its.at ≡ n - 1 = omega (arith, one.0, its.serial) in (
       omega (arith, one.0, its.serial),
-      slice_get-get_or S (n - 1) no_change (omega (arith, its.below, place)) ∙ ap (λ (d : Change). Some d) (ap (λ (j : ℕ). get_or S j no_change) (sym place) ∙ sym its.change ∙ one.1),
+      slice_get-get_or S (n - 1) no_change (omega (arith, its.below, place))
+          ∙ ap (λ (d : Change). Some d) (ap (λ (j : ℕ). get_or S j no_change) (sym place) ∙ sym its.change ∙ one.1),
     )
 
 -- ---- as many, and none twice
@@ -44,16 +51,20 @@ abbrev Once : {X : Type 0} → List X → Type 0
 Once [] = Unit {0}
 Once (x ∷ xs) = (¬ (Contains xs x)) × Once xs
 
-same_elements : {X : Type 0} (xs ys : List X) → Once xs → ((x : X) → Contains xs x → Contains ys x) → length xs ≡ length ys → IsPermutation ys xs
+same_elements : {X : Type 0} (xs ys : List X) → Once xs → ((x : X) → Contains xs x → Contains ys x) → length xs ≡ length ys
+    → IsPermutation ys xs
 same_elements [] ys once within same = subst (λ zs. IsPermutation zs []) (sym (nil_from_length ys (sym same))) (IsPermutation-refl [])
 same_elements (x ∷ xs) ys once within same =
     let at = within x (0, omega arith, refl) in
     let rest = remove ys at.0 in
     let moved : IsPermutation ys (x ∷ rest) = IsPermutation-remove ys at.0 x at.1 (sym at.2) in
     let size : length xs ≡ length rest = omega (arith, same, length_permutation ys (x ∷ rest) moved) in
-    IsPermutation-trans ys (x ∷ rest) (x ∷ xs) moved (IsPermutation-cons x rest xs (same_elements xs rest once.1 (λ z has. left_over z has (Contains-permutation ys (x ∷ rest) z moved (within z (suc has.0, omega (arith, has.1), has.2)))) size))
+    IsPermutation-trans ys (x ∷ rest) (x ∷ xs) moved
+    (IsPermutation-cons x rest xs (same_elements xs rest once.1
+    (λ z has. left_over z has (Contains-permutation ys (x ∷ rest) z moved (within z (suc has.0, omega (arith, has.1), has.2)))) size))
   where
-    left_over : (z : _) → Contains xs z → Contains (x ∷ remove ys (within x (0, omega arith, refl)).0) z → Contains (remove ys (within x (0, omega arith, refl)).0) z
+    left_over : (z : _) → Contains xs z → Contains (x ∷ remove ys (within x (0, omega arith, refl)).0) z
+        → Contains (remove ys (within x (0, omega arith, refl)).0) z
     left_over z has (zero, low, is) = absurd (once.0 (subst (Contains xs) (sym is) has))
     left_over z has (suc k, low, is) = (k, omega arith, is)
 
@@ -65,9 +76,12 @@ where_is (None ∷ inodes) f has = let rest = where_is inodes f has in (suc rest
 where_is (Some g ∷ inodes) f (zero, low, is) = (0, ap Some is)
 where_is (Some g ∷ inodes) f (suc k, low, is) = let rest = where_is inodes f (k, omega arith, is) in (suc rest.0, rest.1)
 
-files_from : (inodes : List (Option File)) → ((k l : ℕ) (f g : File) → get_or inodes k None ≡ Some f → get_or inodes l None ≡ Some g → f.name ≡ g.name → k ≡ l) → Once (files_in inodes)
+files_from : (inodes : List (Option File))
+    → ((k l : ℕ) (f g : File) → get_or inodes k None ≡ Some f → get_or inodes l None ≡ Some g → f.name ≡ g.name → k ≡ l)
+    → Once (files_in inodes)
 files_from [] names = tt
-files_from (None ∷ inodes) names = files_from inodes (λ k l f g first second same. let one : suc k ≡ suc l = names (suc k) (suc l) f g first second same in omega arith)
+files_from (None ∷ inodes) names =
+    files_from inodes (λ k l f g first second same. let one : suc k ≡ suc l = names (suc k) (suc l) f g first second same in omega arith)
 files_from (Some f ∷ inodes) names = (
   (λ has. let other = where_is inodes f has in let one : 0 ≡ suc other.0 = names 0 (suc other.0) f f refl other.1 refl in omega arith),
   files_from inodes (λ k l g h first second same. let one : suc k ≡ suc l = names (suc k) (suc l) g h first second same in omega arith),
@@ -79,11 +93,13 @@ files_make_spool host inodes blocks files S held lawful each same =
     record {
       files = files;
       held = held;
-      same = IsPermutation-sym (files_of S) files (same_elements files (files_of S) once (λ f has. All-contains (Contains (files_of S)) files f each has) same);
+      same = IsPermutation-sym (files_of S) files
+          (same_elements files (files_of S) once (λ f has. All-contains (Contains (files_of S)) files f each has) same);
       lawful = lawful;
     }
 
-counted_from : (S : Spool) (n : ℕ) (R : Spool) → length (flat_map (entry_files S) (entries_from n R)) ≡ length R + 2 * length (filter_map group_made (entries_from n R))
+counted_from : (S : Spool) (n : ℕ) (R : Spool)
+    → length (flat_map (entry_files S) (entries_from n R)) ≡ length R + 2 * length (filter_map group_made (entries_from n R))
 counted_from S n [] = refl
 counted_from S n (Group name status description moment ∷ R) = omega (arith, counted_from S (suc n) R)
 counted_from S n (Article text gs moment ∷ R) = omega (arith, counted_from S (suc n) R)
@@ -101,7 +117,8 @@ fronts_read host inodes blocks S R room held says =
       | inl less ↦ absurd (let found = at (length S) less in let past = slice_get_past S (length S) (omega arith) in cc)
       | inr fits ↦ fits
     ] in
-    same_lists R (take (length R) S) (omega (arith, size, length-take (length R) S)) (λ k d low. get_or_default R k d no_change low ∙ sym (get_or_from_slice_get S k (get_or R k no_change) d (at k low)) ∙ sym (get_or-take (length R) S k d low))
+    same_lists R (take (length R) S) (omega (arith, size, length-take (length R) S)) (λ k d low. get_or_default R k d no_change low
+    ∙ sym (get_or_from_slice_get S k (get_or R k no_change) d (at k low)) ∙ sym (get_or-take (length R) S k d low))
   where
     at : (n : ℕ) → n < length R → slice_get S n ≡ Some (get_or R n no_change)
     at n low =
@@ -141,7 +158,12 @@ entries_count : (S : Spool) (n : ℕ) (R : Spool) → counted (flat_map (entry_f
 entries_count S n [] = refl
 entries_count S n (c ∷ R) =
     let e : Entry = record { serial = n; change = c } in
-    omega (arith, sum_by-append (λ x. cond (is_of_change x) 1 0) (entry_files S e) (flat_map (entry_files S) (entries_from (suc n) R)), entry_counts S n c, entries_count S (suc n) R)
+    omega (
+      arith,
+      sum_by-append (λ x. cond (is_of_change x) 1 0) (entry_files S e) (flat_map (entry_files S) (entries_from (suc n) R)),
+      entry_counts S n c,
+      entries_count S (suc n) R,
+    )
 
 pub changes_counted : ChangesAreCounted
 unfolding files_of entries

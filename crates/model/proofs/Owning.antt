@@ -1,5 +1,6 @@
 -- What the entries of a file system own: how many blocks, and how many octets these are.
-use Rattle.std.proofs.Common.{◌≡◌, ◌≢◌, inl, inr, ◌<◌, ◌≤◌, ℕ, zero, suc, ◌+◌, ◌*◌, ◌/◌, cond, eqb, Bool, List, [], ◌∷◌, ◌++◌, length, get_or, map, drop, refl, ◌∙◌, ap, subst, arith, length-append}
+use Rattle.std.proofs.Common.{◌≡◌, ◌≢◌, inl, inr, ◌<◌, ◌≤◌, ℕ, zero, suc, ◌+◌, ◌*◌, ◌/◌, cond, eqb, Bool, List, [], ◌∷◌, ◌++◌, length}
+use Rattle.std.proofs.Common.{get_or, map, drop, refl, ◌∙◌, ap, subst, arith, length-append}
 use Rattle.std.specs.List.{All, Contains, range_with_len, flat_map}
 use Rattle.std.proofs.lemmas.List.{get_or_past, get_or-drop, length-take-le}
 use Rattle.std.proofs.lemmas.List.Elements.{Contains-append_right, Contains-get_or}
@@ -8,7 +9,8 @@ use Rattle.std.proofs.lemmas.Bool.{cases_lt, ne_eqb, eq-eqb}
 use Rattle.byteorder.specs.Endian.{little_from}
 use Rattle.model.specs.Stream.{Octets}
 use Rattle.model.specs.Volume.{number_at}
-use Rattle.model.specs.Files.{Entry, IsFree, kind, size, block_count, double_blocks, double_pointer, indirect_blocks, indirect_count, indirect_for, indirect_pointer, pointer, owned, content_of}
+use Rattle.model.specs.Files.{Entry, IsFree, kind, size, block_count, double_blocks, double_pointer, indirect_blocks, indirect_count}
+use Rattle.model.specs.Files.{indirect_for, indirect_pointer, pointer, owned, content_of}
 
 -- ---- zeros
 
@@ -37,7 +39,8 @@ free_owns e free =
     let no_double = zero_number 56 4 e.inode free.inode_zeros in
     let no_size = zero_number 4 8 e.inode free.inode_zeros in
     ap (λ (n : ℕ). cond (eqb n 0) [] (n ∷ []) ++ (indirect_blocks e ++ map (λ i. pointer e i) (range_with_len 0 (block_count e)))) no_double
-    ∙ ap (λ (n : ℕ). map (λ p. indirect_pointer e p) (range_with_len 0 (indirect_for ((n + 4095) / 4096))) ++ map (λ i. pointer e i) (range_with_len 0 ((n + 4095) / 4096))) no_size
+    ∙ ap (λ (n : ℕ). map (λ p. indirect_pointer e p) (range_with_len 0 (indirect_for ((n + 4095) / 4096))) ++ map (λ i. pointer e i)
+    (range_with_len 0 ((n + 4095) / 4096))) no_size
 
 -- ---- how many blocks
 
@@ -72,14 +75,22 @@ owns_pointer e i low =
     (Contains-append_right (indirect_blocks e) (map (λ i. pointer e i) (range_with_len 0 (block_count e))) (pointer e i)
     (subst (λ (n : ℕ). Contains (map (λ i. pointer e i) (range_with_len 0 (block_count e))) n)
     (get_or-map-range_with_len (λ i. pointer e i) 0 (block_count e) i i 0 low (omega arith))
-    (Contains-get_or (map (λ i. pointer e i) (range_with_len 0 (block_count e))) i 0 (omega (arith, length-map-range_with_len (λ i. pointer e i) 0 (block_count e))))))
+    (Contains-get_or (map (λ i. pointer e i) (range_with_len 0 (block_count e))) i 0
+    (omega (arith, length-map-range_with_len (λ i. pointer e i) 0 (block_count e))))))
 
-joined_size : (f : ℕ → Octets) (a n : ℕ) → ((i : ℕ) → a ≤ i → i < a + n → length (f i) ≡ 4096) → length (flat_map f (range_with_len a n)) ≡ 4096 * n
+joined_size : (f : ℕ → Octets) (a n : ℕ) → ((i : ℕ) → a ≤ i → i < a + n → length (f i) ≡ 4096)
+    → length (flat_map f (range_with_len a n)) ≡ 4096 * n
 joined_size f a zero whole = refl
 joined_size f a (suc n) whole =
-    omega (arith, length-append (f a) (flat_map f (range_with_len (a + 1) n)), whole a (omega arith) (omega arith), joined_size f (a + 1) n (λ i low high. whole i (omega arith) (omega arith)))
+    omega (
+      arith,
+      length-append (f a) (flat_map f (range_with_len (a + 1) n)),
+      whole a (omega arith) (omega arith),
+      joined_size f (a + 1) n (λ i low high. whole i (omega arith) (omega arith)),
+    )
 
-pub content_size : (blocks : List Octets) (e : Entry) → All (λ b. length b ≡ 4096) blocks → ((b : ℕ) → Contains (owned e) b → b < length blocks) → length (content_of blocks e) ≡ size e
+pub content_size : (blocks : List Octets) (e : Entry) → All (λ b. length b ≡ 4096) blocks
+    → ((b : ℕ) → Contains (owned e) b → b < length blocks) → length (content_of blocks e) ≡ size e
 content_size blocks e whole within =
     let f : ℕ → Octets = λ i. get_or blocks (pointer e i) [] in
     let many : length (flat_map f (range_with_len 0 (block_count e))) ≡ 4096 * block_count e =

@@ -1,6 +1,7 @@
 -- What is kept in memory besides the files of a spool, so that no look-up searches the files. Each field is an equation
 -- with the spool, and one more change alters each field by at most one element. All of it is this project's own choice.
-use Rattle.std.specs.Prelude.{◌≡◌, ℕ, zero, suc, ◌+◌, List, [], ◌∷◌, ◌++◌, map, length, slice_index, slice_index_or, Option, Some, None, bytes_eq, option_map}
+use Rattle.std.specs.Prelude.{◌≡◌, ℕ, zero, suc, ◌+◌, List, [], ◌∷◌, ◌++◌, map, length, slice_index, slice_index_or, Option, Some, None}
+use Rattle.std.specs.Prelude.{bytes_eq, option_map}
 use Rattle.std.specs.Map.{lookup}
 use Rattle.model.specs.Stream.{Octets}
 use Rattle.model.specs.Files.{File, table}
@@ -21,7 +22,8 @@ pub data Note : Type 0 where
 abbrev pub note_of : Entry → Note
 note_of e = by_change e.serial e.change where
   by_change : ℕ → Change → Note
-  by_change n (Group name status description moment) = GroupNote (record { serial = n; name = name; status = status; description = description; moment = moment })
+  by_change n (Group name status description moment) =
+      GroupNote (record { serial = n; name = name; status = status; description = description; moment = moment })
   by_change n (Article text filed moment) = ArticleNote (length text) filed moment
   by_change n (Expire group number) = ExpiryNote group number
 
@@ -111,5 +113,7 @@ files_at inodes blocks places = map (λ k. slice_index_or (table inodes blocks) 
 
 pub record ArePlaces (inodes : ℕ) (blocks : List Octets) (S : Spool) (places : FilePlaces) : Type 0 where
   pub changes_are : files_at inodes blocks places.changes ≡ map (λ e. Some (change_file e)) (entries S)
-  pub numbers_are : files_at inodes blocks places.numbers ≡ map (λ g. Some (record { name = numbers_name g.name; content = numbers_file S g.name })) (groups S)
-  pub overviews_are : files_at inodes blocks places.overviews ≡ map (λ g. Some (record { name = overview_name g.name; content = overview_file S g.name })) (groups S)
+  pub numbers_are : files_at inodes blocks places.numbers
+      ≡ map (λ g. Some (record { name = numbers_name g.name; content = numbers_file S g.name })) (groups S)
+  pub overviews_are : files_at inodes blocks places.overviews
+      ≡ map (λ g. Some (record { name = overview_name g.name; content = overview_file S g.name })) (groups S)

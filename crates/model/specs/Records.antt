@@ -16,7 +16,8 @@ group_record g = little_bytes 8 g.serial ++ little_bytes 8 g.moment ++ g.status 
 
 -- an article: serial, moment, the text's length, its groups with their lengths, the text
 abbrev pub article_record : NewsArticle → Octets
-article_record a = little_bytes 8 a.serial ++ little_bytes 8 a.moment ++ little_bytes 4 (length a.text) ++ length a.groups ∷ flat_map (λ g. length g ∷ g) a.groups ++ a.text
+article_record a = little_bytes 8 a.serial ++ little_bytes 8 a.moment ++ little_bytes 4 (length a.text) ++ length a.groups ∷ flat_map
+    (λ g. length g ∷ g) a.groups ++ a.text
 
 -- an expiry: serial, number, the group's name after its length
 abbrev pub expiry_record : Expiry → Octets

@@ -1,6 +1,7 @@
 -- How much room a spool's files leave, and when the spool is full. All of it is this project's own layout and rule
 -- (docs/FORMATS.md).
-use Rattle.std.specs.Prelude.{ℕ, ◌+◌, ◌-◌, ◌*◌, ◌/◌, ◌%◌, ◌==◌, Bool, false, ◌||◌, nat_le, nat_lt, if◌then◌else◌, List, length, Option, Some, None}
+use Rattle.std.specs.Prelude.{ℕ, ◌+◌, ◌-◌, ◌*◌, ◌/◌, ◌%◌, ◌==◌, Bool, false, ◌||◌, nat_le, nat_lt, if◌then◌else◌, List, length, Option}
+use Rattle.std.specs.Prelude.{Some, None}
 use Rattle.std.specs.List.{list_any, sum_by}
 use Rattle.model.specs.Stream.{Octets}
 use Rattle.model.specs.Files.{File, first_data, indirect_for}
@@ -126,14 +127,18 @@ bitmap_blocks = 2
 -- an article changes the numbers and the overview of a group
 abbrev pub blocks_filed : Spool → Octets → Octets → ℕ
 blocks_filed S text g =
-    blocks_appended (length (numbers_file S g)) (length (next_record S text g)) + blocks_appended (length (overview_file S g)) (length (next_line S text g))
+    blocks_appended (length (numbers_file S g)) (length (next_record S text g)) + blocks_appended (length (overview_file S g))
+    (length (next_line S text g))
 
 -- the blocks that a change after these changes may change
 unfoldable pub blocks_changed : Spool → Change → ℕ
 blocks_changed S (Group name status description moment) =
-    bitmap_blocks + blocks_made (length (change_file (record { serial = length S + 1; change = Group name status description moment })).content) + blocks_made 0 + blocks_made 0
+    bitmap_blocks + blocks_made (length
+    (change_file (record { serial = length S + 1; change = Group name status description moment })).content) + blocks_made 0
+    + blocks_made 0
 blocks_changed S (Article text filed moment) =
-    bitmap_blocks + blocks_made (length (change_file (record { serial = length S + 1; change = Article text filed moment })).content) + sum_by (blocks_filed S text) filed
+    bitmap_blocks + blocks_made (length (change_file (record { serial = length S + 1; change = Article text filed moment })).content)
+    + sum_by (blocks_filed S text) filed
 blocks_changed S (Expire group number) =
     bitmap_blocks + blocks_made (length (change_file (record { serial = length S + 1; change = Expire group number })).content)
 

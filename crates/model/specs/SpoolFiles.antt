@@ -1,6 +1,7 @@
 -- The spool in files: which files it has, and which calls on files a change makes. All of it is this project's own layout
 -- (docs/FORMATS.md). Numbers are unsigned and little-endian.
-use Rattle.std.specs.Prelude.{ℕ, ◌+◌, ◌^◌, ◌<◌, Bool, ◌==◌, ◌||◌, slice_index, List, [], ◌∷◌, ◌++◌, if◌then◌else◌, map, flat_map, zip, length, codes, bytes_eq}
+use Rattle.std.specs.Prelude.{ℕ, ◌+◌, ◌^◌, ◌<◌, Bool, ◌==◌, ◌||◌, slice_index, List, [], ◌∷◌, ◌++◌, if◌then◌else◌, map, flat_map, zip}
+use Rattle.std.specs.Prelude.{length, codes, bytes_eq}
 use Rattle.std.specs.List.{enumerate_from}
 use Rattle.byteorder.specs.Endian.{little_bytes}
 use Rattle.model.specs.Stream.{Octets}
@@ -65,7 +66,10 @@ abbrev pub change_file : Entry → File
 change_file e = by_change e.serial e.change where
   by_change : ℕ → Change → File
   by_change n (Group name status description moment) =
-      record { name = group_name name; content = group_record (record { serial = n; name = name; status = status; description = description; moment = moment }) }
+      record {
+        name = group_name name;
+        content = group_record (record { serial = n; name = name; status = status; description = description; moment = moment });
+      }
   by_change n (Article text groups moment) =
       record { name = article_name n; content = article_record (record { serial = n; text = text; groups = groups; moment = moment }) }
   by_change n (Expire group number) =
@@ -74,7 +78,10 @@ change_file e = by_change e.serial e.change where
 -- the numbers and the overview of the group that it makes
 abbrev pub index_files : Spool → Change → List File
 index_files S (Group name status description moment) =
-    record { name = numbers_name name; content = numbers_file S name } ∷ record { name = overview_name name; content = overview_file S name } ∷ []
+    record { name = numbers_name name; content = numbers_file S name } ∷ record {
+      name = overview_name name;
+      content = overview_file S name;
+    } ∷ []
 index_files S (Article text groups moment) = []
 index_files S (Expire group number) = []
 
@@ -150,10 +157,17 @@ making_calls name octets = Create name ∷ Append name octets ∷ []
 -- the calls that a change makes after these changes
 abbrev pub change_calls : Spool → Change → List FileCall
 change_calls S (Group name status description moment) =
-    making_calls (group_name name) (group_record (record { serial = length S + 1; name = name; status = status; description = description; moment = moment }))
+    making_calls (group_name name) (group_record (record {
+      serial = length S + 1;
+      name = name;
+      status = status;
+      description = description;
+      moment = moment;
+    }))
     ++ Create (numbers_name name) ∷ Create (overview_name name) ∷ []
 change_calls S (Article text groups moment) =
-    making_calls (article_name (length S + 1)) (article_record (record { serial = length S + 1; text = text; groups = groups; moment = moment }))
+    making_calls (article_name (length S + 1))
+    (article_record (record { serial = length S + 1; text = text; groups = groups; moment = moment }))
     ++ flat_map (filing_calls S text) groups
 change_calls S (Expire group number) =
     making_calls (expiry_name (length S + 1)) (expiry_record (record { serial = length S + 1; group = group; number = number }))

@@ -1,10 +1,13 @@
 //! Laws of the spool in files. Each function does nothing, and its contract is the law.
 
 ghost use Rattle.model.specs.Laws.Formats.{FilesOfFormatOne, ReadAsFormatOne, SizesBoundFiles};
-ghost use Rattle.model.specs.Laws.Indexed.{ArticlesGrow, EmptyIndex, ExpiriesGrow, ExpiriesRise, FiledRise, GroupsGrow, LinesStand, NotesGrow, NumbersAreWhole};
+ghost use Rattle.model.specs.Laws.Indexed.{ArticlesGrow, EmptyIndex, ExpiriesGrow, ExpiriesRise, FiledRise, GroupsGrow, LinesStand};
+ghost use Rattle.model.specs.Laws.Indexed.{NotesGrow, NumbersAreWhole};
 ghost use Rattle.model.specs.Laws.Layout.{EmptyVolumesStand, FormatsMayRise, ImagesStandForOne, VersionIsOne};
 ghost use Rattle.model.specs.Laws.Room.{ChangesAskFew, FilesGrowByBlocks, FreeIsBeside, NotFullHasRoom};
-ghost use Rattle.model.specs.Laws.SpoolFiles.{AppendsToOne, BlocksHoldOne, ChangesAreCounted, ChangesAreFew, ChangesAreRead, CreatesOne, EmptyHoldsNone, FilesAreByKind, FilesAreCounted, FilesGrow, FilesMakeSpool, FrontsAreRead, SpoolsGrow};
+ghost use Rattle.model.specs.Laws.SpoolFiles.{AppendsToOne, BlocksHoldOne, ChangesAreCounted, ChangesAreFew, ChangesAreRead, CreatesOne};
+ghost use Rattle.model.specs.Laws.SpoolFiles.{EmptyHoldsNone, FilesAreByKind, FilesAreCounted, FilesGrow, FilesMakeSpool, FrontsAreRead};
+ghost use Rattle.model.specs.Laws.SpoolFiles.{SpoolsGrow};
 
 /// Blocks hold at most one spool, and it has at most as many changes as there are inodes.
 pub fn blocks_hold_one_spool()

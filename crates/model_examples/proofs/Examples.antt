@@ -2,8 +2,10 @@
 use Rattle.std.proofs.Common.{◌≤◌, refl, sym, lit≤, arith}
 use Rattle.std.proofs.lemmas.Bool.{true≢false}
 use Rattle.model_examples.proofs.Everything.{everything}
-use Rattle.model_examples.specs.Commands.{PostThenGroup, EmptyGroup, OtherGroup, OfferedTwice, PostedTwice, Injection, Overviews, ClosedGroup, Wildmats, NewGroups, Walk}
-use Rattle.model_examples.specs.Expiry.{EachAlone, Lost, NextNumber, NumbersGoOn, IdsAreRemembered, ShowsWhatIsIn, CurrentIsTakenOut, TwoGroups, Stored, MayOnlyOnce}
+use Rattle.model_examples.specs.Commands.{PostThenGroup, EmptyGroup, OtherGroup, OfferedTwice, PostedTwice, Injection, Overviews}
+use Rattle.model_examples.specs.Commands.{ClosedGroup, Wildmats, NewGroups, Walk}
+use Rattle.model_examples.specs.Expiry.{EachAlone, Lost, NextNumber, NumbersGoOn, IdsAreRemembered, ShowsWhatIsIn, CurrentIsTakenOut}
+use Rattle.model_examples.specs.Expiry.{TwoGroups, Stored, MayOnlyOnce}
 use Rattle.model_examples.specs.Numbers.{ByNumber, BelowTheLowest}
 
 pub post_then_group : PostThenGroup

@@ -25,16 +25,20 @@ first_octet a = get_or a.reply 0 0
 
 pub gone_by_id : GoneById
 unfolding everything
-gone_by_id = must_read expired new_session (codes "STAT <1@a.example>") 4 (lit≤ tt) (λ same. let octets : 50 ≡ 52 = ap first_octet same in absurd (omega arith))
+gone_by_id = must_read expired new_session (codes "STAT <1@a.example>") 4 (lit≤ tt) (λ same. let octets : 50 ≡ 52 = ap first_octet same in
+    absurd (omega arith))
 
 pub below_by_number : BelowByNumber
 unfolding everything
-below_by_number = must_read expired selected (codes "STAT 1") 4 (lit≤ tt) (λ same. let octets : 50 ≡ 52 = ap first_octet same in absurd (omega arith))
+below_by_number = must_read expired selected (codes "STAT 1") 4 (lit≤ tt) (λ same. let octets : 50 ≡ 52 = ap first_octet same in
+    absurd (omega arith))
 
 pub below_current : BelowCurrent
 unfolding everything
-below_current = must_read expired selected (codes "STAT") 4 (lit≤ tt) (λ same. let octets : 50 ≡ 52 = ap first_octet same in absurd (omega arith))
+below_current = must_read expired selected (codes "STAT") 4 (lit≤ tt) (λ same. let octets : 50 ≡ 52 = ap first_octet same in
+    absurd (omega arith))
 
 pub found_by_number : FoundByNumber
 unfolding everything
-found_by_number = must_read two selected (codes "STAT 2") 2 (lit≤ tt) (λ same. let octets : 52 ≡ 50 = ap first_octet same in absurd (omega arith))
+found_by_number = must_read two selected (codes "STAT 2") 2 (lit≤ tt) (λ same. let octets : 52 ≡ 50 = ap first_octet same in
+    absurd (omega arith))

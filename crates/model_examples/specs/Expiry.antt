@@ -18,7 +18,8 @@ all_expired = expired ++ Expire (codes "x.a") 3 ∷ []
 abbrev pub EachAlone : Type 0
 EachAlone =
     told expired (new_seat ∷ new_seat ∷ new_seat ∷ new_seat ∷ new_seat ∷ [])
-    (says 0 (codes "GROUP x.a") ∷ says 1 (codes "STAT <1@a.example>") ∷ says 2 (codes "STAT <9@a.example>") ∷ says 3 (codes "STAT <3@a.example>") ∷ says 4 (codes "IHAVE <1@a.example>") ∷ [])
+    (says 0 (codes "GROUP x.a") ∷ says 1 (codes "STAT <1@a.example>") ∷ says 2 (codes "STAT <9@a.example>") ∷ says 3
+    (codes "STAT <3@a.example>") ∷ says 4 (codes "IHAVE <1@a.example>") ∷ [])
     ≡ is_told (codes "211 1 3 3 x.a") 5 ∷ is_told (codes "430 No such article") 5 ∷ is_told (codes "430 No such article") 0
     ∷ is_told (codes "223 0 <3@a.example>") 4 ∷ is_told (codes "435 Article not wanted") 2 ∷ []
 
@@ -41,15 +42,18 @@ Lost =
 abbrev pub NextNumber : Type 0
 NextNumber =
     told all_expired (new_seat ∷ [])
-    (says 0 (codes "GROUP x.a") ∷ says 0 (codes "STAT") ∷ says 0 (codes "POST") ∷ sends 0 (article (codes "<4@a.example>") (codes "x.a")) ∷ says 0 (codes "GROUP x.a") ∷ says 0 (codes "STAT 4") ∷ [])
-    ≡ is_told (codes "211 0 4 3 x.a") 6 ∷ is_told (codes "420 No current article") 6 ∷ is_told (codes "340 Send article") 6 ∷ is_told (codes "240 Article received") 7
+    (says 0 (codes "GROUP x.a") ∷ says 0 (codes "STAT") ∷ says 0 (codes "POST") ∷ sends 0 (article (codes "<4@a.example>") (codes "x.a"))
+    ∷ says 0 (codes "GROUP x.a") ∷ says 0 (codes "STAT 4") ∷ [])
+    ≡ is_told (codes "211 0 4 3 x.a") 6 ∷ is_told (codes "420 No current article") 6 ∷ is_told (codes "340 Send article") 6 ∷ is_told
+    (codes "240 Article received") 7
     ∷ is_told (codes "211 1 4 4 x.a") 7 ∷ is_told (codes "223 4 <4@a.example>") 7 ∷ []
 
 -- the same holds where one is left: numbers continue after the highest
 abbrev pub NumbersGoOn : Type 0
 NumbersGoOn =
     told expired (new_seat ∷ [])
-    (says 0 (codes "POST") ∷ sends 0 (article (codes "<4@a.example>") (codes "x.a")) ∷ says 0 (codes "GROUP x.a") ∷ says 0 (codes "STAT") ∷ says 0 (codes "NEXT") ∷ says 0 (codes "LAST") ∷ [])
+    (says 0 (codes "POST") ∷ sends 0 (article (codes "<4@a.example>") (codes "x.a")) ∷ says 0 (codes "GROUP x.a") ∷ says 0
+    (codes "STAT") ∷ says 0 (codes "NEXT") ∷ says 0 (codes "LAST") ∷ [])
     ≡ is_told (codes "340 Send article") 0 ∷ is_told (codes "240 Article received") 6 ∷ is_told (codes "211 2 3 4 x.a") 6
     ∷ is_told (codes "223 3 <3@a.example>") 6 ∷ is_told (codes "223 4 <4@a.example>") 6 ∷ is_told (codes "223 3 <3@a.example>") 6 ∷ []
 
@@ -64,10 +68,12 @@ IdsAreRemembered =
 abbrev pub ShowsWhatIsIn : Type 0
 ShowsWhatIsIn =
     told expired (new_seat ∷ [])
-    (says 0 (codes "LISTGROUP x.a") ∷ says 0 (codes "LISTGROUP x.a 1-2") ∷ says 0 (codes "OVER 1-") ∷ says 0 (codes "OVER 1-2") ∷ says 0 (codes "LIST") ∷ says 0 (codes "NEWNEWS x.* 19990101 000000") ∷ says 0 (codes "OVER <2@a.example>") ∷ [])
+    (says 0 (codes "LISTGROUP x.a") ∷ says 0 (codes "LISTGROUP x.a 1-2") ∷ says 0 (codes "OVER 1-") ∷ says 0 (codes "OVER 1-2") ∷ says 0
+    (codes "LIST") ∷ says 0 (codes "NEWNEWS x.* 19990101 000000") ∷ says 0 (codes "OVER <2@a.example>") ∷ [])
     ≡ is_told_lines (codes "211 1 3 3 x.a list follows") (codes "3" ∷ []) 5
     ∷ is_told_lines (codes "211 1 3 3 x.a list follows") [] 5
-    ∷ is_told_lines (codes "224 Overview follows") (tabbed (codes "3|one|a@example.org|Sun, 09 Sep 2001 01:46:40 +0000|<3@a.example>||146|1") ∷ []) 5
+    ∷ is_told_lines (codes "224 Overview follows")
+    (tabbed (codes "3|one|a@example.org|Sun, 09 Sep 2001 01:46:40 +0000|<3@a.example>||146|1") ∷ []) 5
     ∷ is_told (codes "423 No such article number") 5
     ∷ is_told_lines (codes "215 Information follows") (codes "x.a 3 3 y" ∷ []) 5
     ∷ is_told_lines (codes "230 New articles follow") (codes "<3@a.example>" ∷ []) 5
@@ -77,9 +83,11 @@ ShowsWhatIsIn =
 abbrev pub CurrentIsTakenOut : Type 0
 CurrentIsTakenOut =
     told three (new_seat ∷ new_seat ∷ new_seat ∷ [])
-    (says 0 (codes "GROUP x.a") ∷ says 1 (codes "GROUP x.a") ∷ says 2 (codes "GROUP x.a") ∷ says 2 (codes "STAT 3") ∷ made (Expire (codes "x.a") 2)
+    (says 0 (codes "GROUP x.a") ∷ says 1 (codes "GROUP x.a") ∷ says 2 (codes "GROUP x.a") ∷ says 2 (codes "STAT 3") ∷ made
+    (Expire (codes "x.a") 2)
     ∷ says 0 (codes "NEXT") ∷ says 1 (codes "LAST") ∷ says 1 (codes "OVER") ∷ says 2 (codes "STAT") ∷ says 2 (codes "LAST") ∷ [])
-    ≡ is_told (codes "211 3 1 3 x.a") 4 ∷ is_told (codes "211 3 1 3 x.a") 4 ∷ is_told (codes "211 3 1 3 x.a") 4 ∷ is_told (codes "223 3 <3@a.example>") 4
+    ≡ is_told (codes "211 3 1 3 x.a") 4 ∷ is_told (codes "211 3 1 3 x.a") 4 ∷ is_told (codes "211 3 1 3 x.a") 4 ∷ is_told
+    (codes "223 3 <3@a.example>") 4
     ∷ is_told (codes "420 No current article") 5 ∷ is_told (codes "420 No current article") 5 ∷ is_told (codes "420 No current article") 5
     ∷ is_told (codes "223 3 <3@a.example>") 4 ∷ is_told (codes "422 No previous article") 5 ∷ []
 
@@ -95,7 +103,8 @@ crossposted =
 abbrev pub TwoGroups : Type 0
 TwoGroups =
     told crossposted (new_seat ∷ new_seat ∷ new_seat ∷ new_seat ∷ [])
-    (says 0 (codes "STAT <1@a.example>") ∷ says 1 (codes "NEWNEWS x.a 19990101 000000") ∷ says 1 (codes "NEWNEWS x.b 19990101 000000") ∷ made (Expire (codes "x.b") 1) ∷ made (Expire (codes "x.b") 2)
+    (says 0 (codes "STAT <1@a.example>") ∷ says 1 (codes "NEWNEWS x.a 19990101 000000") ∷ says 1 (codes "NEWNEWS x.b 19990101 000000")
+    ∷ made (Expire (codes "x.b") 1) ∷ made (Expire (codes "x.b") 2)
     ∷ says 2 (codes "STAT <1@a.example>") ∷ says 3 (codes "STAT <2@a.example>") ∷ [])
     ≡ is_told (codes "223 0 <1@a.example>") 3 ∷ is_told_lines (codes "230 New articles follow") [] 5
     ∷ is_told_lines (codes "230 New articles follow") (codes "<1@a.example>" ∷ codes "<2@a.example>" ∷ []) 5
@@ -105,4 +114,5 @@ TwoGroups =
 abbrev pub Stored : Type 0
 Stored =
     files_of expired ≡ files_of three
-    ++ record { name = codes "x.0000000005"; content = (5 ∷ 0 ∷ 0 ∷ 0 ∷ 0 ∷ 0 ∷ 0 ∷ 0 ∷ []) ++ (2 ∷ 0 ∷ 0 ∷ 0 ∷ []) ++ 3 ∷ codes "x.a" } ∷ []
+    ++ record { name = codes "x.0000000005"; content = (5 ∷ 0 ∷ 0 ∷ 0 ∷ 0 ∷ 0 ∷ 0 ∷ 0 ∷ []) ++ (2 ∷ 0 ∷ 0 ∷ 0 ∷ []) ++ 3 ∷ codes "x.a" }
+    ∷ []

@@ -39,4 +39,5 @@ last_of = record {
 }
 
 abbrev pub Walks : Type 0
-Walks = (indirect_pointer last_of 0 ≡ 20) × (indirect_pointer last_of 1 ≡ 22) × (indirect_pointer last_of 2 ≡ 0) × (pointer last_of 1034 ≡ 23) × (pointer last_of 1035 ≡ 0)
+Walks = (indirect_pointer last_of 0 ≡ 20) × (indirect_pointer last_of 1 ≡ 22) × (indirect_pointer last_of 2 ≡ 0)
+    × (pointer last_of 1034 ≡ 23) × (pointer last_of 1035 ≡ 0)

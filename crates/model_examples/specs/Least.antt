@@ -11,7 +11,8 @@ use Rattle.model.specs.declared.message.Mark.TheVariants as mark
 use Rattle.model.specs.declared.session.Session.{Session}
 
 abbrev pub ComesFrom : Spool → Session → Octets → ℕ → Type 0
-ComesFrom S x text k = answer news_example (first S k) x (message.Line text) moment mark.Served ≡ answer news_example S x (message.Line text) moment mark.Served
+ComesFrom S x text k = answer news_example (first S k) x (message.Line text) moment mark.Served ≡ answer news_example S x
+    (message.Line text) moment mark.Served
 
 abbrev pub MustRead : Spool → Session → Octets → ℕ → Type 0
 MustRead S x text least = (r : ℕ) → ((k : ℕ) → r ≤ k → k ≤ length S → ComesFrom S x text k) → least ≤ r

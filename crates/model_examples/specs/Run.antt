@@ -47,14 +47,16 @@ is_told_lines status lines serial = record { reply = joined (status ∷ lines) +
 abbrev pub told : Spool → List Seat → List Event → List Told
 told S seats [] = []
 told S seats (made c ∷ events) = told (S ++ c ∷ []) seats events
-told S seats (message_of i m ∷ events) = go (answer news_example S (seat i).session m moment mark.Served) (reads news_example S (seat i).session m moment mark.Served) (λ R after. told R after events) where
-  seat : ℕ → Seat
-  seat n = get_or seats n new_seat
+told S seats (message_of i m ∷ events) =
+    go (answer news_example S (seat i).session m moment mark.Served) (reads news_example S (seat i).session m moment mark.Served)
+    (λ R after. told R after events) where
+      seat : ℕ → Seat
+      seat n = get_or seats n new_seat
 
-  go : Answer → ℕ → (Spool → List Seat → List Told) → List Told
-  go a n rest =
-      record { reply = a.reply; depends = max (seat i).has_read n }
-      ∷ rest (S ++ option_to_list a.change) (set seats i (record { session = a.next; has_read = max (seat i).has_read n }))
+      go : Answer → ℕ → (Spool → List Seat → List Told) → List Told
+      go a n rest =
+          record { reply = a.reply; depends = max (seat i).has_read n }
+          ∷ rest (S ++ option_to_list a.change) (set seats i (record { session = a.next; has_read = max (seat i).has_read n }))
 
 -- words separated by TAB, which `|` stands for
 abbrev pub tabbed : Octets → Octets

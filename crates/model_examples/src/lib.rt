@@ -1,8 +1,10 @@
 //! Worked examples of the definitions in `model`, computed: what sessions are answered, and what each reply depends on.
 #![tactic(auto)]
 
-ghost use Rattle.model_examples.specs.Commands.{ClosedGroup, EmptyGroup, Injection, NewGroups, OfferedTwice, OtherGroup, Overviews, PostThenGroup, PostedTwice, Walk, Wildmats};
-ghost use Rattle.model_examples.specs.Expiry.{CurrentIsTakenOut, EachAlone, IdsAreRemembered, Lost, MayOnlyOnce, NextNumber, NumbersGoOn, ShowsWhatIsIn, Stored, TwoGroups};
+ghost use Rattle.model_examples.specs.Commands.{ClosedGroup, EmptyGroup, Injection, NewGroups, OfferedTwice, OtherGroup, Overviews};
+ghost use Rattle.model_examples.specs.Commands.{PostThenGroup, PostedTwice, Walk, Wildmats};
+ghost use Rattle.model_examples.specs.Expiry.{CurrentIsTakenOut, EachAlone, IdsAreRemembered, Lost, MayOnlyOnce, NextNumber, NumbersGoOn};
+ghost use Rattle.model_examples.specs.Expiry.{ShowsWhatIsIn, Stored, TwoGroups};
 ghost use Rattle.model_examples.specs.Formats.{Gates, Rows, Steps, Walks};
 ghost use Rattle.model_examples.specs.Least.{BelowByNumber, BelowCurrent, FoundByNumber, GoneById};
 ghost use Rattle.model_examples.specs.Numbers.{BelowTheLowest, ByNumber};

@@ -34,4 +34,9 @@ module _ (ds : List ℕ) (all : list_all is_ascii_digit ds ≡ true) where
   -- 16 digits fit
   pub digits_small : length ds ≤ 16 → (i : ℕ) → digits_value 10 (take i ds) < 10 ^ 16
   digits_small few i =
-      omega (arith, digits_value-lt 10 ds (all_digits ds all), pow-le-pow_right {n = 10} (lit< tt) few, digits_value-take-le 10 ds i (lit≤ tt))
+      omega (
+        arith,
+        digits_value-lt 10 ds (all_digits ds all),
+        pow-le-pow_right {n = 10} (lit< tt) few,
+        digits_value-take-le 10 ds i (lit≤ tt),
+      )

@@ -15,10 +15,16 @@ has_parts p [] = record { first = []; more = []; is = refl }
 has_parts p (x ∷ xs) = by_mark (p x) refl (has_parts p xs) where
   by_mark : (b : Bool) → p x ≡ b → HasParts p xs → HasParts p (x ∷ xs)
   by_mark true is later = record { first = []; more = slice_split p xs; is = slice_split-cons_yes p x xs is }
-  by_mark false is later = record { first = x ∷ later.first; more = later.more; is = slice_split-cons_no p x xs is ∙ ap (onto_first x) later.is }
+  by_mark false is later = record {
+    first = x ∷ later.first;
+    more = later.more;
+    is = slice_split-cons_no p x xs is
+        ∙ ap (onto_first x) later.is;
+  }
 
 -- the first part ends at the first mark
-pub cut_at : (p : ℕ → Bool) (text : List ℕ) (mark : ℕ) → mark < length text → p (get_or text mark 0) ≡ true → ((k : ℕ) → k < mark → p (get_or text k 0) ≡ false) → slice_split p text ≡ take mark text ∷ slice_split p (drop (suc mark) text)
+pub cut_at : (p : ℕ → Bool) (text : List ℕ) (mark : ℕ) → mark < length text → p (get_or text mark 0) ≡ true
+    → ((k : ℕ) → k < mark → p (get_or text k 0) ≡ false) → slice_split p text ≡ take mark text ∷ slice_split p (drop (suc mark) text)
 cut_at p [] mark within is none = absurd (omega arith)
 cut_at p (x ∷ xs) zero within is none = slice_split-cons_yes p x xs is
 cut_at p (x ∷ xs) (suc mark) within is none =

@@ -1,5 +1,6 @@
 -- What a range's dash parts.
-use Rattle.std.specs.Prelude.{◌≡◌, ℕ, suc, ◌+◌, ◌<◌, ◌≤◌, ◌⊎◌, Bool, true, false, ◌==◌, ◌&&◌, nat_le, List, [], ◌∷◌, length, take, drop, get_or, Option, Some, None, option_map, option_and_then}
+use Rattle.std.specs.Prelude.{◌≡◌, ℕ, suc, ◌+◌, ◌<◌, ◌≤◌, ◌⊎◌, Bool, true, false, ◌==◌, ◌&&◌, nat_le, List, [], ◌∷◌, length, take, drop}
+use Rattle.std.specs.Prelude.{get_or, Option, Some, None, option_map, option_and_then}
 use Rattle.std.specs.List.{list_all, slice_split, onto_first}
 use Rattle.std.specs.Char.{is_ascii_digit}
 use Rattle.std.specs.Str.Parse.{digits_value}
@@ -51,7 +52,8 @@ parts_of (x ∷ xs) = by_mark (is_dash x) refl (parts_of xs) where
 no_number : (xs : List ℕ) → list_all is_ascii_digit xs ≡ false → number_of xs ≡ None
 no_number xs foreign =
     cond-false (nat_le (length xs) 16 && is_run_of is_ascii_digit xs) (Some (digits_value 10 xs)) None
-    (and_right (nat_le (length xs) 16) (is_run_of is_ascii_digit xs) (and_right (nat_le 1 (length xs)) (list_all is_ascii_digit xs) foreign))
+    (and_right (nat_le (length xs) 16) (is_run_of is_ascii_digit xs)
+    (and_right (nat_le 1 (length xs)) (list_all is_ascii_digit xs) foreign))
 
 -- three parts are no range
 three_parts : (a first second : List ℕ) (more : List (List ℕ)) → range_of_parts (a ∷ first ∷ second ∷ more) ≡ None
@@ -73,21 +75,25 @@ map_then (Some n) = refl
 from_parts : (a rest : List ℕ) → range_of_parts (a ∷ slice_split is_dash rest) ≡ option_and_then (λ n. range_from n rest) (number_of a)
 from_parts a [] = map_then (number_of a)
 from_parts a (x ∷ rest) = by_parts (parts_of (x ∷ rest)) where
-  by_parts : IsOnePart (x ∷ rest) ⊎ IsMoreParts (x ∷ rest) → range_of_parts (a ∷ slice_split is_dash (x ∷ rest)) ≡ option_and_then (λ n. range_from n (x ∷ rest)) (number_of a)
+  by_parts : IsOnePart (x ∷ rest) ⊎ IsMoreParts (x ∷ rest)
+      → range_of_parts (a ∷ slice_split is_dash (x ∷ rest)) ≡ option_and_then (λ n. range_from n (x ∷ rest)) (number_of a)
   by_parts (inl one) = ap (λ l. range_of_parts (a ∷ l)) one.is
   by_parts (inr many) =
       ap (λ l. range_of_parts (a ∷ l)) many.is
       ∙ three_parts a many.first many.second many.more
       ∙ none_then (number_of a)
-      ∙ ap (λ o. option_and_then (λ n. option_map (λ m. record { first = n; last = Some m }) o) (number_of a)) (sym (no_number (x ∷ rest) many.no_digits))
+      ∙ ap (λ o. option_and_then (λ n. option_map (λ m. record { first = n; last = Some m }) o) (number_of a))
+      (sym (no_number (x ∷ rest) many.no_digits))
 
 module _ (text : List ℕ) where
   -- without a dash the text is one number
-  pub range-no_dash : ((k : ℕ) → 0 ≤ k → k < length text → ¬ (is_dash (get_or text k 0) ≡ true)) → range_of text ≡ option_map one_number (number_of text)
+  pub range-no_dash : ((k : ℕ) → 0 ≤ k → k < length text → ¬ (is_dash (get_or text k 0) ≡ true))
+      → range_of text ≡ option_map one_number (number_of text)
   range-no_dash none = ap range_of_parts (uncut is_dash text (λ k within. false_from_ne_true _ (none k (omega arith) within)))
 
   -- with one it is what stands on its sides
-  pub range-dash : (dash : ℕ) → dash < length text → is_dash (get_or text dash 0) ≡ true → ((k : ℕ) → 0 ≤ k → k < dash → ¬ (is_dash (get_or text k 0) ≡ true))
+  pub range-dash : (dash : ℕ) → dash < length text → is_dash (get_or text dash 0) ≡ true
+      → ((k : ℕ) → 0 ≤ k → k < dash → ¬ (is_dash (get_or text k 0) ≡ true))
       → range_of text ≡ option_and_then (λ n. range_from n (drop (dash + 1) text)) (number_of (take dash text))
   range-dash dash within is none =
       let behind : suc dash ≡ dash + 1 = omega arith in

@@ -1,5 +1,6 @@
 -- Which items of a pattern take which rest of a name.
-use Rattle.std.specs.Prelude.{◌≡◌, ℕ, zero, suc, ◌+◌, ◌-◌, ◌<◌, ◌≤◌, Bool, true, false, cond, ◌||◌, ◌&&◌, ◌==◌, List, [], ◌∷◌, length, drop, get_or, map}
+use Rattle.std.specs.Prelude.{◌≡◌, ℕ, zero, suc, ◌+◌, ◌-◌, ◌<◌, ◌≤◌, Bool, true, false, cond, ◌||◌, ◌&&◌, ◌==◌, List, [], ◌∷◌, length, drop}
+use Rattle.std.specs.Prelude.{get_or, map}
 use Rattle.std.specs.List.{list_all}
 use Rattle.std.proofs.Common.{◌∙◌, ap, sym, refl, inl, inr, arith, add-one}
 use Rattle.std.proofs.Math.Bool.{or-false}
@@ -23,7 +24,8 @@ takes_run-end : (items : List Item) → takes (AnyRun ∷ items) [] ≡ takes it
 unfolding takes
 takes_run-end items = or-false (takes items [])
 
-takes_run-more : (items : List Item) (x : ℕ) (name : List ℕ) → takes (AnyRun ∷ items) (x ∷ name) ≡ (takes items (x ∷ name) || takes (AnyRun ∷ items) name)
+takes_run-more : (items : List Item) (x : ℕ) (name : List ℕ)
+    → takes (AnyRun ∷ items) (x ∷ name) ≡ (takes items (x ∷ name) || takes (AnyRun ∷ items) name)
 unfolding takes
 takes_run-more items x name = refl
 
@@ -39,13 +41,17 @@ module _ (c : ℕ) (one : (c == 42) ≡ false) (items : List Item) where
   unfolding takes
   takes_one-more x name =
       ap (λ item. takes (item ∷ items) (x ∷ name)) (cond-false (c == 42) AnyRun (cond (c == 63) AnyOne (Octet c)) one)
-      ∙ elim (c == 63) as (λ b. takes (cond b AnyOne (Octet c) ∷ items) (x ∷ name) ≡ ((b || (x == c)) && takes items name)) [ true ↦ refl | false ↦ refl ]
+      ∙ elim (c == 63) as (λ b. takes (cond b AnyOne (Octet c) ∷ items) (x ∷ name) ≡ ((b || (x == c)) && takes items name)) [
+        | true ↦ refl
+        | false ↦ refl
+      ]
 
 -- no octets are taken by items that are all *
 pub takes-end : (items : List ℕ) → list_all (λ item. item == 42) items ≡ takes (map item_of items) []
 takes-end [] = sym takes_none-end
 takes-end (c ∷ items) = by_kind (c == 42) refl (takes-end items) where
-  by_kind : (b : Bool) → (c == 42) ≡ b → list_all (λ item. item == 42) items ≡ takes (map item_of items) [] → list_all (λ item. item == 42) (c ∷ items) ≡ takes (map item_of (c ∷ items)) []
+  by_kind : (b : Bool) → (c == 42) ≡ b → list_all (λ item. item == 42) items ≡ takes (map item_of items) []
+      → list_all (λ item. item == 42) (c ∷ items) ≡ takes (map item_of (c ∷ items)) []
   by_kind true is later =
       ap (λ b. b && list_all (λ item. item == 42) items) is
       ∙ later
@@ -101,7 +107,8 @@ module _ (items name : List ℕ) where
         ∙ ap (λ l. takes (map item_of (drop at items)) l || run_takes at (k + 1)) (sym (rest_at name k within))
     | inr after ↦
         ap (takes (AnyRun ∷ map item_of (drop at items))) (drop_all k name after)
-        ∙ same (takes (AnyRun ∷ map item_of (drop at items)) []) (takes (map item_of (drop at items)) []) (takes_run-end (map item_of (drop at items)))
+        ∙ same (takes (AnyRun ∷ map item_of (drop at items)) []) (takes (map item_of (drop at items)) [])
+        (takes_run-end (map item_of (drop at items)))
         ∙ ap (λ l. takes (map item_of (drop at items)) l || takes (AnyRun ∷ map item_of (drop at items)) []) (sym (drop_all k name after))
         ∙ ap (λ l. tail_takes at k || takes (AnyRun ∷ map item_of (drop at items)) l) (sym (drop_all (k + 1) name (omega arith)))
   ]
@@ -131,7 +138,8 @@ module _ (items name : List ℕ) where
     -- what it takes, the later items take after it
     pub tail-one_on : (k : ℕ) → tail_takes at k ≡ true → tail_takes (at + 1) (k + 1) ≡ true
     tail-one_on k taken = elim (cases_lt k (length name)) [
-      | inl before ↦ (and_parts (fits (get_or items at 0) (get_or name k 0)) (tail_takes (at + 1) (k + 1)) (sym (tail-one k before) ∙ taken)).1
+      | inl before ↦ (and_parts (fits (get_or items at 0) (get_or name k 0)) (tail_takes (at + 1) (k + 1)) (sym (tail-one k before)
+          ∙ taken)).1
       | inr after ↦ absurd (cc (taken, tail-one_past k after))
     ]
 
@@ -177,9 +185,11 @@ module _ (items name : List ℕ) where
   absorbed false false either = refl
 
   -- the items after the last * were taken up to `at`; later places take them as far
-  module _ (behind at tried from : ℕ) (low : behind ≤ at) (so_far : tried + (at - behind) ≡ from) (later : (k : ℕ) → tried < k → tail_takes behind k ≡ true → tail_takes at (k + (at - behind)) ≡ true) where
+  module _ (behind at tried from : ℕ) (low : behind ≤ at) (so_far : tried + (at - behind) ≡ from) (later : (k : ℕ) → tried < k
+      → tail_takes behind k ≡ true → tail_takes at (k + (at - behind)) ≡ true) where
     -- a further * takes what an earlier one could have taken
-    pub star-further : at < length items → get_or items at 0 ≡ 42 → (tail_takes at from || run_takes behind (tried + 1)) ≡ (tail_takes (at + 1) from || run_takes (at + 1) (from + 1))
+    pub star-further : at < length items → get_or items at 0 ≡ 42
+        → (tail_takes at from || run_takes behind (tried + 1)) ≡ (tail_takes (at + 1) from || run_takes (at + 1) (from + 1))
     star-further within star =
         ap (λ b. b || run_takes behind (tried + 1)) (tail-star at from within star)
         ∙ absorbed (run_takes (at + 1) from) (run_takes behind (tried + 1)) earlier

@@ -1,11 +1,13 @@
 -- A wildmat by its parts between commas.
-use Rattle.std.specs.Prelude.{◌≡◌, ℕ, Bool, true, false, not, cond, ◌&&◌, ◌==◌, nat_le, List, [], ◌∷◌, ◌++◌, length, map, reverse, find, fold, Option, Some, None, is_some, option_map, option_and_then, unwrap_or, IsTrue}
+use Rattle.std.specs.Prelude.{◌≡◌, ℕ, Bool, true, false, not, cond, ◌&&◌, ◌==◌, nat_le, List, [], ◌∷◌, ◌++◌, length, map, reverse, find}
+use Rattle.std.specs.Prelude.{fold, Option, Some, None, is_some, option_map, option_and_then, unwrap_or, IsTrue}
 use Rattle.std.specs.List.{list_all, slice_split, onto_first}
 use Rattle.std.proofs.Common.{◌∙◌, ap, sym, refl}
 use Rattle.std.proofs.lemmas.Bool.{cond-false, eqb-true, and_left, and_right}
 use Rattle.std.proofs.lemmas.List.{reverse-append}
 use Rattle.std.proofs.lemmas.List.Splits.{slice_split-cons_yes, slice_split-cons_no}
-use Rattle.model.specs.Names.{Pattern, begins, is_pattern_octet, is_run_of, item_of, is_wildmat, later_pattern_of, later_patterns_of, matches, parts, pattern_of, takes, wildmat_matches, wildmat_of, wildmat_of_parts}
+use Rattle.model.specs.Names.{Pattern, begins, is_pattern_octet, is_run_of, item_of, is_wildmat, later_pattern_of, later_patterns_of}
+use Rattle.model.specs.Names.{matches, parts, pattern_of, takes, wildmat_matches, wildmat_of, wildmat_of_parts}
 use Rattle.names.specs.Patterns.{verdict_of}
 use Rattle.names.proofs.PartLaws.{has_parts}
 
@@ -60,7 +62,8 @@ pub wildmat_by_parts : (text : List ℕ) → begins is_mark text ≡ false → w
 wildmat_by_parts text plain =
     let p = parted text in
     ap wildmat_of_parts p.is
-    ∙ ap (λ o. option_and_then (λ pattern. option_map (λ more. pattern ∷ more) (later_patterns_of p.more)) o) (first_alike p.first (p.begins_so ∙ plain))
+    ∙ ap (λ o. option_and_then (λ pattern. option_map (λ more. pattern ∷ more) (later_patterns_of p.more)) o)
+    (first_alike p.first (p.begins_so ∙ plain))
     ∙ sym (ap later_patterns_of p.is)
 
 -- and one that does is none
@@ -68,11 +71,13 @@ pub no_wildmat : (text : List ℕ) → begins is_mark text ≡ true → wildmat_
 no_wildmat text marked =
     let p = parted text in
     ap wildmat_of_parts p.is
-    ∙ ap (λ o. option_and_then (λ pattern. option_map (λ more. pattern ∷ more) (later_patterns_of p.more)) o) (no_first p.first (p.begins_so ∙ marked))
+    ∙ ap (λ o. option_and_then (λ pattern. option_map (λ more. pattern ∷ more) (later_patterns_of p.more)) o)
+    (no_first p.first (p.begins_so ∙ marked))
 
 -- ---- all parts
 
-both_some : {A B C : Type 0} (join : A → B → C) (o : Option A) (more : Option B) → is_some (option_and_then (λ a. option_map (join a) more) o) ≡ (is_some o && is_some more)
+both_some : {A B C : Type 0} (join : A → B → C) (o : Option A) (more : Option B)
+    → is_some (option_and_then (λ a. option_map (join a) more) o) ≡ (is_some o && is_some more)
 both_some join None more = refl
 both_some join (Some a) None = refl
 both_some join (Some a) (Some b) = refl
@@ -88,63 +93,92 @@ all_patterns (text ∷ texts) =
 
 module _ (name : List ℕ) where
   -- the last pattern that takes the name decides
-  last_decides : (patterns : List Pattern) (decided : Bool) → fold (λ d p. cond (takes p.items name) (not p.negated) d) decided patterns ≡ unwrap_or (option_map (λ (p : Pattern). not p.negated) (find (λ p. takes p.items name) (reverse patterns))) decided
+  last_decides : (patterns : List Pattern) (decided : Bool)
+      → fold (λ d p. cond (takes p.items name) (not p.negated) d) decided patterns
+      ≡ unwrap_or (option_map (λ (p : Pattern). not p.negated) (find (λ p. takes p.items name) (reverse patterns))) decided
   last_decides [] decided = refl
   last_decides (pattern ∷ patterns) decided =
       last_decides patterns (cond (takes pattern.items name) (not pattern.negated) decided)
       ∙ sym (pushed (reverse patterns))
-      ∙ ap (λ l. unwrap_or (option_map (λ (p : Pattern). not p.negated) (find (λ p. takes p.items name) l)) decided) (sym (reverse-append (pattern ∷ []) patterns))
+      ∙ ap (λ l. unwrap_or (option_map (λ (p : Pattern). not p.negated) (find (λ p. takes p.items name) l)) decided)
+      (sym (reverse-append (pattern ∷ []) patterns))
     where
-      pushed : (earlier : List Pattern) → unwrap_or (option_map (λ (p : Pattern). not p.negated) (find (λ p. takes p.items name) (earlier ++ pattern ∷ []))) decided
-          ≡ unwrap_or (option_map (λ (p : Pattern). not p.negated) (find (λ p. takes p.items name) earlier)) (cond (takes pattern.items name) (not pattern.negated) decided)
-      pushed [] = elim (takes pattern.items name) as (λ b. unwrap_or (option_map (λ (p : Pattern). not p.negated) (cond b (Some pattern) None)) decided ≡ cond b (not pattern.negated) decided) [ true ↦ refl | false ↦ refl ]
+      pushed : (earlier : List Pattern)
+          → unwrap_or (option_map (λ (p : Pattern). not p.negated) (find (λ p. takes p.items name) (earlier ++ pattern ∷ []))) decided
+          ≡ unwrap_or (option_map (λ (p : Pattern). not p.negated) (find (λ p. takes p.items name) earlier))
+          (cond (takes pattern.items name) (not pattern.negated) decided)
+      pushed [] = elim (takes pattern.items name) as
+          (λ b. unwrap_or (option_map (λ (p : Pattern). not p.negated) (cond b (Some pattern) None)) decided
+          ≡ cond b (not pattern.negated) decided) [ true ↦ refl | false ↦ refl ]
       pushed (p ∷ earlier) =
-          elim (takes p.items name) as (λ b. unwrap_or (option_map (λ (q : Pattern). not q.negated) (cond b (Some p) (find (λ q. takes q.items name) (earlier ++ pattern ∷ [])))) decided
-          ≡ unwrap_or (option_map (λ (q : Pattern). not q.negated) (cond b (Some p) (find (λ q. takes q.items name) earlier))) (cond (takes pattern.items name) (not pattern.negated) decided)) [ true ↦ refl | false ↦ pushed earlier ]
+          elim (takes p.items name) as (λ b. unwrap_or
+          (option_map (λ (q : Pattern). not q.negated) (cond b (Some p) (find (λ q. takes q.items name) (earlier ++ pattern ∷ []))))
+          decided
+          ≡ unwrap_or (option_map (λ (q : Pattern). not q.negated) (cond b (Some p) (find (λ q. takes q.items name) earlier)))
+          (cond (takes pattern.items name) (not pattern.negated) decided)) [ true ↦ refl | false ↦ pushed earlier ]
 
   -- what a part says is what its pattern says
-  said : (negated : Bool) (items : List ℕ) (pattern : Pattern) (decided : Bool) → pattern_of negated items ≡ Some pattern → unwrap_or (cond (takes (map item_of items) name) (Some (not negated)) None) decided ≡ cond (takes pattern.items name) (not pattern.negated) decided
+  said : (negated : Bool) (items : List ℕ) (pattern : Pattern) (decided : Bool) → pattern_of negated items ≡ Some pattern
+      → unwrap_or (cond (takes (map item_of items) name) (Some (not negated)) None) decided ≡ cond (takes pattern.items name)
+      (not pattern.negated) decided
   said negated items pattern decided is = by_test (is_run_of is_pattern_octet items) is where
-    by_test : (b : Bool) → cond b (Some (record { negated = negated; items = map item_of items })) None ≡ Some pattern → unwrap_or (cond (takes (map item_of items) name) (Some (not negated)) None) decided ≡ cond (takes pattern.items name) (not pattern.negated) decided
+    by_test : (b : Bool) → cond b (Some (record { negated = negated; items = map item_of items })) None ≡ Some pattern
+        → unwrap_or (cond (takes (map item_of items) name) (Some (not negated)) None) decided ≡ cond (takes pattern.items name)
+        (not pattern.negated) decided
     by_test false none = absurd (cc)
     by_test true some =
         let same : record { negated = negated; items = map item_of items } ≡ pattern = cc in
-        elim (takes (map item_of items) name) as (λ b. unwrap_or (cond b (Some (not negated)) None) decided ≡ cond b (not negated) decided) [ true ↦ refl | false ↦ refl ]
+        elim (takes (map item_of items) name) as
+        (λ b. unwrap_or (cond b (Some (not negated)) None) decided ≡ cond b (not negated) decided) [ true ↦ refl | false ↦ refl ]
         ∙ ap (λ (p : Pattern). cond (takes p.items name) (not p.negated) decided) same
 
-  part_says : (text : List ℕ) (pattern : Pattern) (decided : Bool) → later_pattern_of text ≡ Some pattern → unwrap_or (verdict_of name text) decided ≡ cond (takes pattern.items name) (not pattern.negated) decided
+  part_says : (text : List ℕ) (pattern : Pattern) (decided : Bool) → later_pattern_of text ≡ Some pattern
+      → unwrap_or (verdict_of name text) decided ≡ cond (takes pattern.items name) (not pattern.negated) decided
   part_says [] pattern decided is = absurd (cc)
   part_says (x ∷ items) pattern decided is = by_mark (x == 33) is where
-    by_mark : (b : Bool) → cond b (pattern_of true items) (pattern_of false (x ∷ items)) ≡ Some pattern → unwrap_or (cond b (cond (takes (map item_of items) name) (Some false) None) (cond (takes (map item_of (x ∷ items)) name) (Some true) None)) decided ≡ cond (takes pattern.items name) (not pattern.negated) decided
+    by_mark : (b : Bool) → cond b (pattern_of true items) (pattern_of false (x ∷ items)) ≡ Some pattern
+        → unwrap_or (cond b (cond (takes (map item_of items) name) (Some false) None)
+        (cond (takes (map item_of (x ∷ items)) name) (Some true) None)) decided ≡ cond (takes pattern.items name)
+        (not pattern.negated) decided
     by_mark true marked = said true items pattern decided marked
     by_mark false plain = said false (x ∷ items) pattern decided plain
 
   -- all parts say what all patterns say
-  parts_say : (texts : List (List ℕ)) (patterns : List Pattern) (decided : Bool) → later_patterns_of texts ≡ Some patterns → fold (λ d text. unwrap_or (verdict_of name text) d) decided texts ≡ fold (λ d p. cond (takes p.items name) (not p.negated) d) decided patterns
-  parts_say [] patterns decided is = let none : [] ≡ patterns = cc in ap (fold (λ d p. cond (takes p.items name) (not p.negated) d) decided) none
-  parts_say (text ∷ texts) patterns decided is = by_first (later_pattern_of text) refl (later_patterns_of texts) refl (λ more d rest. parts_say texts more d rest) is where
-    by_first : (o : Option Pattern) → later_pattern_of text ≡ o → (later : Option (List Pattern)) → later_patterns_of texts ≡ later
-        → ((more : List Pattern) (d : Bool) → later_patterns_of texts ≡ Some more → fold (λ d part. unwrap_or (verdict_of name part) d) d texts ≡ fold (λ d p. cond (takes p.items name) (not p.negated) d) d more)
-        → option_and_then (λ pattern. option_map (λ more. pattern ∷ more) later) o ≡ Some patterns
-        → fold (λ d part. unwrap_or (verdict_of name part) d) decided (text ∷ texts) ≡ fold (λ d p. cond (takes p.items name) (not p.negated) d) decided patterns
-    by_first None first later rest say all = absurd (cc)
-    by_first (Some pattern) first None rest say all = absurd (cc)
-    by_first (Some pattern) first (Some more) rest say all =
-        let same : pattern ∷ more ≡ patterns = cc in
-        ap (λ d. fold (λ d part. unwrap_or (verdict_of name part) d) d texts) (part_says text pattern decided first)
-        ∙ say more (cond (takes pattern.items name) (not pattern.negated) decided) rest
-        ∙ ap (fold (λ d p. cond (takes p.items name) (not p.negated) d) decided) same
+  parts_say : (texts : List (List ℕ)) (patterns : List Pattern) (decided : Bool) → later_patterns_of texts ≡ Some patterns
+      → fold (λ d text. unwrap_or (verdict_of name text) d) decided texts
+      ≡ fold (λ d p. cond (takes p.items name) (not p.negated) d) decided patterns
+  parts_say [] patterns decided is = let none : [] ≡ patterns = cc in
+      ap (fold (λ d p. cond (takes p.items name) (not p.negated) d) decided) none
+  parts_say (text ∷ texts) patterns decided is =
+      by_first (later_pattern_of text) refl (later_patterns_of texts) refl (λ more d rest. parts_say texts more d rest) is where
+        by_first : (o : Option Pattern) → later_pattern_of text ≡ o → (later : Option (List Pattern)) → later_patterns_of texts ≡ later
+            → ((more : List Pattern) (d : Bool) → later_patterns_of texts ≡ Some more
+            → fold (λ d part. unwrap_or (verdict_of name part) d) d texts
+            ≡ fold (λ d p. cond (takes p.items name) (not p.negated) d) d more)
+            → option_and_then (λ pattern. option_map (λ more. pattern ∷ more) later) o ≡ Some patterns
+            → fold (λ d part. unwrap_or (verdict_of name part) d) decided (text ∷ texts)
+            ≡ fold (λ d p. cond (takes p.items name) (not p.negated) d) decided patterns
+        by_first None first later rest say all = absurd (cc)
+        by_first (Some pattern) first None rest say all = absurd (cc)
+        by_first (Some pattern) first (Some more) rest say all =
+            let same : pattern ∷ more ≡ patterns = cc in
+            ap (λ d. fold (λ d part. unwrap_or (verdict_of name part) d) d texts) (part_says text pattern decided first)
+            ∙ say more (cond (takes pattern.items name) (not pattern.negated) decided) rest
+            ∙ ap (fold (λ d p. cond (takes p.items name) (not p.negated) d) decided) same
 
   -- the verdict of a wildmat, part by part
-  pub wildmat_says : (text : List ℕ) → IsTrue (is_wildmat text) → fold (λ d part. unwrap_or (verdict_of name part) d) false (parts 44 text) ≡ wildmat_matches text name
+  pub wildmat_says : (text : List ℕ) → IsTrue (is_wildmat text)
+      → fold (λ d part. unwrap_or (verdict_of name part) d) false (parts 44 text) ≡ wildmat_matches text name
   wildmat_says text good = by_mark (begins is_mark text) refl where
-    by_patterns : (o : Option (List Pattern)) → wildmat_of text ≡ o → later_patterns_of (parts 44 text) ≡ o → is_some o ≡ true → fold (λ d part. unwrap_or (verdict_of name part) d) false (parts 44 text) ≡ wildmat_matches text name
+    by_patterns : (o : Option (List Pattern)) → wildmat_of text ≡ o → later_patterns_of (parts 44 text) ≡ o → is_some o ≡ true
+        → fold (λ d part. unwrap_or (verdict_of name part) d) false (parts 44 text) ≡ wildmat_matches text name
     by_patterns None is later some = absurd (cc)
     by_patterns (Some patterns) is later some =
         parts_say (parts 44 text) patterns false later
         ∙ last_decides patterns false
         ∙ sym (ap (λ o. unwrap_or (option_map (λ wildmat. matches wildmat name) o) false) is)
 
-    by_mark : (b : Bool) → begins is_mark text ≡ b → fold (λ d part. unwrap_or (verdict_of name part) d) false (parts 44 text) ≡ wildmat_matches text name
+    by_mark : (b : Bool) → begins is_mark text ≡ b
+        → fold (λ d part. unwrap_or (verdict_of name part) d) false (parts 44 text) ≡ wildmat_matches text name
     by_mark true marked = absurd (cc (good, ap is_some (no_wildmat text marked)))
     by_mark false plain = by_patterns (wildmat_of text) refl (sym (wildmat_by_parts text plain)) good

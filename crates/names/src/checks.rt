@@ -91,7 +91,8 @@ pub fn is_message_id(text: &[u8]) -> bool
 /// Whether the text begins with `<`, ends with `>`, and has no other `>` between them.
 fn has_brackets(text: &[u8]) -> bool
     requires { 0 < length text.now }
-    ensures { result ≡ ((slice_index text.now 0 == 60 && slice_index text.now (length text.now - 1) == 62) && count_by (λ octet. octet == 62) text.now == 1) }
+    ensures { result ≡ ((slice_index text.now 0 == 60 && slice_index text.now (length text.now - 1) == 62) && count_by
+        (λ octet. octet == 62) text.now == 1) }
 {
     let end = text.len() - 1;
     if text[0] != b'<' || text[end] != b'>' {

@@ -1,5 +1,6 @@
 -- An image that stands for the spool without changes: that of a new volume.
-use Rattle.std.proofs.Common.{◌≡◌, ◌⊎◌, inl, inr, ◌<◌, ◌≤◌, ltb, ℕ, zero, suc, ◌+◌, ◌-◌, ◌*◌, ◌/◌, ◌%◌, ◌^◌, eqb, List, None, [], ◌∷◌, length, get_or, map, replicate, set, refl, sym, ◌∙◌, ap, subst, arith, length-append, length-set}
+use Rattle.std.proofs.Common.{◌≡◌, ◌⊎◌, inl, inr, ◌<◌, ◌≤◌, ltb, ℕ, zero, suc, ◌+◌, ◌-◌, ◌*◌, ◌/◌, ◌%◌, ◌^◌, eqb, List, None, [], ◌∷◌}
+use Rattle.std.proofs.Common.{length, get_or, map, replicate, set, refl, sym, ◌∙◌, ap, subst, arith, length-append, length-set}
 use Rattle.std.specs.Prelude.{IsTrue, nat_le}
 use Rattle.std.specs.List.{All}
 use Rattle.std.proofs.Math.Nat.{zero-div}
@@ -11,14 +12,16 @@ use Rattle.model.specs.Files.{HasRoom, first_data}
 use Rattle.model.specs.Layout.{IsLabel, Stands, label_octets}
 use Rattle.model.specs.Names.{is_host}
 use Rattle.model.specs.Stream.{Octets}
-use Rattle.model.specs.Volume.{StandsFor, all_laid_over, batch_in, block, gate_place, home, home_place, home_size, is_open, number_at, open_segments, rising, segment_count}
+use Rattle.model.specs.Volume.{StandsFor, all_laid_over, batch_in, block, gate_place, home, home_place, home_size, is_open, number_at}
+use Rattle.model.specs.Volume.{open_segments, rising, segment_count}
 use Rattle.model.proofs.Images.{empty_stands}
 use Rattle.segments.specs.Images.{IsInside, IsOpenIn, SameBut}
 use Rattle.segments.proofs.Blocks.{block-overwritten, overwritten_same}
 use Rattle.segments.proofs.Standing.{count_same, get_or-home, head_same, home_size_same, length-home, stands_over}
 use Rattle.volume.proofs.Octets.{length-block}
 use Rattle.volume_format.specs.Formatting.{zero_block, zeroed}
-use Rattle.volume_format.proofs.Formatted.{blocks_are, label_is, length-superblock, none_formatted, segments_are, stands_formatted, superblock, superblock_valid}
+use Rattle.volume_format.proofs.Formatted.{blocks_are, label_is, length-superblock, none_formatted, segments_are, stands_formatted}
+use Rattle.volume_format.proofs.Formatted.{superblock, superblock_valid}
 use Rattle.fs_layout.specs.Bits.{IsFront, bit_of}
 use Rattle.fs_layout.specs.Table.{Makes}
 use Rattle.fs_layout.proofs.Entries.{zero_at}
@@ -28,7 +31,8 @@ use Rattle.new_volume.proofs.Emptied.{IsZero, Sized, is_zero_block, makes, many,
 
 -- ---- the first block is written at home, while no segment is open
 
-module _ (x label first : List ℕ) (blocks : List (List ℕ)) (stands : StandsFor x label blocks) (none : open_segments x ≡ []) (whole : length first ≡ 4096) where
+module _ (x label first : List ℕ) (blocks : List (List ℕ)) (stands : StandsFor x label blocks) (none : open_segments x ≡ [])
+    (whole : length first ≡ 4096) where
   abbrev written : List ℕ
   written = overwritten (4096 * home_place (segment_count x) 0) first x
 
@@ -59,7 +63,8 @@ module _ (x label first : List ℕ) (blocks : List (List ℕ)) (stands : StandsF
   at_home : (k : ℕ) → k < home_size x → block (home_place (segment_count x) k) written ≡ get_or (set blocks 0 first) k []
   at_home k within = elim (cases_eq k 0) [
     | inl is ↦
-        ap (λ (n : ℕ). block (home_place (segment_count x) n) written) is ∙ block-overwritten (home_place (segment_count x) 0) first x whole fits
+        ap (λ (n : ℕ). block (home_place (segment_count x) n) written) is
+        ∙ block-overwritten (home_place (segment_count x) 0) first x whole fits
         ∙ sym (ap (λ (n : ℕ). get_or (set blocks 0 first) n []) is ∙ get_or-set_same blocks 0 first [] some)
     | inr other ↦
         others.same (home_place (segment_count x) k) (λ e. absurd (omega (arith, e, other))) ∙ sym (get_or-home x k within)
@@ -68,14 +73,17 @@ module _ (x label first : List ℕ) (blocks : List (List ℕ)) (stands : StandsF
 
   home_after : home written ≡ set blocks 0 first
   home_after =
-      ext_get_or [] (home written) (set blocks 0 first) (length-home written ∙ size_same ∙ sym (length-home x) ∙ ap length home_before ∙ sym (length-set blocks 0 first))
+      ext_get_or [] (home written) (set blocks 0 first) (length-home written ∙ size_same ∙ sym (length-home x) ∙ ap length home_before
+      ∙ sym (length-set blocks 0 first))
       (λ k within.
       let low : k < home_size x = omega (arith, within, length-home written, size_same) in
-      get_or-home written k (omega (arith, low, size_same)) ∙ ap (λ (s : ℕ). block (home_place s k) written) (count_same x written zeroth others.size) ∙ at_home k low)
+      get_or-home written k (omega (arith, low, size_same))
+      ∙ ap (λ (s : ℕ). block (home_place s k) written) (count_same x written zeroth others.size) ∙ at_home k low)
 
   pub first_written : StandsFor written label (set blocks 0 first)
   first_written =
-      subst (λ (bs : List (List ℕ)). StandsFor written label bs) (ap (λ (ss : List ℕ). all_laid_over (home written) (rising (map (λ s. batch_in s x) ss))) none ∙ home_after)
+      subst (λ (bs : List (List ℕ)). StandsFor written label bs)
+      (ap (λ (ss : List ℕ). all_laid_over (home written) (rising (map (λ s. batch_in s x) ss))) none ∙ home_after)
       (stands_over x written label blocks stands (head_same x written zeroth others.size) gates inside)
 
 -- ---- a volume whose blocks are zeros but the first
@@ -84,7 +92,8 @@ module _ (x label first : List ℕ) (blocks : List (List ℕ)) (stands : StandsF
 abbrev gate_of_new : ℕ
 gate_of_new = 2
 
-module _ (segments : ℕ) (counts : (segments ≡ 1) ⊎ (segments ≡ 8)) (blocks : ℕ) (label first : List ℕ) (low : 1024 ≤ blocks) (high : blocks ≤ 65536) (label_whole : length label ≡ 128) (whole : length first ≡ 4096) where
+module _ (segments : ℕ) (counts : (segments ≡ 1) ⊎ (segments ≡ 8)) (blocks : ℕ) (label first : List ℕ) (low : 1024 ≤ blocks)
+    (high : blocks ≤ 65536) (label_whole : length label ≡ 128) (whole : length first ≡ 4096) where
   abbrev octets : ℕ
   octets = 4096 * home_place segments blocks
 
@@ -95,7 +104,8 @@ module _ (segments : ℕ) (counts : (segments ≡ 1) ⊎ (segments ≡ 8)) (bloc
   bare_size = length-replicate {A = ℕ} octets 0
 
   bare_block : (k : ℕ) → 0 < k → k < home_place segments blocks → block k bare ≡ zero_block
-  bare_block k some within = is_zero_block (block k bare) (length-block k bare (omega (arith, within, bare_size))) (part_zero k bare (All-replicate IsZero octets 0 refl))
+  bare_block k some within = is_zero_block (block k bare) (length-block k bare (omega (arith, within, bare_size)))
+      (part_zero k bare (All-replicate IsZero octets 0 refl))
 
   abbrev its_superblock : List ℕ
   its_superblock = superblock zero_block label segments blocks gate_of_new counts zero_block_size zero_block_zero label_whole low high
@@ -117,14 +127,19 @@ module _ (segments : ℕ) (counts : (segments ≡ 1) ⊎ (segments ≡ 8)) (bloc
       (label_is zero_block label segments blocks gate_of_new counts zero_block_size zero_block_zero label_whole low high) bare_block refl
 
   none_open : open_segments zeroed_volume ≡ []
-  none_open = none_formatted segments blocks zero_block its_superblock bare zeroed_volume bare_size zero_block_size zero_block_zero its_size its_segments bare_block refl
+  none_open = none_formatted segments blocks zero_block its_superblock bare zeroed_volume bare_size zero_block_size zero_block_zero its_size
+      its_segments bare_block refl
 
   pub volume_with : (image : List ℕ) × StandsFor image label (set (zeroed blocks) 0 first)
-  volume_with = (written zeroed_volume label first (zeroed blocks) zeroed_stands none_open whole, first_written zeroed_volume label first (zeroed blocks) zeroed_stands none_open whole)
+  volume_with = (
+    written zeroed_volume label first (zeroed blocks) zeroed_stands none_open whole,
+    first_written zeroed_volume label first (zeroed blocks) zeroed_stands none_open whole,
+  )
 
 -- ---- the first block is the bitmap of the empty file system
 
-module _ (blocks inodes : ℕ) (its : Sized blocks inodes) (bitmap : Octets) (whole : length bitmap ≡ 4096) (front : IsFront (first_data inodes) bitmap) (host : Octets) (named : IsTrue (is_host host)) where
+module _ (blocks inodes : ℕ) (its : Sized blocks inodes) (bitmap : Octets) (whole : length bitmap ≡ 4096)
+    (front : IsFront (first_data inodes) bitmap) (host : Octets) (named : IsTrue (is_host host)) where
   short : length host ≤ 64
   short = leb-true (length host) 64 (and_parts (nat_le (length host) 64) _ named).0
 
@@ -132,13 +147,23 @@ module _ (blocks inodes : ℕ) (its : Sized blocks inodes) (bitmap : Octets) (wh
   label_whole = omega (arith, short, length-append host (replicate (123 - length host) 0), length-replicate {A = ℕ} (123 - length host) 0)
 
   labelled : IsLabel (label_octets inodes host) (length (set (zeroed blocks) 0 bitmap)) inodes host
-  labelled = record { octets = refl; host_is = named; some = its.some; few = its.few; whole = its.whole; room = omega (arith, its.room, length-set (zeroed blocks) 0 bitmap, many blocks inodes its bitmap whole front) }
+  labelled = record {
+    octets = refl;
+    host_is = named;
+    some = its.some;
+    few = its.few;
+    whole = its.whole;
+    room = omega (arith, its.room, length-set (zeroed blocks) 0 bitmap, many blocks inodes its bitmap whole front);
+  }
 
   pub new_image : (image : Octets) × Stands host image []
   new_image =
       let made = makes blocks inodes its bitmap whole front in
-      let volume = volume_with 8 (inr refl) blocks (label_octets inodes host) bitmap its.low its.high label_whole whole in
-      (volume.0, empty_stands host volume.0 (label_octets inodes host) inodes (set (zeroed blocks) 0 bitmap) volume.1 labelled made.rule made.files_are)
+      let volume = volume_with 8 (inr refl) blocks (label_octets inodes host) bitmap its.low its.high label_whole whole in (
+        volume.0,
+        empty_stands host volume.0 (label_octets inodes host) inodes (set (zeroed blocks) 0 bitmap) volume.1 labelled made.rule
+            made.files_are,
+      )
 
 -- ---- a bitmap whose first four bits are set
 
@@ -159,8 +184,10 @@ bits_of_first rest (suc (suc (suc (suc (suc (suc (suc (suc b)))))))) low = absur
 bits_after : (rest : Octets) (b : ℕ) → All IsZero rest → 8 ≤ b → bit_of (first_bits rest) b ≡ ltb b 4
 bits_after rest b zeros high =
     let place : b / 8 ≡ suc (b / 8 - 1) = omega (arith, high) in
-    let clear : get_or (first_bits rest) (b / 8) 0 ≡ 0 = ap (λ (k : ℕ). get_or (first_bits rest) k 0) place ∙ zero_at rest (b / 8 - 1) zeros in
-    ap (λ (o : ℕ). eqb (o / 2 ^ (b % 8) % 2) 1) clear ∙ ap (λ (o : ℕ). eqb (o % 2) 1) (zero-div (2 ^ (b % 8))) ∙ sym (le-ltb b 4 (omega (arith, high)))
+    let clear : get_or (first_bits rest) (b / 8) 0 ≡ 0 = ap (λ (k : ℕ). get_or (first_bits rest) k 0) place
+    ∙ zero_at rest (b / 8 - 1) zeros in
+    ap (λ (o : ℕ). eqb (o / 2 ^ (b % 8) % 2) 1) clear ∙ ap (λ (o : ℕ). eqb (o % 2) 1) (zero-div (2 ^ (b % 8)))
+    ∙ sym (le-ltb b 4 (omega (arith, high)))
 
 first_four : (rest : Octets) → All IsZero rest → IsFront 4 (first_bits rest)
 first_four rest zeros b = elim (cases_lt b 8) [
@@ -176,7 +203,8 @@ bitmap_size rest is = omega (arith, is)
 pub image_of_host : EachHostHasAnImage
 image_of_host host named =
     let rest : Octets = replicate 4095 0 in
-    new_image 1024 64 (sized 1024 64 refl) (first_bits rest) (bitmap_size rest (length-replicate {A = ℕ} 4095 0)) (first_four rest (All-replicate IsZero 4095 0 refl)) host named
+    new_image 1024 64 (sized 1024 64 refl) (first_bits rest) (bitmap_size rest (length-replicate {A = ℕ} 4095 0))
+    (first_four rest (All-replicate IsZero 4095 0 refl)) host named
 
 -- the host `a`
 pub one_image : AnImageStands

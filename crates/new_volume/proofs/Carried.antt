@@ -1,5 +1,6 @@
 -- The calls of a batch, from the first to the last.
-use Rattle.std.proofs.Common.{◌≡◌, ◌≢◌, ◌⊎◌, inl, inr, ◌<◌, ◌≤◌, ◌+◌, ◌-◌, ℕ, Bool, true, false, eqb, if◌then◌else◌, IsTrue, List, [], ◌∷◌, length, set, refl, sym, ◌∙◌, ap, subst, arith, Ok, Err}
+use Rattle.std.proofs.Common.{◌≡◌, ◌≢◌, ◌⊎◌, inl, inr, ◌<◌, ◌≤◌, ◌+◌, ◌-◌, ℕ, Bool, true, false, eqb, if◌then◌else◌, IsTrue, List, [], ◌∷◌}
+use Rattle.std.proofs.Common.{length, set, refl, sym, ◌∙◌, ap, subst, arith, Ok, Err}
 use Rattle.std.proofs.lemmas.Bool.{cond_both}
 use Rattle.std.proofs.lemmas.List.{take_all}
 use Rattle.disk.specs.Device.{Device, Elapses, LeavesOnly}
@@ -22,7 +23,11 @@ use Rattle.new_volume.specs.Formatting.{HasCarried, HasLaid, IsLeft, Spoils}
 
 -- time goes on
 pub elapsed : (a b c : Device) → Elapses a b → Elapses b c → Elapses a c
-elapsed a b c first second = record { size = second.size ∙ first.size; tells = second.tells ∙ first.tells; later = omega (arith, first.later, second.later) }
+elapsed a b c first second = record {
+  size = second.size ∙ first.size;
+  tells = second.tells ∙ first.tells;
+  later = omega (arith, first.later, second.later);
+}
 
 pub no_time : (a : Device) → Elapses a a
 no_time a = record { size = refl; tells = refl; later = omega arith }
@@ -59,7 +64,8 @@ ends n sizes Settle other e = refl
 ends n sizes (CloseGate j) other e = absurd (cc)
 ends n sizes (Finish j) other e = refl
 
-sync_of : (next : Next) (segments : ℕ) (held : List Held) (place : ℕ) (descriptor : List ℕ) (images : List (List ℕ)) → is_sync next ≡ true → call_at next segments held place descriptor images ≡ Sync
+sync_of : (next : Next) (segments : ℕ) (held : List Held) (place : ℕ) (descriptor : List ℕ) (images : List (List ℕ)) → is_sync next ≡ true
+    → call_at next segments held place descriptor images ≡ Sync
 sync_of Idle segments held place descriptor images e = absurd (cc)
 sync_of Descriptor segments held place descriptor images e = absurd (cc)
 sync_of (Image i) segments held place descriptor images e = absurd (cc)
@@ -72,20 +78,25 @@ sync_of (CloseGate j) segments held place descriptor images e = absurd (cc)
 sync_of (Finish j) segments held place descriptor images e = refl
 
 -- the blocks are those with the batch from its commit on
-moved : {D : Type 0} (now : JournalView D) (n last : ℕ) (sizes : List ℕ) (before after : List (List ℕ)) (next : Next) → next ≢ Idle → now.blocks ≡ (if is_to_commit next then before else after) → (now.blocks ≡ before → with_batch now ≡ after)
+moved : {D : Type 0} (now : JournalView D) (n last : ℕ) (sizes : List ℕ) (before after : List (List ℕ)) (next : Next) → next ≢ Idle
+    → now.blocks ≡ (if is_to_commit next then before else after) → (now.blocks ≡ before → with_batch now ≡ after)
     → blocks_after now (answer last sizes next) ≡ (if is_to_commit (following n sizes next) then before else after)
 moved now n last sizes before after Idle other is lays = absurd (other refl)
 moved now n last sizes before after Descriptor other is lays = is
-moved now n last sizes before after (Image i) other is lays = after_image (λ g. now.blocks ≡ (if is_to_commit g then before else after)) n sizes i (λ e. is) (λ e. is)
+moved now n last sizes before after (Image i) other is lays =
+    after_image (λ g. now.blocks ≡ (if is_to_commit g then before else after)) n sizes i (λ e. is) (λ e. is)
 moved now n last sizes before after Seal other is lays = is
 moved now n last sizes before after OpenGate other is lays = is
-moved now n last sizes before after Commit other is lays = after_commit (λ g. with_batch now ≡ (if is_to_commit g then before else after)) n sizes (λ e. lays is) (λ e. lays is)
-moved now n last sizes before after (Home j i) other is lays = after_home (λ g. now.blocks ≡ (if is_to_commit g then before else after)) n sizes j i (λ e d. is) (λ e d. is) (λ e. is)
+moved now n last sizes before after Commit other is lays =
+    after_commit (λ g. with_batch now ≡ (if is_to_commit g then before else after)) n sizes (λ e. lays is) (λ e. lays is)
+moved now n last sizes before after (Home j i) other is lays =
+    after_home (λ g. now.blocks ≡ (if is_to_commit g then before else after)) n sizes j i (λ e d. is) (λ e d. is) (λ e. is)
 moved now n last sizes before after Settle other is lays = is
 moved now n last sizes before after (CloseGate j) other is lays = is
 moved now n last sizes before after (Finish j) other is lays =
     let stays = after_gate (λ g. now.blocks ≡ (if is_to_commit g then before else after)) n sizes j (λ e. is) (λ e. is) in
-    cond_both (eqb (j + 1) (length sizes)) Ended Working (λ p. blocks_after now p ≡ (if is_to_commit (following n sizes (Finish j)) then before else after)) (λ e. stays) (λ e. stays)
+    cond_both (eqb (j + 1) (length sizes)) Ended Working
+    (λ p. blocks_after now p ≡ (if is_to_commit (following n sizes (Finish j)) then before else after)) (λ e. stays) (λ e. stays)
 
 -- ---- between two calls
 
@@ -97,7 +108,8 @@ pub record IsOnTheWay {D : Type 0} (device : D → Device) (old now : JournalVie
   pub blocks : IsTrue (device old.disk).tells → now.blocks ≡ (if is_to_commit now.next then old.blocks else with_batch old)
   pub synced : IsTrue (device old.disk).tells → now.next ≡ Idle → LeavesOnly (device now.disk) (device now.disk).content
 
-pub begun : {D : Type 0} (device : D → Device) (journal : JournalView D) → journal.halted ≡ false → journal.next ≡ Descriptor → IsOnTheWay device journal journal
+pub begun : {D : Type 0} (device : D → Device) (journal : JournalView D) → journal.halted ≡ false → journal.next ≡ Descriptor
+    → IsOnTheWay device journal journal
 begun device journal running next = record {
   running = running;
   same = same_itself journal;
@@ -111,16 +123,19 @@ begun device journal running next = record {
 same_batch : {D : Type 0} (old now : JournalView D) → IsSameBatch old now → now.blocks ≡ old.blocks → with_batch now ≡ with_batch old
 same_batch old now same blocks = λ i. laid_over (blocks i) (same.numbers i) (same.images i)
 
-module _ {D : Type 0} (device : D → Device) (old now new : JournalView D) (so_far : IsOnTheWay device old now) (flies : now.next ≢ Idle) where
+module _ {D : Type 0} (device : D → Device) (old now new : JournalView D) (so_far : IsOnTheWay device old now)
+    (flies : now.next ≢ Idle) where
   tells : IsTrue (device old.disk).tells → IsTrue (device now.disk).tells
   tells t = subst (λ (b : Bool). IsTrue b) (sym so_far.time.tells) t
 
-  synced_by : (p : Progress) → MakesCall device now new (Ok p) → IsTrue (device old.disk).tells → new.next ≡ Idle → LeavesOnly (device new.disk) (device new.disk).content
+  synced_by : (p : Progress) → MakesCall device now new (Ok p) → IsTrue (device old.disk).tells → new.next ≡ Idle
+      → LeavesOnly (device new.disk) (device new.disk).content
   synced_by p call t is =
       let last : is_sync now.next ≡ true = ends (length now.numbers) (sizes now) now.next flies (sym call.next.0 ∙ is) in
       let sync : call_at now.next now.segments (all_held now) now.place (descriptor_of now.number now.last now.numbers) now.images ≡ Sync =
       sync_of now.next now.segments (all_held now) now.place (descriptor_of now.number now.last now.numbers) now.images last in
-      let did : Syncs {T = Progress} {E = JournalError} (Ok p) (device now.disk) (device new.disk) = subst (λ (c : Call). Does {T = Progress} {E = JournalError} c (Ok p) (device now.disk) (device new.disk)) sync call.does in
+      let did : Syncs {T = Progress} {E = JournalError} (Ok p) (device now.disk) (device new.disk) =
+      subst (λ (c : Call). Does {T = Progress} {E = JournalError} c (Ok p) (device now.disk) (device new.disk)) sync call.does in
       λ c left. did.durable (tells t) c left ∙ sym (did.content (tells t))
 
   -- a call that was made
@@ -132,41 +147,55 @@ module _ {D : Type 0} (device : D → Device) (old now new : JournalView D) (so_
     failures = call.failures.ok ∙ so_far.failures;
     blocks = λ t.
         call.blocks (tells t) ∙ ap (λ (q : Progress). blocks_after now q) call.answers
-        ∙ moved now (length now.numbers) now.last (sizes now) old.blocks (with_batch old) now.next flies (so_far.blocks t) (same_batch old now so_far.same)
+        ∙ moved now (length now.numbers) now.last (sizes now) old.blocks (with_batch old) now.next flies (so_far.blocks t)
+        (same_batch old now so_far.same)
         ∙ ap (λ (g : Next). if is_to_commit g then old.blocks else with_batch old) (sym call.next.0);
     synced = synced_by p call;
   }
 
-  pub fewer : (p : Progress) → MakesCall device now new (Ok p) → all_calls (length new.numbers) (sizes new) - calls new < all_calls (length now.numbers) (sizes now) - calls now
+  pub fewer : (p : Progress) → MakesCall device now new (Ok p)
+      → all_calls (length new.numbers) (sizes new) - calls new < all_calls (length now.numbers) (sizes now) - calls now
   fewer p call =
       let size : length new.numbers ≡ length now.numbers = ap length call.same.numbers in
-      let all : all_calls (length new.numbers) (sizes new) ≡ all_calls (length now.numbers) (sizes now) = ap (λ (k : ℕ). all_calls k (sizes new)) size ∙ ap (all_calls (length now.numbers)) (same_sizes now new call.same) in
+      let all : all_calls (length new.numbers) (sizes new) ≡ all_calls (length now.numbers) (sizes now) =
+      ap (λ (k : ℕ). all_calls k (sizes new)) size ∙ ap (all_calls (length now.numbers)) (same_sizes now new call.same) in
       omega (arith, all, call.counts.0, call.counts.1)
 
   -- one that the device refused
-  pub caused_by : (error : JournalError) → OnMade {T = Progress} (Err error) (MakesCall device now new (Err error)) → OnRetried {T = Progress} (Err error) (IsRetried device now new) → (error ≡ Fault) ⊎ (error ≡ Memory) → IsCaused error (device old.disk) (device new.disk)
+  pub caused_by : (error : JournalError) → OnMade {T = Progress} (Err error) (MakesCall device now new (Err error))
+      → OnRetried {T = Progress} (Err error) (IsRetried device now new) → (error ≡ Fault) ⊎ (error ≡ Memory)
+      → IsCaused error (device old.disk) (device new.disk)
   caused_by error made retried (inl is) = inl (is, λ same. (made is).failures.fault is (same ∙ sym so_far.failures))
   caused_by error made retried (inr is) = inr (is, (retried is).refused.failures ∙ so_far.failures)
 
-  pub time_by : (error : JournalError) → OnMade {T = Progress} (Err error) (MakesCall device now new (Err error)) → OnRetried {T = Progress} (Err error) (IsRetried device now new) → (error ≡ Fault) ⊎ (error ≡ Memory) → Elapses (device old.disk) (device new.disk)
+  pub time_by : (error : JournalError) → OnMade {T = Progress} (Err error) (MakesCall device now new (Err error))
+      → OnRetried {T = Progress} (Err error) (IsRetried device now new) → (error ≡ Fault) ⊎ (error ≡ Memory)
+      → Elapses (device old.disk) (device new.disk)
   time_by error made retried (inl is) = elapsed (device old.disk) (device now.disk) (device new.disk) so_far.time (made is).time
   time_by error made retried (inr is) = elapsed (device old.disk) (device now.disk) (device new.disk) so_far.time (retried is).refused.time
 
 -- ---- at the end
 
-stands_idle : (label : List ℕ) (blocks after : List (List ℕ)) (image : List ℕ) → IsAdmitted Idle label blocks after image → StandsFor image label blocks
+stands_idle : (label : List ℕ) (blocks after : List (List ℕ)) (image : List ℕ) → IsAdmitted Idle label blocks after image
+    → StandsFor image label blocks
 stands_idle label blocks after image (inl stands) = stands
 stands_idle label blocks after image (inr commits) = absurd (let wrong = commits.0 in cc)
 
-pub carried : {D : Type 0} (device : D → Device) (old now : JournalView D) → IsOnTheWay device old now → now.next ≡ Idle → LeavesAdmitted device now → (IsTrue (device now.disk).tells → (device now.disk).may_leave (device now.disk).content) → HasCarried device old now
+pub carried : {D : Type 0} (device : D → Device) (old now : JournalView D) → IsOnTheWay device old now → now.next ≡ Idle
+    → LeavesAdmitted device now → (IsTrue (device now.disk).tells → (device now.disk).may_leave (device now.disk).content)
+    → HasCarried device old now
 carried device old now so_far is admitted content = record {
   left = λ t.
       let told : IsTrue (device now.disk).tells = subst (λ (b : Bool). IsTrue b) (sym so_far.time.tells) t in
       let image = (device now.disk).content in
-      let here : StandsFor image now.label now.blocks = stands_idle now.label now.blocks (with_batch now) image (subst (λ (g : Next). IsAdmitted g now.label now.blocks (with_batch now) image) is (admitted told image (content told)).0) in
-      let blocks : now.blocks ≡ with_batch old = so_far.blocks t ∙ ap (λ (g : Next). if is_to_commit g then old.blocks else with_batch old) is in
+      let here : StandsFor image now.label now.blocks =
+      stands_idle now.label now.blocks (with_batch now) image
+      (subst (λ (g : Next). IsAdmitted g now.label now.blocks (with_batch now) image) is (admitted told image (content told)).0) in
+      let blocks : now.blocks ≡ with_batch old = so_far.blocks t
+      ∙ ap (λ (g : Next). if is_to_commit g then old.blocks else with_batch old) is in
       record {
-        stands = subst (λ (bs : List (List ℕ)). StandsFor image old.label bs) blocks (subst (λ (l : List ℕ). StandsFor image l now.blocks) so_far.same.label here);
+        stands = subst (λ (bs : List (List ℕ)). StandsFor image old.label bs) blocks
+            (subst (λ (l : List ℕ). StandsFor image l now.blocks) so_far.same.label here);
         format = subst (λ (n : ℕ). n ≤ format_number image) so_far.same.format (admitted told image (content told)).1;
         synced = so_far.synced t is;
       };
@@ -180,16 +209,21 @@ pub whole_block : (first : List ℕ) → length first ≡ 4096 → block 0 first
 whole_block first whole = take_all 4096 first (omega (arith, whole))
 
 -- the first block alone was in the batch, which was carried to its end
-pub lays : {D : Type 0} (device : D → Device) (first : List ℕ) (journal begun last : JournalView D) (disk : D) → length first ≡ 4096 → begun.disk ≡ journal.disk → begun.label ≡ journal.label → begun.format ≡ journal.format → begun.blocks ≡ journal.blocks → begun.numbers ≡ 0 ∷ []
-    → begun.images ≡ blocks_from 0 1 first → HasCarried device begun last → Elapses (device begun.disk) (device last.disk) → disk ≡ last.disk → HasLaid device first journal disk
+pub lays : {D : Type 0} (device : D → Device) (first : List ℕ) (journal begun last : JournalView D) (disk : D) → length first ≡ 4096
+    → begun.disk ≡ journal.disk → begun.label ≡ journal.label → begun.format ≡ journal.format → begun.blocks ≡ journal.blocks
+    → begun.numbers ≡ 0 ∷ []
+    → begun.images ≡ blocks_from 0 1 first → HasCarried device begun last → Elapses (device begun.disk) (device last.disk)
+    → disk ≡ last.disk → HasLaid device first journal disk
 lays {D = D} device first journal begun last disk whole same label format blocks numbers images carries time gives = record {
   left = λ t.
       let told : IsTrue (device begun.disk).tells = subst (λ (d : D). IsTrue (device d).tells) (sym same) t in
-      let laid : with_batch begun ≡ set journal.blocks 0 first = (λ i. laid_over (blocks i) (numbers i) (images i)) ∙ ap (λ (octets : List ℕ). set journal.blocks 0 octets) (whole_block first whole) in
+      let laid : with_batch begun ≡ set journal.blocks 0 first = (λ i. laid_over (blocks i) (numbers i) (images i))
+      ∙ ap (λ (octets : List ℕ). set journal.blocks 0 octets) (whole_block first whole) in
       subst (λ (d : D). IsLeft journal.label journal.format (set journal.blocks 0 first) (device d)) (sym gives)
       (subst (λ (l : List ℕ). IsLeft l journal.format (set journal.blocks 0 first) (device last.disk)) label
       (subst (λ (n : ℕ). IsLeft begun.label n (set journal.blocks 0 first) (device last.disk)) format
       (subst (λ (bs : List (List ℕ)). IsLeft begun.label begun.format bs (device last.disk)) laid (carries.left told))));
-  time = subst (λ (d : D). Elapses (device journal.disk) (device d)) (sym gives) (subst (λ (d : D). Elapses (device d) (device last.disk)) same time);
+  time = subst (λ (d : D). Elapses (device journal.disk) (device d)) (sym gives)
+      (subst (λ (d : D). Elapses (device d) (device last.disk)) same time);
   failures = ap (λ (d : D). (device d).failures) gives ∙ carries.failures ∙ ap (λ (d : D). (device d).failures) same;
 }

@@ -22,7 +22,8 @@ IsZero octet = octet ≡ 0
 pub is_zero_block : (xs : List ℕ) → length xs ≡ 4096 → All IsZero xs → xs ≡ zero_block
 unfolding zero_block
 is_zero_block xs size all =
-    ext_get_or 0 xs (replicate 4096 0) (size ∙ sym (length-replicate {A = ℕ} 4096 0)) (λ i within. all i 0 within ∙ sym (get_or-replicate 4096 i 0 0 (omega (arith, within, size))))
+    ext_get_or 0 xs (replicate 4096 0) (size ∙ sym (length-replicate {A = ℕ} 4096 0)) (λ i within. all i 0 within
+    ∙ sym (get_or-replicate 4096 i 0 0 (omega (arith, within, size))))
 
 pub part_zero : (k : ℕ) (octets : List ℕ) → All IsZero octets → All IsZero (block k octets)
 part_zero k octets all = All-take IsZero 4096 (drop (4096 * k) octets) (All-drop IsZero (4096 * k) octets all)
@@ -50,7 +51,8 @@ pub record Sized (blocks inodes : ℕ) : Type 0 where
 
 pub sized : (blocks inodes : ℕ) → IsTrue (are_sizes blocks inodes) → Sized blocks inodes
 sized blocks inodes are =
-    let parts = and_parts (leb 1024 blocks && leb blocks 65536) ((leb 64 inodes && leb inodes 32768) && (eqb (inodes % 64) 0 && leb (2 + 2 * inodes / 64 + 256) blocks)) are in
+    let parts = and_parts (leb 1024 blocks && leb blocks 65536)
+    ((leb 64 inodes && leb inodes 32768) && (eqb (inodes % 64) 0 && leb (2 + 2 * inodes / 64 + 256) blocks)) are in
     let bounds = and_parts (leb 1024 blocks) (leb blocks 65536) parts.0 in
     let rest = and_parts (leb 64 inodes && leb inodes 32768) (eqb (inodes % 64) 0 && leb (2 + 2 * inodes / 64 + 256) blocks) parts.1 in
     let counts = and_parts (leb 64 inodes) (leb inodes 32768) rest.0 in
@@ -66,7 +68,8 @@ sized blocks inodes are =
 
 -- ---- the first block is the bitmap of the empty file system
 
-module _ (blocks inodes : ℕ) (its : Sized blocks inodes) (bitmap : Octets) (whole : length bitmap ≡ 4096) (front : IsFront (first_data inodes) bitmap) where
+module _ (blocks inodes : ℕ) (its : Sized blocks inodes) (bitmap : Octets) (whole : length bitmap ≡ 4096)
+    (front : IsFront (first_data inodes) bitmap) where
   pub many : length (zeroed blocks) ≡ blocks
   many = length-replicate blocks zero_block
 

@@ -18,12 +18,15 @@ use Rattle.new_volume.specs.Sizes.{are_sizes}
 use Rattle.new_volume.proofs.Carried.{elapsed}
 use Rattle.new_volume.proofs.Emptied.{Sized, makes, many, sized}
 
-module _ {D : Type 0} (device : D → Device) (blocks : ℕ) (label : Octets) (format : ℕ) (first : D) (journal : JournalView D) (zero : IsZeroed device blocks label format first journal) where
+module _ {D : Type 0} (device : D → Device) (blocks : ℕ) (label : Octets) (format : ℕ) (first : D) (journal : JournalView D)
+    (zero : IsZeroed device blocks label format first journal) where
   told : IsTrue (device first).tells → IsTrue (device journal.disk).tells
   told t = subst (λ (b : Bool). IsTrue b) (sym zero.time.tells) t
 
-  pub formatted : (host : Octets) (inodes : ℕ) (bitmap : Octets) (last : D) → IsTrue (is_host host) → IsTrue (are_sizes blocks inodes) → label ≡ label_octets inodes host
-      → length bitmap ≡ 4096 → IsFront (first_data inodes) bitmap → HasLaid device bitmap journal last → Formats host inodes format (device first) (device last)
+  pub formatted : (host : Octets) (inodes : ℕ) (bitmap : Octets) (last : D) → IsTrue (is_host host) → IsTrue (are_sizes blocks inodes)
+      → label ≡ label_octets inodes host
+      → length bitmap ≡ 4096 → IsFront (first_data inodes) bitmap → HasLaid device bitmap journal last
+      → Formats host inodes format (device first) (device last)
   formatted host inodes bitmap last named sizes label_is whole front lays = record {
     made = λ t.
         let left = lays.left (told t) in
@@ -32,7 +35,8 @@ module _ {D : Type 0} (device : D → Device) (blocks : ℕ) (label : Octets) (f
         subst (λ (bs : List Octets). StandsFor image (label_octets inodes host) (set bs 0 bitmap)) (zero.blocks_are t)
         (subst (λ (l : Octets). StandsFor image l (set journal.blocks 0 bitmap)) (zero.label_is t ∙ label_is) left.stands) in
         record {
-          stands = empty_stands host image (label_octets inodes host) inodes (set (zeroed blocks) 0 bitmap) stands is_label made.rule made.files_are;
+          stands = empty_stands host image (label_octets inodes host) inodes (set (zeroed blocks) 0 bitmap) stands is_label made.rule
+              made.files_are;
           label = stands.has_label;
           format = subst (λ (n : ℕ). n ≤ format_number image) (zero.format_is t) left.format;
           synced = left.synced;
@@ -57,7 +61,8 @@ module _ {D : Type 0} (device : D → Device) (blocks : ℕ) (label : Octets) (f
         room = omega (arith, its.room, length-set (zeroed blocks) 0 bitmap, many blocks inodes its bitmap whole front);
       }
 
-  pub spoiled : (error : JournalError) (last : D) → Spoils error (device journal.disk) (device last) → Spoils error (device first) (device last)
+  pub spoiled : (error : JournalError) (last : D) → Spoils error (device journal.disk) (device last)
+      → Spoils error (device first) (device last)
   spoiled error last spoils = record {
     time = elapsed (device first) (device journal.disk) (device last) zero.time spoils.time;
     fault = λ is same. spoils.fault is (same ∙ sym zero.failures);

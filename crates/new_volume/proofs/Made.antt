@@ -26,7 +26,8 @@ pub err_map : {T E : Type 0} {P Q : E → Type 0} (r : Result T E) → ((e : E) 
 err_map (Ok x) f is = is
 err_map (Err e) f is = f e is
 
-pub zeroed_opened : {D : Type 0} (device : D → Device) (first mid : D) (blocks : ℕ) (label : Octets) (format : ℕ) (journal : JournalView D) → (IsTrue (device first).tells → StandsFor (device mid).content label (zeroed blocks))
+pub zeroed_opened : {D : Type 0} (device : D → Device) (first mid : D) (blocks : ℕ) (label : Octets) (format : ℕ) (journal : JournalView D)
+    → (IsTrue (device first).tells → StandsFor (device mid).content label (zeroed blocks))
     → (IsTrue (device first).tells → format_number (device mid).content ≡ format) → Elapses (device first) (device mid)
     → (device mid).failures ≡ (device first).failures → Opens device mid journal → IsZeroed device blocks label format first journal
 zeroed_opened device first mid blocks label format journal stands formats time failures opens = record {
@@ -41,7 +42,8 @@ zeroed_opened device first mid blocks label format journal stands formats time f
     told : IsTrue (device first).tells → IsTrue (device mid).tells
     told t = subst (λ (b : Bool). IsTrue b) (sym time.tells) t
 
-pub zeroed_refused : {D : Type 0} (device : D → Device) (first mid last : D) (blocks : ℕ) (label : Octets) (error : JournalError) → (IsTrue (device first).tells → StandsFor (device mid).content label (zeroed blocks)) → Elapses (device first) (device mid)
+pub zeroed_refused : {D : Type 0} (device : D → Device) (first mid last : D) (blocks : ℕ) (label : Octets) (error : JournalError)
+    → (IsTrue (device first).tells → StandsFor (device mid).content label (zeroed blocks)) → Elapses (device first) (device mid)
     → (device mid).failures ≡ (device first).failures → Refuses device mid last error → Spoils error (device first) (device last)
 zeroed_refused device first mid last blocks label error stands time failures refuses = record {
   time = elapsed (device first) (device mid) (device last) time refuses.time;

@@ -33,7 +33,8 @@ pub record Spoils (error : JournalError) (old new : Device) : Type 0 where
 -- ---- the steps to it
 
 -- a journal over zeroed blocks, with nothing else on the device
-pub record IsZeroed {D : Type 0} (device : D → Device) (blocks : ℕ) (label : Octets) (format : ℕ) (first : D) (journal : JournalView D) : Type 0 where
+pub record IsZeroed {D : Type 0} (device : D → Device) (blocks : ℕ) (label : Octets) (format : ℕ) (first : D)
+    (journal : JournalView D) : Type 0 where
   pub ready : IsReady journal
   pub label_is : IsTrue (device first).tells → journal.label ≡ label
   pub blocks_are : IsTrue (device first).tells → journal.blocks ≡ zeroed blocks

@@ -30,19 +30,22 @@ module _ {D : Type 0} (device : D → Device) where
       admits.0
 
   -- what the journal admits after its opening is the volume that it opened, in no lower format
-  same_as : (first : D) (one : JournalView D) (image : Octets) → Opens device first one → IsTrue (device first).tells → Admits one image → AreSameVolume (device first).content image
+  same_as : (first : D) (one : JournalView D) (image : Octets) → Opens device first one → IsTrue (device first).tells → Admits one image
+      → AreSameVolume (device first).content image
   same_as first one image o tells admits =
       let risen : format_number (device first).content ≤ format_number image = omega (arith, o.format tells, admits.1) in
       (one.label, (one.blocks, (o.stands tells, (idle_admits one image o.ready.1 admits, risen))))
 
-  pub left_both : (first : D) (one two : JournalView D) → Opens device first one → ReadsAndUpgrades device one two → LeftKept (device first) (device two.disk)
+  pub left_both : (first : D) (one two : JournalView D) → Opens device first one → ReadsAndUpgrades device one two
+      → LeftKept (device first) (device two.disk)
   left_both first one two o r tells t image le left =
       ⊎_elim
       (λ (was : (device one.disk).left_since t image). o.since tells t image le was)
       (λ (admits : Admits one image). inr (same_as first one image o tells admits))
       (r.since (subst IsTrue (sym o.time.tells) tells) t image (omega (arith, le, o.time.later)) left)
 
-  pub syncs_both : (first : D) (one two : JournalView D) → Opens device first one → SyncsFirst device first one.disk → ReadsAndUpgrades device one two → SyncsFirst device first two.disk
+  pub syncs_both : (first : D) (one two : JournalView D) → Opens device first one → SyncsFirst device first one.disk
+      → ReadsAndUpgrades device one two → SyncsFirst device first two.disk
   syncs_both first one two o s r =
       record {
         synced = s.synced;
@@ -59,17 +62,21 @@ module _ {D : Type 0} (device : D → Device) where
       }
 
 -- what a read gives after the kernel's opening is the volume that the journal opened
-module _ {D : Type 0} (device : D → Device) (only_now : (d : D) (image : Octets) → IsTrue (device d).tells → (device d).left_since (device d).clock image → (device d).may_leave image)
+module _ {D : Type 0} (device : D → Device) (only_now : (d : D) (image : Octets) → IsTrue (device d).tells
+    → (device d).left_since (device d).clock image → (device d).may_leave image)
     (counts_content : (d : D) → IsTrue (device d).tells → (device d).may_leave (device d).content)
-    (counts_now : (d : D) (t : ℕ) (image : Octets) → IsTrue (device d).tells → t ≤ (device d).clock → (device d).may_leave image → (device d).left_since t image) where
-  pub volume_left : (first : D) (one two : JournalView D) → Opens device first one → ReadsAndUpgrades device one two → IsTrue (device first).tells → AreSameVolume (device first).content (device two.disk).content
+    (counts_now : (d : D) (t : ℕ) (image : Octets) → IsTrue (device d).tells → t ≤ (device d).clock → (device d).may_leave image
+    → (device d).left_since t image) where
+  pub volume_left : (first : D) (one two : JournalView D) → Opens device first one → ReadsAndUpgrades device one two
+      → IsTrue (device first).tells → AreSameVolume (device first).content (device two.disk).content
   volume_left first one two o r tells =
       let tells_one : IsTrue (device one.disk).tells = subst IsTrue (sym o.time.tells) tells in
       let tells_two : IsTrue (device two.disk).tells = subst IsTrue (sym r.time.tells) tells_one in
       let image : Octets = (device two.disk).content in
       let left = counts_now two.disk (device one.disk).clock image tells_two r.time.later (counts_content two.disk tells_two) in
       same_as device first one image o tells
-      (⊎_elim (λ (was : (device one.disk).left_since (device one.disk).clock image). o.now tells_one image (only_now one.disk image tells_one was))
+      (⊎_elim (λ (was : (device one.disk).left_since (device one.disk).clock image). o.now tells_one image
+      (only_now one.disk image tells_one was))
       (λ (admits : Admits one image). admits)
       (r.since tells_one (device one.disk).clock image (omega arith) left))
 
@@ -80,11 +87,14 @@ more_both n m old mid new first second =
     second ∙ sym (mod-add-mod mid (2 ^ 64) m) ∙ ap (λ (k : ℕ). (k + m) % 2 ^ 64) first ∙ mod-add-mod (old + n) (2 ^ 64) m
     ∙ ap (λ (k : ℕ). k % 2 ^ 64) (omega arith)
 
-pub costs_both : (content : Octets) (format : ℕ) (first one two : Device) → format_number content ≡ format → Costs 1 content first one → CostsUpgrade format one two → CostsToOpen content first two
+pub costs_both : (content : Octets) (format : ℕ) (first one two : Device) → format_number content ≡ format → Costs 1 content first one
+    → CostsUpgrade format one two → CostsToOpen content first two
 costs_both content format first one two is opens upgrades = record {
-  writes = more_both (home_writes content (open_segments content)) (upgrade_calls (format_number content)) first.writes one.writes two.writes opens.writes
+  writes = more_both (home_writes content (open_segments content)) (upgrade_calls (format_number content)) first.writes one.writes
+      two.writes opens.writes
       (subst (λ (f : ℕ). IsMore (upgrade_calls f) one.writes two.writes) (sym is) upgrades.writes);
-  syncs = more_both (1 + home_syncs (open_segments content)) (upgrade_calls (format_number content)) first.syncs one.syncs two.syncs opens.syncs
+  syncs = more_both (1 + home_syncs (open_segments content)) (upgrade_calls (format_number content)) first.syncs one.syncs two.syncs
+      opens.syncs
       (subst (λ (f : ℕ). IsMore (upgrade_calls f) one.syncs two.syncs) (sym is) upgrades.syncs);
 }
 
@@ -94,17 +104,21 @@ of_second : (S : Spool) (format : ℕ) → format ≡ 2 → AreOfFormat format (
 of_second S format is first = absurd (omega (arith, is, first))
 
 -- the kernel stands in the blocks of the journal that the opening left
-pub still_opened : {D : Type 0} (device : D → Device) (one two : JournalView D) (kernel : KernelView) → IsOpened device one kernel → ReadsAndUpgrades device one two → two.format ≡ 2 → IsOpened device two kernel
+pub still_opened : {D : Type 0} (device : D → Device) (one two : JournalView D) (kernel : KernelView) → IsOpened device one kernel
+    → ReadsAndUpgrades device one two → two.format ≡ 2 → IsOpened device two kernel
 still_opened device one two kernel k r format = record {
   fresh = k.fresh;
-  labelled = subst (λ (t : Octets × ℕ). IsLabel t.0 t.1 kernel.inodes kernel.host) (λ i. (sym r.same.label i, sym r.same.size i)) k.labelled;
+  labelled = subst (λ (t : Octets × ℕ). IsLabel t.0 t.1 kernel.inodes kernel.host)
+      (λ i. (sym r.same.label i, sym r.same.size i)) k.labelled;
   size = k.size ∙ sym r.same.size;
-  blocks = λ tells. let one_tells : IsTrue (device one.disk).tells = subst IsTrue r.time.tells tells in k.blocks one_tells ∙ sym (r.blocks one_tells);
+  blocks = λ tells. let one_tells : IsTrue (device one.disk).tells = subst IsTrue r.time.tells tells in
+      k.blocks one_tells ∙ sym (r.blocks one_tells);
   holds = k.holds;
   of_format = of_second kernel.spool two.format format;
 }
 
-pub stands_opened : {D : Type 0} (device : D → Device) (first : D) (one : JournalView D) (kernel : KernelView) → Opens device first one → IsOpened device one kernel → IsTrue (device first).tells → Stands kernel.host (device first).content kernel.spool
+pub stands_opened : {D : Type 0} (device : D → Device) (first : D) (one : JournalView D) (kernel : KernelView) → Opens device first one
+    → IsOpened device one kernel → IsTrue (device first).tells → Stands kernel.host (device first).content kernel.spool
 stands_opened device first one kernel o k tells =
     let same : kernel.blocks ≡ one.blocks = k.blocks (subst IsTrue (sym o.time.tells) tells) in
     record {
@@ -113,20 +127,26 @@ stands_opened device first one kernel o k tells =
       blocks = kernel.blocks;
       volume = subst (StandsFor (device first).content one.label) (sym same) (o.stands tells);
       labelled = subst (λ n. IsLabel one.label n kernel.inodes kernel.host) (sym k.size) k.labelled;
-      held = record { held = k.holds; of_format = subst (λ (f : ℕ). AreOfFormat f (files_of kernel.spool)) (sym (o.format tells)) k.of_format };
+      held = record {
+        held = k.holds;
+        of_format = subst (λ (f : ℕ). AreOfFormat f (files_of kernel.spool)) (sym (o.format tells)) k.of_format;
+      };
     }
 
 pub no_volume : (content : Octets) → IsNoVolume content → IsNoNewsVolume content
 no_volume content never label blocks inodes host volume labelled = never label blocks volume
 
-pub no_label : {D : Type 0} (device : D → Device) (first : D) (one : JournalView D) → Opens device first one → IsNoLabel one.label one.size → IsTrue (device first).tells → IsNoNewsVolume (device first).content
+pub no_label : {D : Type 0} (device : D → Device) (first : D) (one : JournalView D) → Opens device first one → IsNoLabel one.label one.size
+    → IsTrue (device first).tells → IsNoNewsVolume (device first).content
 no_label device first one o never tells label blocks inodes host volume labelled =
     let v = o.stands tells in
     let its_label : label ≡ one.label = sym volume.has_label ∙ v.has_label in
     let its_blocks : blocks ≡ one.blocks = sym volume.has_blocks ∙ v.has_blocks in
-    never inodes host (subst (λ (t : Octets × ℕ). IsLabel t.0 t.1 inodes host) (λ i. (its_label i, (ap length its_blocks ∙ (o.whole (subst IsTrue (sym o.time.tells) tells)).count) i)) labelled)
+    never inodes host (subst (λ (t : Octets × ℕ). IsLabel t.0 t.1 inodes host)
+    (λ i. (its_label i, (ap length its_blocks ∙ (o.whole (subst IsTrue (sym o.time.tells) tells)).count) i)) labelled)
 
-pub is_damaged : {D : Type 0} (device : D → Device) (first : D) (one : JournalView D) → Opens device first one → IsDamaged device one → IsTrue (device first).tells → IsDamagedVolume (device first).content
+pub is_damaged : {D : Type 0} (device : D → Device) (first : D) (one : JournalView D) → Opens device first one → IsDamaged device one
+    → IsTrue (device first).tells → IsDamagedVolume (device first).content
 is_damaged device first one o d tells =
     let tells_one : IsTrue (device one.disk).tells = subst IsTrue (sym o.time.tells) tells in
     record {
@@ -152,7 +172,8 @@ journal_finds_no_damage journal.Memory r is a = (let both : open_errors.Memory �
 journal_finds_no_damage journal.NotAVolume r is a = (let both : open_errors.NotAVolume ≡ open_errors.Damaged = sym is ∙ a in cc)
 journal_finds_no_damage journal.Halted r is a = (let both : open_errors.Memory ≡ open_errors.Damaged = sym is ∙ a in cc)
 
-pub journal_lacked_memory : (e : JournalError) (r : OpenError) → r ≡ open_error e → e ≢ journal.Halted → r ≡ open_errors.Memory → e ≡ journal.Memory
+pub journal_lacked_memory : (e : JournalError) (r : OpenError) → r ≡ open_error e → e ≢ journal.Halted → r ≡ open_errors.Memory
+    → e ≡ journal.Memory
 journal_lacked_memory journal.Fault r is runs a = absurd (let both : open_errors.Fault ≡ open_errors.Memory = sym is ∙ a in cc)
 journal_lacked_memory journal.Memory r is runs a = refl
 journal_lacked_memory journal.NotAVolume r is runs a = absurd (let both : open_errors.NotAVolume ≡ open_errors.Memory = sym is ∙ a in cc)

@@ -11,7 +11,8 @@ use Rattle.kernel.specs.declared.opening.OpenError.TheVariants.{Fault, Memory, N
 
 -- the image is not a volume with the label of a news server's volume of its size
 abbrev pub IsNoNewsVolume : Octets → Type 0
-IsNoNewsVolume image = (label : Octets) (blocks : List Octets) (inodes : ℕ) (host : Octets) → StandsFor image label blocks → IsLabel label (length blocks) inodes host → ⊥
+IsNoNewsVolume image = (label : Octets) (blocks : List Octets) (inodes : ℕ) (host : Octets) → StandsFor image label blocks
+    → IsLabel label (length blocks) inodes host → ⊥
 
 -- the image is a labelled volume, and its blocks hold no lawful spool of the label's host in the files of its format
 pub record IsDamagedVolume (image : Octets) : Type 0 where

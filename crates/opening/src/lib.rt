@@ -46,17 +46,27 @@ pub fn open<D: Disk>(alloc: Global, disk: D) -> Result<Opened<D>, Refused<D>>
     ensures idle { IfOk result (λ o. IsReady o.journal) }
     ensures spool { IsTrue (D.device disk).tells → IfOk result (λ o. Stands o.kernel.host (D.device disk).content o.kernel.spool) }
     ensures still { IfOk result (λ o. (D.device o.journal.disk).failures ≡ (D.device disk).failures) }
-    ensures time { MatchResult result (λ o. Elapses (D.device disk) (D.device o.journal.disk)) (λ refused. Elapses (D.device disk) (D.device refused.disk)) }
-    ensures volume { MatchResult result (λ o. LeftKept (D.device disk) (D.device o.journal.disk)) (λ refused. LeftKept (D.device disk) (D.device refused.disk)) }
-    ensures moment { MatchResult result (λ o. SyncsFirst D.device disk o.journal.disk) (λ refused. SyncsFirst D.device disk refused.disk ⊎ NeverSyncs D.device disk refused.disk) }
-    ensures judged { IfErr result (λ refused. (refused.error ≡ OpenError.NotAVolume) ⊎ (refused.error ≡ OpenError.Damaged) → SyncsFirst D.device disk refused.disk) }
-    ensures cost { IsTrue (D.device disk).tells → IfOk result (λ o. CostsToOpen (D.device disk).content (D.device disk) (D.device o.journal.disk)) }
-    ensures fault { IfErr result (λ refused. refused.error ≡ OpenError.Fault → (D.device refused.disk).failures ≢ (D.device disk).failures) }
-    ensures memory { IfErr result (λ refused. refused.error ≡ OpenError.Memory → (D.device refused.disk).failures ≡ (D.device disk).failures) }
-    ensures left { IsTrue (D.device disk).tells → MatchResult result (λ o. LeavesVolume (D.device disk).content (D.device o.journal.disk).content)
+    ensures time { MatchResult result (λ o. Elapses (D.device disk) (D.device o.journal.disk))
+        (λ refused. Elapses (D.device disk) (D.device refused.disk)) }
+    ensures volume { MatchResult result (λ o. LeftKept (D.device disk) (D.device o.journal.disk))
+        (λ refused. LeftKept (D.device disk) (D.device refused.disk)) }
+    ensures moment { MatchResult result (λ o. SyncsFirst D.device disk o.journal.disk)
+        (λ refused. SyncsFirst D.device disk refused.disk ⊎ NeverSyncs D.device disk refused.disk) }
+    ensures judged { IfErr result (λ refused. (refused.error ≡ OpenError.NotAVolume) ⊎ (refused.error ≡ OpenError.Damaged)
+        → SyncsFirst D.device disk refused.disk) }
+    ensures cost { IsTrue (D.device disk).tells
+        → IfOk result (λ o. CostsToOpen (D.device disk).content (D.device disk) (D.device o.journal.disk)) }
+    ensures fault { IfErr result (λ refused. refused.error ≡ OpenError.Fault
+        → (D.device refused.disk).failures ≢ (D.device disk).failures) }
+    ensures memory { IfErr result (λ refused. refused.error ≡ OpenError.Memory
+        → (D.device refused.disk).failures ≡ (D.device disk).failures) }
+    ensures left { IsTrue (D.device disk).tells
+        → MatchResult result (λ o. LeavesVolume (D.device disk).content (D.device o.journal.disk).content)
         (λ refused. refused.error ≡ OpenError.Memory → LeavesVolume (D.device disk).content (D.device refused.disk).content) }
-    ensures no_volume { IfErr result (λ refused. refused.error ≡ OpenError.NotAVolume → IsTrue (D.device disk).tells → IsNoNewsVolume (D.device disk).content) }
-    ensures damaged { IfErr result (λ refused. refused.error ≡ OpenError.Damaged → IsTrue (D.device disk).tells → IsDamagedVolume (D.device disk).content) }
+    ensures no_volume { IfErr result (λ refused. refused.error ≡ OpenError.NotAVolume → IsTrue (D.device disk).tells
+        → IsNoNewsVolume (D.device disk).content) }
+    ensures damaged { IfErr result (λ refused. refused.error ≡ OpenError.Damaged → IsTrue (D.device disk).tells
+        → IsDamagedVolume (D.device disk).content) }
 {
     let mut journal = match Journal::open(alloc, disk) {
         Ok(journal) => journal,

@@ -1,6 +1,7 @@
 -- The outputs of one session that are not yet handed out whole, and what a release hands out of them. All of this is
 -- this project's rule.
-use Rattle.std.specs.Prelude.{◌≡◌, ℕ, ◌-◌, Bool, true, false, not, ◌&&◌, ◌||◌, ◌==◌, nat_lt, if◌then◌else◌, List, [], ◌∷◌, ◌++◌, length, take, drop, map, sum_by}
+use Rattle.std.specs.Prelude.{◌≡◌, ℕ, ◌-◌, Bool, true, false, not, ◌&&◌, ◌||◌, ◌==◌, nat_lt, if◌then◌else◌, List, [], ◌∷◌, ◌++◌, length}
+use Rattle.std.specs.Prelude.{take, drop, map, sum_by}
 use Rattle.std.specs.List.{concat}
 
 -- An output that is not yet handed out whole: the octets still to be handed out, the number of changes that must be
@@ -49,7 +50,13 @@ cut_at count held = record { octets = drop count held.octets; dependency = held.
 
 -- a whole output, and what is given after it
 abbrev pub behind : Held → Giving → Giving
-behind held later = record { room = later.room; octets = held.octets ++ later.octets; ended = held.ends || later.ended; given = later.given; held = later.held }
+behind held later = record {
+  room = later.room;
+  octets = held.octets ++ later.octets;
+  ended = held.ends || later.ended;
+  given = later.given;
+  held = later.held;
+}
 
 -- The first outputs that depend on at most p changes, in order, while there is room. The last may be cut: then the rest
 -- stays first in the queue, and the session's end stays with it.
@@ -57,7 +64,13 @@ abbrev pub give : ℕ → ℕ → ℕ → List Held → Giving
 give p room given [] = nothing_more room given []
 give p room given (held ∷ rest) =
     if nat_lt p held.dependency || room == 0 then nothing_more room given (held ∷ rest)
-    else if nat_lt room (length held.octets) then record { room = 0; octets = take room held.octets; ended = false; given = given; held = cut_at room held ∷ rest }
+    else if nat_lt room (length held.octets) then record {
+      room = 0;
+      octets = take room held.octets;
+      ended = false;
+      given = given;
+      held = cut_at room held ∷ rest;
+    }
     else behind held (give p (room - length held.octets) held.dependency rest)
 
 -- an entry of the buffer that a release fills: a session's number, its octets, and whether it ends after them

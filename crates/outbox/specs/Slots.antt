@@ -17,4 +17,9 @@ pub record LiesWithin (size : ℕ) (slot : Slot) : Type 0 where
 
 -- the slot of a session's octets, if there are some or the session ends
 abbrev pub slots_of : ℕ → ℕ → ℕ → Bool → List Slot
-slots_of number start end ends = if start == end && not ends then [] else record { number = number; start = start; end = end; ends = ends } ∷ []
+slots_of number start end ends = if start == end && not ends then [] else record {
+  number = number;
+  start = start;
+  end = end;
+  ends = ends;
+} ∷ []

@@ -1,5 +1,6 @@
 -- Where a session stands among those that are kept, and what a change of it there leaves.
-use Rattle.std.proofs.Common.{◌≡◌, ℕ, zero, suc, ◌+◌, ◌<◌, ◌≤◌, Bool, true, false, cond, List, [], ◌∷◌, length, get_or, set, drop, refl, sym, ◌∙◌, ap, subst, arith, inl, inr, add-one, drop-cons, get_or-set_same}
+use Rattle.std.proofs.Common.{◌≡◌, ℕ, zero, suc, ◌+◌, ◌<◌, ◌≤◌, Bool, true, false, cond, List, [], ◌∷◌, length, get_or, set, drop, refl}
+use Rattle.std.proofs.Common.{sym, ◌∙◌, ap, subst, arith, inl, inr, add-one, drop-cons, get_or-set_same}
 use Rattle.std.specs.Prelude.{◌==◌, nat_le}
 use Rattle.std.specs.List.{insert, remove}
 use Rattle.std.proofs.lemmas.Bool.{cases_eq, eq-eqb, le-leb, leb-false, leb-true, ne_eqb}
@@ -18,7 +19,8 @@ first n k ks place = by_side (nat_le n k.number) refl place where
 
 later : (n : ℕ) (k : Kept) (ks : List Kept) (at : ℕ) → suc at ≡ place_of n (k ∷ ks) → (nat_le n k.number ≡ false) × (at ≡ place_of n ks)
 later n k ks at place = by_side (nat_le n k.number) refl place where
-  by_side : (b : Bool) → nat_le n k.number ≡ b → suc at ≡ cond b 0 (suc (place_of n ks)) → (nat_le n k.number ≡ false) × (at ≡ place_of n ks)
+  by_side : (b : Bool) → nat_le n k.number ≡ b → suc at ≡ cond b 0 (suc (place_of n ks))
+      → (nat_le n k.number ≡ false) × (at ≡ place_of n ks)
   by_side true is place = absurd (omega arith)
   by_side false is place = (is, omega arith)
 
@@ -29,7 +31,8 @@ lower n m below = ne_eqb m n (λ same. omega (arith, leb-false n m below, same))
 -- ---- the session there
 
 -- changed
-pub changed : (f : Session → Session) (n : ℕ) (ks : List Kept) (at : ℕ) (new : Kept) → at ≡ place_of n ks → at < length ks → (get_or ks at new).number ≡ n
+pub changed : (f : Session → Session) (n : ℕ) (ks : List Kept) (at : ℕ) (new : Kept) → at ≡ place_of n ks → at < length ks
+    → (get_or ks at new).number ≡ n
     → session_in new ≡ f (session_in (get_or ks at new)) → sessions (set ks at new) ≡ with_session f n (sessions ks)
 changed f n [] at new place within is now = absurd (omega arith)
 changed f n (k ∷ ks) zero new place within is now =
@@ -41,7 +44,8 @@ changed f n (k ∷ ks) (suc at) new place within is now =
     rw l.0 (ap (λ ss. session_in k ∷ ss) (changed f n ks at new l.1 (omega arith) is now))
 
 -- put in front of the one that stands there
-pub inserted : (f : Session → Session) (n : ℕ) (ks : List Kept) (at : ℕ) (new : Kept) → at ≡ place_of n ks → (at < length ks → (get_or ks at new).number ≡ n → ⊥)
+pub inserted : (f : Session → Session) (n : ℕ) (ks : List Kept) (at : ℕ) (new : Kept) → at ≡ place_of n ks
+    → (at < length ks → (get_or ks at new).number ≡ n → ⊥)
     → session_in new ≡ f (silent n) → sessions (insert ks at new) ≡ with_session f n (sessions ks)
 inserted f n [] zero new place other now = ap (λ s. s ∷ []) now
 inserted f n [] (suc at) new place other now = absurd (omega arith)
@@ -54,7 +58,8 @@ inserted f n (k ∷ ks) (suc at) new place other now =
     rw l.0 (ap (λ ss. session_in k ∷ ss) (inserted f n ks at new l.1 (λ within is. other (omega arith) is) now))
 
 -- it stays where it was kept
-pub stays : (n : ℕ) (ks : List Kept) (at : ℕ) (d : Kept) → at ≡ place_of n ks → at < length ks → (get_or ks at d).number ≡ n → joined n (sessions ks) ≡ sessions ks
+pub stays : (n : ℕ) (ks : List Kept) (at : ℕ) (d : Kept) → at ≡ place_of n ks → at < length ks → (get_or ks at d).number ≡ n
+    → joined n (sessions ks) ≡ sessions ks
 stays n [] at d place within is = absurd (omega arith)
 stays n (k ∷ ks) zero d place within is =
     let le = le-leb n k.number (omega (arith, is)) in
@@ -65,7 +70,8 @@ stays n (k ∷ ks) (suc at) d place within is =
     rw l.0 (ap (λ ss. session_in k ∷ ss) (stays n ks at d l.1 (omega arith) is))
 
 -- what is found by the number
-pub session_at : (n : ℕ) (ks : List Kept) (at : ℕ) (d : Kept) → at ≡ place_of n ks → at < length ks → (get_or ks at d).number ≡ n → session_of n (sessions ks) ≡ session_in (get_or ks at d)
+pub session_at : (n : ℕ) (ks : List Kept) (at : ℕ) (d : Kept) → at ≡ place_of n ks → at < length ks → (get_or ks at d).number ≡ n
+    → session_of n (sessions ks) ≡ session_in (get_or ks at d)
 session_at n [] at d place within is = absurd (omega arith)
 session_at n (k ∷ ks) zero d place within is = let eq = eq-eqb k.number n is in rw eq refl
 session_at n (k ∷ ks) (suc at) d place within is =
@@ -74,7 +80,8 @@ session_at n (k ∷ ks) (suc at) d place within is =
     rw ne (session_at n ks at d l.1 (omega arith) is)
 
 -- it is the first of those from its place on
-pub session_drop : (n : ℕ) (ks : List Kept) (at : ℕ) (k : Kept) → at < length ks → k ≡ get_or ks at k → session_of n (sessions (drop at ks)) ≡ cond (k.number == n) (session_in k) (session_of n (sessions (drop (at + 1) ks)))
+pub session_drop : (n : ℕ) (ks : List Kept) (at : ℕ) (k : Kept) → at < length ks → k ≡ get_or ks at k
+    → session_of n (sessions (drop at ks)) ≡ cond (k.number == n) (session_in k) (session_of n (sessions (drop (at + 1) ks)))
 session_drop n ks at k within value =
     ap (λ xs. session_of n (sessions xs)) (drop-cons ks at k within ∙ ap (λ (x : Kept). x ∷ drop (suc at) ks) (sym value))
     ∙ ap (λ i. cond (k.number == n) (session_in k) (session_of n (sessions (drop i ks)))) (sym (add-one at))
@@ -87,7 +94,8 @@ none_without n m (k ∷ ks) less rising =
     let ne = ne_eqb k.number n (λ same. omega (arith, same, rising.0)) in
     rw ne (ap (λ rest. k ∷ rest) (none_without n (suc k.number) ks (omega (arith, rising.0)) rising.1))
 
-pub without_at : (n m : ℕ) (ks : List Kept) (at : ℕ) (d : Kept) → RiseFrom m (sessions ks) → at ≡ place_of n ks → at < length ks → (get_or ks at d).number ≡ n → remove ks at ≡ without n ks
+pub without_at : (n m : ℕ) (ks : List Kept) (at : ℕ) (d : Kept) → RiseFrom m (sessions ks) → at ≡ place_of n ks → at < length ks
+    → (get_or ks at d).number ≡ n → remove ks at ≡ without n ks
 without_at n m [] at d rising place within is = absurd (omega arith)
 without_at n m (k ∷ ks) zero d rising place within is =
     let eq = eq-eqb k.number n is in
@@ -97,7 +105,8 @@ without_at n m (k ∷ ks) (suc at) d rising place within is =
     let ne = lower n k.number l.0 in
     rw ne (ap (λ rest. k ∷ rest) (without_at n (suc k.number) ks at d rising.1 l.1 (omega arith) is))
 
-pub without_none : (n m : ℕ) (ks : List Kept) (at : ℕ) (d : Kept) → RiseFrom m (sessions ks) → at ≡ place_of n ks → (at < length ks → (get_or ks at d).number ≡ n → ⊥) → without n ks ≡ ks
+pub without_none : (n m : ℕ) (ks : List Kept) (at : ℕ) (d : Kept) → RiseFrom m (sessions ks) → at ≡ place_of n ks
+    → (at < length ks → (get_or ks at d).number ≡ n → ⊥) → without n ks ≡ ks
 without_none n m [] at d rising place other = refl
 without_none n m (k ∷ ks) zero d rising place other =
     let from = leb-true n k.number (first n k ks place) in
@@ -110,7 +119,8 @@ without_none n m (k ∷ ks) (suc at) d rising place other =
 
 -- ---- its room
 
-pub room_at : (n : ℕ) (ks : List Kept) (at : ℕ) (d : Kept) → at ≡ place_of n ks → at < length ks → (get_or ks at d).number ≡ n → room_of n ks ≡ (get_or ks at d).room
+pub room_at : (n : ℕ) (ks : List Kept) (at : ℕ) (d : Kept) → at ≡ place_of n ks → at < length ks → (get_or ks at d).number ≡ n
+    → room_of n ks ≡ (get_or ks at d).room
 room_at n [] at d place within is = absurd (omega arith)
 room_at n (k ∷ ks) zero d place within is = let eq = eq-eqb k.number n is in rw eq refl
 room_at n (k ∷ ks) (suc at) d place within is =
@@ -124,7 +134,8 @@ above n m (k ∷ ks) less rising =
     let ne = ne_eqb k.number n (λ same. omega (arith, same, rising.0)) in
     rw ne (above n (suc k.number) ks (omega (arith, rising.0)) rising.1)
 
-pub no_room : (n m : ℕ) (ks : List Kept) (at : ℕ) (d : Kept) → RiseFrom m (sessions ks) → at ≡ place_of n ks → (at < length ks → (get_or ks at d).number ≡ n → ⊥) → room_of n ks ≡ 0
+pub no_room : (n m : ℕ) (ks : List Kept) (at : ℕ) (d : Kept) → RiseFrom m (sessions ks) → at ≡ place_of n ks
+    → (at < length ks → (get_or ks at d).number ≡ n → ⊥) → room_of n ks ≡ 0
 no_room n m [] at d rising place other = refl
 no_room n m (k ∷ ks) zero d rising place other =
     let from = leb-true n k.number (first n k ks place) in
@@ -139,7 +150,8 @@ less_later : (b : Bool) (room x y z : ℕ) → x ≤ y + z → cond b room x ≤
 less_later true room x y z le = omega arith
 less_later false room x y z le = le
 
-pub room_set : (n less : ℕ) (ks : List Kept) (at : ℕ) (new : Kept) → at < length ks → (get_or ks at new).number ≡ n → new.number ≡ n → (get_or ks at new).room ≤ new.room + less → HaveRoom n less ks (set ks at new)
+pub room_set : (n less : ℕ) (ks : List Kept) (at : ℕ) (new : Kept) → at < length ks → (get_or ks at new).number ≡ n → new.number ≡ n
+    → (get_or ks at new).room ≤ new.room + less → HaveRoom n less ks (set ks at new)
 room_set n less [] at new within is same le = absurd (omega arith)
 room_set n less (k ∷ ks) zero new within is same le = λ q. elim (cases_eq k.number q) [
   | inl e ↦
@@ -152,9 +164,12 @@ room_set n less (k ∷ ks) zero new within is same le = λ q. elim (cases_eq k.n
       let two = ne_eqb new.number q (λ e. ne (is ∙ sym same ∙ e)) in
       rw (one, two) (omega arith)
 ]
-room_set n less (k ∷ ks) (suc at) new within is same le = λ q. less_later (k.number == q) k.room (room_of q ks) (room_of q (set ks at new)) (cond (q == n) less 0) (room_set n less ks at new (omega arith) is same le q)
+room_set n less (k ∷ ks) (suc at) new within is same le =
+    λ q. less_later (k.number == q) k.room (room_of q ks) (room_of q (set ks at new)) (cond (q == n) less 0)
+    (room_set n less ks at new (omega arith) is same le q)
 
-pub room_insert : (n m : ℕ) (ks : List Kept) (at : ℕ) (new : Kept) → RiseFrom m (sessions ks) → at ≡ place_of n ks → (at < length ks → (get_or ks at new).number ≡ n → ⊥) → new.number ≡ n → HaveRoom n 0 ks (insert ks at new)
+pub room_insert : (n m : ℕ) (ks : List Kept) (at : ℕ) (new : Kept) → RiseFrom m (sessions ks) → at ≡ place_of n ks
+    → (at < length ks → (get_or ks at new).number ≡ n → ⊥) → new.number ≡ n → HaveRoom n 0 ks (insert ks at new)
 room_insert n m [] at new rising place other same = λ q. omega arith
 room_insert n m (k ∷ ks) zero new rising place other same = λ q. elim (cases_eq new.number q) [
   | inl e ↦
@@ -164,14 +179,18 @@ room_insert n m (k ∷ ks) zero new rising place other same = λ q. elim (cases_
       let one = ne_eqb new.number q ne in
       rw one (omega arith)
 ]
-room_insert n m (k ∷ ks) (suc at) new rising place other same = λ q. less_later (k.number == q) k.room (room_of q ks) (room_of q (insert ks at new)) (cond (q == n) 0 0) (room_insert n (suc k.number) ks at new rising.1 (later n k ks at place).1 (λ within is. other (omega arith) is) same q)
+room_insert n m (k ∷ ks) (suc at) new rising place other same =
+    λ q. less_later (k.number == q) k.room (room_of q ks) (room_of q (insert ks at new)) (cond (q == n) 0 0)
+    (room_insert n (suc k.number) ks at new rising.1 (later n k ks at place).1 (λ within is. other (omega arith) is) same q)
 
 -- ---- the place afterwards
 
-pub place_set : (n : ℕ) (ks : List Kept) (at : ℕ) (new : Kept) → at ≡ place_of n ks → at < length ks → new.number ≡ n → at ≡ place_of n (set ks at new)
+pub place_set : (n : ℕ) (ks : List Kept) (at : ℕ) (new : Kept) → at ≡ place_of n ks → at < length ks → new.number ≡ n
+    → at ≡ place_of n (set ks at new)
 place_set n [] at new place within same = absurd (omega arith)
 place_set n (k ∷ ks) zero new place within same = let le = le-leb n new.number (omega (arith, same)) in rw le refl
-place_set n (k ∷ ks) (suc at) new place within same = let l = later n k ks at place in rw l.0 (ap suc (place_set n ks at new l.1 (omega arith) same))
+place_set n (k ∷ ks) (suc at) new place within same = let l = later n k ks at place in
+    rw l.0 (ap suc (place_set n ks at new l.1 (omega arith) same))
 
 pub place_insert : (n : ℕ) (ks : List Kept) (at : ℕ) (new : Kept) → at ≡ place_of n ks → new.number ≡ n → at ≡ place_of n (insert ks at new)
 place_insert n [] zero new place same = let le = le-leb n new.number (omega (arith, same)) in rw le refl
@@ -203,13 +222,15 @@ module _ (n at : ℕ) (ks : List Kept) (k new : Kept) (stands : Stands n at ks) 
   }
 
   pub changed_set : (f : Session → Session) → session_in new ≡ f (session_in k) → sessions (set ks at new) ≡ with_session f n (sessions ks)
-  changed_set f now = changed f n ks at new stands.place stands.within (stands.is new) (now ∙ ap (λ (x : Kept). f (session_in x)) (sym here))
+  changed_set f now = changed f n ks at new stands.place stands.within (stands.is new) (now
+      ∙ ap (λ (x : Kept). f (session_in x)) (sym here))
 
   pub sessions_set : session_in new ≡ session_in k → sessions (set ks at new) ≡ sessions ks
   sessions_set now = changed_set (λ s. s) now ∙ stays n ks at k stands.place stands.within (stands.is k)
 
   pub room_less : (less : ℕ) → new.number ≡ k.number → k.room ≤ new.room + less → HaveRoom n less ks (set ks at new)
-  room_less less same le = room_set n less ks at new stands.within (stands.is new) (same ∙ its_number) (subst (λ (x : Kept). x.room ≤ new.room + less) (sym here) le)
+  room_less less same le = room_set n less ks at new stands.within (stands.is new) (same
+      ∙ its_number) (subst (λ (x : Kept). x.room ≤ new.room + less) (sym here) le)
 
   pub room_here : room_of n ks ≡ k.room
   room_here = room_at n ks at k stands.place stands.within (stands.is k) ∙ ap (λ (x : Kept). x.room) (sym value)
@@ -217,14 +238,16 @@ module _ (n at : ℕ) (ks : List Kept) (k new : Kept) (stands : Stands n at ks) 
   pub room_now : new.number ≡ k.number → room_of n (set ks at new) ≡ new.room
   room_now same =
       let after = stands_set same in
-      room_at n (set ks at new) at new after.place after.within (after.is new) ∙ ap (λ (x : Kept). x.room) (get_or-set_same ks at new new stands.within)
+      room_at n (set ks at new) at new after.place after.within (after.is new)
+      ∙ ap (λ (x : Kept). x.room) (get_or-set_same ks at new new stands.within)
 
   pub session_here : session_of n (sessions ks) ≡ session_in k
   session_here = session_at n ks at k stands.place stands.within (stands.is k) ∙ ap session_in (sym value)
 
 -- ---- a session that is kept from now on
 
-module _ (n at : ℕ) (ks : List Kept) (new : Kept) (rising : RiseFrom 0 (sessions ks)) (place : at ≡ place_of n ks) (other : at < length ks → (d : Kept) → (get_or ks at d).number ≡ n → ⊥) (now : session_in new ≡ silent n) where
+module _ (n at : ℕ) (ks : List Kept) (new : Kept) (rising : RiseFrom 0 (sessions ks)) (place : at ≡ place_of n ks) (other : at < length ks
+    → (d : Kept) → (get_or ks at d).number ≡ n → ⊥) (now : session_in new ≡ silent n) where
   number : new.number ≡ n
   number = ap (λ (s : Session). s.number) now
 
@@ -249,4 +272,5 @@ module _ (n at : ℕ) (ks : List Kept) (new : Kept) (rising : RiseFrom 0 (sessio
 
   pub room_new : room_of n (insert ks at new) ≡ new.room
   room_new =
-      room_at n (insert ks at new) at new stands_insert.place stands_insert.within (stands_insert.is new) ∙ ap (λ (x : Kept). x.room) (get_or-insert_at ks at new new most)
+      room_at n (insert ks at new) at new stands_insert.place stands_insert.within (stands_insert.is new)
+      ∙ ap (λ (x : Kept). x.room) (get_or-insert_at ks at new new most)

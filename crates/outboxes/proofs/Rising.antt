@@ -1,5 +1,6 @@
 -- The sessions stand in rising number, and few of them hold outputs.
-use Rattle.std.proofs.Common.{◌≡◌, ℕ, suc, ◌+◌, ◌<◌, ◌≤◌, Bool, true, false, cond, List, [], ◌∷◌, length, map, refl, sym, ◌∙◌, ap, subst, arith, inl, inr, get_or, take, length-append}
+use Rattle.std.proofs.Common.{◌≡◌, ℕ, suc, ◌+◌, ◌<◌, ◌≤◌, Bool, true, false, cond, List, [], ◌∷◌, length, map, refl, sym, ◌∙◌, ap, subst}
+use Rattle.std.proofs.Common.{arith, inl, inr, get_or, take, length-append}
 use Rattle.std.specs.Prelude.{◌==◌, filter, not}
 use Rattle.std.proofs.lemmas.Bool.{cases_eq, eq-eqb, le-leb, ne_eqb}
 use Rattle.std.proofs.lemmas.Bool.Decides.{leb_tells}
@@ -14,7 +15,8 @@ rise_from m n [] le rising = tt
 rise_from m n (s ∷ ss) le rising = (omega (arith, rising.0), rising.1)
 
 -- a session that changes keeps its place
-pub rise_with : (f : Session → Session) → ((s : Session) → (f s).number ≡ s.number) → (m n : ℕ) (ss : List Session) → RiseFrom m ss → m ≤ n → RiseFrom m (with_session f n ss)
+pub rise_with : (f : Session → Session) → ((s : Session) → (f s).number ≡ s.number) → (m n : ℕ) (ss : List Session) → RiseFrom m ss → m ≤ n
+    → RiseFrom m (with_session f n ss)
 rise_with f keeps m n [] rising le = (omega (arith, keeps (silent n)), tt)
 rise_with f keeps m n (s ∷ ss) rising le = elim (leb_tells n s.number) [
   | inl from ↦
@@ -75,7 +77,8 @@ joined_session n m (s ∷ ss) rising = elim (leb_tells n s.number) [
         let ne = ne_eqb s.number n (λ same. omega (arith, same, rising.0)) in
         rw ne (none_above n (suc s.number) ss (omega (arith, rising.0)) rising.1)
 
-one_more : (b : Bool) (s : Session) (xs ys : List Session) → length xs ≡ length ys → length (cond b (s ∷ xs) xs) ≡ length (cond b (s ∷ ys) ys)
+one_more : (b : Bool) (s : Session) (xs ys : List Session) → length xs ≡ length ys
+    → length (cond b (s ∷ xs) xs) ≡ length (cond b (s ∷ ys) ys)
 one_more true s xs ys same = ap suc same
 one_more false s xs ys same = same
 
@@ -89,7 +92,8 @@ joined_holding n (s ∷ ss) = elim (leb_tells n s.number) [
         | inl same ↦ let eq = eq-eqb s.number n same in rw (here, eq) refl
         | inr other ↦ let ne = ne_eqb s.number n other in rw (here, ne) refl
       ]
-  | inr below ↦ let lower = below.0 in rw lower (one_more (is_holding s) s (filter is_holding (joined n ss)) (filter is_holding ss) (joined_holding n ss))
+  | inr below ↦ let lower = below.0 in
+      rw lower (one_more (is_holding s) s (filter is_holding (joined n ss)) (filter is_holding ss) (joined_holding n ss))
 ]
 
 -- with an output more, one more holds some
@@ -99,10 +103,12 @@ sent_holding output n (s ∷ ss) = elim (leb_tells n s.number) [
   | inl from ↦
       let here = from.0 in
       elim (cases_eq s.number n) [
-        | inl same ↦ let eq = eq-eqb s.number n same in rw (here, eq) (either (is_holding (with_output output s)) (is_holding s) (with_output output s) s (filter is_holding ss))
+        | inl same ↦ let eq = eq-eqb s.number n same in
+            rw (here, eq) (either (is_holding (with_output output s)) (is_holding s) (with_output output s) s (filter is_holding ss))
         | inr other ↦ let ne = ne_eqb s.number n other in rw (here, ne) (omega arith)
       ]
-  | inr below ↦ let lower = below.0 in rw lower (both (is_holding s) s (filter is_holding (sent n output ss)) (filter is_holding ss) (sent_holding output n ss))
+  | inr below ↦ let lower = below.0 in
+      rw lower (both (is_holding s) s (filter is_holding (sent n output ss)) (filter is_holding ss) (sent_holding output n ss))
 ]
   where
     either : (a b : Bool) (x y : Session) (xs : List Session) → length (cond a (x ∷ xs) xs) ≤ length (cond b (y ∷ xs) xs) + 1
@@ -111,12 +117,14 @@ sent_holding output n (s ∷ ss) = elim (leb_tells n s.number) [
     either false true x y xs = omega arith
     either false false x y xs = omega arith
 
-    both : (b : Bool) (x : Session) (xs ys : List Session) → length xs ≤ length ys + 1 → length (cond b (x ∷ xs) xs) ≤ length (cond b (x ∷ ys) ys) + 1
+    both : (b : Bool) (x : Session) (xs ys : List Session) → length xs ≤ length ys + 1
+        → length (cond b (x ∷ xs) xs) ≤ length (cond b (x ∷ ys) ys) + 1
     both true x xs ys le = omega arith
     both false x xs ys le = le
 
 -- one session more
-pub holding_more : (ks : List Kept) (at : ℕ) (d : Kept) → at < length ks → holding (sessions (take (at + 1) ks)) ≡ holding (sessions (take at ks)) + cond (is_holding (session_in (get_or ks at d))) 1 0
+pub holding_more : (ks : List Kept) (at : ℕ) (d : Kept) → at < length ks
+    → holding (sessions (take (at + 1) ks)) ≡ holding (sessions (take at ks)) + cond (is_holding (session_in (get_or ks at d))) 1 0
 holding_more ks at d within =
     ap (λ xs. holding (sessions xs)) (take_more ks at d within)
     ∙ ap holding (map-append session_in (take at ks) (get_or ks at d ∷ []))
@@ -146,7 +154,9 @@ rise_without p m (k ∷ ks) rising = by_test (p k) (rise_without p (suc k.number
 pub holding_without : (p : Kept → Bool) (ks : List Kept) → holding (sessions (filter p ks)) ≤ holding (sessions ks)
 holding_without p [] = omega arith
 holding_without p (k ∷ ks) = by_tests (p k) (is_holding (session_in k)) refl (holding_without p ks) where
-  by_tests : (b h : Bool) → is_holding (session_in k) ≡ h → holding (sessions (filter p ks)) ≤ holding (sessions ks) → holding (sessions (cond b (k ∷ filter p ks) (filter p ks))) ≤ length (cond h (session_in k ∷ filter is_holding (sessions ks)) (filter is_holding (sessions ks)))
+  by_tests : (b h : Bool) → is_holding (session_in k) ≡ h → holding (sessions (filter p ks)) ≤ holding (sessions ks)
+      → holding (sessions (cond b (k ∷ filter p ks) (filter p ks)))
+      ≤ length (cond h (session_in k ∷ filter is_holding (sessions ks)) (filter is_holding (sessions ks)))
   by_tests true true is rest = rw is (omega arith)
   by_tests true false is rest = rw is rest
   by_tests false true is rest = omega arith
@@ -154,5 +164,7 @@ holding_without p (k ∷ ks) = by_tests (p k) (is_holding (session_in k)) refl (
 
 -- ---- together
 
-pub sound_with : (f : Session → Session) → ((s : Session) → (f s).number ≡ s.number) → (n : ℕ) (ks ls : List Kept) → sessions ls ≡ with_session f n (sessions ks) → IsSound ks → holding (sessions ls) ≤ 64 → IsSound ls
-sound_with f keeps n ks ls now sound few = record { rising = subst (RiseFrom 0) (sym now) (rise_with f keeps 0 n (sessions ks) sound.rising (omega arith)); few = few }
+pub sound_with : (f : Session → Session) → ((s : Session) → (f s).number ≡ s.number) → (n : ℕ) (ks ls : List Kept)
+    → sessions ls ≡ with_session f n (sessions ks) → IsSound ks → holding (sessions ls) ≤ 64 → IsSound ls
+sound_with f keeps n ks ls now sound few =
+    record { rising = subst (RiseFrom 0) (sym now) (rise_with f keeps 0 n (sessions ks) sound.rising (omega arith)); few = few }

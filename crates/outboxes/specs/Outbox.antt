@@ -1,5 +1,6 @@
 -- What an outbox keeps of each session.
-use Rattle.std.specs.Prelude.{◌≡◌, ℕ, suc, ◌+◌, ◌<◌, ◌≤◌, not, ◌==◌, nat_le, if◌then◌else◌, List, [], ◌∷◌, filter, length, map, slice_index_or}
+use Rattle.std.specs.Prelude.{◌≡◌, ℕ, suc, ◌+◌, ◌<◌, ◌≤◌, not, ◌==◌, nat_le, if◌then◌else◌, List, [], ◌∷◌, filter, length, map}
+use Rattle.std.specs.Prelude.{slice_index_or}
 use Rattle.outbox.specs.Queue.{Held}
 use Rattle.outboxes.specs.Sessions.{RiseFrom, Session, holding}
 

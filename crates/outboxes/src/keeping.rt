@@ -1,6 +1,7 @@
 //! The outputs of all sessions.
 
-ghost use Rattle.std.specs.Prelude.{◌≡◌, ◌⊎◌, ℕ, true, false, ◌+◌, ◌^◌, ◌<◌, ◌≤◌, [], length, max, slice_index_or, vec_len, IfOk, IfSome, IsNone, MatchOption, OnErr, OnOk};
+ghost use Rattle.std.specs.Prelude.{◌≡◌, ◌⊎◌, ℕ, true, false, ◌+◌, ◌^◌, ◌<◌, ◌≤◌, [], length, max, slice_index_or, vec_len, IfOk, IfSome};
+ghost use Rattle.std.specs.Prelude.{IsNone, MatchOption, OnErr, OnOk};
 ghost use Rattle.outbox.specs.Queue.{Held, buffered, last_dependency};
 ghost use Rattle.outboxes.specs.Sessions.{RiseFrom, holding, joined, release, sent, session_of, silent};
 ghost use Rattle.outboxes.specs.Outbox.{HaveRoom, Kept, Stands, place_of, room_of, session_in, sessions, without};
@@ -64,10 +65,12 @@ impl Outbox {
         ends: bool,
     ) -> Result<(), AllocError>
         requires { holding (sent sid (record { octets = octets.items; dependency = dependency; ends = ends }) (sessions self.old)) ≤ 64 }
-        ensures ok { OnOk result (sessions self.new ≡ sent sid (record { octets = octets.items; dependency = dependency; ends = ends }) (sessions self.old)) }
+        ensures ok { OnOk result (sessions self.new ≡ sent sid (record { octets = octets.items; dependency = dependency; ends = ends })
+            (sessions self.old)) }
         ensures err { OnErr result (sessions self.new ≡ sessions self.old) }
         ensures room { HaveRoom sid 1 self.old self.new }
-        ensures full { OnErr result ((room_of sid self.old ≡ 0) ⊎ (2 ^ 64 ≤ buffered (session_of sid (sessions self.old)).held + vec_len octets)) }
+        ensures full { OnErr result ((room_of sid self.old ≡ 0)
+            ⊎ (2 ^ 64 ≤ buffered (session_of sid (sessions self.old)).held + vec_len octets)) }
     {
         if self.buffered(sid) > u64::MAX - octets.len() as u64 {
             return Err(AllocError);
@@ -130,7 +133,8 @@ impl Outbox {
 /// The session with this number, if it is kept.
 #[tactic(auto, using(crate::proofs::Places::session_drop))]
 fn seat_of(seats: &[Seat], sid: u64) -> Option<&Seat>
-    ensures { MatchOption result (session_of sid (sessions seats.now) ≡ silent sid) (λ seat. session_in seat.now ≡ session_of sid (sessions seats.now)) }
+    ensures { MatchOption result (session_of sid (sessions seats.now) ≡ silent sid)
+        (λ seat. session_in seat.now ≡ session_of sid (sessions seats.now)) }
 {
     for seat in seats {
         if seat.number() == sid {
@@ -253,7 +257,8 @@ fn put(
 ) -> Result<(), AllocError>
     requires rising { RiseFrom 0 (sessions seats.old.items) }
     requires countable { buffered (session_of sid (sessions seats.old.items)).held + vec_len octets < 2 ^ 64 }
-    ensures ok { OnOk result (sessions seats.new.items ≡ sent sid (record { octets = octets.items; dependency = dependency; ends = ends }) (sessions seats.old.items)) }
+    ensures ok { OnOk result (sessions seats.new.items ≡ sent sid (record { octets = octets.items; dependency = dependency; ends = ends })
+        (sessions seats.old.items)) }
     ensures err { OnErr result (sessions seats.new.items ≡ sessions seats.old.items) }
     ensures room { HaveRoom sid 1 seats.old.items seats.new.items }
     ensures full { OnErr result (room_of sid seats.old.items ≡ 0) }
@@ -268,7 +273,8 @@ fn put_at(seats: &mut Vec<Seat>, at: usize, sid: u64, dependency: u64, octets: V
     requires at { Stands sid at seats.old.items }
     requires room { 1 ≤ room_of sid seats.old.items }
     requires countable { buffered (session_of sid (sessions seats.old.items)).held + vec_len octets < 2 ^ 64 }
-    ensures sent { sessions seats.new.items ≡ sent sid (record { octets = octets.items; dependency = dependency; ends = ends }) (sessions seats.old.items) }
+    ensures sent { sessions seats.new.items ≡ sent sid (record { octets = octets.items; dependency = dependency; ends = ends })
+        (sessions seats.old.items) }
     ensures room { HaveRoom sid 1 seats.old.items seats.new.items }
 {
     seats[at].push(octets, dependency, ends);

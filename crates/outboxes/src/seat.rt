@@ -73,7 +73,8 @@ impl Seat {
     pub(crate) fn push(&mut self, octets: Vec<u8>, dependency: u64, ends: bool)
         requires room { 1 ≤ self.old.room }
         requires countable { buffered self.old.held + vec_len octets < 2 ^ 64 }
-        ensures session { session_in self.new ≡ with_output (record { octets = octets.items; dependency = dependency; ends = ends }) (session_in self.old) }
+        ensures session { session_in self.new ≡ with_output (record { octets = octets.items; dependency = dependency; ends = ends })
+            (session_in self.old) }
         ensures room { self.new.room + 1 ≡ self.old.room }
     {
         self.queue.push(octets, dependency, ends);
@@ -83,8 +84,10 @@ impl Seat {
     /// are any.
     pub(crate) fn give(&mut self, durable: u64, into: &mut ReadyBuf)
         requires { 0 < length self.old.held → length into.old < 64 }
-        ensures entries { into.new ≡ into.old ++ entry_of self.old.number (give durable (65_536 - octets_in into.old) self.old.given self.old.held) }
-        ensures session { session_in self.new ≡ after_giving (give durable (65_536 - octets_in into.old) self.old.given self.old.held) (session_in self.old) }
+        ensures entries { into.new ≡ into.old ++ entry_of self.old.number
+            (give durable (65_536 - octets_in into.old) self.old.given self.old.held) }
+        ensures session { session_in self.new ≡ after_giving (give durable (65_536 - octets_in into.old) self.old.given self.old.held)
+            (session_in self.old) }
         ensures room { self.old.room ≤ self.new.room }
     {
         if !self.queue.is_empty() {

@@ -59,7 +59,8 @@ fn push_content(
     header: &Header<'_>,
     name: &[u8],
 ) -> Result<(), AllocError>
-    ensures { OnOk result (line.new.items ≡ line.old.items ++ codes "\t" ++ map (λ octet. if octet == 9 then 32 else octet) (content_in name.now header.now)) }
+    ensures { OnOk result (line.new.items ≡ line.old.items ++ codes "\t" ++ map (λ octet. if octet == 9 then 32 else octet)
+        (content_in name.now header.now)) }
 {
     line.push(TAB)?;
     push_shown(line, &header.content(alloc, name)?)

@@ -1,5 +1,6 @@
 -- Files by their places and names.
-use Rattle.std.proofs.Common.{◌≡◌, append-nil, ℕ, zero, suc, ◌+◌, List, [], ◌∷◌, ◌++◌, length, get_or, map, refl, sym, ◌∙◌, ap, subst, arith}
+use Rattle.std.proofs.Common.{◌≡◌, append-nil, ℕ, zero, suc, ◌+◌, List, [], ◌∷◌, ◌++◌, length, get_or, map, refl, sym, ◌∙◌, ap, subst}
+use Rattle.std.proofs.Common.{arith}
 use Rattle.std.specs.Prelude.{filter_map, Option, Some, None, option_map}
 use Rattle.std.specs.List.{Contains, cons_option}
 use Rattle.std.proofs.lemmas.List.{map_push}
@@ -23,7 +24,8 @@ use Rattle.places.specs.Places.{KeepsNames, name_of, names_of}
 named_file : (o : Option File) (f : File) → o ≡ Some f → option_map (λ (g : File). g.name) o ≡ Some f.name
 named_file o f is = ap (option_map (λ (g : File). g.name)) is
 
-names_from : {X : Type 0} (inodes : List (Option File)) (f : X → File) (places : List ℕ) (xs : List X) → map (λ k. get_or inodes k None) places ≡ map (λ x. Some (f x)) xs → names_of inodes places ≡ map (λ x. Some (f x).name) xs
+names_from : {X : Type 0} (inodes : List (Option File)) (f : X → File) (places : List ℕ) (xs : List X)
+    → map (λ k. get_or inodes k None) places ≡ map (λ x. Some (f x)) xs → names_of inodes places ≡ map (λ x. Some (f x).name) xs
 names_from inodes f [] [] same = refl
 names_from inodes f [] (x ∷ xs) same = absurd (cc)
 names_from inodes f (k ∷ places) [] same = absurd (cc)
@@ -37,8 +39,12 @@ names_from inodes f (k ∷ places) (x ∷ xs) same =
 pub have_names : PlacesHaveNames
 have_names inodes blocks S places are = record {
   changes_are = names_from (table inodes blocks) change_file places.changes (entries S) are.changes_are;
-  numbers_are = names_from (table inodes blocks) (λ (g : NewsGroup). record { name = numbers_name g.name; content = numbers_file S g.name }) places.numbers (groups S) are.numbers_are;
-  overviews_are = names_from (table inodes blocks) (λ (g : NewsGroup). record { name = overview_name g.name; content = overview_file S g.name }) places.overviews (groups S) are.overviews_are;
+  numbers_are = names_from (table inodes blocks) (λ (g : NewsGroup). record { name = numbers_name g.name; content = numbers_file S g.name })
+      places.numbers (groups S) are.numbers_are;
+  overviews_are = names_from (table inodes blocks) (λ (g : NewsGroup). record {
+    name = overview_name g.name;
+    content = overview_file S g.name;
+  }) places.overviews (groups S) are.overviews_are;
 }
 
 -- ---- names have files
@@ -63,15 +69,18 @@ where_is (Some g ∷ inodes) f (suc k, low, is) = let rest = where_is inodes f (
 abbrev AreTheirs : List (Option File) → List File → Type 0
 AreTheirs inodes files = (k : ℕ) (f : File) → Contains files f → name_of inodes k ≡ Some f.name → get_or inodes k None ≡ Some f
 
-theirs : (host : Octets) (inodes : ℕ) (blocks : List Octets) (S : Spool) → Holds host inodes blocks S → AreTheirs (table inodes blocks) (files_of S)
+theirs : (host : Octets) (inodes : ℕ) (blocks : List Octets) (S : Spool) → Holds host inodes blocks S
+    → AreTheirs (table inodes blocks) (files_of S)
 theirs host inodes blocks S held k f has named =
     let here = with_name (get_or (table inodes blocks) k None) f.name named in
-    let in_files : Contains held.files f = Contains-permutation (files_of S) held.files f (IsPermutation-sym held.files (files_of S) held.same) has in
+    let in_files : Contains held.files f =
+    Contains-permutation (files_of S) held.files f (IsPermutation-sym held.files (files_of S) held.same) has in
     let other = where_is (table inodes blocks) f (subst (λ (fs : List File). Contains fs f) held.held.contents in_files) in
     let one : k ≡ other.0 = names_once inodes blocks held.held.rule k other.0 here.file f here.is other.1 here.named in
     ap (λ (j : ℕ). get_or (table inodes blocks) j None) one ∙ other.1
 
-files_from : {X : Type 0} (inodes : List (Option File)) (files : List File) (f : X → File) (places : List ℕ) (xs : List X) → AreTheirs inodes files → ((x : X) → Contains xs x → Contains files (f x))
+files_from : {X : Type 0} (inodes : List (Option File)) (files : List File) (f : X → File) (places : List ℕ) (xs : List X)
+    → AreTheirs inodes files → ((x : X) → Contains xs x → Contains files (f x))
     → names_of inodes places ≡ map (λ x. Some (f x).name) xs → map (λ k. get_or inodes k None) places ≡ map (λ x. Some (f x)) xs
 files_from inodes files f [] [] are have same = refl
 files_from inodes files f [] (x ∷ xs) are have same = absurd (cc)
@@ -91,7 +100,12 @@ record IsMadeBy (S : Spool) (n : ℕ) (R : Spool) (g : NewsGroup) : Type 0 where
   overview : Contains (entry_files S entry) (record { name = overview_name g.name; content = overview_file S g.name })
 
 later : (S : Spool) (n : ℕ) (c : Change) (R : Spool) (g : NewsGroup) → IsMadeBy S (suc n) R g → IsMadeBy S n (c ∷ R) g
-later S n c R g made = record { entry = made.entry; here = (suc made.here.0, omega (arith, made.here.1), made.here.2); numbers = made.numbers; overview = made.overview }
+later S n c R g made = record {
+  entry = made.entry;
+  here = (suc made.here.0, omega (arith, made.here.1), made.here.2);
+  numbers = made.numbers;
+  overview = made.overview;
+}
 
 made_by : (S : Spool) (n : ℕ) (R : Spool) (g : NewsGroup) → Contains (filter_map group_made (entries_from n R)) g → IsMadeBy S n R g
 made_by S n [] g (k, low, is) = absurd (omega arith)
@@ -103,7 +117,8 @@ made_by S n (Group name status description moment ∷ R) g (zero, low, is) =
       numbers = (1, omega arith, ap (λ (q : Octets). record { name = numbers_name q; content = numbers_file S q }) named);
       overview = (2, omega arith, ap (λ (q : Octets). record { name = overview_name q; content = overview_file S q }) named);
     }
-made_by S n (Group name status description moment ∷ R) g (suc k, low, is) = later S n (Group name status description moment) R g (made_by S (suc n) R g (k, omega arith, is))
+made_by S n (Group name status description moment ∷ R) g (suc k, low, is) =
+    later S n (Group name status description moment) R g (made_by S (suc n) R g (k, omega arith, is))
 made_by S n (Article text filed moment ∷ R) g has = later S n (Article text filed moment) R g (made_by S (suc n) R g has)
 made_by S n (Expire group number ∷ R) g has = later S n (Expire group number) R g (made_by S (suc n) R g has)
 
@@ -111,30 +126,42 @@ has_change : (S : Spool) (e : Entry) → Contains (entries S) e → Contains (fi
 unfolding files_of
 has_change S e has = joined_has (entry_files S) (entries S) e (change_file e) has (0, omega arith, refl)
 
-has_numbers : (S : Spool) (g : NewsGroup) → Contains (groups S) g → Contains (files_of S) (record { name = numbers_name g.name; content = numbers_file S g.name })
+has_numbers : (S : Spool) (g : NewsGroup) → Contains (groups S) g
+    → Contains (files_of S) (record { name = numbers_name g.name; content = numbers_file S g.name })
 unfolding files_of entries groups
 has_numbers S g has =
     let made = made_by S 1 S g has in
-    joined_has (entry_files S) (entries_from 1 S) made.entry (record { name = numbers_name g.name; content = numbers_file S g.name }) made.here made.numbers
+    joined_has (entry_files S) (entries_from 1 S) made.entry (record { name = numbers_name g.name; content = numbers_file S g.name })
+    made.here made.numbers
 
-has_overview : (S : Spool) (g : NewsGroup) → Contains (groups S) g → Contains (files_of S) (record { name = overview_name g.name; content = overview_file S g.name })
+has_overview : (S : Spool) (g : NewsGroup) → Contains (groups S) g
+    → Contains (files_of S) (record { name = overview_name g.name; content = overview_file S g.name })
 unfolding files_of entries groups
 has_overview S g has =
     let made = made_by S 1 S g has in
-    joined_has (entry_files S) (entries_from 1 S) made.entry (record { name = overview_name g.name; content = overview_file S g.name }) made.here made.overview
+    joined_has (entry_files S) (entries_from 1 S) made.entry (record { name = overview_name g.name; content = overview_file S g.name })
+    made.here made.overview
 
 pub are_by_name : PlacesAreByName
 are_by_name host inodes blocks S places held named =
     let are = theirs host inodes blocks S held in
     record {
-      changes_are = files_from (table inodes blocks) (files_of S) change_file places.changes (entries S) are (has_change S) named.changes_are;
-      numbers_are = files_from (table inodes blocks) (files_of S) (λ (g : NewsGroup). record { name = numbers_name g.name; content = numbers_file S g.name }) places.numbers (groups S) are (has_numbers S) named.numbers_are;
-      overviews_are = files_from (table inodes blocks) (files_of S) (λ (g : NewsGroup). record { name = overview_name g.name; content = overview_file S g.name }) places.overviews (groups S) are (has_overview S) named.overviews_are;
+      changes_are = files_from (table inodes blocks) (files_of S) change_file places.changes (entries S) are
+          (has_change S) named.changes_are;
+      numbers_are = files_from (table inodes blocks) (files_of S) (λ (g : NewsGroup). record {
+        name = numbers_name g.name;
+        content = numbers_file S g.name;
+      }) places.numbers (groups S) are (has_numbers S) named.numbers_are;
+      overviews_are = files_from (table inodes blocks) (files_of S) (λ (g : NewsGroup). record {
+        name = overview_name g.name;
+        content = overview_file S g.name;
+      }) places.overviews (groups S) are (has_overview S) named.overviews_are;
     }
 
 -- ---- one change more
 
-kept_names : (old new : List (Option File)) (places : List ℕ) (names : List Octets) → KeepsNames old new → names_of old places ≡ map Some names → names_of new places ≡ map Some names
+kept_names : (old new : List (Option File)) (places : List ℕ) (names : List Octets) → KeepsNames old new
+    → names_of old places ≡ map Some names → names_of new places ≡ map Some names
 kept_names old new [] [] keeps same = refl
 kept_names old new [] (q ∷ names) keeps same = absurd (cc)
 kept_names old new (k ∷ places) [] keeps same = absurd (cc)
@@ -146,10 +173,12 @@ kept_names old new (k ∷ places) (q ∷ names) keeps same =
     λ i. head i ∷ tail i
 
 -- with one place more, whose file has this name
-one_more : {X : Type 0} (old new : List (Option File)) (named : X → Octets) (places : List ℕ) (xs : List X) (at : ℕ) (x : X) → KeepsNames old new → names_of old places ≡ map (λ y. Some (named y)) xs → name_of new at ≡ Some (named x)
+one_more : {X : Type 0} (old new : List (Option File)) (named : X → Octets) (places : List ℕ) (xs : List X) (at : ℕ) (x : X)
+    → KeepsNames old new → names_of old places ≡ map (λ y. Some (named y)) xs → name_of new at ≡ Some (named x)
     → names_of new (places ++ at ∷ []) ≡ map (λ y. Some (named y)) (xs ++ x ∷ [])
 one_more old new named places xs at x keeps same here =
-    let kept : names_of new places ≡ map (λ y. Some (named y)) xs = kept_names old new places (map named xs) keeps (same ∙ sym (map_twice Some named xs)) ∙ map_twice Some named xs in
+    let kept : names_of new places ≡ map (λ y. Some (named y)) xs =
+    kept_names old new places (map named xs) keeps (same ∙ sym (map_twice Some named xs)) ∙ map_twice Some named xs in
     let joined = map_push (λ k. name_of new k) places at in
     let other = map_push (λ y. Some (named y)) xs x in
     joined ∙ (λ i. kept i ++ here i ∷ []) ∙ sym other
@@ -158,27 +187,35 @@ pub entries_more : (S : Spool) (c : Change) → entries (S ++ c ∷ []) ≡ entr
 unfolding entries
 entries_more S c = entries_push 1 S c
 
-pub groups_more : (S : Spool) (c : Change) → groups (S ++ c ∷ []) ≡ groups S ++ filter_map group_made (record { serial = length S + 1; change = c } ∷ [])
+pub groups_more : (S : Spool) (c : Change)
+    → groups (S ++ c ∷ []) ≡ groups S ++ filter_map group_made (record { serial = length S + 1; change = c } ∷ [])
 unfolding groups
-groups_more S c = ap (filter_map group_made) (entries_more S c) ∙ filter_map-append group_made (entries S) (record { serial = length S + 1; change = c } ∷ [])
+groups_more S c = ap (filter_map group_made) (entries_more S c)
+    ∙ filter_map-append group_made (entries S) (record { serial = length S + 1; change = c } ∷ [])
 
 no_more : (S : Spool) (c : Change) → group_made (record { serial = length S + 1; change = c }) ≡ None → groups (S ++ c ∷ []) ≡ groups S
-no_more S c none = groups_more S c ∙ ap (λ gs. groups S ++ gs) (empty (record { serial = length S + 1; change = c }) none) ∙ append-nil (groups S)
+no_more S c none = groups_more S c ∙ ap (λ gs. groups S ++ gs) (empty (record { serial = length S + 1; change = c }) none)
+    ∙ append-nil (groups S)
   where
     empty : (e : Entry) → group_made e ≡ None → filter_map group_made (e ∷ []) ≡ []
     empty e is = ap (λ (o : Option NewsGroup). cons_option o []) is
 
-still : {X : Type 0} (old new : List (Option File)) (named : X → Octets) (places : List ℕ) (xs : List X) → KeepsNames old new → names_of old places ≡ map (λ y. Some (named y)) xs → names_of new places ≡ map (λ y. Some (named y)) xs
-still old new named places xs keeps same = kept_names old new places (map named xs) keeps (same ∙ sym (map_twice Some named xs)) ∙ map_twice Some named xs
+still : {X : Type 0} (old new : List (Option File)) (named : X → Octets) (places : List ℕ) (xs : List X) → KeepsNames old new
+    → names_of old places ≡ map (λ y. Some (named y)) xs → names_of new places ≡ map (λ y. Some (named y)) xs
+still old new named places xs keeps same = kept_names old new places (map named xs) keeps (same ∙ sym (map_twice Some named xs))
+    ∙ map_twice Some named xs
 
 pub grow_by_change : PlacesGrowByChange
 grow_by_change old new S c places at none named keeps here =
     let same : groups S ≡ groups (S ++ c ∷ []) = sym (no_more S c none) in
     record {
-      changes_are = one_more old new (λ (e : Entry). (change_file e).name) places.changes (entries S) at (record { serial = length S + 1; change = c }) keeps named.changes_are here
+      changes_are = one_more old new (λ (e : Entry). (change_file e).name) places.changes (entries S) at
+          (record { serial = length S + 1; change = c }) keeps named.changes_are here
           ∙ ap (map (λ (e : Entry). Some (change_file e).name)) (sym (entries_more S c));
-      numbers_are = still old new (λ (g : NewsGroup). numbers_name g.name) places.numbers (groups S) keeps named.numbers_are ∙ ap (map (λ (g : NewsGroup). Some (numbers_name g.name))) same;
-      overviews_are = still old new (λ (g : NewsGroup). overview_name g.name) places.overviews (groups S) keeps named.overviews_are ∙ ap (map (λ (g : NewsGroup). Some (overview_name g.name))) same;
+      numbers_are = still old new (λ (g : NewsGroup). numbers_name g.name) places.numbers (groups S) keeps named.numbers_are
+          ∙ ap (map (λ (g : NewsGroup). Some (numbers_name g.name))) same;
+      overviews_are = still old new (λ (g : NewsGroup). overview_name g.name) places.overviews (groups S) keeps named.overviews_are
+          ∙ ap (map (λ (g : NewsGroup). Some (overview_name g.name))) same;
     }
 
 pub grow_by_group : PlacesGrowByGroup
@@ -186,10 +223,13 @@ grow_by_group old new S name status description moment places at numbers overvie
     let c : Change = Group name status description moment in
     let g : NewsGroup = record { serial = length S + 1; name = name; status = status; description = description; moment = moment } in
     record {
-      changes_are = one_more old new (λ (e : Entry). (change_file e).name) places.changes (entries S) at (record { serial = length S + 1; change = c }) keeps named.changes_are here
+      changes_are = one_more old new (λ (e : Entry). (change_file e).name) places.changes (entries S) at
+          (record { serial = length S + 1; change = c }) keeps named.changes_are here
           ∙ ap (map (λ (e : Entry). Some (change_file e).name)) (sym (entries_more S c));
-      numbers_are = one_more old new (λ (h : NewsGroup). numbers_name h.name) places.numbers (groups S) numbers g keeps named.numbers_are second
+      numbers_are = one_more old new (λ (h : NewsGroup). numbers_name h.name) places.numbers
+          (groups S) numbers g keeps named.numbers_are second
           ∙ ap (map (λ (h : NewsGroup). Some (numbers_name h.name))) (sym (groups_more S c));
-      overviews_are = one_more old new (λ (h : NewsGroup). overview_name h.name) places.overviews (groups S) overview g keeps named.overviews_are third
+      overviews_are = one_more old new (λ (h : NewsGroup). overview_name h.name) places.overviews
+          (groups S) overview g keeps named.overviews_are third
           ∙ ap (map (λ (h : NewsGroup). Some (overview_name h.name))) (sym (groups_more S c));
     }

@@ -12,22 +12,27 @@ use Rattle.places.specs.Places.{AreNamed, KeepsNames, name_of, with_change, with
 
 -- The places of the spool's files are inodes whose files have those names.
 abbrev pub PlacesHaveNames : Type 0
-PlacesHaveNames = (inodes : ℕ) (blocks : List Octets) (S : Spool) (places : FilePlaces) → ArePlaces inodes blocks S places → AreNamed (table inodes blocks) S places
+PlacesHaveNames = (inodes : ℕ) (blocks : List Octets) (S : Spool) (places : FilePlaces) → ArePlaces inodes blocks S places
+    → AreNamed (table inodes blocks) S places
 
 -- If the blocks hold the spool, the files with these names are the spool's, since no name occurs twice.
 abbrev pub PlacesAreByName : Type 0
-PlacesAreByName = (host : Octets) (inodes : ℕ) (blocks : List Octets) (S : Spool) (places : FilePlaces) → Holds host inodes blocks S → AreNamed (table inodes blocks) S places →
+PlacesAreByName = (host : Octets) (inodes : ℕ) (blocks : List Octets) (S : Spool) (places : FilePlaces) → Holds host inodes blocks S
+    → AreNamed (table inodes blocks) S places →
     ArePlaces inodes blocks S places
 
 -- One more change that makes no group adds the place of its file.
 abbrev pub PlacesGrowByChange : Type 0
-PlacesGrowByChange = (old new : List (Option File)) (S : Spool) (c : Change) (places : FilePlaces) (at : ℕ) → group_made (record { serial = length S + 1; change = c }) ≡ None →
+PlacesGrowByChange = (old new : List (Option File)) (S : Spool) (c : Change) (places : FilePlaces) (at : ℕ)
+    → group_made (record { serial = length S + 1; change = c }) ≡ None →
     AreNamed old S places → KeepsNames old new → name_of new at ≡ Some (change_file (record { serial = length S + 1; change = c })).name →
     AreNamed new (S ++ c ∷ []) (with_change at places)
 
 -- One more group adds the places of its three files.
 abbrev pub PlacesGrowByGroup : Type 0
-PlacesGrowByGroup = (old new : List (Option File)) (S : Spool) (name : Octets) (status : ℕ) (description : Octets) (moment : ℕ) (places : FilePlaces) (at numbers overview : ℕ) →
+PlacesGrowByGroup = (old new : List (Option File)) (S : Spool) (name : Octets) (status : ℕ) (description : Octets) (moment : ℕ)
+    (places : FilePlaces) (at numbers overview : ℕ) →
     AreNamed old S places → KeepsNames old new →
-    name_of new at ≡ Some (group_name name) → name_of new numbers ≡ Some (numbers_name name) → name_of new overview ≡ Some (overview_name name) →
+    name_of new at ≡ Some (group_name name) → name_of new numbers ≡ Some (numbers_name name)
+    → name_of new overview ≡ Some (overview_name name) →
     AreNamed new (S ++ Group name status description moment ∷ []) (with_group at numbers overview places)

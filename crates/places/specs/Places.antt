@@ -12,7 +12,11 @@ with_change at p = record p { changes = p.changes ++ at ∷ [] }
 
 -- the three places of a group
 abbrev pub with_group : ℕ → ℕ → ℕ → FilePlaces → FilePlaces
-with_group at numbers overview p = record { changes = p.changes ++ at ∷ []; numbers = p.numbers ++ numbers ∷ []; overviews = p.overviews ++ overview ∷ [] }
+with_group at numbers overview p = record {
+  changes = p.changes ++ at ∷ [];
+  numbers = p.numbers ++ numbers ∷ [];
+  overviews = p.overviews ++ overview ∷ [];
+}
 
 -- the name of the file of an inode
 abbrev pub name_of : List (Option File) → ℕ → Option Octets

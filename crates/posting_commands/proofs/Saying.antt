@@ -4,7 +4,8 @@ use Rattle.std.specs.Prelude.{is_some, Option, Some, None, [], ◌∷◌}
 use Rattle.std.specs.Option.{option_or}
 use Rattle.model.specs.Stream.{Octets}
 use Rattle.model.specs.Answer.{post_outcome}
-use Rattle.model.specs.Article.{Cause, Origin, Posted, as_stored, cause, cause_but_long, first_cause, is_short, WrongOctets, NoEnd, Field, Twice, Missing, Id, Groups, Long}
+use Rattle.model.specs.Article.{Cause, Origin, Posted, as_stored, cause, cause_but_long, first_cause, is_short, WrongOctets, NoEnd, Field}
+use Rattle.model.specs.Article.{Twice, Missing, Id, Groups, Long}
 use Rattle.model.specs.Replies.{not_accepted}
 use Rattle.model.specs.Spool.{Spool}
 use Rattle.model.specs.declared.message.Mark.TheVariants as mark
@@ -14,7 +15,8 @@ use Rattle.posting_commands.specs.Outcomes.{mark_by, post_said, posted_by, then_
 
 -- ---- causes
 
-either : (a : Option Cause) (short : Bool) (c : Option Cause) → option_or a (cond short None (Some Long)) ≡ c → (a ≡ None → cond short None (Some Long) ≡ c)
+either : (a : Option Cause) (short : Bool) (c : Option Cause) → option_or a (cond short None (Some Long)) ≡ c
+    → (a ≡ None → cond short None (Some Long) ≡ c)
 either None short c is none = is
 either (Some d) short c is none = absurd (cc)
 
@@ -32,9 +34,11 @@ is_short_so false is = absurd (cc)
 
 stored_short : (o : Origin) (text : Octets) → cause o text ≡ None → is_short (as_stored o text) ≡ true
 unfolding cause
-stored_short o text is = is_short_so (is_short (as_stored o text)) (either (cause_but_long o text) (is_short (as_stored o text)) None is (but_none o text is))
+stored_short o text is = is_short_so (is_short (as_stored o text))
+    (either (cause_but_long o text) (is_short (as_stored o text)) None is (but_none o text is))
 
-first_is_long : (a b c d e f g : Bool) → first_cause ((a, WrongOctets) ∷ (b, NoEnd) ∷ (c, Field) ∷ (d, Twice) ∷ (e, Missing) ∷ (f, Id) ∷ (g, Groups) ∷ []) ≡ Some Long → ⊥
+first_is_long : (a b c d e f g : Bool)
+    → first_cause ((a, WrongOctets) ∷ (b, NoEnd) ∷ (c, Field) ∷ (d, Twice) ∷ (e, Missing) ∷ (f, Id) ∷ (g, Groups) ∷ []) ≡ Some Long → ⊥
 first_is_long true b c d e f g is = absurd (cc)
 first_is_long false true c d e f g is = absurd (cc)
 first_is_long false false true d e f g is = absurd (cc)
@@ -48,38 +52,48 @@ but_never_long : (o : Origin) (text : Octets) → cause_but_long o text ≡ Some
 unfolding cause_but_long
 but_never_long o text is = first_is_long _ _ _ _ _ _ _ is
 
-long_parts : (a : Option Cause) (short : Bool) → (a ≡ Some Long → ⊥) → option_or a (cond short None (Some Long)) ≡ Some Long → (a ≡ None) × (short ≡ false)
+long_parts : (a : Option Cause) (short : Bool) → (a ≡ Some Long → ⊥) → option_or a (cond short None (Some Long)) ≡ Some Long
+    → (a ≡ None) × (short ≡ false)
 long_parts None true never is = absurd (cc)
 long_parts None false never is = (refl, refl)
 long_parts (Some c) short never is = absurd (never is)
 
-other_parts : (a : Option Cause) (short : Bool) (c : Cause) → (c ≡ Long → ⊥) → option_or a (cond short None (Some Long)) ≡ Some c → is_some a ≡ true
+other_parts : (a : Option Cause) (short : Bool) (c : Cause) → (c ≡ Long → ⊥) → option_or a (cond short None (Some Long)) ≡ Some c
+    → is_some a ≡ true
 other_parts (Some d) short c other is = refl
 other_parts None true c other is = absurd (cc)
 other_parts None false c other is = let one : c ≡ Long = cc in absurd (other one)
 
 -- ---- what is said
 
-pub said_ok : (host : Octets) (S : Spool) (x : Session) (t : ℕ) (text : Octets) → cause (Posted host (length S + 1)) text ≡ None → post_said host S x t text ≡ record { answered = posted_by host S x t text; mark = mark.Served }
+pub said_ok : (host : Octets) (S : Spool) (x : Session) (t : ℕ) (text : Octets) → cause (Posted host (length S + 1)) text ≡ None
+    → post_said host S x t text ≡ record { answered = posted_by host S x t text; mark = mark.Served }
 unfolding post_outcome
 said_ok host S x t text is =
     let none = but_none (Posted host (length S + 1)) text is in
     let short = stored_short (Posted host (length S + 1)) text is in
     rw (none, short) refl
 
-pub said_long : (host : Octets) (S : Spool) (x : Session) (t : ℕ) (text : Octets) → cause (Posted host (length S + 1)) text ≡ Some Long → post_said host S x t text ≡ record { answered = answered (then_line x not_accepted None) 0; mark = mark.Long }
+pub said_long : (host : Octets) (S : Spool) (x : Session) (t : ℕ) (text : Octets) → cause (Posted host (length S + 1)) text ≡ Some Long
+    → post_said host S x t text ≡ record { answered = answered (then_line x not_accepted None) 0; mark = mark.Long }
 unfolding cause
 said_long host S x t text is =
-    let parts = long_parts (cause_but_long (Posted host (length S + 1)) text) (is_short (as_stored (Posted host (length S + 1)) text)) (but_never_long (Posted host (length S + 1)) text) is in
+    let parts = long_parts (cause_but_long (Posted host (length S + 1)) text) (is_short (as_stored (Posted host (length S + 1)) text))
+    (but_never_long (Posted host (length S + 1)) text) is in
     rw (parts.0, parts.1) refl
 
-pub said_bad : (host : Octets) (S : Spool) (x : Session) (t : ℕ) (text : Octets) (c : Cause) → cause (Posted host (length S + 1)) text ≡ Some c → (c ≡ Long → ⊥) → post_said host S x t text ≡ record { answered = answered (then_line x not_accepted None) 0; mark = mark.Served }
+pub said_bad : (host : Octets) (S : Spool) (x : Session) (t : ℕ) (text : Octets) (c : Cause)
+    → cause (Posted host (length S + 1)) text ≡ Some c → (c ≡ Long → ⊥)
+    → post_said host S x t text ≡ record { answered = answered (then_line x not_accepted None) 0; mark = mark.Served }
 unfolding cause post_outcome
 said_bad host S x t text c is other =
-    let some = other_parts (cause_but_long (Posted host (length S + 1)) text) (is_short (as_stored (Posted host (length S + 1)) text)) c other is in
+    let some = other_parts (cause_but_long (Posted host (length S + 1)) text) (is_short (as_stored (Posted host (length S + 1)) text)) c
+    other is in
     rw some refl
 
-pub said_refused : (host : Octets) (S : Spool) (x : Session) (t : ℕ) (text : Octets) (c : Cause) → cause (Posted host (length S + 1)) text ≡ Some c → post_said host S x t text ≡ record { answered = answered (then_line x not_accepted None) 0; mark = mark_by c }
+pub said_refused : (host : Octets) (S : Spool) (x : Session) (t : ℕ) (text : Octets) (c : Cause)
+    → cause (Posted host (length S + 1)) text ≡ Some c
+    → post_said host S x t text ≡ record { answered = answered (then_line x not_accepted None) 0; mark = mark_by c }
 said_refused host S x t text WrongOctets is = said_bad host S x t text WrongOctets is (λ same. absurd (cc))
 said_refused host S x t text NoEnd is = said_bad host S x t text NoEnd is (λ same. absurd (cc))
 said_refused host S x t text Field is = said_bad host S x t text Field is (λ same. absurd (cc))

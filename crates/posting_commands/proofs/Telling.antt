@@ -2,7 +2,8 @@
 use Rattle.std.proofs.Common.{◌≡◌, ℕ, List, [], ◌∷◌, refl, ap, true, false}
 use Rattle.std.specs.Prelude.{Option, Some, None, option_map}
 use Rattle.model.specs.Stream.{Octets}
-use Rattle.model.specs.Answer.{Outcome, accepted, article_answer, group_closed, groups_here, has_other_id, same_id, transfer_outcome, id_here, no_group_here, not_an_article, spool_outcome}
+use Rattle.model.specs.Answer.{Outcome, accepted, article_answer, group_closed, groups_here, has_other_id, same_id, transfer_outcome}
+use Rattle.model.specs.Answer.{id_here, no_group_here, not_an_article, spool_outcome}
 use Rattle.model.specs.Article.{Carried, Cause, cause}
 use Rattle.model.specs.Reads.{outcome_reads}
 use Rattle.model.specs.Spool.{Spool, NewsArticle, last_naming}
@@ -14,7 +15,8 @@ use Rattle.posting_commands.specs.declared.filing.Outcome.TheVariants as outcome
 use Rattle.model.specs.Answer as answers
 use Rattle.model.specs.declared.session.Awaits.TheVariants as awaits
 
-pub told_id : (S : Spool) (o : Option NewsArticle) (here : List Octets) (closed : Option Octets) (n : ℕ) → Some n ≡ option_map (λ a. a.serial) o → outcome.Refused n ≡ told S (spool_outcome o here closed)
+pub told_id : (S : Spool) (o : Option NewsArticle) (here : List Octets) (closed : Option Octets) (n : ℕ)
+    → Some n ≡ option_map (λ a. a.serial) o → outcome.Refused n ≡ told S (spool_outcome o here closed)
 told_id S None here closed n is = absurd (cc)
 told_id S (Some a) here closed n is = let one : n ≡ a.serial = cc in ap outcome.Refused one
 
@@ -22,7 +24,8 @@ pub no_id : (o : Option NewsArticle) → None ≡ option_map (λ (a : NewsArticl
 no_id None is = refl
 no_id (Some a) is = absurd (cc)
 
-pub told_groups : (S : Spool) (here : List Octets) (closed : Option Octets) → outcome_by here (option_map (last_naming S) closed) ≡ told S (spool_outcome None here closed)
+pub told_groups : (S : Spool) (here : List Octets) (closed : Option Octets)
+    → outcome_by here (option_map (last_naming S) closed) ≡ told S (spool_outcome None here closed)
 told_groups S [] closed = refl
 told_groups S (g ∷ here) None = refl
 told_groups S (g ∷ here) (Some name) = refl
@@ -30,32 +33,40 @@ told_groups S (g ∷ here) (Some name) = refl
 -- ---- the answers
 
 pub refused_said : (S : Spool) (x : Session) (welcome refusal stored : Octets) (t n : ℕ) (o : Outcome) → outcome.Refused n ≡ told S o
-    → answered (then_line x refusal None) n ≡ answered (article_answer (answers.awaiting x awaits.Line) welcome refusal stored t o) (outcome_reads S o)
+    → answered (then_line x refusal None) n ≡ answered (article_answer (answers.awaiting x awaits.Line) welcome refusal stored t o)
+    (outcome_reads S o)
 refused_said S x welcome refusal stored t n not_an_article is = let one : n ≡ 0 = cc in ap (answered (then_line x refusal None)) one
 refused_said S x welcome refusal stored t n (id_here a) is = let one : n ≡ a.serial = cc in ap (answered (then_line x refusal None)) one
 refused_said S x welcome refusal stored t n no_group_here is = let one : n ≡ 0 = cc in ap (answered (then_line x refusal None)) one
-refused_said S x welcome refusal stored t n (group_closed g) is = let one : n ≡ last_naming S g = cc in ap (answered (then_line x refusal None)) one
+refused_said S x welcome refusal stored t n (group_closed g) is = let one : n ≡ last_naming S g = cc in
+    ap (answered (then_line x refusal None)) one
 refused_said S x welcome refusal stored t n (accepted here) is = absurd (cc)
 
-pub accepted_said : (S : Spool) (x : Session) (welcome refusal stored : Octets) (t : ℕ) (names : List Octets) (o : Outcome) → outcome.Accepted names ≡ told S o
-    → answered (then_line x welcome (Some (Article stored names t))) (outcome_reads S (accepted names)) ≡ answered (article_answer (answers.awaiting x awaits.Line) welcome refusal stored t o) (outcome_reads S o)
+pub accepted_said : (S : Spool) (x : Session) (welcome refusal stored : Octets) (t : ℕ) (names : List Octets) (o : Outcome)
+    → outcome.Accepted names ≡ told S o
+    → answered (then_line x welcome (Some (Article stored names t))) (outcome_reads S (accepted names))
+    ≡ answered (article_answer (answers.awaiting x awaits.Line) welcome refusal stored t o) (outcome_reads S o)
 accepted_said S x welcome refusal stored t names not_an_article is = absurd (cc)
 accepted_said S x welcome refusal stored t names (id_here a) is = absurd (cc)
 accepted_said S x welcome refusal stored t names no_group_here is = absurd (cc)
 accepted_said S x welcome refusal stored t names (group_closed g) is = absurd (cc)
 accepted_said S x welcome refusal stored t names (accepted here) is =
-    let one : names ≡ here = cc in ap (λ ns. answered (then_line x welcome (Some (Article stored ns t))) (outcome_reads S (accepted ns))) one
+    let one : names ≡ here = cc in ap (λ ns. answered (then_line x welcome (Some (Article stored ns t))) (outcome_reads S (accepted ns)))
+    one
 
 -- ---- what comes of a carried text
 
-pub transfer_bad : (S : Spool) (wanted text : Octets) (c : Cause) → cause Carried text ≡ Some c → transfer_outcome S wanted text ≡ not_an_article
+pub transfer_bad : (S : Spool) (wanted text : Octets) (c : Cause) → cause Carried text ≡ Some c
+    → transfer_outcome S wanted text ≡ not_an_article
 unfolding transfer_outcome
 transfer_bad S wanted text c is = rw is refl
 
-pub transfer_other : (S : Spool) (wanted text : Octets) → cause Carried text ≡ None → has_other_id wanted text ≡ true → transfer_outcome S wanted text ≡ not_an_article
+pub transfer_other : (S : Spool) (wanted text : Octets) → cause Carried text ≡ None → has_other_id wanted text ≡ true
+    → transfer_outcome S wanted text ≡ not_an_article
 unfolding transfer_outcome
 transfer_other S wanted text is other = rw (is, other) refl
 
-pub transfer_filed : (S : Spool) (wanted text : Octets) → cause Carried text ≡ None → has_other_id wanted text ≡ false → transfer_outcome S wanted text ≡ spool_outcome (same_id S text) (groups_here S text) None
+pub transfer_filed : (S : Spool) (wanted text : Octets) → cause Carried text ≡ None → has_other_id wanted text ≡ false
+    → transfer_outcome S wanted text ≡ spool_outcome (same_id S text) (groups_here S text) None
 unfolding transfer_outcome
 transfer_filed S wanted text is own = rw (is, own) refl

@@ -41,13 +41,18 @@ then_line x reply c = record { reply = reply; next = answers.awaiting x awaits.L
 abbrev pub post_said : Octets → Spool → Session → ℕ → Octets → Posted
 post_said host S x t text =
     if answers.is_long_as_stored host S text then record { answered = answered (then_line x not_accepted None) 0; mark = mark.Long }
-    else record { answered = answered (answers.post_answer host S x t text) (outcome_reads S (answers.post_outcome host S text)); mark = mark.Served }
+    else record {
+      answered = answered (answers.post_answer host S x t text) (outcome_reads S (answers.post_outcome host S text));
+      mark = mark.Served;
+    }
 
 -- the answer to a post that is an article
 abbrev pub posted_by : Octets → Spool → Session → ℕ → Octets → Answered
 posted_by host S x t text =
-    let what = answers.spool_outcome (answers.same_id S text) (answers.groups_here S text) (closed_among closed.Refuse S (groups_of text)) in
-    answered (answers.article_answer (answers.awaiting x awaits.Line) received not_accepted (injected host (length S + 1) t text) t what) (outcome_reads S what)
+    let what = answers.spool_outcome (answers.same_id S text) (answers.groups_here S text)
+    (closed_among closed.Refuse S (groups_of text)) in
+    answered (answers.article_answer (answers.awaiting x awaits.Line) received not_accepted (injected host (length S + 1) t text) t what)
+    (outcome_reads S what)
 
 -- the outcome of an article whose existing groups are these, and the last serial that names one that prevents the
 -- filing

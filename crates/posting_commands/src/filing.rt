@@ -92,7 +92,9 @@ pub fn filing<L: LookUps>(
     article: &Article<'_>,
     closed: Closed,
 ) -> Result<Outcome, AllocError>
-    ensures { IfOk result (λ outcome. outcome ≡ told (L.changes spool.now) (spool_outcome (same_id (L.changes spool.now) article.now) (groups_here (L.changes spool.now) article.now) (closed_among closed (L.changes spool.now) (groups_of article.now)))) }
+    ensures { IfOk result (λ outcome. outcome ≡ told (L.changes spool.now)
+        (spool_outcome (same_id (L.changes spool.now) article.now) (groups_here (L.changes spool.now) article.now)
+        (closed_among closed (L.changes spool.now) (groups_of article.now)))) }
 {
     match same_id(spool, article) {
         Some(serial) => Ok(Outcome::Refused(serial)),
@@ -109,7 +111,9 @@ fn by_groups<L: LookUps>(
     closed: Closed,
 ) -> Result<Outcome, AllocError>
     requires { same_id (L.changes spool.now) article.now ≡ None }
-    ensures { IfOk result (λ outcome. outcome ≡ told (L.changes spool.now) (spool_outcome None (groups_here (L.changes spool.now) article.now) (closed_among closed (L.changes spool.now) (groups_of article.now)))) }
+    ensures { IfOk result (λ outcome. outcome ≡ told (L.changes spool.now)
+        (spool_outcome None (groups_here (L.changes spool.now) article.now)
+        (closed_among closed (L.changes spool.now) (groups_of article.now)))) }
 {
     let names = article.groups(alloc)?;
     let in_the_way = last_of_closed(spool, closed, &names);

@@ -44,7 +44,9 @@ pub fn ihave<L: LookUps>(
     session: &Session,
     id: &[u8],
 ) -> Result<Answered, AllocError>
-    ensures { IfOk result (λ said. said ≡ answered (answers.offer_answer (L.host_of spool.now) session.now id.now (by_id (L.changes spool.now) id.now)) (offer_reads (L.host_of spool.now) id.now (by_id (L.changes spool.now) id.now))) }
+    ensures { IfOk result (λ said. said
+        ≡ answered (answers.offer_answer (L.host_of spool.now) session.now id.now (by_id (L.changes spool.now) id.now))
+        (offer_reads (L.host_of spool.now) id.now (by_id (L.changes spool.now) id.now))) }
 {
     if is_of_host(spool.host(), id) {
         return says_line(alloc, session, Reply::NotWanted, 0);

@@ -135,7 +135,8 @@ pub fn ihave_block<L: LookUps>(
     text: &[u8],
     moment: u64,
 ) -> Result<Answered, AllocError>
-    ensures { IfOk result (λ said. said ≡ answered (answers.transfer_answer (L.changes spool.now) session.now moment id.now text.now) (outcome_reads (L.changes spool.now) (answers.transfer_outcome (L.changes spool.now) id.now text.now))) }
+    ensures { IfOk result (λ said. said ≡ answered (answers.transfer_answer (L.changes spool.now) session.now moment id.now text.now)
+        (outcome_reads (L.changes spool.now) (answers.transfer_outcome (L.changes spool.now) id.now text.now))) }
 {
     match Article::read(alloc, text, Origin::Carried) {
         Ok(article) => given(alloc, spool, session, id, &article, moment),
@@ -154,7 +155,8 @@ fn given<L: LookUps>(
     moment: u64,
 ) -> Result<Answered, AllocError>
     requires { cause Carried article.now ≡ None }
-    ensures { IfOk result (λ said. said ≡ answered (answers.transfer_answer (L.changes spool.now) session.now moment id.now article.now) (outcome_reads (L.changes spool.now) (answers.transfer_outcome (L.changes spool.now) id.now article.now))) }
+    ensures { IfOk result (λ said. said ≡ answered (answers.transfer_answer (L.changes spool.now) session.now moment id.now article.now)
+        (outcome_reads (L.changes spool.now) (answers.transfer_outcome (L.changes spool.now) id.now article.now))) }
 {
     if !has_id(article, id) {
         return answer(alloc, session, Reply::Rejected, None, 0);

@@ -1,5 +1,6 @@
 -- The articles of a group that are in a range, by their numbers.
-use Rattle.std.proofs.Common.{◌≡◌, ℕ, zero, suc, ◌+◌, ◌-◌, ◌<◌, ◌≤◌, ◌^◌, List, [], ◌∷◌, ◌++◌, map, refl, sym, ◌∙◌, ap, arith, append_assoc, append-nil, Bool, true, false, cond, length}
+use Rattle.std.proofs.Common.{◌≡◌, ℕ, zero, suc, ◌+◌, ◌-◌, ◌<◌, ◌≤◌, ◌^◌, List, [], ◌∷◌, ◌++◌, map, refl, sym, ◌∙◌, ap, arith, append_assoc}
+use Rattle.std.proofs.Common.{append-nil, Bool, true, false, cond, length}
 use Rattle.std.specs.Prelude.{◌&&◌, codes, decimal, drop, filter, flat_map, max, nat_le, take, Option, Some, None}
 use Rattle.std.specs.List.{enumerate_from}
 use Rattle.std.proofs.lemmas.Bool.{le-leb, lt-leb, leb-true, and_from}
@@ -44,15 +45,18 @@ below_first first last low j less = by_low (nat_le low j) (nat_le first j) refl 
 above_last : (first : ℕ) (last : Option ℕ) (low high j : ℕ) → last_in last high < j → j ≤ high → is_wanted first last low j ≡ false
 above_last first None low high j more within = absurd (omega (arith, more, within))
 above_last first (Some l) low high j more within =
-    and_false (nat_le low j) (nat_le first j && nat_le j l) (and_false (nat_le first j) (nat_le j l) (lt-leb j l (omega (arith, more, within))))
+    and_false (nat_le low j) (nat_le first j && nat_le j l)
+    (and_false (nat_le first j) (nat_le j l) (lt-leb j l (omega (arith, more, within))))
 
 up_to_last : (last : Option ℕ) (high j : ℕ) → j ≤ last_in last high → up_to last j ≡ true
 up_to_last None high j within = refl
 up_to_last (Some l) high j within = le-leb j l (omega (arith, within))
 
-within_range : (first : ℕ) (last : Option ℕ) (low high j : ℕ) → max first low ≤ j → j ≤ last_in last high → is_wanted first last low j ≡ true
+within_range : (first : ℕ) (last : Option ℕ) (low high j : ℕ) → max first low ≤ j → j ≤ last_in last high
+    → is_wanted first last low j ≡ true
 within_range first last low high j from to =
-    and_from (nat_le low j) (nat_le first j && up_to last j) (le-leb low j (omega (arith, from))) (and_from (nat_le first j) (up_to last j) (le-leb first j (omega (arith, from))) (up_to_last last high j to))
+    and_from (nat_le low j) (nat_le first j && up_to last j) (le-leb low j (omega (arith, from)))
+    (and_from (nat_le first j) (up_to last j) (le-leb first j (omega (arith, from))) (up_to_last last high j to))
 
 -- the articles in the group that are in the range
 pub ranged : (first : ℕ) (last : Option ℕ) (low : ℕ) (filed : List NewsArticle) → 1 ≤ low
@@ -76,10 +80,13 @@ ranged first last low filed some =
     start : 1 + (max first low - 1) ≡ max first low
     start = omega (arith, some)
 
-    filter_same : (ps : List (ℕ × NewsArticle)) → filter (λ p. nat_le low p.0 && is_in_range (record { first = first; last = last }) p.0) ps ≡ filter (λ p. is_wanted first last low p.0) ps
+    filter_same : (ps : List (ℕ × NewsArticle))
+        → filter (λ p. nat_le low p.0 && is_in_range (record { first = first; last = last }) p.0) ps
+        ≡ filter (λ p. is_wanted first last low p.0) ps
     filter_same [] = refl
     filter_same (p ∷ ps) =
-        ap (λ b. cond (nat_le low p.0 && b) (p ∷ filter (λ p. nat_le low p.0 && is_in_range (record { first = first; last = last }) p.0) ps) (filter (λ p. nat_le low p.0 && is_in_range (record { first = first; last = last }) p.0) ps)) (in_range first last p.0)
+        ap (λ b. cond (nat_le low p.0 && b) (p ∷ filter (λ p. nat_le low p.0 && is_in_range (record { first = first; last = last }) p.0) ps)
+        (filter (λ p. nat_le low p.0 && is_in_range (record { first = first; last = last }) p.0) ps)) (in_range first last p.0)
         ∙ ap (λ ks. cond (is_wanted first last low p.0) (p ∷ ks) ks) (filter_same ps)
 
 -- ---- what is sent of them
@@ -89,24 +96,35 @@ length_taken n d xs within = omega (arith, length-take n (drop d xs), length-dro
 
 -- overview lines are sent as they are
 pub overviews_plain : (a : ℕ) (xs : List NewsArticle) → a + length xs ≤ 2 ^ 64
-    → flat_map stuffed_line (map line (map (λ (p : ℕ × NewsArticle). overview_line p.0 p.1.text) (enumerate_from a xs))) ≡ flat_map (λ (p : ℕ × NewsArticle). line (overview_line p.0 p.1.text)) (enumerate_from a xs)
+    → flat_map stuffed_line (map line (map (λ (p : ℕ × NewsArticle). overview_line p.0 p.1.text) (enumerate_from a xs)))
+    ≡ flat_map (λ (p : ℕ × NewsArticle). line (overview_line p.0 p.1.text)) (enumerate_from a xs)
 overviews_plain a [] small = refl
 overviews_plain a (x ∷ xs) small =
-    ap (λ os. os ++ flat_map stuffed_line (map line (map (λ (p : ℕ × NewsArticle). overview_line p.0 p.1.text) (enumerate_from (a + 1) xs)))) (overview_plain a x.text (omega (arith, small)))
+    ap (λ os. os ++ flat_map stuffed_line
+    (map line (map (λ (p : ℕ × NewsArticle). overview_line p.0 p.1.text) (enumerate_from (a + 1) xs))))
+    (overview_plain a x.text (omega (arith, small)))
     ∙ ap (λ os. line (overview_line a x.text) ++ os) (overviews_plain (a + 1) xs (omega (arith, small)))
 
 -- how many there are
 taken_size : (first : ℕ) (last : Option ℕ) (low : ℕ) (filed : List NewsArticle) → 1 ≤ low
-    → length (take (last_in last (length filed) + 1 - max first low) (drop (max first low - 1) filed)) ≡ last_in last (length filed) + 1 - max first low
+    → length (take (last_in last (length filed) + 1 - max first low) (drop (max first low - 1) filed))
+    ≡ last_in last (length filed) + 1 - max first low
 taken_size first last low filed some =
-    omega (arith, length-take (last_in last (length filed) + 1 - max first low) (drop (max first low - 1) filed), length-drop (max first low - 1) filed, last_within last (length filed), some)
+    omega (
+      arith,
+      length-take (last_in last (length filed) + 1 - max first low) (drop (max first low - 1) filed),
+      length-drop (max first low - 1) filed,
+      last_within last (length filed),
+      some,
+    )
   where
     last_within : (last : Option ℕ) (high : ℕ) → last_in last high ≤ high
     last_within None high = omega arith
     last_within (Some l) high = omega arith
 
 -- a line for each number
-sent_numbers : (a : ℕ) (xs : List NewsArticle) → flat_map stuffed_line (map line (map (λ (p : ℕ × NewsArticle). decimal p.0) (enumerate_from a xs))) ≡ number_lines a (length xs)
+sent_numbers : (a : ℕ) (xs : List NewsArticle)
+    → flat_map stuffed_line (map line (map (λ (p : ℕ × NewsArticle). decimal p.0) (enumerate_from a xs))) ≡ number_lines a (length xs)
 sent_numbers a [] = refl
 sent_numbers a (x ∷ xs) = ap (λ os. stuffed_line (line (decimal a)) ++ os) (sent_numbers (a + 1) xs)
 
@@ -128,14 +146,16 @@ none_over : (x : Session) (ls : List Octets) → length ls ≡ 0 → overview_or
 none_over x [] none = refl
 none_over x (l ∷ ls) none = absurd (omega (arith, none))
 
-lines_size : (a : ℕ) (xs : List NewsArticle) → length (map (λ (p : ℕ × NewsArticle). overview_line p.0 p.1.text) (enumerate_from a xs)) ≡ length xs
+lines_size : (a : ℕ) (xs : List NewsArticle)
+    → length (map (λ (p : ℕ × NewsArticle). overview_line p.0 p.1.text) (enumerate_from a xs)) ≡ length xs
 lines_size a [] = refl
 lines_size a (x ∷ xs) = ap suc (lines_size (a + 1) xs)
 
 abbrev lines_in : Range → Contents → List Octets
 lines_in r c = map (λ p. overview_line p.0 p.1.text) (filter (λ p. is_in_range r p.0) (numbered_articles c))
 
-size_is : (r : Range) (low high : ℕ) (c : Contents) → low ≡ c.low → high ≡ length c.filed → 1 ≤ low → length (lines_in r c) ≡ count_in r low high
+size_is : (r : Range) (low high : ℕ) (c : Contents) → low ≡ c.low → high ≡ length c.filed → 1 ≤ low
+    → length (lines_in r c) ≡ count_in r low high
 size_is r low high c low_is high_is some =
     let one : 1 ≤ c.low = omega (arith, low_is, some) in
     ap (λ ps. length (map (λ (p : ℕ × NewsArticle). overview_line p.0 p.1.text) ps)) (ranged r.first r.last c.low c.filed one)
@@ -143,11 +163,16 @@ size_is r low high c low_is high_is some =
     ∙ taken_size r.first r.last c.low c.filed one
     ∙ (λ i. count_in r (sym low_is i) (sym high_is i))
 
-pub nothing_over : (x : Session) (r : Range) (low high : ℕ) (c : Contents) → low ≡ c.low → high ≡ length c.filed → 1 ≤ low → count_in r low high ≡ 0 → over_range x r c ≡ says x no_such_number
+pub nothing_over : (x : Session) (r : Range) (low high : ℕ) (c : Contents) → low ≡ c.low → high ≡ length c.filed → 1 ≤ low
+    → count_in r low high ≡ 0 → over_range x r c ≡ says x no_such_number
 nothing_over x r low high c low_is high_is some none = none_over x (lines_in r c) (size_is r low high c low_is high_is some ∙ none)
 
-pub some_over : (x : Session) (r : Range) (low high : ℕ) (c : Contents) → low ≡ c.low → high ≡ length c.filed → 1 ≤ low → length c.filed + 1 < 2 ^ 64 → 0 < count_in r low high
-    → over_range x r c ≡ says x (line overview_follows ++ (flat_map (λ (p : ℕ × NewsArticle). line (overview_line p.0 p.1.text)) (enumerate_from (max r.first c.low) (take (last_in r.last (length c.filed) + 1 - max r.first c.low) (drop (max r.first c.low - 1) c.filed))) ++ dot_line))
+pub some_over : (x : Session) (r : Range) (low high : ℕ) (c : Contents) → low ≡ c.low → high ≡ length c.filed → 1 ≤ low
+    → length c.filed + 1 < 2 ^ 64 → 0 < count_in r low high
+    → over_range x r c ≡ says x (line overview_follows ++
+    (flat_map (λ (p : ℕ × NewsArticle). line (overview_line p.0 p.1.text))
+    (enumerate_from (max r.first c.low)
+    (take (last_in r.last (length c.filed) + 1 - max r.first c.low) (drop (max r.first c.low - 1) c.filed))) ++ dot_line))
 some_over x r low high c low_is high_is some small any =
     let one : 1 ≤ c.low = omega (arith, low_is, some) in
     let taken : List NewsArticle = take (last_in r.last (length c.filed) + 1 - max r.first c.low) (drop (max r.first c.low - 1) c.filed) in
@@ -155,7 +180,8 @@ some_over x r low high c low_is high_is some small any =
     let count : count_in r low high ≡ last_in r.last (length c.filed) + 1 - max r.first c.low = (λ i. count_in r (low_is i) (high_is i)) in
     let bound : max r.first c.low + length taken ≤ 2 ^ 64 = omega (arith, size, count, any, last_small r.last (length c.filed), small) in
     or_none x (lines_in r c) (omega (arith, size_is r low high c low_is high_is some, any))
-    ∙ ap (λ ps. says x (block overview_follows (map (λ (p : ℕ × NewsArticle). overview_line p.0 p.1.text) ps))) (ranged r.first r.last c.low c.filed one)
+    ∙ ap (λ ps. says x (block overview_follows (map (λ (p : ℕ × NewsArticle). overview_line p.0 p.1.text) ps)))
+    (ranged r.first r.last c.low c.filed one)
     ∙ ap (λ os. says x (line overview_follows ++ (os ++ dot_line))) (overviews_plain (max r.first c.low) taken bound)
   where
     last_small : (last : Option ℕ) (high : ℕ) → last_in last high ≤ high
@@ -171,12 +197,16 @@ one_more from (suc count) =
     let place : from + 1 + count ≡ from + suc count = omega arith in
     let shift : suc count + 1 ≡ suc (count + 1) = omega arith in
     ap (number_lines from) shift
-    ∙ ap (λ os. stuffed_line (line (decimal from)) ++ os) (one_more (from + 1) count ∙ ap (λ n. number_lines (from + 1) count ++ stuffed_line (line (decimal n))) place)
-    ∙ sym (append_assoc (stuffed_line (line (decimal from))) (number_lines (from + 1) count) (stuffed_line (line (decimal (from + suc count)))))
+    ∙ ap (λ os. stuffed_line (line (decimal from)) ++ os) (one_more (from + 1) count
+    ∙ ap (λ n. number_lines (from + 1) count ++ stuffed_line (line (decimal n))) place)
+    ∙ sym (append_assoc (stuffed_line (line (decimal from))) (number_lines (from + 1) count)
+    (stuffed_line (line (decimal (from + suc count)))))
 
 -- the answer to LISTGROUP
-pub listed_answer : (x : Session) (r : Range) (g : Octets) (c : Contents) (low high : ℕ) (reply : Octets) (next : Session) → low ≡ c.low → high ≡ length c.filed → 1 ≤ low
-    → reply ≡ counted low high g ++ line (codes " list follows") ++ number_lines (first_in r low) (count_in r low high) ++ dot_line → next ≡ with_group x g low (high + 1 - low)
+pub listed_answer : (x : Session) (r : Range) (g : Octets) (c : Contents) (low high : ℕ) (reply : Octets) (next : Session) → low ≡ c.low
+    → high ≡ length c.filed → 1 ≤ low
+    → reply ≡ counted low high g ++ line (codes " list follows") ++ number_lines (first_in r low) (count_in r low high) ++ dot_line
+    → next ≡ with_group x g low (high + 1 - low)
     → replied reply next ≡ listgroup_answer x r g c
 listed_answer x r g c low high reply next low_is high_is some reply_is next_is =
     let head : Octets = counted low high g in

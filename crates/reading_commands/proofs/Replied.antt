@@ -1,5 +1,6 @@
 -- What is sent of an article.
-use Rattle.std.proofs.Common.{◌≡◌, ℕ, zero, suc, ◌+◌, ◌<◌, ◌^◌, List, [], ◌∷◌, ◌++◌, map, refl, sym, ◌∙◌, ap, arith, append_assoc, append-nil, false, cond, length}
+use Rattle.std.proofs.Common.{◌≡◌, ℕ, zero, suc, ◌+◌, ◌<◌, ◌^◌, List, [], ◌∷◌, ◌++◌, map, refl, sym, ◌∙◌, ap, arith, append_assoc}
+use Rattle.std.proofs.Common.{append-nil, false, cond, length}
 use Rattle.std.specs.Prelude.{◌==◌, codes, decimal}
 use Rattle.std.specs.Int.Digits.{digits_of}
 use Rattle.std.proofs.lemmas.Fmt.{decimal-digits_of, decimal_digit, decimal_nonempty}
@@ -35,19 +36,27 @@ first_of n (d ∷ ds) is some = record { digit = d; rest = map (λ d. 48 + d) ds
 
 number_begins : (n : ℕ) → n < 2 ^ 64 → Begins (decimal n)
 number_begins zero small = record { digit = 0; rest = []; is = decimal_digit 0 (omega arith) }
-number_begins (suc n) small = first_of (suc n) (digits_of 10 (suc n)) (decimal-digits_of (suc n) (omega arith) small) (decimal_nonempty (suc n) small)
+number_begins (suc n) small = first_of (suc n) (digits_of 10 (suc n)) (decimal-digits_of (suc n) (omega arith) small)
+    (decimal_nonempty (suc n) small)
 
-joined_plain : (n s f d m r b l : Octets) → Begins n → stuffed_line (line (n ++ codes "\t" ++ s ++ codes "\t" ++ f ++ codes "\t" ++ d ++ codes "\t" ++ m ++ codes "\t" ++ r ++ codes "\t" ++ b ++ codes "\t" ++ l))
-    ≡ line (n ++ codes "\t" ++ s ++ codes "\t" ++ f ++ codes "\t" ++ d ++ codes "\t" ++ m ++ codes "\t" ++ r ++ codes "\t" ++ b ++ codes "\t" ++ l)
-joined_plain n s f d m r b l begins = rw begins.is (cond-false (48 + begins.digit == 46) _ _ (ne_eqb (48 + begins.digit) 46 (λ same. omega arith)))
+joined_plain : (n s f d m r b l : Octets) → Begins n
+    → stuffed_line (line (n ++ codes "\t" ++ s ++ codes "\t" ++ f ++ codes "\t" ++ d ++ codes "\t" ++ m ++ codes "\t" ++ r ++ codes "\t"
+    ++ b ++ codes "\t" ++ l))
+    ≡ line (n ++ codes "\t" ++ s ++ codes "\t" ++ f ++ codes "\t" ++ d ++ codes "\t" ++ m ++ codes "\t" ++ r ++ codes "\t" ++ b
+    ++ codes "\t" ++ l)
+joined_plain n s f d m r b l begins =
+    rw begins.is (cond-false (48 + begins.digit == 46) _ _ (ne_eqb (48 + begins.digit) 46 (λ same. omega arith)))
 
 pub overview_plain : (n : ℕ) (text : Octets) → n < 2 ^ 64 → stuffed_line (line (overview_line n text)) ≡ line (overview_line n text)
 overview_plain n text small =
-    joined_plain (decimal n) (overview_field (codes "Subject") text) (overview_field (codes "From") text) (overview_field (codes "Date") text) (overview_field (codes "Message-ID") text) (overview_field (codes "References") text) (decimal (length text)) (decimal (length (body_lines text)))
+    joined_plain (decimal n) (overview_field (codes "Subject") text) (overview_field (codes "From") text)
+    (overview_field (codes "Date") text) (overview_field (codes "Message-ID") text) (overview_field (codes "References") text)
+    (decimal (length text)) (decimal (length (body_lines text)))
     (number_begins n small)
 
 -- the overview of one article
-pub overview_block : (status : Octets) (n : ℕ) (text : Octets) → n < 2 ^ 64 → block status (overview_line n text ∷ []) ≡ line status ++ line (overview_line n text) ++ dot_line
+pub overview_block : (status : Octets) (n : ℕ) (text : Octets) → n < 2 ^ 64
+    → block status (overview_line n text ∷ []) ≡ line status ++ line (overview_line n text) ++ dot_line
 overview_block status n text small =
     ap (λ os. line status ++ ((os ++ []) ++ dot_line)) (overview_plain n text small)
     ∙ ap (λ os. line status ++ (os ++ dot_line)) (append-nil (line (overview_line n text)))

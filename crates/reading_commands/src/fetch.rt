@@ -20,7 +20,9 @@ pub fn fetch_current<L: LookUps>(
     session: &Session,
     part: &Part,
 ) -> Result<Answered, AllocError>
-    ensures { IfOk result (λ r. r ≡ answered (answers.in_selected (L.changes spool.now) session.now session.now.group (λ g. answers.fetch_current session.now part.now)) (current_reads (L.changes spool.now) session.now.group session.now.current)) }
+    ensures { IfOk result (λ r. r ≡ answered
+        (answers.in_selected (L.changes spool.now) session.now session.now.group (λ g. answers.fetch_current session.now part.now))
+        (current_reads (L.changes spool.now) session.now.group session.now.current)) }
 {
     match (&session.group, session.current) {
         (Some(group), Some(number)) => {
@@ -40,7 +42,8 @@ fn current_in<L: LookUps>(
     number: u64,
 ) -> Result<Answered, AllocError>
     requires { session.now.current ≡ Some number }
-    ensures { IfOk result (λ r. r ≡ answered (answers.fetch_current session.now part.now (contents (L.changes spool.now) group.now)) (number_reads (L.changes spool.now) group.now number (by_number (L.changes spool.now) group.now number))) }
+    ensures { IfOk result (λ r. r ≡ answered (answers.fetch_current session.now part.now (contents (L.changes spool.now) group.now))
+        (number_reads (L.changes spool.now) group.now number (by_number (L.changes spool.now) group.now number))) }
 {
     let located = locate_number(spool, group, number);
     match located.serial {
@@ -57,7 +60,9 @@ pub fn fetch_number<L: LookUps>(
     part: &Part,
     number: u64,
 ) -> Result<Answered, AllocError>
-    ensures { IfOk result (λ r. r ≡ answered (answers.in_selected (L.changes spool.now) session.now session.now.group (λ g. answers.fetch_number session.now part.now number)) (selected_number_reads (L.changes spool.now) session.now.group number)) }
+    ensures { IfOk result (λ r. r ≡ answered
+        (answers.in_selected (L.changes spool.now) session.now session.now.group (λ g. answers.fetch_number session.now part.now number))
+        (selected_number_reads (L.changes spool.now) session.now.group number)) }
 {
     match &session.group {
         Some(group) => number_in(alloc, spool, session, part, group.as_slice(), number),
@@ -73,7 +78,8 @@ fn number_in<L: LookUps>(
     group: &[u8],
     number: u64,
 ) -> Result<Answered, AllocError>
-    ensures { IfOk result (λ r. r ≡ answered (answers.fetch_number session.now part.now number (contents (L.changes spool.now) group.now)) (number_reads (L.changes spool.now) group.now number (by_number (L.changes spool.now) group.now number))) }
+    ensures { IfOk result (λ r. r ≡ answered (answers.fetch_number session.now part.now number (contents (L.changes spool.now) group.now))
+        (number_reads (L.changes spool.now) group.now number (by_number (L.changes spool.now) group.now number))) }
 {
     let located = locate_number(spool, group, number);
     match located.serial {
@@ -94,7 +100,8 @@ pub fn fetch_id<L: LookUps>(
     part: &Part,
     id: &[u8],
 ) -> Result<Answered, AllocError>
-    ensures { IfOk result (λ r. r ≡ answered (answers.fetch_id session.now part.now (here_by_id (L.changes spool.now) id.now)) (id_reads (L.changes spool.now) (by_id (L.changes spool.now) id.now))) }
+    ensures { IfOk result (λ r. r ≡ answered (answers.fetch_id session.now part.now (here_by_id (L.changes spool.now) id.now))
+        (id_reads (L.changes spool.now) (by_id (L.changes spool.now) id.now))) }
 {
     let located = locate_id(spool, id);
     match located.serial {
@@ -114,7 +121,8 @@ fn shown<L: LookUps>(
     reads: u64,
 ) -> Result<Answered, AllocError>
     requires { article_with (L.changes spool.now) serial ≡ Some (article_of (L.changes spool.now) serial) }
-    ensures { IfOk result (λ r. r ≡ answered (answers.says session.now (answers.part_reply part.now number (article_of (L.changes spool.now) serial))) reads) }
+    ensures { IfOk result (λ r. r ≡ answered
+        (answers.says session.now (answers.part_reply part.now number (article_of (L.changes spool.now) serial))) reads) }
 {
     let mut reply = Vec::new(alloc);
     push_part(spool, part, number, serial, &mut reply)?;

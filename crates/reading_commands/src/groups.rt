@@ -56,7 +56,8 @@ fn selects(
     reply: Vec<u8>,
 ) -> Result<Answered, AllocError>
     requires { 1 ≤ counts.low }
-    ensures { IfOk result (λ r. r ≡ answered (replied reply.items (with_group session.now group.now counts.low (counts.high + 1 - counts.low))) counts.last) }
+    ensures { IfOk result (λ r. r ≡ answered
+        (replied reply.items (with_group session.now group.now counts.low (counts.high + 1 - counts.low))) counts.last) }
 {
     let next = selecting(alloc, session, group, counts.low, count(counts))?;
     Ok(answer(reply, next, counts.last))
@@ -69,7 +70,9 @@ pub fn group<L: LookUps>(
     session: &Session,
     group: &[u8],
 ) -> Result<Answered, AllocError>
-    ensures { IfOk result (λ r. r ≡ answered (answers.if_here session.now (contents_if_here (L.changes spool.now) group.now) (answers.group_answer session.now group.now)) (group_reads (L.changes spool.now) group.now)) }
+    ensures { IfOk result (λ r. r ≡ answered
+        (answers.if_here session.now (contents_if_here (L.changes spool.now) group.now) (answers.group_answer session.now group.now))
+        (group_reads (L.changes spool.now) group.now)) }
 {
     match find_group(spool, group) {
         Some(found) => selected(alloc, spool, session, group, found.counts),
@@ -85,7 +88,8 @@ fn selected<L: LookUps>(
     counts: Counts,
 ) -> Result<Answered, AllocError>
     requires { IsCounts (L.changes spool.now) group.now counts }
-    ensures { IfOk result (λ r. r ≡ answered (answers.group_answer session.now group.now (contents (L.changes spool.now) group.now)) (last_naming (L.changes spool.now) group.now)) }
+    ensures { IfOk result (λ r. r ≡ answered (answers.group_answer session.now group.now (contents (L.changes spool.now) group.now))
+        (last_naming (L.changes spool.now) group.now)) }
 {
     let mut reply = Vec::new(alloc);
     push_counted(&mut reply, counts, group)?;
@@ -101,7 +105,9 @@ pub fn list_group<L: LookUps>(
     group: &[u8],
     range: &Range,
 ) -> Result<Answered, AllocError>
-    ensures { IfOk result (λ r. r ≡ answered (answers.if_here session.now (contents_if_here (L.changes spool.now) group.now) (answers.listgroup_answer session.now range.now group.now)) (group_reads (L.changes spool.now) group.now)) }
+    ensures { IfOk result (λ r. r ≡ answered
+        (answers.if_here session.now (contents_if_here (L.changes spool.now) group.now)
+        (answers.listgroup_answer session.now range.now group.now)) (group_reads (L.changes spool.now) group.now)) }
 {
     match find_group(spool, group) {
         Some(found) => numbered(alloc, spool, session, group, range, found.counts),
@@ -115,7 +121,9 @@ pub fn list_selected<L: LookUps>(
     spool: &L,
     session: &Session,
 ) -> Result<Answered, AllocError>
-    ensures { IfOk result (λ r. r ≡ answered (answers.in_selected (L.changes spool.now) session.now session.now.group (answers.listgroup_answer session.now (numbers_from 1))) (selected_reads (L.changes spool.now) session.now.group)) }
+    ensures { IfOk result (λ r. r ≡ answered
+        (answers.in_selected (L.changes spool.now) session.now session.now.group (answers.listgroup_answer session.now (numbers_from 1)))
+        (selected_reads (L.changes spool.now) session.now.group)) }
 {
     let all = Range {
         first: 1,
@@ -139,7 +147,9 @@ fn numbered<L: LookUps>(
     counts: Counts,
 ) -> Result<Answered, AllocError>
     requires { IsCounts (L.changes spool.now) group.now counts }
-    ensures { IfOk result (λ r. r ≡ answered (answers.listgroup_answer session.now range.now group.now (contents (L.changes spool.now) group.now)) (last_naming (L.changes spool.now) group.now)) }
+    ensures { IfOk result (λ r. r ≡ answered
+        (answers.listgroup_answer session.now range.now group.now (contents (L.changes spool.now) group.now))
+        (last_naming (L.changes spool.now) group.now)) }
 {
     let mut reply = Vec::new(alloc);
     push_counted(&mut reply, counts, group)?;

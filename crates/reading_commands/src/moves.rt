@@ -16,7 +16,9 @@ use std::alloc::{AllocError, Global};
 
 /// NEXT (RFC 3977, section 6.1.4).
 pub fn next<L: LookUps>(alloc: Global, spool: &L, session: &Session) -> Result<Answered, AllocError>
-    ensures { IfOk result (λ r. r ≡ answered (answers.in_selected (L.changes spool.now) session.now session.now.group (λ g. answers.next_answer session.now)) (selected_reads (L.changes spool.now) session.now.group)) }
+    ensures { IfOk result (λ r. r ≡ answered
+        (answers.in_selected (L.changes spool.now) session.now session.now.group (λ g. answers.next_answer session.now))
+        (selected_reads (L.changes spool.now) session.now.group)) }
 {
     match &session.group {
         Some(group) => next_in(alloc, spool, session, group.as_slice()),
@@ -26,7 +28,9 @@ pub fn next<L: LookUps>(alloc: Global, spool: &L, session: &Session) -> Result<A
 
 /// LAST (RFC 3977, section 6.1.3).
 pub fn last<L: LookUps>(alloc: Global, spool: &L, session: &Session) -> Result<Answered, AllocError>
-    ensures { IfOk result (λ r. r ≡ answered (answers.in_selected (L.changes spool.now) session.now session.now.group (λ g. answers.last_answer session.now)) (selected_reads (L.changes spool.now) session.now.group)) }
+    ensures { IfOk result (λ r. r ≡ answered
+        (answers.in_selected (L.changes spool.now) session.now session.now.group (λ g. answers.last_answer session.now))
+        (selected_reads (L.changes spool.now) session.now.group)) }
 {
     match &session.group {
         Some(group) => last_in(alloc, spool, session, group.as_slice()),
@@ -50,7 +54,8 @@ fn next_in<L: LookUps>(
     session: &Session,
     group: &[u8],
 ) -> Result<Answered, AllocError>
-    ensures { IfOk result (λ r. r ≡ answered (answers.next_answer session.now (contents (L.changes spool.now) group.now)) (last_naming (L.changes spool.now) group.now)) }
+    ensures { IfOk result (λ r. r ≡ answered (answers.next_answer session.now (contents (L.changes spool.now) group.now))
+        (last_naming (L.changes spool.now) group.now)) }
 {
     let counts = counts_of(spool, group);
     let Some(number) = current_of(session.current, counts.low) else {
@@ -71,7 +76,8 @@ fn last_in<L: LookUps>(
     session: &Session,
     group: &[u8],
 ) -> Result<Answered, AllocError>
-    ensures { IfOk result (λ r. r ≡ answered (answers.last_answer session.now (contents (L.changes spool.now) group.now)) (last_naming (L.changes spool.now) group.now)) }
+    ensures { IfOk result (λ r. r ≡ answered (answers.last_answer session.now (contents (L.changes spool.now) group.now))
+        (last_naming (L.changes spool.now) group.now)) }
 {
     let counts = counts_of(spool, group);
     let Some(number) = current_of(session.current, counts.low) else {

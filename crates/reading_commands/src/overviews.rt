@@ -21,7 +21,9 @@ pub fn over_current<L: LookUps>(
     spool: &L,
     session: &Session,
 ) -> Result<Answered, AllocError>
-    ensures { IfOk result (λ r. r ≡ answered (answers.in_selected (L.changes spool.now) session.now session.now.group (λ g. answers.over_current session.now)) (selected_reads (L.changes spool.now) session.now.group)) }
+    ensures { IfOk result (λ r. r ≡ answered
+        (answers.in_selected (L.changes spool.now) session.now session.now.group (λ g. answers.over_current session.now))
+        (selected_reads (L.changes spool.now) session.now.group)) }
 {
     match &session.group {
         Some(group) => current_in(alloc, spool, session, group.as_slice()),
@@ -35,7 +37,8 @@ fn current_in<L: LookUps>(
     session: &Session,
     group: &[u8],
 ) -> Result<Answered, AllocError>
-    ensures { IfOk result (λ r. r ≡ answered (answers.over_current session.now (contents (L.changes spool.now) group.now)) (last_naming (L.changes spool.now) group.now)) }
+    ensures { IfOk result (λ r. r ≡ answered (answers.over_current session.now (contents (L.changes spool.now) group.now))
+        (last_naming (L.changes spool.now) group.now)) }
 {
     let counts = counts_of(spool, group);
     let Some(number) = session.current else {
@@ -54,7 +57,9 @@ pub fn over_range<L: LookUps>(
     session: &Session,
     range: &Range,
 ) -> Result<Answered, AllocError>
-    ensures { IfOk result (λ r. r ≡ answered (answers.in_selected (L.changes spool.now) session.now session.now.group (λ g. answers.over_range session.now range.now)) (selected_reads (L.changes spool.now) session.now.group)) }
+    ensures { IfOk result (λ r. r ≡ answered
+        (answers.in_selected (L.changes spool.now) session.now session.now.group (λ g. answers.over_range session.now range.now))
+        (selected_reads (L.changes spool.now) session.now.group)) }
 {
     match &session.group {
         Some(group) => range_in(alloc, spool, session, group.as_slice(), range),
@@ -69,7 +74,8 @@ fn range_in<L: LookUps>(
     group: &[u8],
     range: &Range,
 ) -> Result<Answered, AllocError>
-    ensures { IfOk result (λ r. r ≡ answered (answers.over_range session.now range.now (contents (L.changes spool.now) group.now)) (last_naming (L.changes spool.now) group.now)) }
+    ensures { IfOk result (λ r. r ≡ answered (answers.over_range session.now range.now (contents (L.changes spool.now) group.now))
+        (last_naming (L.changes spool.now) group.now)) }
 {
     let counts = counts_of(spool, group);
     let numbers = numbers_in(range, counts);
@@ -90,7 +96,8 @@ pub fn over_id<L: LookUps>(
     session: &Session,
     id: &[u8],
 ) -> Result<Answered, AllocError>
-    ensures { IfOk result (λ r. r ≡ answered (answers.over_id session.now (here_by_id (L.changes spool.now) id.now)) (id_reads (L.changes spool.now) (by_id (L.changes spool.now) id.now))) }
+    ensures { IfOk result (λ r. r ≡ answered (answers.over_id session.now (here_by_id (L.changes spool.now) id.now))
+        (id_reads (L.changes spool.now) (by_id (L.changes spool.now) id.now))) }
 {
     let located = locate_id(spool, id);
     match located.serial {
@@ -109,7 +116,8 @@ fn one_line<L: LookUps>(
     reads: u64,
 ) -> Result<Answered, AllocError>
     requires { article_with (L.changes spool.now) serial ≡ Some (article_of (L.changes spool.now) serial) }
-    ensures { IfOk result (λ r. r ≡ answered (answers.says session.now (block overview_follows (overview_line number (text_of (L.changes spool.now) serial) ∷ []))) reads) }
+    ensures { IfOk result (λ r. r ≡ answered
+        (answers.says session.now (block overview_follows (overview_line number (text_of (L.changes spool.now) serial) ∷ []))) reads) }
 {
     let mut reply = Vec::new(alloc);
     push_heading(&mut reply, Heading::Overview)?;

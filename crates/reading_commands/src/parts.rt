@@ -32,7 +32,8 @@ pub fn push_found<L: LookUps>(
     reply: &mut Vec<u8>,
 ) -> Result<(), AllocError>
     requires { article_with (L.changes spool.now) serial ≡ Some (article_of (L.changes spool.now) serial) }
-    ensures { OnOk result (reply.new.items ≡ reply.old.items ++ found_line (code_of part.now) number (id (text_of (L.changes spool.now) serial))) }
+    ensures { OnOk result (reply.new.items ≡ reply.old.items ++ found_line (code_of part.now) number
+        (id (text_of (L.changes spool.now) serial))) }
 {
     reply.extend_from_slice(code(part))?;
     reply.extend_from_slice(b" ")?;

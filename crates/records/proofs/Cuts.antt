@@ -14,15 +14,18 @@ size_of size n = length-bytes_low_first 0 size n
 
 -- whatever the number, the rest is the same
 behind : (size n m : ℕ) (front back : Octets) → little_bytes size n ++ front ≡ little_bytes size m ++ back → front ≡ back
-behind size n m front back is = (append_split (little_bytes size n) (little_bytes size m) front back (size_of size n ∙ sym (size_of size m)) is).1
+behind size n m front back is =
+    (append_split (little_bytes size n) (little_bytes size m) front back (size_of size n ∙ sym (size_of size m)) is).1
 
 -- ---- an expiry
 
-pub expiry_behind : (octets numbered behind_number : Octets) (serial number : ℕ) (e : Expiry) → octets ≡ little_bytes 8 serial ++ numbered → numbered ≡ little_bytes 4 number ++ behind_number → octets ≡ expiry_record e
+pub expiry_behind : (octets numbered behind_number : Octets) (serial number : ℕ) (e : Expiry) → octets ≡ little_bytes 8 serial ++ numbered
+    → numbered ≡ little_bytes 4 number ++ behind_number → octets ≡ expiry_record e
     → behind_number ≡ length e.group ∷ e.group
 expiry_behind octets numbered behind_number serial number e first second is =
     let one : numbered ≡ little_bytes 4 e.number ++ length e.group ∷ e.group =
-    behind 8 serial e.serial numbered (little_bytes 4 e.number ++ length e.group ∷ e.group) (sym first ∙ is ∙ append_assoc (little_bytes 8 e.serial) (little_bytes 4 e.number) (length e.group ∷ e.group)) in
+    behind 8 serial e.serial numbered (little_bytes 4 e.number ++ length e.group ∷ e.group) (sym first ∙ is
+    ∙ append_assoc (little_bytes 8 e.serial) (little_bytes 4 e.number) (length e.group ∷ e.group)) in
     behind 4 number e.number behind_number (length e.group ∷ e.group) (sym second ∙ one)
 
 -- ---- names
@@ -31,7 +34,8 @@ abbrev pub named : List Octets → Octets
 named names = flat_map (λ g. length g ∷ g) names
 
 -- fewer names than there are leave one in front
-pub name_left : (xs ys : List Octets) (front back : Octets) → length xs < length ys → named xs ++ front ≡ named ys ++ back → (name : Octets) × ((rest : Octets) × (front ≡ (length name ∷ name) ++ rest))
+pub name_left : (xs ys : List Octets) (front back : Octets) → length xs < length ys → named xs ++ front ≡ named ys ++ back
+    → (name : Octets) × ((rest : Octets) × (front ≡ (length name ∷ name) ++ rest))
 name_left xs [] front back less is = absurd (omega arith)
 name_left [] (y ∷ ys) front back less is = (y, (named ys ++ back, is ∙ append_assoc (length y ∷ y) (named ys) back))
 name_left (x ∷ xs) (y ∷ ys) front back less is =
@@ -45,7 +49,8 @@ name_left (x ∷ xs) (y ∷ ys) front back less is =
 abbrev pub head_of : ℕ → ℕ → ℕ → ℕ → Octets → Octets
 head_of serial moment text count rest = little_bytes 8 serial ++ (little_bytes 8 moment ++ (little_bytes 4 text ++ (count ∷ rest)))
 
-pub article_parts : (a : NewsArticle) → article_record a ≡ head_of a.serial a.moment (length a.text) (length a.groups) (named a.groups ++ a.text)
+pub article_parts : (a : NewsArticle)
+    → article_record a ≡ head_of a.serial a.moment (length a.text) (length a.groups) (named a.groups ++ a.text)
 article_parts a = simp append_assoc
 
 pub record ArticleIs (a : NewsArticle) (text count : ℕ) (rest : Octets) : Type 0 where
@@ -53,7 +58,8 @@ pub record ArticleIs (a : NewsArticle) (text count : ℕ) (rest : Octets) : Type
   pub count_is : count ≡ length a.groups
   pub rest_is : rest ≡ named a.groups ++ a.text
 
-pub article_is : (a : NewsArticle) (octets : Octets) (serial moment text count : ℕ) (rest : Octets) → text < 256 ^ 4 → length a.text < 256 ^ 4 → octets ≡ head_of serial moment text count rest → octets ≡ article_record a → ArticleIs a text count rest
+pub article_is : (a : NewsArticle) (octets : Octets) (serial moment text count : ℕ) (rest : Octets) → text < 256 ^ 4
+    → length a.text < 256 ^ 4 → octets ≡ head_of serial moment text count rest → octets ≡ article_record a → ArticleIs a text count rest
 article_is a octets serial moment text count rest small short cut is =
     let one = behind 8 serial a.serial _ _ (sym cut ∙ is ∙ article_parts a) in
     let two = behind 8 moment a.moment _ _ one in
@@ -62,16 +68,21 @@ article_is a octets serial moment text count rest small short cut is =
     record { text_is = three.0; count_is = cc; rest_is = cc }
 
 -- the text is what stands behind the names
-pub text_is : (a : NewsArticle) (names : List Octets) (rest text : Octets) → length names ≡ length a.groups → rest ≡ named a.groups ++ a.text → rest ≡ named names ++ text → text ≡ a.text
+pub text_is : (a : NewsArticle) (names : List Octets) (rest text : Octets) → length names ≡ length a.groups
+    → rest ≡ named a.groups ++ a.text → rest ≡ named names ++ text → text ≡ a.text
 text_is a names rest text count is cut = (counted_lists names a.groups text a.text count (sym cut ∙ is)).1
 
 -- put together from its parts
-pub article_joined : (serial moment : ℕ) (text : Octets) (groups : List Octets) (s m size names : Octets) (count : ℕ) → s ≡ little_bytes 8 serial → m ≡ little_bytes 8 moment → size ≡ little_bytes 4 (length text) → count ≡ length groups → names ≡ named groups
-    → ((((s ++ m) ++ size) ++ (count ∷ [])) ++ names) ++ text ≡ article_record (record { serial = serial; text = text; groups = groups; moment = moment })
+pub article_joined : (serial moment : ℕ) (text : Octets) (groups : List Octets) (s m size names : Octets) (count : ℕ)
+    → s ≡ little_bytes 8 serial → m ≡ little_bytes 8 moment → size ≡ little_bytes 4 (length text) → count ≡ length groups
+    → names ≡ named groups
+    → ((((s ++ m) ++ size) ++ (count ∷ [])) ++ names) ++ text
+    ≡ article_record (record { serial = serial; text = text; groups = groups; moment = moment })
 article_joined serial moment text groups s m size names count serial_is moment_is size_is count_is names_are =
     ap (λ (o : Octets). o ++ text) (append_assoc ((s ++ m) ++ size) (count ∷ []) names)
     ∙ ap (λ (o : Octets). ((((o ++ m) ++ size) ++ (count ∷ names))) ++ text) serial_is
     ∙ ap (λ (o : Octets). ((((little_bytes 8 serial ++ o) ++ size) ++ (count ∷ names))) ++ text) moment_is
     ∙ ap (λ (o : Octets). ((((little_bytes 8 serial ++ little_bytes 8 moment) ++ o) ++ (count ∷ names))) ++ text) size_is
     ∙ ap (λ (n : ℕ). ((((little_bytes 8 serial ++ little_bytes 8 moment) ++ little_bytes 4 (length text)) ++ (n ∷ names))) ++ text) count_is
-    ∙ ap (λ (o : Octets). ((((little_bytes 8 serial ++ little_bytes 8 moment) ++ little_bytes 4 (length text)) ++ (length groups ∷ o))) ++ text) names_are
+    ∙ ap (λ (o : Octets). ((((little_bytes 8 serial ++ little_bytes 8 moment) ++ little_bytes 4 (length text)) ++ (length groups ∷ o)))
+    ++ text) names_are

@@ -10,11 +10,13 @@ pub digits_head : (count n : ℕ) → last_digits (suc count) n ≡ (48 + n / 10
 digits_head zero n = ap (λ (q : ℕ). (48 + q % 10) ∷ []) (sym (div-one n))
 digits_head (suc count) n =
     ap (λ (xs : Octets). xs ++ (48 + n % 10) ∷ []) (digits_head count (n / 10))
-    ∙ ap (λ (q : ℕ). (48 + q % 10) ∷ last_digits (suc count) n) (div-div-eq-div-mul n 10 (10 ^ count) ∙ ap (λ (p : ℕ). n / p) (sym (pow-succ' 10 count)))
+    ∙ ap (λ (q : ℕ). (48 + q % 10) ∷ last_digits (suc count) n) (div-div-eq-div-mul n 10 (10 ^ count)
+    ∙ ap (λ (p : ℕ). n / p) (sym (pow-succ' 10 count)))
 
 -- ---- written from the last one on
 
-pub next_written : (digits : Octets) (i n rest : ℕ) → length digits ≡ 10 → i < 10 → rest ≡ n / 10 ^ i → drop (10 - i) digits ≡ last_digits i n →
+pub next_written : (digits : Octets) (i n rest : ℕ) → length digits ≡ 10 → i < 10 → rest ≡ n / 10 ^ i
+    → drop (10 - i) digits ≡ last_digits i n →
     drop (10 - (i + 1)) (set digits (9 - i) (48 + rest % 10)) ≡ last_digits (i + 1) n
 next_written digits i n rest size low left is =
     let at : 10 - (i + 1) ≡ 9 - i = omega arith in

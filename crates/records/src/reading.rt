@@ -41,7 +41,13 @@ pub struct ExpiryRecord<'a> {
 pub fn read_group(octets: &[u8]) -> Option<GroupRecord<'_>>
     ensures { MatchOption result
         ((g : NewsGroup) → octets.now ≡ group_record g → ⊥)
-        (λ r. (name : List ℕ) → octets.now ≡ group_record (record { serial = r.serial; name = name; status = r.status; description = r.description.now; moment = r.moment })) }
+        (λ r. (name : List ℕ) → octets.now ≡ group_record (record {
+          serial = r.serial;
+          name = name;
+          status = r.status;
+          description = r.description.now;
+          moment = r.moment;
+        })) }
 {
     let (serial, rest) = cut64(octets)?;
     let (moment, rest) = cut64(rest)?;
@@ -80,7 +86,12 @@ pub fn read_expiry(octets: &[u8]) -> Option<ExpiryRecord<'_>>
 pub fn read_article(alloc: Global, octets: &[u8]) -> Result<Option<ArticleRecord<'_>>, AllocError>
     ensures { IfOk result (λ answer. MatchOption answer
         ((a : NewsArticle) → length a.text < 256 ^ 4 → octets.now ≡ article_record a → ⊥)
-        (λ r. octets.now ≡ article_record (record { serial = r.serial; text = r.text.now; groups = map (λ g. g.now) r.groups.items; moment = r.moment }))) }
+        (λ r. octets.now ≡ article_record (record {
+          serial = r.serial;
+          text = r.text.now;
+          groups = map (λ g. g.now) r.groups.items;
+          moment = r.moment;
+        }))) }
 {
     let Some((head, rest)) = article_head(octets) else {
         return Ok(None);
@@ -114,7 +125,8 @@ struct ArticleHead {
 fn article_head(octets: &[u8]) -> Option<(ArticleHead, &[u8])>
     ensures { MatchOption result
         (length octets.now < 21)
-        (λ p. (p.0.text < 2 ^ 32) × (octets.now ≡ little_bytes 8 p.0.serial ++ (little_bytes 8 p.0.moment ++ (little_bytes 4 p.0.text ++ (p.0.groups ∷ p.1.now))))) }
+        (λ p. (p.0.text < 2 ^ 32) × (octets.now ≡ little_bytes 8 p.0.serial ++
+        (little_bytes 8 p.0.moment ++ (little_bytes 4 p.0.text ++ (p.0.groups ∷ p.1.now))))) }
 {
     let (serial, rest) = cut64(octets)?;
     let (moment, rest) = cut64(rest)?;

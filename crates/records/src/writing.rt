@@ -15,7 +15,14 @@ pub fn group_record(
     status: u8,
     description: &[u8],
 ) -> Result<Vec<u8>, AllocError>
-    ensures { IfOk result (λ octets. (name : List ℕ) → octets.items ≡ model_records.group_record (record { serial = serial; name = name; status = status; description = description.now; moment = moment })) }
+    ensures { IfOk result (λ octets. (name : List ℕ)
+        → octets.items ≡ model_records.group_record (record {
+          serial = serial;
+          name = name;
+          status = status;
+          description = description.now;
+          moment = moment;
+        })) }
 {
     let mut octets = Vec::from_slice(alloc, &serial.to_le_bytes())?;
     octets.extend_from_slice(&moment.to_le_bytes())?;
@@ -36,7 +43,8 @@ pub fn article_record(
     requires text { length text.now < 2 ^ 32 }
     requires count { length groups.now < 256 }
     requires names { All (λ g. length g.now < 256) groups.now }
-    ensures { IfOk result (λ octets. octets.items ≡ model_records.article_record (record { serial = serial; text = text.now; groups = map (λ g. g.now) groups.now; moment = moment })) }
+    ensures { IfOk result (λ octets. octets.items ≡ model_records.article_record
+        (record { serial = serial; text = text.now; groups = map (λ g. g.now) groups.now; moment = moment })) }
 {
     let mut octets = Vec::from_slice(alloc, &serial.to_le_bytes())?;
     octets.extend_from_slice(&moment.to_le_bytes())?;
@@ -67,7 +75,8 @@ pub fn expiry_record(
     number: u32,
 ) -> Result<Vec<u8>, AllocError>
     requires { length group.now < 256 }
-    ensures { IfOk result (λ octets. octets.items ≡ model_records.expiry_record (record { serial = serial; group = group.now; number = number })) }
+    ensures { IfOk result (λ octets. octets.items ≡ model_records.expiry_record
+        (record { serial = serial; group = group.now; number = number })) }
 {
     let mut octets = Vec::from_slice(alloc, &serial.to_le_bytes())?;
     octets.extend_from_slice(&number.to_le_bytes())?;

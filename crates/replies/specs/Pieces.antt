@@ -10,5 +10,6 @@ PiecesMakeTheText = (text : Octets) → stuffed_from (record { fresh = true; aft
 
 -- A text may be cut anywhere.
 pub record PiecesFollow : Type 0 where
-  pub sent : (s : Stuffing) (piece later : Octets) → stuffed_from s (piece ++ later) ≡ stuffed_from s piece ++ stuffed_from (after s piece) later
+  pub sent : (s : Stuffing) (piece later : Octets)
+      → stuffed_from s (piece ++ later) ≡ stuffed_from s piece ++ stuffed_from (after s piece) later
   pub state : (s : Stuffing) (piece later : Octets) → after s (piece ++ later) ≡ after (after s piece) later

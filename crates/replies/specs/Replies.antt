@@ -3,7 +3,10 @@ use Rattle.std.specs.Prelude.{[], ◌∷◌, map}
 use Rattle.model.specs.Stream.{Octets}
 use Rattle.model.specs.Answer.{capability_lines, overview_format, spaced}
 use Rattle.model.specs.Commands.{keywords}
-use Rattle.model.specs.Replies.{block, bye, transferred, received, send_transferred, send_posted, service_ends, no_such_group, no_group_selected, no_current_article, no_next_article, no_previous_article, no_such_number, no_such_article, not_wanted, try_later, rejected, not_accepted, unknown_command, syntax_error, help_follows, capabilities_follow, information_follows, overview_follows, articles_follow, groups_follow}
+use Rattle.model.specs.Replies.{block, bye, transferred, received, send_transferred, send_posted, service_ends, no_such_group}
+use Rattle.model.specs.Replies.{no_group_selected, no_current_article, no_next_article, no_previous_article, no_such_number}
+use Rattle.model.specs.Replies.{no_such_article, not_wanted, try_later, rejected, not_accepted, unknown_command, syntax_error, help_follows}
+use Rattle.model.specs.Replies.{capabilities_follow, information_follows, overview_follows, articles_follow, groups_follow}
 use Rattle.replies.specs.declared.texts.Block.{Block}
 use Rattle.replies.specs.declared.texts.Block.TheVariants as blocks
 use Rattle.replies.specs.declared.texts.Reply.{Reply}

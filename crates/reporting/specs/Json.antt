@@ -25,7 +25,8 @@ share_data s =
 
 -- the octets of an overview, and those up to which its group takes articles
 abbrev pub overview_data : ℕ → Data
-overview_data size = object (member (codes "room") (natural (largest_file - octets_asked)) (member (codes "used") (natural size) no_members))
+overview_data size = object (member (codes "room") (natural (largest_file - octets_asked))
+    (member (codes "used") (natural size) no_members))
 
 abbrev pub group_data : GroupStatus → Data
 group_data g =

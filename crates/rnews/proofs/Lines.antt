@@ -1,5 +1,6 @@
 -- Line ends of texts of lines.
-use Rattle.std.proofs.Common.{◌≡◌, ℕ, suc, ◌+◌, ◌<◌, ◌≤◌, List, [], ◌∷◌, ◌++◌, refl, sym, ◌∙◌, ap, arith, Bool, true, false, cond, add-one, drop-cons}
+use Rattle.std.proofs.Common.{◌≡◌, ℕ, suc, ◌+◌, ◌<◌, ◌≤◌, List, [], ◌∷◌, ◌++◌, refl, sym, ◌∙◌, ap, arith, Bool, true, false, cond, add-one}
+use Rattle.std.proofs.Common.{drop-cons}
 use Rattle.std.specs.Prelude.{not, ◌==◌, ◌&&◌, flat_map, All, length, drop, get_or}
 use Rattle.std.specs.List.{list_all}
 use Rattle.std.proofs.lemmas.Bool.{and_parts, and_left, not-true, not_from_false, cond-false, cond-true}

@@ -1,5 +1,6 @@
 -- A batch of articles: what it is, and what is read of its octets.
-use Rattle.std.specs.Prelude.{◌≡◌, ℕ, ◌+◌, ◌-◌, ◌≤◌, ◌==◌, nat_eq, nat_le, nat_lt, if◌then◌else◌, List, [], ◌∷◌, ◌++◌, length, take, drop, flat_map, codes, decimal, Option, Some, None, Result, Ok, Err}
+use Rattle.std.specs.Prelude.{◌≡◌, ℕ, ◌+◌, ◌-◌, ◌≤◌, ◌==◌, nat_eq, nat_le, nat_lt, if◌then◌else◌, List, [], ◌∷◌, ◌++◌, length, take, drop}
+use Rattle.std.specs.Prelude.{flat_map, codes, decimal, Option, Some, None, Result, Ok, Err}
 use Rattle.std.specs.List.{position_or_len, starts_with}
 use Rattle.model.specs.Stream.{Octets, block_limit}
 use Rattle.model.specs.Names.{number_of}

@@ -92,7 +92,8 @@ impl Reader {
     /// longest text are held. A refusal changes nothing.
     pub fn next(&mut self) -> Result<Option<Vec<u8>>, ReadError>
         ensures text { IfOk result (λ found. IfSome found (λ text. next self.old.rest ≡ Ok (Some (text.items, self.new.rest)))) }
-        ensures place { IfOk result (λ found. OnSome found (self.new.place ≡ counted self.old.place (length self.old.rest - length self.new.rest))) }
+        ensures place { IfOk result (λ found. OnSome found
+            (self.new.place ≡ counted self.old.place (length self.old.rest - length self.new.rest))) }
         ensures wanted { IfOk result (λ found. IfNone found (next self.old.rest ≡ Ok None)) }
         ensures bound { IfOk result (λ found. IfNone found (length self.old.rest ≤ 262_170)) }
         ensures same { IfOk result (λ found. IfNone found (self.new ≡ self.old)) }

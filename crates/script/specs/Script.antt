@@ -1,5 +1,6 @@
 -- What each line of a script means (this project's rule).
-use Rattle.std.specs.Prelude.{◌≡◌, ℕ, ◌<◌, Bool, ◌||◌, ◌&&◌, ◌==◌, ◌⊎◌, nat_le, if◌then◌else◌, [], ◌∷◌, ◌++◌, length, IsTrue, Option, Some, None, option_map, option_and_then, bytes_eq, codes}
+use Rattle.std.specs.Prelude.{◌≡◌, ℕ, ◌<◌, Bool, ◌||◌, ◌&&◌, ◌==◌, ◌⊎◌, nat_le, if◌then◌else◌, [], ◌∷◌, ◌++◌, length, IsTrue, Option, Some}
+use Rattle.std.specs.Prelude.{None, option_map, option_and_then, bytes_eq, codes}
 use Rattle.std.specs.List.{list_all}
 use Rattle.model.specs.Stream.{Octets}
 use Rattle.model.specs.Names.{is_group_name}
@@ -11,7 +12,8 @@ use Rattle.memdisk.specs.declared.Pick.{Pick}
 use Rattle.memdisk.specs.declared.Pick.TheVariants.{Old, New, Fill}
 use Rattle.script.specs.Words.{expiry_number_of, hex_octet, hex_octets, moment_of, number_of, split_word}
 use Rattle.script.specs.declared.lines.Line.{Line}
-use Rattle.script.specs.declared.lines.Line.TheVariants.{Group, Expire, Join, Leave, Arrive, Exec, Take, Dev, Told, Release, Commit, Settle, FailAt, FailKind, Crash, Spool}
+use Rattle.script.specs.declared.lines.Line.TheVariants.{Group, Expire, Join, Leave, Arrive, Exec, Take, Dev, Told, Release, Commit, Settle}
+use Rattle.script.specs.declared.lines.Line.TheVariants.{FailAt, FailKind, Crash, Spool}
 
 -- what a line asks for, with its texts as lists: a group is made, articles are removed from one, octets arrive for a
 -- session, anything else
@@ -46,7 +48,8 @@ is_description text = nat_le (length text) 200 && list_all is_description_octet 
 -- the words of a line are in the ranges of the event that it asks for
 abbrev pub IsLawful : Line → Type 0
 IsLawful (Group name status moment description) =
-    IsTrue (is_group_name name.items) × ((status ≡ 121) ⊎ (status ≡ 110)) × IsTrue (is_description description.items) × (moment < moment_limit)
+    IsTrue (is_group_name name.items) × ((status ≡ 121) ⊎ (status ≡ 110)) × IsTrue (is_description description.items)
+    × (moment < moment_limit)
 IsLawful (Expire name number) = IsTrue (is_group_name name.items)
 IsLawful (Exec session moment) = moment < moment_limit
 IsLawful (Arrive session octets) = Unit {0}
@@ -87,7 +90,8 @@ pick_of word =
 -- which calls are to fail
 unfoldable pub kind_of : Octets → Option DiskCall
 kind_of word =
-    if bytes_eq word (codes "read") then Some Read else (if bytes_eq word (codes "write") then Some Write else (if bytes_eq word (codes "sync") then Some Sync else None))
+    if bytes_eq word (codes "read") then Some Read else
+    (if bytes_eq word (codes "write") then Some Write else (if bytes_eq word (codes "sync") then Some Sync else None))
 
 -- N, or a kind of calls and N
 unfoldable pub fail_of : Octets → Option Said

@@ -4,7 +4,8 @@ ghost use Rattle.std.specs.Prelude.{◌≡◌, ◌⊎◌, ◌<◌, ◌≤◌, Is
 ghost use Rattle.model.specs.Names.{is_group_name};
 ghost use Rattle.model.specs.Calendar.{moment_limit};
 ghost use Rattle.script.specs.Words.{hex_octets, hex_octet};
-ghost use Rattle.script.specs.Script.{IsLawful, Made, Expired, alone_of, arrival_of, expiry_of, fail_of, group_of, hex_of, is_description, kind_of, meaning, numbered_of, pick_of, said, status_of};
+ghost use Rattle.script.specs.Script.{IsLawful, Made, Expired, alone_of, arrival_of, expiry_of, fail_of, group_of, hex_of, is_description};
+ghost use Rattle.script.specs.Script.{kind_of, meaning, numbered_of, pick_of, said, status_of};
 ghost use Rattle.script.specs.declared.lines.ParseError.TheVariants.{Memory};
 
 use crate::words::{expiry_number, moment, number, split_word};

@@ -26,9 +26,11 @@ module _ (p : ℕ) (entries : List Entry) (seats : List Seat) (at sid : ℕ) (se
 
   -- the sessions after it
   after : (ended : Bool) → (given_of p entries seat).ended ≡ ended
-      → (if ended then filter (λ (s : Seat). not (s.number == seat.number)) seats else with_seat seats (seat_given seat (given_of p entries seat))) ≡ (ready_of p entries sid seats).seats
+      → (if ended then filter (λ (s : Seat). not (s.number == seat.number)) seats else with_seat seats
+      (seat_given seat (given_of p entries seat))) ≡ (ready_of p entries sid seats).seats
   after ended is =
-      ap (λ b. if b then filter (λ (s : Seat). not (s.number == seat.number)) seats else with_seat seats (seat_given seat (given_of p entries seat))) (sym is)
+      ap (λ b. if b then filter (λ (s : Seat). not (s.number == seat.number)) seats else with_seat seats
+      (seat_given seat (given_of p entries seat))) (sym is)
       ∙ ap (λ o. (ready_by p entries seats o).seats) (sym there)
 
   pub one_dropped : (given_of p entries seat).ended ≡ true → take at seats ++ drop (suc at) seats ≡ (ready_of p entries sid seats).seats
@@ -40,10 +42,12 @@ module _ (p : ℕ) (entries : List Entry) (seats : List Seat) (at sid : ℕ) (se
       ∙ ap (λ n. holds (find (λ (s : Seat). s.number == sid) (filter (λ (s : Seat). not (s.number == n)) seats))) (sym number)
       ∙ ap (λ xs. holds (find (λ (s : Seat). s.number == sid) xs)) (sym (filter_at 0 at seats seat rise place))
 
-  pub one_written : (given_of p entries seat).ended ≡ false → set seats at (seat_given seat (given_of p entries seat)) ≡ (ready_of p entries sid seats).seats
+  pub one_written : (given_of p entries seat).ended ≡ false
+      → set seats at (seat_given seat (given_of p entries seat)) ≡ (ready_of p entries sid seats).seats
   one_written is = with_seat_set 0 at seats seat (seat_given seat (given_of p entries seat)) rise place refl ∙ after false is
 
-  pub some_held : not (length (given_of p entries seat).held == 0) ≡ holds (find (λ (s : Seat). s.number == sid) (set seats at (seat_given seat (given_of p entries seat))))
+  pub some_held : not (length (given_of p entries seat).held == 0)
+      ≡ holds (find (λ (s : Seat). s.number == sid) (set seats at (seat_given seat (given_of p entries seat))))
   some_held =
       ap holds (sym (find_at 0 at (set seats at (seat_given seat (given_of p entries seat))) (seat_given seat (given_of p entries seat))
       (RiseFrom-set 0 at seats seat (seat_given seat (given_of p entries seat)) rise place refl)

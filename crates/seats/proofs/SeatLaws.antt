@@ -17,7 +17,8 @@ use Rattle.outbox.specs.Queue.{Held, last_dependency}
 use Rattle.seats.specs.Seats.{Seat, answered_by}
 
 -- the answer where the kernel is halted, and what it reads
-pub stopped_is : (host : Octets) (S : Spool) (x : Session) (m : Message) (t : ℕ) → answer host S x m t Stopped ≡ says (awaiting x Nothing) service_ends
+pub stopped_is : (host : Octets) (S : Spool) (x : Session) (m : Message) (t : ℕ)
+    → answer host S x m t Stopped ≡ says (awaiting x Nothing) service_ends
 stopped_is host S x m t = stopped_answer host S x m t
 
 pub stopped_reads : (host : Octets) (S : Spool) (x : Session) (m : Message) (t : ℕ) → reads host S x m t Stopped ≡ 0
@@ -25,7 +26,8 @@ unfolding reads
 stopped_reads host S x m t = refl
 
 -- a session with one output more, as the answer leaves it
-pub answered_is : (host : Octets) (S : Spool) (m : Message) (t : ℕ) (mark : Mark) (before after : Seat) (octets : List ℕ) (dependency : ℕ) → after.number ≡ before.number → after.given ≡ before.given
+pub answered_is : (host : Octets) (S : Spool) (m : Message) (t : ℕ) (mark : Mark) (before after : Seat) (octets : List ℕ) (dependency : ℕ)
+    → after.number ≡ before.number → after.given ≡ before.given
     → after.session ≡ (answer host S before.session m t mark).next → octets ≡ (answer host S before.session m t mark).reply
     → dependency ≡ max (last_dependency before.given before.held) (reads host S before.session m t mark)
     → after.held ≡ before.held ++ record { octets = octets; dependency = dependency; ends = is_none (mode_of after.session.awaits) } ∷ []
@@ -35,7 +37,8 @@ answered_is host S m t mark before after octets dependency number given session 
       number = number i;
       session = session i;
       given = given i;
-      held = (held ∙ (λ j. let h : Held = record { octets = reply j; dependency = depends j; ends = is_none (mode_of (session j).awaits) } in before.held ++ h ∷ [])) i;
+      held = (held ∙ (λ j. let h : Held =
+          record { octets = reply j; dependency = depends j; ends = is_none (mode_of (session j).awaits) } in before.held ++ h ∷ [])) i;
     }
 
 -- the answer of `is_none`

@@ -1,5 +1,6 @@
 -- A session as callers of the kernel see it: what it holds, what it gives, and how it is answered.
-use Rattle.std.specs.Prelude.{ℕ, ◌-◌, max, Bool, false, not, ◌==◌, if◌then◌else◌, List, [], ◌∷◌, ◌++◌, map, filter, find, length, Option, Some, None, is_none}
+use Rattle.std.specs.Prelude.{ℕ, ◌-◌, max, Bool, false, not, ◌==◌, if◌then◌else◌, List, [], ◌∷◌, ◌++◌, map, filter, find, length, Option}
+use Rattle.std.specs.Prelude.{Some, None, is_none}
 use Rattle.model.specs.Stream.{Octets}
 use Rattle.model.specs.Spool.{Spool}
 use Rattle.model.specs.Answer.{answer, new_session}
@@ -23,7 +24,12 @@ pub record Seat : Type 0 where
 
 -- a session that has just begun holds its greeting, which depends on nothing
 abbrev pub new_seat : Octets → ℕ → Seat
-new_seat host number = record { number = number; session = new_session; given = 0; held = record { octets = greeting host; dependency = 0; ends = false } ∷ [] }
+new_seat host number = record {
+  number = number;
+  session = new_session;
+  given = 0;
+  held = record { octets = greeting host; dependency = 0; ends = false } ∷ [];
+}
 
 -- the session with one more reply
 abbrev pub answered_by : Octets → Spool → Message → ℕ → Mark → Seat → Seat
@@ -74,7 +80,8 @@ abbrev pub ready_by : ℕ → List Entry → List Seat → Option Seat → Ready
 ready_by p entries seats None = record { entries = []; seats = seats }
 ready_by p entries seats (Some seat) = record {
   entries = entry_of seat.number (given_of p entries seat);
-  seats = if (given_of p entries seat).ended then filter (λ (other : Seat). not (other.number == seat.number)) seats else with_seat seats (seat_given seat (given_of p entries seat));
+  seats = if (given_of p entries seat).ended then filter (λ (other : Seat). not (other.number == seat.number)) seats else with_seat seats
+      (seat_given seat (given_of p entries seat));
 }
 
 abbrev pub ready_of : ℕ → List Entry → ℕ → List Seat → Ready

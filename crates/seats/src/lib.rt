@@ -2,7 +2,8 @@
 //! to it, `specs/Kept.antt` what is kept of it.
 #![tactic(auto)]
 
-ghost use Rattle.std.specs.Prelude.{Some, IfSome, IsNone, None, ℕ, find, not, slice_get, ◌==◌, ◌≡◌, ◌<◌, ◌≤◌, ◌+◌, ◌^◌, ◌++◌, ◌∷◌, [], max, IfOk, OnErr, OnOk, length};
+ghost use Rattle.std.specs.Prelude.{Some, IfSome, IsNone, None, ℕ, find, not, slice_get, ◌==◌, ◌≡◌, ◌<◌, ◌≤◌, ◌+◌, ◌^◌, ◌++◌, ◌∷◌, [], max};
+ghost use Rattle.std.specs.Prelude.{IfOk, OnErr, OnOk, length};
 ghost use Rattle.seats.specs.Seats.{Seat as SeatView, answered_by, given_of, holds, new_seat, ready, ready_of, seat_given};
 ghost use Rattle.seats.specs.Kept.{RiseFrom};
 ghost use Rattle.seats.specs.Serving.{SeatServed};
@@ -103,7 +104,8 @@ impl Seat {
         requires session { IsLawfulSession (S.host_of spool.old) self.old.session }
         requires moment { moment < moment_limit }
         requires room { buffered self.old.held < 1_048_576 }
-        ensures ok { IfOk result (SeatServed (S.host_of spool.old) (S.changes spool.old) (S.lacks_room spool.old) (S.adds spool.old spool.new) (spool.new ≡ spool.old) self.old self.new message.now moment) }
+        ensures ok { IfOk result (SeatServed (S.host_of spool.old) (S.changes spool.old) (S.lacks_room spool.old)
+            (S.adds spool.old spool.new) (spool.new ≡ spool.old) self.old self.new message.now moment) }
         ensures seat { OnErr result (self.new ≡ self.old) }
         ensures spool { OnErr result (spool.new ≡ spool.old) }
     {
@@ -142,7 +144,8 @@ impl Seat {
     /// Refused only for want of memory; then nothing changes.
     pub fn stop(&mut self, alloc: Global) -> Result<(), AllocError>
         requires room { buffered self.old.held < 1_048_576 }
-        ensures ok { OnOk result ((host : Octets) (S : Changes) (m : MessageView) (t : ℕ) → self.new ≡ answered_by host S m t Mark.Stopped self.old) }
+        ensures ok { OnOk result ((host : Octets) (S : Changes) (m : MessageView) (t : ℕ)
+            → self.new ≡ answered_by host S m t Mark.Stopped self.old) }
         ensures seat { OnErr result (self.new ≡ self.old) }
     {
         self.queue.reserve(1)?;
@@ -160,7 +163,11 @@ fn hold(queue: &mut Queue, octets: Vec<u8>, reads: u64, ends: bool)
     requires room { 1 ≤ queue.old.room }
     requires countable { buffered queue.old.held + length octets.items < 2 ^ 64 }
     ensures given { queue.new.given ≡ queue.old.given }
-    ensures held { queue.new.held ≡ queue.old.held ++ record { octets = octets.items; dependency = max (last_dependency queue.old.given queue.old.held) reads; ends = ends } ∷ [] }
+    ensures held { queue.new.held ≡ queue.old.held ++ record {
+      octets = octets.items;
+      dependency = max (last_dependency queue.old.given queue.old.held) reads;
+      ends = ends;
+    } ∷ [] }
 {
     let dependency = queue.last_dependency().max(reads);
     queue.push(octets, dependency, ends);

@@ -1,10 +1,12 @@
 -- What writes leave of the blocks of an image.
-use Rattle.std.proofs.Common.{◌≡◌, ◌≢◌, ◌⊎◌, inl, inr, ◌<◌, ◌≤◌, ℕ, ◌+◌, ◌-◌, ◌*◌, List, [], ◌∷◌, ◌++◌, length, get_or, take, drop, refl, sym, ◌∙◌, ap, arith, length-drop}
+use Rattle.std.proofs.Common.{◌≡◌, ◌≢◌, ◌⊎◌, inl, inr, ◌<◌, ◌≤◌, ℕ, ◌+◌, ◌-◌, ◌*◌, List, [], ◌∷◌, ◌++◌, length, get_or, take, drop, refl}
+use Rattle.std.proofs.Common.{sym, ◌∙◌, ap, arith, length-drop}
 use Rattle.std.proofs.lemmas.List.{ext_get_or, drop-append-le, take-append-le}
 use Rattle.std.proofs.lemmas.List.FromFn.{length-map-range_with_len, get_or-map-range_with_len}
 use Rattle.std.proofs.lemmas.Bool.{cases_order}
 use Rattle.disk.specs.Image.{part, overwritten, Torn}
-use Rattle.disk.proofs.Images.{length-overwritten, overwritten_inside, part-overwritten, part-overwritten_apart, part-torn_apart, get_or-part}
+use Rattle.disk.proofs.Images.{length-overwritten, overwritten_inside, part-overwritten, part-overwritten_apart, part-torn_apart}
+use Rattle.disk.proofs.Images.{get_or-part}
 use Rattle.segments.specs.Images.{SameBut}
 use Rattle.model.specs.Volume.{block, blocks_from}
 
@@ -20,19 +22,22 @@ torn_same j n old new few torn = record {
   same = λ k other. part-torn_apart (4096 * j) n old new torn (4096 * k) 4096 (apart j k n few other);
 }
 
-pub overwritten_same : (j : ℕ) (octets image : List ℕ) → length octets ≤ 4096 → 4096 * j + length octets ≤ length image → SameBut (λ k. k ≡ j) image (overwritten (4096 * j) octets image)
+pub overwritten_same : (j : ℕ) (octets image : List ℕ) → length octets ≤ 4096 → 4096 * j + length octets ≤ length image
+    → SameBut (λ k. k ≡ j) image (overwritten (4096 * j) octets image)
 overwritten_same j octets image few fits = record {
   size = length-overwritten (4096 * j) octets image fits;
   same = λ k other. part-overwritten_apart (4096 * j) octets image fits (4096 * k) 4096 (apart j k (length octets) few other);
 }
 
 -- a whole block
-pub block-overwritten : (j : ℕ) (octets image : List ℕ) → length octets ≡ 4096 → 4096 * j + length octets ≤ length image → block j (overwritten (4096 * j) octets image) ≡ octets
+pub block-overwritten : (j : ℕ) (octets image : List ℕ) → length octets ≡ 4096 → 4096 * j + length octets ≤ length image
+    → block j (overwritten (4096 * j) octets image) ≡ octets
 block-overwritten j octets image whole fits =
     ap (λ (n : ℕ). part (4096 * j) n (overwritten (4096 * j) octets image)) (sym whole) ∙ part-overwritten (4096 * j) octets image fits
 
 -- its first octet alone
-pub first-overwritten : (j octet : ℕ) (image : List ℕ) → 4096 * j + 1 ≤ length image → get_or (block j (overwritten (4096 * j) (octet ∷ []) image)) 0 0 ≡ octet
+pub first-overwritten : (j octet : ℕ) (image : List ℕ) → 4096 * j + 1 ≤ length image
+    → get_or (block j (overwritten (4096 * j) (octet ∷ []) image)) 0 0 ≡ octet
 first-overwritten j octet image fits =
     let place : 4096 * j + 0 ≡ 4096 * j = omega arith in
     let none : 4096 * j - 4096 * j ≡ 0 = omega arith in
@@ -54,9 +59,11 @@ pub same_but_equal : (P : ℕ → Type 0) (a b : List ℕ) → b ≡ a → SameB
 same_but_equal P a b is = record { size = ap length is; same = λ k other. ap (block k) is }
 
 -- blocks of two images, place by place
-pub blocks_from_same : (a b n : ℕ) (xs ys : List ℕ) → ((k : ℕ) → k < n → block (a + k) xs ≡ block (b + k) ys) → blocks_from a n xs ≡ blocks_from b n ys
+pub blocks_from_same : (a b n : ℕ) (xs ys : List ℕ) → ((k : ℕ) → k < n → block (a + k) xs ≡ block (b + k) ys)
+    → blocks_from a n xs ≡ blocks_from b n ys
 blocks_from_same a b n xs ys same =
-    ext_get_or [] (blocks_from a n xs) (blocks_from b n ys) (length-map-range_with_len (λ k. block k xs) a n ∙ sym (length-map-range_with_len (λ k. block k ys) b n)) each
+    ext_get_or [] (blocks_from a n xs) (blocks_from b n ys) (length-map-range_with_len (λ k. block k xs) a n
+    ∙ sym (length-map-range_with_len (λ k. block k ys) b n)) each
   where
     each : (i : ℕ) → i < length (blocks_from a n xs) → get_or (blocks_from a n xs) i [] ≡ get_or (blocks_from b n ys) i []
     each i within =

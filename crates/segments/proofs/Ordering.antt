@@ -19,7 +19,8 @@ either P x y false p q = q
 
 insert_above : (x : Batch) (l : List Batch) (n : ℕ) → n < x.number → AreAbove n l → AreAbove n (insert x l)
 insert_above x [] n low above = (low, tt)
-insert_above x (y ∷ l) n low above = either (AreAbove n) (y ∷ insert x l) (x ∷ y ∷ l) (ltb y.number x.number) (above.0, insert_above x l n low above.1) (low, above)
+insert_above x (y ∷ l) n low above =
+    either (AreAbove n) (y ∷ insert x l) (x ∷ y ∷ l) (ltb y.number x.number) (above.0, insert_above x l n low above.1) (low, above)
 
 rising_above : (l : List Batch) (n : ℕ) → AreAbove n l → AreAbove n (rising l)
 rising_above [] n above = tt
@@ -30,15 +31,18 @@ least b [] above = refl
 least b (y ∷ l) above = in_front b y l (omega (arith, above.0))
 
 -- the least comes first
-pub least_first : (ys zs : List Batch) (b : Batch) → AreAbove b.number ys → AreAbove b.number zs → rising (ys ++ b ∷ zs) ≡ b ∷ rising (ys ++ zs)
+pub least_first : (ys zs : List Batch) (b : Batch) → AreAbove b.number ys → AreAbove b.number zs
+    → rising (ys ++ b ∷ zs) ≡ b ∷ rising (ys ++ zs)
 least_first [] zs b above below = least b (rising zs) (rising_above zs b.number below)
-least_first (y ∷ ys) zs b above below = ap (λ (l : List Batch). insert y l) (least_first ys zs b above.1 below) ∙ behind y b (rising (ys ++ zs)) above.0
+least_first (y ∷ ys) zs b above below = ap (λ (l : List Batch). insert y l) (least_first ys zs b above.1 below)
+    ∙ behind y b (rising (ys ++ zs)) above.0
 
 -- ---- the greatest
 
 insert_below : (x : Batch) (l : List Batch) (n : ℕ) → x.number < n → AreBelow n l → AreBelow n (insert x l)
 insert_below x [] n low below = (low, tt)
-insert_below x (y ∷ l) n low below = either (AreBelow n) (y ∷ insert x l) (x ∷ y ∷ l) (ltb y.number x.number) (below.0, insert_below x l n low below.1) (low, below)
+insert_below x (y ∷ l) n low below =
+    either (AreBelow n) (y ∷ insert x l) (x ∷ y ∷ l) (ltb y.number x.number) (below.0, insert_below x l n low below.1) (low, below)
 
 rising_below : (l : List Batch) (n : ℕ) → AreBelow n l → AreBelow n (rising l)
 rising_below [] n below = tt
@@ -49,7 +53,8 @@ greatest b [] below = refl
 greatest b (y ∷ l) below = behind b y l below.0 ∙ ap (λ (m : List Batch). y ∷ m) (greatest b l below.1)
 
 -- a greater one stays at the end
-same_ends : (x y b : Batch) (l m n : List Batch) (t : Bool) → m ≡ n ++ b ∷ [] → (if t then y ∷ m else x ∷ y ∷ (l ++ b ∷ [])) ≡ (if t then y ∷ n else x ∷ y ∷ l) ++ b ∷ []
+same_ends : (x y b : Batch) (l m n : List Batch) (t : Bool) → m ≡ n ++ b ∷ []
+    → (if t then y ∷ m else x ∷ y ∷ (l ++ b ∷ [])) ≡ (if t then y ∷ n else x ∷ y ∷ l) ++ b ∷ []
 same_ends x y b l m n true is = ap (λ (k : List Batch). y ∷ k) is
 same_ends x y b l m n false is = refl
 
@@ -58,6 +63,8 @@ insert_last x b [] below = in_front x b [] (omega (arith, below))
 insert_last x b (y ∷ l) below = same_ends x y b l (insert x (l ++ b ∷ [])) (insert x l) (ltb y.number x.number) (insert_last x b l below)
 
 -- the greatest comes last
-pub greatest_last : (ys zs : List Batch) (b : Batch) → AreBelow b.number ys → AreBelow b.number zs → rising (ys ++ b ∷ zs) ≡ rising (ys ++ zs) ++ b ∷ []
+pub greatest_last : (ys zs : List Batch) (b : Batch) → AreBelow b.number ys → AreBelow b.number zs
+    → rising (ys ++ b ∷ zs) ≡ rising (ys ++ zs) ++ b ∷ []
 greatest_last [] zs b below above = greatest b (rising zs) (rising_below zs b.number above)
-greatest_last (y ∷ ys) zs b below above = ap (λ (l : List Batch). insert y l) (greatest_last ys zs b below.1 above) ∙ insert_last y b (rising (ys ++ zs)) below.0
+greatest_last (y ∷ ys) zs b below above = ap (λ (l : List Batch). insert y l) (greatest_last ys zs b below.1 above)
+    ∙ insert_last y b (rising (ys ++ zs)) below.0

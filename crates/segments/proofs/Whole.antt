@@ -1,9 +1,12 @@
 -- The logical blocks are as many as the superblock says, and each has 4,096 octets.
-use Rattle.std.proofs.Common.{◌≡◌, ◌<◌, ◌≤◌, ltb, if◌then◌else◌, ℕ, ◌+◌, ◌*◌, Bool, true, false, List, [], ◌∷◌, length, get_or, map, set, sym, ◌∙◌, ap, subst, arith}
+use Rattle.std.proofs.Common.{◌≡◌, ◌<◌, ◌≤◌, ltb, if◌then◌else◌, ℕ, ◌+◌, ◌*◌, Bool, true, false, List, [], ◌∷◌, length, get_or, map, set}
+use Rattle.std.proofs.Common.{sym, ◌∙◌, ap, subst, arith}
 use Rattle.std.specs.List.{All}
 use Rattle.std.proofs.lemmas.List.Elements.{All-from_get_or, All-set, All-head, All-tail}
 use Rattle.disk.proofs.Images.{length-part}
-use Rattle.model.specs.Volume.{Batch, IsSuperblock, StandsFor, all_laid_over, batch_in, block, blocks_from, descriptor_place, home, home_place, home_size, image_place, insert, is_open, laid_over, number_at, open_segments, rising, segment_count}
+use Rattle.model.specs.Volume.{Batch, IsSuperblock, StandsFor, all_laid_over, batch_in, block, blocks_from, descriptor_place, home}
+use Rattle.model.specs.Volume.{home_place, home_size, image_place, insert, is_open, laid_over, number_at, open_segments, rising}
+use Rattle.model.specs.Volume.{segment_count}
 use Rattle.segments.specs.Images.{open_batches}
 use Rattle.segments.proofs.Blocks.{get_or-blocks_from, length-blocks_from}
 use Rattle.segments.proofs.Laying.{length-all}
@@ -27,7 +30,8 @@ laid_sizes : (ns : List ℕ) (images xs : List (List ℕ)) → All HasSize xs �
 laid_sizes [] images xs all sizes = all
 laid_sizes (n ∷ ns) [] xs all sizes = all
 laid_sizes (n ∷ ns) (image ∷ images) xs all sizes =
-    laid_sizes ns images (set xs n image) (All-set HasSize xs n image (All-head HasSize image images sizes) all) (All-tail HasSize image images sizes)
+    laid_sizes ns images (set xs n image) (All-set HasSize xs n image (All-head HasSize image images sizes) all)
+    (All-tail HasSize image images sizes)
 
 abbrev HaveSize : List Batch → Type 0
 HaveSize [] = Unit {0}
@@ -51,7 +55,10 @@ size_rising (b ∷ bs) all = size_insert b (rising bs) all.0 (size_rising bs all
 
 size_map : (x : List ℕ) (ss : List ℕ) → All (λ s. All HasSize (batch_in s x).images) ss → HaveSize (map (λ s. batch_in s x) ss)
 size_map x [] all = tt
-size_map x (s ∷ ss) all = (All-head (λ s. All HasSize (batch_in s x).images) s ss all, size_map x ss (All-tail (λ s. All HasSize (batch_in s x).images) s ss all))
+size_map x (s ∷ ss) all = (
+  All-head (λ s. All HasSize (batch_in s x).images) s ss all,
+  size_map x ss (All-tail (λ s. All HasSize (batch_in s x).images) s ss all),
+)
 
 pub home_whole : (x : List ℕ) → IsSuperblock (block 0 x) (length x) → All HasSize (home x)
 home_whole x superblock = whole_from (home_place (segment_count x) 0) (home_size x) x (omega (arith, superblock.exactly))
@@ -62,10 +69,12 @@ stands_length x label blocks stands = ap length (sym stands.has_blocks) ∙ leng
 pub stands_whole : (x label : List ℕ) (blocks : List (List ℕ)) → StandsFor x label blocks → All HasSize blocks
 stands_whole x label blocks stands =
     subst (λ (bs : List (List ℕ)). All HasSize bs) stands.has_blocks
-    (all_sizes (open_batches x) (home x) (home_whole x stands.has_superblock) (size_rising (map (λ s. batch_in s x) (open_segments x)) (size_map x (open_segments x) each)))
+    (all_sizes (open_batches x) (home x) (home_whole x stands.has_superblock)
+    (size_rising (map (λ s. batch_in s x) (open_segments x)) (size_map x (open_segments x) each)))
   where
     each : All (λ s. All HasSize (batch_in s x).images) (open_segments x)
     each = each_of (λ s. All HasSize (batch_in s x).images) (λ s. is_open s x) 0 (segment_count x) (λ s low high is.
         let within : s < segment_count x = omega (arith, high) in
         let few = (valid_open x label blocks stands s (within, is)).few in
-        whole_from (image_place s 0) (number_at 16 4 (block (descriptor_place s) x)) x (omega (arith, within, few, stands.has_superblock.exactly)))
+        whole_from (image_place s 0) (number_at 16 4 (block (descriptor_place s) x)) x
+        (omega (arith, within, few, stands.has_superblock.exactly)))

@@ -1,6 +1,7 @@
 -- The open segments of an image, as a journal keeps them in memory.
 use Rattle.std.specs.Prelude.{◌≡◌, ◌⊎◌, ◌<◌, ℕ, List, [], ◌∷◌, if◌then◌else◌, length, map, nat_lt, slice_index, slice_index_or, take}
-use Rattle.model.specs.Volume.{Batch, all_laid_over, batch_in, block, descriptor_place, home, home_place, image_place, laid_over, listed, number_at, open_segments}
+use Rattle.model.specs.Volume.{Batch, all_laid_over, batch_in, block, descriptor_place, home, home_place, image_place, laid_over, listed}
+use Rattle.model.specs.Volume.{number_at, open_segments}
 use Rattle.segments.specs.Images.{IsOpenIn, open_batches}
 
 -- a segment by its place, and the batch that it holds
@@ -75,4 +76,9 @@ pub record IsWrittenIn (s : ℕ) (descriptor : List ℕ) (images : List (List �
 
 -- the batch that a descriptor block and images describe
 abbrev pub batch_of : List ℕ → List (List ℕ) → Batch
-batch_of descriptor images = record { number = number_at 0 8 descriptor; last = number_at 8 8 descriptor; numbers = listed descriptor; images = images }
+batch_of descriptor images = record {
+  number = number_at 0 8 descriptor;
+  last = number_at 8 8 descriptor;
+  numbers = listed descriptor;
+  images = images;
+}

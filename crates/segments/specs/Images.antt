@@ -1,6 +1,7 @@
 -- What part of an image matters to what it stands for.
 use Rattle.std.specs.Prelude.{◌≡◌, ◌<◌, ◌≤◌, ℕ, ◌+◌, List, ◌++◌, length, map, slice_index, true}
-use Rattle.model.specs.Volume.{Batch, all_laid_over, batch_in, block, descriptor_place, gate_place, home, home_place, is_open, open_segments, rising, segment_count}
+use Rattle.model.specs.Volume.{Batch, all_laid_over, batch_in, block, descriptor_place, gate_place, home, home_place, is_open}
+use Rattle.model.specs.Volume.{open_segments, rising, segment_count}
 
 -- the images differ only in some blocks
 pub record SameBut (P : ℕ → Type 0) (old new : List ℕ) : Type 0 where
@@ -18,7 +19,8 @@ IsOpenIn s image = (s < segment_count image) × (is_open s image ≡ true)
 -- a block is the home of a logical block of which an open segment has an image
 abbrev pub IsHomeOfOpen : List ℕ → ℕ → Type 0
 IsHomeOfOpen image k =
-    (s : ℕ) × IsOpenIn s image × ((i : ℕ) × (i < length (batch_in s image).numbers) × (k ≡ home_place (segment_count image) (slice_index (batch_in s image).numbers i)))
+    (s : ℕ) × IsOpenIn s image × ((i : ℕ) × (i < length (batch_in s image).numbers)
+    × (k ≡ home_place (segment_count image) (slice_index (batch_in s image).numbers i)))
 
 -- the batches of the open segments, in rising number
 abbrev pub open_batches : List ℕ → List Batch

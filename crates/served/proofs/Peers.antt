@@ -1,5 +1,6 @@
 -- A write to one of the peers.
-use Rattle.std.proofs.Common.{◌≡◌, ℕ, zero, suc, ◌-◌, ◌≤◌, ◌<◌, List, [], ◌∷◌, length, set, get_or, Option, Some, None, refl, ap, sym, ◌∙◌, subst, arith}
+use Rattle.std.proofs.Common.{◌≡◌, ℕ, zero, suc, ◌-◌, ◌≤◌, ◌<◌, List, [], ◌∷◌, length, set, get_or, Option, Some, None, refl, ap, sym, ◌∙◌}
+use Rattle.std.proofs.Common.{subst, arith}
 use Rattle.std.specs.Prelude.{map, slice_get, unwrap_or, option_map, IfSome, IfOk, OnOk, OnErr, Result, Ok, Err}
 use Rattle.std.proofs.lemmas.Option.{slice_get-get_or}
 use Rattle.served.specs.Fields.{Becomes, inputs, sent_of, sents}
@@ -32,7 +33,8 @@ pub record AtPeer (peers : List Peer) (number : ℕ) (was : Peer) : Type 0 where
   pub sets_sent : (p : Peer) → sents (set peers (number - 1) p) ≡ with_numbered (sents peers) number (sent_of p)
   pub sets_input : (p : Peer) → inputs (set peers (number - 1) p) ≡ with_numbered (inputs peers) number p.input
 
-pub at_peer : (peers : List Peer) (number : ℕ) (was : Peer) → 1 ≤ number → number ≤ length peers → was ≡ get_or peers (number - 1) was → AtPeer peers number was
+pub at_peer : (peers : List Peer) (number : ℕ) (was : Peer) → 1 ≤ number → number ≤ length peers → was ≡ get_or peers (number - 1) was
+    → AtPeer peers number was
 at_peer peers zero was some within is = absurd (omega arith)
 at_peer peers (suc k) was some within is =
     record {
@@ -54,13 +56,18 @@ pub sent_here : (peers : List Peer) (number : ℕ) (was : Peer) → AtPeer peers
 sent_here peers number was at = ap (λ o. unwrap_or o nobody) at.sent
 
 -- a write that leaves what was sent, or the input
-pub keeps_sent : (peers : List Peer) (number : ℕ) (was p : Peer) → AtPeer peers number was → sent_of p ≡ sent_of was → sents (set peers (number - 1) p) ≡ sents peers
-keeps_sent peers number was p at same = at.sets_sent p ∙ (ap (with_numbered (sents peers) number) same ∙ with-same (sents peers) number (sent_of was) at.sent)
+pub keeps_sent : (peers : List Peer) (number : ℕ) (was p : Peer) → AtPeer peers number was → sent_of p ≡ sent_of was
+    → sents (set peers (number - 1) p) ≡ sents peers
+keeps_sent peers number was p at same = at.sets_sent p
+    ∙ (ap (with_numbered (sents peers) number) same ∙ with-same (sents peers) number (sent_of was) at.sent)
 
-pub keeps_input : (peers : List Peer) (number : ℕ) (was p : Peer) → AtPeer peers number was → p.input ≡ was.input → inputs (set peers (number - 1) p) ≡ inputs peers
-keeps_input peers number was p at same = at.sets_input p ∙ (ap (with_numbered (inputs peers) number) same ∙ with-same (inputs peers) number was.input at.input)
+pub keeps_input : (peers : List Peer) (number : ℕ) (was p : Peer) → AtPeer peers number was → p.input ≡ was.input
+    → inputs (set peers (number - 1) p) ≡ inputs peers
+keeps_input peers number was p at same = at.sets_input p
+    ∙ (ap (with_numbered (inputs peers) number) same ∙ with-same (inputs peers) number was.input at.input)
 
-pub input_becomes : (peers : List Peer) (number : ℕ) (was p : Peer) (R : Input → Input → Type 0) → AtPeer peers number was → R was.input p.input → Becomes (inputs peers) (inputs (set peers (number - 1) p)) number R
+pub input_becomes : (peers : List Peer) (number : ℕ) (was p : Peer) (R : Input → Input → Type 0) → AtPeer peers number was
+    → R was.input p.input → Becomes (inputs peers) (inputs (set peers (number - 1) p)) number R
 input_becomes peers number was p R at r before is =
     let same : was.input ≡ before = cc (sym at.input ∙ is) in
     (p.input, at.sets_input p, subst (λ b. R b p.input) same r)

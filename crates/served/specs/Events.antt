@@ -1,12 +1,14 @@
 -- What each event does to what is served.
-use Rattle.std.specs.Prelude.{Result, Err, MatchResult, ◌≡◌, ℕ, ◌++◌, true, List, [], ◌∷◌, length, Option, Some, None, is_some, is_none, if◌then◌else◌}
+use Rattle.std.specs.Prelude.{Result, Err, MatchResult, ◌≡◌, ℕ, ◌++◌, true, List, [], ◌∷◌, length, Option, Some, None, is_some, is_none}
+use Rattle.std.specs.Prelude.{if◌then◌else◌}
 use Rattle.model.specs.Stream.{Octets}
 use Rattle.model.specs.declared.change.Change.{Change}
 use Rattle.model.specs.declared.message.Message.{Message}
 use Rattle.model.specs.declared.message.Mark.{Mark}
 use Rattle.model.specs.declared.message.Mode.{Mode}
 use Rattle.outbox.specs.Queue.{Entry as Given}
-use Rattle.kernel.specs.Kernel.{KernelView, seat_of, mode_at, joined, left, released, released_of, exec_refusal, first_failing, Refusal, NoSession, Execs, Administers, TestedOrMemory}
+use Rattle.kernel.specs.Kernel.{KernelView, seat_of, mode_at, joined, left, released, released_of, exec_refusal, first_failing, Refusal}
+use Rattle.kernel.specs.Kernel.{NoSession, Execs, Administers, TestedOrMemory}
 use Rattle.seats.specs.Seats.{ready, ready_of}
 use Rattle.kernel.specs.Errors.{of_exec}
 use Rattle.kernel.specs.declared.errors.ExecError.{ExecError}
@@ -25,21 +27,26 @@ joins served = record served { kernel = joined served.kernel; sessions = served.
 -- octets arrive for a session
 abbrev pub arrives : ServedView → ℕ → Octets → ServedView
 arrives served number octets =
-    record served { sessions = with_sent served.sessions number (record (sent_at served.sessions number) { arrived = (sent_at served.sessions number).arrived ++ octets }) }
+    record served {
+      sessions = with_sent served.sessions number
+          (record (sent_at served.sessions number) { arrived = (sent_at served.sessions number).arrived ++ octets });
+    }
 
 -- a session leaves; nothing happens if it does not exist
 abbrev pub leaves : ServedView → ℕ → ServedView
 leaves served number =
     record served {
       kernel = left served.kernel number;
-      sessions = if is_some (seat_of served.kernel number) then with_sent served.sessions number (record (sent_at served.sessions number) { left = true }) else served.sessions;
+      sessions = if is_some (seat_of served.kernel number) then with_sent served.sessions number
+          (record (sent_at served.sessions number) { left = true }) else served.sessions;
     }
 
 -- each entry's octets count as released to its session
 abbrev pub with_released : List Sent → List Given → List Sent
 with_released sessions [] = sessions
 with_released sessions (entry ∷ entries) =
-    with_released (with_sent sessions entry.0 (record (sent_at sessions entry.0) { released = (sent_at sessions entry.0).released ++ entry.1 })) entries
+    with_released (with_sent sessions entry.0
+    (record (sent_at sessions entry.0) { released = (sent_at sessions entry.0).released ++ entry.1 })) entries
 
 -- what is ready is handed out
 abbrev pub releases : ServedView → ServedView
@@ -85,9 +92,11 @@ arrive_refusal kernel number = first_failing ((is_none (mode_at kernel number), 
 
 -- Exec: the next message of a session that exists and is not closed is served, or refused and still its next one; if no
 -- message has arrived whole, nothing happens
-abbrev pub DidExec : ServedView → ℕ → ℕ → Option Mode → Option (Message × Octets) → Result (Option (Option Mode × Mark)) ExecError → ServedView → Type 0
+abbrev pub DidExec : ServedView → ℕ → ℕ → Option Mode → Option (Message × Octets) → Result (Option (Option Mode × Mark)) ExecError
+    → ServedView → Type 0
 DidExec old number moment None found result new = (result ≡ Err exec.NoSession) × (new ≡ old)
-DidExec old number moment (Some mode) None result new = MatchResult result (λ answered. (answered ≡ None) × (new ≡ old)) (λ e. (e ≡ exec.Memory) × (new ≡ old))
+DidExec old number moment (Some mode) None result new =
+    MatchResult result (λ answered. (answered ≡ None) × (new ≡ old)) (λ e. (e ≡ exec.Memory) × (new ≡ old))
 DidExec old number moment (Some mode) (Some found) result new =
     TestedOrMemory of_exec exec.Memory None (exec_refusal old.kernel number found.0) old new result
     (λ answered. (reads_next : Option Mode × Mark) × (answered ≡ Some reads_next) × Serves old new number moment found.0 reads_next)

@@ -44,7 +44,8 @@ pub record IsSound (served : ServedView) (its_inputs : List Input) : Type 0 wher
 
 -- the input at this number changes in this way
 abbrev pub Becomes : List Input → List Input → ℕ → (Input → Input → Type 0) → Type 0
-Becomes old new number R = (before : Input) → numbered old number ≡ Some before → (after : Input) × (new ≡ with_numbered old number after) × R before after
+Becomes old new number R = (before : Input) → numbered old number ≡ Some before
+    → (after : Input) × (new ≡ with_numbered old number after) × R before after
 
 -- the octets of a session's entries
 abbrev pub given_in : ℕ → List Given → List ℕ
@@ -58,7 +59,8 @@ AreKnown sessions (entry ∷ entries) = IsSome (numbered sessions entry.0) × Ar
 
 -- a peer has room for this many more octets that are released to it
 abbrev pub HasRoom : List Peer → ℕ → ℕ → Type 0
-HasRoom peers number needed = (peer : Peer) → numbered peers number ≡ Some peer → vec_len peer.released + needed ≤ vec_capacity peer.released
+HasRoom peers number needed = (peer : Peer) → numbered peers number ≡ Some peer
+    → vec_len peer.released + needed ≤ vec_capacity peer.released
 
 abbrev pub HaveRoom : List Peer → (ℕ → ℕ) → Type 0
 HaveRoom peers needed = (number : ℕ) → HasRoom peers number (needed number)

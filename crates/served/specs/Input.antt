@@ -15,7 +15,8 @@ MayAsk input mode = MayAskFor input.message where
 
 -- the stream's next message was found, and the reader stands for what follows it
 abbrev pub HoldsMessage : Input → Mode → List ℕ → Message → Type 0
-HoldsMessage input mode stream message = (rest : List ℕ) × (next mode stream ≡ Some (message, rest)) × StandsFor input.reader rest × (input.reader.awaits ≡ None)
+HoldsMessage input mode stream message = (rest : List ℕ) × (next mode stream ≡ Some (message, rest)) × StandsFor input.reader rest
+    × (input.reader.awaits ≡ None)
 
 -- the input stands for the stream, whose next message is read in this mode
 abbrev pub Waits : Input → Mode → List ℕ → Type 0

@@ -1,6 +1,7 @@
 -- The kernel together with the plain server: what each session sent and was sent since the opening, the trace, and what
 -- ties the two.
-use Rattle.std.specs.Prelude.{◌≡◌, ℕ, zero, suc, ◌≤◌, Bool, false, List, [], ◌∷◌, ◌++◌, length, take, map, slice_get, slice_set, Option, Some, None, is_none, unwrap_or}
+use Rattle.std.specs.Prelude.{◌≡◌, ℕ, zero, suc, ◌≤◌, Bool, false, List, [], ◌∷◌, ◌++◌, length, take, map, slice_get, slice_set, Option}
+use Rattle.std.specs.Prelude.{Some, None, is_none, unwrap_or}
 use Rattle.std.specs.List.{concat}
 use Rattle.model.specs.Stream.{Octets}
 use Rattle.model.specs.Spool.{Spool}
@@ -129,8 +130,10 @@ pub record IsServed (served : ServedView) : Type 0 where
   pub durable : served.kernel.durable ≤ length served.kernel.spool
   pub spool : (account served).server.spool ≡ served.kernel.spool
   -- each command of the trace found its message
-  pub finds : EachFindsMessage (service served.kernel.host) (opened (service served.kernel.host) (first_spool served) (arrived_at served)) served.trace
-  pub each : (number : ℕ) → IsSession served.kernel.host served.kernel.durable (session_at served.sessions number) (seat_of served.kernel number) ((account served).server.connections number) ((account served).outputs number)
+  pub finds : EachFindsMessage (service served.kernel.host) (opened (service served.kernel.host) (first_spool served) (arrived_at served))
+      served.trace
+  pub each : (number : ℕ) → IsSession served.kernel.host served.kernel.durable (session_at served.sessions number)
+      (seat_of served.kernel number) ((account served).server.connections number) ((account served).outputs number)
 
 -- ---- the same in terms of the plain server
 
@@ -149,5 +152,7 @@ octets_of_held held = concat (map (λ (h : Held). h.octets) held)
 -- replies. For one that ended, all its replies were released.
 pub record FollowsPlain (served : ServedView) : Type 0 where
   pub spool : served.kernel.spool ≡ (plain served).spool
-  pub there : (number : ℕ) (seat : Seat) → seat_of served.kernel number ≡ Some seat → released_at served number ++ octets_of_held seat.held ≡ replies_to served number
-  pub ended : (number : ℕ) (sent : Sent) → session_at served.sessions number ≡ Some sent → sent.left ≡ false → seat_of served.kernel number ≡ None → sent.released ≡ replies_to served number
+  pub there : (number : ℕ) (seat : Seat) → seat_of served.kernel number ≡ Some seat
+      → released_at served number ++ octets_of_held seat.held ≡ replies_to served number
+  pub ended : (number : ℕ) (sent : Sent) → session_at served.sessions number ≡ Some sent → sent.left ≡ false
+      → seat_of served.kernel number ≡ None → sent.released ≡ replies_to served number

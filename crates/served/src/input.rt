@@ -28,7 +28,8 @@ impl Input {
 
     /// Takes further octets. Refused only for want of memory, and then nothing is taken.
     pub(crate) fn feed(&mut self, piece: &[u8]) -> Result<(), AllocError>
-        ensures ok { OnOk result ((mode : ItsMode) (stream : List ℕ) → Waits self.old mode stream → Waits self.new mode (stream ++ piece.now)) }
+        ensures ok { OnOk result ((mode : ItsMode) (stream : List ℕ) → Waits self.old mode stream
+            → Waits self.new mode (stream ++ piece.now)) }
         ensures err { OnErr result (self.new ≡ self.old) }
     {
         self.reader.feed(piece)

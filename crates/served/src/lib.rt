@@ -3,12 +3,14 @@
 //! does.
 #![tactic(auto)]
 
-ghost use Rattle.std.specs.Prelude.{◌≡◌, ◌≢◌, ◌⊎◌, ◌↔◌, ◌+◌, ◌*◌, ◌≤◌, ◌<◌, [], Option, Some, None, Ok, IsTrue, IsSome, IsNone, IfOk, IfSome, OnOk, OnErr, length, true, false, is_none};
+ghost use Rattle.std.specs.Prelude.{◌≡◌, ◌≢◌, ◌⊎◌, ◌↔◌, ◌+◌, ◌*◌, ◌≤◌, ◌<◌, [], Option, Some, None, Ok, IsTrue, IsSome, IsNone, IfOk};
+ghost use Rattle.std.specs.Prelude.{IfSome, OnOk, OnErr, length, true, false, is_none};
 ghost use Rattle.std.specs.List.{list_all};
 ghost use Rattle.kernel.specs.Errors.{of_join, of_admin, of_expire};
 ghost use Rattle.served.specs.Errors.{of_arrive};
 ghost use Rattle.kernel.specs.Kept.{IsKept};
-ghost use Rattle.kernel.specs.Kernel.{Takes, Tested, TestedOrMemory, admin_refusal_of, early_refusal, expire_refusal_of, halted_for_good, has_batch, join_refusal, made_durable, mode_at};
+ghost use Rattle.kernel.specs.Kernel.{Takes, Tested, TestedOrMemory, admin_refusal_of, early_refusal, expire_refusal_of, halted_for_good};
+ghost use Rattle.kernel.specs.Kernel.{has_batch, join_refusal, made_durable, mode_at};
 ghost use Rattle.model.specs.Calendar.{moment_limit};
 ghost use Rattle.model.specs.Lawful.{is_description_octet};
 ghost use Rattle.model.specs.Volume.{blocks_from};
@@ -65,9 +67,21 @@ impl Model for Served {
 
     ghost use Rattle.served.specs.Fields.{IsSound, inputs, sents};
 
-    ghost view = { λ s. record { kernel = s.kernel; first = s.first; sessions = sents s.peers.items; trace = s.trace.items; ready = s.ready } };
+    ghost view = { λ s. record {
+      kernel = s.kernel;
+      first = s.first;
+      sessions = sents s.peers.items;
+      trace = s.trace.items;
+      ready = s.ready;
+    } };
 
-    ghost invariant = { λ s. IsSound (record { kernel = s.kernel; first = s.first; sessions = sents s.peers.items; trace = s.trace.items; ready = s.ready }) (inputs s.peers.items) };
+    ghost invariant = { λ s. IsSound (record {
+      kernel = s.kernel;
+      first = s.first;
+      sessions = sents s.peers.items;
+      trace = s.trace.items;
+      ready = s.ready;
+    }) (inputs s.peers.items) };
 }
 
 impl Served {
@@ -101,7 +115,8 @@ impl Served {
 
     /// A session joins. Refused as by the kernel, in the same order; a refusal changes nothing.
     pub fn join(&mut self, alloc: Global) -> Result<u64, JoinError>
-        ensures { Tested of_join JoinError.Memory (join_refusal self.old.kernel) self.old self.new result (λ number. (number ≡ self.old.kernel.joined + 1) × (self.new ≡ joins self.old)) }
+        ensures { Tested of_join JoinError.Memory (join_refusal self.old.kernel) self.old self.new result
+            (λ number. (number ≡ self.old.kernel.joined + 1) × (self.new ≡ joins self.old)) }
     {
         self.kernel.may_join()?;
         if self.peers.reserve(1).is_err() {
@@ -126,7 +141,8 @@ impl Served {
     /// Octets arrive for a session. Refused as `NoSession` (E10) if it does not exist or was closed, or `Memory` (E2),
     /// tested in that order; a refusal changes nothing.
     pub fn arrive(&mut self, number: u64, octets: &[u8]) -> Result<(), ArriveError>
-        ensures { Tested of_arrive ArriveError.Memory (arrive_refusal self.old.kernel number) self.old self.new result (λ done. self.new ≡ arrives self.old number octets.now) }
+        ensures { Tested of_arrive ArriveError.Memory (arrive_refusal self.old.kernel number) self.old self.new result
+            (λ done. self.new ≡ arrives self.old number octets.now) }
     {
         if self.kernel.mode(number).is_none() {
             return Err(ArriveError::NoSession);
@@ -305,7 +321,8 @@ impl Served {
     pub fn take_batch(&mut self, into: &mut BatchBuf) -> Option<Ticket>
         ensures when { IsSome result ↔ IsTrue (has_batch self.old.kernel) }
         ensures nothing { IsNone result → (self.new ≡ self.old) × (into.new ≡ into.old) }
-        ensures takes { IfSome result (λ ticket. Takes self.old.kernel self.new.kernel into.new.numbers (blocks_from 0 (length into.new.numbers) into.new.images) ticket.last) }
+        ensures takes { IfSome result (λ ticket. Takes self.old.kernel self.new.kernel into.new.numbers
+            (blocks_from 0 (length into.new.numbers) into.new.images) ticket.last) }
         ensures size { IsSome result → length into.new.images ≡ 4096 * length into.new.numbers }
         ensures same { IsSome result → self.new ≡ with_kernel self.old self.new.kernel }
     {
@@ -315,8 +332,10 @@ impl Served {
     /// Notes that the batch in flight is on disk: its changes are durable. `Stale` (E13) exactly if the ticket is not
     /// that of the batch in flight or the kernel is halted; then nothing changes.
     pub fn committed(&mut self, ticket: Ticket) -> Result<(), Stale>
-        ensures ok { IfOk result (λ done. (self.old.kernel.in_flight ≡ Some ticket.last) × (self.old.kernel.halted ≡ false) × (self.new ≡ with_kernel self.old (made_durable self.old.kernel ticket.last))) }
-        ensures stale { OnErr result (((self.old.kernel.in_flight ≢ Some ticket.last) ⊎ (self.old.kernel.halted ≡ true)) × (self.new ≡ self.old)) }
+        ensures ok { IfOk result (λ done. (self.old.kernel.in_flight ≡ Some ticket.last) × (self.old.kernel.halted ≡ false)
+            × (self.new ≡ with_kernel self.old (made_durable self.old.kernel ticket.last))) }
+        ensures stale { OnErr result (((self.old.kernel.in_flight ≢ Some ticket.last) ⊎ (self.old.kernel.halted ≡ true))
+            × (self.new ≡ self.old)) }
     {
         self.kernel.kept();
         self.kernel.committed(ticket)

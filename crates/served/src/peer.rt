@@ -1,6 +1,7 @@
 //! What each session sent and was sent, by its number.
 
-ghost use Rattle.std.specs.Prelude.{◌≡◌, ◌+◌, ◌++◌, ◌≤◌, ◌<◌, [], ℕ, List, Some, None, IfOk, OnOk, OnErr, MatchOption, true, ◌==◌, slice_get, if◌then◌else◌, length};
+ghost use Rattle.std.specs.Prelude.{◌≡◌, ◌+◌, ◌++◌, ◌≤◌, ◌<◌, [], ℕ, List, Some, None, IfOk, OnOk, OnErr, MatchOption, true, ◌==◌};
+ghost use Rattle.std.specs.Prelude.{slice_get, if◌then◌else◌, length};
 ghost use Rattle.model.specs.declared.message.Mode.{Mode as ItsMode};
 ghost use Rattle.served.specs.Events.{with_released};
 ghost use Rattle.seats.specs.Seats.{Seat};
@@ -39,8 +40,13 @@ impl Peer {
 
     /// Takes further octets. Refused only for want of memory; then what was sent is as it was.
     fn hear(&mut self, octets: &[u8]) -> Result<(), AllocError>
-        ensures sent { OnOk result (sent_of self.new ≡ record { arrived = self.old.arrived.items ++ octets.now; released = self.old.released.items; left = self.old.left }) }
-        ensures input { OnOk result ((mode : ItsMode) (stream : List ℕ) → Waits self.old.input mode stream → Waits self.new.input mode (stream ++ octets.now)) }
+        ensures sent { OnOk result (sent_of self.new ≡ record {
+          arrived = self.old.arrived.items ++ octets.now;
+          released = self.old.released.items;
+          left = self.old.left;
+        }) }
+        ensures input { OnOk result ((mode : ItsMode) (stream : List ℕ) → Waits self.old.input mode stream
+            → Waits self.new.input mode (stream ++ octets.now)) }
         ensures err_sent { OnErr result (sent_of self.new ≡ sent_of self.old) }
         ensures err_input { OnErr result (self.new.input ≡ self.old.input) }
     {
@@ -54,7 +60,8 @@ impl Peer {
 pub(crate) fn leave(peers: &mut Vec<Peer>, number: u64)
     requires some { 1 ≤ number }
     requires within { number ≤ length peers.old.items }
-    ensures sent { sents peers.new.items ≡ with_numbered (sents peers.old.items) number (record (sent_at (sents peers.old.items) number) { left = true }) }
+    ensures sent { sents peers.new.items ≡ with_numbered (sents peers.old.items) number
+        (record (sent_at (sents peers.old.items) number) { left = true }) }
     ensures input { inputs peers.new.items ≡ inputs peers.old.items }
 {
     peers[(number - 1) as usize].left = true;
@@ -64,8 +71,10 @@ pub(crate) fn leave(peers: &mut Vec<Peer>, number: u64)
 pub(crate) fn hear(peers: &mut Vec<Peer>, number: u64, octets: &[u8]) -> Result<(), AllocError>
     requires some { 1 ≤ number }
     requires within { number ≤ length peers.old.items }
-    ensures sent { OnOk result (sents peers.new.items ≡ with_numbered (sents peers.old.items) number (record (sent_at (sents peers.old.items) number) { arrived = (sent_at (sents peers.old.items) number).arrived ++ octets.now })) }
-    ensures input { OnOk result (Becomes (inputs peers.old.items) (inputs peers.new.items) number (λ before after. (mode : ItsMode) (stream : List ℕ) → Waits before mode stream → Waits after mode (stream ++ octets.now))) }
+    ensures sent { OnOk result (sents peers.new.items ≡ with_numbered (sents peers.old.items) number
+        (record (sent_at (sents peers.old.items) number) { arrived = (sent_at (sents peers.old.items) number).arrived ++ octets.now })) }
+    ensures input { OnOk result (Becomes (inputs peers.old.items) (inputs peers.new.items) number
+        (λ before after. (mode : ItsMode) (stream : List ℕ) → Waits before mode stream → Waits after mode (stream ++ octets.now))) }
     ensures err_sent { OnErr result (sents peers.new.items ≡ sents peers.old.items) }
     ensures err_input { OnErr result (inputs peers.new.items ≡ inputs peers.old.items) }
 {
@@ -78,7 +87,8 @@ pub(crate) fn find(peers: &mut Vec<Peer>, number: u64, mode: Mode) -> Result<boo
     requires within { number ≤ length peers.old.items }
     requires may { (input : ItsInput) → numbered (inputs peers.old.items) number ≡ Some input → MayAsk input mode }
     ensures sent { sents peers.new.items ≡ sents peers.old.items }
-    ensures input { IfOk result (λ found. Becomes (inputs peers.old.items) (inputs peers.new.items) number (λ before after. (stream : List ℕ) → Waits before mode stream → Found found after mode stream)) }
+    ensures input { IfOk result (λ found. Becomes (inputs peers.old.items) (inputs peers.new.items) number
+        (λ before after. (stream : List ℕ) → Waits before mode stream → Found found after mode stream)) }
     ensures err_input { OnErr result (inputs peers.new.items ≡ inputs peers.old.items) }
 {
     peers[(number - 1) as usize].input.find(mode)
@@ -88,7 +98,8 @@ pub(crate) fn find(peers: &mut Vec<Peer>, number: u64, mode: Mode) -> Result<boo
 pub(crate) fn found(peers: &Vec<Peer>, number: u64) -> Option<&Message>
     requires some { 1 ≤ number }
     requires within { number ≤ length peers.now.items }
-    ensures { (input : ItsInput) → numbered (inputs peers.now.items) number ≡ Some input → MatchOption result (input.message ≡ None) (λ message. input.message ≡ Some message.now) }
+    ensures { (input : ItsInput) → numbered (inputs peers.now.items) number ≡ Some input
+        → MatchOption result (input.message ≡ None) (λ message. input.message ≡ Some message.now) }
 {
     peers[(number - 1) as usize].input.message.as_ref()
 }
@@ -98,17 +109,20 @@ pub(crate) fn forget(peers: &mut Vec<Peer>, number: u64)
     requires some { 1 ≤ number }
     requires within { number ≤ length peers.old.items }
     ensures sent { sents peers.new.items ≡ sents peers.old.items }
-    ensures input { Becomes (inputs peers.old.items) (inputs peers.new.items) number (λ before after. after ≡ record { reader = before.reader; message = None }) }
+    ensures input { Becomes (inputs peers.old.items) (inputs peers.new.items) number
+        (λ before after. after ≡ record { reader = before.reader; message = None }) }
 {
     peers[(number - 1) as usize].input.message = None;
 }
 
 /// Makes room for what one release hands out, for each session that exists.
 pub(crate) fn make_room(kernel: &Kernel, peers: &mut Vec<Peer>) -> Result<(), AllocError>
-    requires { (k : ℕ) (seat : Seat) → slice_get kernel.now.seats k ≡ Some seat → (1 ≤ seat.number) × (seat.number ≤ length peers.old.items) }
+    requires { (k : ℕ) (seat : Seat) → slice_get kernel.now.seats k ≡ Some seat
+        → (1 ≤ seat.number) × (seat.number ≤ length peers.old.items) }
     ensures sent { sents peers.new.items ≡ sents peers.old.items }
     ensures input { inputs peers.new.items ≡ inputs peers.old.items }
-    ensures room { OnOk result ((k : ℕ) (seat : Seat) → slice_get kernel.now.seats k ≡ Some seat → HasRoom peers.new.items seat.number 65536) }
+    ensures room { OnOk result ((k : ℕ) (seat : Seat) → slice_get kernel.now.seats k ≡ Some seat
+        → HasRoom peers.new.items seat.number 65536) }
 {
     kernel.kept();
     for place in 0..SESSIONS {
@@ -152,9 +166,11 @@ fn file_one(peers: &mut Vec<Peer>, number: u64, octets: &[u8])
     requires some { 1 ≤ number }
     requires within { number ≤ length peers.old.items }
     requires room { HasRoom peers.old.items number (length octets.now) }
-    ensures sent { sents peers.new.items ≡ with_numbered (sents peers.old.items) number (record (sent_at (sents peers.old.items) number) { released = (sent_at (sents peers.old.items) number).released ++ octets.now }) }
+    ensures sent { sents peers.new.items ≡ with_numbered (sents peers.old.items) number
+        (record (sent_at (sents peers.old.items) number) { released = (sent_at (sents peers.old.items) number).released ++ octets.now }) }
     ensures input { inputs peers.new.items ≡ inputs peers.old.items }
-    ensures room { (needed : ℕ → ℕ) → HaveRoom peers.old.items (λ k. (if number == k then length octets.now else 0) + needed k) → HaveRoom peers.new.items needed }
+    ensures room { (needed : ℕ → ℕ) → HaveRoom peers.old.items (λ k. (if number == k then length octets.now else 0) + needed k)
+        → HaveRoom peers.new.items needed }
 {
     let _ = peers[(number - 1) as usize]
         .released

@@ -30,7 +30,8 @@ module _ (host : Octets) (S : Spool) (x : Session) (m : Message) (t : ℕ) where
   served_by true c makes = absurd (cc)
   served_by false c makes = refl
 
-  pub not_long : (k : Mark) (c : Change) → k ≡ step_mark (is_long host S x m) → (answer host S x m t k).change ≡ Some c → is_long host S x m ≡ false
+  pub not_long : (k : Mark) (c : Change) → k ≡ step_mark (is_long host S x m) → (answer host S x m t k).change ≡ Some c
+      → is_long host S x m ≡ false
   not_long k c is makes = served_by (is_long host S x m) c (ap (λ (k : Mark). (answer host S x m t k).change) (sym is) ∙ makes)
 
   pub is_served : (k : Mark) (c : Change) → k ≡ step_mark (is_long host S x m) → (answer host S x m t k).change ≡ Some c → k ≡ mark.Served
@@ -40,16 +41,19 @@ module _ (host : Octets) (S : Spool) (x : Session) (m : Message) (t : ℕ) where
     abbrev mark_by : Bool → Option Change → Mark
     mark_by b change = if b then mark.Long else if lacks_room_for lacks change then mark.Full else mark.Served
 
-    still_by : (b : Bool) → (answer host S x m t (step_mark b)).change ≡ None → step_mark b ≡ mark_by b (answer host S x m t mark.Served).change
+    still_by : (b : Bool) → (answer host S x m t (step_mark b)).change ≡ None
+        → step_mark b ≡ mark_by b (answer host S x m t mark.Served).change
     still_by true none = refl
     still_by false none = sym (ap (mark_by false) none)
 
     -- without a change the mark is the step's
-    pub mark_still : (k : Mark) → k ≡ step_mark (is_long host S x m) → (answer host S x m t k).change ≡ None → k ≡ mark_in host S lacks x m t
+    pub mark_still : (k : Mark) → k ≡ step_mark (is_long host S x m) → (answer host S x m t k).change ≡ None
+        → k ≡ mark_in host S lacks x m t
     mark_still k is none = is ∙ still_by (is_long host S x m) (ap (λ (k : Mark). (answer host S x m t k).change) (sym is) ∙ none)
 
     -- with one it is served, or there is no room
-    pub mark_filed : (k : Mark) (c : Change) (full : Bool) → k ≡ step_mark (is_long host S x m) → (answer host S x m t k).change ≡ Some c → lacks c ≡ full → mark_in host S lacks x m t ≡ (if full then mark.Full else mark.Served)
+    pub mark_filed : (k : Mark) (c : Change) (full : Bool) → k ≡ step_mark (is_long host S x m) → (answer host S x m t k).change ≡ Some c
+        → lacks c ≡ full → mark_in host S lacks x m t ≡ (if full then mark.Full else mark.Served)
     mark_filed k c full is makes room =
         let change = ap (λ (k : Mark). (answer host S x m t k).change) (sym (is_served k c is makes)) ∙ makes in
         (λ i. mark_by (not_long k c is makes i) (change i)) ∙ ap (λ (b : Bool). if b then mark.Full else mark.Served) room
@@ -82,8 +86,10 @@ no_room P Q e is (inr full) = full.1
 abbrev pub full_served : Answered → Served
 full_served said = record { reply = said.answer.reply; next = said.answer.next; mark = mark.Full; reads = said.reads }
 
-pub is_full_served : (host : Octets) (S : Spool) (lacks : Change → Bool) (adds : Change → Type 0) (stays : Type 0) (x : Session) (m : Message) (t : ℕ) (k : Mark) (c : Change)
-    → k ≡ step_mark host S x m t (is_long host S x m) → (answer host S x m t k).change ≡ Some c → lacks c ≡ true → stays → IsServed host S lacks adds stays x m t (full_served (answered (full_answer x x.awaits) 0))
+pub is_full_served : (host : Octets) (S : Spool) (lacks : Change → Bool) (adds : Change → Type 0) (stays : Type 0) (x : Session)
+    (m : Message) (t : ℕ) (k : Mark) (c : Change)
+    → k ≡ step_mark host S x m t (is_long host S x m) → (answer host S x m t k).change ≡ Some c → lacks c ≡ true → stays
+    → IsServed host S lacks adds stays x m t (full_served (answered (full_answer x x.awaits) 0))
 is_full_served host S lacks adds stays x m t k c is makes room same = record {
   mark = sym (mark_filed host S x m t lacks k c true is makes room);
   reply = ap (λ (a : Answer). a.reply) (sym (full_is host S x m t));

@@ -28,7 +28,8 @@ abbrev pub Grows : (Change → Type 0) → Type 0 → Option Change → Type 0
 Grows adds stays None = stays
 Grows adds stays (Some c) = adds c
 
-pub record IsServed (host : Octets) (S : Spool) (lacks : Change → Bool) (adds : Change → Type 0) (stays : Type 0) (x : Session) (m : Message) (t : ℕ) (served : Served) : Type 0 where
+pub record IsServed (host : Octets) (S : Spool) (lacks : Change → Bool) (adds : Change → Type 0) (stays : Type 0) (x : Session)
+    (m : Message) (t : ℕ) (served : Served) : Type 0 where
   pub mark : served.mark ≡ mark_in host S lacks x m t
   pub reply : served.reply ≡ (answer host S x m t served.mark).reply
   pub next : served.next ≡ (answer host S x m t served.mark).next

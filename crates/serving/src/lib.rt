@@ -39,7 +39,8 @@ pub trait Files: LookUps {
         requires { IsLawful (Self.host_of self.old) (Self.changes self.old ++ change.now ∷ []) }
         ensures { MatchResult result
             (λ done. (lacks_room self.old change.now ≡ false) × adds self.old self.new change.now)
-            (λ error. (((error ≡ FileError.Memory) × (lacks_room self.old change.now ≡ false)) ⊎ ((error ≡ FileError.Full) × (lacks_room self.old change.now ≡ true))) × (self.new ≡ self.old)) };
+            (λ error. (((error ≡ FileError.Memory) × (lacks_room self.old change.now ≡ false))
+            ⊎ ((error ≡ FileError.Full) × (lacks_room self.old change.now ≡ true))) × (self.new ≡ self.old)) };
 }
 
 /// The outcome of a message that was served.
@@ -65,7 +66,8 @@ pub fn serve<S: Files>(
 ) -> Result<Served, AllocError>
     requires moment { moment < moment_limit }
     requires session { IsLawfulSession (S.host_of spool.old) session.now }
-    ensures ok { IfOk result (IsServed (S.host_of spool.old) (S.changes spool.old) (S.lacks_room spool.old) (S.adds spool.old spool.new) (spool.new ≡ spool.old) session.now message.now moment) }
+    ensures ok { IfOk result (IsServed (S.host_of spool.old) (S.changes spool.old) (S.lacks_room spool.old) (S.adds spool.old spool.new)
+        (spool.new ≡ spool.old) session.now message.now moment) }
     ensures err { OnErr result (spool.new ≡ spool.old) }
 {
     lawful_stays();

@@ -25,7 +25,8 @@ pub fn change<B: Blocks>(
 ) -> Result<Change, AllocError>
     requires room { HasRoom inodes (B.blocks blocks.now) }
     requires there { HasChange inodes (B.blocks blocks.now) places.now serial }
-    ensures { IfOk result (λ change. (host : Octets) (S : Spool) → Holds host inodes (B.blocks blocks.now) S → slice_get S (serial - 1) ≡ Some change) }
+    ensures { IfOk result (λ change. (host : Octets) (S : Spool) → Holds host inodes (B.blocks blocks.now) S
+        → slice_get S (serial - 1) ≡ Some change) }
 {
     let at = places.changes()[(serial - 1) as usize];
     let file = file_at(alloc, blocks, inodes, at)?;

@@ -32,30 +32,39 @@ parted_none false false = refl
 
 -- blocks or inodes are too few
 abbrev pub lacks : ℕ → ℕ → Spool → ℕ → Bool
-lacks blocks inodes S files = nat_lt (free_blocks_beside blocks inodes (files_of S)) 256 || nat_lt (free_inodes_beside inodes (files_of S)) files
+lacks blocks inodes S files = nat_lt (free_blocks_beside blocks inodes (files_of S)) 256 || nat_lt
+    (free_inodes_beside inodes (files_of S)) files
 
-pub full_group : (blocks inodes : ℕ) (S : Spool) (name : Octets) (status : ℕ) (description : Octets) (moment : ℕ) → is_full_for blocks inodes S (Group name status description moment) ≡ (lacks blocks inodes S 3 || nat_le 4096 (length (groups S)))
+pub full_group : (blocks inodes : ℕ) (S : Spool) (name : Octets) (status : ℕ) (description : Octets) (moment : ℕ)
+    → is_full_for blocks inodes S (Group name status description moment) ≡ (lacks blocks inodes S 3 || nat_le 4096 (length (groups S)))
 unfolding is_full_for
 full_group blocks inodes S name status description moment =
-    parted (nat_lt (free_blocks_beside blocks inodes (files_of S)) 256) (nat_lt (free_inodes_beside inodes (files_of S)) 3) (nat_le 4096 (length (groups S)))
+    parted (nat_lt (free_blocks_beside blocks inodes (files_of S)) 256) (nat_lt (free_inodes_beside inodes (files_of S)) 3)
+    (nat_le 4096 (length (groups S)))
 
-pub full_expiry : (blocks inodes : ℕ) (S : Spool) (group : Octets) (number : ℕ) → is_full_for blocks inodes S (Expire group number) ≡ lacks blocks inodes S 1
+pub full_expiry : (blocks inodes : ℕ) (S : Spool) (group : Octets) (number : ℕ)
+    → is_full_for blocks inodes S (Expire group number) ≡ lacks blocks inodes S 1
 unfolding is_full_for
-full_expiry blocks inodes S group number = parted_none (nat_lt (free_blocks_beside blocks inodes (files_of S)) 256) (nat_lt (free_inodes_beside inodes (files_of S)) 1)
+full_expiry blocks inodes S group number =
+    parted_none (nat_lt (free_blocks_beside blocks inodes (files_of S)) 256) (nat_lt (free_inodes_beside inodes (files_of S)) 1)
 
 pub group_count : (S : Spool) (gs : List GroupIndex) → gs ≡ map (group_index S) (groups S) → length gs ≡ length (groups S)
 group_count S gs is = ap (λ (l : List GroupIndex). length l) is ∙ length-map (groups S) (group_index S)
 
-pub full_any : (blocks inodes : ℕ) (S : Spool) (name : Octets) (status : ℕ) (description : Octets) (moment : ℕ) → is_full_for blocks inodes S (Group name status description moment) ≡ is_full_for blocks inodes S (Group [] 0 [] 0)
-full_any blocks inodes S name status description moment = full_group blocks inodes S name status description moment ∙ sym (full_group blocks inodes S [] 0 [] 0)
+pub full_any : (blocks inodes : ℕ) (S : Spool) (name : Octets) (status : ℕ) (description : Octets) (moment : ℕ)
+    → is_full_for blocks inodes S (Group name status description moment) ≡ is_full_for blocks inodes S (Group [] 0 [] 0)
+full_any blocks inodes S name status description moment = full_group blocks inodes S name status description moment
+    ∙ sym (full_group blocks inodes S [] 0 [] 0)
 
 -- ---- refusals
 
-pub group_refused : (s : SpoolView) (name : Octets) (c : Change) (here full : Bool) → is_here s.changes name ≡ here → is_full_for (length s.blocks) s.inodes s.changes c ≡ full
+pub group_refused : (s : SpoolView) (name : Octets) (c : Change) (here full : Bool) → is_here s.changes name ≡ here
+    → is_full_for (length s.blocks) s.inodes s.changes c ≡ full
     → group_refusal s name c ≡ (if here then Some add.Exists else if full then Some add.Full else None)
 group_refused s name c here full named room = λ k. if named k then Some add.Exists else if room k then Some add.Full else None
 
-pub expiry_refused : (s : SpoolView) (g : Octets) (n : ℕ) (has full : Bool) → has_number s.changes g n ≡ has → is_full_for (length s.blocks) s.inodes s.changes (Expire g n) ≡ full
+pub expiry_refused : (s : SpoolView) (g : Octets) (n : ℕ) (has full : Bool) → has_number s.changes g n ≡ has
+    → is_full_for (length s.blocks) s.inodes s.changes (Expire g n) ≡ full
     → expiry_refusal s g n ≡ (if has then (if full then Some expire.Full else None) else Some expire.NotFound)
 expiry_refused s g n has full there room = λ k. if there k then (if room k then Some expire.Full else None) else Some expire.NotFound
 

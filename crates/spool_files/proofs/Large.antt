@@ -1,5 +1,6 @@
 -- Whether the files of groups are too large for another article.
-use Rattle.std.proofs.Common.{◌≡◌, inl, inr, ◌<◌, ℕ, zero, suc, ◌*◌, Bool, true, false, List, [], ◌∷◌, length, get_or, refl, sym, ◌∙◌, ap, subst, arith}
+use Rattle.std.proofs.Common.{◌≡◌, inl, inr, ◌<◌, ℕ, zero, suc, ◌*◌, Bool, true, false, List, [], ◌∷◌, length, get_or, refl, sym, ◌∙◌, ap}
+use Rattle.std.proofs.Common.{subst, arith}
 use Rattle.std.specs.Prelude.{Option, Some, None, nat_lt, option_map, is_some, ◌||◌, if◌then◌else◌}
 use Rattle.std.specs.List.{list_any}
 use Rattle.std.proofs.lemmas.Bool.{cases_lt, le-ltb, lt-ltb, true≢false}
@@ -48,9 +49,11 @@ pub large_group : (S : Spool) (name : Octets) (i : GroupIndex) → Some i ≡ op
 large_group S name i is =
     let its = group_is S name i is in
     let count : length i.filed ≡ high S name =
-    ap (λ (j : GroupIndex). length j.filed) its.its_index ∙ length-map (filed_in S its.group.name) (λ (a : NewsArticle). a.serial) ∙ ap (high S) its.its_name in
+    ap (λ (j : GroupIndex). length j.filed) its.its_index ∙ length-map (filed_in S its.group.name) (λ (a : NewsArticle). a.serial)
+    ∙ ap (high S) its.its_name in
     let numbers : 16 * length i.filed ≡ length (numbers_file S name) = ap (λ (n : ℕ). 16 * n) count ∙ sym (numbers_size S name) in
-    let overview : end_of i ≡ length (overview_file S name) = ap end_of its.its_index ∙ overview_size S its.group ∙ ap (λ (g : Octets). length (overview_file S g)) its.its_name in
+    let overview : end_of i ≡ length (overview_file S name) = ap end_of its.its_index ∙ overview_size S its.group
+    ∙ ap (λ (g : Octets). length (overview_file S g)) its.its_name in
     λ k. nat_lt 268423168 (numbers k) || nat_lt 268423168 (overview k)
 
 pub never_here : (S : Spool) (name : Octets) → None ≡ option_map (group_index S) (group_named S name) → is_here S name ≡ true → ⊥
@@ -64,17 +67,23 @@ parted false true x = refl
 parted false false true = refl
 parted false false false = refl
 
-pub full_article : (blocks inodes : ℕ) (S : Spool) (text : Octets) (filed : List Octets) (moment : ℕ) → is_full_for blocks inodes S (Article text filed moment) ≡ (lacks blocks inodes S 1 || list_any (one_large S) filed)
+pub full_article : (blocks inodes : ℕ) (S : Spool) (text : Octets) (filed : List Octets) (moment : ℕ)
+    → is_full_for blocks inodes S (Article text filed moment) ≡ (lacks blocks inodes S 1 || list_any (one_large S) filed)
 unfolding is_full_for
 full_article blocks inodes S text filed moment =
-    parted (nat_lt (Rattle.model.specs.Room.free_blocks_beside blocks inodes (files_of S)) 256) (nat_lt (Rattle.model.specs.Room.free_inodes_beside inodes (files_of S)) 1) (list_any (one_large S) filed)
+    parted (nat_lt (Rattle.model.specs.Room.free_blocks_beside blocks inodes (files_of S)) 256)
+    (nat_lt (Rattle.model.specs.Room.free_inodes_beside inodes (files_of S)) 1) (list_any (one_large S) filed)
 
-pub full_any_article : (blocks inodes : ℕ) (S : Spool) (text : Octets) (filed : List Octets) (moment : ℕ) → is_full_for blocks inodes S (Article text filed moment) ≡ is_full_for blocks inodes S (Article [] filed 0)
-full_any_article blocks inodes S text filed moment = full_article blocks inodes S text filed moment ∙ sym (full_article blocks inodes S [] filed 0)
+pub full_any_article : (blocks inodes : ℕ) (S : Spool) (text : Octets) (filed : List Octets) (moment : ℕ)
+    → is_full_for blocks inodes S (Article text filed moment) ≡ is_full_for blocks inodes S (Article [] filed 0)
+full_any_article blocks inodes S text filed moment = full_article blocks inodes S text filed moment
+    ∙ sym (full_article blocks inodes S [] filed 0)
 
-pub article_refused : (s : SpoolView) (c : Change) (full : Bool) → is_full_for (length s.blocks) s.inodes s.changes c ≡ full → article_refusal s c ≡ (if full then Some file.Full else None)
+pub article_refused : (s : SpoolView) (c : Change) (full : Bool) → is_full_for (length s.blocks) s.inodes s.changes c ≡ full
+    → article_refusal s c ≡ (if full then Some file.Full else None)
 article_refused s c full room = ap (λ (b : Bool). if b then Some file.Full else None) room
 
 -- the groups of an article that may be filed are here
-pub are_filed : (host : Octets) (S : Spool) (text : Octets) (filed : List Octets) (moment : ℕ) → MayFile host S text filed moment → AreHere S filed
+pub are_filed : (host : Octets) (S : Spool) (text : Octets) (filed : List Octets) (moment : ℕ) → MayFile host S text filed moment
+    → AreHere S filed
 are_filed host S text filed moment may = subst (AreHere S) (sym may.filed) (are_here S (groups_of text))

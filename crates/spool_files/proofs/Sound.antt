@@ -20,7 +20,8 @@ changes_bound s = ∥∥₁_elim s.sound (few_prop (length s.changes) 32768) (λ
 -- the last change may follow those before it
 last_may : (host : Octets) (before cs : Spool) (c : Change) → IsLawfulAfter host before (cs ++ c ∷ []) → MayFollow host (before ++ cs) c
 last_may host before [] c lawful = subst (λ (S : Spool). MayFollow host S c) (sym (append-nil before)) lawful.0
-last_may host before (d ∷ cs) c lawful = subst (λ (S : Spool). MayFollow host S c) (append_assoc before (d ∷ []) cs) (last_may host (before ++ d ∷ []) cs c lawful.1)
+last_may host before (d ∷ cs) c lawful =
+    subst (λ (S : Spool). MayFollow host S c) (append_assoc before (d ∷ []) cs) (last_may host (before ++ d ∷ []) cs c lawful.1)
 
 pub may_follow : (host : Octets) (S : Spool) (c : Change) → IsLawful host (S ++ c ∷ []) → MayFollow host S c
 may_follow host S c lawful = last_may host [] S c lawful

@@ -10,7 +10,8 @@ use Rattle.spool_texts.specs.Texts.{HasNumbers}
 use Rattle.volume.specs.Volume.{VolumeView}
 use Rattle.spool_growing.specs.Kept.{IsKept}
 
-module _ (host : Octets) (inodes : ℕ) (volume : VolumeView) (index : IndexView) (places : FilePlaces) (S : Spool) (kept : IsKept host inodes volume index places S) where
+module _ (host : Octets) (inodes : ℕ) (volume : VolumeView) (index : IndexView) (places : FilePlaces) (S : Spool)
+    (kept : IsKept host inodes volume index places S) where
   -- what is seen are the blocks of the cache
   placed_there : ArePlaces inodes volume.seen S places
   placed_there = subst (λ (blocks : List Octets). ArePlaces inodes blocks S places) (sym kept.seen) kept.placed
@@ -22,5 +23,15 @@ module _ (host : Octets) (inodes : ℕ) (volume : VolumeView) (index : IndexView
     by_name (Some g) is = refl
     by_name None is = absurd (omega (arith, above, order, below, ap length (new_has_nothing host S group kept.is.held.lawful is)))
 
-  pub has_numbers : (group : Octets) (from to : ℕ) → low S group ≤ from → from ≤ to → to ≤ high S group → HasNumbers inodes volume.seen index places group from to
-  has_numbers group from to above order below = record { changes = S; indexed = kept.indexed; placed = placed_there; here = here group from to above order below; low = above; order = order; high = below }
+  pub has_numbers : (group : Octets) (from to : ℕ) → low S group ≤ from → from ≤ to → to ≤ high S group
+      → HasNumbers inodes volume.seen index places group from to
+  has_numbers group from to above order below =
+      record {
+        changes = S;
+        indexed = kept.indexed;
+        placed = placed_there;
+        here = here group from to above order below;
+        low = above;
+        order = order;
+        high = below;
+      }

@@ -25,7 +25,9 @@ spool_set = Prim.hlevel props
 pub one_stands : (host : Octets) (inodes : ℕ) (blocks : List Octets) → IsProp (StandsIn host inodes blocks)
 one_stands host inodes blocks p q = λ i. record { changes = same i; held = along i } where
   same : p.changes ≡ q.changes
-  same = ∥∥₁_elim p.held (spool_set p.changes q.changes) (λ one. ∥∥₁_elim q.held (spool_set p.changes q.changes) (λ other. holds_one host host inodes blocks p.changes q.changes one.room.few one.held other.held))
+  same = ∥∥₁_elim p.held (spool_set p.changes q.changes)
+      (λ one. ∥∥₁_elim q.held (spool_set p.changes q.changes)
+      (λ other. holds_one host host inodes blocks p.changes q.changes one.room.few one.held other.held))
 
   along : PathP (λ i. ∥ IsHeld host inodes blocks (same i) ∥₁) p.held q.held
   along = is_prop→PathP (λ i. ∥ IsHeld host inodes blocks (same i) ∥₁) (λ i. ∥∥₁_prop) p.held q.held

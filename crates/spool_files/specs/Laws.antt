@@ -59,4 +59,5 @@ changes_lawful s = ∥∥₁_elim s.sound (lawful_prop s.host [] s.changes) (λ 
 
 -- each serial fits into ten digits
 pub changes_few : (s : SpoolView) → length s.changes + 1 < 10 ^ 10
-changes_few s = ∥∥₁_elim s.sound (below_prop (length s.changes + 1) (10 ^ 10)) (λ is. Prim.omega (arith, fewer_than_inodes s.host s.inodes s.blocks s.changes is.held, is.room.few))
+changes_few s = ∥∥₁_elim s.sound (below_prop (length s.changes + 1) (10 ^ 10))
+    (λ is. Prim.omega (arith, fewer_than_inodes s.host s.inodes s.blocks s.changes is.held, is.room.few))

@@ -16,7 +16,8 @@ use Rattle.spool_files.specs.declared.errors.ExpireError.TheVariants as expire
 -- an answer or `Memory` if no test fails, and otherwise that test's refusal; a refusal leaves the spool as it was
 abbrev pub Tested : {T E : Type 0} → E → Option E → SpoolView → SpoolView → Result T E → (T → Type 0) → Type 0
 Tested memory refusal old new result done =
-    MatchResult result (λ answer. (refusal ≡ None) × done answer) (λ error. (((error ≡ memory) × (refusal ≡ None)) ⊎ (refusal ≡ Some error)) × (new ≡ old))
+    MatchResult result (λ answer. (refusal ≡ None) × done answer) (λ error. (((error ≡ memory) × (refusal ≡ None)) ⊎ (refusal ≡ Some error))
+    × (new ≡ old))
 
 abbrev pub is_full_for : SpoolView → Change → Bool
 is_full_for s c = is_full (length s.blocks) s.inodes s.changes (Some c)
@@ -31,7 +32,8 @@ has_number S g n = is_here S g && (nat_le (low S g) n && nat_le n (high S g))
 
 -- an expiry: the group or the number does not exist, or there is no room
 abbrev pub expiry_refusal : SpoolView → Octets → ℕ → Option ExpireError
-expiry_refusal s g n = if has_number s.changes g n then (if is_full_for s (Expire g n) then Some expire.Full else None) else Some expire.NotFound
+expiry_refusal s g n = if has_number s.changes g n then (if is_full_for s (Expire g n) then Some expire.Full else None) else Some
+    expire.NotFound
 
 -- an article that may follow: there is no room
 abbrev pub article_refusal : SpoolView → Change → Option FileError
@@ -40,4 +42,6 @@ article_refusal s c = if is_full_for s c then Some file.Full else None
 -- if there was room, a change was filed or memory was refused; a refusal leaves the spool as it was
 abbrev pub IsFiled : SpoolView → SpoolView → Change → Result (Unit {0}) FileError → Type 0
 IsFiled old new c result =
-    MatchResult result (λ done. (is_full_for old c ≡ false) × Adds old new c) (λ error. (((error ≡ file.Memory) × (is_full_for old c ≡ false)) ⊎ ((error ≡ file.Full) × (is_full_for old c ≡ true))) × (new ≡ old))
+    MatchResult result (λ done. (is_full_for old c ≡ false) × Adds old new c)
+    (λ error. (((error ≡ file.Memory) × (is_full_for old c ≡ false)) ⊎ ((error ≡ file.Full) × (is_full_for old c ≡ true)))
+    × (new ≡ old))

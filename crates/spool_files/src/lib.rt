@@ -1,7 +1,8 @@
 //! The list of accepted changes, in files over the cached logical blocks, with an index and the places of the files in memory.
 #![tactic(auto)]
 
-ghost use Rattle.std.specs.Prelude.{◌≡◌, ◌⊎◌, ◌+◌, ◌-◌, ◌<◌, ◌≤◌, ◌||◌, ◌&&◌, nat_lt, ℕ, List, [], Some, false, None, length, replicate, slice_index_or, IsTrue, OnErr, OnOk};
+ghost use Rattle.std.specs.Prelude.{◌≡◌, ◌⊎◌, ◌+◌, ◌-◌, ◌<◌, ◌≤◌, ◌||◌, ◌&&◌, nat_lt, ℕ, List, [], Some, false, None, length, replicate};
+ghost use Rattle.std.specs.Prelude.{slice_index_or, IsTrue, OnErr, OnOk};
 ghost use Rattle.std.specs.List.{All, flat_map, list_all};
 ghost use Rattle.model.specs.Calendar.{moment_limit};
 ghost use Rattle.model.specs.Lawful.{MayExpire, MayFile, MayMake, is_description_octet};
@@ -86,9 +87,17 @@ impl Model for Spool {
 
     ghost Value = { SpoolView };
 
-    ghost view = { λ s. record { host = s.host; inodes = s.inodes; changes = s.stands.changes; blocks = s.volume.cache; dirty = s.volume.dirty; sound = s.stands.held } };
+    ghost view = { λ s. record {
+      host = s.host;
+      inodes = s.inodes;
+      changes = s.stands.changes;
+      blocks = s.volume.cache;
+      dirty = s.volume.dirty;
+      sound = s.stands.held;
+    } };
 
-    ghost invariant = { λ s. IsKept s.host s.inodes s.volume s.index s.places s.stands.changes × AreFree s.free_inodes s.inodes s.stands.changes × IsKnown s.inodes s.free s.volume.cache };
+    ghost invariant = { λ s. IsKept s.host s.inodes s.volume s.index s.places s.stands.changes
+        × AreFree s.free_inodes s.inodes s.stands.changes × IsKnown s.inodes s.free s.volume.cache };
 }
 
 impl Spool {
@@ -240,7 +249,8 @@ impl Spool {
         requires printable { IsTrue (list_all is_description_octet description.now) }
         requires in_time { moment < moment_limit }
         ensures { Tested AddError.Memory (group_refusal self.old name.now (changed.Group name.now status description.now moment)) self.old self.new result
-            (λ serial. (serial ≡ length self.old.changes + 1) × Adds self.old self.new (changed.Group name.now status description.now moment)) }
+            (λ serial. (serial ≡ length self.old.changes + 1)
+            × Adds self.old self.new (changed.Group name.now status description.now moment)) }
     {
         if self.is_here(name) {
             return Err(AddError::Exists);

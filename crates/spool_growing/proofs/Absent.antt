@@ -1,5 +1,6 @@
 -- Names that no file of a spool has.
-use Rattle.std.proofs.Common.{◌≡◌, ◌≢◌, ◌<◌, ◌≤◌, ◌^◌, ℕ, zero, suc, ◌+◌, ◌/◌, ◌%◌, Bool, true, false, cond, [], ◌∷◌, length, get_or, drop, refl, sym, ◌∙◌, ap, subst, arith}
+use Rattle.std.proofs.Common.{◌≡◌, ◌≢◌, ◌<◌, ◌≤◌, ◌^◌, ℕ, zero, suc, ◌+◌, ◌/◌, ◌%◌, Bool, true, false, cond, [], ◌∷◌, length, get_or, drop}
+use Rattle.std.proofs.Common.{refl, sym, ◌∙◌, ap, subst, arith}
 use Rattle.std.specs.Prelude.{bytes_eq, filter_map, find, flat_map, Option, Some, None}
 use Rattle.std.specs.List.{Contains}
 use Rattle.std.proofs.lemmas.List.{same_from_push}
@@ -30,10 +31,12 @@ by_first name q x is g n o = record {
 }
 
 other_group : (name g : Octets) → bytes_eq g name ≡ false → g ≢ name
-other_group name g other same = absurd (let one : bytes_eq g name ≡ true = ap (λ (q : Octets). bytes_eq q name) same ∙ bytes_same name in cc)
+other_group name g other same = absurd (let one : bytes_eq g name ≡ true = ap (λ (q : Octets). bytes_eq q name) same ∙ bytes_same name in
+    cc)
 
 -- a list's names begin otherwise, or are of another group
-pub group_files_lack : (name g : Octets) → g ≢ name → LacksNames name (group_name g) × LacksNames name (numbers_name g) × LacksNames name (overview_name g)
+pub group_files_lack : (name g : Octets) → g ≢ name
+    → LacksNames name (group_name g) × LacksNames name (numbers_name g) × LacksNames name (overview_name g)
 group_files_lack name g other = (
   record {
     group = λ same. other (ap (λ (o : Octets). drop 2 o) same);
@@ -53,7 +56,8 @@ group_files_lack name g other = (
 )
 
 -- the first group isn't it, and the others lack it
-parted : (name g : Octets) (group : NewsGroup) (rest : Option NewsGroup) (b : Bool) → bytes_eq g name ≡ b → cond b (Some group) rest ≡ None → (bytes_eq g name ≡ false) × (rest ≡ None)
+parted : (name g : Octets) (group : NewsGroup) (rest : Option NewsGroup) (b : Bool) → bytes_eq g name ≡ b → cond b (Some group) rest ≡ None
+    → (bytes_eq g name ≡ false) × (rest ≡ None)
 parted name g group rest true is none = absurd (cc)
 parted name g group rest false is none = (is, none)
 
@@ -63,21 +67,31 @@ named_of name file f is lacks = subst (λ (x : File). LacksNames name x.name) is
 -- the files of the first group lack them, and the later groups have another name
 first_lacks : (name : Octets) (n : ℕ) (g : Octets) (status : ℕ) (description : Octets) (moment : ℕ) (R : Spool)
     → find (λ (h : NewsGroup). is_name name h.name) (filter_map group_made (entries_from n (Group g status description moment ∷ R))) ≡ None
-    → (LacksNames name (group_name g) × LacksNames name (numbers_name g) × LacksNames name (overview_name g)) × (find (λ (h : NewsGroup). is_name name h.name) (filter_map group_made (entries_from (suc n) R)) ≡ None)
+    → (LacksNames name (group_name g) × LacksNames name (numbers_name g) × LacksNames name (overview_name g))
+    × (find (λ (h : NewsGroup). is_name name h.name) (filter_map group_made (entries_from (suc n) R)) ≡ None)
 first_lacks name n g status description moment R none =
-    let parts = parted name g (record { serial = n; name = g; status = status; description = description; moment = moment }) (find (λ (h : NewsGroup). is_name name h.name) (filter_map group_made (entries_from (suc n) R))) (bytes_eq g name) refl none in
+    let parts = parted name g (record { serial = n; name = g; status = status; description = description; moment = moment })
+    (find (λ (h : NewsGroup). is_name name h.name) (filter_map group_made (entries_from (suc n) R))) (bytes_eq g name) refl none in
     (group_files_lack name g (other_group name g parts.0), parts.1)
 
-groups_lack : (S : Spool) (name : Octets) (n : ℕ) (R : Spool) → find (λ (g : NewsGroup). is_name name g.name) (filter_map group_made (entries_from n R)) ≡ None → (f : File) → Contains (flat_map (entry_files S) (entries_from n R)) f → LacksNames name f.name
+groups_lack : (S : Spool) (name : Octets) (n : ℕ) (R : Spool)
+    → find (λ (g : NewsGroup). is_name name g.name) (filter_map group_made (entries_from n R)) ≡ None → (f : File)
+    → Contains (flat_map (entry_files S) (entries_from n R)) f → LacksNames name f.name
 groups_lack S name n [] none f (k, low, is) = absurd (omega arith)
-groups_lack S name n (Article text gs moment ∷ R) none f (zero, low, is) = named_of name _ f is (by_first name (article_name n) 97 refl (λ e. omega arith) (λ e. omega arith) (λ e. omega arith))
+groups_lack S name n (Article text gs moment ∷ R) none f (zero, low, is) =
+    named_of name _ f is (by_first name (article_name n) 97 refl (λ e. omega arith) (λ e. omega arith) (λ e. omega arith))
 groups_lack S name n (Article text gs moment ∷ R) none f (suc k, low, is) = groups_lack S name (suc n) R none f (k, omega arith, is)
-groups_lack S name n (Expire g number ∷ R) none f (zero, low, is) = named_of name _ f is (by_first name (expiry_name n) 120 refl (λ e. omega arith) (λ e. omega arith) (λ e. omega arith))
+groups_lack S name n (Expire g number ∷ R) none f (zero, low, is) =
+    named_of name _ f is (by_first name (expiry_name n) 120 refl (λ e. omega arith) (λ e. omega arith) (λ e. omega arith))
 groups_lack S name n (Expire g number ∷ R) none f (suc k, low, is) = groups_lack S name (suc n) R none f (k, omega arith, is)
-groups_lack S name n (Group g status description moment ∷ R) none f (zero, low, is) = named_of name _ f is (first_lacks name n g status description moment R none).0.0
-groups_lack S name n (Group g status description moment ∷ R) none f (suc zero, low, is) = named_of name _ f is (first_lacks name n g status description moment R none).0.1
-groups_lack S name n (Group g status description moment ∷ R) none f (suc (suc zero), low, is) = named_of name _ f is (first_lacks name n g status description moment R none).0.2
-groups_lack S name n (Group g status description moment ∷ R) none f (suc (suc (suc k)), low, is) = groups_lack S name (suc n) R (first_lacks name n g status description moment R none).1 f (k, omega arith, is)
+groups_lack S name n (Group g status description moment ∷ R) none f (zero, low, is) =
+    named_of name _ f is (first_lacks name n g status description moment R none).0.0
+groups_lack S name n (Group g status description moment ∷ R) none f (suc zero, low, is) =
+    named_of name _ f is (first_lacks name n g status description moment R none).0.1
+groups_lack S name n (Group g status description moment ∷ R) none f (suc (suc zero), low, is) =
+    named_of name _ f is (first_lacks name n g status description moment R none).0.2
+groups_lack S name n (Group g status description moment ∷ R) none f (suc (suc (suc k)), low, is) =
+    groups_lack S name (suc n) R (first_lacks name n g status description moment R none).1 f (k, omega arith, is)
 
 pub lacks_names : (S : Spool) (name : Octets) → group_named S name ≡ None → (f : File) → Contains (files_of S) f → LacksNames name f.name
 unfolding group_named groups entries files_of
@@ -98,7 +112,10 @@ pub record LacksSerial (m : ℕ) (q : Octets) : Type 0 where
   pub expiry : q ≢ expiry_name m
 
 other_first : (m : ℕ) (q : Octets) (x : ℕ) → get_or q 0 0 ≡ x → x ≢ 97 → x ≢ 120 → LacksSerial m q
-other_first m q x is a e = record { article = not_first q (article_name m) x 97 is refl a; expiry = not_first q (expiry_name m) x 120 is refl e }
+other_first m q x is a e = record {
+  article = not_first q (article_name m) x 97 is refl a;
+  expiry = not_first q (expiry_name m) x 120 is refl e;
+}
 
 serial_of : (m : ℕ) (file f : File) → file ≡ f → LacksSerial m file.name → LacksSerial m f.name
 serial_of m file f is lacks = subst (λ (x : File). LacksSerial m x.name) is lacks
@@ -106,22 +123,29 @@ serial_of m file f is lacks = subst (λ (x : File). LacksSerial m x.name) is lac
 earlier : (m n : ℕ) → n < m → m < 10 ^ 10 → last_digits 10 n ≢ last_digits 10 m
 earlier m n less small same = absurd (let one : n ≡ m = digits_one 10 n m (omega (arith, less, small)) small same in omega arith)
 
-serials_lack : (S : Spool) (m n : ℕ) (R : Spool) → n + length R ≤ m → m < 10 ^ 10 → (f : File) → Contains (flat_map (entry_files S) (entries_from n R)) f → LacksSerial m f.name
+serials_lack : (S : Spool) (m n : ℕ) (R : Spool) → n + length R ≤ m → m < 10 ^ 10 → (f : File)
+    → Contains (flat_map (entry_files S) (entries_from n R)) f → LacksSerial m f.name
 serials_lack S m n [] later small f (k, low, is) = absurd (omega arith)
 serials_lack S m n (Article text gs moment ∷ R) later small f (zero, low, is) = serial_of m _ f is (record {
   article = λ same. earlier m n (omega arith) small (ap (λ (o : Octets). drop 2 o) same);
   expiry = not_first (article_name n) (expiry_name m) 97 120 refl refl (λ e. omega arith);
 })
-serials_lack S m n (Article text gs moment ∷ R) later small f (suc k, low, is) = serials_lack S m (suc n) R (omega arith) small f (k, omega arith, is)
+serials_lack S m n (Article text gs moment ∷ R) later small f (suc k, low, is) =
+    serials_lack S m (suc n) R (omega arith) small f (k, omega arith, is)
 serials_lack S m n (Expire g number ∷ R) later small f (zero, low, is) = serial_of m _ f is (record {
   article = not_first (expiry_name n) (article_name m) 120 97 refl refl (λ e. omega arith);
   expiry = λ same. earlier m n (omega arith) small (ap (λ (o : Octets). drop 2 o) same);
 })
-serials_lack S m n (Expire g number ∷ R) later small f (suc k, low, is) = serials_lack S m (suc n) R (omega arith) small f (k, omega arith, is)
-serials_lack S m n (Group g status description moment ∷ R) later small f (zero, low, is) = serial_of m _ f is (other_first m (group_name g) 103 refl (λ e. omega arith) (λ e. omega arith))
-serials_lack S m n (Group g status description moment ∷ R) later small f (suc zero, low, is) = serial_of m _ f is (other_first m (numbers_name g) 110 refl (λ e. omega arith) (λ e. omega arith))
-serials_lack S m n (Group g status description moment ∷ R) later small f (suc (suc zero), low, is) = serial_of m _ f is (other_first m (overview_name g) 111 refl (λ e. omega arith) (λ e. omega arith))
-serials_lack S m n (Group g status description moment ∷ R) later small f (suc (suc (suc k)), low, is) = serials_lack S m (suc n) R (omega arith) small f (k, omega arith, is)
+serials_lack S m n (Expire g number ∷ R) later small f (suc k, low, is) =
+    serials_lack S m (suc n) R (omega arith) small f (k, omega arith, is)
+serials_lack S m n (Group g status description moment ∷ R) later small f (zero, low, is) =
+    serial_of m _ f is (other_first m (group_name g) 103 refl (λ e. omega arith) (λ e. omega arith))
+serials_lack S m n (Group g status description moment ∷ R) later small f (suc zero, low, is) =
+    serial_of m _ f is (other_first m (numbers_name g) 110 refl (λ e. omega arith) (λ e. omega arith))
+serials_lack S m n (Group g status description moment ∷ R) later small f (suc (suc zero), low, is) =
+    serial_of m _ f is (other_first m (overview_name g) 111 refl (λ e. omega arith) (λ e. omega arith))
+serials_lack S m n (Group g status description moment ∷ R) later small f (suc (suc (suc k)), low, is) =
+    serials_lack S m (suc n) R (omega arith) small f (k, omega arith, is)
 
 pub lacks_serial : (S : Spool) → length S + 1 < 10 ^ 10 → (f : File) → Contains (files_of S) f → LacksSerial (length S + 1) f.name
 unfolding entries files_of

@@ -1,5 +1,6 @@
 -- What an article adds to the files of its groups.
-use Rattle.std.proofs.Common.{◌≡◌, ◌≢◌, inl, inr, ◌<◌, ◌≤◌, ℕ, zero, suc, ◌+◌, ◌*◌, Bool, true, false, cond, List, [], ◌∷◌, ◌++◌, length, get_or, map, refl, sym, ◌∙◌, ap, subst, arith, length-append}
+use Rattle.std.proofs.Common.{◌≡◌, ◌≢◌, inl, inr, ◌<◌, ◌≤◌, ℕ, zero, suc, ◌+◌, ◌*◌, Bool, true, false, cond, List, [], ◌∷◌, ◌++◌, length}
+use Rattle.std.proofs.Common.{get_or, map, refl, sym, ◌∙◌, ap, subst, arith, length-append}
 use Rattle.std.specs.Prelude.{Option, Some, None, bytes_eq, filter, filter_map, flat_map, is_some, not, option_map, slice_get, unwrap_or}
 use Rattle.std.specs.List.{Contains, list_any}
 use Rattle.std.specs.Option.{option_and_then}
@@ -13,8 +14,10 @@ use Rattle.model.specs.Indexed.{ArePlaces, FilePlaces, GroupIndex, group_index}
 use Rattle.model.specs.Lawful.{MayFile}
 use Rattle.model.specs.Room.{is_full}
 use Rattle.model.specs.Laws.Room.{HasRoomForChange}
-use Rattle.model.specs.Spool.{Spool, NewsArticle, NewsGroup, entries, entries_from, filed_in, group_made, group_named, groups, high, is_here}
-use Rattle.model.specs.SpoolFiles.{Append, filing_calls, next_line, next_record, number_record, numbers_file, numbers_name, overview_file, overview_name}
+use Rattle.model.specs.Spool.{Spool, NewsArticle, NewsGroup, entries, entries_from, filed_in, group_made, group_named, groups, high}
+use Rattle.model.specs.Spool.{is_here}
+use Rattle.model.specs.SpoolFiles.{Append, filing_calls, next_line, next_record, number_record, numbers_file, numbers_name, overview_file}
+use Rattle.model.specs.SpoolFiles.{overview_name}
 use Rattle.model.specs.declared.change.Change.TheVariants.{Group, Article, Expire}
 use Rattle.model.proofs.Asking.{changes_ask_few, not_full_room, records_size}
 use Rattle.model.proofs.HoldsOne.{high_few}
@@ -38,13 +41,16 @@ use Rattle.fs_inodes.proofs.Grown.{one_name}
 filtered : (p : Octets → Bool) (xs : List Octets) (x : Octets) → Contains (filter p xs) x → p x ≡ true
 filtered p [] x (k, low, is) = absurd (omega arith)
 filtered p (y ∷ xs) x has = by_test (p y) refl has (λ later. filtered p xs x later) where
-  by_test : (b : Bool) → p y ≡ b → Contains (cond b (y ∷ filter p xs) (filter p xs)) x → (Contains (filter p xs) x → p x ≡ true) → p x ≡ true
+  by_test : (b : Bool) → p y ≡ b → Contains (cond b (y ∷ filter p xs) (filter p xs)) x → (Contains (filter p xs) x → p x ≡ true)
+      → p x ≡ true
   by_test true at (zero, low, is) rest = ap p (sym is) ∙ at
   by_test true at (suc k, low, is) rest = rest (k, omega arith, is)
   by_test false at has rest = rest has
 
-pub filed_here : (host : Octets) (S : Spool) (text : Octets) (filed : List Octets) (moment : ℕ) (g : Octets) → MayFile host S text filed moment → Contains filed g → is_here S g ≡ true
-filed_here host S text filed moment g may has = filtered (is_here S) (groups_of text) g (subst (λ (gs : List Octets). Contains gs g) may.filed has)
+pub filed_here : (host : Octets) (S : Spool) (text : Octets) (filed : List Octets) (moment : ℕ) (g : Octets)
+    → MayFile host S text filed moment → Contains filed g → is_here S g ≡ true
+filed_here host S text filed moment g may has =
+    filtered (is_here S) (groups_of text) g (subst (λ (gs : List Octets). Contains gs g) may.filed has)
 
 -- ---- a group at its place
 
@@ -68,19 +74,23 @@ is_at S name k low same = elim (slice_get_cases (groups S) k).1 [
 ]
 
 -- a group that is here has a place
-pub never_absent : (S : Spool) (name : Octets) (o : Option ℕ) → option_and_then (slice_get (groups S)) o ≡ group_named S name → is_here S name ≡ true → o ≡ None → ⊥
+pub never_absent : (S : Spool) (name : Octets) (o : Option ℕ) → option_and_then (slice_get (groups S)) o ≡ group_named S name
+    → is_here S name ≡ true → o ≡ None → ⊥
 never_absent S name o same here none =
     true≢false (sym here ∙ ap (λ (g : Option NewsGroup). is_some g) (sym same ∙ ap (option_and_then (slice_get (groups S))) none))
 
-pub at_place : (S : Spool) (name : Octets) (k : ℕ) → slice_get (groups S) k ≡ group_named S name → is_here S name ≡ true → k < length (groups S)
+pub at_place : (S : Spool) (name : Octets) (k : ℕ) → slice_get (groups S) k ≡ group_named S name → is_here S name ≡ true
+    → k < length (groups S)
 at_place S name k same here = elim (slice_get_cases (groups S) k).1 [
   | inl found ↦ found.1
   | inr past ↦ absurd (true≢false (sym here ∙ ap (λ (g : Option NewsGroup). is_some g) (sym same ∙ past.1)))
 ]
 
-both_at : {X Y Z : Type 0} (f : X → Z) (h : Y → Z) (xs : List X) (ys : List Y) (k : ℕ) (x : X) (y : Y) → map f xs ≡ map h ys → slice_get xs k ≡ Some x → slice_get ys k ≡ Some y → f x ≡ h y
+both_at : {X Y Z : Type 0} (f : X → Z) (h : Y → Z) (xs : List X) (ys : List Y) (k : ℕ) (x : X) (y : Y) → map f xs ≡ map h ys
+    → slice_get xs k ≡ Some x → slice_get ys k ≡ Some y → f x ≡ h y
 both_at {X} {Y} {Z} f h xs ys k x y same first second =
-    same_Some (f x) (h y) (sym (ap (option_map f) first) ∙ sym (slice_get-map f xs k) ∙ ap (λ (l : List Z). slice_get l k) same ∙ slice_get-map h ys k ∙ ap (option_map h) second)
+    same_Some (f x) (h y) (sym (ap (option_map f) first) ∙ sym (slice_get-map f xs k) ∙ ap (λ (l : List Z). slice_get l k) same
+    ∙ slice_get-map h ys k ∙ ap (option_map h) second)
 
 few_made : (n : ℕ) (R : Spool) → length (filter_map group_made (entries_from n R)) ≤ length R
 few_made n [] = omega arith
@@ -96,51 +106,93 @@ pub same_count : (S R : Spool) (x : IndexView) → Indexes S x → Indexes R x �
 same_count S R x is also = sym (group_count S x is) ∙ group_count R x also
 
 -- what is kept of it
-pub kept_at : {X : Type 0} (sh : X → GroupIndex) (gs : List X) (S : Spool) (name : Octets) (k : ℕ) (x : X) (its : IsAt S name k) → map sh gs ≡ map (group_index S) (groups S) → slice_get gs k ≡ Some x → sh x ≡ group_index S its.group
+pub kept_at : {X : Type 0} (sh : X → GroupIndex) (gs : List X) (S : Spool) (name : Octets) (k : ℕ) (x : X) (its : IsAt S name k)
+    → map sh gs ≡ map (group_index S) (groups S) → slice_get gs k ≡ Some x → sh x ≡ group_index S its.group
 kept_at sh gs S name k x its same at = both_at sh (group_index S) gs (groups S) k x its.group same at its.at
 
 -- where its files stand
-placed_at : (inodes : List (Option File)) (f : NewsGroup → File) (gs : List NewsGroup) (places : List ℕ) (k : ℕ) (g : NewsGroup) → map (λ (j : ℕ). get_or inodes j None) places ≡ map (λ (h : NewsGroup). Some (f h)) gs → slice_get gs k ≡ Some g
+placed_at : (inodes : List (Option File)) (f : NewsGroup → File) (gs : List NewsGroup) (places : List ℕ) (k : ℕ) (g : NewsGroup)
+    → map (λ (j : ℕ). get_or inodes j None) places ≡ map (λ (h : NewsGroup). Some (f h)) gs → slice_get gs k ≡ Some g
     → (k < length places) × (get_or inodes (get_or places k 0) None ≡ Some (f g))
 placed_at inodes f gs places k g same at =
-    let low : k < length places = omega (arith, slice_get_within gs k g at, ap (λ (l : List (Option File)). length l) same, length-map places (λ (j : ℕ). get_or inodes j None), length-map gs (λ (h : NewsGroup). Some (f h))) in
-    (low, both_at (λ (j : ℕ). get_or inodes j None) (λ (h : NewsGroup). Some (f h)) places gs k (get_or places k 0) g same (slice_get-get_or places k 0 low) at)
+    let low : k < length places = omega (
+      arith,
+      slice_get_within gs k g at,
+      ap (λ (l : List (Option File)). length l) same,
+      length-map places (λ (j : ℕ). get_or inodes j None),
+      length-map gs (λ (h : NewsGroup). Some (f h)),
+    ) in (
+      low,
+      both_at (λ (j : ℕ). get_or inodes j None) (λ (h : NewsGroup). Some (f h)) places gs k (get_or places k 0) g same
+          (slice_get-get_or places k 0 low) at,
+    )
 
-pub numbers_at : (inodes : ℕ) (blocks : List Octets) (S : Spool) (p : FilePlaces) (name : Octets) (k : ℕ) (its : IsAt S name k) → ArePlaces inodes blocks S p
-    → (k < length p.numbers) × (get_or (table inodes blocks) (get_or p.numbers k 0) None ≡ Some (record { name = numbers_name its.group.name; content = numbers_file S its.group.name }))
-numbers_at inodes blocks S p name k its are = placed_at (table inodes blocks) (λ (g : NewsGroup). record { name = numbers_name g.name; content = numbers_file S g.name }) (groups S) p.numbers k its.group are.numbers_are its.at
+pub numbers_at : (inodes : ℕ) (blocks : List Octets) (S : Spool) (p : FilePlaces) (name : Octets) (k : ℕ) (its : IsAt S name k)
+    → ArePlaces inodes blocks S p
+    → (k < length p.numbers) × (get_or (table inodes blocks) (get_or p.numbers k 0) None
+    ≡ Some (record { name = numbers_name its.group.name; content = numbers_file S its.group.name }))
+numbers_at inodes blocks S p name k its are =
+    placed_at (table inodes blocks) (λ (g : NewsGroup). record { name = numbers_name g.name; content = numbers_file S g.name })
+    (groups S) p.numbers k its.group are.numbers_are its.at
 
-pub overview_at : (inodes : ℕ) (blocks : List Octets) (S : Spool) (p : FilePlaces) (name : Octets) (k : ℕ) (its : IsAt S name k) → ArePlaces inodes blocks S p
-    → (k < length p.overviews) × (get_or (table inodes blocks) (get_or p.overviews k 0) None ≡ Some (record { name = overview_name its.group.name; content = overview_file S its.group.name }))
-overview_at inodes blocks S p name k its are = placed_at (table inodes blocks) (λ (g : NewsGroup). record { name = overview_name g.name; content = overview_file S g.name }) (groups S) p.overviews k its.group are.overviews_are its.at
+pub overview_at : (inodes : ℕ) (blocks : List Octets) (S : Spool) (p : FilePlaces) (name : Octets) (k : ℕ) (its : IsAt S name k)
+    → ArePlaces inodes blocks S p
+    → (k < length p.overviews) × (get_or (table inodes blocks) (get_or p.overviews k 0) None
+    ≡ Some (record { name = overview_name its.group.name; content = overview_file S its.group.name }))
+overview_at inodes blocks S p name k its are =
+    placed_at (table inodes blocks) (λ (g : NewsGroup). record { name = overview_name g.name; content = overview_file S g.name })
+    (groups S) p.overviews k its.group are.overviews_are its.at
 
 -- ---- one group
 
 high_is : (S : Spool) (g : NewsGroup) → length (group_index S g).filed ≡ high S g.name
 high_is S g = length-map (filed_in S g.name) (λ (a : NewsArticle). a.serial)
 
-pub few_filed : (S : Spool) (name : Octets) (k : ℕ) (its : IsAt S name k) (i : GroupIndex) → i ≡ group_index S its.group → length S ≤ 32768 → length i.filed ≤ 32768
-few_filed S name k its i is few = omega (arith, ap (λ (j : GroupIndex). length j.filed) is, high_is S its.group, high_few S its.group.name, few)
+pub few_filed : (S : Spool) (name : Octets) (k : ℕ) (its : IsAt S name k) (i : GroupIndex) → i ≡ group_index S its.group → length S ≤ 32768
+    → length i.filed ≤ 32768
+few_filed S name k its i is few =
+    omega (arith, ap (λ (j : GroupIndex). length j.filed) is, high_is S its.group, high_few S its.group.name, few)
 
 pub short_end : (x : IndexView) (p : FilePlaces) (text : Octets) (filed : List Octets) (can : CanFile x p text filed) (name : Octets)
     (k : ℕ) (its : IsAt can.changes name k) (i : GroupIndex) → i ≡ group_index can.changes its.group → end_of i ≤ 268435456
 short_end x p text filed can name k its i is =
     let low = slice_get_within (groups can.changes) k its.group its.at in
-    let among : Contains (groups can.changes) its.group = (k, low, same_Some (get_or (groups can.changes) k its.group) its.group (sym (slice_get-get_or (groups can.changes) k its.group low) ∙ its.at)) in
-    omega (arith, ap end_of is, overview_size can.changes its.group, overview_small can.host can.inodes can.blocks can.changes its.group can.is.held among)
+    let among : Contains (groups can.changes) its.group = (
+      k,
+      low,
+      same_Some (get_or (groups can.changes) k its.group) its.group (sym (slice_get-get_or (groups can.changes) k its.group low)
+          ∙ its.at),
+    ) in
+    omega (
+      arith,
+      ap end_of is,
+      overview_size can.changes its.group,
+      overview_small can.host can.inodes can.blocks can.changes its.group can.is.held among,
+    )
 
 -- the line of a group by the index
-line_is : (S : Spool) (text : Octets) (g : NewsGroup) (i : GroupIndex) → i ≡ group_index S g → overview_line (length i.filed + 1) text ≡ next_line S text g.name
+line_is : (S : Spool) (text : Octets) (g : NewsGroup) (i : GroupIndex) → i ≡ group_index S g
+    → overview_line (length i.filed + 1) text ≡ next_line S text g.name
 line_is S text g i is = ap (λ (n : ℕ). overview_line (n + 1) text) (ap (λ (j : GroupIndex). length j.filed) is ∙ high_is S g)
 
-pub short_line : (x : IndexView) (p : FilePlaces) (text : Octets) (filed : List Octets) (can : CanFile x p text filed) (name : Octets) (k : ℕ) (its : IsAt can.changes name k) (i : GroupIndex) (line : Octets)
+pub short_line : (x : IndexView) (p : FilePlaces) (text : Octets) (filed : List Octets) (can : CanFile x p text filed) (name : Octets)
+    (k : ℕ) (its : IsAt can.changes name k) (i : GroupIndex) (line : Octets)
     → i ≡ group_index can.changes its.group → line ≡ overview_line (length i.filed + 1) text → length line ≤ 8191
 short_line x p text filed can name k its i line is said =
-    let asks = changes_ask_few can.host can.changes (Article text filed can.moment) (changes_are_few can.host can.inodes can.blocks can.changes can.is) can.is.held.lawful can.may in
-    omega (arith, ap (λ (l : Octets). length l) (said ∙ line_is can.changes text its.group i is), asks.lines text its.group.name filed can.moment refl)
+    let asks = changes_ask_few can.host can.changes (Article text filed can.moment)
+    (changes_are_few can.host can.inodes can.blocks can.changes can.is) can.is.held.lawful can.may in
+    omega (
+      arith,
+      ap (λ (l : Octets). length l) (said ∙ line_is can.changes text its.group i is),
+      asks.lines text its.group.name filed can.moment refl,
+    )
 
-pub are_its_pieces : (inodes : ℕ) (blocks : List Octets) (S : Spool) (p : FilePlaces) (text name : Octets) (k serial : ℕ) (its : IsAt S name k) (i : GroupIndex) (number line : Piece) → ArePlaces inodes blocks S p → i ≡ group_index S its.group → serial ≡ length S + 1
-    → number.at ≡ get_or p.numbers k 0 → line.at ≡ get_or p.overviews k 0 → number.octets.items ≡ number_record serial (end_of i) line.octets.items → line.octets.items ≡ overview_line (length i.filed + 1) text
+pub are_its_pieces : (inodes : ℕ) (blocks : List Octets) (S : Spool) (p : FilePlaces) (text name : Octets) (k serial : ℕ)
+    (its : IsAt S name k) (i : GroupIndex) (number line : Piece) → ArePlaces inodes blocks S p → i ≡ group_index S its.group
+    → serial ≡ length S + 1
+    → number.at ≡ get_or p.numbers k 0 → line.at ≡ get_or p.overviews k 0
+    → number.octets.items ≡ number_record serial (end_of i) line.octets.items
+    → line.octets.items ≡ overview_line (length i.filed + 1) text
     → ArePiecesOf (table inodes blocks) S text name number line
 are_its_pieces inodes blocks S p text name k serial its i number line are is count first second record_said line_said =
     let said : line.octets.items ≡ next_line S text its.group.name = line_said ∙ line_is S text its.group i is in
@@ -154,7 +206,8 @@ are_its_pieces inodes blocks S p text name k serial its i number line are is cou
 
 -- ---- all of them
 
-pub pieces_more : (inodes : List (Option File)) (S : Spool) (text : Octets) (gs : List Octets) (pieces : List Piece) (g : Octets) (p q : Piece) → ArePieces inodes S text gs pieces → ArePiecesOf inodes S text g p q
+pub pieces_more : (inodes : List (Option File)) (S : Spool) (text : Octets) (gs : List Octets) (pieces : List Piece) (g : Octets)
+    (p q : Piece) → ArePieces inodes S text gs pieces → ArePiecesOf inodes S text g p q
     → ArePieces inodes S text (gs ++ g ∷ []) (pieces ++ p ∷ q ∷ [])
 pieces_more inodes S text [] [] g p q are next = (next, tt)
 pieces_more inodes S text [] (r ∷ pieces) g p q are next = absurd are
@@ -162,19 +215,23 @@ pieces_more inodes S text (h ∷ gs) [] g p q are next = absurd are
 pieces_more inodes S text (h ∷ gs) (r ∷ []) g p q are next = absurd are
 pieces_more inodes S text (h ∷ gs) (r ∷ s ∷ pieces) g p q are next = (are.0, pieces_more inodes S text gs pieces g p q are.1 next)
 
-pub pieces_count : (inodes : List (Option File)) (S : Spool) (text : Octets) (gs : List Octets) (pieces : List Piece) → ArePieces inodes S text gs pieces → length pieces ≡ 2 * length gs
+pub pieces_count : (inodes : List (Option File)) (S : Spool) (text : Octets) (gs : List Octets) (pieces : List Piece)
+    → ArePieces inodes S text gs pieces → length pieces ≡ 2 * length gs
 pieces_count inodes S text [] [] are = refl
 pieces_count inodes S text [] (r ∷ pieces) are = absurd are
 pieces_count inodes S text (h ∷ gs) [] are = absurd are
 pieces_count inodes S text (h ∷ gs) (r ∷ []) are = absurd are
 pieces_count inodes S text (h ∷ gs) (r ∷ s ∷ pieces) are = omega (arith, pieces_count inodes S text gs pieces are.1)
 
-its_call : (inodes : List (Option File)) (p : Piece) (name content octets : Octets) → IsFileAt inodes p.at name content → p.octets.items ≡ octets → append_call inodes p ≡ Append name octets
+its_call : (inodes : List (Option File)) (p : Piece) (name content octets : Octets) → IsFileAt inodes p.at name content
+    → p.octets.items ≡ octets → append_call inodes p ≡ Append name octets
 its_call inodes p name content octets there said =
-    ap (λ (o : Option File). Append (unwrap_or (option_map (λ (f : File). f.name) o) []) p.octets.items) there ∙ ap (λ (l : Octets). Append name l) said
+    ap (λ (o : Option File). Append (unwrap_or (option_map (λ (f : File). f.name) o) []) p.octets.items) there
+    ∙ ap (λ (l : Octets). Append name l) said
 
 -- they are the calls that the change makes
-pub pieces_call : (inodes : List (Option File)) (S : Spool) (text : Octets) (gs : List Octets) (pieces : List Piece) → ArePieces inodes S text gs pieces → map (append_call inodes) pieces ≡ flat_map (filing_calls S text) gs
+pub pieces_call : (inodes : List (Option File)) (S : Spool) (text : Octets) (gs : List Octets) (pieces : List Piece)
+    → ArePieces inodes S text gs pieces → map (append_call inodes) pieces ≡ flat_map (filing_calls S text) gs
 pieces_call inodes S text [] [] are = refl
 pieces_call inodes S text [] (r ∷ pieces) are = absurd are
 pieces_call inodes S text (h ∷ gs) [] are = absurd are
@@ -195,17 +252,22 @@ record IsForOne (inodes : List (Option File)) (S : Spool) (text : Octets) (gs : 
   has : Contains gs group
   is : IsFor inodes S text group p
 
-for_first : (inodes : List (Option File)) (S : Spool) (text g : Octets) (gs : List Octets) (r p : Piece) → IsFor inodes S text g r → Some r ≡ Some p → IsForOne inodes S text (g ∷ gs) p
-for_first inodes S text g gs r p is at = record { group = g; has = (0, omega arith, refl); is = subst (IsFor inodes S text g) (same_Some r p at) is }
+for_first : (inodes : List (Option File)) (S : Spool) (text g : Octets) (gs : List Octets) (r p : Piece) → IsFor inodes S text g r
+    → Some r ≡ Some p → IsForOne inodes S text (g ∷ gs) p
+for_first inodes S text g gs r p is at =
+    record { group = g; has = (0, omega arith, refl); is = subst (IsFor inodes S text g) (same_Some r p at) is }
 
-piece_for : (inodes : List (Option File)) (S : Spool) (text : Octets) (gs : List Octets) (pieces : List Piece) (k : ℕ) (p : Piece) → ArePieces inodes S text gs pieces → slice_get pieces k ≡ Some p → IsForOne inodes S text gs p
+piece_for : (inodes : List (Option File)) (S : Spool) (text : Octets) (gs : List Octets) (pieces : List Piece) (k : ℕ) (p : Piece)
+    → ArePieces inodes S text gs pieces → slice_get pieces k ≡ Some p → IsForOne inodes S text gs p
 piece_for inodes S text [] [] zero p are at = absurd (cc)
 piece_for inodes S text [] [] (suc k) p are at = absurd (cc)
 piece_for inodes S text [] (r ∷ pieces) k p are at = absurd are
 piece_for inodes S text (h ∷ gs) [] k p are at = absurd are
 piece_for inodes S text (h ∷ gs) (r ∷ []) k p are at = absurd are
-piece_for inodes S text (h ∷ gs) (r ∷ s ∷ pieces) zero p are at = for_first inodes S text h gs r p (ForNumbers are.0.numbers are.0.number_is) at
-piece_for inodes S text (h ∷ gs) (r ∷ s ∷ pieces) (suc zero) p are at = for_first inodes S text h gs s p (ForOverview are.0.overview are.0.line_is) at
+piece_for inodes S text (h ∷ gs) (r ∷ s ∷ pieces) zero p are at =
+    for_first inodes S text h gs r p (ForNumbers are.0.numbers are.0.number_is) at
+piece_for inodes S text (h ∷ gs) (r ∷ s ∷ pieces) (suc zero) p are at =
+    for_first inodes S text h gs s p (ForOverview are.0.overview are.0.line_is) at
 piece_for inodes S text (h ∷ gs) (r ∷ s ∷ pieces) (suc (suc k)) p are at =
     let rest = piece_for inodes S text gs pieces k p are.1 at in
     record { group = rest.group; has = (suc rest.has.0, omega (arith, rest.has.1), rest.has.2); is = rest.is }
@@ -217,15 +279,21 @@ none_passes p [] x none (k, low, is) = absurd (omega arith)
 none_passes p (y ∷ xs) x none (zero, low, is) = ap p (sym is) ∙ (or_parts (p y) (list_any p xs) none).0
 none_passes p (y ∷ xs) x none (suc k, low, is) = none_passes p xs x (or_parts (p y) (list_any p xs) none).1 (k, omega arith, is)
 
-apart_by_name : (inodes : List (Option File)) (p q : Piece) (n m c d : Octets) → IsFileAt inodes p.at n c → IsFileAt inodes q.at m d → n ≢ m → p.at ≢ q.at
-apart_by_name inodes p q n m c d first second differ same = differ (one_name inodes q.at n m c d (subst (λ (k : ℕ). IsFileAt inodes k n c) same first) second)
+apart_by_name : (inodes : List (Option File)) (p q : Piece) (n m c d : Octets) → IsFileAt inodes p.at n c → IsFileAt inodes q.at m d → n ≢ m
+    → p.at ≢ q.at
+apart_by_name inodes p q n m c d first second differ same =
+    differ (one_name inodes q.at n m c d (subst (λ (k : ℕ). IsFileAt inodes k n c) same first) second)
 
 -- a file of another name than those of a group
-apart_from : (inodes : List (Option File)) (S : Spool) (text g : Octets) (p q : Piece) (n c : Octets) → IsFileAt inodes p.at n c → LacksNames g n → IsFor inodes S text g q → p.at ≢ q.at
-apart_from inodes S text g p q n c there lacks (ForNumbers other said) = apart_by_name inodes p q n (numbers_name g) c (numbers_file S g) there other lacks.numbers
-apart_from inodes S text g p q n c there lacks (ForOverview other said) = apart_by_name inodes p q n (overview_name g) c (overview_file S g) there other lacks.overview
+apart_from : (inodes : List (Option File)) (S : Spool) (text g : Octets) (p q : Piece) (n c : Octets) → IsFileAt inodes p.at n c
+    → LacksNames g n → IsFor inodes S text g q → p.at ≢ q.at
+apart_from inodes S text g p q n c there lacks (ForNumbers other said) =
+    apart_by_name inodes p q n (numbers_name g) c (numbers_file S g) there other lacks.numbers
+apart_from inodes S text g p q n c there lacks (ForOverview other said) =
+    apart_by_name inodes p q n (overview_name g) c (overview_file S g) there other lacks.overview
 
-module _ (inodes : List (Option File)) (S : Spool) (text h : Octets) (gs : List Octets) (r s : Piece) (pieces : List Piece) (are : ArePiecesOf inodes S text h r s) (rest : ArePieces inodes S text gs pieces) (none : list_any (bytes_eq h) gs ≡ false) where
+module _ (inodes : List (Option File)) (S : Spool) (text h : Octets) (gs : List Octets) (r s : Piece) (pieces : List Piece)
+    (are : ArePiecesOf inodes S text h r s) (rest : ArePieces inodes S text gs pieces) (none : list_any (bytes_eq h) gs ≡ false) where
   lacked : (g : Octets) → Contains gs g → LacksNames g (numbers_name h) × LacksNames g (overview_name h)
   lacked g has =
       let other : h ≢ g = λ same. true≢false (sym (bytes_same h) ∙ ap (bytes_eq h) same ∙ none_passes (bytes_eq h) gs g none has) in
@@ -233,19 +301,24 @@ module _ (inodes : List (Option File)) (S : Spool) (text h : Octets) (gs : List 
       (lack.1, lack.2)
 
   two_apart : r.at ≢ s.at
-  two_apart = apart_by_name inodes r s (numbers_name h) (overview_name h) (numbers_file S h) (overview_file S h) are.numbers are.overview (not_first (numbers_name h) (overview_name h) 110 111 refl refl (λ e. omega arith))
+  two_apart = apart_by_name inodes r s (numbers_name h) (overview_name h) (numbers_file S h) (overview_file S h) are.numbers are.overview
+      (not_first (numbers_name h) (overview_name h) 110 111 refl refl (λ e. omega arith))
 
   first_apart : (k : ℕ) (q : Piece) → slice_get pieces k ≡ Some q → (r.at ≢ q.at) × (s.at ≢ q.at)
   first_apart k q at =
       let its = piece_for inodes S text gs pieces k q rest at in
-      let lack = lacked its.group its.has in
-      (apart_from inodes S text its.group r q (numbers_name h) (numbers_file S h) are.numbers lack.0 its.is, apart_from inodes S text its.group s q (overview_name h) (overview_file S h) are.overview lack.1 its.is)
+      let lack = lacked its.group its.has in (
+        apart_from inodes S text its.group r q (numbers_name h) (numbers_file S h) are.numbers lack.0 its.is,
+        apart_from inodes S text its.group s q (overview_name h) (overview_file S h) are.overview lack.1 its.is,
+      )
 
 unequal : (p q r s : Piece) → Some r ≡ Some p → Some s ≡ Some q → r.at ≢ s.at → p.at ≢ q.at
 unequal p q r s first second differ same =
     differ (ap (λ (x : Piece). x.at) (same_Some r p first) ∙ same ∙ ap (λ (x : Piece). x.at) (sym (same_Some s q second)))
 
-pub pieces_apart : (inodes : List (Option File)) (S : Spool) (text : Octets) (gs : List Octets) (pieces : List Piece) (j k : ℕ) (p q : Piece) → ArePieces inodes S text gs pieces → are_distinct gs ≡ true → j < k → slice_get pieces j ≡ Some p → slice_get pieces k ≡ Some q → p.at ≢ q.at
+pub pieces_apart : (inodes : List (Option File)) (S : Spool) (text : Octets) (gs : List Octets) (pieces : List Piece) (j k : ℕ)
+    (p q : Piece) → ArePieces inodes S text gs pieces → are_distinct gs ≡ true → j < k → slice_get pieces j ≡ Some p
+    → slice_get pieces k ≡ Some q → p.at ≢ q.at
 unfolding are_distinct
 pieces_apart inodes S text [] [] zero k p q are distinct less first second = absurd (cc)
 pieces_apart inodes S text [] [] (suc j) k p q are distinct less first second = absurd (cc)
@@ -259,10 +332,12 @@ pieces_apart inodes S text (h ∷ gs) (r ∷ s ∷ pieces) zero (suc zero) p q a
 pieces_apart inodes S text (h ∷ gs) (r ∷ s ∷ pieces) (suc j) (suc zero) p q are distinct less first second = absurd (omega arith)
 pieces_apart inodes S text (h ∷ gs) (r ∷ s ∷ pieces) zero (suc (suc k)) p q are distinct less first second =
     let parts = and_parts (not (list_any (bytes_eq h) gs)) (are_distinct gs) distinct in
-    unequal p q r q first refl (first_apart inodes S text h gs r s pieces are.0 are.1 (not-true (list_any (bytes_eq h) gs) parts.0) k q second).0
+    unequal p q r q first refl (first_apart inodes S text h gs r s pieces are.0 are.1
+    (not-true (list_any (bytes_eq h) gs) parts.0) k q second).0
 pieces_apart inodes S text (h ∷ gs) (r ∷ s ∷ pieces) (suc zero) (suc (suc k)) p q are distinct less first second =
     let parts = and_parts (not (list_any (bytes_eq h) gs)) (are_distinct gs) distinct in
-    unequal p q s q first refl (first_apart inodes S text h gs r s pieces are.0 are.1 (not-true (list_any (bytes_eq h) gs) parts.0) k q second).1
+    unequal p q s q first refl (first_apart inodes S text h gs r s pieces are.0 are.1
+    (not-true (list_any (bytes_eq h) gs) parts.0) k q second).1
 pieces_apart inodes S text (h ∷ gs) (r ∷ s ∷ pieces) (suc (suc j)) (suc (suc k)) p q are distinct less first second =
     let parts = and_parts (not (list_any (bytes_eq h) gs)) (are_distinct gs) distinct in
     pieces_apart inodes S text gs pieces j k p q are.1 parts.1 (omega (arith, less)) first second
@@ -274,21 +349,36 @@ record_size S text g =
     let a : NewsArticle = record { serial = length S + 1; text = []; groups = []; moment = 0 } in
     omega (arith, records_size (length (overview_file S g)) ((a, next_line S text g) ∷ []), length-append (next_record S text g) [])
 
-module _ (host : Octets) (inodes : ℕ) (blocks : List Octets) (S : Spool) (text : Octets) (filed : List Octets) (moment : ℕ) (pieces : List Piece) (is : IsHeld host inodes blocks S) (may : MayFile host S text filed moment)
-    (room : is_full (length blocks) inodes S (Some (Article text filed moment)) ≡ false) (are : ArePieces (table inodes blocks) S text filed pieces) where
+module _ (host : Octets) (inodes : ℕ) (blocks : List Octets) (S : Spool) (text : Octets) (filed : List Octets) (moment : ℕ)
+    (pieces : List Piece) (is : IsHeld host inodes blocks S) (may : MayFile host S text filed moment)
+    (room : is_full (length blocks) inodes S (Some (Article text filed moment)) ≡ false)
+    (are : ArePieces (table inodes blocks) S text filed pieces) where
   rooms : HasRoomForChange (length blocks) inodes S (Article text filed moment)
-  rooms = not_full_room host (length blocks) inodes S (Article text filed moment) (changes_are_few host inodes blocks S is) is.held.lawful may room
+  rooms = not_full_room host (length blocks) inodes S (Article text filed moment) (changes_are_few host inodes blocks S is) is.held.lawful
+      may room
 
   lines_short : (g : Octets) → length (next_line S text g) ≤ 8191
-  lines_short g = (changes_ask_few host S (Article text filed moment) (changes_are_few host inodes blocks S is) is.held.lawful may).lines text g filed moment refl
+  lines_short g = (changes_ask_few host S (Article text filed moment) (changes_are_few host inodes blocks S is) is.held.lawful may).lines
+      text g filed moment refl
 
-  its_room : (g : Octets) (p : Piece) → Contains filed g → IsFor (table inodes blocks) S text g p → MayGrow inodes p.at (length p.octets.items) blocks × (length p.octets.items ≤ 8191)
+  its_room : (g : Octets) (p : Piece) → Contains filed g → IsFor (table inodes blocks) S text g p
+      → MayGrow inodes p.at (length p.octets.items) blocks × (length p.octets.items ≤ 8191)
   its_room g p has (ForNumbers there said) = (
-    record { name = numbers_name g; content = numbers_file S g; there = there; small = omega (arith, (rooms.sizes text filed moment g refl has).0, ap (λ (o : Octets). length o) said) },
+    record {
+      name = numbers_name g;
+      content = numbers_file S g;
+      there = there;
+      small = omega (arith, (rooms.sizes text filed moment g refl has).0, ap (λ (o : Octets). length o) said);
+    },
     omega (arith, record_size S text g, ap (λ (o : Octets). length o) said),
   )
   its_room g p has (ForOverview there said) = (
-    record { name = overview_name g; content = overview_file S g; there = there; small = omega (arith, (rooms.sizes text filed moment g refl has).1, ap (λ (o : Octets). length o) said) },
+    record {
+      name = overview_name g;
+      content = overview_file S g;
+      there = there;
+      small = omega (arith, (rooms.sizes text filed moment g refl has).1, ap (λ (o : Octets). length o) said);
+    },
     omega (arith, lines_short g, ap (λ (o : Octets). length o) said),
   )
 
@@ -296,5 +386,6 @@ module _ (host : Octets) (inodes : ℕ) (blocks : List Octets) (S : Spool) (text
   pieces_may_grow = record {
     each = λ k p at. let its = piece_for (table inodes blocks) S text filed pieces k p are at in (its_room its.group p its.has its.is).0;
     small = λ k p at. let its = piece_for (table inodes blocks) S text filed pieces k p are at in (its_room its.group p its.has its.is).1;
-    apart = λ j k p q less first second. pieces_apart (table inodes blocks) S text filed pieces j k p q are (filed_distinct host S text filed moment may) less first second;
+    apart = λ j k p q less first second. pieces_apart (table inodes blocks) S text filed pieces j k p q are
+        (filed_distinct host S text filed moment may) less first second;
   }

@@ -19,11 +19,14 @@ fewer (x ∷ xs) ys once within =
     let at = within x (0, omega arith, refl) in
     let rest = remove ys at.0 in
     let moved : IsPermutation ys (x ∷ rest) = IsPermutation-remove ys at.0 x at.1 (sym at.2) in
-    let shorter = fewer xs rest (λ i j less low. once (suc i) (suc j) (omega arith) (omega arith)) (λ k has. left_over k has (Contains-permutation ys (x ∷ rest) k moved (within k (suc has.0, omega (arith, has.1), has.2)))) in
+    let shorter = fewer xs rest (λ i j less low. once (suc i) (suc j) (omega arith) (omega arith))
+    (λ k has. left_over k has (Contains-permutation ys (x ∷ rest) k moved (within k (suc has.0, omega (arith, has.1), has.2)))) in
     omega (arith, shorter, length_permutation ys (x ∷ rest) moved)
   where
-    left_over : (z : ℕ) → Contains xs z → Contains (x ∷ remove ys (within x (0, omega arith, refl)).0) z → Contains (remove ys (within x (0, omega arith, refl)).0) z
-    left_over z has (zero, low, is) = absurd (once 0 (suc has.0) (omega arith) (omega (arith, has.1)) (is ∙ sym has.2 ∙ get_or_default xs has.0 z 0 has.1))
+    left_over : (z : ℕ) → Contains xs z → Contains (x ∷ remove ys (within x (0, omega arith, refl)).0) z
+        → Contains (remove ys (within x (0, omega arith, refl)).0) z
+    left_over z has (zero, low, is) =
+        absurd (once 0 (suc has.0) (omega arith) (omega (arith, has.1)) (is ∙ sym has.2 ∙ get_or_default xs has.0 z 0 has.1))
     left_over z has (suc k, low, is) = (k, omega arith, is)
 
 -- the blocks that a change touches: the two of the bitmap, and others
@@ -35,12 +38,18 @@ reached old new touches (suc (suc k)) differs = elim (contained touches.others (
   | inr none ↦ absurd (differs (sym (touches.same (suc (suc k)) (omega arith) none)))
 ]
 
-pub dirties : (old new : List Octets) (before after : List ℕ) → length new ≡ length old → Touches 254 old new → ((k : ℕ) → Contains after k ↔ (Contains before k ⊎ Differs old new k)) → AreDistinct after → Dirties old new before after
+pub dirties : (old new : List Octets) (before after : List ℕ) → length new ≡ length old → Touches 254 old new
+    → ((k : ℕ) → Contains after k ↔ (Contains before k ⊎ Differs old new k)) → AreDistinct after → Dirties old new before after
 dirties old new before after count touches exactly once = record {
   size = count;
   exactly = exactly;
   distinct = once;
-  few = omega (arith, fewer after (before ++ 0 ∷ 1 ∷ touches.others) once (λ k has. among k ((exactly k).0 has)), length-append before (0 ∷ 1 ∷ touches.others), touches.few);
+  few = omega (
+    arith,
+    fewer after (before ++ 0 ∷ 1 ∷ touches.others) once (λ k has. among k ((exactly k).0 has)),
+    length-append before (0 ∷ 1 ∷ touches.others),
+    touches.few,
+  );
 } where
   among : (k : ℕ) → Contains before k ⊎ Differs old new k → Contains (before ++ 0 ∷ 1 ∷ touches.others) k
   among k (inl has) = Contains-append_left before (0 ∷ 1 ∷ touches.others) k has

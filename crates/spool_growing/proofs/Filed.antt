@@ -33,8 +33,11 @@ use Rattle.spool_growing.proofs.Held.{changes_are_few, grown, not_there}
 use Rattle.spool_growing.proofs.Touched.{touched_by}
 use Rattle.std.proofs.lemmas.List.{take_all}
 
-pub lacks_article : (host : Octets) (inodes : ℕ) (blocks : List Octets) (S : Spool) → IsHeld host inodes blocks S → ¬ (IsThere (table inodes blocks) (article_name (length S + 1)))
-lacks_article host inodes blocks S is = not_there host inodes blocks S is (article_name (length S + 1)) (λ f has. (lacks_serial S (omega (arith, changes_are_few host inodes blocks S is)) f has).article)
+pub lacks_article : (host : Octets) (inodes : ℕ) (blocks : List Octets) (S : Spool) → IsHeld host inodes blocks S
+    → ¬ (IsThere (table inodes blocks) (article_name (length S + 1)))
+lacks_article host inodes blocks S is =
+    not_there host inodes blocks S is (article_name (length S + 1))
+    (λ f has. (lacks_serial S (omega (arith, changes_are_few host inodes blocks S is)) f has).article)
 
 -- ---- after its file is made
 
@@ -51,13 +54,16 @@ same_sum f h [] same = refl
 same_sum f h (p ∷ ps) same =
     omega (arith, sum_by-cons f p ps, sum_by-cons h p ps, same 0 p refl, same_sum f h ps (λ k q at. same (suc k) q at))
 
-module _ (inodes at : ℕ) (name octets : Octets) (pieces : List Piece) (old mid : List Octets) (made : MakesAt inodes at name octets old mid) (lacks : ¬ (IsThere (table inodes old) name)) (may : MayAllGrow inodes pieces old) where
+module _ (inodes at : ℕ) (name octets : Octets) (pieces : List Piece) (old mid : List Octets) (made : MakesAt inodes at name octets old mid)
+    (lacks : ¬ (IsThere (table inodes old) name)) (may : MayAllGrow inodes pieces old) where
   -- the new file is no piece's
   other_file : (k : ℕ) (p : Piece) → slice_get pieces k ≡ Some p → p.at ≢ at
   other_file k p is same =
       let its = may.each k p is in
-      let still : name_of (table inodes mid) p.at ≡ Some its.name = made.calls.names p.at its.name (ap (option_map (λ (f : File). f.name)) its.there) in
-      let here : name_of (table inodes mid) p.at ≡ Some name = ap (name_of (table inodes mid)) same ∙ ap (option_map (λ (f : File). f.name)) made.there in
+      let still : name_of (table inodes mid) p.at ≡ Some its.name =
+      made.calls.names p.at its.name (ap (option_map (λ (f : File). f.name)) its.there) in
+      let here : name_of (table inodes mid) p.at ≡ Some name = ap (name_of (table inodes mid)) same
+      ∙ ap (option_map (λ (f : File). f.name)) made.there in
       let one : its.name ≡ name = ap (λ (o : Option Octets). unwrap_or o []) (sym still ∙ here) in
       lacks (p.at, its.content, subst (λ (q : Octets). IsFileAt (table inodes old) p.at q its.content) one its.there)
 
@@ -66,24 +72,38 @@ module _ (inodes at : ℕ) (name octets : Octets) (pieces : List Piece) (old mid
 
   pub may_still : MayAllGrow inodes pieces mid
   may_still = record {
-    each = λ k p is. let its = may.each k p is in record { name = its.name; content = its.content; there = same_file k p is ∙ its.there; small = its.small };
+    each = λ k p is. let its = may.each k p is in
+        record { name = its.name; content = its.content; there = same_file k p is ∙ its.there; small = its.small };
     small = may.small;
     apart = may.apart;
   }
 
   pub still_free : length octets ≤ 262821 → length pieces ≤ 32 → 256 ≤ free_blocks old → 4 * length pieces ≤ free_blocks mid
   still_free short few free =
-      omega (arith, short, few, free, made.calls.free, sum_by-cons blocks_taken (Create name) (Append name octets ∷ []), sum_by-cons blocks_taken (Append name octets) [])
+      omega (
+        arith,
+        short,
+        few,
+        free,
+        made.calls.free,
+        sum_by-cons blocks_taken (Create name) (Append name octets ∷ []),
+        sum_by-cons blocks_taken (Append name octets) [],
+      )
 
   -- the calls of the pieces
   calls_of : map (append_call (table inodes mid)) pieces ≡ map (append_call (table inodes old)) pieces
-  calls_of = same_calls (append_call (table inodes mid)) (append_call (table inodes old)) pieces (λ k p is. ap (λ (o : Option File). Append (unwrap_or (option_map (λ (f : File). f.name) o) []) p.octets.items) (same_file k p is))
+  calls_of = same_calls (append_call (table inodes mid)) (append_call (table inodes old)) pieces
+      (λ k p is. ap (λ (o : Option File). Append (unwrap_or (option_map (λ (f : File). f.name) o) []) p.octets.items) (same_file k p is))
 
-  pub files_article : (new : List Octets) → AppendsFirst inodes pieces (length pieces) mid new → FilesArticle inodes at name octets pieces old new
+  pub files_article : (new : List Octets) → AppendsFirst inodes pieces (length pieces) mid new
+      → FilesArticle inodes at name octets pieces old new
   files_article new appends =
-      let all : Calls inodes (map (append_call (table inodes mid)) pieces) mid new = subst (λ (ps : List Piece). Calls inodes (map (append_call (table inodes mid)) ps) mid new) (take_all (length pieces) pieces (omega arith)) appends.calls in
+      let all : Calls inodes (map (append_call (table inodes mid)) pieces) mid new =
+      subst (λ (ps : List Piece). Calls inodes (map (append_call (table inodes mid)) ps) mid new)
+      (take_all (length pieces) pieces (omega arith)) appends.calls in
       record {
-        calls = subst (λ (cs : List FileCall). Calls inodes (making_calls name octets ++ cs) old new) calls_of (calls_then inodes (making_calls name octets) (map (append_call (table inodes mid)) pieces) old mid new made.calls all);
+        calls = subst (λ (cs : List FileCall). Calls inodes (making_calls name octets ++ cs) old new) calls_of
+            (calls_then inodes (making_calls name octets) (map (append_call (table inodes mid)) pieces) old mid new made.calls all);
         article = appends.calls.names at name (ap (option_map (λ (f : File). f.name)) made.there);
         used = still_used at (table inodes mid) (table inodes new) appends.calls.names made.used;
       }
@@ -104,16 +124,21 @@ module _ (inodes at : ℕ) (name octets : Octets) (pieces : List Piece) (old mid
 -- ---- the whole
 
 -- the calls of an article that is filed
-article_is_filed : (inodes : ℕ) (S : Spool) (text : Octets) (filed : List Octets) (moment at : ℕ) (octets : Octets) (pieces : List Piece) (old new : List Octets)
+article_is_filed : (inodes : ℕ) (S : Spool) (text : Octets) (filed : List Octets) (moment at : ℕ) (octets : Octets) (pieces : List Piece)
+    (old new : List Octets)
     → octets ≡ article_record (record { serial = length S + 1; text = text; groups = filed; moment = moment })
     → ArePieces (table inodes old) S text filed pieces
-    → FilesArticle inodes at (article_name (length S + 1)) octets pieces old new → Calls inodes (change_calls S (Article text filed moment)) old new
+    → FilesArticle inodes at (article_name (length S + 1)) octets pieces old new
+    → Calls inodes (change_calls S (Article text filed moment)) old new
 article_is_filed inodes S text filed moment at octets pieces old new says are made =
     let name = article_name (length S + 1) in
-    let lines : Calls inodes (making_calls name octets ++ flat_map (filing_calls S text) filed) old new = subst (λ (cs : List FileCall). Calls inodes (making_calls name octets ++ cs) old new) (pieces_call (table inodes old) S text filed pieces are) made.calls in
+    let lines : Calls inodes (making_calls name octets ++ flat_map (filing_calls S text) filed) old new =
+    subst (λ (cs : List FileCall). Calls inodes (making_calls name octets ++ cs) old new)
+    (pieces_call (table inodes old) S text filed pieces are) made.calls in
     subst (λ (o : Octets). Calls inodes (making_calls name o ++ flat_map (filing_calls S text) filed) old new) says lines
 
-pub kept_with_article : (host : Octets) (inodes : ℕ) (v w : VolumeView) (i j : IndexView) (p q : FilePlaces) (S : Spool) (text : Octets) (filed : List Octets) (moment at : ℕ) (octets : Octets) (pieces : List Piece)
+pub kept_with_article : (host : Octets) (inodes : ℕ) (v w : VolumeView) (i j : IndexView) (p q : FilePlaces) (S : Spool) (text : Octets)
+    (filed : List Octets) (moment at : ℕ) (octets : Octets) (pieces : List Piece)
     → IsKept host inodes v i p S → MayFile host S text filed moment
     → octets ≡ article_record (record { serial = length S + 1; text = text; groups = filed; moment = moment })
     → ArePieces (table inodes v.cache) S text filed pieces
@@ -124,32 +149,40 @@ kept_with_article host inodes v w i j p q S text filed moment at octets pieces k
     let c : Change = Article text filed moment in
     let calls = article_is_filed inodes S text filed moment at octets pieces v.cache w.cache says are made in
     let is = grown host inodes v.cache S kept.is c w.cache may calls in
-    let placed = grow_by_change (table inodes v.cache) (table inodes w.cache) S c p at refl (have_names inodes v.cache S p kept.placed) made.calls.names made.article in
+    let placed = grow_by_change (table inodes v.cache) (table inodes w.cache) S c p at refl
+    (have_names inodes v.cache S p kept.placed) made.calls.names made.article in
     record {
       is = is;
       seen = seen;
       indexed = indexed;
-      placed = are_by_name host inodes w.cache (S ++ c ∷ []) q is.held (subst (AreNamed (table inodes w.cache) (S ++ c ∷ [])) (sym places) placed);
+      placed = are_by_name host inodes w.cache (S ++ c ∷ []) q is.held
+          (subst (AreNamed (table inodes w.cache) (S ++ c ∷ [])) (sym places) placed);
     }
 
-pub article_grown : (inodes : ℕ) (v m w : VolumeView) (i j : IndexView) (p q : FilePlaces) (text : Octets) (filed : List Octets) (moment at serial : ℕ) (octets : Octets) (pieces : List Piece)
-    → v.seen ≡ v.cache → FilesArticle inodes at (article_name serial) octets pieces v.seen m.seen → Dirties v.cache w.cache v.dirty w.dirty → w.cache ≡ m.seen → w.seen ≡ m.seen
+pub article_grown : (inodes : ℕ) (v m w : VolumeView) (i j : IndexView) (p q : FilePlaces) (text : Octets) (filed : List Octets)
+    (moment at serial : ℕ) (octets : Octets) (pieces : List Piece)
+    → v.seen ≡ v.cache → FilesArticle inodes at (article_name serial) octets pieces v.seen m.seen → Dirties v.cache w.cache v.dirty w.dirty
+    → w.cache ≡ m.seen → w.seen ≡ m.seen
     → q ≡ with_change at p
-    → ((host : Octets) (S : Spool) → MayFile host S text filed moment → IsKept host inodes v i p S → Indexes (S ++ Article text filed moment ∷ []) j)
+    → ((host : Octets) (S : Spool) → MayFile host S text filed moment → IsKept host inodes v i p S
+    → Indexes (S ++ Article text filed moment ∷ []) j)
     → ((S : Spool) → Indexes S i → serial ≡ length S + 1)
     → octets ≡ article_record (record { serial = serial; text = text; groups = filed; moment = moment })
     → ((host : Octets) (S : Spool) → IsKept host inodes v i p S → ArePieces (table inodes v.cache) S text filed pieces)
     → IsGrown inodes v w i j p q (Article text filed moment)
 article_grown inodes v m w i j p q text filed moment at serial octets pieces seen made dirties cache now places indexed serials says are =
     let made' : FilesArticle inodes at (article_name serial) octets pieces v.cache w.cache =
-    subst (λ (bs : List Octets). FilesArticle inodes at (article_name serial) octets pieces v.cache bs) (sym cache) (subst (λ (bs : List Octets). FilesArticle inodes at (article_name serial) octets pieces bs m.seen) seen made) in
-    let said : (S : Spool) → serial ≡ length S + 1 → octets ≡ article_record (record { serial = length S + 1; text = text; groups = filed; moment = moment }) =
+    subst (λ (bs : List Octets). FilesArticle inodes at (article_name serial) octets pieces v.cache bs) (sym cache)
+    (subst (λ (bs : List Octets). FilesArticle inodes at (article_name serial) octets pieces bs m.seen) seen made) in
+    let said : (S : Spool) → serial ≡ length S + 1
+    → octets ≡ article_record (record { serial = length S + 1; text = text; groups = filed; moment = moment }) =
     λ S its. says ∙ ap (λ (n : ℕ). article_record (record { serial = n; text = text; groups = filed; moment = moment })) its in
     let named : (S : Spool) → serial ≡ length S + 1 → FilesArticle inodes at (article_name (length S + 1)) octets pieces v.cache w.cache =
     λ S its. subst (λ (n : ℕ). FilesArticle inodes at (article_name n) octets pieces v.cache w.cache) its made' in
     record {
       kept = λ host S kept may.
           let its = serials S kept.indexed in
-          kept_with_article host inodes v w i j p q S text filed moment at octets pieces kept may (said S its) (are host S kept) (named S its) places (indexed host S may kept) (now ∙ sym cache);
+          kept_with_article host inodes v w i j p q S text filed moment at octets pieces kept may (said S its) (are host S kept)
+          (named S its) places (indexed host S may kept) (now ∙ sym cache);
       dirties = dirties;
     }

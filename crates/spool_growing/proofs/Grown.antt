@@ -1,5 +1,6 @@
 -- What is kept of a spool with one change more.
-use Rattle.std.proofs.Common.{◌≡◌, ◌≢◌, ◌⊎◌, inl, inr, ◌↔◌, cond, ℕ, ◌+◌, Bool, true, false, List, [], ◌∷◌, ◌++◌, length, map, refl, sym, ◌∙◌, ap, subst, arith, length-append}
+use Rattle.std.proofs.Common.{◌≡◌, ◌≢◌, ◌⊎◌, inl, inr, ◌↔◌, cond, ℕ, ◌+◌, Bool, true, false, List, [], ◌∷◌, ◌++◌, length, map, refl, sym}
+use Rattle.std.proofs.Common.{◌∙◌, ap, subst, arith, length-append}
 use Rattle.std.specs.Prelude.{Some, None, option_map, find, bytes_eq}
 use Rattle.std.specs.List.{list_any}
 use Rattle.std.proofs.lemmas.Bool.{cases_eq, or_from}
@@ -11,7 +12,8 @@ use Rattle.model.specs.Indexed.{FilePlaces, GroupIndex, group_index}
 use Rattle.model.specs.Lawful.{MayMake, MayExpire}
 use Rattle.model.specs.Records.{expiry_record, group_record}
 use Rattle.model.specs.Spool.{Spool, NewsGroup, group_named, groups, is_name}
-use Rattle.model.specs.SpoolFiles.{Create, FileCall, after_calls, appended, change_calls, expiry_name, group_name, making_calls, numbers_name, overview_name}
+use Rattle.model.specs.SpoolFiles.{Create, FileCall, after_calls, appended, change_calls, expiry_name, group_name, making_calls}
+use Rattle.model.specs.SpoolFiles.{numbers_name, overview_name}
 use Rattle.model.specs.declared.change.Change.{Change}
 use Rattle.model.specs.declared.change.Change.TheVariants.{Group, Expire}
 use Rattle.model.proofs.Joined.{bytes_swap, map_twice}
@@ -39,34 +41,43 @@ use Rattle.spool_growing.proofs.Held.{changes_are_few, grown, not_there}
 
 -- ---- names that are not there
 
-pub lacks_group : (host : Octets) (inodes : ℕ) (blocks : List Octets) (S : Spool) (name : Octets) → IsHeld host inodes blocks S → group_named S name ≡ None → LacksGroup inodes blocks name
+pub lacks_group : (host : Octets) (inodes : ℕ) (blocks : List Octets) (S : Spool) (name : Octets) → IsHeld host inodes blocks S
+    → group_named S name ≡ None → LacksGroup inodes blocks name
 lacks_group host inodes blocks S name is none = record {
   group = not_there host inodes blocks S is (group_name name) (λ f has. (lacks_names S name none f has).group);
   numbers = not_there host inodes blocks S is (numbers_name name) (λ f has. (lacks_names S name none f has).numbers);
   overview = not_there host inodes blocks S is (overview_name name) (λ f has. (lacks_names S name none f has).overview);
 }
 
-pub lacks_expiry : (host : Octets) (inodes : ℕ) (blocks : List Octets) (S : Spool) → IsHeld host inodes blocks S → ¬ (IsThere (table inodes blocks) (expiry_name (length S + 1)))
-lacks_expiry host inodes blocks S is = not_there host inodes blocks S is (expiry_name (length S + 1)) (λ f has. (lacks_serial S (omega (arith, changes_are_few host inodes blocks S is)) f has).expiry)
+pub lacks_expiry : (host : Octets) (inodes : ℕ) (blocks : List Octets) (S : Spool) → IsHeld host inodes blocks S
+    → ¬ (IsThere (table inodes blocks) (expiry_name (length S + 1)))
+lacks_expiry host inodes blocks S is =
+    not_there host inodes blocks S is (expiry_name (length S + 1))
+    (λ f has. (lacks_serial S (omega (arith, changes_are_few host inodes blocks S is)) f has).expiry)
 
 -- another name is there still not
-pub still_absent : (inodes at : ℕ) (name content q : Octets) (old new : List Octets) → SameFilesBut inodes at old new → IsFileAt (table inodes new) at name content → name ≢ q → ¬ (IsThere (table inodes old) q) → ¬ (IsThere (table inodes new) q)
+pub still_absent : (inodes at : ℕ) (name content q : Octets) (old new : List Octets) → SameFilesBut inodes at old new
+    → IsFileAt (table inodes new) at name content → name ≢ q → ¬ (IsThere (table inodes old) q) → ¬ (IsThere (table inodes new) q)
 still_absent inodes at name content q old new others there other none (k, c, here) = by_place (cases_eq k at) where
   by_place : (k ≡ at) ⊎ (k ≢ at) → ⊥
-  by_place (inl same) = other (one_name (table inodes new) at name q content c there (subst (λ (j : ℕ). IsFileAt (table inodes new) j q c) same here))
+  by_place (inl same) = other (one_name (table inodes new) at name q content c there
+      (subst (λ (j : ℕ). IsFileAt (table inodes new) j q c) same here))
   by_place (inr apart) = none (k, c, sym (others k apart) ∙ here)
 
 -- the index has no group of this name
-none_named : (name : Octets) (gs : List NewsGroup) → find (λ (g : NewsGroup). is_name name g.name) gs ≡ None → list_any (bytes_eq name) (map (λ (g : NewsGroup). g.name) gs) ≡ false
+none_named : (name : Octets) (gs : List NewsGroup) → find (λ (g : NewsGroup). is_name name g.name) gs ≡ None
+    → list_any (bytes_eq name) (map (λ (g : NewsGroup). g.name) gs) ≡ false
 none_named name [] none = refl
 none_named name (g ∷ gs) none = by_name (bytes_eq g.name name) refl none (none_named name gs) where
   by_name : (b : Bool) → bytes_eq g.name name ≡ b → cond b (Some g) (find (λ (h : NewsGroup). is_name name h.name) gs) ≡ None
       → (find (λ (h : NewsGroup). is_name name h.name) gs ≡ None → list_any (bytes_eq name) (map (λ (h : NewsGroup). h.name) gs) ≡ false)
       → list_any (bytes_eq name) (g.name ∷ map (λ (h : NewsGroup). h.name) gs) ≡ false
   by_name true is found later = absurd (cc)
-  by_name false is found later = or_from (bytes_eq name g.name) (list_any (bytes_eq name) (map (λ (h : NewsGroup). h.name) gs)) (bytes_swap g.name name is) (later found)
+  by_name false is found later = or_from (bytes_eq name g.name) (list_any (bytes_eq name) (map (λ (h : NewsGroup). h.name) gs))
+      (bytes_swap g.name name is) (later found)
 
-pub heads_lack : (S : Spool) (x : IndexView) (name : Octets) → Indexes S x → group_named S name ≡ None → list_any (bytes_eq name) (heads x.groups) ≡ false
+pub heads_lack : (S : Spool) (x : IndexView) (name : Octets) → Indexes S x → group_named S name ≡ None
+    → list_any (bytes_eq name) (heads x.groups) ≡ false
 unfolding group_named
 heads_lack S x name is none =
     ap (λ (gs : List GroupIndex). list_any (bytes_eq name) (heads gs)) is.groups_are
@@ -75,28 +86,39 @@ heads_lack S x name is none =
 
 -- ---- the files of a group
 
-files_after : (inodes : ℕ) (calls : List FileCall) (old new : List Octets) → Calls inodes calls old new → length (files_in (table inodes new)) ≡ length (after_calls (files_in (table inodes old)) calls)
-files_after inodes calls old new made = sym (length_permutation (files_in (table inodes new)) (after_calls (files_in (table inodes old)) calls) (made.files (files_in (table inodes old)) (IsPermutation-refl (files_in (table inodes old)))))
+files_after : (inodes : ℕ) (calls : List FileCall) (old new : List Octets) → Calls inodes calls old new
+    → length (files_in (table inodes new)) ≡ length (after_calls (files_in (table inodes old)) calls)
+files_after inodes calls old new made =
+    sym (length_permutation (files_in (table inodes new)) (after_calls (files_in (table inodes old)) calls)
+    (made.files (files_in (table inodes old)) (IsPermutation-refl (files_in (table inodes old)))))
 
-pub one_file_more : (inodes at : ℕ) (name octets : Octets) (old new : List Octets) → MakesAt inodes at name octets old new → length (files_in (table inodes new)) ≡ length (files_in (table inodes old)) + 1
+pub one_file_more : (inodes at : ℕ) (name octets : Octets) (old new : List Octets) → MakesAt inodes at name octets old new
+    → length (files_in (table inodes new)) ≡ length (files_in (table inodes old)) + 1
 one_file_more inodes at name octets old new made =
     files_after inodes (making_calls name octets) old new made.calls
     ∙ length-map (files_in (table inodes old) ++ record { name = name; content = [] } ∷ []) (appended name octets)
     ∙ length-append (files_in (table inodes old)) (record { name = name; content = [] } ∷ [])
 
-pub one_empty_more : (inodes at : ℕ) (name : Octets) (old new : List Octets) → CreatesAt inodes at name old new → length (files_in (table inodes new)) ≡ length (files_in (table inodes old)) + 1
+pub one_empty_more : (inodes at : ℕ) (name : Octets) (old new : List Octets) → CreatesAt inodes at name old new
+    → length (files_in (table inodes new)) ≡ length (files_in (table inodes old)) + 1
 one_empty_more inodes at name old new made =
-    files_after inodes (Create name ∷ []) old new made.calls ∙ length-append (files_in (table inodes old)) (record { name = name; content = [] } ∷ [])
+    files_after inodes (Create name ∷ []) old new made.calls
+    ∙ length-append (files_in (table inodes old)) (record { name = name; content = [] } ∷ [])
 
-named : (inodes k : ℕ) (name content : Octets) (blocks : List Octets) → IsFileAt (table inodes blocks) k name content → name_of (table inodes blocks) k ≡ Some name
+named : (inodes k : ℕ) (name content : Octets) (blocks : List Octets) → IsFileAt (table inodes blocks) k name content
+    → name_of (table inodes blocks) k ≡ Some name
 named inodes k name content blocks there = ap (option_map (λ (f : File). f.name)) there
 
-pub makes_group : (inodes at numbers overview : ℕ) (name octets : Octets) (a b c d : List Octets) → MakesAt inodes at (group_name name) octets a b → CreatesAt inodes numbers (numbers_name name) b c → CreatesAt inodes overview (overview_name name) c d
+pub makes_group : (inodes at numbers overview : ℕ) (name octets : Octets) (a b c d : List Octets)
+    → MakesAt inodes at (group_name name) octets a b → CreatesAt inodes numbers (numbers_name name) b c
+    → CreatesAt inodes overview (overview_name name) c d
     → MakesGroup inodes at numbers overview name octets a d
 makes_group inodes at numbers overview name octets a b c d first second third = record {
-  calls = calls_then inodes (making_calls (group_name name) octets) (Create (numbers_name name) ∷ Create (overview_name name) ∷ []) a b d first.calls
+  calls = calls_then inodes (making_calls (group_name name) octets) (Create (numbers_name name) ∷ Create (overview_name name) ∷ []) a b d
+      first.calls
       (calls_then inodes (Create (numbers_name name) ∷ []) (Create (overview_name name) ∷ []) b c d second.calls third.calls);
-  group = third.calls.names at (group_name name) (second.calls.names at (group_name name) (named inodes at (group_name name) octets b first.there));
+  group = third.calls.names at (group_name name)
+      (second.calls.names at (group_name name) (named inodes at (group_name name) octets b first.there));
   first = third.calls.names numbers (numbers_name name) (named inodes numbers (numbers_name name) [] c second.there);
   second = named inodes overview (overview_name name) [] d third.there;
   used = third.used;
@@ -105,9 +127,11 @@ makes_group inodes at numbers overview name octets a b c d first second third = 
 -- ---- the whole
 
 -- the calls of a group that is made
-group_is_made : (inodes : ℕ) (S : Spool) (name : Octets) (status : ℕ) (description : Octets) (moment at numbers overview : ℕ) (octets : Octets) (old new : List Octets)
+group_is_made : (inodes : ℕ) (S : Spool) (name : Octets) (status : ℕ) (description : Octets) (moment at numbers overview : ℕ)
+    (octets : Octets) (old new : List Octets)
     → octets ≡ group_record (record { serial = length S + 1; name = name; status = status; description = description; moment = moment })
-    → MakesGroup inodes at numbers overview name octets old new → Calls inodes (change_calls S (Group name status description moment)) old new
+    → MakesGroup inodes at numbers overview name octets old new
+    → Calls inodes (change_calls S (Group name status description moment)) old new
 group_is_made inodes S name status description moment at numbers overview octets old new says made =
     subst (λ (o : Octets). Calls inodes (group_calls name o) old new) says made.calls
 
@@ -118,7 +142,8 @@ expiry_is_made : (inodes : ℕ) (S : Spool) (group : Octets) (number at : ℕ) (
 expiry_is_made inodes S group number at octets old new says made =
     subst (λ (o : Octets). Calls inodes (making_calls (expiry_name (length S + 1)) o) old new) says made.calls
 
-pub kept_with_group : (host : Octets) (inodes : ℕ) (v w : VolumeView) (i j : IndexView) (p q : FilePlaces) (S : Spool) (name : Octets) (status : ℕ) (description : Octets) (moment at numbers overview : ℕ) (octets : Octets)
+pub kept_with_group : (host : Octets) (inodes : ℕ) (v w : VolumeView) (i j : IndexView) (p q : FilePlaces) (S : Spool) (name : Octets)
+    (status : ℕ) (description : Octets) (moment at numbers overview : ℕ) (octets : Octets)
     → IsKept host inodes v i p S → MayMake S name status description moment
     → octets ≡ group_record (record { serial = length S + 1; name = name; status = status; description = description; moment = moment })
     → MakesGroup inodes at numbers overview name octets v.cache w.cache → q ≡ with_group at numbers overview p
@@ -128,15 +153,18 @@ kept_with_group host inodes v w i j p q S name status description moment at numb
     let c : Change = Group name status description moment in
     let calls = group_is_made inodes S name status description moment at numbers overview octets v.cache w.cache says made in
     let is = grown host inodes v.cache S kept.is c w.cache may calls in
-    let placed = grow_by_group (table inodes v.cache) (table inodes w.cache) S name status description moment p at numbers overview (have_names inodes v.cache S p kept.placed) made.calls.names made.group made.first made.second in
+    let placed = grow_by_group (table inodes v.cache) (table inodes w.cache) S name status description moment p at numbers overview
+    (have_names inodes v.cache S p kept.placed) made.calls.names made.group made.first made.second in
     record {
       is = is;
       seen = seen;
       indexed = indexed;
-      placed = are_by_name host inodes w.cache (S ++ c ∷ []) q is.held (subst (AreNamed (table inodes w.cache) (S ++ c ∷ [])) (sym places) placed);
+      placed = are_by_name host inodes w.cache (S ++ c ∷ []) q is.held
+          (subst (AreNamed (table inodes w.cache) (S ++ c ∷ [])) (sym places) placed);
     }
 
-pub kept_with_expiry : (host : Octets) (inodes : ℕ) (v w : VolumeView) (i j : IndexView) (p q : FilePlaces) (S : Spool) (group : Octets) (number at : ℕ) (octets : Octets)
+pub kept_with_expiry : (host : Octets) (inodes : ℕ) (v w : VolumeView) (i j : IndexView) (p q : FilePlaces) (S : Spool) (group : Octets)
+    (number at : ℕ) (octets : Octets)
     → IsKept host inodes v i p S → MayExpire S group number
     → octets ≡ expiry_record (record { serial = length S + 1; group = group; number = number })
     → MakesAt inodes at (expiry_name (length S + 1)) octets v.cache w.cache → q ≡ with_change at p
@@ -146,20 +174,27 @@ kept_with_expiry host inodes v w i j p q S group number at octets kept may says 
     let c : Change = Expire group number in
     let calls = expiry_is_made inodes S group number at octets v.cache w.cache says made in
     let is = grown host inodes v.cache S kept.is c w.cache may calls in
-    let placed = grow_by_change (table inodes v.cache) (table inodes w.cache) S c p at refl (have_names inodes v.cache S p kept.placed) made.calls.names (named inodes at (expiry_name (length S + 1)) octets w.cache made.there) in
+    let placed = grow_by_change (table inodes v.cache) (table inodes w.cache) S c p at refl
+    (have_names inodes v.cache S p kept.placed) made.calls.names
+    (named inodes at (expiry_name (length S + 1)) octets w.cache made.there) in
     record {
       is = is;
       seen = seen;
       indexed = indexed;
-      placed = are_by_name host inodes w.cache (S ++ c ∷ []) q is.held (subst (AreNamed (table inodes w.cache) (S ++ c ∷ [])) (sym places) placed);
+      placed = are_by_name host inodes w.cache (S ++ c ∷ []) q is.held
+          (subst (AreNamed (table inodes w.cache) (S ++ c ∷ [])) (sym places) placed);
     }
 
 -- ---- after the stage was applied
 
-pub applied_dirties : (v m w : VolumeView) → v.seen ≡ v.cache → ◌≡◌ {A = List Octets × List ℕ} (m.cache, m.dirty) (v.cache, v.dirty) → length m.seen ≡ length v.seen → Touches 254 v.seen m.seen → w.cache ≡ m.seen
-    → ((k : ℕ) → Contains w.dirty k ↔ (Contains m.dirty k ⊎ Differs m.cache m.seen k)) → AreDistinct w.dirty → Dirties v.cache w.cache v.dirty w.dirty
+pub applied_dirties : (v m w : VolumeView) → v.seen ≡ v.cache → ◌≡◌ {A = List Octets × List ℕ} (m.cache, m.dirty) (v.cache, v.dirty)
+    → length m.seen ≡ length v.seen → Touches 254 v.seen m.seen → w.cache ≡ m.seen
+    → ((k : ℕ) → Contains w.dirty k ↔ (Contains m.dirty k ⊎ Differs m.cache m.seen k)) → AreDistinct w.dirty
+    → Dirties v.cache w.cache v.dirty w.dirty
 applied_dirties v m w seen kept count touches cache exactly once =
-    let touched : Touches 254 v.cache w.cache = subst (λ (bs : List Octets). Touches 254 v.cache bs) (sym cache) (subst (λ (bs : List Octets). Touches 254 bs m.seen) seen touches) in
+    let touched : Touches 254 v.cache w.cache =
+    subst (λ (bs : List Octets). Touches 254 v.cache bs) (sym cache) (subst (λ (bs : List Octets). Touches 254 bs m.seen) seen touches)
+    in
     let same_cache : m.cache ≡ v.cache = ap (λ (x : List Octets × List ℕ). x.0) kept in
     let same_dirty : m.dirty ≡ v.dirty = ap (λ (x : List Octets × List ℕ). x.1) kept in
     dirties v.cache w.cache v.dirty w.dirty (ap length cache ∙ (count ∙ ap length seen)) touched
@@ -168,23 +203,36 @@ applied_dirties v m w seen kept count touches cache exactly once =
     (subst (λ (ds : List ℕ). Contains w.dirty k ↔ (Contains ds k ⊎ Differs m.cache m.seen k)) same_dirty (exactly k))))
     once
 
-pub group_grown : (inodes : ℕ) (v m w : VolumeView) (i j : IndexView) (p q : FilePlaces) (name : Octets) (status : ℕ) (description : Octets) (moment at numbers overview : ℕ) (octets : Octets)
-    → v.seen ≡ v.cache → MakesGroup inodes at numbers overview name octets v.seen m.seen → Dirties v.cache w.cache v.dirty w.dirty → w.cache ≡ m.seen → w.seen ≡ m.seen
+pub group_grown : (inodes : ℕ) (v m w : VolumeView) (i j : IndexView) (p q : FilePlaces) (name : Octets) (status : ℕ) (description : Octets)
+    (moment at numbers overview : ℕ) (octets : Octets)
+    → v.seen ≡ v.cache → MakesGroup inodes at numbers overview name octets v.seen m.seen → Dirties v.cache w.cache v.dirty w.dirty
+    → w.cache ≡ m.seen → w.seen ≡ m.seen
     → q ≡ with_group at numbers overview p
-    → ((host : Octets) (S : Spool) → IsLawful host S → MayMake S name status description moment → Indexes S i → Indexes (S ++ Group name status description moment ∷ []) j)
-    → ((S : Spool) → Indexes S i → octets ≡ group_record (record { serial = length S + 1; name = name; status = status; description = description; moment = moment }))
+    → ((host : Octets) (S : Spool) → IsLawful host S → MayMake S name status description moment → Indexes S i
+    → Indexes (S ++ Group name status description moment ∷ []) j)
+    → ((S : Spool) → Indexes S i → octets ≡ group_record (record {
+      serial = length S + 1;
+      name = name;
+      status = status;
+      description = description;
+      moment = moment;
+    }))
     → IsGrown inodes v w i j p q (Group name status description moment)
 group_grown inodes v m w i j p q name status description moment at numbers overview octets seen made dirties cache now places indexed says =
     let made' : MakesGroup inodes at numbers overview name octets v.cache w.cache =
-    subst (λ (bs : List Octets). MakesGroup inodes at numbers overview name octets v.cache bs) (sym cache) (subst (λ (bs : List Octets). MakesGroup inodes at numbers overview name octets bs m.seen) seen made) in
+    subst (λ (bs : List Octets). MakesGroup inodes at numbers overview name octets v.cache bs) (sym cache)
+    (subst (λ (bs : List Octets). MakesGroup inodes at numbers overview name octets bs m.seen) seen made) in
     record {
       kept = λ host S kept may.
-          kept_with_group host inodes v w i j p q S name status description moment at numbers overview octets kept may (says S kept.indexed) made' places (indexed host S kept.is.held.lawful may kept.indexed) (now ∙ sym cache);
+          kept_with_group host inodes v w i j p q S name status description moment at numbers overview octets kept may
+          (says S kept.indexed) made' places (indexed host S kept.is.held.lawful may kept.indexed) (now ∙ sym cache);
       dirties = dirties;
     }
 
-pub expiry_grown : (inodes : ℕ) (v m w : VolumeView) (i j : IndexView) (p q : FilePlaces) (group : Octets) (number at serial : ℕ) (octets : Octets)
-    → v.seen ≡ v.cache → MakesAt inodes at (expiry_name serial) octets v.seen m.seen → Dirties v.cache w.cache v.dirty w.dirty → w.cache ≡ m.seen → w.seen ≡ m.seen
+pub expiry_grown : (inodes : ℕ) (v m w : VolumeView) (i j : IndexView) (p q : FilePlaces) (group : Octets) (number at serial : ℕ)
+    (octets : Octets)
+    → v.seen ≡ v.cache → MakesAt inodes at (expiry_name serial) octets v.seen m.seen → Dirties v.cache w.cache v.dirty w.dirty
+    → w.cache ≡ m.seen → w.seen ≡ m.seen
     → q ≡ with_change at p
     → ((S : Spool) → MayExpire S group number → Indexes S i → Indexes (S ++ Expire group number ∷ []) j)
     → ((S : Spool) → Indexes S i → serial ≡ length S + 1)
@@ -192,14 +240,17 @@ pub expiry_grown : (inodes : ℕ) (v m w : VolumeView) (i j : IndexView) (p q : 
     → IsGrown inodes v w i j p q (Expire group number)
 expiry_grown inodes v m w i j p q group number at serial octets seen made dirties cache now places indexed serials says =
     let made' : MakesAt inodes at (expiry_name serial) octets v.cache w.cache =
-    subst (λ (bs : List Octets). MakesAt inodes at (expiry_name serial) octets v.cache bs) (sym cache) (subst (λ (bs : List Octets). MakesAt inodes at (expiry_name serial) octets bs m.seen) seen made) in
-    let said : (S : Spool) → serial ≡ length S + 1 → octets ≡ expiry_record (record { serial = length S + 1; group = group; number = number }) =
+    subst (λ (bs : List Octets). MakesAt inodes at (expiry_name serial) octets v.cache bs) (sym cache)
+    (subst (λ (bs : List Octets). MakesAt inodes at (expiry_name serial) octets bs m.seen) seen made) in
+    let said : (S : Spool) → serial ≡ length S + 1
+    → octets ≡ expiry_record (record { serial = length S + 1; group = group; number = number }) =
     λ S its. says ∙ ap (λ (n : ℕ). expiry_record (record { serial = n; group = group; number = number })) its in
     let named : (S : Spool) → serial ≡ length S + 1 → MakesAt inodes at (expiry_name (length S + 1)) octets v.cache w.cache =
     λ S its. subst (λ (n : ℕ). MakesAt inodes at (expiry_name n) octets v.cache w.cache) its made' in
     record {
       kept = λ host S kept may.
           let its = serials S kept.indexed in
-          kept_with_expiry host inodes v w i j p q S group number at octets kept may (said S its) (named S its) places (indexed S may kept.indexed) (now ∙ sym cache);
+          kept_with_expiry host inodes v w i j p q S group number at octets kept may (said S its) (named S its) places
+          (indexed S may kept.indexed) (now ∙ sym cache);
       dirties = dirties;
     }

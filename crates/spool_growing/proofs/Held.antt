@@ -1,5 +1,6 @@
 -- What blocks that hold changes leave free, and the change that they get.
-use Rattle.std.proofs.Common.{◌≡◌, ◌≢◌, ◌≤◌, ℕ, zero, suc, ◌+◌, ◌-◌, false, List, [], ◌∷◌, ◌++◌, length, get_or, refl, sym, ◌∙◌, ap, subst, arith}
+use Rattle.std.proofs.Common.{◌≡◌, ◌≢◌, ◌≤◌, ℕ, zero, suc, ◌+◌, ◌-◌, false, List, [], ◌∷◌, ◌++◌, length, get_or, refl, sym, ◌∙◌, ap, subst}
+use Rattle.std.proofs.Common.{arith}
 use Rattle.std.specs.Prelude.{Option, Some, None, IsPermutation, nat_lt, ◌||◌}
 use Rattle.std.specs.List.{Contains}
 use Rattle.std.proofs.lemmas.Bool.{ltb-false, or_parts}
@@ -7,7 +8,8 @@ use Rattle.std.proofs.lemmas.List.Sorted.{Contains-permutation, length_permutati
 use Rattle.model.specs.Stream.{Octets}
 use Rattle.model.specs.Files.{File, files_in, first_data, free_blocks, table}
 use Rattle.model.specs.Lawful.{MayFollow}
-use Rattle.model.specs.Room.{blocks_asked, blocks_for, extends_large, files_made, free_blocks_beside, free_inodes_beside, has_all_groups, is_full, is_full_for}
+use Rattle.model.specs.Room.{blocks_asked, blocks_for, extends_large, files_made, free_blocks_beside, free_inodes_beside, has_all_groups}
+use Rattle.model.specs.Room.{is_full, is_full_for}
 use Rattle.model.specs.Spool.{Spool}
 use Rattle.model.specs.SpoolFiles.{change_calls, files_of}
 use Rattle.model.specs.declared.change.Change.{Change}
@@ -40,12 +42,14 @@ module _ (host : Octets) (inodes : ℕ) (blocks : List Octets) (S : Spool) (is :
   pub blocks_beside : free_blocks blocks ≡ free_blocks_beside (length blocks) inodes (files_of S)
   blocks_beside =
       (free_is_beside inodes blocks is.held.files is.room is.held.held).blocks_are
-      ∙ ap (λ (n : ℕ). length blocks - (first_data inodes + n)) (sym (sum_by-IsPermutation (λ (f : File). blocks_for (length f.content)) is.held.files (files_of S) is.held.same))
+      ∙ ap (λ (n : ℕ). length blocks - (first_data inodes + n))
+      (sym (sum_by-IsPermutation (λ (f : File). blocks_for (length f.content)) is.held.files (files_of S) is.held.same))
 
   pub not_there : (q : Octets) → ((f : File) → Contains (files_of S) f → f.name ≢ q) → ¬ (IsThere (table inodes blocks) q)
   not_there q lacks (k, content, there) =
       let f : File = record { name = q; content = content } in
-      lacks f (Contains-permutation (files_in (table inodes blocks)) (files_of S) f files_are (there_among (table inodes blocks) k f there)) refl
+      lacks f (Contains-permutation (files_in (table inodes blocks)) (files_of S) f files_are (there_among (table inodes blocks) k f there))
+      refl
 
   pub enough : (c : Change) → is_full (length blocks) inodes S (Some c) ≡ false → HasFree inodes (files_made c) blocks
   unfolding is_full_for
@@ -66,9 +70,11 @@ module _ (host : Octets) (inodes : ℕ) (blocks : List Octets) (S : Spool) (is :
       one_at_least (Expire group number) = omega arith
 
   -- they lead to the blocks that hold it
-  pub grown : (c : Change) (new : List Octets) → MayFollow host S c → Calls inodes (change_calls S c) blocks new → IsHeld host inodes new (S ++ c ∷ [])
+  pub grown : (c : Change) (new : List Octets) → MayFollow host S c → Calls inodes (change_calls S c) blocks new
+      → IsHeld host inodes new (S ++ c ∷ [])
   grown c new may calls = record {
     named = is.named;
     room = calls.room;
-    held = spools_grow host inodes new (files_in (table inodes new)) S c (omega (arith, changes_are_few)) is.held.lawful may (record { rule = calls.rule; contents = refl }) (calls.files (files_of S) files_are);
+    held = spools_grow host inodes new (files_in (table inodes new)) S c (omega (arith, changes_are_few)) is.held.lawful may
+        (record { rule = calls.rule; contents = refl }) (calls.files (files_of S) files_are);
   }

@@ -42,7 +42,8 @@ pub(crate) fn record_of(
     requires text { length article.now < 2 ^ 32 }
     requires count { length filed.now < 256 }
     requires names { All (λ name. length name < 256) filed.now }
-    ensures { IfOk result (λ octets. octets.items ≡ model_records.article_record (record { serial = serial; text = article.now; groups = filed.now; moment = moment })) }
+    ensures { IfOk result (λ octets. octets.items ≡ model_records.article_record
+        (record { serial = serial; text = article.now; groups = filed.now; moment = moment })) }
 {
     let names = octets_of(alloc, filed)?;
     article_record(alloc, serial, moment, &names, article.text())

@@ -37,7 +37,8 @@ fn line_in(
     name: &[u8],
 ) -> Result<(Piece, Piece), AllocError>
     requires { CanFileIn index.now places.now article.now name.now }
-    ensures pieces { IfOk result (λ p. (S : Spool) → Indexes S index.now → serial ≡ length S + 1 → (inodes : ℕ) (blocks : List (List ℕ)) → ArePlaces inodes blocks S places.now
+    ensures pieces { IfOk result (λ p. (S : Spool) → Indexes S index.now → serial ≡ length S + 1 → (inodes : ℕ) (blocks : List (List ℕ))
+        → ArePlaces inodes blocks S places.now
         → ArePiecesOf (table inodes blocks) S article.now name.now p.0 p.1) }
     ensures short { IfOk result (λ p. length p.1.octets.items ≤ 8191) }
 {
@@ -68,9 +69,11 @@ pub(crate) fn lines_of(
     filed: &[Text],
 ) -> Result<Lines, AllocError>
     requires { CanFile index.now places.now article.now filed.now }
-    ensures pieces { IfOk result (λ l. (S : Spool) → Indexes S index.now → serial ≡ length S + 1 → (inodes : ℕ) (blocks : List (List ℕ)) → ArePlaces inodes blocks S places.now
+    ensures pieces { IfOk result (λ l. (S : Spool) → Indexes S index.now → serial ≡ length S + 1 → (inodes : ℕ) (blocks : List (List ℕ))
+        → ArePlaces inodes blocks S places.now
         → ArePieces (table inodes blocks) S article.now filed.now l.pieces.items) }
-    ensures sizes { IfOk result (λ l. (S : Spool) → Indexes S index.now → serial ≡ length S + 1 → (inodes : ℕ) (blocks : List (List ℕ)) → ArePlaces inodes blocks S places.now
+    ensures sizes { IfOk result (λ l. (S : Spool) → Indexes S index.now → serial ≡ length S + 1 → (inodes : ℕ) (blocks : List (List ℕ))
+        → ArePlaces inodes blocks S places.now
         → AreLineSizes S article.now filed.now l.sizes.items) }
     ensures count { IfOk result (λ l. length l.sizes.items ≡ length filed.now) }
     ensures small { IfOk result (λ l. All (λ n. n < 2 ^ 32) l.sizes.items) }

@@ -40,7 +40,8 @@ pub(crate) fn make_group<B: Blocks>(
     requires lacks { LacksGroup inodes (B.blocks blocks.old) name.now }
     requires free { HasFree inodes 3 (B.blocks blocks.old) }
     requires known { IsKnown inodes free.old (B.blocks blocks.old) }
-    ensures made { IfOk result (λ p. MakesGroup inodes p.at p.numbers p.overview name.now record.now (B.blocks blocks.old) (B.blocks blocks.new)) }
+    ensures made { IfOk result (λ p. MakesGroup inodes p.at p.numbers p.overview name.now record.now (B.blocks blocks.old)
+        (B.blocks blocks.new)) }
     ensures touches { OnOk result (Touches 254 (B.blocks blocks.old) (B.blocks blocks.new)) }
     ensures known { OnOk result (IsKnown inodes free.new (B.blocks blocks.new)) }
     ensures kept { B.applied blocks.new ≡ B.applied blocks.old }
@@ -101,7 +102,8 @@ pub(crate) fn file_article<B: Blocks>(
     requires grow { MayAllGrow inodes pieces.now (B.blocks blocks.old) }
     requires few { length pieces.now ≤ 32 }
     requires known { IsKnown inodes free.old (B.blocks blocks.old) }
-    ensures filed { IfOk result (λ at. FilesArticle inodes at (article_name serial) octets.now pieces.now (B.blocks blocks.old) (B.blocks blocks.new)) }
+    ensures filed { IfOk result (λ at. FilesArticle inodes at (article_name serial) octets.now pieces.now (B.blocks blocks.old)
+        (B.blocks blocks.new)) }
     ensures touches { OnOk result (Touches (2 + touched_by_growth 0 (length octets.now) + touched_by_pieces (table inodes (B.blocks blocks.old)) pieces.now)
         (B.blocks blocks.old) (B.blocks blocks.new)) }
     ensures known { OnOk result (IsKnown inodes free.new (B.blocks blocks.new)) }

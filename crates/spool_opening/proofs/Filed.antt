@@ -1,5 +1,6 @@
 -- An article is replayed.
-use Rattle.std.proofs.Common.{◌≡◌, ◌<◌, ◌≤◌, ℕ, zero, suc, ◌+◌, ◌^◌, Bool, true, false, cond, List, [], ◌∷◌, ◌++◌, length, get_or, refl, sym, ◌∙◌, ap, subst, arith, Option, Some, None}
+use Rattle.std.proofs.Common.{◌≡◌, ◌<◌, ◌≤◌, ℕ, zero, suc, ◌+◌, ◌^◌, Bool, true, false, cond, List, [], ◌∷◌, ◌++◌, length, get_or, refl}
+use Rattle.std.proofs.Common.{sym, ◌∙◌, ap, subst, arith, Option, Some, None}
 use Rattle.std.specs.Prelude.{bytes_eq, filter, find, is_some, nat_le, option_map, slice_get, ◌&&◌, ◌||◌}
 use Rattle.std.specs.List.{list_all, list_any}
 use Rattle.std.proofs.lemmas.Bool.{and_parts, leb-true}
@@ -28,7 +29,8 @@ use Rattle.spool_opening.proofs.Going.{overview_size}
 use Rattle.spool_opening.proofs.Growing.{article_is_read}
 use Rattle.spool_opening.proofs.Replaying.{its_file_there, its_name}
 
-pub bounded : (host : Octets) (inodes : ℕ) (blocks : List Octets) (x : IndexView) (p : FilePlaces) (R : Spool) → HasRoom inodes blocks → IsFileSystem inodes blocks → IsReplayed host inodes blocks x p R → length R ≤ 32768 → IsBounded x
+pub bounded : (host : Octets) (inodes : ℕ) (blocks : List Octets) (x : IndexView) (p : FilePlaces) (R : Spool) → HasRoom inodes blocks
+    → IsFileSystem inodes blocks → IsReplayed host inodes blocks x p R → length R ≤ 32768 → IsBounded x
 bounded host inodes blocks x p R room rule replayed few = record {
   changes = R;
   indexed = replayed.indexed;
@@ -41,34 +43,50 @@ bounded host inodes blocks x p R room rule replayed few = record {
 
 filter_short : (p : Octets → Bool) (xs : List Octets) → length (filter p xs) ≤ length xs
 filter_short p [] = omega arith
-filter_short p (x ∷ xs) = elim (p x) as (λ b. length (cond b (x ∷ filter p xs) (filter p xs)) ≤ length (x ∷ xs)) [ true ↦ omega (arith, filter_short p xs) | false ↦ omega (arith, filter_short p xs) ]
+filter_short p (x ∷ xs) = elim (p x) as (λ b. length (cond b (x ∷ filter p xs) (filter p xs)) ≤ length (x ∷ xs)) [
+  | true ↦
+      omega (arith, filter_short p xs)
+  | false ↦ omega (arith, filter_short p xs)
+]
 
-pub few_groups : (host : Octets) (S : Spool) (text : Octets) (gs : List Octets) (moment : ℕ) → MayFile host S text gs moment → length gs ≤ 16
+pub few_groups : (host : Octets) (S : Spool) (text : Octets) (gs : List Octets) (moment : ℕ) → MayFile host S text gs moment
+    → length gs ≤ 16
 few_groups host S text gs moment may =
-    let good = and_parts (nat_le (length (groups_of text)) 16 && list_all is_group_name (groups_of text)) (are_distinct (groups_of text)) (no_cause Carried text (carried_cause text may.carried)).good_groups in
+    let good = and_parts (nat_le (length (groups_of text)) 16 && list_all is_group_name (groups_of text)) (are_distinct (groups_of text))
+    (no_cause Carried text (carried_cause text may.carried)).good_groups in
     let count = and_parts (nat_le (length (groups_of text)) 16) (list_all is_group_name (groups_of text)) good.0 in
-    omega (arith, ap (λ (l : List Octets). length l) may.filed, filter_short (is_here S) (groups_of text), leb-true (length (groups_of text)) 16 count.0)
+    omega (
+      arith,
+      ap (λ (l : List Octets). length l) may.filed,
+      filter_short (is_here S) (groups_of text),
+      leb-true (length (groups_of text)) 16 count.0,
+    )
 
 pub are_here : (S : Spool) (names : List Octets) → AreHere S (filter (is_here S) names)
 are_here S [] = λ k low. absurd (omega arith)
 are_here S (x ∷ names) = by_test (is_here S x) refl (are_here S names) where
-  by_test : (b : Bool) → is_here S x ≡ b → AreHere S (filter (is_here S) names) → AreHere S (cond b (x ∷ filter (is_here S) names) (filter (is_here S) names))
+  by_test : (b : Bool) → is_here S x ≡ b → AreHere S (filter (is_here S) names)
+      → AreHere S (cond b (x ∷ filter (is_here S) names) (filter (is_here S) names))
   by_test true is rest zero low = is
   by_test true is rest (suc k) low = rest k (omega arith)
   by_test false is rest k low = rest k low
 
-found_at : (gs : List NewsGroup) (k : ℕ) (h : NewsGroup) → slice_get gs k ≡ Some h → is_some (find (λ (g : NewsGroup). is_name h.name g.name) gs) ≡ true
+found_at : (gs : List NewsGroup) (k : ℕ) (h : NewsGroup) → slice_get gs k ≡ Some h
+    → is_some (find (λ (g : NewsGroup). is_name h.name g.name) gs) ≡ true
 found_at [] zero h is = absurd (cc)
 found_at [] (suc k) h is = absurd (cc)
 found_at (g ∷ gs) zero h is =
     let same : g ≡ h = cc in
-    ap (λ (b : Bool). is_some (cond b (Some g) (find (λ (x : NewsGroup). is_name h.name x.name) gs))) ((bytes_eq-Decides g.name h.name).1 (ap (λ (x : NewsGroup). x.name) same))
+    ap (λ (b : Bool). is_some (cond b (Some g) (find (λ (x : NewsGroup). is_name h.name x.name) gs)))
+    ((bytes_eq-Decides g.name h.name).1 (ap (λ (x : NewsGroup). x.name) same))
 found_at (g ∷ gs) (suc k) h is = over (is_name h.name g.name) (found_at gs k h is) where
-  over : (b : Bool) → is_some (find (λ (x : NewsGroup). is_name h.name x.name) gs) ≡ true → is_some (cond b (Some g) (find (λ (x : NewsGroup). is_name h.name x.name) gs)) ≡ true
+  over : (b : Bool) → is_some (find (λ (x : NewsGroup). is_name h.name x.name) gs) ≡ true
+      → is_some (cond b (Some g) (find (λ (x : NewsGroup). is_name h.name x.name) gs)) ≡ true
   over true rest = refl
   over false rest = rest
 
-its_group : (S : Spool) (o : Option NewsGroup) (i : GroupIndex) → option_map (group_index S) o ≡ Some i → (h : NewsGroup) × ((o ≡ Some h) × (group_index S h ≡ i))
+its_group : (S : Spool) (o : Option NewsGroup) (i : GroupIndex) → option_map (group_index S) o ≡ Some i
+    → (h : NewsGroup) × ((o ≡ Some h) × (group_index S h ≡ i))
 its_group S None i is = absurd (cc)
 its_group S (Some h) i is = (h, (refl, cc))
 
@@ -76,7 +94,8 @@ pub ends_below : (x : IndexView) → IsBounded x → EndBelow (2 ^ 32) x.groups
 unfolding group_named
 ends_below x bounds = λ k i is.
     let S = bounds.changes in
-    let mapped : option_map (group_index S) (slice_get (groups S) k) ≡ Some i = sym (slice_get-map (group_index S) (groups S) k) ∙ ap (λ (gs : List GroupIndex). slice_get gs k) (sym bounds.indexed.groups_are) ∙ is in
+    let mapped : option_map (group_index S) (slice_get (groups S) k) ≡ Some i = sym (slice_get-map (group_index S) (groups S) k)
+    ∙ ap (λ (gs : List GroupIndex). slice_get gs k) (sym bounds.indexed.groups_are) ∙ is in
     let its = its_group S (slice_get (groups S) k) i mapped in
     let here : is_here S its.0.name ≡ true = found_at (groups S) k its.0 its.1.0 in
     omega (arith, bounds.short its.0.name here, overview_size S its.0, ap end_of its.1.1)
@@ -84,25 +103,32 @@ ends_below x bounds = λ k i is.
 any_at : (g : Octets) (gs : List Octets) → list_any (is_name g) gs ≡ true → (k : ℕ) × ((k < length gs) × (get_or gs k [] ≡ g))
 any_at g [] some = absurd (cc)
 any_at g (x ∷ gs) some = by_test (bytes_eq x g) refl some (any_at g gs) where
-  by_test : (b : Bool) → bytes_eq x g ≡ b → (b || list_any (is_name g) gs) ≡ true → (list_any (is_name g) gs ≡ true → (k : ℕ) × ((k < length gs) × (get_or gs k [] ≡ g))) → (k : ℕ) × ((k < length (x ∷ gs)) × (get_or (x ∷ gs) k [] ≡ g))
+  by_test : (b : Bool) → bytes_eq x g ≡ b → (b || list_any (is_name g) gs) ≡ true
+      → (list_any (is_name g) gs ≡ true → (k : ℕ) × ((k < length gs) × (get_or gs k [] ≡ g)))
+      → (k : ℕ) × ((k < length (x ∷ gs)) × (get_or (x ∷ gs) k [] ≡ g))
   by_test true is found rest = (0, (omega arith, (bytes_eq-Decides x g).0 is))
   by_test false is found rest = let at = rest found in (suc at.0, (omega (arith, at.1.0), at.1.1))
 
-pub pieces_by_names : (inodes : List (Option File)) (S : Spool) (text : Octets) (gs : List Octets) → AllGoOn inodes S text gs → (w : Which) (g : Octets) → list_any (is_name g) gs ≡ true
+pub pieces_by_names : (inodes : List (Option File)) (S : Spool) (text : Octets) (gs : List Octets) → AllGoOn inodes S text gs
+    → (w : Which) (g : Octets) → list_any (is_name g) gs ≡ true
     → HasPiece inodes (name_for w g) (length (file_for w S g)) (piece_for w S text g)
 pieces_by_names inodes S text gs all w g filed =
     let at = any_at g gs filed in
     subst (λ (h : Octets). HasPiece inodes (name_for w h) (length (file_for w S h)) (piece_for w S text h)) at.1.1 (all at.0 w at.1.0)
 
-pub article_replayed : (host : Octets) (inodes : ℕ) (blocks : List Octets) (R : Spool) (x y : IndexView) (p q : FilePlaces) (at : ℕ) (text : Octets) (gs : List Octets) (moment : ℕ) → IsFileSystem inodes blocks → IsReplayed host inodes blocks x p R
-    → IsItsFile inodes blocks at (length R + 1) (Article text gs moment) → MayFile host R text gs moment → AllGoOn (table inodes blocks) R text gs → Indexes (R ++ Article text gs moment ∷ []) y → q ≡ with_change at p
+pub article_replayed : (host : Octets) (inodes : ℕ) (blocks : List Octets) (R : Spool) (x y : IndexView) (p q : FilePlaces) (at : ℕ)
+    (text : Octets) (gs : List Octets) (moment : ℕ) → IsFileSystem inodes blocks → IsReplayed host inodes blocks x p R
+    → IsItsFile inodes blocks at (length R + 1) (Article text gs moment) → MayFile host R text gs moment
+    → AllGoOn (table inodes blocks) R text gs → Indexes (R ++ Article text gs moment ∷ []) y → q ≡ with_change at p
     → IsReplayed host inodes blocks y q (R ++ Article text gs moment ∷ [])
 article_replayed host inodes blocks R x y p q at text gs moment rule replayed its may all indexed placed = record {
-  read = article_is_read host inodes blocks R replayed.read text gs moment rule may its.is.room (its_file_there inodes blocks at (length R + 1) (Article text gs moment) its) (pieces_by_names (table inodes blocks) R text gs all);
+  read = article_is_read host inodes blocks R replayed.read text gs moment rule may its.is.room
+      (its_file_there inodes blocks at (length R + 1) (Article text gs moment) its) (pieces_by_names (table inodes blocks) R text gs all);
   indexed = indexed;
   placed =
       subst (AreNamed (table inodes blocks) (R ++ Article text gs moment ∷ [])) (sym placed)
-      (grow_by_change (table inodes blocks) (table inodes blocks) R (Article text gs moment) p at refl replayed.placed (λ k name is. is) (its_name inodes blocks at (length R + 1) (Article text gs moment) its));
+      (grow_by_change (table inodes blocks) (table inodes blocks) R (Article text gs moment) p at refl replayed.placed (λ k name is. is)
+      (its_name inodes blocks at (length R + 1) (Article text gs moment) its));
 }
 
 -- ---- what the code has
@@ -111,20 +137,28 @@ pub no_cause_there : (o : Option Cause) (x : Cause) → o ≡ None → o ≡ Som
 no_cause_there o x none some = absurd (cc)
 
 -- the names that were listed and are here
-pub filed_are : (S : Spool) (article : Octets) (names listed here filed : List Octets) → names ≡ groups_of article → listed ≡ names → here ≡ filter (is_here S) listed → filed ≡ here → filed ≡ filter (is_here S) (groups_of article)
-filed_are S article names listed here filed names_are listed_are here_are same = same ∙ here_are ∙ ap (filter (is_here S)) (listed_are ∙ names_are)
+pub filed_are : (S : Spool) (article : Octets) (names listed here filed : List Octets) → names ≡ groups_of article → listed ≡ names
+    → here ≡ filter (is_here S) listed → filed ≡ here → filed ≡ filter (is_here S) (groups_of article)
+filed_are S article names listed here filed names_are listed_are here_are same = same ∙ here_are
+    ∙ ap (filter (is_here S)) (listed_are ∙ names_are)
 
 pub filed_here : (S : Spool) (article : Octets) (filed : List Octets) → filed ≡ filter (is_here S) (groups_of article) → AreHere S filed
 filed_here S article filed are = subst (AreHere S) (sym are) (are_here S (groups_of article))
 
-pub may_of_text : (host : Octets) (S : Spool) (article text : Octets) (gs : List Octets) (moment : ℕ) → article ≡ text → MayFile host S article gs moment → MayFile host S text gs moment
+pub may_of_text : (host : Octets) (S : Spool) (article text : Octets) (gs : List Octets) (moment : ℕ) → article ≡ text
+    → MayFile host S article gs moment → MayFile host S text gs moment
 may_of_text host S article text gs moment same may = subst (λ (t : Octets). MayFile host S t gs moment) same may
 
-pub same_groups : (host : Octets) (S : Spool) (article : Octets) (gs filed : List Octets) (moment : ℕ) → filed ≡ filter (is_here S) (groups_of article) → MayFile host S article gs moment → filed ≡ gs
+pub same_groups : (host : Octets) (S : Spool) (article : Octets) (gs filed : List Octets) (moment : ℕ)
+    → filed ≡ filter (is_here S) (groups_of article) → MayFile host S article gs moment → filed ≡ gs
 same_groups host S article gs filed moment are may = are ∙ sym may.filed
 
-pub all_of_text : (inodes : List (Option File)) (S : Spool) (article text : Octets) (filed gs : List Octets) → article ≡ text → filed ≡ gs → AllGoOn inodes S article filed → AllGoOn inodes S text gs
-all_of_text inodes S article text filed gs same groups' all = subst (λ (p : Octets × List Octets). AllGoOn inodes S p.0 p.1) (λ i. (same i, groups' i)) all
+pub all_of_text : (inodes : List (Option File)) (S : Spool) (article text : Octets) (filed gs : List Octets) → article ≡ text → filed ≡ gs
+    → AllGoOn inodes S article filed → AllGoOn inodes S text gs
+all_of_text inodes S article text filed gs same groups' all =
+    subst (λ (p : Octets × List Octets). AllGoOn inodes S p.0 p.1) (λ i. (same i, groups' i)) all
 
-pub sizes_of_text : (S : Spool) (article text : Octets) (filed gs : List Octets) (sizes lengths : List ℕ) → article ≡ text → filed ≡ gs → lengths ≡ sizes → AreLineSizes S article filed sizes → AreLineSizes S text gs lengths
-sizes_of_text S article text filed gs sizes lengths same groups' sized is = subst (λ (p : Octets × List Octets × List ℕ). AreLineSizes S p.0 p.1 p.2) (λ i. (same i, groups' i, sym sized i)) is
+pub sizes_of_text : (S : Spool) (article text : Octets) (filed gs : List Octets) (sizes lengths : List ℕ) → article ≡ text → filed ≡ gs
+    → lengths ≡ sizes → AreLineSizes S article filed sizes → AreLineSizes S text gs lengths
+sizes_of_text S article text filed gs sizes lengths same groups' sized is =
+    subst (λ (p : Octets × List Octets × List ℕ). AreLineSizes S p.0 p.1 p.2) (λ i. (same i, groups' i, sym sized i)) is

@@ -1,5 +1,6 @@
 -- One change more is read, and the end.
-use Rattle.std.proofs.Common.{◌≡◌, ℕ, zero, suc, ◌+◌, Bool, true, false, cond, List, [], ◌∷◌, ◌++◌, length, take, refl, sym, ◌∙◌, ap, subst, arith, Option, Some, None}
+use Rattle.std.proofs.Common.{◌≡◌, ℕ, zero, suc, ◌+◌, Bool, true, false, cond, List, [], ◌∷◌, ◌++◌, length, take, refl, sym, ◌∙◌, ap, subst}
+use Rattle.std.proofs.Common.{arith, Option, Some, None}
 use Rattle.std.specs.Prelude.{slice_get, find, filter_map, bytes_eq, is_some}
 use Rattle.std.specs.List.{Contains, list_any}
 use Rattle.std.specs.Option.{option_or}
@@ -22,13 +23,15 @@ use Rattle.spool_opening.proofs.Fronts.{article_grows, front_grows, other_grows}
 
 -- ---- lawful
 
-pub lawful_more : (host : Octets) (before cs : Spool) (c : Change) → IsLawfulAfter host before cs → MayFollow host (before ++ cs) c → IsLawfulAfter host before (cs ++ c ∷ [])
+pub lawful_more : (host : Octets) (before cs : Spool) (c : Change) → IsLawfulAfter host before cs → MayFollow host (before ++ cs) c
+    → IsLawfulAfter host before (cs ++ c ∷ [])
 lawful_more host before [] c lawful may = (rw append-nil at may, tt)
 lawful_more host before (d ∷ cs) c lawful may = (lawful.0, lawful_more host (before ++ d ∷ []) cs c lawful.1 (rw append_assoc may))
 
 -- ---- the changes
 
-changes_more : (P : ℕ → Change → Type 0) (R : Spool) (c : Change) → ((n : ℕ) (d : Change) → slice_get R n ≡ Some d → P n d) → P (length R) c → (n : ℕ) (d : Change) → slice_get (R ++ c ∷ []) n ≡ Some d → P n d
+changes_more : (P : ℕ → Change → Type 0) (R : Spool) (c : Change) → ((n : ℕ) (d : Change) → slice_get R n ≡ Some d → P n d) → P (length R) c
+    → (n : ℕ) (d : Change) → slice_get (R ++ c ∷ []) n ≡ Some d → P n d
 changes_more P [] c old new zero d is = let same : c ≡ d = cc in subst (P 0) same new
 changes_more P [] c old new (suc n) d is = absurd (cc)
 changes_more P (e ∷ R) c old new zero d is = old 0 d is
@@ -36,26 +39,34 @@ changes_more P (e ∷ R) c old new (suc n) d is = changes_more (λ m. P (suc m))
 
 -- ---- groups that are here
 
-groups_more : (S : Spool) (c : Change) → groups (S ++ c ∷ []) ≡ groups S ++ filter_map group_made (record { serial = length S + 1; change = c } ∷ [])
+groups_more : (S : Spool) (c : Change)
+    → groups (S ++ c ∷ []) ≡ groups S ++ filter_map group_made (record { serial = length S + 1; change = c } ∷ [])
 unfolding groups entries
-groups_more S c = ap (filter_map group_made) (entries_push 1 S c) ∙ filter_map-append group_made (entries_from 1 S) (record { serial = length S + 1; change = c } ∷ [])
+groups_more S c = ap (filter_map group_made) (entries_push 1 S c)
+    ∙ filter_map-append group_made (entries_from 1 S) (record { serial = length S + 1; change = c } ∷ [])
 
-pub here_more : (S : Spool) (c : Change) (g : Octets) → group_named (S ++ c ∷ []) g ≡ option_or (group_named S g) (find (λ (h : NewsGroup). is_name g h.name) (filter_map group_made (record { serial = length S + 1; change = c } ∷ [])))
+pub here_more : (S : Spool) (c : Change) (g : Octets)
+    → group_named (S ++ c ∷ []) g ≡ option_or (group_named S g)
+    (find (λ (h : NewsGroup). is_name g h.name) (filter_map group_made (record { serial = length S + 1; change = c } ∷ [])))
 unfolding group_named
-here_more S c g = ap (find (λ (h : NewsGroup). is_name g h.name)) (groups_more S c) ∙ find-append (λ (h : NewsGroup). is_name g h.name) (groups S) _
+here_more S c g = ap (find (λ (h : NewsGroup). is_name g h.name)) (groups_more S c)
+    ∙ find-append (λ (h : NewsGroup). is_name g h.name) (groups S) _
 
 or_none : (o : Option NewsGroup) → is_some (option_or o None) ≡ true → is_some o ≡ true
 or_none None some = some
 or_none (Some h) some = refl
 
 -- no group is made
-here_before : (S : Spool) (c : Change) (g : Octets) → filter_map group_made (record { serial = length S + 1; change = c } ∷ []) ≡ [] → is_here (S ++ c ∷ []) g ≡ true → is_here S g ≡ true
+here_before : (S : Spool) (c : Change) (g : Octets) → filter_map group_made (record { serial = length S + 1; change = c } ∷ []) ≡ []
+    → is_here (S ++ c ∷ []) g ≡ true → is_here S g ≡ true
 here_before S c g none here =
-    or_none (group_named S g) (sym (ap (λ (o : Option NewsGroup). is_some o) (here_more S c g ∙ ap (λ (gs : List NewsGroup). option_or (group_named S g) (find (λ (h : NewsGroup). is_name g h.name) gs)) none)) ∙ here)
+    or_none (group_named S g) (sym (ap (λ (o : Option NewsGroup). is_some o) (here_more S c g
+    ∙ ap (λ (gs : List NewsGroup). option_or (group_named S g) (find (λ (h : NewsGroup). is_name g h.name) gs)) none)) ∙ here)
 
 -- ---- a file with more in front
 
-named_same : (inodes : ℕ) (blocks : List Octets) (w : Which) (g : Octets) (old new : Octets) → new ≡ old → HasFront (table inodes blocks) (name_for w g) old → HasFront (table inodes blocks) (name_for w g) new
+named_same : (inodes : ℕ) (blocks : List Octets) (w : Which) (g : Octets) (old new : Octets) → new ≡ old
+    → HasFront (table inodes blocks) (name_for w g) old → HasFront (table inodes blocks) (name_for w g) new
 named_same inodes blocks w g old new same has = subst (HasFront (table inodes blocks) (name_for w g)) (sym same) has
 
 -- a new group has nothing yet
@@ -65,48 +76,65 @@ nothing host R name lawful new Numbers = ap numbers_of (new_has_nothing host R n
 nothing host R name lawful new Overview = ap overview_of (new_has_nothing host R name lawful new)
 
 module _ (host : Octets) (inodes : ℕ) (blocks : List Octets) (R : Spool) (read : AreRead host inodes blocks R) where
-  pub expiry_is_read : (group : Octets) (number : ℕ) → let c = Expire group number in MayFollow host R c → HasRoomInFile (length R + 1) c → Contains (files_in (table inodes blocks)) (change_file (record { serial = length R + 1; change = c }))
+  pub expiry_is_read : (group : Octets) (number : ℕ) → let c = Expire group number in MayFollow host R c → HasRoomInFile (length R + 1) c
+      → Contains (files_in (table inodes blocks)) (change_file (record { serial = length R + 1; change = c }))
       → AreRead host inodes blocks (R ++ c ∷ [])
   expiry_is_read group number may room there = record {
     lawful = lawful_more host [] R (Expire group number) read.lawful may;
-    changes = changes_more (λ n c. HasRoomInFile (n + 1) c × Contains (files_in (table inodes blocks)) (change_file (record { serial = n + 1; change = c }))) R (Expire group number) read.changes (room, there);
-    fronts = λ w g here. named_same inodes blocks w g _ _ (other_grows w R (Expire group number) g refl) (read.fronts w g (here_before R (Expire group number) g refl here));
+    changes = changes_more (λ n c. HasRoomInFile (n + 1) c
+        × Contains (files_in (table inodes blocks)) (change_file (record { serial = n + 1; change = c }))) R
+        (Expire group number) read.changes (room, there);
+    fronts = λ w g here. named_same inodes blocks w g _ _ (other_grows w R (Expire group number) g refl)
+        (read.fronts w g (here_before R (Expire group number) g refl here));
   }
 
-  pub article_is_read : (text : Octets) (gs : List Octets) (moment : ℕ) → let c = Article text gs moment in IsFileSystem inodes blocks → MayFollow host R c → HasRoomInFile (length R + 1) c
+  pub article_is_read : (text : Octets) (gs : List Octets) (moment : ℕ) → let c = Article text gs moment in IsFileSystem inodes blocks
+      → MayFollow host R c → HasRoomInFile (length R + 1) c
       → Contains (files_in (table inodes blocks)) (change_file (record { serial = length R + 1; change = c }))
-      → ((w : Which) (g : Octets) → list_any (is_name g) gs ≡ true → HasPiece (table inodes blocks) (name_for w g) (length (file_for w R g)) (piece_for w R text g))
+      → ((w : Which) (g : Octets) → list_any (is_name g) gs ≡ true
+      → HasPiece (table inodes blocks) (name_for w g) (length (file_for w R g)) (piece_for w R text g))
       → AreRead host inodes blocks (R ++ c ∷ [])
   article_is_read text gs moment rule may room there pieces = record {
     lawful = lawful_more host [] R (Article text gs moment) read.lawful may;
-    changes = changes_more (λ n c. HasRoomInFile (n + 1) c × Contains (files_in (table inodes blocks)) (change_file (record { serial = n + 1; change = c }))) R (Article text gs moment) read.changes (room, there);
+    changes = changes_more (λ n c. HasRoomInFile (n + 1) c
+        × Contains (files_in (table inodes blocks)) (change_file (record { serial = n + 1; change = c }))) R
+        (Article text gs moment) read.changes (room, there);
     fronts = λ w g here. by_test w g (read.fronts w g (here_before R (Article text gs moment) g refl here)) (list_any (is_name g) gs) refl;
   } where
-    by_test : (w : Which) (g : Octets) → HasFront (table inodes blocks) (name_for w g) (file_for w R g) → (b : Bool) → list_any (is_name g) gs ≡ b → HasFront (table inodes blocks) (name_for w g) (file_for w (R ++ Article text gs moment ∷ []) g)
+    by_test : (w : Which) (g : Octets) → HasFront (table inodes blocks) (name_for w g) (file_for w R g) → (b : Bool)
+        → list_any (is_name g) gs ≡ b → HasFront (table inodes blocks) (name_for w g) (file_for w (R ++ Article text gs moment ∷ []) g)
     by_test w g has true filed =
-        named_same inodes blocks w g _ _ (article_grows w R text gs moment g ∙ ap (λ (b : Bool). file_for w R g ++ cond b (piece_for w R text g) []) filed)
+        named_same inodes blocks w g _ _ (article_grows w R text gs moment g
+        ∙ ap (λ (b : Bool). file_for w R g ++ cond b (piece_for w R text g) []) filed)
         (front_grows inodes blocks (name_for w g) (file_for w R g) (piece_for w R text g) rule has (pieces w g filed))
     by_test w g has false filed =
-        named_same inodes blocks w g _ _ (article_grows w R text gs moment g ∙ ap (λ (b : Bool). file_for w R g ++ cond b (piece_for w R text g) []) filed ∙ append-nil (file_for w R g)) has
+        named_same inodes blocks w g _ _ (article_grows w R text gs moment g
+        ∙ ap (λ (b : Bool). file_for w R g ++ cond b (piece_for w R text g) []) filed ∙ append-nil (file_for w R g)) has
 
-  pub group_is_read : (name : Octets) (status : ℕ) (description : Octets) (moment : ℕ) → let c = Group name status description moment in MayFollow host R c → HasRoomInFile (length R + 1) c
+  pub group_is_read : (name : Octets) (status : ℕ) (description : Octets) (moment : ℕ) → let c = Group name status description moment in
+      MayFollow host R c → HasRoomInFile (length R + 1) c
       → Contains (files_in (table inodes blocks)) (change_file (record { serial = length R + 1; change = c }))
       → ((w : Which) → (k : ℕ) × ((content : Octets) × IsFileAt (table inodes blocks) k (name_for w name) content))
       → AreRead host inodes blocks (R ++ c ∷ [])
   group_is_read name status description moment may room there files = record {
     lawful = lawful_more host [] R (Group name status description moment) read.lawful may;
-    changes = changes_more (λ n c. HasRoomInFile (n + 1) c × Contains (files_in (table inodes blocks)) (change_file (record { serial = n + 1; change = c }))) R (Group name status description moment) read.changes (room, there);
+    changes = changes_more (λ n c. HasRoomInFile (n + 1) c
+        × Contains (files_in (table inodes blocks)) (change_file (record { serial = n + 1; change = c }))) R
+        (Group name status description moment) read.changes (room, there);
     fronts = λ w g here. by_test w g (bytes_eq name g) refl here;
   } where
     or_other : (o : Option NewsGroup) → is_some (option_or o None) ≡ true → is_some o ≡ true
     or_other None some = some
     or_other (Some h) some = refl
 
-    by_test : (w : Which) (g : Octets) (b : Bool) → bytes_eq name g ≡ b → is_here (R ++ Group name status description moment ∷ []) g ≡ true → HasFront (table inodes blocks) (name_for w g) (file_for w (R ++ Group name status description moment ∷ []) g)
+    by_test : (w : Which) (g : Octets) (b : Bool) → bytes_eq name g ≡ b → is_here (R ++ Group name status description moment ∷ []) g ≡ true
+        → HasFront (table inodes blocks) (name_for w g) (file_for w (R ++ Group name status description moment ∷ []) g)
     by_test w g true same here =
         let one : name ≡ g = (bytes_eq-Decides name g).0 same in
         let file = files w in
-        let none : file_for w (R ++ Group name status description moment ∷ []) g ≡ [] = other_grows w R (Group name status description moment) g refl ∙ ap (file_for w R) (sym one) ∙ nothing host R name read.lawful may.new w in
+        let none : file_for w (R ++ Group name status description moment ∷ []) g ≡ [] =
+        other_grows w R (Group name status description moment) g refl ∙ ap (file_for w R) (sym one)
+        ∙ nothing host R name read.lawful may.new w in
         record {
           place = file.0;
           content = file.1.0;
@@ -115,7 +143,9 @@ module _ (host : Octets) (inodes : ℕ) (blocks : List Octets) (R : Spool) (read
         }
     by_test w g false same here =
         let its : NewsGroup = record { serial = length R + 1; name = name; status = status; description = description; moment = moment } in
-        let before : is_here R g ≡ true = or_other (group_named R g) (sym (ap (λ (o : Option NewsGroup). is_some o) (here_more R (Group name status description moment) g ∙ ap (λ (b : Bool). option_or (group_named R g) (cond b (Some its) None)) same)) ∙ here) in
+        let before : is_here R g ≡ true =
+        or_other (group_named R g) (sym (ap (λ (o : Option NewsGroup). is_some o) (here_more R (Group name status description moment) g
+        ∙ ap (λ (b : Bool). option_or (group_named R g) (cond b (Some its) None)) same)) ∙ here) in
         named_same inodes blocks w g _ _ (other_grows w R (Group name status description moment) g refl) (read.fronts w g before)
 
 -- no change was read yet

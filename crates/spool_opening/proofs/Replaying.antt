@@ -21,56 +21,75 @@ use Rattle.spool_opening.specs.Stored.{IsFileAt, Numbers, Overview, Which, name_
 use Rattle.spool_reading.proofs.Finding.{is_among}
 use Rattle.spool_opening.proofs.Growing.{expiry_is_read, group_is_read}
 
-pub its_file_there : (inodes : ℕ) (blocks : List Octets) (at serial : ℕ) (c : Change) → IsItsFile inodes blocks at serial c → Contains (files_in (table inodes blocks)) (change_file (record { serial = serial; change = c }))
+pub its_file_there : (inodes : ℕ) (blocks : List Octets) (at serial : ℕ) (c : Change) → IsItsFile inodes blocks at serial c
+    → Contains (files_in (table inodes blocks)) (change_file (record { serial = serial; change = c }))
 its_file_there inodes blocks at serial c its =
-    subst (Contains (files_in (table inodes blocks))) (sym its.is.file) (is_among (table inodes blocks) at (record { name = its.name; content = its.content }) its.there)
+    subst (Contains (files_in (table inodes blocks))) (sym its.is.file)
+    (is_among (table inodes blocks) at (record { name = its.name; content = its.content }) its.there)
 
-pub its_name : (inodes : ℕ) (blocks : List Octets) (at serial : ℕ) (c : Change) → IsItsFile inodes blocks at serial c → name_of (table inodes blocks) at ≡ Some (change_file (record { serial = serial; change = c })).name
+pub its_name : (inodes : ℕ) (blocks : List Octets) (at serial : ℕ) (c : Change) → IsItsFile inodes blocks at serial c
+    → name_of (table inodes blocks) at ≡ Some (change_file (record { serial = serial; change = c })).name
 its_name inodes blocks at serial c its = ap (option_map (λ (f : File). f.name)) its.there ∙ ap (λ (f : File). Some f.name) (sym its.is.file)
 
-pub expiry_replayed : (host : Octets) (inodes : ℕ) (blocks : List Octets) (R : Spool) (x y : IndexView) (p q : FilePlaces) (at : ℕ) (group : Octets) (number : ℕ) → IsReplayed host inodes blocks x p R
-    → IsItsFile inodes blocks at (length R + 1) (Expire group number) → MayExpire R group number → Indexes (R ++ Expire group number ∷ []) y → q ≡ with_change at p → IsReplayed host inodes blocks y q (R ++ Expire group number ∷ [])
+pub expiry_replayed : (host : Octets) (inodes : ℕ) (blocks : List Octets) (R : Spool) (x y : IndexView) (p q : FilePlaces) (at : ℕ)
+    (group : Octets) (number : ℕ) → IsReplayed host inodes blocks x p R
+    → IsItsFile inodes blocks at (length R + 1) (Expire group number) → MayExpire R group number → Indexes (R ++ Expire group number ∷ []) y
+    → q ≡ with_change at p → IsReplayed host inodes blocks y q (R ++ Expire group number ∷ [])
 expiry_replayed host inodes blocks R x y p q at group number replayed its may indexed placed = record {
-  read = expiry_is_read host inodes blocks R replayed.read group number may its.is.room (its_file_there inodes blocks at (length R + 1) (Expire group number) its);
+  read = expiry_is_read host inodes blocks R replayed.read group number may its.is.room
+      (its_file_there inodes blocks at (length R + 1) (Expire group number) its);
   indexed = indexed;
   placed =
       subst (AreNamed (table inodes blocks) (R ++ Expire group number ∷ [])) (sym placed)
-      (grow_by_change (table inodes blocks) (table inodes blocks) R (Expire group number) p at refl replayed.placed (λ k name is. is) (its_name inodes blocks at (length R + 1) (Expire group number) its));
+      (grow_by_change (table inodes blocks) (table inodes blocks) R (Expire group number) p at refl replayed.placed (λ k name is. is)
+      (its_name inodes blocks at (length R + 1) (Expire group number) its));
 }
 
-named_there : (inodes : ℕ) (blocks : List Octets) (at : ℕ) (name content : Octets) → IsFileAt (table inodes blocks) at name content → name_of (table inodes blocks) at ≡ Some name
+named_there : (inodes : ℕ) (blocks : List Octets) (at : ℕ) (name content : Octets) → IsFileAt (table inodes blocks) at name content
+    → name_of (table inodes blocks) at ≡ Some name
 named_there inodes blocks at name content there = ap (option_map (λ (f : File). f.name)) there
 
-pub group_replayed : (host : Octets) (inodes : ℕ) (blocks : List Octets) (R : Spool) (x y : IndexView) (p q : FilePlaces) (at numbers overview : ℕ) (name : Octets) (status : ℕ) (description : Octets) (moment : ℕ) → IsReplayed host inodes blocks x p R
+pub group_replayed : (host : Octets) (inodes : ℕ) (blocks : List Octets) (R : Spool) (x y : IndexView) (p q : FilePlaces)
+    (at numbers overview : ℕ) (name : Octets) (status : ℕ) (description : Octets) (moment : ℕ) → IsReplayed host inodes blocks x p R
     → IsItsFile inodes blocks at (length R + 1) (Group name status description moment) → MayMake R name status description moment
     → ((content : Octets) × IsFileAt (table inodes blocks) numbers (numbers_name name) content)
     → ((content : Octets) × IsFileAt (table inodes blocks) overview (overview_name name) content)
-    → Indexes (R ++ Group name status description moment ∷ []) y → q ≡ with_group at numbers overview p → IsReplayed host inodes blocks y q (R ++ Group name status description moment ∷ [])
-group_replayed host inodes blocks R x y p q at numbers overview name status description moment replayed its may numbered shown indexed placed = record {
-  read = group_is_read host inodes blocks R replayed.read name status description moment may its.is.room (its_file_there inodes blocks at (length R + 1) c its) files;
-  indexed = indexed;
-  placed =
-      subst (AreNamed (table inodes blocks) (R ++ c ∷ [])) (sym placed)
-      (grow_by_group (table inodes blocks) (table inodes blocks) R name status description moment p at numbers overview replayed.placed (λ k n is. is) (its_name inodes blocks at (length R + 1) c its)
-      (named_there inodes blocks numbers (numbers_name name) numbered.0 numbered.1) (named_there inodes blocks overview (overview_name name) shown.0 shown.1));
-} where
-  c : Change
-  c = Group name status description moment
+    → Indexes (R ++ Group name status description moment ∷ []) y → q ≡ with_group at numbers overview p
+    → IsReplayed host inodes blocks y q (R ++ Group name status description moment ∷ [])
+group_replayed host inodes blocks R x y p q at numbers overview name status description moment replayed its may numbered shown indexed
+    placed = record {
+      read = group_is_read host inodes blocks R replayed.read name status description moment may its.is.room
+          (its_file_there inodes blocks at (length R + 1) c its) files;
+      indexed = indexed;
+      placed =
+          subst (AreNamed (table inodes blocks) (R ++ c ∷ [])) (sym placed)
+          (grow_by_group (table inodes blocks) (table inodes blocks) R name status description moment p at numbers overview replayed.placed
+          (λ k n is. is) (its_name inodes blocks at (length R + 1) c its)
+          (named_there inodes blocks numbers (numbers_name name) numbered.0 numbered.1)
+          (named_there inodes blocks overview (overview_name name) shown.0 shown.1));
+    } where
+      c : Change
+      c = Group name status description moment
 
-  files : (w : Which) → (k : ℕ) × ((content : Octets) × IsFileAt (table inodes blocks) k (name_for w name) content)
-  files Numbers = (numbers, numbered)
-  files Overview = (overview, shown)
+      files : (w : Which) → (k : ℕ) × ((content : Octets) × IsFileAt (table inodes blocks) k (name_for w name) content)
+      files Numbers = (numbers, numbered)
+      files Overview = (overview, shown)
 
 -- ---- a new group's name is on no head
 
-none_headed : (R : Spool) (name : Octets) (gs : List NewsGroup) → find (λ (g : NewsGroup). is_name name g.name) gs ≡ None → list_any (bytes_eq name) (heads (map (group_index R) gs)) ≡ false
+none_headed : (R : Spool) (name : Octets) (gs : List NewsGroup) → find (λ (g : NewsGroup). is_name name g.name) gs ≡ None
+    → list_any (bytes_eq name) (heads (map (group_index R) gs)) ≡ false
 none_headed R name [] none = refl
 none_headed R name (g ∷ gs) none = by_test (bytes_eq g.name name) refl none (λ later. none_headed R name gs later) where
   by_test : (b : Bool) → bytes_eq g.name name ≡ b → cond b (Some g) (find (λ (h : NewsGroup). is_name name h.name) gs) ≡ None
-      → (find (λ (h : NewsGroup). is_name name h.name) gs ≡ None → list_any (bytes_eq name) (heads (map (group_index R) gs)) ≡ false) → list_any (bytes_eq name) (heads (map (group_index R) (g ∷ gs))) ≡ false
+      → (find (λ (h : NewsGroup). is_name name h.name) gs ≡ None → list_any (bytes_eq name) (heads (map (group_index R) gs)) ≡ false)
+      → list_any (bytes_eq name) (heads (map (group_index R) (g ∷ gs))) ≡ false
   by_test true at found rest = absurd (cc)
-  by_test false at found rest = or_from (bytes_eq name g.name) (list_any (bytes_eq name) (heads (map (group_index R) gs))) (bytes_swap g.name name at) (rest found)
+  by_test false at found rest = or_from (bytes_eq name g.name) (list_any (bytes_eq name) (heads (map (group_index R) gs)))
+      (bytes_swap g.name name at) (rest found)
 
-pub not_headed : (R : Spool) (x : IndexView) (name : Octets) → Indexes R x → group_named R name ≡ None → list_any (bytes_eq name) (heads x.groups) ≡ false
+pub not_headed : (R : Spool) (x : IndexView) (name : Octets) → Indexes R x → group_named R name ≡ None
+    → list_any (bytes_eq name) (heads x.groups) ≡ false
 unfolding group_named
-not_headed R x name is none = ap (λ (gs : List GroupIndex). list_any (bytes_eq name) (heads gs)) is.groups_are ∙ none_headed R name (groups R) none
+not_headed R x name is none = ap (λ (gs : List GroupIndex). list_any (bytes_eq name) (heads gs)) is.groups_are
+    ∙ none_headed R name (groups R) none

@@ -11,4 +11,5 @@ use Rattle.spool_opening.specs.Stored.{HasPiece}
 -- the numbers and the overview of a group continue with this article
 pub record GoesOn (inodes : List (Option File)) (i : GroupIndex) (serial : ℕ) (text : Octets) : Type 0 where
   pub overview : HasPiece inodes (overview_name i.group.name) (end_of i) (overview_line (length i.filed + 1) text)
-  pub numbers : HasPiece inodes (numbers_name i.group.name) (16 * length i.filed) (number_record serial (end_of i) (overview_line (length i.filed + 1) text))
+  pub numbers : HasPiece inodes (numbers_name i.group.name) (16 * length i.filed)
+      (number_record serial (end_of i) (overview_line (length i.filed + 1) text))

@@ -11,7 +11,8 @@ use Rattle.places.specs.Places.{AreNamed}
 use Rattle.spool_reading.specs.Said.{IsFileOf}
 use Rattle.spool_opening.specs.Stored.{AreRead, HasPiece, IsFileAt, Which, file_for, name_for, piece_for}
 
-pub record IsReplayed (host : Octets) (inodes : ℕ) (blocks : List Octets) (index : IndexView) (places : FilePlaces) (R : Spool) : Type 0 where
+pub record IsReplayed (host : Octets) (inodes : ℕ) (blocks : List Octets) (index : IndexView) (places : FilePlaces)
+    (R : Spool) : Type 0 where
   pub read : AreRead host inodes blocks R
   pub indexed : Indexes R index
   pub placed : AreNamed (table inodes blocks) R places
@@ -31,7 +32,8 @@ pub record CanReplay (host : Octets) (inodes : ℕ) (blocks : List Octets) (inde
   pub few : length changes < 32768
 
 -- this many changes
-pub record AreReplayedTo (host : Octets) (inodes : ℕ) (blocks : List Octets) (index : IndexView) (places : FilePlaces) (count : ℕ) : Type 0 where
+pub record AreReplayedTo (host : Octets) (inodes : ℕ) (blocks : List Octets) (index : IndexView) (places : FilePlaces)
+    (count : ℕ) : Type 0 where
   pub changes : Spool
   pub replayed : IsReplayed host inodes blocks index places changes
   pub count_is : length changes ≡ count
@@ -52,7 +54,9 @@ pub record IsBounded (index : IndexView) : Type 0 where
 
 -- the numbers and the overviews of these groups continue with this article
 abbrev pub AllGoOn : List (Option File) → Spool → Octets → List Octets → Type 0
-AllGoOn inodes S text names = (k : ℕ) (w : Which) → k < length names → HasPiece inodes (name_for w (slice_index_or names k [])) (length (file_for w S (slice_index_or names k []))) (piece_for w S text (slice_index_or names k []))
+AllGoOn inodes S text names = (k : ℕ) (w : Which) → k < length names
+    → HasPiece inodes (name_for w (slice_index_or names k [])) (length (file_for w S (slice_index_or names k [])))
+    (piece_for w S text (slice_index_or names k []))
 
 -- these groups exist
 abbrev pub AreHere : Spool → List Octets → Type 0

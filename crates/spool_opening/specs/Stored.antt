@@ -5,7 +5,8 @@ use Rattle.model.specs.Stream.{Octets}
 use Rattle.model.specs.Files.{File, files_in, table}
 use Rattle.model.specs.Lawful.{IsLawful, MayFollow}
 use Rattle.model.specs.Spool.{Spool, first, is_here}
-use Rattle.model.specs.SpoolFiles.{HasRoomInFile, change_file, next_line, next_record, numbers_file, numbers_name, overview_file, overview_name}
+use Rattle.model.specs.SpoolFiles.{HasRoomInFile, change_file, next_line, next_record, numbers_file, numbers_name, overview_file}
+use Rattle.model.specs.SpoolFiles.{overview_name}
 use Rattle.model.specs.declared.change.Change.{Change}
 pub use Rattle.fs_layout.specs.Table.{IsFileAt}
 
@@ -48,7 +49,8 @@ pub record HasPiece (inodes : List (Option File)) (name : Octets) (after : ℕ) 
 -- these changes say
 pub record AreRead (host : Octets) (inodes : ℕ) (blocks : List Octets) (R : Spool) : Type 0 where
   pub lawful : IsLawful host R
-  pub changes : (n : ℕ) (c : Change) → slice_get R n ≡ Some c → HasRoomInFile (n + 1) c × Contains (files_in (table inodes blocks)) (change_file (record { serial = n + 1; change = c }))
+  pub changes : (n : ℕ) (c : Change) → slice_get R n ≡ Some c
+      → HasRoomInFile (n + 1) c × Contains (files_in (table inodes blocks)) (change_file (record { serial = n + 1; change = c }))
   pub fronts : (w : Which) (g : Octets) → IsTrue (is_here R g) → HasFront (table inodes blocks) (name_for w g) (file_for w R g)
 
 -- the next change of a spool that begins with these

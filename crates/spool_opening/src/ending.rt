@@ -31,7 +31,9 @@ fn names_change(name: &[u8]) -> bool
 /// The number of octets in the numbers of a group; `None` if it does not exist.
 fn numbers_size(index: &Index, group: &[u8]) -> Option<u64>
     requires { IsBounded index.now }
-    ensures { (S : Spool) → Indexes S index.now → MatchOption result (spool.is_here S group.now ≡ true → ⊥) (λ n. (spool.is_here S group.now ≡ true) × (n ≡ length (numbers_file S group.now))) }
+    ensures { (S : Spool) → Indexes S index.now
+        → MatchOption result (spool.is_here S group.now ≡ true
+        → ⊥) (λ n. (spool.is_here S group.now ≡ true) × (n ≡ length (numbers_file S group.now))) }
 {
     let Some(found) = find_group(index, group) else {
         return None;
@@ -42,7 +44,9 @@ fn numbers_size(index: &Index, group: &[u8]) -> Option<u64>
 
 /// The number of octets in the overview of a group; `None` if it does not exist.
 fn overview_size(index: &Index, group: &[u8]) -> Option<u64>
-    ensures { (S : Spool) → Indexes S index.now → MatchOption result (spool.is_here S group.now ≡ true → ⊥) (λ n. (spool.is_here S group.now ≡ true) × (n ≡ length (overview_file S group.now))) }
+    ensures { (S : Spool) → Indexes S index.now
+        → MatchOption result (spool.is_here S group.now ≡ true
+        → ⊥) (λ n. (spool.is_here S group.now ≡ true) × (n ≡ length (overview_file S group.now))) }
 {
     let Some(found) = find_group(index, group) else {
         return None;
@@ -78,7 +82,8 @@ fn is_whole<B: Blocks>(
     requires rule { IsFileSystem inodes (B.blocks blocks.now) }
     requires below { at < inodes }
     requires bounded { IsBounded index.now }
-    ensures { IfOk result (λ whole. (S : Spool) → Indexes S index.now → (IsTrue whole ↔ IsWholeAt (table inodes (B.blocks blocks.now)) S at)) }
+    ensures { IfOk result (λ whole. (S : Spool) → Indexes S index.now
+        → (IsTrue whole ↔ IsWholeAt (table inodes (B.blocks blocks.now)) S at)) }
 {
     let Some(name) = file_name_at(alloc, blocks, inodes, at)? else {
         return Ok(true);
@@ -103,7 +108,8 @@ pub fn are_whole<B: Blocks>(
     requires room { HasRoom inodes (B.blocks blocks.now) }
     requires rule { IsFileSystem inodes (B.blocks blocks.now) }
     requires bounded { IsBounded index.now }
-    ensures { IfOk result (λ whole. (S : Spool) → Indexes S index.now → (IsTrue whole ↔ ((k : ℕ) → k < inodes → IsWholeAt (table inodes (B.blocks blocks.now)) S k))) }
+    ensures { IfOk result (λ whole. (S : Spool) → Indexes S index.now
+        → (IsTrue whole ↔ ((k : ℕ) → k < inodes → IsWholeAt (table inodes (B.blocks blocks.now)) S k))) }
 {
     for at in 0..inodes {
         if !is_whole(alloc, blocks, inodes, index, at)? {
@@ -118,7 +124,8 @@ pub fn are_as_many<B: Blocks>(blocks: &B, inodes: u32, index: &Index) -> bool
     requires room { HasRoom inodes (B.blocks blocks.now) }
     requires rule { IsFileSystem inodes (B.blocks blocks.now) }
     requires bounded { IsBounded index.now }
-    ensures { (S : Spool) → Indexes S index.now → (IsTrue result ↔ (length (files_in (table inodes (B.blocks blocks.now))) ≡ length S + 2 * length (groups S))) }
+    ensures { (S : Spool) → Indexes S index.now
+        → (IsTrue result ↔ (length (files_in (table inodes (B.blocks blocks.now))) ≡ length S + 2 * length (groups S))) }
 {
     let free = free_inode_count(blocks, inodes) as u64;
     let group_count = index.groups().len() as u64;

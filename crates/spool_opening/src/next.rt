@@ -29,11 +29,15 @@ fn replay_named(
     moment: u64,
 ) -> Result<(), OpenError>
     requires { AreReplayed replay.old.index replay.old.places }
-    ensures ok { OnOk result ((host : List ℕ) (inodes : ℕ) (blocks : List (List ℕ)) (R : Spool) → AreSorted (table inodes blocks) (length (table inodes blocks)) files.now.slots.items files.now.named
-        → IsReplayed host inodes blocks replay.old.index replay.old.places R → IsItsFile inodes blocks at (length R + 1) (Change.Group name.now status description.now moment)
+    ensures ok { OnOk result ((host : List ℕ) (inodes : ℕ) (blocks : List (List ℕ)) (R : Spool)
+        → AreSorted (table inodes blocks) (length (table inodes blocks)) files.now.slots.items files.now.named
+        → IsReplayed host inodes blocks replay.old.index replay.old.places R
+        → IsItsFile inodes blocks at (length R + 1) (Change.Group name.now status description.now moment)
         → IsReplayed host inodes blocks replay.new.index replay.new.places (R ++ Change.Group name.now status description.now moment ∷ [])) }
-    ensures damaged { IfErr result (λ e. e ≡ OpenError.Damaged → (host : List ℕ) (inodes : ℕ) (blocks : List (List ℕ)) (R S : Spool) → AreSorted (table inodes blocks) (length (table inodes blocks)) files.now.slots.items files.now.named
-        → IsReplayed host inodes blocks replay.old.index replay.old.places R → Holds host inodes blocks S → IsNext host R S (Change.Group name.now status description.now moment) → ⊥) }
+    ensures damaged { IfErr result (λ e. e ≡ OpenError.Damaged → (host : List ℕ) (inodes : ℕ) (blocks : List (List ℕ)) (R S : Spool)
+        → AreSorted (table inodes blocks) (length (table inodes blocks)) files.now.slots.items files.now.named
+        → IsReplayed host inodes blocks replay.old.index replay.old.places R → Holds host inodes blocks S
+        → IsNext host R S (Change.Group name.now status description.now moment) → ⊥) }
 {
     let numbers = file_name(alloc, FileKind::Numbers, name)?;
     let overview = file_name(alloc, FileKind::Overview, name)?;
@@ -62,9 +66,11 @@ fn replay_said<B: Blocks>(
     requires rule { IsFileSystem inodes (B.blocks blocks.now) }
     requires sorted { AreSorted (table inodes (B.blocks blocks.now)) (length (table inodes (B.blocks blocks.now))) files.now.slots.items files.now.named }
     requires replayed { CanReplay host.now inodes (B.blocks blocks.now) replay.old.index replay.old.places }
-    ensures ok { OnOk result ((R : Spool) → IsReplayed host.now inodes (B.blocks blocks.now) replay.old.index replay.old.places R → IsItsFile inodes (B.blocks blocks.now) at (length R + 1) (change_of said.entry)
+    ensures ok { OnOk result ((R : Spool) → IsReplayed host.now inodes (B.blocks blocks.now) replay.old.index replay.old.places R
+        → IsItsFile inodes (B.blocks blocks.now) at (length R + 1) (change_of said.entry)
         → IsReplayed host.now inodes (B.blocks blocks.now) replay.new.index replay.new.places (R ++ change_of said.entry ∷ [])) }
-    ensures damaged { IfErr result (λ e. e ≡ OpenError.Damaged → (R S : Spool) → IsReplayed host.now inodes (B.blocks blocks.now) replay.old.index replay.old.places R
+    ensures damaged { IfErr result (λ e. e ≡ OpenError.Damaged → (R S : Spool)
+        → IsReplayed host.now inodes (B.blocks blocks.now) replay.old.index replay.old.places R
         → Holds host.now inodes (B.blocks blocks.now) S → IsNext host.now R S (change_of said.entry) → ⊥) }
 {
     match said {
@@ -112,7 +118,8 @@ pub fn replay_next<B: Blocks>(
     requires taken { slice_index files.now.slots.items done ≢ free }
     requires replayed { AreReplayedTo host.now inodes (B.blocks blocks.now) replay.old.index replay.old.places done }
     ensures ok { OnOk result (AreReplayedTo host.now inodes (B.blocks blocks.now) replay.new.index replay.new.places (done + 1)) }
-    ensures damaged { IfErr result (λ e. e ≡ OpenError.Damaged → (S : Spool) → Holds host.now inodes (B.blocks blocks.now) S → done < length S → ⊥) }
+    ensures damaged { IfErr result (λ e. e ≡ OpenError.Damaged → (S : Spool) → Holds host.now inodes (B.blocks blocks.now) S
+        → done < length S → ⊥) }
 {
     let at = files.slots[done];
     let file = file_at(alloc, blocks, inodes, at)?;

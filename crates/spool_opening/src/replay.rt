@@ -35,9 +35,12 @@ pub fn replay_expiry(
     group: &[u8],
     number: u32,
 ) -> Result<(), OpenError>
-    ensures ok { OnOk result ((host : List ℕ) (inodes : ℕ) (blocks : List (List ℕ)) (R : Spool) → IsReplayed host inodes blocks replay.old.index replay.old.places R
-        → IsItsFile inodes blocks at (length R + 1) (Change.Expire group.now number) → IsReplayed host inodes blocks replay.new.index replay.new.places (R ++ Change.Expire group.now number ∷ [])) }
-    ensures damaged { IfErr result (λ e. e ≡ OpenError.Damaged → (S : Spool) → Indexes S replay.old.index → MayExpire S group.now number → ⊥) }
+    ensures ok { OnOk result ((host : List ℕ) (inodes : ℕ) (blocks : List (List ℕ)) (R : Spool)
+        → IsReplayed host inodes blocks replay.old.index replay.old.places R
+        → IsItsFile inodes blocks at (length R + 1) (Change.Expire group.now number)
+        → IsReplayed host inodes blocks replay.new.index replay.new.places (R ++ Change.Expire group.now number ∷ [])) }
+    ensures damaged { IfErr result (λ e. e ≡ OpenError.Damaged → (S : Spool) → Indexes S replay.old.index → MayExpire S group.now number
+        → ⊥) }
 {
     if !may_expire(&replay.index, group, number as u64) {
         return Err(OpenError::Damaged);
@@ -59,12 +62,14 @@ pub fn replay_group(
     moment: u64,
 ) -> Result<(), OpenError>
     requires { AreReplayed replay.old.index replay.old.places }
-    ensures ok { OnOk result ((host : List ℕ) (inodes : ℕ) (blocks : List (List ℕ)) (R : Spool) → IsReplayed host inodes blocks replay.old.index replay.old.places R
+    ensures ok { OnOk result ((host : List ℕ) (inodes : ℕ) (blocks : List (List ℕ)) (R : Spool)
+        → IsReplayed host inodes blocks replay.old.index replay.old.places R
         → IsItsFile inodes blocks at (length R + 1) (Change.Group name.now status description.now moment)
         → ((content : List ℕ) × IsFileAt (table inodes blocks) numbers (numbers_name name.now) content)
         → ((content : List ℕ) × IsFileAt (table inodes blocks) overview (overview_name name.now) content)
         → IsReplayed host inodes blocks replay.new.index replay.new.places (R ++ Change.Group name.now status description.now moment ∷ [])) }
-    ensures damaged { IfErr result (λ e. e ≡ OpenError.Damaged → (S : Spool) → Indexes S replay.old.index → MayMake S name.now status description.now moment → ⊥) }
+    ensures damaged { IfErr result (λ e. e ≡ OpenError.Damaged → (S : Spool) → Indexes S replay.old.index
+        → MayMake S name.now status description.now moment → ⊥) }
 {
     if !may_make(&replay.index, name, status, description, moment) {
         return Err(OpenError::Damaged);
@@ -94,8 +99,10 @@ pub fn replay_article<B: Blocks>(
     requires replayed { CanReplay host.now inodes (B.blocks blocks.now) replay.old.index replay.old.places }
     ensures ok { OnOk result ((R : Spool) → IsReplayed host.now inodes (B.blocks blocks.now) replay.old.index replay.old.places R
         → IsItsFile inodes (B.blocks blocks.now) at (length R + 1) (Change.Article text.now (map (λ g. g.now) groups.now) moment)
-        → IsReplayed host.now inodes (B.blocks blocks.now) replay.new.index replay.new.places (R ++ Change.Article text.now (map (λ g. g.now) groups.now) moment ∷ [])) }
-    ensures damaged { IfErr result (λ e. e ≡ OpenError.Damaged → (S : Spool) → Indexes S replay.old.index → MayFile host.now S text.now (map (λ g. g.now) groups.now) moment
+        → IsReplayed host.now inodes (B.blocks blocks.now) replay.new.index replay.new.places
+        (R ++ Change.Article text.now (map (λ g. g.now) groups.now) moment ∷ [])) }
+    ensures damaged { IfErr result (λ e. e ≡ OpenError.Damaged → (S : Spool) → Indexes S replay.old.index
+        → MayFile host.now S text.now (map (λ g. g.now) groups.now) moment
         → AllGoOn (table inodes (B.blocks blocks.now)) S text.now (map (λ g. g.now) groups.now) → ⊥) }
 {
     let article = match Article::read(alloc, text, Origin::Carried) {

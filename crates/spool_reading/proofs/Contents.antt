@@ -5,17 +5,20 @@ use Rattle.model.specs.Files.{File, HasRoom, IsFileSystem, content_of, entry, na
 use Rattle.fs_layout.proofs.Entries.{length-content, zero_at}
 use Rattle.fs_layout.proofs.Tables.{IsNamed, file_at_file, file_at_free, get_or-table, named_from_there}
 
-module _ (inodes : ℕ) (blocks : List Octets) (fs : IsFileSystem inodes blocks) (at : ℕ) (low : at < inodes) (slot : Octets) (is : slot ≡ slot_of inodes blocks at) where
+module _ (inodes : ℕ) (blocks : List Octets) (fs : IsFileSystem inodes blocks) (at : ℕ) (low : at < inodes) (slot : Octets)
+    (is : slot ≡ slot_of inodes blocks at) where
   pub small_name : get_or slot 0 0 ≤ 63
   small_name = elim (fs.each at low) [
     | inl free ↦ omega (arith, zero_at (slot_of inodes blocks at) 0 free.slot_zeros, ap (λ (s : Octets). get_or s 0 0) is)
     | inr file ↦ omega (arith, ap (λ (s : Octets). get_or s 0 0) (is ∙ file.slot_is), file.name_few)
   ]
 
-  pub name_there : 0 < get_or slot 0 0 → get_or (table inodes blocks) at None ≡ Some (record { name = name_in slot; content = content_of blocks (entry inodes blocks at) })
+  pub name_there : 0 < get_or slot 0 0
+      → get_or (table inodes blocks) at None ≡ Some (record { name = name_in slot; content = content_of blocks (entry inodes blocks at) })
   name_there some = elim (fs.each at low) [
     | inl free ↦ absurd (omega (arith, zero_at (slot_of inodes blocks at) 0 free.slot_zeros, ap (λ (s : Octets). get_or s 0 0) is))
-    | inr file ↦ get_or-table inodes blocks at low ∙ file_at_file inodes blocks at file ∙ ap (λ (s : Octets). Some (record { name = name_in s; content = content_of blocks (entry inodes blocks at) })) (sym is)
+    | inr file ↦ get_or-table inodes blocks at low ∙ file_at_file inodes blocks at file
+        ∙ ap (λ (s : Octets). Some (record { name = name_in s; content = content_of blocks (entry inodes blocks at) })) (sym is)
   ]
 
   pub nothing_there : get_or slot 0 0 ≡ 0 → get_or (table inodes blocks) at None ≡ None
@@ -24,10 +27,12 @@ module _ (inodes : ℕ) (blocks : List Octets) (fs : IsFileSystem inodes blocks)
     | inr file ↦ absurd (omega (arith, ap (λ (s : Octets). get_or s 0 0) (is ∙ file.slot_is), file.name_some))
   ]
 
-pub named_file : (inodes : ℕ) (blocks : List Octets) (k : ℕ) (f : File) → IsFileSystem inodes blocks → get_or (table inodes blocks) k None ≡ Some f → IsNamed inodes blocks k f.name f.content
+pub named_file : (inodes : ℕ) (blocks : List Octets) (k : ℕ) (f : File) → IsFileSystem inodes blocks
+    → get_or (table inodes blocks) k None ≡ Some f → IsNamed inodes blocks k f.name f.content
 named_file inodes blocks k f fs there = named_from_there inodes blocks fs k f.name f.content there
 
-pub content_fits : (inodes : ℕ) (blocks : List Octets) (k : ℕ) (f : File) → HasRoom inodes blocks → IsFileSystem inodes blocks → get_or (table inodes blocks) k None ≡ Some f → length f.content ≤ 268435456
+pub content_fits : (inodes : ℕ) (blocks : List Octets) (k : ℕ) (f : File) → HasRoom inodes blocks → IsFileSystem inodes blocks
+    → get_or (table inodes blocks) k None ≡ Some f → length f.content ≤ 268435456
 content_fits inodes blocks k f room fs there =
     let named = named_file inodes blocks k f fs there in
     let long = length-content blocks (entry inodes blocks k) room.blocks_whole (λ b owns. (fs.within k b named.below owns).1) in

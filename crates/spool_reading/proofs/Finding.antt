@@ -27,27 +27,38 @@ is_among (Some g ∷ inodes) (suc k) f is = let rest = is_among inodes k f is in
 
 -- ---- in the blocks
 
-pub in_blocks : (host : Octets) (inodes : ℕ) (blocks : List Octets) (S : Spool) (f : File) → Holds host inodes blocks S → Contains (files_of S) f → Contains (files_in (table inodes blocks)) f
+pub in_blocks : (host : Octets) (inodes : ℕ) (blocks : List Octets) (S : Spool) (f : File) → Holds host inodes blocks S
+    → Contains (files_of S) f → Contains (files_in (table inodes blocks)) f
 in_blocks host inodes blocks S f held has =
-    subst (λ (fs : List File). Contains fs f) held.held.contents (Contains-permutation (files_of S) held.files f (IsPermutation-sym held.files (files_of S) held.same) has)
+    subst (λ (fs : List File). Contains fs f) held.held.contents
+    (Contains-permutation (files_of S) held.files f (IsPermutation-sym held.files (files_of S) held.same) has)
 
-pub in_spool : (host : Octets) (inodes : ℕ) (blocks : List Octets) (S : Spool) (f : File) → Holds host inodes blocks S → Contains (files_in (table inodes blocks)) f → Contains (files_of S) f
+pub in_spool : (host : Octets) (inodes : ℕ) (blocks : List Octets) (S : Spool) (f : File) → Holds host inodes blocks S
+    → Contains (files_in (table inodes blocks)) f → Contains (files_of S) f
 in_spool host inodes blocks S f held has =
     Contains-permutation held.files (files_of S) f held.same (subst (λ (fs : List File). Contains fs f) (sym held.held.contents) has)
 
 -- ---- the file of a change
 
-entry_in : (n : ℕ) (S : Spool) (k : ℕ) → k < length S → Contains (entries_from n S) (record { serial = n + k; change = get_or S k no_change })
+entry_in : (n : ℕ) (S : Spool) (k : ℕ) → k < length S
+    → Contains (entries_from n S) (record { serial = n + k; change = get_or S k no_change })
 entry_in n [] k low = absurd (omega arith)
-entry_in n (c ∷ S) zero low = let serial : n ≡ n + 0 = omega arith in (0, omega arith, ap (λ (m : ℕ). record { serial = m; change = c }) serial)
+entry_in n (c ∷ S) zero low = let serial : n ≡ n + 0 = omega arith in
+    (0, omega arith, ap (λ (m : ℕ). record { serial = m; change = c }) serial)
 entry_in n (c ∷ S) (suc k) low =
     let serial : suc n + k ≡ n + suc k = omega arith in
     let rest = entry_in (suc n) S k (omega arith) in
-    subst (λ (m : ℕ). Contains (entries_from n (c ∷ S)) (record { serial = m; change = get_or S k no_change })) serial (suc rest.0, omega (arith, rest.1), rest.2)
+    subst (λ (m : ℕ). Contains (entries_from n (c ∷ S)) (record { serial = m; change = get_or S k no_change })) serial (
+      suc rest.0,
+      omega (arith, rest.1),
+      rest.2,
+    )
 
-pub has_change : (S : Spool) (k : ℕ) → k < length S → Contains (files_of S) (change_file (record { serial = k + 1; change = get_or S k no_change }))
+pub has_change : (S : Spool) (k : ℕ) → k < length S
+    → Contains (files_of S) (change_file (record { serial = k + 1; change = get_or S k no_change }))
 unfolding files_of entries
 has_change S k low =
     let serial : 1 + k ≡ k + 1 = omega arith in
     subst (λ (m : ℕ). Contains (files_of S) (change_file (record { serial = m; change = get_or S k no_change }))) serial
-    (joined_has (entry_files S) (entries_from 1 S) (record { serial = 1 + k; change = get_or S k no_change }) (change_file (record { serial = 1 + k; change = get_or S k no_change })) (entry_in 1 S k low) (0, omega arith, refl))
+    (joined_has (entry_files S) (entries_from 1 S) (record { serial = 1 + k; change = get_or S k no_change })
+    (change_file (record { serial = 1 + k; change = get_or S k no_change })) (entry_in 1 S k low) (0, omega arith, refl))

@@ -20,7 +20,8 @@ pub fn file_name_at<B: Blocks>(
     requires room { HasRoom inodes (B.blocks blocks.now) }
     requires rule { IsFileSystem inodes (B.blocks blocks.now) }
     requires below { at < inodes }
-    ensures { IfOk result (λ name. option_map (λ n. n.items) name ≡ option_map (λ f. f.name) (slice_index_or (table inodes (B.blocks blocks.now)) at None)) }
+    ensures { IfOk result (λ name. option_map (λ n. n.items) name ≡ option_map (λ f. f.name)
+        (slice_index_or (table inodes (B.blocks blocks.now)) at None)) }
 {
     let mut slot = [0; RECORD_SIZE];
     get_record(blocks, INODES_AT + inodes / 64, at, &mut slot);
@@ -68,7 +69,8 @@ pub fn file_at<B: Blocks>(
     requires rule { IsFileSystem inodes (B.blocks blocks.now) }
     requires below { at < inodes }
     requires there { (f : File) × (slice_index_or (table inodes (B.blocks blocks.now)) at None ≡ Some f) }
-    ensures is { IfOk result (λ f. slice_index_or (table inodes (B.blocks blocks.now)) at None ≡ Some (record { name = f.name.items; content = f.content.items })) }
+    ensures is { IfOk result (λ f. slice_index_or (table inodes (B.blocks blocks.now)) at None
+        ≡ Some (record { name = f.name.items; content = f.content.items })) }
     ensures short { IfOk result (λ f. length f.content.items ≤ 268435456) }
 {
     let Some(name) = file_name_at(alloc, blocks, inodes, at)? else {

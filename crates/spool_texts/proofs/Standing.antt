@@ -1,5 +1,6 @@
 -- Where the text of an article stands.
-use Rattle.std.proofs.Common.{◌≡◌, ◌<◌, ◌≤◌, ℕ, zero, suc, ◌-◌, List, [], ◌∷◌, ◌++◌, length, get_or, map, take, drop, refl, sym, subst, ◌∙◌, ap, arith, append_assoc, length-append}
+use Rattle.std.proofs.Common.{◌≡◌, ◌<◌, ◌≤◌, ℕ, zero, suc, ◌-◌, List, [], ◌∷◌, ◌++◌, length, get_or, map, take, drop, refl, sym, subst, ◌∙◌}
+use Rattle.std.proofs.Common.{ap, arith, append_assoc, length-append}
 use Rattle.std.specs.Prelude.{Option, Some, None, flat_map, option_map, slice_get, unwrap_or}
 use Rattle.std.specs.Option.{option_and_then}
 use Rattle.std.proofs.Math.Seq.{drop-append_seam, take-length}
@@ -21,31 +22,38 @@ use Rattle.fs_layout.proofs.Tables.{named_from_there}
 -- ---- the last octets
 
 front : NewsArticle → Octets
-front a = little_bytes 8 a.serial ++ (little_bytes 8 a.moment ++ (little_bytes 4 (length a.text) ++ (length a.groups ∷ flat_map (λ g. length g ∷ g) a.groups)))
+front a = little_bytes 8 a.serial ++
+    (little_bytes 8 a.moment ++ (little_bytes 4 (length a.text) ++ (length a.groups ∷ flat_map (λ g. length g ∷ g) a.groups)))
 
 record_ends : (a : NewsArticle) → article_record a ≡ front a ++ a.text
 unfolding front
-record_ends a = joined (little_bytes 8 a.serial) (little_bytes 8 a.moment) (little_bytes 4 (length a.text)) (length a.groups ∷ flat_map (λ g. length g ∷ g) a.groups) a.text where
-  joined : (w x y z text : Octets) → w ++ (x ++ (y ++ (z ++ text))) ≡ (w ++ (x ++ (y ++ z))) ++ text
-  joined w x y z text = sym (append_assoc w (x ++ (y ++ z)) text ∙ ap (λ (l : Octets). w ++ l) (append_assoc x (y ++ z) text ∙ ap (λ (l : Octets). x ++ l) (append_assoc y z text)))
+record_ends a = joined (little_bytes 8 a.serial) (little_bytes 8 a.moment) (little_bytes 4 (length a.text))
+    (length a.groups ∷ flat_map (λ g. length g ∷ g) a.groups) a.text where
+      joined : (w x y z text : Octets) → w ++ (x ++ (y ++ (z ++ text))) ≡ (w ++ (x ++ (y ++ z))) ++ text
+      joined w x y z text = sym (append_assoc w (x ++ (y ++ z)) text
+          ∙ ap (λ (l : Octets). w ++ l) (append_assoc x (y ++ z) text ∙ ap (λ (l : Octets). x ++ l) (append_assoc y z text)))
 
 last_octets : (first text : Octets) → take (length text) (drop (length (first ++ text) - length text) (first ++ text)) ≡ text
 last_octets first text =
     let behind : length (first ++ text) - length text ≡ length first = omega (arith, length-append first text) in
-    ap (λ (n : ℕ). take (length text) (drop n (first ++ text))) behind ∙ ap (take (length text)) (drop-append_seam first text) ∙ take-length text
+    ap (λ (n : ℕ). take (length text) (drop n (first ++ text))) behind ∙ ap (take (length text)) (drop-append_seam first text)
+    ∙ take-length text
 
 text_is_last : (a : NewsArticle) → take (length a.text) (drop (length (article_record a) - length a.text) (article_record a)) ≡ a.text
-text_is_last a = ap (λ (o : Octets). take (length a.text) (drop (length o - length a.text) o)) (record_ends a) ∙ last_octets (front a) a.text
+text_is_last a = ap (λ (o : Octets). take (length a.text) (drop (length o - length a.text) o)) (record_ends a)
+    ∙ last_octets (front a) a.text
 
 text_fits : (a : NewsArticle) → length a.text ≤ length (article_record a)
 text_fits a = omega (arith, ap (λ (o : Octets). length o) (record_ends a), length-append (front a) a.text)
 
 -- ---- the file of an article
 
-filed_file : (n : ℕ) (c : Change) (a : NewsArticle) → article_filed (record { serial = n; change = c }) ≡ Some a → change_file (record { serial = n; change = c }) ≡ article_file a
+filed_file : (n : ℕ) (c : Change) (a : NewsArticle) → article_filed (record { serial = n; change = c }) ≡ Some a
+    → change_file (record { serial = n; change = c }) ≡ article_file a
 filed_file n (Group name status description moment) a is = absurd (cc)
 filed_file n (Expire group number) a is = absurd (cc)
-filed_file n (Article text filed moment) a is = ap (λ (b : NewsArticle). article_file b) (same_Some (record { serial = n; text = text; groups = filed; moment = moment }) a is)
+filed_file n (Article text filed moment) a is =
+    ap (λ (b : NewsArticle). article_file b) (same_Some (record { serial = n; text = text; groups = filed; moment = moment }) a is)
 
 record Its (S : Spool) (k : ℕ) (a : NewsArticle) : Type 0 where
   change : Entry
@@ -58,16 +66,28 @@ its S k a is = by_entry (slice_get (entries S) k) refl is where
   by_entry None at same = absurd (cc)
   by_entry (Some e) at same = record { change = e; at = at; file_is = filed_file e.serial e.change a same }
 
-pub both_at : {X Y Z : Type 0} (f : X → Z) (h : Y → Z) (xs : List X) (ys : List Y) (k : ℕ) (x : X) (y : Y) → map f xs ≡ map h ys → slice_get xs k ≡ Some x → slice_get ys k ≡ Some y → f x ≡ h y
+pub both_at : {X Y Z : Type 0} (f : X → Z) (h : Y → Z) (xs : List X) (ys : List Y) (k : ℕ) (x : X) (y : Y) → map f xs ≡ map h ys
+    → slice_get xs k ≡ Some x → slice_get ys k ≡ Some y → f x ≡ h y
 both_at {X} {Y} {Z} f h xs ys k x y same first second =
-    same_Some (f x) (h y) (sym (ap (option_map f) first) ∙ sym (slice_get-map f xs k) ∙ ap (λ (l : List Z). slice_get l k) same ∙ slice_get-map h ys k ∙ ap (option_map h) second)
+    same_Some (f x) (h y) (sym (ap (option_map f) first) ∙ sym (slice_get-map f xs k) ∙ ap (λ (l : List Z). slice_get l k) same
+    ∙ slice_get-map h ys k ∙ ap (option_map h) second)
 
 -- the elements of a list have files in these places
-pub placed_at : {X : Type 0} (inodes : List (Option File)) (f : X → File) (xs : List X) (places : List ℕ) (k : ℕ) (x : X) → map (λ (j : ℕ). get_or inodes j None) places ≡ map (λ (y : X). Some (f y)) xs → slice_get xs k ≡ Some x
+pub placed_at : {X : Type 0} (inodes : List (Option File)) (f : X → File) (xs : List X) (places : List ℕ) (k : ℕ) (x : X)
+    → map (λ (j : ℕ). get_or inodes j None) places ≡ map (λ (y : X). Some (f y)) xs → slice_get xs k ≡ Some x
     → (k < length places) × (get_or inodes (get_or places k 0) None ≡ Some (f x))
 placed_at {X} inodes f xs places k x same at =
-    let low : k < length places = omega (arith, slice_get_within xs k x at, ap (λ (l : List (Option File)). length l) same, length-map places (λ (j : ℕ). get_or inodes j None), length-map xs (λ (y : X). Some (f y))) in
-    (low, both_at (λ (j : ℕ). get_or inodes j None) (λ (y : X). Some (f y)) places xs k (get_or places k 0) x same (slice_get-get_or places k 0 low) at)
+    let low : k < length places = omega (
+      arith,
+      slice_get_within xs k x at,
+      ap (λ (l : List (Option File)). length l) same,
+      length-map places (λ (j : ℕ). get_or inodes j None),
+      length-map xs (λ (y : X). Some (f y)),
+    ) in (
+      low,
+      both_at (λ (j : ℕ). get_or inodes j None) (λ (y : X). Some (f y)) places xs k (get_or places k 0) x same
+          (slice_get-get_or places k 0 low) at,
+    )
 
 record Stands (inodes : ℕ) (blocks : List Octets) (places : List ℕ) (serial : ℕ) (a : NewsArticle) : Type 0 where
   some : 1 ≤ serial
@@ -76,19 +96,22 @@ record Stands (inodes : ℕ) (blocks : List Octets) (places : List ℕ) (serial 
   file : IsFile (entry inodes blocks (get_or places (serial - 1) 0))
   content_is : content_of blocks (entry inodes blocks (get_or places (serial - 1) 0)) ≡ article_record a
 
-stands : (inodes : ℕ) (blocks : List Octets) → IsFileSystem inodes blocks → (S : Spool) (p : FilePlaces) (serial : ℕ) (a : NewsArticle) → ArePlaces inodes blocks S p → article_with S serial ≡ Some a → Stands inodes blocks p.changes serial a
+stands : (inodes : ℕ) (blocks : List Octets) → IsFileSystem inodes blocks → (S : Spool) (p : FilePlaces) (serial : ℕ) (a : NewsArticle)
+    → ArePlaces inodes blocks S p → article_with S serial ≡ Some a → Stands inodes blocks p.changes serial a
 stands inodes blocks fs S p zero a are is = absurd (cc)
 stands inodes blocks fs S p (suc k) a are is =
     let one = its S k a is in
     let place = placed_at (table inodes blocks) change_file (entries S) p.changes k one.change are.changes_are one.at in
-    let named = named_from_there inodes blocks fs (get_or p.changes k 0) (article_name a.serial) (article_record a) (place.1 ∙ ap (λ (f : File). Some f) one.file_is) in
+    let named = named_from_there inodes blocks fs (get_or p.changes k 0) (article_name a.serial) (article_record a) (place.1
+    ∙ ap (λ (f : File). Some f) one.file_is) in
     let same : k ≡ suc k - 1 = omega arith in
     record {
       some = omega arith;
       low = omega (arith, place.0);
       below = subst (λ (j : ℕ). get_or p.changes j 0 < inodes) same named.below;
       file = subst (λ (j : ℕ). IsFile (entry inodes blocks (get_or p.changes j 0))) same named.file;
-      content_is = subst (λ (j : ℕ). content_of blocks (entry inodes blocks (get_or p.changes j 0)) ≡ article_record a) same (sym named.content_is);
+      content_is = subst (λ (j : ℕ). content_of blocks (entry inodes blocks (get_or p.changes j 0)) ≡ article_record a) same
+          (sym named.content_is);
     }
 
 record Sized (S : Spool) (serial n : ℕ) : Type 0 where
@@ -98,7 +121,8 @@ record Sized (S : Spool) (serial n : ℕ) : Type 0 where
 
 sized : (S : Spool) (serial n : ℕ) → Some n ≡ option_map (λ (a : NewsArticle). length a.text) (article_with S serial) → Sized S serial n
 sized S serial n is = by_option (article_with S serial) refl is where
-  by_option : (o : Option NewsArticle) → article_with S serial ≡ o → Some n ≡ option_map (λ (a : NewsArticle). length a.text) o → Sized S serial n
+  by_option : (o : Option NewsArticle) → article_with S serial ≡ o → Some n ≡ option_map (λ (a : NewsArticle). length a.text) o
+      → Sized S serial n
   by_option None at same = absurd (cc)
   by_option (Some a) at same = record { article = a; its_own = at; size_is = same_Some n (length a.text) same }
 
@@ -109,17 +133,21 @@ pub record TextStands (inodes : ℕ) (blocks : List Octets) (S : Spool) (places 
   pub below : get_or places (serial - 1) 0 < inodes
   pub file : IsFile (entry inodes blocks (get_or places (serial - 1) 0))
   pub fits : n ≤ size (entry inodes blocks (get_or places (serial - 1) 0))
-  pub long : length (take n (drop (size (entry inodes blocks (get_or places (serial - 1) 0)) - n) (content_of blocks (entry inodes blocks (get_or places (serial - 1) 0))))) ≡ n
-  pub text_is : take n (drop (size (entry inodes blocks (get_or places (serial - 1) 0)) - n) (content_of blocks (entry inodes blocks (get_or places (serial - 1) 0)))) ≡ text_of S serial
+  pub long : length (take n (drop (size (entry inodes blocks (get_or places (serial - 1) 0)) - n)
+      (content_of blocks (entry inodes blocks (get_or places (serial - 1) 0))))) ≡ n
+  pub text_is : take n (drop (size (entry inodes blocks (get_or places (serial - 1) 0)) - n)
+      (content_of blocks (entry inodes blocks (get_or places (serial - 1) 0)))) ≡ text_of S serial
 
-pub text_stands : (inodes : ℕ) (blocks : List Octets) → HasRoom inodes blocks → IsFileSystem inodes blocks → (S : Spool) (p : FilePlaces) (places : List ℕ) (serial n : ℕ) → places ≡ p.changes → ArePlaces inodes blocks S p
+pub text_stands : (inodes : ℕ) (blocks : List Octets) → HasRoom inodes blocks → IsFileSystem inodes blocks
+    → (S : Spool) (p : FilePlaces) (places : List ℕ) (serial n : ℕ) → places ≡ p.changes → ArePlaces inodes blocks S p
     → Some n ≡ option_map (λ (a : NewsArticle). length a.text) (article_with S serial) → TextStands inodes blocks S places serial n
 text_stands inodes blocks room fs S p places serial n same are is =
     let one = sized S serial n is in
     let there = stands inodes blocks fs S p serial one.article are one.its_own in
     let at = get_or p.changes (serial - 1) 0 in
     let e = entry inodes blocks at in
-    let long : length (content_of blocks e) ≡ size e = length-content blocks e room.blocks_whole (λ b owns. (fs.within at b there.below owns).1) in
+    let long : length (content_of blocks e) ≡ size e =
+    length-content blocks e room.blocks_whole (λ b owns. (fs.within at b there.below owns).1) in
     let record_size : size e ≡ length (article_record one.article) = sym long ∙ ap (λ (o : Octets). length o) there.content_is in
     let is : take n (drop (size e - n) (content_of blocks e)) ≡ one.article.text =
     ap (λ (o : Octets). take n (drop (size e - n) o)) there.content_is

@@ -18,7 +18,8 @@ pub record HasArticle (inodes : ℕ) (blocks : List Octets) (index : IndexView) 
   pub there : IsSome (article_with changes serial)
 
 -- index and places are those of some changes, in which the group exists and has these numbers
-pub record HasNumbers (inodes : ℕ) (blocks : List Octets) (index : IndexView) (places : FilePlaces) (group : Octets) (from to : ℕ) : Type 0 where
+pub record HasNumbers (inodes : ℕ) (blocks : List Octets) (index : IndexView) (places : FilePlaces) (group : Octets)
+    (from to : ℕ) : Type 0 where
   pub changes : Spool
   pub indexed : Indexes changes index
   pub placed : ArePlaces inodes blocks changes places
@@ -33,7 +34,8 @@ abbrev pub octets_in : ℕ → List Octets → TextPlace → Octets
 octets_in inodes blocks p = take p.size (drop p.from (content_of blocks (entry inodes blocks p.inode)))
 
 -- the text of the article with this serial is at this place
-pub record IsPlaceOf (inodes : ℕ) (blocks : List Octets) (index : IndexView) (places : FilePlaces) (serial : ℕ) (p : TextPlace) : Type 0 where
+pub record IsPlaceOf (inodes : ℕ) (blocks : List Octets) (index : IndexView) (places : FilePlaces) (serial : ℕ)
+    (p : TextPlace) : Type 0 where
   pub below : p.inode < inodes
   pub file : IsFile (entry inodes blocks p.inode)
   pub small : p.from + p.size < 2 ^ 64

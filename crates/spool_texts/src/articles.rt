@@ -36,7 +36,8 @@ pub fn push_article<B: Blocks>(
     requires room { HasRoom inodes (B.blocks blocks.now) }
     requires rule { IsFileSystem inodes (B.blocks blocks.now) }
     requires there { HasArticle inodes (B.blocks blocks.now) index.now places.now serial }
-    ensures { OnOk result ((S : Spool) → Indexes S index.now → ArePlaces inodes (B.blocks blocks.now) S places.now → reply.new.items ≡ reply.old.items ++ stuffed (text_of S serial)) }
+    ensures { OnOk result ((S : Spool) → Indexes S index.now → ArePlaces inodes (B.blocks blocks.now) S places.now
+        → reply.new.items ≡ reply.old.items ++ stuffed (text_of S serial)) }
 {
     let text = place_of(blocks, inodes, index, places, serial);
     push_stuffed(blocks, inodes, text.inode, text.from, text.size, reply)
@@ -58,7 +59,8 @@ pub fn push_part<B: Blocks>(
     requires room { HasRoom inodes (B.blocks blocks.now) }
     requires rule { IsFileSystem inodes (B.blocks blocks.now) }
     requires there { HasArticle inodes (B.blocks blocks.now) index.now places.now serial }
-    ensures { OnOk result ((S : Spool) → Indexes S index.now → ArePlaces inodes (B.blocks blocks.now) S places.now → reply.new.items ≡ reply.old.items ++ sent_part part.now (text_of S serial)) }
+    ensures { OnOk result ((S : Spool) → Indexes S index.now → ArePlaces inodes (B.blocks blocks.now) S places.now
+        → reply.new.items ≡ reply.old.items ++ sent_part part.now (text_of S serial)) }
 {
     match part {
         Part::Whole => push_article(blocks, inodes, index, places, serial, reply),
@@ -81,7 +83,8 @@ fn push_head<B: Blocks>(
     requires room { HasRoom inodes (B.blocks blocks.now) }
     requires rule { IsFileSystem inodes (B.blocks blocks.now) }
     requires there { HasArticle inodes (B.blocks blocks.now) index.now places.now serial }
-    ensures { OnOk result ((S : Spool) → Indexes S index.now → ArePlaces inodes (B.blocks blocks.now) S places.now → reply.new.items ≡ reply.old.items ++ stuffed (header (text_of S serial))) }
+    ensures { OnOk result ((S : Spool) → Indexes S index.now → ArePlaces inodes (B.blocks blocks.now) S places.now
+        → reply.new.items ≡ reply.old.items ++ stuffed (header (text_of S serial))) }
 {
     let text = place_of(blocks, inodes, index, places, serial);
     let front = front_of(alloc, blocks, inodes, text)?;
@@ -102,7 +105,8 @@ fn push_body<B: Blocks>(
     requires room { HasRoom inodes (B.blocks blocks.now) }
     requires rule { IsFileSystem inodes (B.blocks blocks.now) }
     requires there { HasArticle inodes (B.blocks blocks.now) index.now places.now serial }
-    ensures { OnOk result ((S : Spool) → Indexes S index.now → ArePlaces inodes (B.blocks blocks.now) S places.now → reply.new.items ≡ reply.old.items ++ stuffed (body (text_of S serial))) }
+    ensures { OnOk result ((S : Spool) → Indexes S index.now → ArePlaces inodes (B.blocks blocks.now) S places.now
+        → reply.new.items ≡ reply.old.items ++ stuffed (body (text_of S serial))) }
 {
     let text = place_of(blocks, inodes, index, places, serial);
     let front = front_of(alloc, blocks, inodes, text)?;
@@ -127,7 +131,8 @@ pub fn push_id<B: Blocks>(
     requires room { HasRoom inodes (B.blocks blocks.now) }
     requires rule { IsFileSystem inodes (B.blocks blocks.now) }
     requires there { HasArticle inodes (B.blocks blocks.now) index.now places.now serial }
-    ensures { OnOk result ((S : Spool) → Indexes S index.now → ArePlaces inodes (B.blocks blocks.now) S places.now → reply.new.items ≡ reply.old.items ++ id (text_of S serial)) }
+    ensures { OnOk result ((S : Spool) → Indexes S index.now → ArePlaces inodes (B.blocks blocks.now) S places.now
+        → reply.new.items ≡ reply.old.items ++ id (text_of S serial)) }
 {
     let text = place_of(blocks, inodes, index, places, serial);
     let front = front_of(alloc, blocks, inodes, text)?;

@@ -34,7 +34,8 @@ pub fn push_overview<B: Blocks>(
     requires room { HasRoom inodes (B.blocks blocks.now) }
     requires rule { IsFileSystem inodes (B.blocks blocks.now) }
     requires there { HasArticle inodes (B.blocks blocks.now) index.now places.now serial }
-    ensures { OnOk result ((S : Spool) → Indexes S index.now → ArePlaces inodes (B.blocks blocks.now) S places.now → reply.new.items ≡ reply.old.items ++ line (overview_line number (text_of S serial))) }
+    ensures { OnOk result ((S : Spool) → Indexes S index.now → ArePlaces inodes (B.blocks blocks.now) S places.now
+        → reply.new.items ≡ reply.old.items ++ line (overview_line number (text_of S serial))) }
 {
     let place = place_of(blocks, inodes, index, places, serial);
     let text = read_entry(alloc, blocks, inodes, place.inode, place.from, place.size)?;
@@ -58,7 +59,8 @@ pub fn push_overviews<B: Blocks>(
     requires room { HasRoom inodes (B.blocks blocks.now) }
     requires rule { IsFileSystem inodes (B.blocks blocks.now) }
     requires there { HasNumbers inodes (B.blocks blocks.now) index.now places.now group.now from to }
-    ensures { OnOk result ((S : Spool) → Indexes S index.now → ArePlaces inodes (B.blocks blocks.now) S places.now → reply.new.items ≡ reply.old.items ++ overviews_between S group.now from to) }
+    ensures { OnOk result ((S : Spool) → Indexes S index.now → ArePlaces inodes (B.blocks blocks.now) S places.now
+        → reply.new.items ≡ reply.old.items ++ overviews_between S group.now from to) }
 {
     let Some(place) = index.place(group) else {
         unreachable!()
@@ -86,7 +88,8 @@ fn push_lines<B: Blocks>(
     requires order { first ≤ end }
     requires high { end ≤ length (shown group.now).filed }
     requires rise { LinesRise (shown group.now).ends (length (shown group.now).filed) }
-    ensures { OnOk result (reply.new.items ≡ reply.old.items ++ lines_from (content_of (B.blocks blocks.now) (entry inodes (B.blocks blocks.now) inode)) (shown group.now).ends first (end - first)) }
+    ensures { OnOk result (reply.new.items ≡ reply.old.items ++ lines_from
+        (content_of (B.blocks blocks.now) (entry inodes (B.blocks blocks.now) inode)) (shown group.now).ends first (end - first)) }
 {
     for place in first..end {
         let (start, stop) = group.line(place + 1);

@@ -25,7 +25,8 @@ pub fn push_stuffed<B: Blocks>(
     requires rule { IsFileSystem inodes (B.blocks blocks.now) }
     requires below { at < inodes }
     requires file { IsFile (entry inodes (B.blocks blocks.now) at) }
-    ensures { OnOk result (reply.new.items ≡ reply.old.items ++ stuffed (take count (drop place (content_of (B.blocks blocks.now) (entry inodes (B.blocks blocks.now) at))))) }
+    ensures { OnOk result (reply.new.items ≡ reply.old.items ++ stuffed
+        (take count (drop place (content_of (B.blocks blocks.now) (entry inodes (B.blocks blocks.now) at))))) }
 {
     let end = size_of(blocks, inodes, at).min(place.saturating_add(count));
     let mut from = place;

@@ -12,11 +12,14 @@ joined None seconds = None
 joined (Some days) None = None
 joined (Some days) (Some seconds) = Some (days *ℤ pos 86_400 +ℤ pos seconds)
 
-moments_add : (number start hours minutes seconds : ℕ) → pos (number * 86_400 + hours * 3_600 + minutes * 60 + seconds) -ℤ pos (start * 86_400) ≡ (pos number -ℤ pos start) *ℤ pos 86_400 +ℤ pos (hours * 3_600 + minutes * 60 + seconds)
+moments_add : (number start hours minutes seconds : ℕ)
+    → pos (number * 86_400 + hours * 3_600 + minutes * 60 + seconds) -ℤ pos (start * 86_400)
+    ≡ (pos number -ℤ pos start) *ℤ pos 86_400 +ℤ pos (hours * 3_600 + minutes * 60 + seconds)
 moments_add number start hours minutes seconds = omega (arith, ints)
 
 by_tests : (date_form time_form date time : Bool) (moment days : ℤ) (seconds : ℕ) → moment ≡ days *ℤ pos 86_400 +ℤ pos seconds
-    → cond (date_form && (time_form && (date && time))) (Some moment) None ≡ joined (cond date_form (cond date (Some days) None) None) (cond (time_form && time) (Some seconds) None)
+    → cond (date_form && (time_form && (date && time))) (Some moment) None ≡ joined (cond date_form (cond date (Some days) None) None)
+    (cond (time_form && time) (Some seconds) None)
 by_tests true true true true moment days seconds same = ap Some same
 by_tests true true true false moment days seconds same = refl
 by_tests true true false true moment days seconds same = refl
@@ -28,9 +31,11 @@ by_tests true false false false moment days seconds same = refl
 by_tests false true date time moment days seconds same = refl
 by_tests false false date time moment days seconds same = refl
 
-pub since-parts : (date time : Octets) (moment : ℕ) → since date time moment ≡ joined (days_of_text (date_at moment).year date) (seconds_of_text time)
+pub since-parts : (date time : Octets) (moment : ℕ)
+    → since date time moment ≡ joined (days_of_text (date_at moment).year date) (seconds_of_text time)
 since-parts date time moment =
     let day = date_of_text (date_at moment).year date in
-    by_tests (are_digits 6 date || are_digits 8 date) (are_digits 6 time) (is_date day) (is_time time) (moment_of day time) (pos (day_number day) -ℤ pos epoch)
+    by_tests (are_digits 6 date || are_digits 8 date) (are_digits 6 time) (is_date day) (is_time time) (moment_of day time)
+    (pos (day_number day) -ℤ pos epoch)
     (two_at 0 time * 3_600 + two_at 2 time * 60 + two_at 4 time)
     (moments_add (day_number day) epoch (two_at 0 time) (two_at 2 time) (two_at 4 time))

@@ -138,7 +138,8 @@ fn month_name(month: u64) -> &'static [u8]
 
 /// Appends a moment's time of day, as 01:46:40.
 fn push_clock(text: &mut Vec<u8>, moment: u64) -> Result<(), AllocError>
-    ensures { OnOk result (text.new.items ≡ text.old.items ++ two_digits (calendar.hour_at moment) ++ codes ":" ++ two_digits (calendar.minute_at moment) ++ codes ":" ++ two_digits (calendar.second_at moment)) }
+    ensures { OnOk result (text.new.items ≡ text.old.items ++ two_digits (calendar.hour_at moment) ++ codes ":" ++ two_digits
+        (calendar.minute_at moment) ++ codes ":" ++ two_digits (calendar.second_at moment)) }
 {
     push_two(text, moment % DAY / HOUR)?;
     text.extend_from_slice(b":")?;
@@ -151,7 +152,8 @@ fn push_clock(text: &mut Vec<u8>, moment: u64) -> Result<(), AllocError>
 fn push_date(text: &mut Vec<u8>, date: Parts) -> Result<(), AllocError>
     requires low { 1 ≤ date.month }
     requires high { date.month ≤ 12 }
-    ensures { OnOk result (text.new.items ≡ text.old.items ++ two_digits date.day ++ codes " " ++ calendar.month_name date.month ++ codes " " ++ four_digits date.year) }
+    ensures { OnOk result (text.new.items ≡ text.old.items ++ two_digits date.day ++ codes " " ++ calendar.month_name date.month
+        ++ codes " " ++ four_digits date.year) }
 {
     push_two(text, date.day)?;
     text.extend_from_slice(b" ")?;

@@ -24,15 +24,18 @@ module _ (bound : ℕ) (cache ns : List ℕ) (size : length cache ≡ 4096 * bou
   whole k d low = length-block (get_or ns k d) cache (let there = below k d low in omega arith)
 
   -- laid over blocks that differ in no other place they give the cache
-  pub copied_laid : (blocks : List (List ℕ)) → AgreeOutside ns blocks (blocks_from 0 bound cache) → laid_over blocks ns (blocks_from 0 (length ns) (flat_map (λ n. block n cache) ns)) ≡ blocks_from 0 bound cache
+  pub copied_laid : (blocks : List (List ℕ)) → AgreeOutside ns blocks (blocks_from 0 bound cache)
+      → laid_over blocks ns (blocks_from 0 (length ns) (flat_map (λ n. block n cache) ns)) ≡ blocks_from 0 bound cache
   copied_laid blocks agree =
       ap (λ (l : List (List ℕ)). laid_over blocks ns l) (blocks_from-flat_map (λ n. block n cache) ns whole).1
-      ∙ laid_over_agree ns (map (λ n. block n cache) ns) blocks (blocks_from 0 bound cache) (omega (arith, length-map ns (λ n. block n cache))) agree.count outside
+      ∙ laid_over_agree ns (map (λ n. block n cache) ns) blocks (blocks_from 0 bound cache)
+      (omega (arith, length-map ns (λ n. block n cache))) agree.count outside
       ∙ laid_over_done (blocks_from 0 bound cache) ns (map (λ n. block n cache) ns) done
     where
       outside : (k : ℕ) → ((i : ℕ) → i < length ns → k ≢ get_or ns i 0) → get_or blocks k [] ≡ get_or (blocks_from 0 bound cache) k []
       outside k other = agree.same k (λ c. other c.0 c.1 (sym (get_or_default ns c.0 0 k c.1 ∙ c.2)))
 
-      done : (i : ℕ) → i < length ns → i < length (map (λ n. block n cache) ns) → get_or (blocks_from 0 bound cache) (get_or ns i 0) [] ≡ get_or (map (λ n. block n cache) ns) i []
+      done : (i : ℕ) → i < length ns → i < length (map (λ n. block n cache) ns)
+          → get_or (blocks_from 0 bound cache) (get_or ns i 0) [] ≡ get_or (map (λ n. block n cache) ns) i []
       done i low l =
           get_or-blocks_from bound (get_or ns i 0) cache (below i 0 low) ∙ sym (get_or-map (λ n. block n cache) ns i 0 [] low)

@@ -1,7 +1,9 @@
 -- The places of the members of a set of numbers.
-use Rattle.std.proofs.Common.{◌≡◌, ◌≢◌, inl, inr, ◌<◌, ◌≤◌, ℕ, suc, ◌+◌, ◌-◌, ◌^◌, Bool, true, false, eqb, ◌||◌, List, [], ◌∷◌, ◌++◌, length, get_or, take, set, replicate, sym, ◌∙◌, ap, subst, arith, length-set}
+use Rattle.std.proofs.Common.{◌≡◌, ◌≢◌, inl, inr, ◌<◌, ◌≤◌, ℕ, suc, ◌+◌, ◌-◌, ◌^◌, Bool, true, false, eqb, ◌||◌, List, [], ◌∷◌, ◌++◌}
+use Rattle.std.proofs.Common.{length, get_or, take, set, replicate, sym, ◌∙◌, ap, subst, arith, length-set}
 use Rattle.std.specs.List.{All, Contains, IsDistinct, list_any}
-use Rattle.std.proofs.lemmas.List.{length-replicate, get_or-set_same, get_or-set_other, get_or-take, get_or-replicate, get_or_past, length-take-le, length_push, get_or_append_left, get_or_push, get_or_default}
+use Rattle.std.proofs.lemmas.List.{length-replicate, get_or-set_same, get_or-set_other, get_or-take, get_or-replicate, get_or_past}
+use Rattle.std.proofs.lemmas.List.{length-take-le, length_push, get_or_append_left, get_or_push, get_or_default}
 use Rattle.std.proofs.lemmas.List.Elements.{All-head, All-tail, All-from_get_or, recursion_from_All}
 use Rattle.std.proofs.lemmas.Bool.{cases_eq, cases_lt, ne_eqb}
 use Rattle.std.proofs.lemmas.Map.Steps.{length-le_from_distinct_below}
@@ -14,7 +16,8 @@ distinct_keys : (xs : List ℕ) → AreDistinct xs → IsDistinct eqb xs
 unfolding IsDistinct
 distinct_keys [] distinct = tt
 distinct_keys (x ∷ xs) distinct = (
-  recursion_from_All (λ y. eqb x y ≡ false) xs (All-from_get_or (λ y. eqb x y ≡ false) xs 0 (λ k low. ne_eqb x (get_or xs k 0) (distinct 0 (suc k) (omega arith) (omega arith)))),
+  recursion_from_All (λ y. eqb x y ≡ false) xs
+      (All-from_get_or (λ y. eqb x y ≡ false) xs 0 (λ k low. ne_eqb x (get_or xs k 0) (distinct 0 (suc k) (omega arith) (omega arith)))),
   distinct_keys xs (λ i j less low. distinct (suc i) (suc j) (omega arith) (omega arith)),
 )
 
@@ -22,12 +25,14 @@ some_below : (bound q : ℕ) (xs : List ℕ) → All (λ n. n < bound) xs → li
 some_below bound q [] below any = cc
 some_below bound q (x ∷ xs) below any = elim (cases_eq q x) [
   | inl same ↦ subst (λ (n : ℕ). n < bound) (sym same) (All-head (λ n. n < bound) x xs below)
-  | inr other ↦ some_below bound q xs (All-tail (λ n. n < bound) x xs below) (ap (λ (b : Bool). b || list_any (eqb q) xs) (sym (ne_eqb q x other)) ∙ any)
+  | inr other ↦ some_below bound q xs (All-tail (λ n. n < bound) x xs below)
+      (ap (λ (b : Bool). b || list_any (eqb q) xs) (sym (ne_eqb q x other)) ∙ any)
 ]
 
 -- at most as many as there are numbers below the bound
 pub few_members : (bound : ℕ) (xs : List ℕ) → All (λ n. n < bound) xs → AreDistinct xs → length xs ≤ bound
-few_members bound xs below distinct = length-le_from_distinct_below xs bound (distinct_keys xs distinct) (λ q any. some_below bound q xs below any)
+few_members bound xs below distinct =
+    length-le_from_distinct_below xs bound (distinct_keys xs distinct) (λ q any. some_below bound q xs below any)
 
 pub distinct_push : (xs : List ℕ) (n : ℕ) → AreDistinct xs → ¬ (Contains xs n) → AreDistinct (xs ++ n ∷ [])
 distinct_push xs n distinct other i j less low =
@@ -55,7 +60,8 @@ module _ (numbers places : List ℕ) (count : ℕ) (index : IsIndex numbers coun
   pub members_distinct : AreDistinct (take count numbers)
   members_distinct i j less low same =
       let inside : j < count = omega (arith, members_size) in
-      let equal : get_or numbers i 0 ≡ get_or numbers j 0 = sym (get_or-take count numbers i 0 (omega arith)) ∙ same ∙ get_or-take count numbers j 0 inside in
+      let equal : get_or numbers i 0 ≡ get_or numbers j 0 = sym (get_or-take count numbers i 0 (omega arith)) ∙ same
+      ∙ get_or-take count numbers j 0 inside in
       let twice : i + 1 ≡ j + 1 = sym (index.back i (omega arith)) ∙ ap (λ (n : ℕ). get_or places n 0) equal ∙ index.back j inside in
       omega arith
 
@@ -67,10 +73,12 @@ module _ (numbers places : List ℕ) (count : ℕ) (index : IsIndex numbers coun
   pub no_place : (n : ℕ) → get_or places n 0 ≡ 0 → ¬ (Contains (take count numbers) n)
   no_place n none (i, low, is) =
       let inside : i < count = omega (arith, members_size) in
-      let equal : get_or numbers i 0 ≡ n = sym (get_or-take count numbers i 0 inside) ∙ get_or_default (take count numbers) i 0 n low ∙ is in
+      let equal : get_or numbers i 0 ≡ n = sym (get_or-take count numbers i 0 inside) ∙ get_or_default (take count numbers) i 0 n low
+      ∙ is in
       omega (arith, index.back i inside, ap (λ (m : ℕ). get_or places m 0) equal)
 
-  pub a_place : (n : ℕ) → 0 < get_or places n 0 → (get_or places n 0 - 1 < length (take count numbers)) × (get_or (take count numbers) (get_or places n 0 - 1) 0 ≡ n)
+  pub a_place : (n : ℕ) → 0 < get_or places n 0
+      → (get_or places n 0 - 1 < length (take count numbers)) × (get_or (take count numbers) (get_or places n 0 - 1) 0 ≡ n)
   a_place n some =
       let low = index.low n in (
         omega (arith, members_size),
@@ -80,11 +88,24 @@ module _ (numbers places : List ℕ) (count : ℕ) (index : IsIndex numbers coun
   module _ (n : ℕ) (there : n < length places) (other : ¬ (Contains (take count numbers) n)) where
     pub has_room : count < length numbers
     has_room =
-        omega (arith, few_members (length places) (take count numbers ++ n ∷ []) (below_push (length places) n (take count numbers) members_below there) (distinct_push (take count numbers) n members_distinct other), length_push (take count numbers) n, members_size, index.size)
+        omega (
+          arith,
+          few_members (length places) (take count numbers ++ n ∷ [])
+              (below_push (length places) n (take count numbers) members_below there)
+              (distinct_push (take count numbers) n members_distinct other),
+          length_push (take count numbers) n,
+          members_size,
+          index.size,
+        )
 
     other_than : (i : ℕ) → i < count → get_or numbers i 0 ≢ n
     other_than i inside is =
-        other (i, omega (arith, members_size), get_or_default (take count numbers) i n 0 (omega (arith, members_size)) ∙ get_or-take count numbers i 0 inside ∙ is)
+        other (
+          i,
+          omega (arith, members_size),
+          get_or_default (take count numbers) i n 0 (omega (arith, members_size))
+              ∙ get_or-take count numbers i 0 inside ∙ is,
+        )
 
     pub inserted : IsIndex (set numbers count n) (count + 1) (set places n (count + 1))
     inserted = record {
@@ -93,7 +114,8 @@ module _ (numbers places : List ℕ) (count : ℕ) (index : IsIndex numbers coun
       room = omega (arith, has_room, length-set numbers count n);
       below = λ i low. elim (cases_eq i count) [
         | inl last ↦ rw (last, get_or-set_same numbers count n 0 has_room) (omega (arith, length-set places n (count + 1)))
-        | inr earlier ↦ rw (get_or-set_other numbers count i n 0 earlier) (omega (arith, length-set places n (count + 1), index.below i (omega arith)))
+        | inr earlier ↦ rw (get_or-set_other numbers count i n 0 earlier)
+            (omega (arith, length-set places n (count + 1), index.below i (omega arith)))
       ];
       back = λ i low. elim (cases_eq i count) [
         | inl last ↦
@@ -113,7 +135,8 @@ module _ (numbers places : List ℕ) (count : ℕ) (index : IsIndex numbers coun
       ];
       forth = λ k some. elim (cases_eq k n) [
         | inl is ↦
-            let placed : get_or (set places n (count + 1)) k 0 ≡ count + 1 = ap (λ (j : ℕ). get_or (set places n (count + 1)) j 0) is ∙ get_or-set_same places n (count + 1) 0 there in
+            let placed : get_or (set places n (count + 1)) k 0 ≡ count + 1 = ap (λ (j : ℕ). get_or (set places n (count + 1)) j 0) is
+            ∙ get_or-set_same places n (count + 1) 0 there in
             let last : get_or (set places n (count + 1)) k 0 - 1 ≡ count = omega arith in
             ap (λ (j : ℕ). get_or (set numbers count n) j 0) last ∙ get_or-set_same numbers count n 0 has_room ∙ sym is
         | inr apart ↦
@@ -126,7 +149,8 @@ module _ (numbers places : List ℕ) (count : ℕ) (index : IsIndex numbers coun
     }
 
 -- an index of none
-pub index_of_none : (numbers places : List ℕ) → length numbers ≡ length places → length places < 2 ^ 32 → ((k : ℕ) → get_or places k 0 ≡ 0) → IsIndex numbers 0 places
+pub index_of_none : (numbers places : List ℕ) → length numbers ≡ length places → length places < 2 ^ 32 → ((k : ℕ) → get_or places k 0 ≡ 0)
+    → IsIndex numbers 0 places
 index_of_none numbers places size few none = record {
   size = size;
   few = few;

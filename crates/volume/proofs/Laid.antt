@@ -1,5 +1,6 @@
 -- Blocks with images laid over.
-use Rattle.std.proofs.Common.{◌≡◌, ◌≢◌, inl, inr, ◌<◌, ◌≤◌, ℕ, zero, suc, List, [], ◌∷◌, ◌++◌, length, get_or, set, refl, sym, ◌∙◌, ap, arith, length-set}
+use Rattle.std.proofs.Common.{◌≡◌, ◌≢◌, inl, inr, ◌<◌, ◌≤◌, ℕ, zero, suc, List, [], ◌∷◌, ◌++◌, length, get_or, set, refl, sym, ◌∙◌, ap}
+use Rattle.std.proofs.Common.{arith, length-set}
 use Rattle.std.proofs.lemmas.List.{ext_get_or, set-get_or, set-set, set_comm, get_or-set_same, get_or-set_other, get_or_past}
 use Rattle.std.proofs.lemmas.Bool.{cases_eq, cases_lt}
 use Rattle.model.specs.Volume.{AreDistinct, laid_over}
@@ -10,7 +11,8 @@ length-laid_over xs (n ∷ ns) [] = refl
 length-laid_over xs (n ∷ ns) (image ∷ images) = length-laid_over (set xs n image) ns images ∙ length-set xs n image
 
 -- where the blocks are the images already
-pub laid_over_done : (xs : List (List ℕ)) (ns : List ℕ) (images : List (List ℕ)) → ((i : ℕ) → i < length ns → i < length images → get_or xs (get_or ns i 0) [] ≡ get_or images i []) → laid_over xs ns images ≡ xs
+pub laid_over_done : (xs : List (List ℕ)) (ns : List ℕ) (images : List (List ℕ))
+    → ((i : ℕ) → i < length ns → i < length images → get_or xs (get_or ns i 0) [] ≡ get_or images i []) → laid_over xs ns images ≡ xs
 laid_over_done xs [] images done = refl
 laid_over_done xs (n ∷ ns) [] done = refl
 laid_over_done xs (n ∷ ns) (image ∷ images) done =
@@ -18,11 +20,14 @@ laid_over_done xs (n ∷ ns) (image ∷ images) done =
     ap (λ (l : List (List ℕ)). laid_over l ns images) same ∙ laid_over_done xs ns images (λ i h l. done (suc i) (omega arith) (omega arith))
 
 -- where the blocks are the same but in places that get an image
-pub laid_over_agree : (ns : List ℕ) (images xs ys : List (List ℕ)) → length ns ≤ length images → length xs ≡ length ys → ((k : ℕ) → ((i : ℕ) → i < length ns → k ≢ get_or ns i 0) → get_or xs k [] ≡ get_or ys k []) → laid_over xs ns images ≡ laid_over ys ns images
+pub laid_over_agree : (ns : List ℕ) (images xs ys : List (List ℕ)) → length ns ≤ length images → length xs ≡ length ys
+    → ((k : ℕ) → ((i : ℕ) → i < length ns → k ≢ get_or ns i 0) → get_or xs k [] ≡ get_or ys k [])
+    → laid_over xs ns images ≡ laid_over ys ns images
 laid_over_agree [] images xs ys enough size same = ext_get_or [] xs ys size (λ k h. same k (λ i l. absurd (omega arith)))
 laid_over_agree (n ∷ ns) [] xs ys enough size same = absurd (omega arith)
 laid_over_agree (n ∷ ns) (image ∷ images) xs ys enough size same =
-    laid_over_agree ns images (set xs n image) (set ys n image) (omega arith) (length-set xs n image ∙ size ∙ sym (length-set ys n image)) each
+    laid_over_agree ns images (set xs n image) (set ys n image) (omega arith) (length-set xs n image ∙ size
+    ∙ sym (length-set ys n image)) each
   where
     each : (k : ℕ) → ((i : ℕ) → i < length ns → k ≢ get_or ns i 0) → get_or (set xs n image) k [] ≡ get_or (set ys n image) k []
     each k other = elim (cases_lt k (length xs)) [
@@ -44,11 +49,13 @@ laid_over_agree (n ∷ ns) (image ∷ images) xs ys enough size same =
         apart_from apart (suc i) h = other i (omega arith)
 
 -- a block that gets no image
-pub laid_over_other : (xs : List (List ℕ)) (ns : List ℕ) (images : List (List ℕ)) (k : ℕ) → ((i : ℕ) → i < length ns → k ≢ get_or ns i 0) → get_or (laid_over xs ns images) k [] ≡ get_or xs k []
+pub laid_over_other : (xs : List (List ℕ)) (ns : List ℕ) (images : List (List ℕ)) (k : ℕ) → ((i : ℕ) → i < length ns → k ≢ get_or ns i 0)
+    → get_or (laid_over xs ns images) k [] ≡ get_or xs k []
 laid_over_other xs [] images k other = refl
 laid_over_other xs (n ∷ ns) [] k other = refl
 laid_over_other xs (n ∷ ns) (image ∷ images) k other =
-    laid_over_other (set xs n image) ns images k (λ i h. other (suc i) (omega arith)) ∙ get_or-set_other xs n k image [] (other 0 (omega arith))
+    laid_over_other (set xs n image) ns images k (λ i h. other (suc i) (omega arith))
+    ∙ get_or-set_other xs n k image [] (other 0 (omega arith))
 
 distinct_tail : (n : ℕ) (ns : List ℕ) → AreDistinct (n ∷ ns) → AreDistinct ns
 distinct_tail n ns distinct i j less low = distinct (suc i) (suc j) (omega arith) (omega arith)
@@ -57,22 +64,26 @@ distinct_head : (n : ℕ) (ns : List ℕ) → AreDistinct (n ∷ ns) → (i : �
 distinct_head n ns distinct i low = distinct 0 (suc i) (omega arith) (omega arith)
 
 -- a block that gets one
-pub laid_over_at : (xs : List (List ℕ)) (ns : List ℕ) (images : List (List ℕ)) (i : ℕ) → AreDistinct ns → i < length ns → length ns ≤ length images → get_or ns i 0 < length xs → get_or (laid_over xs ns images) (get_or ns i 0) [] ≡ get_or images i []
+pub laid_over_at : (xs : List (List ℕ)) (ns : List ℕ) (images : List (List ℕ)) (i : ℕ) → AreDistinct ns → i < length ns
+    → length ns ≤ length images → get_or ns i 0 < length xs → get_or (laid_over xs ns images) (get_or ns i 0) [] ≡ get_or images i []
 laid_over_at xs [] images i distinct low enough there = absurd (omega arith)
 laid_over_at xs (n ∷ ns) [] i distinct low enough there = absurd (omega arith)
 laid_over_at xs (n ∷ ns) (image ∷ images) zero distinct low enough there =
     laid_over_other (set xs n image) ns images n (distinct_head n ns distinct) ∙ get_or-set_same xs n image [] there
 laid_over_at xs (n ∷ ns) (image ∷ images) (suc i) distinct low enough there =
-    laid_over_at (set xs n image) ns images i (distinct_tail n ns distinct) (omega arith) (omega arith) (omega (arith, length-set xs n image))
+    laid_over_at (set xs n image) ns images i (distinct_tail n ns distinct) (omega arith) (omega arith)
+    (omega (arith, length-set xs n image))
 
 -- one image more
-pub laid_over_push : (xs : List (List ℕ)) (ns : List ℕ) (images : List (List ℕ)) (n : ℕ) (image : List ℕ) → length ns ≡ length images → laid_over xs (ns ++ n ∷ []) (images ++ image ∷ []) ≡ set (laid_over xs ns images) n image
+pub laid_over_push : (xs : List (List ℕ)) (ns : List ℕ) (images : List (List ℕ)) (n : ℕ) (image : List ℕ) → length ns ≡ length images
+    → laid_over xs (ns ++ n ∷ []) (images ++ image ∷ []) ≡ set (laid_over xs ns images) n image
 laid_over_push xs [] [] n image same = refl
 laid_over_push xs [] (i ∷ images) n image same = absurd (omega arith)
 laid_over_push xs (m ∷ ns) [] n image same = absurd (omega arith)
 laid_over_push xs (m ∷ ns) (i ∷ images) n image same = laid_over_push (set xs m i) ns images n image (omega arith)
 
-laid_over_after : (xs : List (List ℕ)) (ns : List ℕ) (images : List (List ℕ)) (n : ℕ) (b : List ℕ) → ((i : ℕ) → i < length ns → n ≢ get_or ns i 0) → laid_over (set xs n b) ns images ≡ set (laid_over xs ns images) n b
+laid_over_after : (xs : List (List ℕ)) (ns : List ℕ) (images : List (List ℕ)) (n : ℕ) (b : List ℕ)
+    → ((i : ℕ) → i < length ns → n ≢ get_or ns i 0) → laid_over (set xs n b) ns images ≡ set (laid_over xs ns images) n b
 laid_over_after xs [] images n b other = refl
 laid_over_after xs (m ∷ ns) [] n b other = refl
 laid_over_after xs (m ∷ ns) (i ∷ images) n b other =
@@ -80,7 +91,8 @@ laid_over_after xs (m ∷ ns) (i ∷ images) n b other =
     ∙ laid_over_after (set xs m i) ns images n b (λ j h. other (suc j) (omega arith))
 
 -- another image in place of one
-pub laid_over_set : (xs : List (List ℕ)) (ns : List ℕ) (images : List (List ℕ)) (i : ℕ) (b : List ℕ) → AreDistinct ns → i < length ns → length ns ≤ length images → laid_over xs ns (set images i b) ≡ set (laid_over xs ns images) (get_or ns i 0) b
+pub laid_over_set : (xs : List (List ℕ)) (ns : List ℕ) (images : List (List ℕ)) (i : ℕ) (b : List ℕ) → AreDistinct ns → i < length ns
+    → length ns ≤ length images → laid_over xs ns (set images i b) ≡ set (laid_over xs ns images) (get_or ns i 0) b
 laid_over_set xs [] images i b distinct low enough = absurd (omega arith)
 laid_over_set xs (n ∷ ns) [] i b distinct low enough = absurd (omega arith)
 laid_over_set xs (n ∷ ns) (image ∷ images) zero b distinct low enough =

@@ -10,7 +10,8 @@ use Rattle.volume.specs.Volume.{IsVolume, seen_over}
 use Rattle.volume.proofs.Laid.{length-laid_over, laid_over_at, laid_over_other, laid_over_push, laid_over_set}
 use Rattle.volume.proofs.Octets.{length-blocks_from, get_or-blocks_from, blocks_whole, blocks_from-put, blocks_from-push}
 
-laid_over_whole : (xs : List (List ℕ)) (ns : List ℕ) (images : List (List ℕ)) → All (λ b. length b ≡ 4096) xs → All (λ b. length b ≡ 4096) images → All (λ b. length b ≡ 4096) (laid_over xs ns images)
+laid_over_whole : (xs : List (List ℕ)) (ns : List ℕ) (images : List (List ℕ)) → All (λ b. length b ≡ 4096) xs
+    → All (λ b. length b ≡ 4096) images → All (λ b. length b ≡ 4096) (laid_over xs ns images)
 laid_over_whole xs [] images whole more = whole
 laid_over_whole xs (n ∷ ns) [] whole more = whole
 laid_over_whole xs (n ∷ ns) (image ∷ images) whole more =
@@ -28,7 +29,8 @@ module _ (cache images : List ℕ) (staged dirty : Numbers) (v : IsVolume cache 
 
   pub length-seen : length (seen_over staged.bound cache staged.members images) ≡ staged.bound
   length-seen =
-      length-laid_over (blocks_from 0 staged.bound cache) staged.members (blocks_from 0 (length staged.members) images) ∙ length-blocks_from staged.bound cache
+      length-laid_over (blocks_from 0 staged.bound cache) staged.members (blocks_from 0 (length staged.members) images)
+      ∙ length-blocks_from staged.bound cache
 
   pub seen_whole : All (λ b. length b ≡ 4096) (seen_over staged.bound cache staged.members images)
   seen_whole =
@@ -36,30 +38,41 @@ module _ (cache images : List ℕ) (staged dirty : Numbers) (v : IsVolume cache 
       (blocks_whole staged.bound cache v.cache_size)
       (blocks_whole (length staged.members) images v.images_size)
 
-  pub seen_staged : (i n : ℕ) → i < length staged.members → get_or staged.members i 0 ≡ n → get_or (seen_over staged.bound cache staged.members images) n [] ≡ block i images
+  pub seen_staged : (i n : ℕ) → i < length staged.members → get_or staged.members i 0 ≡ n
+      → get_or (seen_over staged.bound cache staged.members images) n [] ≡ block i images
   seen_staged i n low is =
       ap (λ (m : ℕ). get_or (seen_over staged.bound cache staged.members images) m []) (sym is)
-      ∙ laid_over_at (blocks_from 0 staged.bound cache) staged.members (blocks_from 0 (length staged.members) images) i v.staged_numbers.distinct low
+      ∙ laid_over_at (blocks_from 0 staged.bound cache) staged.members
+      (blocks_from 0 (length staged.members) images) i v.staged_numbers.distinct low
       (omega (arith, length-blocks_from (length staged.members) images))
       (let below = v.staged_numbers.below i 0 low in omega (arith, length-blocks_from staged.bound cache))
       ∙ get_or-blocks_from (length staged.members) i images low
 
-  pub seen_clean : (n : ℕ) → n < staged.bound → ¬ (Contains staged.members n) → get_or (seen_over staged.bound cache staged.members images) n [] ≡ block n cache
+  pub seen_clean : (n : ℕ) → n < staged.bound → ¬ (Contains staged.members n)
+      → get_or (seen_over staged.bound cache staged.members images) n [] ≡ block n cache
   seen_clean n below other =
-      laid_over_other (blocks_from 0 staged.bound cache) staged.members (blocks_from 0 (length staged.members) images) n (not_at staged.members n other)
+      laid_over_other (blocks_from 0 staged.bound cache) staged.members (blocks_from 0 (length staged.members) images) n
+      (not_at staged.members n other)
       ∙ get_or-blocks_from staged.bound n cache below
 
   module _ (from : List ℕ) (whole : length from ≡ 4096) where
-    pub put_again : (i n : ℕ) → i < length staged.members → get_or staged.members i 0 ≡ n → seen_over staged.bound cache staged.members (overwritten (4096 * i) from images) ≡ set (seen_over staged.bound cache staged.members images) n from
+    pub put_again : (i n : ℕ) → i < length staged.members → get_or staged.members i 0 ≡ n
+        → seen_over staged.bound cache staged.members (overwritten (4096 * i) from images)
+        ≡ set (seen_over staged.bound cache staged.members images) n from
     put_again i n low is =
-        ap (λ (l : List (List ℕ)). laid_over (blocks_from 0 staged.bound cache) staged.members l) (blocks_from-put (length staged.members) i from images whole v.images_size low)
-        ∙ laid_over_set (blocks_from 0 staged.bound cache) staged.members (blocks_from 0 (length staged.members) images) i from v.staged_numbers.distinct low
+        ap (λ (l : List (List ℕ)). laid_over (blocks_from 0 staged.bound cache) staged.members l)
+        (blocks_from-put (length staged.members) i from images whole v.images_size low)
+        ∙ laid_over_set (blocks_from 0 staged.bound cache) staged.members (blocks_from 0 (length staged.members) images) i from
+        v.staged_numbers.distinct low
         (omega (arith, length-blocks_from (length staged.members) images))
         ∙ ap (λ (m : ℕ). set (seen_over staged.bound cache staged.members images) m from) is
 
-    pub put_first : (n : ℕ) → seen_over staged.bound cache (staged.members ++ n ∷ []) (images ++ from) ≡ set (seen_over staged.bound cache staged.members images) n from
+    pub put_first : (n : ℕ) → seen_over staged.bound cache (staged.members ++ n ∷ []) (images ++ from)
+        ≡ set (seen_over staged.bound cache staged.members images) n from
     put_first n =
-        ap (λ (m : ℕ). laid_over (blocks_from 0 staged.bound cache) (staged.members ++ n ∷ []) (blocks_from 0 m (images ++ from))) (length_push staged.members n)
-        ∙ ap (λ (l : List (List ℕ)). laid_over (blocks_from 0 staged.bound cache) (staged.members ++ n ∷ []) l) (blocks_from-push (length staged.members) images from v.images_size whole)
+        ap (λ (m : ℕ). laid_over (blocks_from 0 staged.bound cache) (staged.members ++ n ∷ []) (blocks_from 0 m (images ++ from)))
+        (length_push staged.members n)
+        ∙ ap (λ (l : List (List ℕ)). laid_over (blocks_from 0 staged.bound cache) (staged.members ++ n ∷ []) l)
+        (blocks_from-push (length staged.members) images from v.images_size whole)
         ∙ laid_over_push (blocks_from 0 staged.bound cache) staged.members (blocks_from 0 (length staged.members) images) n from
         (sym (length-blocks_from (length staged.members) images))

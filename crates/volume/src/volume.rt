@@ -1,6 +1,7 @@
 //! A stage over a cache.
 
-ghost use Rattle.std.specs.Prelude.{◌≡◌, ◌≢◌, ◌⊎◌, ◌↔◌, ℕ, ◌+◌, ◌*◌, ◌<◌, ◌≤◌, List, [], length, slice_index_or, IfOk, IfErr, OnOk, OnErr, IsTrue, true, false};
+ghost use Rattle.std.specs.Prelude.{◌≡◌, ◌≢◌, ◌⊎◌, ◌↔◌, ℕ, ◌+◌, ◌*◌, ◌<◌, ◌≤◌, List, [], length, slice_index_or, IfOk, IfErr, OnOk, OnErr};
+ghost use Rattle.std.specs.Prelude.{IsTrue, true, false};
 ghost use Rattle.std.specs.List.{All, Contains, flat_map};
 ghost use Rattle.model.specs.Volume.{AreDistinct, blocks_from, laid_over};
 ghost use Rattle.disk.specs.Image.{overwritten};
@@ -157,7 +158,8 @@ fn load_all<D: Disk>(
     ensures loaded { IsTrue (D.device journal.old.disk).tells → OnOk result (blocks_from 0 count octets.new ≡ journal.old.blocks) }
     ensures loads { Loads D.device journal.old journal.new }
     ensures ok { OnOk result ((journal.new.halted ≡ false) × ((D.device journal.new.disk).failures ≡ (D.device journal.old.disk).failures)) }
-    ensures fault { OnErr result ((journal.new.halted ≡ true) × ((D.device journal.new.disk).failures ≢ (D.device journal.old.disk).failures)) }
+    ensures fault { OnErr result ((journal.new.halted ≡ true)
+        × ((D.device journal.new.disk).failures ≢ (D.device journal.old.disk).failures)) }
 {
     for number in 0..count {
         load_block(journal, octets, number)?;
@@ -178,7 +180,8 @@ fn load_block<D: Disk>(
         → OnOk result (octets.new ≡ overwritten (4096 * number) (slice_index_or journal.old.blocks number []) octets.old) }
     ensures loads { Loads D.device journal.old journal.new }
     ensures ok { OnOk result ((journal.new.halted ≡ false) × ((D.device journal.new.disk).failures ≡ (D.device journal.old.disk).failures)) }
-    ensures fault { OnErr result ((journal.new.halted ≡ true) × ((D.device journal.new.disk).failures ≢ (D.device journal.old.disk).failures)) }
+    ensures fault { OnErr result ((journal.new.halted ≡ true)
+        × ((D.device journal.new.disk).failures ≢ (D.device journal.old.disk).failures)) }
 {
     let mut block = [0; BLOCK_SIZE];
     journal.load(u64::from(number), &mut block)?;

@@ -1,5 +1,6 @@
 -- What the writes of a new volume leave.
-use Rattle.std.proofs.Common.{◌≡◌, ◌⊎◌, inl, inr, ◌<◌, ◌≤◌, ℕ, ◌+◌, ◌-◌, ◌*◌, false, cond, eqb, List, [], ◌∷◌, length, get_or, take, drop, replicate, sym, ◌∙◌, ap, subst, arith}
+use Rattle.std.proofs.Common.{◌≡◌, ◌⊎◌, inl, inr, ◌<◌, ◌≤◌, ℕ, ◌+◌, ◌-◌, ◌*◌, false, cond, eqb, List, [], ◌∷◌, length, get_or, take, drop}
+use Rattle.std.proofs.Common.{replicate, sym, ◌∙◌, ap, subst, arith}
 use Rattle.std.specs.List.{All}
 use Rattle.std.proofs.lemmas.Bool.{cases_eq}
 use Rattle.std.proofs.lemmas.List.{ext_get_or, get_or-drop, get_or-replicate, length-replicate}
@@ -8,7 +9,8 @@ use Rattle.byteorder.specs.Endian.{little_bytes}
 use Rattle.disk.specs.Image.{part, overwritten}
 use Rattle.disk.proofs.Images.{length-overwritten, overwritten_above, overwritten_inside, part-overwritten, part-overwritten_apart}
 use Rattle.volume_format.specs.Formatting.{zero_block, zeroed}
-use Rattle.model.specs.Volume.{block, format_in, format_number, gate_place, home, home_place, home_size, IsSuperblock, is_open, label_of, magic, number_at, open_segments, segment_count, StandsFor}
+use Rattle.model.specs.Volume.{block, format_in, format_number, gate_place, home, home_place, home_size, IsSuperblock, is_open, label_of}
+use Rattle.model.specs.Volume.{magic, number_at, open_segments, segment_count, StandsFor}
 use Rattle.segments.proofs.Blocks.{overwritten_same, block-overwritten}
 use Rattle.volume_format.proofs.Numbers.{number_at_apart, number_at_written}
 use Rattle.segments.proofs.Standing.{get_or-home, length-home, none_are_open, stands_bare}
@@ -20,11 +22,13 @@ IsZero octet = octet ≡ 0
 is_zero_block : (xs : List ℕ) → length xs ≡ 4096 → All IsZero xs → xs ≡ zero_block
 unfolding zero_block
 is_zero_block xs size zero =
-    ext_get_or 0 xs (replicate (length xs) 0) (sym (length-replicate (length xs) 0)) (λ i within. All-get_or IsZero xs i 0 within zero ∙ sym (get_or-replicate (length xs) i 0 0 within))
+    ext_get_or 0 xs (replicate (length xs) 0) (sym (length-replicate (length xs) 0)) (λ i within. All-get_or IsZero xs i 0 within zero
+    ∙ sym (get_or-replicate (length xs) i 0 0 within))
     ∙ ap (λ (n : ℕ). replicate n 0) size
 
 -- the superblock, written part by part
-module _ (old label : List ℕ) (segments blocks gate : ℕ) (counts : (segments ≡ 1) ⊎ (segments ≡ 8)) (whole : length old ≡ 4096) (zero : All IsZero old) (label_size : length label ≡ 128) (low : 1024 ≤ blocks) (high : blocks ≤ 65536) where
+module _ (old label : List ℕ) (segments blocks gate : ℕ) (counts : (segments ≡ 1) ⊎ (segments ≡ 8)) (whole : length old ≡ 4096)
+    (zero : All IsZero old) (label_size : length label ≡ 128) (low : 1024 ≤ blocks) (high : blocks ≤ 65536) where
   abbrev first : List ℕ
   first = overwritten 0 magic old
 
@@ -114,7 +118,8 @@ module _ (old label : List ℕ) (segments blocks gate : ℕ) (counts : (segments
     where
       each : (i : ℕ) → i < length (drop 149 superblock) → IsZero (get_or (drop 149 superblock) i 0)
       each i within =
-          let inside : 149 + i < length old = omega (arith, Rattle.std.proofs.Common.length-drop 149 superblock, length-superblock, whole) in
+          let inside : 149 + i < length old =
+          omega (arith, Rattle.std.proofs.Common.length-drop 149 superblock, length-superblock, whole) in
           get_or-drop 149 superblock i 0
           ∙ overwritten_above 148 (gate ∷ []) fifth (omega (arith, size5)) (149 + i) 0 (omega arith)
           ∙ overwritten_above 20 label fourth fits (149 + i) 0 (omega (arith, label_size))
@@ -136,7 +141,8 @@ module _ (old label : List ℕ) (segments blocks gate : ℕ) (counts : (segments
   }
 
 -- one more block is written
-pub blocks_more : (k : ℕ) (octets old new : List ℕ) → new ≡ overwritten (4096 * k) octets old → length octets ≡ 4096 → 4096 * k + 4096 ≤ length old → ((j : ℕ) → 0 < j → j < k → block j old ≡ octets) → (j : ℕ) → 0 < j → j < k + 1 → block j new ≡ octets
+pub blocks_more : (k : ℕ) (octets old new : List ℕ) → new ≡ overwritten (4096 * k) octets old → length octets ≡ 4096
+    → 4096 * k + 4096 ≤ length old → ((j : ℕ) → 0 < j → j < k → block j old ≡ octets) → (j : ℕ) → 0 < j → j < k + 1 → block j new ≡ octets
 blocks_more k octets old new is whole room so_far j some low =
     let fits : 4096 * k + length octets ≤ length old = omega (arith, whole, room) in
     ap (block j) is
@@ -151,8 +157,11 @@ shut_gate x octets s whole zero is =
     ap (λ (n : ℕ). eqb n 1) (ap (λ (b : List ℕ). get_or b 0 0) is ∙ All-get_or IsZero octets 0 0 (omega (arith, whole)) zero)
 
 -- the volume, once each block is written
-pub stands_formatted : (segments blocks : ℕ) (octets super old new label : List ℕ) → length old ≡ 4096 * home_place segments blocks → length octets ≡ 4096 → All IsZero octets → length super ≡ 4096 → IsSuperblock super (4096 * home_place segments blocks) → number_at 12 4 super ≡ blocks → number_at 16 4 super ≡ segments → part 20 128 super ≡ label
-    → ((k : ℕ) → 0 < k → k < home_place segments blocks → block k old ≡ octets) → new ≡ overwritten 0 super old → StandsFor new label (zeroed blocks)
+pub stands_formatted : (segments blocks : ℕ) (octets super old new label : List ℕ) → length old ≡ 4096 * home_place segments blocks
+    → length octets ≡ 4096 → All IsZero octets → length super ≡ 4096 → IsSuperblock super (4096 * home_place segments blocks)
+    → number_at 12 4 super ≡ blocks → number_at 16 4 super ≡ segments → part 20 128 super ≡ label
+    → ((k : ℕ) → 0 < k → k < home_place segments blocks → block k old ≡ octets) → new ≡ overwritten 0 super old
+    → StandsFor new label (zeroed blocks)
 stands_formatted segments blocks octets super old new label size whole zero super_size valid blocks_is segments_is label_is written is =
     subst (λ (x : List ℕ). StandsFor x label (zeroed blocks)) (sym is)
     (subst (λ (l : List ℕ). StandsFor image l (zeroed blocks)) (ap (λ (b : List ℕ). part 20 128 b) first ∙ label_is)
@@ -168,13 +177,15 @@ stands_formatted segments blocks octets super old new label size whole zero supe
     first = block-overwritten 0 super old super_size fits
 
     rest : (k : ℕ) → 0 < k → k < home_place segments blocks → block k image ≡ octets
-    rest k some low = (overwritten_same 0 super old (omega (arith, super_size)) fits).same k (λ e. absurd (omega arith)) ∙ written k some low
+    rest k some low = (overwritten_same 0 super old (omega (arith, super_size)) fits).same k (λ e. absurd (omega arith))
+        ∙ written k some low
 
     image_size : length image ≡ 4096 * home_place segments blocks
     image_size = length-overwritten (4096 * 0) super old fits ∙ size
 
     has_superblock : IsSuperblock (block 0 image) (length image)
-    has_superblock = subst (λ (n : ℕ). IsSuperblock (block 0 image) n) (sym image_size) (subst (λ (b : List ℕ). IsSuperblock b (4096 * home_place segments blocks)) (sym first) valid)
+    has_superblock = subst (λ (n : ℕ). IsSuperblock (block 0 image) n) (sym image_size)
+        (subst (λ (b : List ℕ). IsSuperblock b (4096 * home_place segments blocks)) (sym first) valid)
 
     home_is : home_size image ≡ blocks
     home_is = ap (number_at 12 4) first ∙ blocks_is
@@ -183,7 +194,8 @@ stands_formatted segments blocks octets super old new label size whole zero supe
     count_is = ap (number_at 16 4) first ∙ segments_is
 
     none : open_segments image ≡ []
-    none = none_are_open image (λ s low. shut_gate image octets s whole zero (rest (gate_place s) (omega arith) (omega (arith, low, count_is))))
+    none = none_are_open image (λ s low. shut_gate image octets s whole zero
+        (rest (gate_place s) (omega arith) (omega (arith, low, count_is))))
 
     home_zeroed : home image ≡ zeroed blocks
     home_zeroed = ext_get_or [] (home image) (zeroed blocks) (length-home image ∙ home_is ∙ sym (length-replicate blocks zero_block)) each
@@ -192,10 +204,12 @@ stands_formatted segments blocks octets super old new label size whole zero supe
         each k within =
             let inside : k < home_size image = omega (arith, length-home image) in
             let low : k < blocks = omega (arith, home_is, inside) in
-            get_or-home image k inside ∙ rest (home_place (segment_count image) k) (omega arith) (omega (arith, low, count_is)) ∙ is_zero_block octets whole zero ∙ sym (get_or-replicate blocks k zero_block [] low)
+            get_or-home image k inside ∙ rest (home_place (segment_count image) k) (omega arith) (omega (arith, low, count_is))
+            ∙ is_zero_block octets whole zero ∙ sym (get_or-replicate blocks k zero_block [] low)
 
 -- its segments are closed
-pub none_formatted : (segments blocks : ℕ) (octets super old new : List ℕ) → length old ≡ 4096 * home_place segments blocks → length octets ≡ 4096 → All IsZero octets → length super ≡ 4096 → number_at 16 4 super ≡ segments
+pub none_formatted : (segments blocks : ℕ) (octets super old new : List ℕ) → length old ≡ 4096 * home_place segments blocks
+    → length octets ≡ 4096 → All IsZero octets → length super ≡ 4096 → number_at 16 4 super ≡ segments
     → ((k : ℕ) → 0 < k → k < home_place segments blocks → block k old ≡ octets) → new ≡ overwritten 0 super old → open_segments new ≡ []
 none_formatted segments blocks octets super old new size whole zero super_size segments_are written is =
     let fits : 4096 * 0 + length super ≤ length old = omega (arith, super_size, size) in
@@ -204,15 +218,18 @@ none_formatted segments blocks octets super old new size whole zero super_size s
     ap open_segments is
     ∙ none_are_open image (λ s low.
     shut_gate image octets s whole zero
-    ((overwritten_same 0 super old (omega (arith, super_size)) fits).same (gate_place s) (λ e. absurd (omega (arith, e))) ∙ written (gate_place s) (omega arith) (omega (arith, low, count))))
+    ((overwritten_same 0 super old (omega (arith, super_size)) fits).same (gate_place s) (λ e. absurd (omega (arith, e)))
+    ∙ written (gate_place s) (omega arith) (omega (arith, low, count))))
 
 -- how many they are
-pub counted_formatted : (segments : ℕ) (super old new : List ℕ) → 4096 ≤ length old → length super ≡ 4096 → number_at 16 4 super ≡ segments → new ≡ overwritten 0 super old → segment_count new ≡ segments
+pub counted_formatted : (segments : ℕ) (super old new : List ℕ) → 4096 ≤ length old → length super ≡ 4096 → number_at 16 4 super ≡ segments
+    → new ≡ overwritten 0 super old → segment_count new ≡ segments
 counted_formatted segments super old new size super_size segments_are is =
     ap segment_count is ∙ ap (number_at 16 4) (block-overwritten 0 super old super_size (omega (arith, super_size, size))) ∙ segments_are
 
 -- the format of the volume
-pub format_formatted : (format : ℕ) (super old new : List ℕ) → 4096 ≤ length old → length super ≡ 4096 → format_in super ≡ format → new ≡ overwritten 0 super old → format_number new ≡ format
+pub format_formatted : (format : ℕ) (super old new : List ℕ) → 4096 ≤ length old → length super ≡ 4096 → format_in super ≡ format
+    → new ≡ overwritten 0 super old → format_number new ≡ format
 format_formatted format super old new size super_size format_is is =
     ap format_number is ∙ ap format_in (block-overwritten 0 super old super_size (omega (arith, super_size, size))) ∙ format_is
 
@@ -220,7 +237,8 @@ format_formatted format super old new size super_size format_is is =
 gate_for : ℕ → ℕ
 gate_for format = cond (eqb format 2) 2 0
 
-pub told_by_gate : (format : ℕ) (super : List ℕ) → (format ≡ 1) ⊎ (format ≡ 2) → get_or super 148 0 ≡ cond (eqb format 2) 2 0 → format_in super ≡ format
+pub told_by_gate : (format : ℕ) (super : List ℕ) → (format ≡ 1) ⊎ (format ≡ 2) → get_or super 148 0 ≡ cond (eqb format 2) 2 0
+    → format_in super ≡ format
 unfolding gate_for
 told_by_gate format super (inl one) is = ap (λ (n : ℕ). cond (eqb n 2) 2 1) (is ∙ ap gate_for one) ∙ sym one
 told_by_gate format super (inr two) is = ap (λ (n : ℕ). cond (eqb n 2) 2 1) (is ∙ ap gate_for two) ∙ sym two

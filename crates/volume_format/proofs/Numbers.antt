@@ -1,5 +1,6 @@
 -- Numbers in a block, after writes.
-use Rattle.std.proofs.Common.{◌≡◌, ◌⊎◌, inl, ◌<◌, ◌≤◌, ℕ, zero, suc, ◌+◌, ◌-◌, ◌*◌, ◌^◌, List, [], ◌∷◌, ◌++◌, length, get_or, take, drop, map, replicate, refl, sym, ◌∙◌, ap, arith, append_assoc, length-append, length-take-le}
+use Rattle.std.proofs.Common.{◌≡◌, ◌⊎◌, inl, ◌<◌, ◌≤◌, ℕ, zero, suc, ◌+◌, ◌-◌, ◌*◌, ◌^◌, List, [], ◌∷◌, ◌++◌, length, get_or, take, drop}
+use Rattle.std.proofs.Common.{map, replicate, refl, sym, ◌∙◌, ap, arith, append_assoc, length-append, length-take-le}
 use Rattle.std.specs.List.{All, flat_map, range_with_len}
 use Rattle.std.proofs.lemmas.List.{drop_at, drop-drop, drop-replicate, take_at}
 use Rattle.std.proofs.lemmas.List.Elements.{All-head, All-tail}
@@ -15,20 +16,25 @@ unfolding number_at
 number_at-part p n xs = sym (little_from-take 0 n n (drop p xs) (omega arith))
 
 -- apart from what was written
-pub number_at_apart : (at : ℕ) (octets xs : List ℕ) → at + length octets ≤ length xs → (p n : ℕ) → (p + n ≤ at) ⊎ (at + length octets ≤ p) → number_at p n (overwritten at octets xs) ≡ number_at p n xs
+pub number_at_apart : (at : ℕ) (octets xs : List ℕ) → at + length octets ≤ length xs → (p n : ℕ) → (p + n ≤ at) ⊎ (at + length octets ≤ p)
+    → number_at p n (overwritten at octets xs) ≡ number_at p n xs
 number_at_apart at octets xs fits p n apart =
-    number_at-part p n (overwritten at octets xs) ∙ ap (λ (ys : List ℕ). little_number n ys) (part-overwritten_apart at octets xs fits p n apart) ∙ sym (number_at-part p n xs)
+    number_at-part p n (overwritten at octets xs)
+    ∙ ap (λ (ys : List ℕ). little_number n ys) (part-overwritten_apart at octets xs fits p n apart) ∙ sym (number_at-part p n xs)
 
 after : (at : ℕ) (octets xs : List ℕ) → at ≤ length xs → drop at (overwritten at octets xs) ≡ octets ++ drop (at + length octets) xs
 after at octets xs within = drop_at (take at xs) (octets ++ drop (at + length octets) xs) at (length-take-le at xs within)
 
 -- what was written
-pub number_at_written : (at n x : ℕ) (xs : List ℕ) → at ≤ length xs → x < 256 ^ n → number_at at n (overwritten at (little_bytes n x) xs) ≡ x
+pub number_at_written : (at n x : ℕ) (xs : List ℕ) → at ≤ length xs → x < 256 ^ n
+    → number_at at n (overwritten at (little_bytes n x) xs) ≡ x
 unfolding number_at
 number_at_written at n x xs within fits =
-    ap (λ (ys : List ℕ). little_number n ys) (after at (little_bytes n x) xs within) ∙ little_number-reads_back n x (drop (at + length (little_bytes n x)) xs) fits
+    ap (λ (ys : List ℕ). little_number n ys) (after at (little_bytes n x) xs within)
+    ∙ little_number-reads_back n x (drop (at + length (little_bytes n x)) xs) fits
 
-nth : (ns rest : List ℕ) (k : ℕ) → k < length ns → All (λ n. n < 256 ^ 4) ns → little_number 4 (drop (4 * k) (flat_map (λ x. little_bytes 4 x) ns ++ rest)) ≡ get_or ns k 0
+nth : (ns rest : List ℕ) (k : ℕ) → k < length ns → All (λ n. n < 256 ^ 4) ns
+    → little_number 4 (drop (4 * k) (flat_map (λ x. little_bytes 4 x) ns ++ rest)) ≡ get_or ns k 0
 nth [] rest k within fits = absurd (omega arith)
 nth (n ∷ ns) rest zero within fits =
     let nothing : 4 * 0 ≡ 0 = refl in
@@ -44,23 +50,29 @@ pub length-flat_map : (ns : List ℕ) → length (flat_map (λ x. little_bytes 4
 length-flat_map [] = refl
 length-flat_map (n ∷ ns) = omega (arith, length-append (little_bytes 4 n) (flat_map (λ x. little_bytes 4 x) ns), length-flat_map ns)
 
-number_at_nth : (ns xs : List ℕ) (k : ℕ) → 24 ≤ length xs → k < length ns → All (λ n. n < 256 ^ 4) ns → number_at (24 + 4 * k) 4 (overwritten 24 (flat_map (λ x. little_bytes 4 x) ns) xs) ≡ get_or ns k 0
+number_at_nth : (ns xs : List ℕ) (k : ℕ) → 24 ≤ length xs → k < length ns → All (λ n. n < 256 ^ 4) ns
+    → number_at (24 + 4 * k) 4 (overwritten 24 (flat_map (λ x. little_bytes 4 x) ns) xs) ≡ get_or ns k 0
 unfolding number_at
 number_at_nth ns xs k fits within small =
     let bytes = flat_map (λ x. little_bytes 4 x) ns in
-    ap (λ (l : List ℕ). little_number 4 l) (sym (drop-drop (4 * k) 24 (overwritten 24 bytes xs)) ∙ ap (λ (l : List ℕ). drop (4 * k) l) (after 24 bytes xs fits))
+    ap (λ (l : List ℕ). little_number 4 l) (sym (drop-drop (4 * k) 24 (overwritten 24 bytes xs))
+    ∙ ap (λ (l : List ℕ). drop (4 * k) l) (after 24 bytes xs fits))
     ∙ nth ns (drop (24 + length bytes) xs) k within small
 
 -- a list of numbers that was written
-pub listed_written : (ns xs : List ℕ) → 24 + 4 * length ns ≤ length xs → All (λ n. n < 256 ^ 4) ns → number_at 16 4 xs ≡ length ns → listed (overwritten 24 (flat_map (λ x. little_bytes 4 x) ns) xs) ≡ ns
+pub listed_written : (ns xs : List ℕ) → 24 + 4 * length ns ≤ length xs → All (λ n. n < 256 ^ 4) ns → number_at 16 4 xs ≡ length ns
+    → listed (overwritten 24 (flat_map (λ x. little_bytes 4 x) ns) xs) ≡ ns
 listed_written ns xs fits small count =
     let bytes = flat_map (λ x. little_bytes 4 x) ns in
     let ys = overwritten 24 bytes xs in
-    ap (λ (n : ℕ). map (λ i. number_at (24 + 4 * i) 4 ys) (range_with_len 0 n)) (number_at_apart 24 bytes xs (omega (arith, length-flat_map ns)) 16 4 (inl (omega arith)) ∙ count)
-    ∙ sym (fill_by_all (λ i. number_at (24 + 4 * i) 4 ys) ns (length ns) 0 refl (λ k within. sym (number_at_nth ns xs k (omega arith) within small)))
+    ap (λ (n : ℕ). map (λ i. number_at (24 + 4 * i) 4 ys) (range_with_len 0 n))
+    (number_at_apart 24 bytes xs (omega (arith, length-flat_map ns)) 16 4 (inl (omega arith)) ∙ count)
+    ∙ sym (fill_by_all (λ i. number_at (24 + 4 * i) 4 ys) ns (length ns) 0 refl
+    (λ k within. sym (number_at_nth ns xs k (omega arith) within small)))
 
 -- a descriptor as it is written, over whatever stood there
-module _ (old : List ℕ) (number last : ℕ) (ns : List ℕ) (whole : length old ≡ 4096) (few : length ns ≤ 512) (small_number : number < 256 ^ 8) (small_last : last < 256 ^ 8) (small : All (λ n. n < 256 ^ 4) ns) where
+module _ (old : List ℕ) (number last : ℕ) (ns : List ℕ) (whole : length old ≡ 4096) (few : length ns ≤ 512)
+    (small_number : number < 256 ^ 8) (small_last : last < 256 ^ 8) (small : All (λ n. n < 256 ^ 4) ns) where
   abbrev first : List ℕ
   first = overwritten 0 (little_bytes 8 number) old
 
@@ -126,17 +138,21 @@ module _ (old : List ℕ) (number last : ℕ) (ns : List ℕ) (whole : length ol
   described_listed = listed_written ns fourth (omega (arith, size4, few)) small count4
 
 -- a write right behind a front, into zeros
-behind : (at : ℕ) (front octets image : List ℕ) (m : ℕ) → image ≡ front ++ replicate m 0 → length front ≡ at → overwritten at octets image ≡ front ++ octets ++ replicate (m - length octets) 0
+behind : (at : ℕ) (front octets image : List ℕ) (m : ℕ) → image ≡ front ++ replicate m 0 → length front ≡ at
+    → overwritten at octets image ≡ front ++ octets ++ replicate (m - length octets) 0
 behind at front octets image m is size =
     let rest : drop (at + length octets) (front ++ replicate m 0) ≡ replicate (m - length octets) 0 =
-    sym (drop-drop (length octets) at (front ++ replicate m 0)) ∙ ap (λ (l : List ℕ). drop (length octets) l) (drop_at front (replicate m 0) at size) ∙ drop-replicate (length octets) m 0 in
+    sym (drop-drop (length octets) at (front ++ replicate m 0))
+    ∙ ap (λ (l : List ℕ). drop (length octets) l) (drop_at front (replicate m 0) at size) ∙ drop-replicate (length octets) m 0 in
     ap (λ (l : List ℕ). overwritten at octets l) is
     ∙ ap (λ (l : List ℕ). l ++ (octets ++ drop (at + length octets) (front ++ replicate m 0))) (take_at front (replicate m 0) at size)
     ∙ ap (λ (l : List ℕ). front ++ (octets ++ l)) rest
     ∙ sym (append_assoc front octets (replicate (m - length octets) 0))
 
 -- a descriptor that is written into zeros is the whole block
-pub described_whole : (old : List ℕ) (number last : ℕ) (ns : List ℕ) (whole : length old ≡ 4096) (few : length ns ≤ 512) (small_number : number < 256 ^ 8) (small_last : last < 256 ^ 8) (small : All (λ n. n < 256 ^ 4) ns) → old ≡ replicate (length old) 0 → described old number last ns whole few small_number small_last small ≡ descriptor_of number last ns
+pub described_whole : (old : List ℕ) (number last : ℕ) (ns : List ℕ) (whole : length old ≡ 4096) (few : length ns ≤ 512)
+    (small_number : number < 256 ^ 8) (small_last : last < 256 ^ 8) (small : All (λ n. n < 256 ^ 4) ns) → old ≡ replicate (length old) 0
+    → described old number last ns whole few small_number small_last small ≡ descriptor_of number last ns
 described_whole old number last ns whole few small_number small_last small clear =
     let a = little_bytes 8 number in
     let b = little_bytes 8 last in
@@ -147,7 +163,10 @@ described_whole old number last ns whole few small_number small_last small clear
     let one = behind 0 [] a old m clear refl in
     let two = behind 8 a b (overwritten 0 a old) (m - length a) one refl in
     let three = behind 16 (a ++ b) c (overwritten 8 b (overwritten 0 a old)) (m - length a - length b) two refl in
-    let four = behind 20 (a ++ b ++ c) d (overwritten 16 c (overwritten 8 b (overwritten 0 a old))) (m - length a - length b - length c) three refl in
-    let five = behind 24 (a ++ b ++ c ++ d) e (overwritten 20 d (overwritten 16 c (overwritten 8 b (overwritten 0 a old)))) (m - length a - length b - length c - length d) four refl in
-    let left : m - length a - length b - length c - length d - length e ≡ 4096 - (24 + 4 * length ns) = omega (arith, whole, length-flat_map ns) in
+    let four = behind 20 (a ++ b ++ c) d (overwritten 16 c (overwritten 8 b (overwritten 0 a old)))
+    (m - length a - length b - length c) three refl in
+    let five = behind 24 (a ++ b ++ c ++ d) e (overwritten 20 d (overwritten 16 c (overwritten 8 b (overwritten 0 a old))))
+    (m - length a - length b - length c - length d) four refl in
+    let left : m - length a - length b - length c - length d - length e ≡ 4096 - (24 + 4 * length ns) =
+    omega (arith, whole, length-flat_map ns) in
     five ∙ ap (λ (k : ℕ). a ++ b ++ c ++ d ++ e ++ replicate k 0) left

@@ -57,7 +57,8 @@ pub fn read_descriptor(descriptor: &[u8], blocks: u64, numbers: &mut Vec<u32>) -
     requires descriptor { length descriptor.now ≡ 4096 }
     requires room { length numbers.old.items ≡ 512 }
     ensures room { length numbers.new.items ≡ 512 }
-    ensures some { IfSome result (λ count. IsDescriptor blocks descriptor.now × (number_at 16 4 descriptor.now ≡ count) × (take count numbers.new.items ≡ listed descriptor.now)) }
+    ensures some { IfSome result (λ count. IsDescriptor blocks descriptor.now × (number_at 16 4 descriptor.now ≡ count)
+        × (take count numbers.new.items ≡ listed descriptor.now)) }
     ensures none { IsNone result → IsDescriptor blocks descriptor.now → ⊥ }
 {
     let count = number32(descriptor, 16) as usize;

@@ -105,7 +105,8 @@ fn write_blocks<D: Disk>(disk: &mut D, end: u64, octets: &[u8]) -> Result<(), Fo
     requires low { end < 2 ^ 40 }
     requires whole { length octets.now ≡ 4096 }
     requires size { (D.device disk.old).size ≡ 4096 * end }
-    ensures blocks { IsTrue (D.device disk.old).tells → OnOk result ((k : ℕ) → 0 < k → k < end → block k (D.device disk.new).content ≡ octets.now) }
+    ensures blocks { IsTrue (D.device disk.old).tells
+        → OnOk result ((k : ℕ) → 0 < k → k < end → block k (D.device disk.new).content ≡ octets.now) }
     ensures time { Elapses (D.device disk.old) (D.device disk.new) }
     ensures failures { CountsFaults result (D.device disk.old) (D.device disk.new) }
 {
@@ -117,7 +118,8 @@ fn write_blocks<D: Disk>(disk: &mut D, end: u64, octets: &[u8]) -> Result<(), Fo
 
 fn write_part<D: Disk>(disk: &mut D, at: u64, from: &[u8]) -> Result<(), FormatError>
     requires { at + length from.now ≤ (D.device disk.old).size }
-    ensures content { IsTrue (D.device disk.old).tells → OnOk result ((D.device disk.new).content ≡ overwritten at from.now (D.device disk.old).content) }
+    ensures content { IsTrue (D.device disk.old).tells
+        → OnOk result ((D.device disk.new).content ≡ overwritten at from.now (D.device disk.old).content) }
     ensures time { Elapses (D.device disk.old) (D.device disk.new) }
     ensures failures { CountsFaults result (D.device disk.old) (D.device disk.new) }
 {

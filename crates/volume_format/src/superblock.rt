@@ -94,7 +94,8 @@ pub struct Sizes {
 /// The sizes that a superblock states. `None` if it is not valid for a device of `size` octets.
 pub fn read_superblock(octets: &[u8], size: u64) -> Option<Sizes>
     requires { length octets.now ≡ 4096 }
-    ensures some { IfSome result (λ sizes. IsSuperblock octets.now size × (number_at 12 4 octets.now ≡ sizes.blocks) × (number_at 16 4 octets.now ≡ sizes.segments)) }
+    ensures some { IfSome result (λ sizes. IsSuperblock octets.now size × (number_at 12 4 octets.now ≡ sizes.blocks)
+        × (number_at 16 4 octets.now ≡ sizes.segments)) }
     ensures none { IsNone result → IsSuperblock octets.now size → ⊥ }
 {
     let blocks = u64::from(number32(octets, 12));

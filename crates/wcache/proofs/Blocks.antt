@@ -1,6 +1,9 @@
 -- The runs of a block and of the blocks behind it, and calls one after the other.
-use Rattle.std.proofs.Common.{◌≡◌, ◌≢◌, ◌⊎◌, inl, inr, ◌<◌, ◌≤◌, ℕ, zero, suc, ◌+◌, ◌-◌, ◌*◌, ◌%◌, if◌then◌else◌, List, [], ◌∷◌, ◌++◌, length, get_or, map, take, drop, Option, Some, None, refl, sym, ◌∙◌, ap, subst, arith, length-take, length-drop, Result, Ok, Err, IsErr}
-use Rattle.std.proofs.lemmas.List.{length-map, ext_get_or, drop-drop, get_or-drop, get_or-take, get_or_append_left, get_or-append_right, get_or_past, take-append-drop, map-append}
+use Rattle.std.proofs.Common.{◌≡◌, ◌≢◌, ◌⊎◌, inl, inr, ◌<◌, ◌≤◌, ℕ, zero, suc, ◌+◌, ◌-◌, ◌*◌, ◌%◌, if◌then◌else◌, List, [], ◌∷◌, ◌++◌}
+use Rattle.std.proofs.Common.{length, get_or, map, take, drop, Option, Some, None, refl, sym, ◌∙◌, ap, subst, arith, length-take}
+use Rattle.std.proofs.Common.{length-drop, Result, Ok, Err, IsErr}
+use Rattle.std.proofs.lemmas.List.{length-map, ext_get_or, drop-drop, get_or-drop, get_or-take, get_or_append_left, get_or-append_right}
+use Rattle.std.proofs.lemmas.List.{get_or_past, take-append-drop, map-append}
 use Rattle.std.proofs.lemmas.List.FromFn.{length-map-range_with_len, get_or-map-range_with_len}
 use Rattle.std.proofs.lemmas.Bool.{cases_lt, ne_eqb}
 use Rattle.disk.specs.Calls.{Call, Does, Makes, Writes}
@@ -25,7 +28,8 @@ places_all taken n none k = choose (cases_lt k n)
   where
     choose : (k < n) ⊎ (n ≤ k) → get_or (places taken n) k None ≡ taken k
     choose (inl within) = places_at taken n k within
-    choose (inr past) = get_or_past (places taken n) k None (let size = length-places taken n in omega (arith, size, past)) ∙ sym (none k past)
+    choose (inr past) = get_or_past (places taken n) k None (let size = length-places taken n in omega (arith, size, past))
+        ∙ sym (none k past)
 
 -- a run in front
 pub run_first : (ps : List ℕ) (at : ℕ) (rest : List (Option ℕ)) → 1 ≤ length ps → ((i : ℕ) → 0 < i → i < length ps → (at + i) % 4096 ≢ 0)
@@ -37,7 +41,8 @@ run_first (o ∷ os) at rest some inside ends =
     runs_front os o at rest (λ i low high. inside i low (omega (arith, high))) (later ends)
     ∙ ap (λ (k : ℕ). record { at = at; octets = o ∷ os } ∷ runs_from k rest) same
   where
-    later : (get_or rest 0 None ≡ None) ⊎ ((at + suc (length os)) % 4096 ≡ 0) → (get_or rest 0 None ≡ None) ⊎ ((at + length os + 1) % 4096 ≡ 0)
+    later : (get_or rest 0 None ≡ None) ⊎ ((at + suc (length os)) % 4096 ≡ 0)
+        → (get_or rest 0 None ≡ None) ⊎ ((at + length os + 1) % 4096 ≡ 0)
     later (inl none) = inl none
     later (inr begins) =
         let same : at + length os + 1 ≡ at + suc (length os) = omega arith in
@@ -47,8 +52,10 @@ cell_none : (flags octets : List ℕ) (p : ℕ) → (get_or flags p 0 ≡ 1 → 
 cell_none flags octets p other = ap (λ b. if b then Some (get_or octets p 0) else None) (ne_eqb (get_or flags p 0) 1 other)
 
 -- the run from a place with a flag up to the first without one
-pub next_run : (flags : List ℕ) (from first past : ℕ) → ((i : ℕ) → get_or flags i 0 ≤ 1) → from ≤ first → get_or flags first 0 ≡ 1 → ((k : ℕ) → from ≤ k → k < first → get_or flags k 0 ≡ 1 → ⊥)
-    → first ≤ past → past ≤ 4096 → first < 4096 → ((k : ℕ) → first ≤ k → k < past → get_or flags k 0 ≡ 0 → ⊥) → (past ≡ 4096) ⊎ (get_or flags past 0 ≡ 0) → IsNextRun flags from first past
+pub next_run : (flags : List ℕ) (from first past : ℕ) → ((i : ℕ) → get_or flags i 0 ≤ 1) → from ≤ first → get_or flags first 0 ≡ 1
+    → ((k : ℕ) → from ≤ k → k < first → get_or flags k 0 ≡ 1 → ⊥)
+    → first ≤ past → past ≤ 4096 → first < 4096 → ((k : ℕ) → first ≤ k → k < past → get_or flags k 0 ≡ 0 → ⊥)
+    → (past ≡ 4096) ⊎ (get_or flags past 0 ≡ 0) → IsNextRun flags from first past
 next_run flags from first past bits low found none over high within each ends = record {
   low = low;
   some = apart ends;
@@ -69,7 +76,8 @@ next_run flags from first past bits low found none over high within each ends = 
     ]
 
 -- one run of a block
-module _ (flags octets : List ℕ) (start from : ℕ) (whole : length flags ≡ 4096) (whole_octets : length octets ≡ 4096) (aligned : start % 4096 ≡ 0) (within : from ≤ 4096) where
+module _ (flags octets : List ℕ) (start from : ℕ) (whole : length flags ≡ 4096) (whole_octets : length octets ≡ 4096)
+    (aligned : start % 4096 ≡ 0) (within : from ≤ 4096) where
   abbrev cs : List (Option ℕ)
   cs = places (cell flags octets) (length flags)
 
@@ -80,17 +88,22 @@ module _ (flags octets : List ℕ) (start from : ℕ) (whole : length flags ≡ 
   at_place k low = places_at (cell flags octets) (length flags) k (omega (arith, low, whole))
 
   -- no flag from one place up to another
-  pub skipped : (to : ℕ) → from ≤ to → to ≤ 4096 → ((k : ℕ) → from ≤ k → k < to → get_or flags k 0 ≡ 1 → ⊥) → runs_from (start + from) (drop from cs) ≡ runs_from (start + to) (drop to cs)
+  pub skipped : (to : ℕ) → from ≤ to → to ≤ 4096 → ((k : ℕ) → from ≤ k → k < to → get_or flags k 0 ≡ 1 → ⊥)
+      → runs_from (start + from) (drop from cs) ≡ runs_from (start + to) (drop to cs)
   skipped to low high none =
       let place : start + from + (to - from) ≡ start + to = omega (arith, low) in
       let behind : from + (to - from) ≡ to = omega (arith, low) in
-      runs_skip (to - from) (start + from) (drop from cs) (λ k below. get_or-drop from cs k None ∙ at_place (from + k) (omega (arith, below, high)) ∙ cell_none flags octets (from + k) (none (from + k) (omega arith) (omega (arith, below))))
+      runs_skip (to - from) (start + from) (drop from cs) (λ k below. get_or-drop from cs k None
+      ∙ at_place (from + k) (omega (arith, below, high))
+      ∙ cell_none flags octets (from + k) (none (from + k) (omega arith) (omega (arith, below))))
       ∙ ap (λ (n : ℕ). runs_from n (drop (to - from) (drop from cs))) place
       ∙ ap (λ (l : List (Option ℕ)). runs_from (start + to) l) (drop-drop (to - from) from cs ∙ ap (λ (n : ℕ). drop n cs) behind)
 
-  pub one_run : (first past : ℕ) → from ≤ first → first < past → past ≤ 4096 → ((k : ℕ) → from ≤ k → k < first → get_or flags k 0 ≡ 1 → ⊥) → ((k : ℕ) → first ≤ k → k < past → get_or flags k 0 ≡ 1)
+  pub one_run : (first past : ℕ) → from ≤ first → first < past → past ≤ 4096 → ((k : ℕ) → from ≤ k → k < first → get_or flags k 0 ≡ 1 → ⊥)
+      → ((k : ℕ) → first ≤ k → k < past → get_or flags k 0 ≡ 1)
       → (past ≡ 4096) ⊎ (get_or flags past 0 ≡ 0)
-      → runs_from (start + from) (drop from cs) ≡ record { at = start + first; octets = part first (past - first) octets } ∷ runs_from (start + past) (drop past cs)
+      → runs_from (start + from) (drop from cs) ≡ record { at = start + first; octets = part first (past - first) octets } ∷ runs_from
+      (start + past) (drop past cs)
   one_run first past low some high none each ends =
       let behind : start + first + length (part first (past - first) octets) ≡ start + past = omega (arith, piece_size, some) in
       skipped first low (omega (arith, some, high)) none
@@ -104,7 +117,16 @@ module _ (flags octets : List ℕ) (start from : ℕ) (whole : length flags ≡ 
       front : take (past - first) (drop first cs) ≡ map (λ (o : ℕ). Some o) (part first (past - first) octets)
       front =
           ext_get_or None (take (past - first) (drop first cs)) (map (λ (o : ℕ). Some o) (part first (past - first) octets))
-          (omega (arith, length-take (past - first) (drop first cs), length-drop first cs, size, length-map (part first (past - first) octets) (λ (o : ℕ). Some o), piece_size, some, high))
+          (omega (
+            arith,
+            length-take (past - first) (drop first cs),
+            length-drop first cs,
+            size,
+            length-map (part first (past - first) octets) (λ (o : ℕ). Some o),
+            piece_size,
+            some,
+            high,
+          ))
           (λ k below.
           let k_low : k < past - first = omega (arith, below, length-take (past - first) (drop first cs)) in
           get_or-take (past - first) (drop first cs) k None k_low
@@ -124,31 +146,38 @@ module _ (flags octets : List ℕ) (start from : ℕ) (whole : length flags ≡ 
           let place : first + (past - first) ≡ past = omega (arith, some) in
           sym (take-append-drop (past - first) (drop first cs))
           ∙ ap (λ (l : List (Option ℕ)). l ++ drop (past - first) (drop first cs)) front
-          ∙ ap (λ (l : List (Option ℕ)). map (λ (o : ℕ). Some o) (part first (past - first) octets) ++ l) (drop-drop (past - first) first cs ∙ ap (λ (n : ℕ). drop n cs) place)
+          ∙ ap (λ (l : List (Option ℕ)). map (λ (o : ℕ). Some o) (part first (past - first) octets) ++ l) (drop-drop (past - first) first cs
+          ∙ ap (λ (n : ℕ). drop n cs) place)
 
       inside : (i : ℕ) → 0 < i → i < length (part first (past - first) octets) → (start + first + i) % 4096 ≢ 0
       inside i one below is = omega (arith, one, below, is, aligned, piece_size, high)
 
-      finish : (past ≡ 4096) ⊎ (get_or flags past 0 ≡ 0) → (get_or (drop past cs) 0 None ≡ None) ⊎ ((start + first + length (part first (past - first) octets)) % 4096 ≡ 0)
+      finish : (past ≡ 4096) ⊎ (get_or flags past 0 ≡ 0)
+          → (get_or (drop past cs) 0 None ≡ None) ⊎ ((start + first + length (part first (past - first) octets)) % 4096 ≡ 0)
       finish (inl at_end) = inr (omega (arith, at_end, aligned, piece_size, some))
       finish (inr zero_flag) = inl (behind (cases_lt past 4096))
         where
           behind : (past < 4096) ⊎ (4096 ≤ past) → get_or (drop past cs) 0 None ≡ None
           behind (inl below) =
               let place : past + 0 ≡ past = omega arith in
-              get_or-drop past cs 0 None ∙ ap (λ (n : ℕ). get_or cs n None) place ∙ at_place past below ∙ cell_none flags octets past (λ is. omega (arith, is, zero_flag))
+              get_or-drop past cs 0 None ∙ ap (λ (n : ℕ). get_or cs n None) place ∙ at_place past below
+              ∙ cell_none flags octets past (λ is. omega (arith, is, zero_flag))
           behind (inr above) = get_or_past (drop past cs) 0 None (omega (arith, length-drop past cs, size, above))
 
 -- the runs of a block and those behind it
-pub block_split : (taken : ℕ → Option ℕ) (n block : ℕ) (xs : List (Option ℕ)) → length xs ≡ 4096 → 4096 * block + 4096 ≤ n → ((i : ℕ) → i < 4096 → taken (4096 * block + i) ≡ get_or xs i None)
-    → runs_from (4096 * block) (drop (4096 * block) (places taken n)) ≡ runs_from (4096 * block) xs ++ runs_from (4096 * (block + 1)) (drop (4096 * (block + 1)) (places taken n))
+pub block_split : (taken : ℕ → Option ℕ) (n block : ℕ) (xs : List (Option ℕ)) → length xs ≡ 4096 → 4096 * block + 4096 ≤ n
+    → ((i : ℕ) → i < 4096 → taken (4096 * block + i) ≡ get_or xs i None)
+    → runs_from (4096 * block) (drop (4096 * block) (places taken n)) ≡ runs_from (4096 * block) xs ++ runs_from (4096 * (block + 1))
+    (drop (4096 * (block + 1)) (places taken n))
 block_split taken n block xs whole fits each =
     let behind : 4096 * block + length xs ≡ 4096 * (block + 1) = omega (arith, whole) in
-    runs_same (drop (4096 * block) (places taken n)) (xs ++ drop (4096 * (block + 1)) (places taken n)) (4096 * block) (λ k. same k (cases_lt k 4096))
+    runs_same (drop (4096 * block) (places taken n)) (xs ++ drop (4096 * (block + 1)) (places taken n)) (4096 * block)
+    (λ k. same k (cases_lt k 4096))
     ∙ runs_split xs (drop (4096 * (block + 1)) (places taken n)) (4096 * block) (omega (arith, whole))
     ∙ ap (λ (m : ℕ). runs_from (4096 * block) xs ++ runs_from m (drop (4096 * (block + 1)) (places taken n))) behind
   where
-    same : (k : ℕ) → (k < 4096) ⊎ (4096 ≤ k) → get_or (drop (4096 * block) (places taken n)) k None ≡ get_or (xs ++ drop (4096 * (block + 1)) (places taken n)) k None
+    same : (k : ℕ) → (k < 4096) ⊎ (4096 ≤ k)
+        → get_or (drop (4096 * block) (places taken n)) k None ≡ get_or (xs ++ drop (4096 * (block + 1)) (places taken n)) k None
     same k (inl low) =
         get_or-drop (4096 * block) (places taken n) k None ∙ places_at taken n (4096 * block + k) (omega (arith, low, fits)) ∙ each k low
         ∙ sym (get_or_append_left xs (drop (4096 * (block + 1)) (places taken n)) None k (omega (arith, low, whole)))
@@ -160,26 +189,31 @@ block_split taken n block xs whole fits each =
         ∙ sym (get_or-append_right xs (drop (4096 * (block + 1)) (places taken n)) 4096 k None whole high)
 
 pub block_skipped : (taken : ℕ → Option ℕ) (n block : ℕ) → 4096 * block + 4096 ≤ n → ((i : ℕ) → i < 4096 → taken (4096 * block + i) ≡ None)
-    → runs_from (4096 * block) (drop (4096 * block) (places taken n)) ≡ runs_from (4096 * (block + 1)) (drop (4096 * (block + 1)) (places taken n))
+    → runs_from (4096 * block) (drop (4096 * block) (places taken n)) ≡ runs_from (4096 * (block + 1))
+    (drop (4096 * (block + 1)) (places taken n))
 block_skipped taken n block fits none =
     let place : 4096 * block + 4096 ≡ 4096 * (block + 1) = omega arith in
-    runs_skip 4096 (4096 * block) (drop (4096 * block) (places taken n)) (λ k low. get_or-drop (4096 * block) (places taken n) k None ∙ places_at taken n (4096 * block + k) (omega (arith, low, fits)) ∙ none k low)
+    runs_skip 4096 (4096 * block) (drop (4096 * block) (places taken n)) (λ k low. get_or-drop (4096 * block) (places taken n) k None
+    ∙ places_at taken n (4096 * block + k) (omega (arith, low, fits)) ∙ none k low)
     ∙ ap (λ (l : List (Option ℕ)). runs_from (4096 * block + 4096) l) (drop-drop 4096 (4096 * block) (places taken n))
     ∙ ap (λ (m : ℕ). runs_from m (drop m (places taken n))) place
 
 -- ---- calls one after the other
 
 module _ {D : Type 0} (device : D → Device) where
-  pub makes_append : (front back : List Call) (result : Result (Unit {0}) DiskError) (old mid last : D) → Makes device front (Ok tt) old mid → Makes device back result mid last → Makes device (front ++ back) result old last
+  pub makes_append : (front back : List Call) (result : Result (Unit {0}) DiskError) (old mid last : D) → Makes device front (Ok tt) old mid
+      → Makes device back result mid last → Makes device (front ++ back) result old last
   makes_append [] back result old mid last none more = subst (λ (d : D). Makes device back result d last) none.1 more
-  makes_append (call ∷ front) back result old mid last (inl did) more = inl (did.0, (did.1.0, makes_append front back result did.0 mid last did.1.1 more))
+  makes_append (call ∷ front) back result old mid last (inl did) more =
+      inl (did.0, (did.1.0, makes_append front back result did.0 mid last did.1.1 more))
   makes_append (call ∷ front) back result old mid last (inr refused) more = absurd (no_err refused.0)
     where
       no_err : IsErr {T = Unit {0}} {E = DiskError} (Ok tt) → ⊥
       no_err is = cc
 
   -- a refusal ends them
-  pub makes_cut : (front back : List Call) (e : DiskError) (old last : D) → Makes device front (Err e) old last → Makes device (front ++ back) (Err e) old last
+  pub makes_cut : (front back : List Call) (e : DiskError) (old last : D) → Makes device front (Err e) old last
+      → Makes device (front ++ back) (Err e) old last
   makes_cut [] back e old last none = absurd (no_ok e (Err e) refl none.0)
     where
       no_ok : (e : DiskError) (r : Result (Unit {0}) DiskError) → r ≡ Err e → r ≡ Ok tt → ⊥
@@ -187,16 +221,19 @@ module _ {D : Type 0} (device : D → Device) where
   makes_cut (call ∷ front) back e old last (inl did) = inl (did.0, (did.1.0, makes_cut front back e did.0 last did.1.1))
   makes_cut (call ∷ front) back e old last (inr refused) = inr refused
 
-  pub makes_one : (call : Call) (result : Result (Unit {0}) DiskError) (old new : D) → Does call result (device old) (device new) → Makes device (call ∷ []) result old new
+  pub makes_one : (call : Call) (result : Result (Unit {0}) DiskError) (old new : D) → Does call result (device old) (device new)
+      → Makes device (call ∷ []) result old new
   makes_one call (Ok x) old new did = inl (new, (did, (refl, refl)))
   makes_one call (Err e) old new did = inr (refl, did)
 
   -- whatever the rest of the calls do, all of them do
   pub record IsGivingTo (all rest : List Call) (first now : D) : Type 0 where
-    pub continues : (result : Result (Unit {0}) DiskError) (last : D) → Makes device rest result now last → Makes device all result first last
+    pub continues : (result : Result (Unit {0}) DiskError) (last : D) → Makes device rest result now last
+        → Makes device all result first last
     pub size : (device now).size ≡ (device first).size
 
-  pub giving_starts : (start : ℕ) (cs : List (Option ℕ)) (d : D) → IsGivingTo (writes_of (runs_from start cs)) (writes_of (runs_from (start + 0) (drop 0 cs))) d d
+  pub giving_starts : (start : ℕ) (cs : List (Option ℕ)) (d : D)
+      → IsGivingTo (writes_of (runs_from start cs)) (writes_of (runs_from (start + 0) (drop 0 cs))) d d
   giving_starts start cs d = record {
     continues = λ result last made.
         let same : start + 0 ≡ start = omega arith in
@@ -205,31 +242,41 @@ module _ {D : Type 0} (device : D → Device) where
   }
 
   -- one more good write
-  pub giving_more : (all : List Call) (run : Run) (runs : List Run) (first now next : D) → IsGivingTo all (writes_of (run ∷ runs)) first now → Writes run.at run.octets (Ok tt) (device now) (device next) → IsGivingTo all (writes_of runs) first next
+  pub giving_more : (all : List Call) (run : Run) (runs : List Run) (first now next : D) → IsGivingTo all (writes_of (run ∷ runs)) first now
+      → Writes run.at run.octets (Ok tt) (device now) (device next) → IsGivingTo all (writes_of runs) first next
   giving_more all run runs first now next so_far did = record {
     continues = λ result last made. so_far.continues result last (inl (next, (did, made)));
     size = did.time.size ∙ so_far.size;
   }
 
-  pub giving_refused : (all : List Call) (run : Run) (runs : List Run) (first now next : D) (e : DiskError) → IsGivingTo all (writes_of (run ∷ runs)) first now → Writes run.at run.octets (Err e) (device now) (device next) → Makes device all (Err e) first next
+  pub giving_refused : (all : List Call) (run : Run) (runs : List Run) (first now next : D) (e : DiskError)
+      → IsGivingTo all (writes_of (run ∷ runs)) first now → Writes run.at run.octets (Err e) (device now) (device next)
+      → Makes device all (Err e) first next
   giving_refused all run runs first now next e so_far did = so_far.continues (Err e) next (inr (refl, did))
 
-  pub giving_done : (all : List Call) (runs : List Run) (first now : D) → runs ≡ [] → IsGivingTo all (writes_of runs) first now → Makes device all (Ok tt) first now
-  giving_done all runs first now none so_far = so_far.continues (Ok tt) now (subst (λ (rs : List Run). Makes device (writes_of rs) (Ok tt) now now) (sym none) (refl, refl))
+  pub giving_done : (all : List Call) (runs : List Run) (first now : D) → runs ≡ [] → IsGivingTo all (writes_of runs) first now
+      → Makes device all (Ok tt) first now
+  giving_done all runs first now none so_far =
+      so_far.continues (Ok tt) now (subst (λ (rs : List Run). Makes device (writes_of rs) (Ok tt) now now) (sym none) (refl, refl))
 
   writes_append : (xs ys : List Run) → writes_of (xs ++ ys) ≡ writes_of xs ++ writes_of ys
   writes_append xs ys = map-append (λ (run : Run). Call.Write run.at run.octets) xs ys
 
   -- the runs of one block more
-  pub giving_block : (all : List Call) (xs ys : List Run) (first now next : D) → IsGivingTo all (writes_of (xs ++ ys)) first now → (device next).size ≡ (device now).size → Makes device (writes_of xs) (Ok tt) now next → IsGivingTo all (writes_of ys) first next
+  pub giving_block : (all : List Call) (xs ys : List Run) (first now next : D) → IsGivingTo all (writes_of (xs ++ ys)) first now
+      → (device next).size ≡ (device now).size → Makes device (writes_of xs) (Ok tt) now next → IsGivingTo all (writes_of ys) first next
   giving_block all xs ys first now next so_far size did = record {
-    continues = λ result last made. so_far.continues result last (subst (λ (calls : List Call). Makes device calls result now last) (sym (writes_append xs ys)) (makes_append (writes_of xs) (writes_of ys) result now next last did made));
+    continues = λ result last made. so_far.continues result last
+        (subst (λ (calls : List Call). Makes device calls result now last) (sym (writes_append xs ys))
+        (makes_append (writes_of xs) (writes_of ys) result now next last did made));
     size = size ∙ so_far.size;
   }
 
-  pub giving_block_refused : (all : List Call) (xs ys : List Run) (first now next : D) (e : DiskError) → IsGivingTo all (writes_of (xs ++ ys)) first now → Makes device (writes_of xs) (Err e) now next → Makes device all (Err e) first next
+  pub giving_block_refused : (all : List Call) (xs ys : List Run) (first now next : D) (e : DiskError)
+      → IsGivingTo all (writes_of (xs ++ ys)) first now → Makes device (writes_of xs) (Err e) now next → Makes device all (Err e) first next
   giving_block_refused all xs ys first now next e so_far did =
-      so_far.continues (Err e) next (subst (λ (calls : List Call). Makes device calls (Err e) now next) (sym (writes_append xs ys)) (makes_cut (writes_of xs) (writes_of ys) e now next did))
+      so_far.continues (Err e) next (subst (λ (calls : List Call). Makes device calls (Err e) now next) (sym (writes_append xs ys))
+      (makes_cut (writes_of xs) (writes_of ys) e now next did))
 
 -- ---- a block of a table
 
@@ -238,13 +285,16 @@ module _ (taken : ℕ → Option ℕ) (n block : ℕ) (fits : 4096 * block + 409
   cells_of = take 4096 (drop (4096 * block) (places taken n))
 
   pub cells_size : length cells_of ≡ 4096
-  cells_size = let size = length-places taken n in omega (arith, length-take 4096 (drop (4096 * block) (places taken n)), length-drop (4096 * block) (places taken n), size, fits)
+  cells_size = let size = length-places taken n in
+      omega (arith, length-take 4096 (drop (4096 * block) (places taken n)), length-drop (4096 * block) (places taken n), size, fits)
 
   pub cells_at : (i : ℕ) → i < 4096 → taken (4096 * block + i) ≡ get_or cells_of i None
   cells_at i low =
-      sym (get_or-take 4096 (drop (4096 * block) (places taken n)) i None low ∙ get_or-drop (4096 * block) (places taken n) i None ∙ places_at taken n (4096 * block + i) (omega (arith, low, fits)))
+      sym (get_or-take 4096 (drop (4096 * block) (places taken n)) i None low ∙ get_or-drop (4096 * block) (places taken n) i None
+      ∙ places_at taken n (4096 * block + i) (omega (arith, low, fits)))
 
-  pub cells_split : runs_from (4096 * block) (drop (4096 * block) (places taken n)) ≡ runs_from (4096 * block) cells_of ++ runs_from (4096 * (block + 1)) (drop (4096 * (block + 1)) (places taken n))
+  pub cells_split : runs_from (4096 * block) (drop (4096 * block) (places taken n)) ≡ runs_from (4096 * block) cells_of ++ runs_from
+      (4096 * (block + 1)) (drop (4096 * (block + 1)) (places taken n))
   cells_split = block_split taken n block cells_of cells_size fits cells_at
 
 -- a block without an octet has no run
@@ -254,7 +304,8 @@ none_given xs at whole none =
     runs_skip 4096 at xs none ∙ ap (λ (l : List (Option ℕ)). runs_from (at + 4096) l) past
 
 -- the runs of a slot are those of its block
-pub slot_runs : (flags octets : List ℕ) (taken : ℕ → Option ℕ) (xs : List (Option ℕ)) (at : ℕ) → length flags ≡ 4096 → length xs ≡ 4096 → ((i : ℕ) → i < 4096 → taken i ≡ cell flags octets i) → ((i : ℕ) → i < 4096 → taken i ≡ get_or xs i None)
+pub slot_runs : (flags octets : List ℕ) (taken : ℕ → Option ℕ) (xs : List (Option ℕ)) (at : ℕ) → length flags ≡ 4096 → length xs ≡ 4096
+    → ((i : ℕ) → i < 4096 → taken i ≡ cell flags octets i) → ((i : ℕ) → i < 4096 → taken i ≡ get_or xs i None)
     → runs_from at (places (cell flags octets) (length flags)) ≡ runs_from at xs
 slot_runs flags octets taken xs at whole size cells each =
     ap (λ (l : List (Option ℕ)). runs_from at l)

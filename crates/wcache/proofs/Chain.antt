@@ -1,5 +1,6 @@
 -- What the calls of a sync leave of the device, and what a crash at each moment of them leaves.
-use Rattle.std.proofs.Common.{◌≡◌, ◌⊎◌, inl, inr, ⊎_elim, ◌<◌, ◌≤◌, ℕ, ◌+◌, ◌-◌, Bool, IsTrue, List, [], ◌∷◌, ◌++◌, length, get_or, Option, Some, None, refl, sym, ◌∙◌, ap, subst, arith, Result, Ok, Err, IsErr, OnOk, IfErr}
+use Rattle.std.proofs.Common.{◌≡◌, ◌⊎◌, inl, inr, ⊎_elim, ◌<◌, ◌≤◌, ℕ, ◌+◌, ◌-◌, Bool, IsTrue, List, [], ◌∷◌, ◌++◌, length, get_or, Option}
+use Rattle.std.proofs.Common.{Some, None, refl, sym, ◌∙◌, ap, subst, arith, Result, Ok, Err, IsErr, OnOk, IfErr}
 use Rattle.disk.specs.Calls.{Call, Makes, Syncs, Writes}
 use Rattle.disk.specs.Device.{Device, Elapses, HasCause, IsTornImage, LeavesOnly}
 use Rattle.disk.specs.Image.{Torn}
@@ -25,7 +26,9 @@ over_then cs first mid last is next = record {
 }
 
 -- a torn write of collected octets
-torn_over : (cs : List (Option ℕ)) (at : ℕ) (octets mid last : List ℕ) → ((i : ℕ) → i < length octets → get_or cs (at + i) None ≡ Some (get_or octets i 0)) → Torn at (length octets) mid last → IsOver cs mid last
+torn_over : (cs : List (Option ℕ)) (at : ℕ) (octets mid last : List ℕ)
+    → ((i : ℕ) → i < length octets → get_or cs (at + i) None ≡ Some (get_or octets i 0)) → Torn at (length octets) mid last
+    → IsOver cs mid last
 torn_over cs at octets mid last each torn = record {
   size = torn.size;
   octets = λ k. octet k (place_cases at (length octets) k);
@@ -34,13 +37,16 @@ torn_over cs at octets mid last each torn = record {
     same : (k : ℕ) → get_or last k 0 ≡ get_or mid k 0 → MayBe (get_or cs k None) (get_or mid k 0) (get_or last k 0)
     same k is = subst (λ (o : ℕ). MayBe (get_or cs k None) (get_or mid k 0) o) (sym is) ((over_same cs mid).octets k)
 
-    octet : (k : ℕ) → ((k < at) ⊎ (at + length octets ≤ k)) ⊎ ((at ≤ k) × (k < at + length octets)) → MayBe (get_or cs k None) (get_or mid k 0) (get_or last k 0)
+    octet : (k : ℕ) → ((k < at) ⊎ (at + length octets ≤ k)) ⊎ ((at ≤ k) × (k < at + length octets))
+        → MayBe (get_or cs k None) (get_or mid k 0) (get_or last k 0)
     octet k (inl (inl below)) = same k (torn.below k below)
     octet k (inl (inr above)) = same k (torn.above k above)
     octet k (inr inside) =
         let place : at + (k - at) ≡ k = omega (arith, inside.0) in
-        let is : get_or cs k None ≡ Some (get_or octets (k - at) 0) = ap (λ (j : ℕ). get_or cs j None) (sym place) ∙ each (k - at) (omega (arith, inside.0, inside.1)) in
-        ⊎_elim (λ still. same k still) (λ any. subst (λ (c : Option ℕ). MayBe c (get_or mid k 0) (get_or last k 0)) (sym is) (inr (inr any))) (torn.octets k inside.0 inside.1)
+        let is : get_or cs k None ≡ Some (get_or octets (k - at) 0) = ap (λ (j : ℕ). get_or cs j None) (sym place)
+        ∙ each (k - at) (omega (arith, inside.0, inside.1)) in
+        ⊎_elim (λ still. same k still) (λ any. subst (λ (c : Option ℕ). MayBe c (get_or mid k 0) (get_or last k 0)) (sym is)
+        (inr (inr any))) (torn.octets k inside.0 inside.1)
 
 elapses_then : (first mid last : Device) → Elapses first mid → Elapses mid last → Elapses first last
 elapses_then first mid last is next = record {
@@ -56,7 +62,8 @@ module _ (cs : List (Option ℕ)) where
     pub failures : now.failures ≡ first.failures
     pub content : IsTrue first.tells → shown cs now.content ≡ shown cs first.content
     pub crash : IsTrue first.tells → (c : List ℕ) → now.may_leave c → MayLeave first cs c
-    pub since : IsTrue first.tells → (t : ℕ) (c : List ℕ) → t ≤ first.clock → now.left_since t c → first.left_since t c ⊎ MayLeave first cs c
+    pub since : IsTrue first.tells → (t : ℕ) (c : List ℕ) → t ≤ first.clock → now.left_since t c
+        → first.left_since t c ⊎ MayLeave first cs c
 
   -- after them all, or after one that was refused
   pub record IsGiven (result : Result (Unit {0}) DiskError) (first new : Device) : Type 0 where
@@ -66,7 +73,8 @@ module _ (cs : List (Option ℕ)) where
     pub refused : IsTrue first.tells → IfErr result (λ e. e ≡ Memory → shown cs new.content ≡ shown cs first.content)
     pub uncounted : IfErr result (λ e. e ≡ Memory → new.failures ≡ first.failures)
     pub crash : IsTrue first.tells → (c : List ℕ) → new.may_leave c → MayLeave first cs c
-    pub since : IsTrue first.tells → (t : ℕ) (c : List ℕ) → t ≤ first.clock → new.left_since t c → first.left_since t c ⊎ MayLeave first cs c
+    pub since : IsTrue first.tells → (t : ℕ) (c : List ℕ) → t ≤ first.clock → new.left_since t c
+        → first.left_since t c ⊎ MayLeave first cs c
 
   pub none_yet : (d : Device) → IsPartly d d
   none_yet d = record {
@@ -81,15 +89,21 @@ module _ (cs : List (Option ℕ)) where
   now_tells first now partly t = subst (λ (b : Bool). IsTrue b) (sym partly.time.tells) t
 
   -- an image over one that might have been left
-  over_partly : (first now : Device) → IsPartly first now → IsTrue first.tells → (mid c : List ℕ) → now.may_leave mid → IsOver cs mid c → MayLeave first cs c
+  over_partly : (first now : Device) → IsPartly first now → IsTrue first.tells → (mid c : List ℕ) → now.may_leave mid → IsOver cs mid c
+      → MayLeave first cs c
   over_partly first now partly t mid c left over =
       let under = partly.crash t mid left in
       (under.0, (under.1.0, over_then cs under.0 mid c under.1.1 over))
 
-  torn_partly : (first now : Device) (at : ℕ) (octets : List ℕ) → ((i : ℕ) → i < length octets → get_or cs (at + i) None ≡ Some (get_or octets i 0)) → IsPartly first now → IsTrue first.tells → (c : List ℕ) → IsTornImage at (length octets) now c → MayLeave first cs c
-  torn_partly first now at octets each partly t c torn = over_partly first now partly t torn.0 c torn.1 (torn_over cs at octets torn.0 c each torn.2)
+  torn_partly : (first now : Device) (at : ℕ) (octets : List ℕ)
+      → ((i : ℕ) → i < length octets → get_or cs (at + i) None ≡ Some (get_or octets i 0)) → IsPartly first now → IsTrue first.tells
+      → (c : List ℕ) → IsTornImage at (length octets) now c → MayLeave first cs c
+  torn_partly first now at octets each partly t c torn =
+      over_partly first now partly t torn.0 c torn.1 (torn_over cs at octets torn.0 c each torn.2)
 
-  since_write : (first now next : Device) (at : ℕ) (octets : List ℕ) (result : Result (Unit {0}) DiskError) → ((i : ℕ) → i < length octets → get_or cs (at + i) None ≡ Some (get_or octets i 0)) → IsPartly first now → Writes at octets result now next
+  since_write : (first now next : Device) (at : ℕ) (octets : List ℕ) (result : Result (Unit {0}) DiskError)
+      → ((i : ℕ) → i < length octets → get_or cs (at + i) None ≡ Some (get_or octets i 0)) → IsPartly first now
+      → Writes at octets result now next
       → IsTrue first.tells → (t : ℕ) (c : List ℕ) → t ≤ first.clock → next.left_since t c → first.left_since t c ⊎ MayLeave first cs c
   since_write first now next at octets result each partly did t time c before left =
       ⊎_elim (λ earlier. partly.since t time c before earlier) (λ torn. inr (torn_partly first now at octets each partly t c torn))
@@ -101,13 +115,16 @@ module _ (cs : List (Option ℕ)) where
       partly.since t time c before (did.since (now_tells first now partly t) time c (omega (arith, before, partly.time.later)) left)
 
   -- one more good write
-  one_more_run : (first now next : Device) (run : Run) → IsPart cs 0 run → (IsTrue now.tells → run.at + length run.octets ≤ length now.content) → IsPartly first now → Writes run.at run.octets (Ok tt) now next → IsPartly first next
+  one_more_run : (first now next : Device) (run : Run) → IsPart cs 0 run
+      → (IsTrue now.tells → run.at + length run.octets ≤ length now.content) → IsPartly first now
+      → Writes run.at run.octets (Ok tt) now next → IsPartly first next
   one_more_run first now next run part fits partly did = record {
     time = elapses_then first now next partly.time did.time;
     failures = did.cause.ok ∙ partly.failures;
     content = λ t.
         let told = now_tells first now partly t in
-        ap (λ (l : List ℕ). shown cs l) (did.content told) ∙ shown_again cs now.content run.octets run.at (fits told) each ∙ partly.content t;
+        ap (λ (l : List ℕ). shown cs l) (did.content told) ∙ shown_again cs now.content run.octets run.at (fits told) each
+        ∙ partly.content t;
     crash = λ t c left. torn_partly first now run.at run.octets each partly t c (did.crash (now_tells first now partly t) c left);
     since = since_write first now next run.at run.octets (Ok tt) each partly did;
   }
@@ -117,11 +134,13 @@ module _ (cs : List (Option ℕ)) where
           let place : run.at + i ≡ run.at - 0 + i = omega arith in
           ap (λ (j : ℕ). get_or cs j None) place ∙ part.each i within
 
-  refused_cause : (e : DiskError) (first now next : Device) → now.failures ≡ first.failures → HasCause {T = Unit {0}} (Err e) now next → HasCause {T = Unit {0}} (Err e) first next
+  refused_cause : (e : DiskError) (first now next : Device) → now.failures ≡ first.failures → HasCause {T = Unit {0}} (Err e) now next
+      → HasCause {T = Unit {0}} (Err e) first next
   refused_cause e first now next same cause = record { ok = tt; fault = λ is. λ f. cause.fault is (f ∙ sym same) }
 
   -- a write that was refused
-  refused_run : (e : DiskError) (first now next : Device) (run : Run) → IsPart cs 0 run → IsPartly first now → Writes run.at run.octets (Err e) now next → IsGiven (Err e) first next
+  refused_run : (e : DiskError) (first now next : Device) (run : Run) → IsPart cs 0 run → IsPartly first now
+      → Writes run.at run.octets (Err e) now next → IsGiven (Err e) first next
   refused_run e first now next run part partly did = record {
     time = elapses_then first now next partly.time did.time;
     cause = refused_cause e first now next partly.failures did.cause;
@@ -138,7 +157,8 @@ module _ (cs : List (Option ℕ)) where
           ap (λ (j : ℕ). get_or cs j None) place ∙ part.each i within
 
   -- the sync at the end, good or refused
-  synced : (result : Result (Unit {0}) DiskError) (first now next : Device) → IsPartly first now → Syncs result now next → IsGiven result first next
+  synced : (result : Result (Unit {0}) DiskError) (first now next : Device) → IsPartly first now → Syncs result now next
+      → IsGiven result first next
   synced (Ok x) first now next partly did = record {
     time = elapses_then first now next partly.time did.time;
     cause = record { ok = did.cause.ok ∙ partly.failures; fault = tt };
@@ -159,13 +179,19 @@ module _ (cs : List (Option ℕ)) where
   }
 
 module _ (D : Type 0) (device : D → Device) (sized : (d : D) → IsTrue (device d).tells → length (device d).content ≡ (device d).size) where
-  pub given : (cs : List (Option ℕ)) (first : D) → length cs ≤ (device first).size → (runs : List Run) (result : Result (Unit {0}) DiskError) (now new : D) → AreParts cs 0 runs → IsPartly cs (device first) (device now) → Makes device (writes_of runs ++ Call.Sync ∷ []) result now new → IsGiven cs result (device first) (device new)
+  pub given : (cs : List (Option ℕ)) (first : D) → length cs ≤ (device first).size
+      → (runs : List Run) (result : Result (Unit {0}) DiskError) (now new : D) → AreParts cs 0 runs
+      → IsPartly cs (device first) (device now) → Makes device (writes_of runs ++ Call.Sync ∷ []) result now new
+      → IsGiven cs result (device first) (device new)
   given cs first few [] result now new parts partly (inl did) =
       subst (λ (d : D). IsGiven cs result (device first) (device d)) (sym did.1.1.1)
-      (subst (λ (r : Result (Unit {0}) DiskError). IsGiven cs r (device first) (device did.0)) (sym did.1.1.0) (synced cs (Ok tt) (device first) (device now) (device did.0) partly did.1.0))
-  given cs first few [] result now new parts partly (inr refused) = synced cs result (device first) (device now) (device new) partly refused.1
+      (subst (λ (r : Result (Unit {0}) DiskError). IsGiven cs r (device first) (device did.0)) (sym did.1.1.0)
+      (synced cs (Ok tt) (device first) (device now) (device did.0) partly did.1.0))
+  given cs first few [] result now new parts partly (inr refused) =
+      synced cs result (device first) (device now) (device new) partly refused.1
   given cs first few (run ∷ runs) result now new parts partly (inl did) =
-      given cs first few runs result did.0 new parts.1 (one_more_run cs (device first) (device now) (device did.0) run parts.0 fits partly did.1.0) did.1.1
+      given cs first few runs result did.0 new parts.1
+      (one_more_run cs (device first) (device now) (device did.0) run parts.0 fits partly did.1.0) did.1.1
     where
       fits : IsTrue (device now).tells → run.at + length run.octets ≤ length (device now).content
       fits t =
@@ -176,14 +202,16 @@ module _ (D : Type 0) (device : D → Device) (sized : (d : D) → IsTrue (devic
     where
       no_err : (x : Unit {0}) → IsErr {T = Unit {0}} {E = DiskError} (Ok x) → ⊥
       no_err x is = cc
-  given cs first few (run ∷ runs) (Err e) now new parts partly (inr refused) = refused_run cs e (device first) (device now) (device new) run parts.0 partly refused.1
+  given cs first few (run ∷ runs) (Err e) now new parts partly (inr refused) =
+      refused_run cs e (device first) (device now) (device new) run parts.0 partly refused.1
 
   -- where none was refused
   pub record AreDurable (image : List ℕ) (new : D) : Type 0 where
     pub content : (device new).content ≡ image
     pub only : LeavesOnly (device new) image
 
-  pub durable : (runs : List Run) (now new : D) → Makes device (writes_of runs ++ Call.Sync ∷ []) (Ok tt) now new → IsTrue (device now).tells → AreDurable (all_written runs (device now).content) new
+  pub durable : (runs : List Run) (now new : D) → Makes device (writes_of runs ++ Call.Sync ∷ []) (Ok tt) now new
+      → IsTrue (device now).tells → AreDurable (all_written runs (device now).content) new
   durable [] now new (inl did) t =
       subst (λ (d : D). AreDurable (device now).content d) (sym did.1.1.1)
       (record { content = did.1.0.content t; only = did.1.0.durable t })

@@ -1,5 +1,6 @@
 -- Runs of collected octets, from a place on.
-use Rattle.std.proofs.Common.{◌≡◌, ◌≢◌, ◌⊎◌, inl, inr, ◌<◌, ◌≤◌, ◌==◌, ◌&&◌, ℕ, zero, suc, ◌+◌, ◌-◌, ◌%◌, if◌then◌else◌, not, Bool, true, false, List, [], ◌∷◌, ◌++◌, length, get_or, map, drop, Option, Some, None, refl, sym, ◌∙◌, ap, arith}
+use Rattle.std.proofs.Common.{◌≡◌, ◌≢◌, ◌⊎◌, inl, inr, ◌<◌, ◌≤◌, ◌==◌, ◌&&◌, ℕ, zero, suc, ◌+◌, ◌-◌, ◌%◌, if◌then◌else◌, not, Bool, true}
+use Rattle.std.proofs.Common.{false, List, [], ◌∷◌, ◌++◌, length, get_or, map, drop, Option, Some, None, refl, sym, ◌∙◌, ap, arith}
 use Rattle.std.proofs.lemmas.Bool.{cases_Bool, eq-eqb, ne_eqb, eqb-true}
 use Rattle.wcache.specs.Runs.{Run, join, runs_from}
 
@@ -57,10 +58,12 @@ unfolding join
 join_joins at octet run runs is =
     ap (λ (b : Bool). if b then longer at octet run ∷ runs else lone at octet ∷ run ∷ runs) is
 
-pub join_behind : (at octet place : ℕ) (run : Run) (runs : List Run) → run.at ≡ at + 1 → ((at + 1) % 4096 ≢ 0) → join at octet (run ∷ runs) ≡ longer at octet run ∷ runs
+pub join_behind : (at octet place : ℕ) (run : Run) (runs : List Run) → run.at ≡ at + 1 → ((at + 1) % 4096 ≢ 0)
+    → join at octet (run ∷ runs) ≡ longer at octet run ∷ runs
 join_behind at octet place run runs is other =
     join_joins at octet run runs
-    (ap (λ (b : Bool). b && not ((at + 1) % 4096 == 0)) (eq-eqb run.at (at + 1) is) ∙ ap (λ (b : Bool). not b) (ne_eqb ((at + 1) % 4096) 0 other))
+    (ap (λ (b : Bool). b && not ((at + 1) % 4096 == 0)) (eq-eqb run.at (at + 1) is)
+    ∙ ap (λ (b : Bool). not b) (ne_eqb ((at + 1) % 4096) 0 other))
 
 -- what an octet in front leaves, either way
 pub join_cases : (P : List Run → Type 0) (at octet : ℕ) (runs : List Run) → P (lone at octet ∷ runs)
@@ -87,7 +90,8 @@ runs_behind (Some octet ∷ rest) at =
     join_cases (λ (runs : List Run). Behind at runs) at octet (runs_from (at + 1) rest) (omega arith) (λ run runs is place. omega arith)
 
 -- places without an octet are passed over
-pub runs_skip : (n at : ℕ) (cs : List (Option ℕ)) → ((k : ℕ) → k < n → get_or cs k None ≡ None) → runs_from at cs ≡ runs_from (at + n) (drop n cs)
+pub runs_skip : (n at : ℕ) (cs : List (Option ℕ)) → ((k : ℕ) → k < n → get_or cs k None ≡ None)
+    → runs_from at cs ≡ runs_from (at + n) (drop n cs)
 runs_skip zero at cs none =
     let same : at ≡ at + zero = omega arith in
     ap (λ (k : ℕ). runs_from k cs) same
@@ -100,7 +104,10 @@ runs_skip (suc n) at (Some octet ∷ rest) none = absurd (some_none octet (none 
 -- a run in front, which ends where no octet was collected or where a block ends
 pub runs_front : (os : List ℕ) (octet at : ℕ) (rest : List (Option ℕ)) → ((i : ℕ) → 0 < i → i ≤ length os → (at + i) % 4096 ≢ 0)
     → (get_or rest 0 None ≡ None) ⊎ ((at + length os + 1) % 4096 ≡ 0)
-    → runs_from at (Some octet ∷ (map (λ (o : ℕ). Some o) os ++ rest)) ≡ record { at = at; octets = octet ∷ os } ∷ runs_from (at + length os + 1) rest
+    → runs_from at (Some octet ∷ (map (λ (o : ℕ). Some o) os ++ rest)) ≡ record {
+      at = at;
+      octets = octet ∷ os;
+    } ∷ runs_from (at + length os + 1) rest
 runs_front [] octet at rest inside ends =
     let same : at + 1 ≡ at + 0 + 1 = omega arith in
     join_apart at octet (runs_from (at + 1) rest) (apart rest ends) ∙ ap (λ (k : ℕ). lone at octet ∷ runs_from k rest) same
@@ -112,13 +119,15 @@ runs_front [] octet at rest inside ends =
     apart [] (inl none) = tt
     apart (None ∷ later) (inl none) =
         let same : at + 1 + 1 ≡ at + 2 = omega arith in
-        apart_behind at (runs_from (at + 1 + 1) later) (behind_weaker (at + 2) (at + 1 + 1) (runs_from (at + 1 + 1) later) (omega arith) (runs_behind later (at + 1 + 1)))
+        apart_behind at (runs_from (at + 1 + 1) later)
+        (behind_weaker (at + 2) (at + 1 + 1) (runs_from (at + 1 + 1) later) (omega arith) (runs_behind later (at + 1 + 1)))
     apart (Some o ∷ later) (inl none) = absurd (some_none o none)
 runs_front (o ∷ os) octet at rest inside ends =
     let same : at + 1 + length os + 1 ≡ at + suc (length os) + 1 = omega arith in
     let behind = runs_front os o (at + 1) rest (λ i low high. deeper i low high) (later ends) in
     ap (λ (runs : List Run). join at octet runs) behind
-    ∙ join_behind at octet 0 (record { at = at + 1; octets = o ∷ os }) (runs_from (at + 1 + length os + 1) rest) refl (inside 1 (omega arith) (omega arith))
+    ∙ join_behind at octet 0 (record { at = at + 1; octets = o ∷ os }) (runs_from (at + 1 + length os + 1) rest) refl
+    (inside 1 (omega arith) (omega arith))
     ∙ ap (λ (k : ℕ). record { at = at; octets = octet ∷ o ∷ os } ∷ runs_from k rest) same
   where
     deeper : (i : ℕ) → 0 < i → i ≤ length os → (at + 1 + i) % 4096 ≢ 0
@@ -126,18 +135,21 @@ runs_front (o ∷ os) octet at rest inside ends =
         let same : at + 1 + i ≡ at + (1 + i) = omega arith in
         inside (1 + i) (omega arith) (omega arith) (ap (λ (k : ℕ). k % 4096) (sym same) ∙ is)
 
-    later : (get_or rest 0 None ≡ None) ⊎ ((at + suc (length os) + 1) % 4096 ≡ 0) → (get_or rest 0 None ≡ None) ⊎ ((at + 1 + length os + 1) % 4096 ≡ 0)
+    later : (get_or rest 0 None ≡ None) ⊎ ((at + suc (length os) + 1) % 4096 ≡ 0)
+        → (get_or rest 0 None ≡ None) ⊎ ((at + 1 + length os + 1) % 4096 ≡ 0)
     later (inl none) = inl none
     later (inr begins) =
         let same : at + 1 + length os + 1 ≡ at + suc (length os) + 1 = omega arith in
         inr (ap (λ (k : ℕ). k % 4096) same ∙ begins)
 
-join_append : (at octet : ℕ) (front back : List Run) → (front ≡ [] → StandsApart at back) → join at octet (front ++ back) ≡ join at octet front ++ back
+join_append : (at octet : ℕ) (front back : List Run) → (front ≡ [] → StandsApart at back)
+    → join at octet (front ++ back) ≡ join at octet front ++ back
 unfolding join
 join_append at octet [] back apart = join_apart at octet back (apart refl)
 join_append at octet (run ∷ runs) back apart = choose (joins at run.at)
   where
-    choose : (b : Bool) → (if b then longer at octet run ∷ (runs ++ back) else lone at octet ∷ run ∷ (runs ++ back)) ≡ (if b then longer at octet run ∷ runs else lone at octet ∷ run ∷ runs) ++ back
+    choose : (b : Bool) → (if b then longer at octet run ∷ (runs ++ back) else lone at octet ∷ run ∷ (runs ++ back))
+        ≡ (if b then longer at octet run ∷ runs else lone at octet ∷ run ∷ runs) ++ back
     choose true = refl
     choose false = refl
 
@@ -145,10 +157,12 @@ nonempty : (run : Run) (runs : List Run) → run ∷ runs ≡ [] → ⊥
 nonempty run runs is = cc
 
 join_some : (at octet : ℕ) (runs : List Run) → join at octet runs ≡ [] → ⊥
-join_some at octet runs = join_cases (λ (all : List Run). all ≡ [] → ⊥) at octet runs (nonempty (lone at octet) runs) (λ run rest is place. nonempty (longer at octet run) rest)
+join_some at octet runs = join_cases (λ (all : List Run). all ≡ [] → ⊥) at octet runs (nonempty (lone at octet) runs)
+    (λ run rest is place. nonempty (longer at octet run) rest)
 
 -- runs end where a block ends
-pub runs_split : (xs ys : List (Option ℕ)) (at : ℕ) → (at + length xs) % 4096 ≡ 0 → runs_from at (xs ++ ys) ≡ runs_from at xs ++ runs_from (at + length xs) ys
+pub runs_split : (xs ys : List (Option ℕ)) (at : ℕ) → (at + length xs) % 4096 ≡ 0
+    → runs_from at (xs ++ ys) ≡ runs_from at xs ++ runs_from (at + length xs) ys
 runs_split [] ys at ends =
     let same : at ≡ at + 0 = omega arith in
     ap (λ (k : ℕ). runs_from k ys) same
@@ -166,7 +180,9 @@ runs_split (Some octet ∷ xs) ys at ends =
         let here : at + 1 ≡ at + suc 0 = omega arith in
         apart_at_a_block at (runs_from (at + 1 + 0) ys) (ap (λ (k : ℕ). k % 4096) here ∙ ends)
     apart (x ∷ xs) ends =
-        apart_behind at (runs_from (at + 1 + suc (length xs)) ys) (behind_weaker (at + 2) (at + 1 + suc (length xs)) (runs_from (at + 1 + suc (length xs)) ys) (omega arith) (runs_behind ys (at + 1 + suc (length xs))))
+        apart_behind at (runs_from (at + 1 + suc (length xs)) ys)
+        (behind_weaker (at + 2) (at + 1 + suc (length xs)) (runs_from (at + 1 + suc (length xs)) ys) (omega arith)
+        (runs_behind ys (at + 1 + suc (length xs))))
 
 -- the runs depend on the octets by their places alone
 pub runs_same : (xs ys : List (Option ℕ)) (at : ℕ) → ((k : ℕ) → get_or xs k None ≡ get_or ys k None) → runs_from at xs ≡ runs_from at ys
@@ -219,7 +235,8 @@ lone_part octet cs at = record {
     first zero within = let place : at - at + zero ≡ zero = omega arith in ap (λ (k : ℕ). get_or (Some octet ∷ cs) k None) place
     first (suc i) within = absurd (omega (arith, within))
 
-longer_part : (octet : ℕ) (cs : List (Option ℕ)) (at : ℕ) (run : Run) → run.at ≡ at + 1 → IsPart cs (at + 1) run → IsPart (Some octet ∷ cs) at (longer at octet run)
+longer_part : (octet : ℕ) (cs : List (Option ℕ)) (at : ℕ) (run : Run) → run.at ≡ at + 1 → IsPart cs (at + 1) run
+    → IsPart (Some octet ∷ cs) at (longer at octet run)
 longer_part octet cs at run place_is is = record {
   low = omega arith;
   high = omega (arith, is.high, place_is);
@@ -232,10 +249,12 @@ longer_part octet cs at run place_is is = record {
         let place : at - at + suc i ≡ suc (run.at - (at + 1) + i) = omega (arith, place_is) in
         ap (λ (k : ℕ). get_or (Some octet ∷ cs) k None) place ∙ is.each i (omega (arith, within))
 
-joined_parts : (octet : ℕ) (cs : List (Option ℕ)) (at : ℕ) (run : Run) (rest : List Run) → run.at ≡ at + 1 → AreParts cs (at + 1) (run ∷ rest) → AreParts (Some octet ∷ cs) at (longer at octet run ∷ rest)
+joined_parts : (octet : ℕ) (cs : List (Option ℕ)) (at : ℕ) (run : Run) (rest : List Run) → run.at ≡ at + 1
+    → AreParts cs (at + 1) (run ∷ rest) → AreParts (Some octet ∷ cs) at (longer at octet run ∷ rest)
 joined_parts octet cs at run rest place are = (longer_part octet cs at run place are.0, parts_behind (Some octet) cs at rest are.1)
 
-join_parts : (octet : ℕ) (cs : List (Option ℕ)) (at : ℕ) (runs : List Run) → AreParts cs (at + 1) runs → AreParts (Some octet ∷ cs) at (join at octet runs)
+join_parts : (octet : ℕ) (cs : List (Option ℕ)) (at : ℕ) (runs : List Run) → AreParts cs (at + 1) runs
+    → AreParts (Some octet ∷ cs) at (join at octet runs)
 join_parts octet cs at runs are =
     join_cases (λ (all : List Run). AreParts cs (at + 1) runs → AreParts (Some octet ∷ cs) at all) at octet runs
     (λ are. (lone_part octet cs at, parts_behind (Some octet) cs at runs are))

@@ -1,5 +1,6 @@
 -- The collected octets over an image.
-use Rattle.std.proofs.Common.{◌≡◌, ◌⊎◌, inl, inr, ◌<◌, ◌≤◌, ℕ, ◌+◌, ◌-◌, List, length, get_or, Option, Some, None, sym, ◌∙◌, ap, subst, arith}
+use Rattle.std.proofs.Common.{◌≡◌, ◌⊎◌, inl, inr, ◌<◌, ◌≤◌, ℕ, ◌+◌, ◌-◌, List, length, get_or, Option, Some, None, sym, ◌∙◌, ap, subst}
+use Rattle.std.proofs.Common.{arith}
 use Rattle.std.specs.Option.{unwrap_or}
 use Rattle.std.proofs.lemmas.List.{ext_get_or}
 use Rattle.std.proofs.lemmas.Bool.{cases_lt}
@@ -10,7 +11,9 @@ use Rattle.wcache.specs.Over.{length-shown, over_shown, shown_at}
 
 -- where nothing was collected
 pub over_none : (cs : List (Option ℕ)) (xs image : List ℕ) → ((k : ℕ) → get_or cs k None ≡ None) → IsOver cs xs image → image ≡ xs
-over_none cs xs image none over = ext_get_or 0 image xs over.size (λ k within. subst (λ (c : Option ℕ). MayBe c (get_or xs k 0) (get_or image k 0)) (none k) (over.octets k))
+over_none cs xs image none over =
+    ext_get_or 0 image xs over.size
+    (λ k within. subst (λ (c : Option ℕ). MayBe c (get_or xs k 0) (get_or image k 0)) (none k) (over.octets k))
 
 pub shown_none : (cs : List (Option ℕ)) (xs : List ℕ) → ((k : ℕ) → get_or cs k None ≡ None) → shown cs xs ≡ xs
 shown_none cs xs none = over_none cs xs (shown cs xs) none (over_shown cs xs)
@@ -30,7 +33,8 @@ shown_part cs xs before into at n fits size is each =
 
 -- lists that agree at each place over an image
 pub shown_ext : (cs ds : List (Option ℕ)) (xs ys : List ℕ) → length xs ≡ length ys
-    → ((k : ℕ) → k < length xs → unwrap_or (get_or cs k None) (get_or xs k 0) ≡ unwrap_or (get_or ds k None) (get_or ys k 0)) → shown cs xs ≡ shown ds ys
+    → ((k : ℕ) → k < length xs → unwrap_or (get_or cs k None) (get_or xs k 0) ≡ unwrap_or (get_or ds k None) (get_or ys k 0))
+    → shown cs xs ≡ shown ds ys
 shown_ext cs ds xs ys sizes same =
     ext_get_or 0 (shown cs xs) (shown ds ys) (length-shown cs xs ∙ sizes ∙ sym (length-shown ds ys))
     (λ k within.
@@ -44,7 +48,8 @@ place_cases at n k = elim (cases_lt k at) [
   | inr low ↦ elim (cases_lt k (at + n)) [ inl high ↦ inr (low, high) | inr above ↦ inl (inr above) ]
 ]
 
-pub overwritten_outside : {A : Type 0} (at : ℕ) (octets image : List A) (d : A) → at + length octets ≤ length image → (k : ℕ) → (k < at) ⊎ (at + length octets ≤ k) → get_or (overwritten at octets image) k d ≡ get_or image k d
+pub overwritten_outside : {A : Type 0} (at : ℕ) (octets image : List A) (d : A) → at + length octets ≤ length image → (k : ℕ)
+    → (k < at) ⊎ (at + length octets ≤ k) → get_or (overwritten at octets image) k d ≡ get_or image k d
 overwritten_outside at octets image d fits k (inl below) = overwritten_below at octets image fits k d below
 overwritten_outside at octets image d fits k (inr above) = overwritten_above at octets image fits k d above
 
@@ -55,9 +60,12 @@ shown_again cs xs octets at fits each =
     let size = length-overwritten at octets xs fits in
     shown_ext cs cs (overwritten at octets xs) xs size (λ k within. same k (place_cases at (length octets) k))
   where
-    same : (k : ℕ) → ((k < at) ⊎ (at + length octets ≤ k)) ⊎ ((at ≤ k) × (k < at + length octets)) → unwrap_or (get_or cs k None) (get_or (overwritten at octets xs) k 0) ≡ unwrap_or (get_or cs k None) (get_or xs k 0)
+    same : (k : ℕ) → ((k < at) ⊎ (at + length octets ≤ k)) ⊎ ((at ≤ k) × (k < at + length octets))
+        → unwrap_or (get_or cs k None) (get_or (overwritten at octets xs) k 0) ≡ unwrap_or (get_or cs k None) (get_or xs k 0)
     same k (inl outside) = ap (λ (o : ℕ). unwrap_or (get_or cs k None) o) (overwritten_outside at octets xs 0 fits k outside)
     same k (inr inside) =
         let place : at + (k - at) ≡ k = omega (arith, inside.0) in
-        let is : get_or cs k None ≡ Some (get_or octets (k - at) 0) = ap (λ (j : ℕ). get_or cs j None) (sym place) ∙ each (k - at) (omega (arith, inside.0, inside.1)) in
-        ap (λ (c : Option ℕ). unwrap_or c (get_or (overwritten at octets xs) k 0)) is ∙ sym (ap (λ (c : Option ℕ). unwrap_or c (get_or xs k 0)) is)
+        let is : get_or cs k None ≡ Some (get_or octets (k - at) 0) = ap (λ (j : ℕ). get_or cs j None) (sym place)
+        ∙ each (k - at) (omega (arith, inside.0, inside.1)) in
+        ap (λ (c : Option ℕ). unwrap_or c (get_or (overwritten at octets xs) k 0)) is
+        ∙ sym (ap (λ (c : Option ℕ). unwrap_or c (get_or xs k 0)) is)

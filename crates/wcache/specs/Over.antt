@@ -1,5 +1,6 @@
 -- Images that a crash may leave over those of the device below.
-use Rattle.std.proofs.Common.{◌≡◌, ◌⊎◌, inl, inr, ◌<◌, ◌≤◌, ℕ, zero, suc, List, [], ◌∷◌, length, get_or, Option, Some, None, refl, sym, ◌∙◌, ap, subst, arith}
+use Rattle.std.proofs.Common.{◌≡◌, ◌⊎◌, inl, inr, ◌<◌, ◌≤◌, ℕ, zero, suc, List, [], ◌∷◌, length, get_or, Option, Some, None, refl, sym, ◌∙◌}
+use Rattle.std.proofs.Common.{ap, subst, arith}
 use Rattle.std.specs.Option.{unwrap_or}
 use Rattle.std.proofs.lemmas.List.{get_or_past}
 use Rattle.std.proofs.lemmas.Bool.{cases_lt}
@@ -11,7 +12,8 @@ length-shown (c ∷ cs) [] = refl
 length-shown (None ∷ cs) (x ∷ xs) = ap suc (length-shown cs xs)
 length-shown (Some c ∷ cs) (x ∷ xs) = ap suc (length-shown cs xs)
 
-pub shown_at : (cs : List (Option ℕ)) (xs : List ℕ) (k : ℕ) → k < length xs → get_or (shown cs xs) k 0 ≡ unwrap_or (get_or cs k None) (get_or xs k 0)
+pub shown_at : (cs : List (Option ℕ)) (xs : List ℕ) (k : ℕ) → k < length xs
+    → get_or (shown cs xs) k 0 ≡ unwrap_or (get_or cs k None) (get_or xs k 0)
 shown_at [] xs k within = refl
 shown_at (c ∷ cs) [] k within = absurd (omega (arith, within))
 shown_at (None ∷ cs) (x ∷ xs) zero within = refl
@@ -35,10 +37,12 @@ over_shown cs xs = record {
 }
   where
     each : (k : ℕ) → (k < length xs) ⊎ (length xs ≤ k) → MayBe (get_or cs k None) (get_or xs k 0) (get_or (shown cs xs) k 0)
-    each k (inl within) = subst (λ (o : ℕ). MayBe (get_or cs k None) (get_or xs k 0) o) (sym (shown_at cs xs k within)) (maybe_shown (get_or cs k None) (get_or xs k 0))
+    each k (inl within) = subst (λ (o : ℕ). MayBe (get_or cs k None) (get_or xs k 0) o) (sym (shown_at cs xs k within))
+        (maybe_shown (get_or cs k None) (get_or xs k 0))
     each k (inr past) =
         let size = length-shown cs xs in
-        let same : get_or (shown cs xs) k 0 ≡ get_or xs k 0 = get_or_past (shown cs xs) k 0 (omega (arith, past, size)) ∙ sym (get_or_past xs k 0 past) in
+        let same : get_or (shown cs xs) k 0 ≡ get_or xs k 0 = get_or_past (shown cs xs) k 0 (omega (arith, past, size))
+        ∙ sym (get_or_past xs k 0 past) in
         subst (λ (o : ℕ). MayBe (get_or cs k None) (get_or xs k 0) o) (sym same) (maybe_same (get_or cs k None) (get_or xs k 0))
 
 -- so is each image of the device

@@ -1,6 +1,7 @@
 //! Gives the collected octets to the device.
 
-ghost use Rattle.std.specs.Prelude.{◌≡◌, ◌⊎◌, ◌<◌, ◌≤◌, ◌||◌, ℕ, ◌+◌, ◌*◌, ◌%◌, ◌^◌, List, Option, None, Some, IfErr, IfSome, IsNone, IsTrue, length, slice_index, slice_index_or};
+ghost use Rattle.std.specs.Prelude.{◌≡◌, ◌⊎◌, ◌<◌, ◌≤◌, ◌||◌, ℕ, ◌+◌, ◌*◌, ◌%◌, ◌^◌, List, Option, None, Some, IfErr, IfSome, IsNone};
+ghost use Rattle.std.specs.Prelude.{IsTrue, length, slice_index, slice_index_or};
 ghost use Rattle.disk.specs.Calls.{Makes};
 ghost use Rattle.wcache.specs.Runs.{calls_of, runs_from, writes_of};
 ghost use Rattle.wcache.specs.Slots.{IsNextRun, cell, places};
@@ -14,7 +15,8 @@ use std::ops::Range;
 /// Gives the device all collected octets, and syncs it. It stops at the first call that is refused.
 pub fn give_and_sync<D: Disk>(disk: &mut D, collected: &Collected) -> Result<(), DiskError>
     requires { (k : ℕ) → (D.device disk.old).size ≤ k → taken collected.now k ≡ None }
-    ensures makes { (n : ℕ) → ((k : ℕ) → n ≤ k → taken collected.now k ≡ None) → Makes D.device (calls_of (places (taken collected.now) n)) result disk.old disk.new }
+    ensures makes { (n : ℕ) → ((k : ℕ) → n ≤ k → taken collected.now k ≡ None)
+        → Makes D.device (calls_of (places (taken collected.now) n)) result disk.old disk.new }
     ensures memory { IfErr result (λ error. error ≡ DiskError.Memory → IsTrue (D.write_grows || D.sync_grows)) }
 {
     match give(disk, collected) {
@@ -26,7 +28,8 @@ pub fn give_and_sync<D: Disk>(disk: &mut D, collected: &Collected) -> Result<(),
 // Gives the blocks one by one, in rising place.
 fn give<D: Disk>(disk: &mut D, collected: &Collected) -> Result<(), DiskError>
     requires { (k : ℕ) → (D.device disk.old).size ≤ k → taken collected.now k ≡ None }
-    ensures makes { (n : ℕ) → ((k : ℕ) → n ≤ k → taken collected.now k ≡ None) → Makes D.device (writes_of (runs_from 0 (places (taken collected.now) n))) result disk.old disk.new }
+    ensures makes { (n : ℕ) → ((k : ℕ) → n ≤ k → taken collected.now k ≡ None)
+        → Makes D.device (writes_of (runs_from 0 (places (taken collected.now) n))) result disk.old disk.new }
     ensures memory { IfErr result (λ error. error ≡ DiskError.Memory → IsTrue D.write_grows) }
 {
     for block in 0..collected.blocks() {
@@ -43,7 +46,9 @@ fn give_slot<D: Disk>(disk: &mut D, collected: &Collected, block: usize) -> Resu
     requires few { block < 2 ^ 52 }
     requires fits { (k : ℕ) → (D.device disk.old).size ≤ k → taken collected.now k ≡ None }
     ensures size { (D.device disk.new).size ≡ (D.device disk.old).size }
-    ensures makes { (xs : List (Option ℕ)) → length xs ≡ 4096 → ((i : ℕ) → i < 4096 → taken collected.now (4096 * block + i) ≡ slice_index_or xs i None) → Makes D.device (writes_of (runs_from (4096 * block) xs)) result disk.old disk.new }
+    ensures makes { (xs : List (Option ℕ)) → length xs ≡ 4096
+        → ((i : ℕ) → i < 4096 → taken collected.now (4096 * block + i) ≡ slice_index_or xs i None)
+        → Makes D.device (writes_of (runs_from (4096 * block) xs)) result disk.old disk.new }
     ensures memory { IfErr result (λ error. error ≡ DiskError.Memory → IsTrue D.write_grows) }
 {
     match collected.slot(block) {

@@ -8,7 +8,8 @@ mod giving;
 
 ghost use Rattle.std.specs.Prelude.{◌≡◌, ◌+◌, ◌≤◌, IsTrue, Some, None, IfErr, OnErr, OnOk, length, map, replicate};
 ghost use Rattle.disk.specs.Calls.{Makes};
-ghost use Rattle.disk.specs.Device.{Elapses, HasCause, IsRead, IsSync, IsUnchanged, IsWrite, LeavesNoMore, LeavesOnly, LeftNoMore, LeftTornAt, OnAsked, OnRefused, TearsAt};
+ghost use Rattle.disk.specs.Device.{Elapses, HasCause, IsRead, IsSync, IsUnchanged, IsWrite, LeavesNoMore, LeavesOnly, LeftNoMore};
+ghost use Rattle.disk.specs.Device.{LeftTornAt, OnAsked, OnRefused, TearsAt};
 ghost use Rattle.disk.specs.Image.{overwritten, part};
 ghost use Rattle.wcache.specs.Runs.{calls_of};
 
@@ -94,10 +95,14 @@ impl<D: Disk> Disk for WCache<D> {
         requires { at + length into.old ≤ (D.device self.old.disk).size }
         ensures below { IsRead (D.device self.old.disk) (D.device self.new.disk) }
         ensures kept { self.new.collected ≡ self.old.collected }
-        ensures value { IsTrue (D.device self.old.disk).tells → OnOk result (into.new ≡ part at (length into.old) (cache_device D.device self.old).content) }
-        ensures content { IsTrue (D.device self.old.disk).tells → OnOk result ((cache_device D.device self.new).content ≡ (cache_device D.device self.old).content) }
-        ensures crash { IsTrue (D.device self.old.disk).tells → LeavesNoMore (cache_device D.device self.old) (cache_device D.device self.new) }
-        ensures since { IsTrue (D.device self.old.disk).tells → LeftNoMore (cache_device D.device self.old) (cache_device D.device self.new) }
+        ensures value { IsTrue (D.device self.old.disk).tells
+            → OnOk result (into.new ≡ part at (length into.old) (cache_device D.device self.old).content) }
+        ensures content { IsTrue (D.device self.old.disk).tells
+            → OnOk result ((cache_device D.device self.new).content ≡ (cache_device D.device self.old).content) }
+        ensures crash { IsTrue (D.device self.old.disk).tells
+            → LeavesNoMore (cache_device D.device self.old) (cache_device D.device self.new) }
+        ensures since { IsTrue (D.device self.old.disk).tells
+            → LeftNoMore (cache_device D.device self.old) (cache_device D.device self.new) }
         ensures time { Elapses (cache_device D.device self.old) (cache_device D.device self.new) }
         ensures call { IsRead (cache_device D.device self.old) (cache_device D.device self.new) }
         ensures cause { HasCause result (cache_device D.device self.old) (cache_device D.device self.new) }
@@ -116,9 +121,12 @@ impl<D: Disk> Disk for WCache<D> {
         ensures collects { OnOk result (self.new.collected ≡ overwritten at (map (λ octet. Some octet) from.now) self.old.collected) }
         ensures only_memory { IfErr result (λ error. error ≡ DiskError.Memory) }
         ensures untouched { OnErr result (self.new ≡ self.old) }
-        ensures content { IsTrue (D.device self.old.disk).tells → OnOk result ((cache_device D.device self.new).content ≡ overwritten at from.now (cache_device D.device self.old).content) }
-        ensures crash { IsTrue (D.device self.old.disk).tells → TearsAt at (length from.now) (cache_device D.device self.old) (cache_device D.device self.new) }
-        ensures since { IsTrue (D.device self.old.disk).tells → LeftTornAt at (length from.now) (cache_device D.device self.old) (cache_device D.device self.new) }
+        ensures content { IsTrue (D.device self.old.disk).tells
+            → OnOk result ((cache_device D.device self.new).content ≡ overwritten at from.now (cache_device D.device self.old).content) }
+        ensures crash { IsTrue (D.device self.old.disk).tells
+            → TearsAt at (length from.now) (cache_device D.device self.old) (cache_device D.device self.new) }
+        ensures since { IsTrue (D.device self.old.disk).tells
+            → LeftTornAt at (length from.now) (cache_device D.device self.old) (cache_device D.device self.new) }
         ensures time { Elapses (cache_device D.device self.old) (cache_device D.device self.new) }
         ensures call { OnAsked result (IsWrite (cache_device D.device self.old) (cache_device D.device self.new)) }
         ensures cause { HasCause result (cache_device D.device self.old) (cache_device D.device self.new) }
@@ -141,10 +149,14 @@ impl<D: Disk> Disk for WCache<D> {
         ensures calls { Makes D.device (calls_of self.old.collected) result self.old.disk self.new.disk }
         ensures forgets { OnOk result (self.new.collected ≡ replicate (length self.old.collected) None) }
         ensures keeps { OnErr result (self.new.collected ≡ self.old.collected) }
-        ensures durable { IsTrue (D.device self.old.disk).tells → OnOk result (LeavesOnly (cache_device D.device self.new) (cache_device D.device self.old).content) }
-        ensures content { IsTrue (D.device self.old.disk).tells → OnOk result ((cache_device D.device self.new).content ≡ (cache_device D.device self.old).content) }
-        ensures crash { IsTrue (D.device self.old.disk).tells → LeavesNoMore (cache_device D.device self.old) (cache_device D.device self.new) }
-        ensures since { IsTrue (D.device self.old.disk).tells → LeftNoMore (cache_device D.device self.old) (cache_device D.device self.new) }
+        ensures durable { IsTrue (D.device self.old.disk).tells
+            → OnOk result (LeavesOnly (cache_device D.device self.new) (cache_device D.device self.old).content) }
+        ensures content { IsTrue (D.device self.old.disk).tells
+            → OnOk result ((cache_device D.device self.new).content ≡ (cache_device D.device self.old).content) }
+        ensures crash { IsTrue (D.device self.old.disk).tells
+            → LeavesNoMore (cache_device D.device self.old) (cache_device D.device self.new) }
+        ensures since { IsTrue (D.device self.old.disk).tells
+            → LeftNoMore (cache_device D.device self.old) (cache_device D.device self.new) }
         ensures time { Elapses (cache_device D.device self.old) (cache_device D.device self.new) }
         ensures call { OnAsked result (IsSync (cache_device D.device self.old) (cache_device D.device self.new)) }
         ensures cause { HasCause result (cache_device D.device self.old) (cache_device D.device self.new) }

@@ -12,10 +12,30 @@ use Rattle.world.specs.World.{News, WorldView}
 abbrev over : {D : Type 0} → JournalView D → D → JournalView D
 over journal disk = record journal { disk = disk }
 
-phase_over : {D : Type 0} (tells : Bool) (journal : JournalView D) (kernel : KernelView) (untold : List News) (disk : D) → Phase tells journal kernel untold → Phase tells (over journal disk) kernel untold
-phase_over tells journal kernel untold disk (Quiet q) = Quiet (record { none = q.none; past = q.past; blocks = q.blocks; faults = q.faults })
-phase_over tells journal kernel untold disk (Flying last f) = Flying last (record { flies = f.flies; last_is = f.last_is; waits = f.waits; size = f.size; before = f.before; after = f.after; faults = f.faults })
-phase_over tells journal kernel untold disk (IsToBeTold last c) = IsToBeTold last (record { flies = c.flies; past = c.past; blocks = c.blocks; running = c.running; later = c.later; told = c.told; faults = c.faults })
+phase_over : {D : Type 0} (tells : Bool) (journal : JournalView D) (kernel : KernelView) (untold : List News) (disk : D)
+    → Phase tells journal kernel untold → Phase tells (over journal disk) kernel untold
+phase_over tells journal kernel untold disk (Quiet q) =
+    Quiet (record { none = q.none; past = q.past; blocks = q.blocks; faults = q.faults })
+phase_over tells journal kernel untold disk (Flying last f) =
+    Flying last (record {
+      flies = f.flies;
+      last_is = f.last_is;
+      waits = f.waits;
+      size = f.size;
+      before = f.before;
+      after = f.after;
+      faults = f.faults;
+    })
+phase_over tells journal kernel untold disk (IsToBeTold last c) =
+    IsToBeTold last (record {
+      flies = c.flies;
+      past = c.past;
+      blocks = c.blocks;
+      running = c.running;
+      later = c.later;
+      told = c.told;
+      faults = c.faults;
+    })
 
 pub sound_unchanged : {D : Type 0} (device : D → Device) (old : WorldView D) (new : JournalView D) (ticket : Option Ticket)
     → new ≡ record old.journal { disk = new.disk } → IsUnchanged (device old.journal.disk) (device new.disk)
@@ -23,8 +43,14 @@ pub sound_unchanged : {D : Type 0} (device : D → Device) (old : WorldView D) (
     → IsSound (device new.disk).tells (record { journal = new; served = old.served; untold = old.untold }) ticket
 sound_unchanged {D} device old new ticket view same h =
     subst (λ (tells : Bool). IsSound tells (record { journal = new; served = old.served; untold = old.untold }) ticket) (sym same.tells)
-    (subst (λ (journal : JournalView D). IsSound (device old.journal.disk).tells (record { journal = journal; served = old.served; untold = old.untold }) ticket) (sym view)
+    (subst (λ (journal : JournalView D). IsSound (device old.journal.disk).tells
+    (record { journal = journal; served = old.served; untold = old.untold }) ticket) (sym view)
     (record {
-      tied = record { label = h.tied.label; size = h.tied.size; format = h.tied.format; phase = phase_over (device old.journal.disk).tells old.journal old.served.kernel old.untold new.disk h.tied.phase };
+      tied = record {
+        label = h.tied.label;
+        size = h.tied.size;
+        format = h.tied.format;
+        phase = phase_over (device old.journal.disk).tells old.journal old.served.kernel old.untold new.disk h.tied.phase;
+      };
       flies = h.flies;
     }))

@@ -1,5 +1,6 @@
 -- An image that stands for enough changes is externally synchronous, and each that the journal admits is one.
-use Rattle.std.proofs.Common.{◌≡◌, inl, inr, ⊎_elim, ℕ, ◌≤◌, Bool, true, false, List, [], ◌∷◌, length, take, set, Option, Some, None, refl, ap, sym, ◌∙◌, subst, arith, length-take}
+use Rattle.std.proofs.Common.{◌≡◌, inl, inr, ⊎_elim, ℕ, ◌≤◌, Bool, true, false, List, [], ◌∷◌, length, take, set, Option, Some, None, refl}
+use Rattle.std.proofs.Common.{ap, sym, ◌∙◌, subst, arith, length-take}
 use Rattle.std.specs.Prelude.{unwrap_or, IsTrue, IfSome}
 use Rattle.std.proofs.lemmas.List.{length-set}
 use Rattle.disk.specs.Device.{Device}
@@ -27,15 +28,23 @@ use Rattle.journal.specs.Order.{is_to_commit}
 use Rattle.world.specs.Tied.{IsTied, IsWorld, LieBehind, Phase, Quiet, Flying, IsToBeTold}
 
 -- what was released to a session, also to one that never joined
-released_of : (host : Octets) (durable : ℕ) (sent : Option Sent) (seat : Option Seat) (connection : Connection Session) (outputs : List Output) → IsSession host durable sent seat connection outputs → IsReleased durable (unwrap_or sent nobody).released outputs
+released_of : (host : Octets) (durable : ℕ) (sent : Option Sent) (seat : Option Seat) (connection : Connection Session)
+    (outputs : List Output) → IsSession host durable sent seat connection outputs
+    → IsReleased durable (unwrap_or sent nobody).released outputs
 released_of host durable None seat connection outputs h = IsReleased-none durable outputs
 released_of host durable (Some sent) seat connection outputs h = h.released
 
 -- The theorem: with the durable changes left, or more.
-pub is_synchronous : (served : ServedView) → IsServed served → (p : ℕ) → served.kernel.durable ≤ p → (image : Octets) → Stands served.kernel.host image (take p served.kernel.spool)
+pub is_synchronous : (served : ServedView) → IsServed served → (p : ℕ) → served.kernel.durable ≤ p → (image : Octets)
+    → Stands served.kernel.host image (take p served.kernel.spool)
     → IsSynchronous served.kernel.host (first_spool served) (arrived_at served) served.trace (released_at served) p image
 is_synchronous served h p le image stands =
-    record { stands = subst (λ S. Stands host image (take p S)) (sym same) stands; depends = all.depends; same_spool = all.same_spool; begins = all.begins }
+    record {
+      stands = subst (λ S. Stands host image (take p S)) (sym same) stands;
+      depends = all.depends;
+      same_spool = all.same_spool;
+      begins = all.begins;
+    }
   where
     host : Octets
     host = served.kernel.host
@@ -44,24 +53,29 @@ is_synchronous served h p le image stands =
     run = (sync (service host) (first_spool served) (arrived_at served) served.trace).spool
 
     same : run ≡ served.kernel.spool
-    same = sym (ap (λ (s : Server _ _). s.spool) (account_sync (service host) (first_spool served) (arrived_at served) served.trace)) ∙ h.spool
+    same = sym (ap (λ (s : Server _ _). s.spool) (account_sync (service host) (first_spool served) (arrived_at served) served.trace))
+        ∙ h.spool
 
     all : IsExternallySynchronous (service host) (first_spool served) (arrived_at served) served.trace (released_at served) p (take p run)
     all =
         releases_are_synchronous (service host) (lawful host) (first_spool served) (arrived_at served) served.trace (released_at served) p
         (omega (arith, h.opening, length-take served.first served.kernel.spool))
-        (λ number. IsReleased-raise served.kernel.durable p (released_at served number) ((account served).outputs number) le (released_of host served.kernel.durable (session_at served.sessions number) (seat_of served.kernel number) _ _ (h.each number)))
+        (λ number. IsReleased-raise served.kernel.durable p (released_at served number) ((account served).outputs number) le
+        (released_of host served.kernel.durable (session_at served.sessions number) (seat_of served.kernel number) _ _ (h.each number)))
 
 -- ---- what the journal admits
 
-pub length-laid_over : (blocks : List Octets) (numbers : List ℕ) (images : List Octets) → length (laid_over blocks numbers images) ≡ length blocks
+pub length-laid_over : (blocks : List Octets) (numbers : List ℕ) (images : List Octets)
+    → length (laid_over blocks numbers images) ≡ length blocks
 length-laid_over blocks [] images = refl
 length-laid_over blocks (n ∷ numbers) [] = refl
 length-laid_over blocks (n ∷ numbers) (image ∷ images) = length-laid_over (set blocks n image) numbers images ∙ length-set blocks n image
 
 -- an image of a volume whose blocks hold these changes, in no lower format than the journal has
-stands_for : {D : Type 0} (tells : Bool) (world : WorldView D) (blocks : List Octets) (p : ℕ) (image : Octets) → IsTied tells world → length blocks ≡ length (kernel_of world).blocks
-    → Holds (kernel_of world).host (kernel_of world).inodes blocks (take p (kernel_of world).spool) → StandsFor image world.journal.label blocks → world.journal.format ≤ format_number image
+stands_for : {D : Type 0} (tells : Bool) (world : WorldView D) (blocks : List Octets) (p : ℕ) (image : Octets) → IsTied tells world
+    → length blocks ≡ length (kernel_of world).blocks
+    → Holds (kernel_of world).host (kernel_of world).inodes blocks (take p (kernel_of world).spool)
+    → StandsFor image world.journal.label blocks → world.journal.format ≤ format_number image
     → Stands (kernel_of world).host image (take p (kernel_of world).spool)
 stands_for tells world blocks p image h size holds volume risen =
     record {
@@ -74,17 +88,21 @@ stands_for tells world blocks p image h size holds volume risen =
     }
 
 -- where no batch is to be committed, the journal admits its blocks alone
-admits_blocks : {D : Type 0} (journal : JournalView D) (image : Octets) → is_to_commit journal.next ≡ false → Admits journal image → StandsFor image journal.label journal.blocks
+admits_blocks : {D : Type 0} (journal : JournalView D) (image : Octets) → is_to_commit journal.next ≡ false → Admits journal image
+    → StandsFor image journal.label journal.blocks
 admits_blocks journal image past admits =
     ⊎_elim (λ (stands : StandsFor image journal.label journal.blocks). stands)
-    (λ (batch : (journal.next ≡ Commit) × StandsFor image journal.label (with_batch journal)). absurd (let both : true ≡ false = ap is_to_commit (sym batch.0) ∙ past in cc))
+    (λ (batch : (journal.next ≡ Commit) × StandsFor image journal.label (with_batch journal)). absurd (let both : true ≡ false =
+    ap is_to_commit (sym batch.0) ∙ past in cc))
     admits.0
 
 -- the last serial of a batch in flight is no less than the durable one
-pub flying_last : (kernel : KernelView) (last : ℕ) → IsKept kernel → kernel.in_flight ≡ Some last → (kernel.durable ≤ last) × (last ≤ length kernel.spool)
+pub flying_last : (kernel : KernelView) (last : ℕ) → IsKept kernel → kernel.in_flight ≡ Some last
+    → (kernel.durable ≤ last) × (last ≤ length kernel.spool)
 flying_last kernel last kept flies = subst (λ o. IfSome o (λ n. (kernel.durable ≤ n) × (n ≤ length kernel.spool))) flies kept.flying
 
-pub admits_fits : {D : Type 0} (device : D → Device) (world : WorldView D) → IsWorld device world → IsTrue (device world.journal.disk).tells → (image : Octets) → Admits world.journal image → Fits world image
+pub admits_fits : {D : Type 0} (device : D → Device) (world : WorldView D) → IsWorld device world → IsTrue (device world.journal.disk).tells
+    → (image : Octets) → Admits world.journal image → Fits world image
 admits_fits {D} device world h tells image admits = go h.tied.phase
   where
     kernel : KernelView
@@ -96,16 +114,25 @@ admits_fits {D} device world h tells image admits = go h.tied.phase
     its_device : Device
     its_device = device world.journal.disk
 
-    fits : (p : ℕ) → MayBeLeft kernel p → kernel.durable ≤ p → (blocks : List Octets) → length blocks ≡ length kernel.blocks → Holds kernel.host kernel.inodes blocks (take p kernel.spool) → StandsFor image journal.label blocks → Fits world image
-    fits p may le blocks size holds volume = (p, may, is_synchronous world.served h.served p le image (stands_for its_device.tells world blocks p image h.tied size holds volume admits.1))
+    fits : (p : ℕ) → MayBeLeft kernel p → kernel.durable ≤ p → (blocks : List Octets) → length blocks ≡ length kernel.blocks
+        → Holds kernel.host kernel.inodes blocks (take p kernel.spool) → StandsFor image journal.label blocks → Fits world image
+    fits p may le blocks size holds volume = (
+      p,
+      may,
+      is_synchronous world.served h.served p le image
+          (stands_for its_device.tells world blocks p image h.tied size holds volume admits.1),
+    )
 
     go : Phase its_device.tells journal kernel world.untold → Fits world image
-    go (Quiet q) = let b : LieBehind kernel journal.blocks kernel.durable = q.blocks tells in fits kernel.durable (inl refl) (omega arith) journal.blocks b.agrees.size b.holds (admits_blocks journal image q.past admits)
+    go (Quiet q) = let b : LieBehind kernel journal.blocks kernel.durable = q.blocks tells in
+        fits kernel.durable (inl refl) (omega arith) journal.blocks b.agrees.size b.holds (admits_blocks journal image q.past admits)
     go (Flying last f) =
         let le = flying_last kernel last h.kernel f.flies in
         let b : LieBehind kernel (with_batch journal) last = f.after tells in
-        ⊎_elim (λ (stands : StandsFor image journal.label journal.blocks). fits kernel.durable (inl refl) (omega arith) journal.blocks (f.size tells) (f.before tells) stands)
-        (λ (batch : (journal.next ≡ Commit) × StandsFor image journal.label (with_batch journal)). fits last (inr f.flies) le.0 (with_batch journal) b.agrees.size b.holds batch.1)
+        ⊎_elim (λ (stands : StandsFor image journal.label journal.blocks). fits kernel.durable (inl refl) (omega arith) journal.blocks
+        (f.size tells) (f.before tells) stands)
+        (λ (batch : (journal.next ≡ Commit) × StandsFor image journal.label (with_batch journal)). fits last (inr f.flies) le.0
+        (with_batch journal) b.agrees.size b.holds batch.1)
         admits.0
     go (IsToBeTold last c) =
         let le = flying_last kernel last h.kernel c.flies in
@@ -113,5 +140,6 @@ admits_fits {D} device world h tells image admits = go h.tied.phase
         fits last (inr c.flies) le.0 journal.blocks b.agrees.size b.holds (admits_blocks journal image c.past admits)
 
 -- each image that a crash now may leave
-pub now_fits : {D : Type 0} (device : D → Device) (world : WorldView D) → IsWorld device world → IsTrue (device world.journal.disk).tells → (image : Octets) → (device world.journal.disk).may_leave image → Fits world image
+pub now_fits : {D : Type 0} (device : D → Device) (world : WorldView D) → IsWorld device world → IsTrue (device world.journal.disk).tells
+    → (image : Octets) → (device world.journal.disk).may_leave image → Fits world image
 now_fits device world h tells image left = admits_fits device world h tells image (h.admits tells image left)

@@ -21,14 +21,18 @@ use Rattle.world.specs.Images.{KeepsSpools, StandsForNone}
 use Rattle.journal.specs.Order.{is_to_commit}
 use Rattle.world.specs.Tied.{AreFaults, IsQuiet, Quiet}
 
-module _ {D : Type 0} (device : D → Device) (only_now : (d : D) (image : Octets) → IsTrue (device d).tells → (device d).left_since (device d).clock image → (device d).may_leave image)
+module _ {D : Type 0} (device : D → Device) (only_now : (d : D) (image : Octets) → IsTrue (device d).tells
+    → (device d).left_since (device d).clock image → (device d).may_leave image)
     (counts_content : (d : D) → IsTrue (device d).tells → (device d).may_leave (device d).content) where
   pub keeps_left : (first last : D) → LeftKept (device first) (device last) → KeepsSpools (device first) (device last)
   keeps_left first last kept tells image left =
       ⊎_elim
       (λ (was : (device first).left_since (device first).clock image). (image, only_now first image tells was, λ host S s. s))
-      (λ (same : AreSameVolume (device first).content image).
-      ((device first).content, counts_content first tells, λ host S s. rise_stands host (device first).content image same.0 same.1.0 S same.1.1.0 same.1.1.1.0 same.1.1.1.1 s))
+      (λ (same : AreSameVolume (device first).content image). (
+        (device first).content,
+        counts_content first tells,
+        λ host S s. rise_stands host (device first).content image same.0 same.1.0 S same.1.1.0 same.1.1.1.0 same.1.1.1.1 s,
+      ))
       (kept tells (device first).clock image (omega arith) left)
 
 -- neither stands for a spool
@@ -39,14 +43,19 @@ pub none_damaged : (content : Octets) → IsDamagedVolume content → StandsForN
 none_damaged content d host S s =
     let label : s.label ≡ d.label = sym s.volume.has_label ∙ d.volume.has_label in
     let blocks : s.blocks ≡ d.blocks = sym s.volume.has_blocks ∙ d.volume.has_blocks in
-    let its_label : IsLabel d.label (length d.blocks) s.inodes host = subst (λ (t : Octets × List Octets). IsLabel t.0 (length t.1) s.inodes host) (λ i. (label i, blocks i)) s.labelled in
+    let its_label : IsLabel d.label (length d.blocks) s.inodes host =
+    subst (λ (t : Octets × List Octets). IsLabel t.0 (length t.1) s.inodes host) (λ i. (label i, blocks i)) s.labelled in
     let same = label_same d.label (length d.blocks) s.inodes d.inodes host d.host its_label d.labelled in
-    d.holds_none S (subst (λ (t : Octets × ℕ × List Octets). HoldsIn (format_number content) t.0 t.1 t.2 S) (λ i. (same.1 i, same.0 i, blocks i)) s.held)
+    d.holds_none S (subst (λ (t : Octets × ℕ × List Octets). HoldsIn (format_number content) t.0 t.1 t.2 S)
+    (λ i. (same.1 i, same.0 i, blocks i)) s.held)
 
 -- ---- the new world
 
-pub sound_new : {D : Type 0} (device : D → Device) (journal : JournalView D) (kernel : KernelView) (served : ServedView) → served ≡ opens kernel → IsOpened device journal kernel → journal.format ≡ 2 → IsReady journal → IsSound (device journal.disk).tells (record { journal = journal; served = served; untold = [] }) None
-sound_new {D} device journal kernel served is k format ready = subst (λ s. IsSound (device journal.disk).tells (record { journal = journal; served = s; untold = [] }) None) (sym is) now
+pub sound_new : {D : Type 0} (device : D → Device) (journal : JournalView D) (kernel : KernelView) (served : ServedView)
+    → served ≡ opens kernel → IsOpened device journal kernel → journal.format ≡ 2 → IsReady journal
+    → IsSound (device journal.disk).tells (record { journal = journal; served = served; untold = [] }) None
+sound_new {D} device journal kernel served is k format ready =
+    subst (λ s. IsSound (device journal.disk).tells (record { journal = journal; served = s; untold = [] }) None) (sym is) now
   where
     all : take kernel.durable kernel.spool ≡ kernel.spool
     all = take_all kernel.durable kernel.spool (omega (arith, k.fresh.durable))

@@ -1,5 +1,6 @@
 -- What a crash at some moment of an event might have left.
-use Rattle.std.proofs.Common.{◌≡◌, ◌≢◌, ◌⊎◌, inl, inr, ⊎_elim, ℕ, ◌≤◌, Bool, true, false, Option, Some, None, refl, ap, sym, ◌∙◌, subst, arith}
+use Rattle.std.proofs.Common.{◌≡◌, ◌≢◌, ◌⊎◌, inl, inr, ⊎_elim, ℕ, ◌≤◌, Bool, true, false, Option, Some, None, refl, ap, sym, ◌∙◌, subst}
+use Rattle.std.proofs.Common.{arith}
 use Rattle.std.specs.Prelude.{IsTrue, IfErr, MatchResult, Result, Ok, Err}
 use Rattle.disk.specs.Device.{Device, Elapses}
 use Rattle.journal.specs.Calls.{IsRetried, MakesCall, OnMade, OnRetried}
@@ -29,13 +30,15 @@ use Rattle.world.proofs.Sound.{tested_or}
 
 -- an image fits by what is served alone
 FitsAt : ServedView → Octets → Type 0
-FitsAt served image = (p : ℕ) × MayBeLeft served.kernel p × IsSynchronous served.kernel.host (first_spool served) (arrived_at served) served.trace (released_at served) p image
+FitsAt served image = (p : ℕ) × MayBeLeft served.kernel p × IsSynchronous served.kernel.host (first_spool served)
+    (arrived_at served) served.trace (released_at served) p image
 
 module _ {D : Type 0} (device : D → Device) (write_grows sync_grows : Bool) (old new : WorldView D) where
   Left : Type 0
   Left =
       LeftFits (device old.journal.disk) (device new.journal.disk) (Fits old)
-      × (((device new.journal.disk).tells ≡ (device old.journal.disk).tells) × ((device old.journal.disk).clock ≤ (device new.journal.disk).clock))
+      × (((device new.journal.disk).tells ≡ (device old.journal.disk).tells)
+      × ((device old.journal.disk).clock ≤ (device new.journal.disk).clock))
 
   -- an event without a device call
   same_disk : new.journal.disk ≡ old.journal.disk → Left
@@ -51,11 +54,13 @@ module _ {D : Type 0} (device : D → Device) (write_grows sync_grows : Bool) (o
   by_served : (served : ServedView) → new ≡ with_served old served → Left
   by_served served is = same_disk (ap (λ (w : WorldView D). w.journal.disk) is)
 
-  by_tests : {A E : Type 0} (as_error : Refusal → E) (memory : E) (early refusal : Option Refusal) (r : Result A E) (done : A → Type 0) → ((x : A) → done x → Left) → TestedOrMemory as_error memory early refusal old new r done → Left
+  by_tests : {A E : Type 0} (as_error : Refusal → E) (memory : E) (early refusal : Option Refusal) (r : Result A E) (done : A → Type 0)
+      → ((x : A) → done x → Left) → TestedOrMemory as_error memory early refusal old new r done → Left
   by_tests as_error memory early refusal (Ok x) done f h = f x h.1
   by_tests as_error memory early refusal (Err e) done f h = by_world h.1
 
-  left_exec : (number moment : ℕ) (m : Option Mode) (found : Option (Message × Octets)) (r : Result Answer StepError) → DidExec old number moment m found r new → Left
+  left_exec : (number moment : ℕ) (m : Option Mode) (found : Option (Message × Octets)) (r : Result Answer StepError)
+      → DidExec old number moment m found r new → Left
   left_exec number moment None found r d = by_world d.1
   left_exec number moment (Some mode) None (Ok a) d = by_world d.1
   left_exec number moment (Some mode) None (Err e) d = by_world d.1
@@ -68,7 +73,8 @@ module _ {D : Type 0} (device : D → Device) (write_grows sync_grows : Bool) (o
       begins : old.journal.halted ≡ false → old.journal.next ≡ next.Idle → has_batch (kernel_of old) ≡ true → Left
       begins runs idle has = same_disk (ap (λ (w : WorldView D). w.journal.disk) (d.takes (runs, idle) has).1)
 
-      go : (halted : Bool) → old.journal.halted ≡ halted → (old.journal.next ≡ next.Idle) ⊎ (old.journal.next ≢ next.Idle) → (has : Bool) → has_batch (kernel_of old) ≡ has → Left
+      go : (halted : Bool) → old.journal.halted ≡ halted → (old.journal.next ≡ next.Idle) ⊎ (old.journal.next ≢ next.Idle) → (has : Bool)
+          → has_batch (kernel_of old) ≡ has → Left
       go true is at has is_there = by_world (d.stays (λ ready b. absurd (let both : true ≡ false = sym is ∙ ready.0 in cc))).1
       go false is at false is_there = by_world (d.stays (λ ready b. absurd (let both : false ≡ true = sym is_there ∙ b in cc))).1
       go false is (inl idle) true is_there = begins is idle is_there
@@ -85,12 +91,14 @@ module _ {D : Type 0} (device : D → Device) (write_grows sync_grows : Bool) (o
       called : Elapses (device old.journal.disk) (device new.journal.disk) → LeftAdmitted device old.journal new.journal → Left
       called time since = (
         λ tells t image le left. ⊎_elim (λ (was : (device old.journal.disk).left_since t image). inl was)
-            (λ (admits : Admits new.journal image). inr (subst (λ s. FitsAt s image) d.served (admits_fits device new h (subst IsTrue (sym time.tells) tells) image admits)))
+            (λ (admits : Admits new.journal image). inr
+            (subst (λ s. FitsAt s image) d.served (admits_fits device new h (subst IsTrue (sym time.tells) tells) image admits)))
             (since tells t image le left),
         (time.tells, time.later),
       )
 
-      by_answer : (a : Result Progress JournalError) → OnMade a (MakesCall device old.journal new.journal a) → OnRetried a (IsRetried device old.journal new.journal) → IfErr a (λ e. (e ≡ journal.Fault) ⊎ (e ≡ journal.Memory)) → Left
+      by_answer : (a : Result Progress JournalError) → OnMade a (MakesCall device old.journal new.journal a)
+          → OnRetried a (IsRetried device old.journal new.journal) → IfErr a (λ e. (e ≡ journal.Fault) ⊎ (e ≡ journal.Memory)) → Left
       by_answer (Ok p) m retried errors = called m.time m.since
       by_answer (Err e) made retried (inl is) = called (made is).time (made is).since
       by_answer (Err e) made retried (inr is) = called (retried is).refused.time (retried is).since
@@ -103,16 +111,21 @@ module _ {D : Type 0} (device : D → Device) (write_grows sync_grows : Bool) (o
       go false is (inl idle) = same (d.steps.idle is idle).1
       go false is (inr flies) = calls is flies
 
-  left_release : (r : Result Answer StepError) (P : Answer → Type 0) → ((a : Answer) → P a → Left) → MatchResult r P (λ e. (e ≡ error.Memory) × (new ≡ old)) → Left
+  left_release : (r : Result Answer StepError) (P : Answer → Type 0) → ((a : Answer) → P a → Left)
+      → MatchResult r P (λ e. (e ≡ error.Memory) × (new ≡ old)) → Left
   left_release (Ok a) P f h = f a h
   left_release (Err e) P f h = by_world h.1
 
   did_left : (e : Event) (r : Result Answer StepError) → IsWorld device new → Did device write_grows sync_grows old e r new → Left
-  did_left event.Join r h d = by_tests of_kernel error.Memory None (join_refusal (kernel_of old)) r _ (λ a done. by_served _ done.1) (tested_or of_kernel error.Memory (join_refusal (kernel_of old)) old new r _ d)
+  did_left event.Join r h d = by_tests of_kernel error.Memory None (join_refusal (kernel_of old)) r _ (λ a done. by_served _ done.1)
+      (tested_or of_kernel error.Memory (join_refusal (kernel_of old)) old new r _ d)
   did_left (event.Leave number) r h d = by_served _ d.1
-  did_left (event.Arrive number octets) r h d = by_tests of_kernel error.Memory None (arrive_refusal (kernel_of old) number) r _ (λ a done. by_served _ done.1) (tested_or of_kernel error.Memory (arrive_refusal (kernel_of old) number) old new r _ d)
+  did_left (event.Arrive number octets) r h d =
+      by_tests of_kernel error.Memory None (arrive_refusal (kernel_of old) number) r _ (λ a done. by_served _ done.1)
+      (tested_or of_kernel error.Memory (arrive_refusal (kernel_of old) number) old new r _ d)
   did_left (event.Exec number moment) r h d = left_exec number moment (mode_at (kernel_of old) number) (next_of old.served number) r d
-  did_left (event.Admin name status description moment) r h d = by_tests of_kernel error.Memory _ _ r _ (λ a done. by_served new.served done.3) d
+  did_left (event.Admin name status description moment) r h d =
+      by_tests of_kernel error.Memory _ _ r _ (λ a done. by_served new.served done.3) d
   did_left (event.Expire name number) r h d = by_tests of_kernel error.Memory _ _ r _ (λ a done. by_served new.served done.3) d
   did_left event.Take r h d = left_take r d
   did_left event.Dev r h d = left_dev r h d
@@ -121,18 +134,23 @@ module _ {D : Type 0} (device : D → Device) (write_grows sync_grows : Bool) (o
   did_left (event.ReleaseOf number) r h d = left_release r _ (λ a done. by_served _ done.1) d
 
   -- a crash at some moment of the event leaves what fits the world before it
-  pub step_since : (e : Event) (r : Result Answer StepError) → IsWorld device new → Did device write_grows sync_grows old e r new → LeftFits (device old.journal.disk) (device new.journal.disk) (Fits old)
+  pub step_since : (e : Event) (r : Result Answer StepError) → IsWorld device new → Did device write_grows sync_grows old e r new
+      → LeftFits (device old.journal.disk) (device new.journal.disk) (Fits old)
   unfolding Left
   step_since e r h d = (did_left e r h d).0
 
   -- the device tells as before, and time goes on
-  pub step_goes_on : (e : Event) (r : Result Answer StepError) → IsWorld device new → Did device write_grows sync_grows old e r new → ((device new.journal.disk).tells ≡ (device old.journal.disk).tells) × ((device old.journal.disk).clock ≤ (device new.journal.disk).clock)
+  pub step_goes_on : (e : Event) (r : Result Answer StepError) → IsWorld device new → Did device write_grows sync_grows old e r new
+      → ((device new.journal.disk).tells ≡ (device old.journal.disk).tells)
+      × ((device old.journal.disk).clock ≤ (device new.journal.disk).clock)
   unfolding Left
   step_goes_on e r h d = (did_left e r h d).1
 
-  pub step_during : ((d : D) (image : Octets) → IsTrue (device d).tells → (device d).left_since (device d).clock image → (device d).may_leave image) → IsWorld device old → LeftFits (device old.journal.disk) (device new.journal.disk) (Fits old)
+  pub step_during : ((d : D) (image : Octets) → IsTrue (device d).tells → (device d).left_since (device d).clock image
+      → (device d).may_leave image) → IsWorld device old → LeftFits (device old.journal.disk) (device new.journal.disk) (Fits old)
       → EachSince (device old.journal.disk) (device new.journal.disk) (Fits old)
   step_during only_now h since tells image left =
-      ⊎_elim (λ (was : (device old.journal.disk).left_since (device old.journal.disk).clock image). now_fits device old h tells image (only_now old.journal.disk image tells was))
+      ⊎_elim (λ (was : (device old.journal.disk).left_since (device old.journal.disk).clock image). now_fits device old h tells image
+      (only_now old.journal.disk image tells was))
       (λ (fits : Fits old image). fits)
       (since tells (device old.journal.disk).clock image (omega arith) left)

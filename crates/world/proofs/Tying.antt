@@ -1,5 +1,6 @@
 -- Each event keeps the tie between journal and kernel.
-use Rattle.std.proofs.Common.{◌≡◌, ◌≢◌, ◌⊎◌, inl, inr, ⊎_elim, ℕ, ◌≤◌, ◌<◌, ◌==◌, Bool, true, false, List, [], ◌∷◌, ◌++◌, length, take, Option, Some, None, refl, ap, sym, ◌∙◌, subst, arith}
+use Rattle.std.proofs.Common.{◌≡◌, ◌≢◌, ◌⊎◌, inl, inr, ⊎_elim, ℕ, ◌≤◌, ◌<◌, ◌==◌, Bool, true, false, List, [], ◌∷◌, ◌++◌, length, take}
+use Rattle.std.proofs.Common.{Option, Some, None, refl, ap, sym, ◌∙◌, subst, arith}
 use Rattle.std.specs.Prelude.{bytes_eq, slice_index_or, not, ◌||◌, is_some, IfErr, IsTrue, map, Result, Ok, Err}
 use Rattle.std.specs.Option.{option_to_list}
 use Rattle.std.proofs.lemmas.List.{append-nil, take-append-le, take_all}
@@ -14,7 +15,8 @@ use Rattle.journal.specs.declared.Next.{Next}
 use Rattle.journal.specs.declared.Next.TheVariants as next
 use Rattle.journal.specs.declared.Progress.{Progress}
 use Rattle.journal.specs.declared.Progress.TheVariants.{Working}
-use Rattle.kernel.specs.Kernel.{KernelView, AgreesBehind, Dirties, Executed, Administers, has_batch, halted_for_good, is_dirty, made_durable, taken}
+use Rattle.kernel.specs.Kernel.{KernelView, AgreesBehind, Dirties, Executed, Administers, has_batch, halted_for_good, is_dirty}
+use Rattle.kernel.specs.Kernel.{made_durable, taken}
 use Rattle.seats.specs.Seats.{Seat}
 use Rattle.kernel.specs.Kept.{IsKept}
 use Rattle.model.specs.Layout.{IsLabel}
@@ -61,16 +63,28 @@ agrees_still old new base d h = record { size = h.size ∙ sym d.size; clean = c
   where
     clean : (k : ℕ) → k < length new.blocks → is_dirty new k ≡ false → slice_index_or base k [] ≡ slice_index_or new.blocks k []
     clean k lt is =
-        let parts = or_false (is_dirty old k) (not (bytes_eq (slice_index_or old.blocks k []) (slice_index_or new.blocks k []))) (sym (d.exactly k lt) ∙ is) in
+        let parts = or_false (is_dirty old k) (not (bytes_eq (slice_index_or old.blocks k []) (slice_index_or new.blocks k [])))
+        (sym (d.exactly k lt) ∙ is) in
         let same : slice_index_or old.blocks k [] ≡ slice_index_or new.blocks k [] =
         (bytes_eq-Decides (slice_index_or old.blocks k []) (slice_index_or new.blocks k [])).0 (not_false _ parts.1) in
         h.clean k (omega (arith, d.size)) parts.0 ∙ same
 
 pub Grows-refl : (kernel : KernelView) (joined : ℕ) (seats : List Seat) → Grows kernel (record kernel { joined = joined; seats = seats })
 Grows-refl kernel joined seats =
-    record { host = refl; inodes = refl; durable = refl; in_flight = refl; halted = refl; more = []; spool = sym (append-nil kernel.spool); size = refl; agrees = λ base h. record { size = h.size; clean = h.clean } }
+    record {
+      host = refl;
+      inodes = refl;
+      durable = refl;
+      in_flight = refl;
+      halted = refl;
+      more = [];
+      spool = sym (append-nil kernel.spool);
+      size = refl;
+      agrees = λ base h. record { size = h.size; clean = h.clean };
+    }
 
-pub Grows-executed : (old new : KernelView) (seat : Seat) (m : Message) (t : ℕ) (mark : Mark) → Executed old new seat m t mark → Grows old new
+pub Grows-executed : (old new : KernelView) (seat : Seat) (m : Message) (t : ℕ) (mark : Mark) → Executed old new seat m t mark
+    → Grows old new
 Grows-executed old new seat m t mark e =
     record {
       host = e.host;
@@ -102,14 +116,16 @@ module _ (old new : KernelView) (g : Grows old new) where
   first_stays : (p : ℕ) → p ≤ length old.spool → take p new.spool ≡ take p old.spool
   first_stays p le = ap (take p) g.spool ∙ take-append-le p old.spool g.more le
 
-  holds_still : (blocks : List Octets) (p : ℕ) → p ≤ length old.spool → Holds old.host old.inodes blocks (take p old.spool) → Holds new.host new.inodes blocks (take p new.spool)
+  holds_still : (blocks : List Octets) (p : ℕ) → p ≤ length old.spool → Holds old.host old.inodes blocks (take p old.spool)
+      → Holds new.host new.inodes blocks (take p new.spool)
   holds_still blocks p le h =
       subst (λ (t : Octets × ℕ × Spool). Holds t.0 t.1 blocks t.2) (λ i. (sym g.host i, sym g.inodes i, sym (first_stays p le) i)) h
 
   lie_still : (blocks : List Octets) (p : ℕ) → p ≤ length old.spool → LieBehind old blocks p → LieBehind new blocks p
   lie_still blocks p le h = record { agrees = g.agrees blocks h.agrees; holds = holds_still blocks p le h.holds }
 
-  phase_grows : {D : Type 0} (tells : Bool) (journal : JournalView D) (untold : List News) → IsKept old → Phase tells journal old untold → Phase tells journal new untold
+  phase_grows : {D : Type 0} (tells : Bool) (journal : JournalView D) (untold : List News) → IsKept old → Phase tells journal old untold
+      → Phase tells journal new untold
   phase_grows tells journal untold kept (Quiet q) =
       Quiet (record {
         none = g.in_flight ∙ q.none;
@@ -124,7 +140,8 @@ module _ (old new : KernelView) (g : Grows old new) where
         last_is = f.last_is;
         waits = f.waits;
         size = λ t. f.size t ∙ sym g.size;
-        before = λ t. subst (λ p. Holds new.host new.inodes journal.blocks (take p new.spool)) (sym g.durable) (holds_still journal.blocks old.durable kept.durable (f.before t));
+        before = λ t. subst (λ p. Holds new.host new.inodes journal.blocks (take p new.spool)) (sym g.durable)
+            (holds_still journal.blocks old.durable kept.durable (f.before t));
         after = λ t. lie_still (with_batch journal) last le.1 (f.after t);
         faults = subst (λ b. AreFaults journal.halted b untold) (sym g.halted) f.faults;
       })
@@ -141,10 +158,12 @@ module _ (old new : KernelView) (g : Grows old new) where
       })
 
 -- the sessions and the kernel's changes go on
-pub IsTied-grows : {D : Type 0} (tells : Bool) (world : WorldView D) (served : ServedView) → IsKept (kernel_of world) → Grows (kernel_of world) served.kernel → IsTied tells world → IsTied tells (with_served world served)
+pub IsTied-grows : {D : Type 0} (tells : Bool) (world : WorldView D) (served : ServedView) → IsKept (kernel_of world)
+    → Grows (kernel_of world) served.kernel → IsTied tells world → IsTied tells (with_served world served)
 IsTied-grows tells world served kept g h =
     record {
-      label = subst (λ (t : ℕ × ℕ × Octets). IsLabel world.journal.label t.0 t.1 t.2) (λ i. (sym g.size i, sym g.inodes i, sym g.host i)) h.label;
+      label = subst (λ (t : ℕ × ℕ × Octets). IsLabel world.journal.label t.0 t.1 t.2) (λ i. (sym g.size i, sym g.inodes i, sym g.host i))
+          h.label;
       size = h.size ∙ sym g.size;
       format = h.format;
       phase = phase_grows (kernel_of world) served.kernel g tells world.journal world.untold kept h.phase;
@@ -170,9 +189,16 @@ batch_parts kernel is =
 faults_none : (halted : Bool) (news : List News) → AreFaults false halted news → news ≡ []
 faults_none halted news h = h.1
 
-pub IsTied-takes : {D : Type 0} (tells : Bool) (world : WorldView D) → IsKept (kernel_of world) → IsReady world.journal → has_batch (kernel_of world) ≡ true
-    → ((base : List Octets) → AgreesBehind (kernel_of world) base → laid_over base (kernel_of world).dirty (map (λ n. slice_index_or (kernel_of world).blocks n []) (kernel_of world).dirty) ≡ (kernel_of world).blocks)
-    → IsTied tells world → IsTied tells (record { journal = begun world.journal (kernel_of world); served = with_kernel world.served (taken (kernel_of world)); untold = world.untold })
+pub IsTied-takes : {D : Type 0} (tells : Bool) (world : WorldView D) → IsKept (kernel_of world) → IsReady world.journal
+    → has_batch (kernel_of world) ≡ true
+    → ((base : List Octets) → AgreesBehind (kernel_of world) base
+    → laid_over base (kernel_of world).dirty (map (λ n. slice_index_or (kernel_of world).blocks n []) (kernel_of world).dirty)
+    ≡ (kernel_of world).blocks)
+    → IsTied tells world → IsTied tells (record {
+      journal = begun world.journal (kernel_of world);
+      served = with_kernel world.served (taken (kernel_of world));
+      untold = world.untold;
+    })
 IsTied-takes {D} tells world kept ready has lays h = record { label = h.label; size = h.size; format = h.format; phase = go h.phase }
   where
     kernel : KernelView
@@ -202,7 +228,8 @@ IsTied-takes {D} tells world kept ready has lays h = record { label = h.label; s
           waits = refl;
           size = λ t. let b : LieBehind kernel journal.blocks kernel.durable = q.blocks t in b.agrees.size;
           before = λ t. let b : LieBehind kernel journal.blocks kernel.durable = q.blocks t in b.holds;
-          after = λ t. let b : LieBehind kernel journal.blocks kernel.durable = q.blocks t in lies (with_batch (begun journal kernel)) (lays journal.blocks b.agrees);
+          after = λ t. let b : LieBehind kernel journal.blocks kernel.durable = q.blocks t in
+              lies (with_batch (begun journal kernel)) (lays journal.blocks b.agrees);
           faults = q.faults;
         })
     go (Flying last f) = absurd (let both : Some last ≡ None = sym f.flies ∙ parts.0 in cc)
@@ -217,13 +244,20 @@ WaitsOn n counts call = (is_to_commit (following n counts call) ≡ true) × ((l
 -- what a call leaves of what the tie speaks of
 module _ {D : Type 0} (tells : Bool) (old new : JournalView D) (kernel : KernelView) (runs : old.halted ≡ false) where
   -- the blocks stay, and so do they with the batch
-  lies_on : (p : ℕ) → (IsTrue tells → new.blocks ≡ old.blocks) → (IsTrue tells → LieBehind kernel old.blocks p) → IsTrue tells → LieBehind kernel new.blocks p
+  lies_on : (p : ℕ) → (IsTrue tells → new.blocks ≡ old.blocks) → (IsTrue tells → LieBehind kernel old.blocks p) → IsTrue tells
+      → LieBehind kernel new.blocks p
   lies_on p same h t = subst (λ blocks. LieBehind kernel blocks p) (sym (same t)) (h t)
 
   -- a good call that commits nothing, of a batch that is committed, or of none
-  phase_past : (untold : List News) → is_to_commit new.next ≡ false → new.halted ≡ false → (IsTrue tells → new.blocks ≡ old.blocks) → is_to_commit old.next ≡ false → Phase tells old kernel untold → Phase tells new kernel untold
+  phase_past : (untold : List News) → is_to_commit new.next ≡ false → new.halted ≡ false → (IsTrue tells → new.blocks ≡ old.blocks)
+      → is_to_commit old.next ≡ false → Phase tells old kernel untold → Phase tells new kernel untold
   phase_past untold past halted same was (Quiet q) =
-      Quiet (record { none = q.none; past = past; blocks = lies_on kernel.durable same q.blocks; faults = subst (λ b. AreFaults b kernel.halted untold) (runs ∙ sym halted) q.faults })
+      Quiet (record {
+        none = q.none;
+        past = past;
+        blocks = lies_on kernel.durable same q.blocks;
+        faults = subst (λ b. AreFaults b kernel.halted untold) (runs ∙ sym halted) q.faults;
+      })
   phase_past untold past halted same was (Flying last f) = absurd (let both : true ≡ false = sym f.waits ∙ was in cc)
   phase_past untold past halted same was (IsToBeTold last c) =
       IsToBeTold last (record {
@@ -240,16 +274,19 @@ module _ {D : Type 0} (tells : Bool) (old new : JournalView D) (kernel : KernelV
   no_faults : (halted : Bool) (news : List News) → AreFaults old.halted halted news → (halted ≡ false) × (news ≡ [])
   no_faults halted news h = subst (λ b. AreFaults b halted news) runs h
 
-  faulted : (halted : Bool) (news : List News) → AreFaults old.halted halted news → new.halted ≡ true → AreFaults new.halted halted (news ++ HasFailed ∷ [])
+  faulted : (halted : Bool) (news : List News) → AreFaults old.halted halted news → new.halted ≡ true
+      → AreFaults new.halted halted (news ++ HasFailed ∷ [])
   faulted halted news h is =
       let f = no_faults halted news h in
       subst (λ (t : Bool × Bool × List News). AreFaults t.0 t.1 (t.2 ++ HasFailed ∷ [])) (λ i. (sym is i, sym f.0 i, sym f.1 i)) refl
 
-  with_batch_on : new.numbers ≡ old.numbers → new.images ≡ old.images → (IsTrue tells → new.blocks ≡ old.blocks) → IsTrue tells → with_batch new ≡ with_batch old
+  with_batch_on : new.numbers ≡ old.numbers → new.images ≡ old.images → (IsTrue tells → new.blocks ≡ old.blocks) → IsTrue tells
+      → with_batch new ≡ with_batch old
   with_batch_on numbers images same t = λ i. laid_over (same t i) (numbers i) (images i)
 
   -- a batch that waits on
-  flies_on : (last : ℕ) (untold news : List News) → IsFlying tells old kernel untold last → new.last ≡ old.last → new.numbers ≡ old.numbers → new.images ≡ old.images → (IsTrue tells → new.blocks ≡ old.blocks) → is_to_commit new.next ≡ true
+  flies_on : (last : ℕ) (untold news : List News) → IsFlying tells old kernel untold last → new.last ≡ old.last → new.numbers ≡ old.numbers
+      → new.images ≡ old.images → (IsTrue tells → new.blocks ≡ old.blocks) → is_to_commit new.next ≡ true
       → AreFaults new.halted kernel.halted news → IsFlying tells new kernel news last
   flies_on last untold news f last_is numbers images same waits faults =
       record {
@@ -257,18 +294,26 @@ module _ {D : Type 0} (tells : Bool) (old new : JournalView D) (kernel : KernelV
         last_is = last_is ∙ f.last_is;
         waits = waits;
         size = λ t. ap length (same t) ∙ f.size t;
-        before = λ t. subst (λ blocks. Holds kernel.host kernel.inodes blocks (take kernel.durable kernel.spool)) (sym (same t)) (f.before t);
+        before = λ t. subst (λ blocks. Holds kernel.host kernel.inodes blocks (take kernel.durable kernel.spool)) (sym (same t))
+            (f.before t);
         after = λ t. subst (λ blocks. LieBehind kernel blocks last) (sym (with_batch_on numbers images same t)) (f.after t);
         faults = faults;
       }
 
   -- a call that failed
-  phase_faulted : (untold : List News) (n : ℕ) → new.next ≡ at_fault n (sizes old) old.next → new.halted ≡ true → new.last ≡ old.last → new.numbers ≡ old.numbers → new.images ≡ old.images → (IsTrue tells → new.blocks ≡ old.blocks)
+  phase_faulted : (untold : List News) (n : ℕ) → new.next ≡ at_fault n (sizes old) old.next → new.halted ≡ true → new.last ≡ old.last
+      → new.numbers ≡ old.numbers → new.images ≡ old.images → (IsTrue tells → new.blocks ≡ old.blocks)
       → Phase tells old kernel untold → Phase tells new kernel (untold ++ HasFailed ∷ [])
   phase_faulted untold n call halted last_is numbers images same (Quiet q) =
-      Quiet (record { none = q.none; past = ap is_to_commit call ∙ past_at_fault n (sizes old) old.next q.past; blocks = lies_on kernel.durable same q.blocks; faults = faulted kernel.halted untold q.faults halted })
+      Quiet (record {
+        none = q.none;
+        past = ap is_to_commit call ∙ past_at_fault n (sizes old) old.next q.past;
+        blocks = lies_on kernel.durable same q.blocks;
+        faults = faulted kernel.halted untold q.faults halted;
+      })
   phase_faulted untold n call halted last_is numbers images same (Flying last f) =
-      Flying last (flies_on last untold (untold ++ HasFailed ∷ []) f last_is numbers images same (ap is_to_commit call ∙ waits_at_fault n (sizes old) old.next f.waits) (faulted kernel.halted untold f.faults halted))
+      Flying last (flies_on last untold (untold ++ HasFailed ∷ []) f last_is numbers images same (ap is_to_commit call
+      ∙ waits_at_fault n (sizes old) old.next f.waits) (faulted kernel.halted untold f.faults halted))
   phase_faulted untold n call halted last_is numbers images same (IsToBeTold last c) =
       IsToBeTold last (record {
         flies = c.flies;
@@ -281,11 +326,18 @@ module _ {D : Type 0} (tells : Bool) (old new : JournalView D) (kernel : KernelV
       })
 
   -- a call that the device refused for want of memory
-  phase_retried : (untold : List News) → new.next ≡ old.next → new.halted ≡ old.halted → new.last ≡ old.last → new.numbers ≡ old.numbers → new.images ≡ old.images → (IsTrue tells → new.blocks ≡ old.blocks) → Phase tells old kernel untold → Phase tells new kernel untold
+  phase_retried : (untold : List News) → new.next ≡ old.next → new.halted ≡ old.halted → new.last ≡ old.last → new.numbers ≡ old.numbers
+      → new.images ≡ old.images → (IsTrue tells → new.blocks ≡ old.blocks) → Phase tells old kernel untold → Phase tells new kernel untold
   phase_retried untold call halted last_is numbers images same (Quiet q) =
-      Quiet (record { none = q.none; past = ap is_to_commit call ∙ q.past; blocks = lies_on kernel.durable same q.blocks; faults = subst (λ b. AreFaults b kernel.halted untold) (sym halted) q.faults })
+      Quiet (record {
+        none = q.none;
+        past = ap is_to_commit call ∙ q.past;
+        blocks = lies_on kernel.durable same q.blocks;
+        faults = subst (λ b. AreFaults b kernel.halted untold) (sym halted) q.faults;
+      })
   phase_retried untold call halted last_is numbers images same (Flying last f) =
-      Flying last (flies_on last untold untold f last_is numbers images same (ap is_to_commit call ∙ f.waits) (subst (λ b. AreFaults b kernel.halted untold) (sym halted) f.faults))
+      Flying last (flies_on last untold untold f last_is numbers images same (ap is_to_commit call
+      ∙ f.waits) (subst (λ b. AreFaults b kernel.halted untold) (sym halted) f.faults))
   phase_retried untold call halted last_is numbers images same (IsToBeTold last c) =
       IsToBeTold last (record {
         flies = c.flies;
@@ -298,16 +350,22 @@ module _ {D : Type 0} (tells : Bool) (old new : JournalView D) (kernel : KernelV
       })
 
   -- a call that went well
-  phase_went : (untold : List News) (n : ℕ) → new.next ≡ following n (sizes old) old.next → new.halted ≡ false → new.last ≡ old.last → new.numbers ≡ old.numbers → new.images ≡ old.images → (IsTrue tells → new.blocks ≡ blocks_after old (answer old.last (sizes old) old.next))
+  phase_went : (untold : List News) (n : ℕ) → new.next ≡ following n (sizes old) old.next → new.halted ≡ false → new.last ≡ old.last
+      → new.numbers ≡ old.numbers → new.images ≡ old.images
+      → (IsTrue tells → new.blocks ≡ blocks_after old (answer old.last (sizes old) old.next))
       → Phase tells old kernel untold → Phase tells new kernel (untold ++ news_of (Ok (answer old.last (sizes old) old.next)))
   phase_went untold n call halted last_is numbers images blocks phase = go (is_to_commit old.next) refl
     where
       goes_past : is_to_commit old.next ≡ false → Phase tells new kernel (untold ++ news_of (Ok (answer old.last (sizes old) old.next)))
       goes_past was =
-          subst (Phase tells new kernel) (sym (ap (λ xs. untold ++ xs) (past_answer (λ p. news_of (Ok p) ≡ []) old.last (sizes old) old.next refl refl was) ∙ append-nil untold))
-          (phase_past untold (ap is_to_commit call ∙ past_following n (sizes old) old.next was) halted (λ t. blocks t ∙ past_answer (λ p. blocks_after old p ≡ old.blocks) old.last (sizes old) old.next refl refl was) was phase)
+          subst (Phase tells new kernel) (sym
+          (ap (λ xs. untold ++ xs) (past_answer (λ p. news_of (Ok p) ≡ []) old.last (sizes old) old.next refl refl was)
+          ∙ append-nil untold))
+          (phase_past untold (ap is_to_commit call ∙ past_following n (sizes old) old.next was) halted (λ t. blocks t
+          ∙ past_answer (λ p. blocks_after old p ≡ old.blocks) old.last (sizes old) old.next refl refl was) was phase)
 
-      commits : old.next ≡ next.Commit → Phase tells old kernel untold → Phase tells new kernel (untold ++ news_of (Ok (answer old.last (sizes old) old.next)))
+      commits : old.next ≡ next.Commit → Phase tells old kernel untold
+          → Phase tells new kernel (untold ++ news_of (Ok (answer old.last (sizes old) old.next)))
       commits is (Quiet q) = absurd (let both : true ≡ false = sym (ap is_to_commit is) ∙ q.past in cc)
       commits is (IsToBeTold last c) = absurd (let both : true ≡ false = sym (ap is_to_commit is) ∙ c.past in cc)
       commits is (Flying last f) =
@@ -315,51 +373,64 @@ module _ {D : Type 0} (tells : Bool) (old new : JournalView D) (kernel : KernelV
           IsToBeTold last (record {
             flies = f.flies;
             past = ap is_to_commit (call ∙ ap (following n (sizes old)) is) ∙ past_commit n (sizes old);
-            blocks = λ t. subst (λ blocks. LieBehind kernel blocks last) (sym (blocks t ∙ ap (λ (c : Next). blocks_after old (answer old.last (sizes old) c)) is)) (f.after t);
+            blocks = λ t. subst (λ blocks. LieBehind kernel blocks last)
+                (sym (blocks t ∙ ap (λ (c : Next). blocks_after old (answer old.last (sizes old) c)) is)) (f.after t);
             running = quiet.0;
             later = [];
             told = (λ i. quiet.1 i ++ news_of (Ok (answer (f.last_is i) (sizes old) (is i))));
             faults = subst (λ b. AreFaults b false []) (sym halted) (refl, refl);
           })
 
-      waits_on : WaitsOn n (sizes old) old.next → Phase tells old kernel untold → is_to_commit old.next ≡ true → Phase tells new kernel (untold ++ news_of (Ok (answer old.last (sizes old) old.next)))
+      waits_on : WaitsOn n (sizes old) old.next → Phase tells old kernel untold → is_to_commit old.next ≡ true
+          → Phase tells new kernel (untold ++ news_of (Ok (answer old.last (sizes old) old.next)))
       waits_on w (Quiet q) was = absurd (let both : true ≡ false = sym was ∙ q.past in cc)
       waits_on w (IsToBeTold last c) was = absurd (let both : true ≡ false = sym was ∙ c.past in cc)
       waits_on w (Flying last f) was =
           subst (Phase tells new kernel) (sym (ap (λ xs. untold ++ xs) (ap (λ p. news_of (Ok p)) (w.1 old.last)) ∙ append-nil untold))
-          (Flying last (flies_on last untold untold f last_is numbers images (λ t. blocks t ∙ ap (blocks_after old) (w.1 old.last)) (ap is_to_commit call ∙ w.0) (subst (λ b. AreFaults b kernel.halted untold) (runs ∙ sym halted) f.faults)))
+          (Flying last (flies_on last untold untold f last_is numbers images (λ t. blocks t ∙ ap (blocks_after old) (w.1 old.last))
+          (ap is_to_commit call ∙ w.0) (subst (λ b. AreFaults b kernel.halted untold) (runs ∙ sym halted) f.faults)))
 
       go : (b : Bool) → is_to_commit old.next ≡ b → Phase tells new kernel (untold ++ news_of (Ok (answer old.last (sizes old) old.next)))
       go false was = goes_past was
-      go true was = ⊎_elim (λ (is : old.next ≡ next.Commit). commits is phase) (λ (w : WaitsOn n (sizes old) old.next). waits_on w phase was) (waits_or_commits n (sizes old) old.next was)
+      go true was = ⊎_elim (λ (is : old.next ≡ next.Commit). commits is phase)
+          (λ (w : WaitsOn n (sizes old) old.next). waits_on w phase was) (waits_or_commits n (sizes old) old.next was)
 
 -- one call of a batch in flight
-phase_calls : {D : Type 0} (device : D → Device) (tells : Bool) (old new : JournalView D) (kernel : KernelView) (untold : List News) (answered : Result Progress JournalError) → tells ≡ (device old.disk).tells → old.halted ≡ false
-    → OnMade answered (MakesCall device old new answered) → OnRetried answered (IsRetried device old new) → IfErr answered (λ error. (error ≡ Fault) ⊎ (error ≡ Memory))
+phase_calls : {D : Type 0} (device : D → Device) (tells : Bool) (old new : JournalView D) (kernel : KernelView) (untold : List News)
+    (answered : Result Progress JournalError) → tells ≡ (device old.disk).tells → old.halted ≡ false
+    → OnMade answered (MakesCall device old new answered) → OnRetried answered (IsRetried device old new)
+    → IfErr answered (λ error. (error ≡ Fault) ⊎ (error ≡ Memory))
     → Phase tells old kernel untold → Phase tells new kernel (untold ++ news_of answered)
 phase_calls device tells old new kernel untold (Ok progress) same runs m retried errors phase =
     subst (λ p. Phase tells new kernel (untold ++ news_of (Ok p))) (sym m.answers)
-    (phase_went tells old new kernel runs untold (length old.numbers) m.next.0 m.next.1 m.same.last m.same.numbers m.same.images (λ t. m.blocks (subst IsTrue same t) ∙ ap (blocks_after old) m.answers) phase)
+    (phase_went tells old new kernel runs untold (length old.numbers) m.next.0 m.next.1 m.same.last m.same.numbers m.same.images
+    (λ t. m.blocks (subst IsTrue same t) ∙ ap (blocks_after old) m.answers) phase)
 phase_calls device tells old new kernel untold (Err error) same runs made retried (inl is) phase =
     let m = made is in
     let halts = m.halts m.no_other in
     subst (λ e. Phase tells new kernel (untold ++ news_of (Err e))) (sym is)
-    (phase_faulted tells old new kernel runs untold (length old.numbers) halts.1 halts.0 m.same.last m.same.numbers m.same.images (λ t. m.blocks (subst IsTrue same t)) phase)
+    (phase_faulted tells old new kernel runs untold (length old.numbers) halts.1 halts.0 m.same.last m.same.numbers m.same.images
+    (λ t. m.blocks (subst IsTrue same t)) phase)
 phase_calls device tells old new kernel untold (Err error) same runs made retried (inr is) phase =
     let r = retried is in
     subst (λ e. Phase tells new kernel (untold ++ news_of (Err e))) (sym is)
     (subst (Phase tells new kernel) (sym (append-nil untold))
-    (phase_retried tells old new kernel runs untold r.next r.running r.same.last r.same.numbers r.same.images (λ t. r.blocks (subst IsTrue same t)) phase))
+    (phase_retried tells old new kernel runs untold r.next r.running r.same.last r.same.numbers r.same.images
+    (λ t. r.blocks (subst IsTrue same t)) phase))
 
 -- whatever is answered, batch and volume stay the same, and the device tells as before
-step_same : {D : Type 0} (device : D → Device) (old new : JournalView D) (answered : Result Progress JournalError) → OnMade answered (MakesCall device old new answered) → OnRetried answered (IsRetried device old new) → IfErr answered (λ error. (error ≡ Fault) ⊎ (error ≡ Memory))
+step_same : {D : Type 0} (device : D → Device) (old new : JournalView D) (answered : Result Progress JournalError)
+    → OnMade answered (MakesCall device old new answered) → OnRetried answered (IsRetried device old new)
+    → IfErr answered (λ error. (error ≡ Fault) ⊎ (error ≡ Memory))
     → IsSameBatch old new × ((device new.disk).tells ≡ (device old.disk).tells)
 step_same device old new (Ok progress) m retried errors = (m.same, m.time.tells)
 step_same device old new (Err error) made retried (inl is) = ((made is).same, (made is).time.tells)
 step_same device old new (Err error) made retried (inr is) = ((retried is).same, (retried is).refused.time.tells)
 
 -- what a step leaves: a device that tells as before, and the tie
-pub IsTied-steps : {D : Type 0} {write_grows sync_grows : Bool} (device : D → Device) (world : WorldView D) (new : JournalView D) (answered : Result Progress JournalError) → Steps device write_grows sync_grows world.journal answered new → IsTied (device world.journal.disk).tells world
+pub IsTied-steps : {D : Type 0} {write_grows sync_grows : Bool} (device : D → Device) (world : WorldView D) (new : JournalView D)
+    (answered : Result Progress JournalError) → Steps device write_grows sync_grows world.journal answered new
+    → IsTied (device world.journal.disk).tells world
     → IsTied (device new.disk).tells (record { journal = new; served = world.served; untold = world.untold ++ news_of answered })
 IsTied-steps {D} {write_grows} {sync_grows} device world new answered s h = go world.journal.halted refl (idle_or_flies world.journal.next)
   where
@@ -375,17 +446,21 @@ IsTied-steps {D} {write_grows} {sync_grows} device world new answered s h = go w
     -- nothing was done, and there is no news
     nothing : new ≡ old → news_of answered ≡ [] → Goal
     nothing same none =
-        subst (λ (t : JournalView D × List News). IsTied (device t.0.disk).tells (record { journal = t.0; served = world.served; untold = t.1 })) (λ i. (sym same i, (sym (append-nil world.untold) ∙ ap (λ xs. world.untold ++ xs) (sym none)) i)) h
+        subst (λ (t : JournalView D × List News). IsTied (device t.0.disk).tells
+        (record { journal = t.0; served = world.served; untold = t.1 }))
+        (λ i. (sym same i, (sym (append-nil world.untold) ∙ ap (λ xs. world.untold ++ xs) (sym none)) i)) h
 
     called : old.halted ≡ false → (old.next ≡ next.Idle → ⊥) → Goal
     called runs flies =
         let same = step_same device old new answered (s.call runs flies) (s.retried runs flies) (s.no_other runs) in
-        subst (λ tells. IsTied tells (record { journal = new; served = world.served; untold = world.untold ++ news_of answered })) (sym same.1)
+        subst (λ tells. IsTied tells (record { journal = new; served = world.served; untold = world.untold ++ news_of answered }))
+        (sym same.1)
         (record {
           label = subst (λ l. IsLabel l (length kernel.blocks) kernel.inodes kernel.host) (sym same.0.label) h.label;
           size = same.0.size ∙ h.size;
           format = same.0.format ∙ h.format;
-          phase = phase_calls device (device old.disk).tells old new kernel world.untold answered refl runs (s.call runs flies) (s.retried runs flies) (s.no_other runs) h.phase;
+          phase = phase_calls device (device old.disk).tells old new kernel world.untold answered refl runs (s.call runs flies)
+              (s.retried runs flies) (s.no_other runs) h.phase;
         })
 
     idles : old.halted ≡ false → old.next ≡ next.Idle → Goal
@@ -399,8 +474,14 @@ IsTied-steps {D} {write_grows} {sync_grows} device world new answered s h = go w
 -- ---- Told
 
 -- nothing is untold
-pub IsTied-told_durable : {D : Type 0} (tells : Bool) (world : WorldView D) (last : ℕ) (later : List News) → world.untold ≡ IsDurable last ∷ later → IsTied tells world
-    → ((kernel_of world).in_flight ≡ Some last) × ((kernel_of world).halted ≡ false) × IsTied tells (record { journal = world.journal; served = with_kernel world.served (made_durable (kernel_of world) last); untold = later })
+pub IsTied-told_durable : {D : Type 0} (tells : Bool) (world : WorldView D) (last : ℕ) (later : List News)
+    → world.untold ≡ IsDurable last ∷ later → IsTied tells world
+    → ((kernel_of world).in_flight ≡ Some last) × ((kernel_of world).halted ≡ false)
+    × IsTied tells (record {
+      journal = world.journal;
+      served = with_kernel world.served (made_durable (kernel_of world) last);
+      untold = later;
+    })
 IsTied-told_durable {D} tells world last later is h = go h.phase
   where
     kernel : KernelView
@@ -410,7 +491,8 @@ IsTied-told_durable {D} tells world last later is h = go h.phase
     journal = world.journal
 
     Told : Type 0
-    Told = (kernel.in_flight ≡ Some last) × (kernel.halted ≡ false) × IsTied tells (record { journal = world.journal; served = with_kernel world.served (made_durable kernel last); untold = later })
+    Told = (kernel.in_flight ≡ Some last) × (kernel.halted ≡ false)
+        × IsTied tells (record { journal = world.journal; served = with_kernel world.served (made_durable kernel last); untold = later })
 
     no_fault : (halted other : Bool) → AreFaults halted other world.untold → Told
     no_fault false other f = absurd (let both : IsDurable last ∷ later ≡ [] = sym is ∙ f.1 in cc)
@@ -429,13 +511,21 @@ IsTied-told_durable {D} tells world last later is h = go h.phase
           none = refl;
           past = c.past;
           blocks = λ t. let b : LieBehind kernel journal.blocks n = c.blocks t in
-              record { agrees = record { size = b.agrees.size; clean = b.agrees.clean }; holds = subst (λ p. Holds kernel.host kernel.inodes journal.blocks (take p kernel.spool)) same b.holds };
+              record {
+                agrees = record { size = b.agrees.size; clean = b.agrees.clean };
+                holds = subst (λ p. Holds kernel.host kernel.inodes journal.blocks (take p kernel.spool)) same b.holds;
+              };
           faults = subst (λ (t : Bool × List News). AreFaults journal.halted t.0 t.1) (λ i. (sym c.running i, rest i)) c.faults;
         } in
         (c.flies ∙ ap Some same, c.running, record { label = h.label; size = h.size; format = h.format; phase = Quiet quiet })
 
-pub IsTied-told_failed : {D : Type 0} (tells : Bool) (world : WorldView D) (later : List News) → world.untold ≡ HasFailed ∷ later → IsTied tells world
-    → IsTied tells (record { journal = world.journal; served = with_kernel world.served (halted_for_good (kernel_of world)); untold = later })
+pub IsTied-told_failed : {D : Type 0} (tells : Bool) (world : WorldView D) (later : List News) → world.untold ≡ HasFailed ∷ later
+    → IsTied tells world
+    → IsTied tells (record {
+      journal = world.journal;
+      served = with_kernel world.served (halted_for_good (kernel_of world));
+      untold = later;
+    })
 IsTied-told_failed {D} tells world later is h = record { label = h.label; size = h.size; format = h.format; phase = go h.phase }
   where
     kernel : KernelView
@@ -446,14 +536,20 @@ IsTied-told_failed {D} tells world later is h = record { label = h.label; size =
 
     halts : (halted other : Bool) → journal.halted ≡ halted → AreFaults halted other world.untold → AreFaults journal.halted true later
     halts false other e f = absurd (let both : HasFailed ∷ later ≡ [] = sym is ∙ f.1 in cc)
-    halts true false e f = let none : HasFailed ∷ later ≡ HasFailed ∷ [] = sym is ∙ f in subst (λ b. AreFaults b true later) (sym e) (cc none)
+    halts true false e f = let none : HasFailed ∷ later ≡ HasFailed ∷ [] = sym is ∙ f in
+        subst (λ b. AreFaults b true later) (sym e) (cc none)
     halts true true e f = absurd (let both : HasFailed ∷ later ≡ [] = sym is ∙ f in cc)
 
     lies : (blocks : List Octets) (p : ℕ) → LieBehind kernel blocks p → LieBehind (halted_for_good kernel) blocks p
     lies blocks p b = record { agrees = record { size = b.agrees.size; clean = b.agrees.clean }; holds = b.holds }
 
     go : Phase tells journal kernel world.untold → Phase tells journal (halted_for_good kernel) later
-    go (Quiet q) = Quiet (record { none = q.none; past = q.past; blocks = λ t. lies journal.blocks kernel.durable (q.blocks t); faults = halts journal.halted kernel.halted refl q.faults })
+    go (Quiet q) = Quiet (record {
+      none = q.none;
+      past = q.past;
+      blocks = λ t. lies journal.blocks kernel.durable (q.blocks t);
+      faults = halts journal.halted kernel.halted refl q.faults;
+    })
     go (Flying last f) =
         Flying last (record {
           flies = f.flies;

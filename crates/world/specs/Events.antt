@@ -2,7 +2,8 @@
 use Rattle.std.specs.List.{list_all}
 use Rattle.model.specs.Calendar.{moment_limit}
 use Rattle.model.specs.Lawful.{is_description_octet}
-use Rattle.std.specs.Prelude.{◌⊎◌, ◌<◌, ◌≤◌, IsTrue, ◌≡◌, ◌≢◌, ℕ, ◌+◌, Bool, true, false, List, [], ◌∷◌, ◌++◌, length, drop, map, slice_index_or, Option, Some, None, Result, Ok, Err, IfErr, MatchResult, slice_get, take}
+use Rattle.std.specs.Prelude.{◌⊎◌, ◌<◌, ◌≤◌, IsTrue, ◌≡◌, ◌≢◌, ℕ, ◌+◌, Bool, true, false, List, [], ◌∷◌, ◌++◌, length, drop, map}
+use Rattle.std.specs.Prelude.{slice_index_or, Option, Some, None, Result, Ok, Err, IfErr, MatchResult, slice_get, take}
 use Rattle.disk.specs.Device.{Device}
 use Rattle.journal.specs.Calls.{IsRetried, MakesCall, OnMade, OnRetried}
 use Rattle.journal.specs.Journal.{begins, IsIdle, IsReady, JournalView}
@@ -11,7 +12,8 @@ use Rattle.journal.specs.declared.JournalError.{JournalError}
 use Rattle.journal.specs.declared.JournalError.TheVariants as journal
 use Rattle.journal.specs.declared.Progress.{Progress}
 use Rattle.journal.specs.declared.Progress.TheVariants as progress
-use Rattle.kernel.specs.Kernel.{KernelView, Refusal, Tested, TestedOrMemory, admin_refusal_of, early_refusal, exec_refusal, expire_refusal_of, halted_for_good, has_batch, join_refusal, made_durable, mode_at, taken}
+use Rattle.kernel.specs.Kernel.{KernelView, Refusal, Tested, TestedOrMemory, admin_refusal_of, early_refusal, exec_refusal}
+use Rattle.kernel.specs.Kernel.{expire_refusal_of, halted_for_good, has_batch, join_refusal, made_durable, mode_at, taken}
 use Rattle.kernel.specs.Kernel as refusal
 use Rattle.kernel.specs.declared.errors.AdminError.{AdminError}
 use Rattle.kernel.specs.declared.errors.AdminError.TheVariants as admin
@@ -51,12 +53,15 @@ of_kernel refusal.Full = error.Full
 -- ---- Arrive and Exec
 
 -- a message is served, or refused and still the session's next one; if no message has arrived whole, nothing happens
-abbrev pub DidExec : {D : Type 0} → WorldView D → ℕ → ℕ → Option Mode → Option (Message × Octets) → Result Answer StepError → WorldView D → Type 0
+abbrev pub DidExec : {D : Type 0} → WorldView D → ℕ → ℕ → Option Mode → Option (Message × Octets) → Result Answer StepError → WorldView D
+    → Type 0
 DidExec old number moment None found result new = (result ≡ Err error.NoSession) × (new ≡ old)
-DidExec old number moment (Some mode) None result new = MatchResult result (λ a. (a ≡ answer.Served None) × (new ≡ old)) (λ e. (e ≡ error.Memory) × (new ≡ old))
+DidExec old number moment (Some mode) None result new =
+    MatchResult result (λ a. (a ≡ answer.Served None) × (new ≡ old)) (λ e. (e ≡ error.Memory) × (new ≡ old))
 DidExec old number moment (Some mode) (Some found) result new =
     TestedOrMemory of_kernel error.Memory None (exec_refusal (kernel_of old) number found.0) old new result
-    (λ a. (reads_next : Option Mode × Mark) × (a ≡ answer.Served (Some reads_next)) × Serves old.served new.served number moment found.0 reads_next × (new ≡ with_served old new.served))
+    (λ a. (reads_next : Option Mode × Mark) × (a ≡ answer.Served (Some reads_next))
+    × Serves old.served new.served number moment found.0 reads_next × (new ≡ with_served old new.served))
 
 -- ---- Take, Dev and Told
 
@@ -68,11 +73,16 @@ begun journal kernel = begins journal (length kernel.spool) kernel.dirty (map (�
 pub record DidTake {D : Type 0} (old : WorldView D) (result : Result Answer StepError) (new : WorldView D) : Type 0 where
   pub takes : IsReady old.journal → has_batch (kernel_of old) ≡ true →
       (result ≡ Ok (answer.Took (Some (length (kernel_of old).spool))))
-      × (new ≡ record { journal = begun old.journal (kernel_of old); served = with_kernel old.served (taken (kernel_of old)); untold = old.untold })
+      × (new ≡ record {
+        journal = begun old.journal (kernel_of old);
+        served = with_kernel old.served (taken (kernel_of old));
+        untold = old.untold;
+      })
   pub stays : (IsReady old.journal → has_batch (kernel_of old) ≡ true → ⊥) → (result ≡ Ok (answer.Took None)) × (new ≡ old)
 
 -- one step of the journal, on a device whose writes and syncs take memory or do not
-pub record Steps {D : Type 0} (device : D → Device) (write_grows sync_grows : Bool) (old : JournalView D) (answered : Result Progress JournalError) (new : JournalView D) : Type 0 where
+pub record Steps {D : Type 0} (device : D → Device) (write_grows sync_grows : Bool) (old : JournalView D)
+    (answered : Result Progress JournalError) (new : JournalView D) : Type 0 where
   pub halted : old.halted ≡ true → (answered ≡ Err journal.Halted) × (new ≡ old)
   pub idle : old.halted ≡ false → IsIdle old → (answered ≡ Ok progress.Idle) × (new ≡ old)
   pub call : old.halted ≡ false → (IsIdle old → ⊥) → OnMade answered (MakesCall device old new answered)
@@ -102,7 +112,8 @@ dev_answer (Err journal.Fault) = Err error.Fault
 dev_answer (Err journal.Memory) = Err error.Memory
 dev_answer (Err e) = Err error.Halted
 
-pub record DidDev {D : Type 0} (device : D → Device) (write_grows sync_grows : Bool) (old : WorldView D) (result : Result Answer StepError) (new : WorldView D) : Type 0 where
+pub record DidDev {D : Type 0} (device : D → Device) (write_grows sync_grows : Bool) (old : WorldView D) (result : Result Answer StepError)
+    (new : WorldView D) : Type 0 where
   pub answered : Result Progress JournalError
   pub steps : Steps device write_grows sync_grows old.journal answered new.journal
   pub result_is : result ≡ dev_answer answered
@@ -122,25 +133,38 @@ told kernel (HasFailed ∷ later) = halted_for_good kernel
 -- takes memory for that call refuses it so.
 abbrev pub Did : {D : Type 0} → (D → Device) → Bool → Bool → WorldView D → Event → Result Answer StepError → WorldView D → Type 0
 Did device write_grows sync_grows old event.Join result new =
-    Tested of_kernel error.Memory (join_refusal (kernel_of old)) old new result (λ a. (a ≡ answer.Joined ((kernel_of old).joined + 1)) × (new ≡ with_served old (joins old.served)))
-Did device write_grows sync_grows old (event.Leave number) result new = (result ≡ Ok answer.Done) × (new ≡ with_served old (leaves old.served number))
+    Tested of_kernel error.Memory (join_refusal (kernel_of old)) old new result (λ a. (a ≡ answer.Joined ((kernel_of old).joined + 1))
+    × (new ≡ with_served old (joins old.served)))
+Did device write_grows sync_grows old (event.Leave number) result new =
+    (result ≡ Ok answer.Done) × (new ≡ with_served old (leaves old.served number))
 Did device write_grows sync_grows old (event.Arrive number octets) result new =
-    Tested of_kernel error.Memory (arrive_refusal (kernel_of old) number) old new result (λ a. (a ≡ answer.Done) × (new ≡ with_served old (arrives old.served number octets.items)))
-Did device write_grows sync_grows old (event.Exec number moment) result new = DidExec old number moment (mode_at (kernel_of old) number) (next_of old.served number) result new
+    Tested of_kernel error.Memory (arrive_refusal (kernel_of old) number) old new result
+    (λ a. (a ≡ answer.Done) × (new ≡ with_served old (arrives old.served number octets.items)))
+Did device write_grows sync_grows old (event.Exec number moment) result new =
+    DidExec old number moment (mode_at (kernel_of old) number) (next_of old.served number) result new
 Did device write_grows sync_grows old (event.Admin name status description moment) result new =
-    TestedOrMemory of_kernel error.Memory (early_refusal (kernel_of old)) (admin_refusal_of (kernel_of old) (Group name status description.items moment)) old new result
-    (λ a. (serial : ℕ) × (a ≡ answer.Made serial) × Makes old.served new.served (Group name status description.items moment) serial × (new ≡ with_served old new.served))
+    TestedOrMemory of_kernel error.Memory (early_refusal (kernel_of old))
+    (admin_refusal_of (kernel_of old) (Group name status description.items moment)) old new result
+    (λ a. (serial : ℕ) × (a ≡ answer.Made serial) × Makes old.served new.served (Group name status description.items moment) serial
+    × (new ≡ with_served old new.served))
 Did device write_grows sync_grows old (event.Expire name number) result new =
-    TestedOrMemory of_kernel error.Memory (early_refusal (kernel_of old)) (expire_refusal_of (kernel_of old) (Expire name number)) old new result
-    (λ a. (serial : ℕ) × (a ≡ answer.Made serial) × Makes old.served new.served (Expire name number) serial × (new ≡ with_served old new.served))
+    TestedOrMemory of_kernel error.Memory (early_refusal (kernel_of old)) (expire_refusal_of (kernel_of old) (Expire name number)) old new
+    result
+    (λ a. (serial : ℕ) × (a ≡ answer.Made serial) × Makes old.served new.served (Expire name number) serial
+    × (new ≡ with_served old new.served))
 Did device write_grows sync_grows old event.Take result new = DidTake old result new
 Did device write_grows sync_grows old event.Dev result new = DidDev device write_grows sync_grows old result new
 Did device write_grows sync_grows old event.Told result new =
-    (result ≡ Ok answer.Done) × (new ≡ record { journal = old.journal; served = with_kernel old.served (told (kernel_of old) old.untold); untold = drop 1 old.untold })
+    (result ≡ Ok answer.Done) × (new ≡ record {
+      journal = old.journal;
+      served = with_kernel old.served (told (kernel_of old) old.untold);
+      untold = drop 1 old.untold;
+    })
 Did device write_grows sync_grows old event.Release result new =
     MatchResult result (λ a. (a ≡ answer.Done) × (new ≡ with_served old (releases old.served))) (λ e. (e ≡ error.Memory) × (new ≡ old))
 Did device write_grows sync_grows old (event.ReleaseOf number) result new =
-    MatchResult result (λ a. (a ≡ answer.Done) × (new ≡ with_served old (releases_of old.served number))) (λ e. (e ≡ error.Memory) × (new ≡ old))
+    MatchResult result (λ a. (a ≡ answer.Done) × (new ≡ with_served old (releases_of old.served number)))
+    (λ e. (e ≡ error.Memory) × (new ≡ old))
 
 -- whether a result is a refusal for memory
 abbrev pub for_memory : Result Answer StepError → Bool
@@ -151,14 +175,17 @@ for_memory other = false
 pub data Went {D : Type 0} (device : D → Device) (write_grows sync_grows : Bool) : WorldView D → List Event → WorldView D → Type 0 where
   none : (world : WorldView D) → Went device write_grows sync_grows world [] world
   more : (old middle new : WorldView D) (first : Event) (events : List Event) (result : Result Answer StepError)
-      → result ≢ Err error.Memory → Did device write_grows sync_grows old first result middle → Went device write_grows sync_grows middle events new → Went device write_grows sync_grows old (first ∷ events) new
+      → result ≢ Err error.Memory → Did device write_grows sync_grows old first result middle
+      → Went device write_grows sync_grows middle events new → Went device write_grows sync_grows old (first ∷ events) new
 
 -- the first n events were done, and the next one, if there is one, was refused for memory
-pub record Ran {D : Type 0} (device : D → Device) (write_grows sync_grows : Bool) (old : WorldView D) (events : List Event) (n : ℕ) (new : WorldView D) : Type 0 where
+pub record Ran {D : Type 0} (device : D → Device) (write_grows sync_grows : Bool) (old : WorldView D) (events : List Event) (n : ℕ)
+    (new : WorldView D) : Type 0 where
   pub middle : WorldView D
   pub went : Went device write_grows sync_grows old (take n events) middle
   pub ended : length events ≤ n → new ≡ middle
-  pub stopped : n < length events → (event : Event) × (slice_get events n ≡ Some event) × Did device write_grows sync_grows middle event (Err error.Memory) new
+  pub stopped : n < length events
+      → (event : Event) × (slice_get events n ≡ Some event) × Did device write_grows sync_grows middle event (Err error.Memory) new
 
 -- the kernel's refusals, as the errors that report them
 abbrev pub of_join_error : JoinError → StepError
@@ -198,5 +225,6 @@ of_arrive_error arrive.Memory = error.Memory
 abbrev pub MayHappen : Event → Type 0
 MayHappen (event.Exec number moment) = moment < moment_limit
 MayHappen (event.Admin name status description moment) =
-    ((status ≡ 121) ⊎ (status ≡ 110)) × (length description.items ≤ 200) × IsTrue (list_all is_description_octet description.items) × (moment < moment_limit)
+    ((status ≡ 121) ⊎ (status ≡ 110)) × (length description.items ≤ 200) × IsTrue (list_all is_description_octet description.items)
+    × (moment < moment_limit)
 MayHappen e = Unit {0}

@@ -32,7 +32,8 @@ pub record IsQuiet {D : Type 0} (tells : Bool) (journal : JournalView D) (kernel
 
 -- a batch is in flight and not committed: the journal's blocks hold the durable changes, and with the batch those up to
 -- its last serial
-pub record IsFlying {D : Type 0} (tells : Bool) (journal : JournalView D) (kernel : KernelView) (untold : List News) (last : ℕ) : Type 0 where
+pub record IsFlying {D : Type 0} (tells : Bool) (journal : JournalView D) (kernel : KernelView) (untold : List News)
+    (last : ℕ) : Type 0 where
   pub flies : kernel.in_flight ≡ Some last
   pub last_is : journal.last ≡ last
   pub waits : is_to_commit journal.next ≡ true
@@ -42,7 +43,8 @@ pub record IsFlying {D : Type 0} (tells : Bool) (journal : JournalView D) (kerne
   pub faults : AreFaults journal.halted kernel.halted untold
 
 -- the batch is committed, and the kernel has yet to learn it
-pub record IsCommitted {D : Type 0} (tells : Bool) (journal : JournalView D) (kernel : KernelView) (untold : List News) (last : ℕ) : Type 0 where
+pub record IsCommitted {D : Type 0} (tells : Bool) (journal : JournalView D) (kernel : KernelView) (untold : List News)
+    (last : ℕ) : Type 0 where
   pub flies : kernel.in_flight ≡ Some last
   pub past : is_to_commit journal.next ≡ false
   pub blocks : IsTrue tells → LieBehind kernel journal.blocks last

@@ -3,7 +3,8 @@
 //! event does, `specs/Tied.antt` what the system keeps.
 #![tactic(auto)]
 
-ghost use Rattle.std.specs.Prelude.{◌≢◌, IfOk, IfErr, ◌≡◌, ◌⊎◌, ◌≤◌, ◌<◌, ℕ, Some, Ok, Err, true, [], take, slice_get, MatchOption, ◌||◌, IsTrue, length, MatchResult};
+ghost use Rattle.std.specs.Prelude.{◌≢◌, IfOk, IfErr, ◌≡◌, ◌⊎◌, ◌≤◌, ◌<◌, ℕ, Some, Ok, Err, true, [], take, slice_get, MatchOption, ◌||◌};
+ghost use Rattle.std.specs.Prelude.{IsTrue, length, MatchResult};
 ghost use Rattle.std.specs.List.{list_all};
 ghost use Rattle.kernel.specs.Kernel.{Tested, TestedOrMemory, admin_refusal_of, early_refusal, expire_refusal_of, mode_at};
 ghost use Rattle.model.specs.Calendar.{moment_limit};
@@ -11,7 +12,8 @@ ghost use Rattle.model.specs.Lawful.{is_description_octet};
 ghost use Rattle.model.specs.declared.change.Change.TheVariants.{Expire, Group};
 ghost use Rattle.served.specs.Events.{Makes, arrive_refusal, arrives, leaves};
 ghost use Rattle.served.specs.Served.{arrived_at, next_of, released_at};
-ghost use Rattle.world.specs.Events.{Did, DidDev, DidExec, DidTake, MayHappen, Ran, Went, commits, dev_answer, exec_answer, fails, for_memory, of_admin_error, of_arrive_error, of_expire_error, of_join_error, of_kernel, told};
+ghost use Rattle.world.specs.Events.{Did, DidDev, DidExec, DidTake, MayHappen, Ran, Went, commits, dev_answer, exec_answer, fails};
+ghost use Rattle.world.specs.Events.{for_memory, of_admin_error, of_arrive_error, of_expire_error, of_join_error, of_kernel, told};
 ghost use Rattle.world.specs.Fields.{durable_news};
 ghost use Rattle.disk.specs.Device.{Elapses};
 ghost use Rattle.journal.specs.Journal.{IsReady};
@@ -78,7 +80,8 @@ impl<D: Disk> Model for World<D> {
 
     ghost view = { λ w. record { journal = w.journal; served = w.served; untold = news_in w.ticket w.is_committed w.has_failed } };
 
-    ghost invariant = { λ w. IsSound (D.device w.journal.disk).tells (record { journal = w.journal; served = w.served; untold = news_in w.ticket w.is_committed w.has_failed }) w.ticket };
+    ghost invariant = { λ w. IsSound (D.device w.journal.disk).tells
+        (record { journal = w.journal; served = w.served; untold = news_in w.ticket w.is_committed w.has_failed }) w.ticket };
 }
 
 impl<D: Disk> World<D> {
@@ -102,24 +105,37 @@ impl<D: Disk> World<D> {
     /// but no lawful spool of the label's host in the files of its format.
     pub fn open(alloc: Global, disk: D) -> Result<World<D>, Refused<D>>
         ensures new { IfOk result (λ w. IsNew w) }
-        ensures spool { IsTrue (D.device disk).tells → IfOk result (λ w. Stands (kernel_of w).host (D.device disk).content (kernel_of w).spool) }
-        ensures during { MatchResult result (λ w. KeepsSpools (D.device disk) (D.device w.journal.disk)) (λ refused. KeepsSpools (D.device disk) (D.device refused.disk)) }
+        ensures spool { IsTrue (D.device disk).tells
+            → IfOk result (λ w. Stands (kernel_of w).host (D.device disk).content (kernel_of w).spool) }
+        ensures during { MatchResult result (λ w. KeepsSpools (D.device disk) (D.device w.journal.disk))
+            (λ refused. KeepsSpools (D.device disk) (D.device refused.disk)) }
         ensures keeps { IfOk result (λ w. IsWorld D.device w) }
         ensures now { IfOk result (λ w. EachNow (D.device w.journal.disk) (Fits w)) }
         ensures still { IfOk result (λ w. (D.device w.journal.disk).failures ≡ (D.device disk).failures) }
-        ensures time { MatchResult result (λ w. Elapses (D.device disk) (D.device w.journal.disk)) (λ refused. Elapses (D.device disk) (D.device refused.disk)) }
-        ensures volume { MatchResult result (λ w. LeftKept (D.device disk) (D.device w.journal.disk)) (λ refused. LeftKept (D.device disk) (D.device refused.disk)) }
-        ensures moment { MatchResult result (λ w. SyncsFirst D.device disk w.journal.disk) (λ refused. SyncsFirst D.device disk refused.disk ⊎ NeverSyncs D.device disk refused.disk) }
-        ensures judged { IfErr result (λ refused. (refused.error ≡ OpenError.NotAVolume) ⊎ (refused.error ≡ OpenError.Damaged) → SyncsFirst D.device disk refused.disk) }
-        ensures cost { IsTrue (D.device disk).tells → IfOk result (λ w. CostsToOpen (D.device disk).content (D.device disk) (D.device w.journal.disk)) }
+        ensures time { MatchResult result (λ w. Elapses (D.device disk) (D.device w.journal.disk))
+            (λ refused. Elapses (D.device disk) (D.device refused.disk)) }
+        ensures volume { MatchResult result (λ w. LeftKept (D.device disk) (D.device w.journal.disk))
+            (λ refused. LeftKept (D.device disk) (D.device refused.disk)) }
+        ensures moment { MatchResult result (λ w. SyncsFirst D.device disk w.journal.disk)
+            (λ refused. SyncsFirst D.device disk refused.disk ⊎ NeverSyncs D.device disk refused.disk) }
+        ensures judged { IfErr result (λ refused. (refused.error ≡ OpenError.NotAVolume) ⊎ (refused.error ≡ OpenError.Damaged)
+            → SyncsFirst D.device disk refused.disk) }
+        ensures cost { IsTrue (D.device disk).tells
+            → IfOk result (λ w. CostsToOpen (D.device disk).content (D.device disk) (D.device w.journal.disk)) }
         ensures idle { IfOk result (λ w. IsReady w.journal) }
-        ensures fault { IfErr result (λ refused. refused.error ≡ OpenError.Fault → (D.device refused.disk).failures ≢ (D.device disk).failures) }
-        ensures memory { IfErr result (λ refused. refused.error ≡ OpenError.Memory → (D.device refused.disk).failures ≡ (D.device disk).failures) }
-        ensures left { IsTrue (D.device disk).tells → MatchResult result (λ w. LeavesVolume (D.device disk).content (D.device w.journal.disk).content)
+        ensures fault { IfErr result (λ refused. refused.error ≡ OpenError.Fault
+            → (D.device refused.disk).failures ≢ (D.device disk).failures) }
+        ensures memory { IfErr result (λ refused. refused.error ≡ OpenError.Memory
+            → (D.device refused.disk).failures ≡ (D.device disk).failures) }
+        ensures left { IsTrue (D.device disk).tells
+            → MatchResult result (λ w. LeavesVolume (D.device disk).content (D.device w.journal.disk).content)
             (λ refused. refused.error ≡ OpenError.Memory → LeavesVolume (D.device disk).content (D.device refused.disk).content) }
-        ensures no_volume { IfErr result (λ refused. refused.error ≡ OpenError.NotAVolume → IsTrue (D.device disk).tells → IsNoNewsVolume (D.device disk).content) }
-        ensures damaged { IfErr result (λ refused. refused.error ≡ OpenError.Damaged → IsTrue (D.device disk).tells → IsDamagedVolume (D.device disk).content) }
-        ensures no_spool { IfErr result (λ refused. (refused.error ≡ OpenError.NotAVolume) ⊎ (refused.error ≡ OpenError.Damaged) → IsTrue (D.device disk).tells → StandsForNone (D.device disk).content) }
+        ensures no_volume { IfErr result (λ refused. refused.error ≡ OpenError.NotAVolume → IsTrue (D.device disk).tells
+            → IsNoNewsVolume (D.device disk).content) }
+        ensures damaged { IfErr result (λ refused. refused.error ≡ OpenError.Damaged → IsTrue (D.device disk).tells
+            → IsDamagedVolume (D.device disk).content) }
+        ensures no_spool { IfErr result (λ refused. (refused.error ≡ OpenError.NotAVolume) ⊎ (refused.error ≡ OpenError.Damaged)
+            → IsTrue (D.device disk).tells → StandsForNone (D.device disk).content) }
     {
         let Opened { journal, kernel } = match opening::open(alloc, disk) {
             Ok(opened) => opened,
@@ -302,7 +318,8 @@ impl<D: Disk> World<D> {
     }
 
     fn arrive(&mut self, number: u64, octets: &[u8]) -> Result<Answer, StepError>
-        ensures { Tested of_kernel StepError.Memory (arrive_refusal (kernel_of self.old) number) self.old self.new result (λ a. (a ≡ Answer.Done) × (self.new ≡ with_served self.old (arrives self.old.served number octets.now))) }
+        ensures { Tested of_kernel StepError.Memory (arrive_refusal (kernel_of self.old) number) self.old self.new result
+            (λ a. (a ≡ Answer.Done) × (self.new ≡ with_served self.old (arrives self.old.served number octets.now))) }
     {
         self.served.kept();
         match self.served.arrive(number, octets) {
@@ -332,7 +349,9 @@ impl<D: Disk> World<D> {
         requires printable { IsTrue (list_all is_description_octet description.now) }
         requires moment { moment < moment_limit }
         ensures { TestedOrMemory of_kernel StepError.Memory (early_refusal (kernel_of self.old)) (admin_refusal_of (kernel_of self.old) (Group name.now status description.now moment)) self.old self.new result
-            (λ a. (serial : ℕ) × (a ≡ Answer.Made serial) × Makes self.old.served self.new.served (Group name.now status description.now moment) serial × (self.new ≡ with_served self.old self.new.served)) }
+            (λ a. (serial : ℕ) × (a ≡ Answer.Made serial)
+            × Makes self.old.served self.new.served (Group name.now status description.now moment) serial
+            × (self.new ≡ with_served self.old self.new.served)) }
     {
         self.served.kept();
         match self.served.admin(alloc, name, status, description, moment) {
@@ -343,7 +362,8 @@ impl<D: Disk> World<D> {
 
     fn expire(&mut self, alloc: Global, name: &GroupName, number: u32) -> Result<Answer, StepError>
         ensures { TestedOrMemory of_kernel StepError.Memory (early_refusal (kernel_of self.old)) (expire_refusal_of (kernel_of self.old) (Expire name.now number)) self.old self.new result
-            (λ a. (serial : ℕ) × (a ≡ Answer.Made serial) × Makes self.old.served self.new.served (Expire name.now number) serial × (self.new ≡ with_served self.old self.new.served)) }
+            (λ a. (serial : ℕ) × (a ≡ Answer.Made serial) × Makes self.old.served self.new.served (Expire name.now number) serial
+            × (self.new ≡ with_served self.old self.new.served)) }
     {
         self.served.kept();
         match self.served.expire(alloc, name, number) {

@@ -3,7 +3,8 @@ use Rattle.filing.proofs.create_file.Goals as goal
 
 pub returns-in-Ok-clause-created : goal.returns-in-Ok-clause-created
 returns-in-Ok-clause-created g c =
-    created c.args.inodes c.args.name.now c.in-Ok.at (g.B.Blocks.blocks c.args.blocks.now) (g.B.Blocks.blocks c.create_absent.new.blocks) c.in-Ok.ensures.created c.in-Ok.ensures.marks
+    created c.args.inodes c.args.name.now c.in-Ok.at (g.B.Blocks.blocks c.args.blocks.now)
+    (g.B.Blocks.blocks c.create_absent.new.blocks) c.in-Ok.ensures.created c.in-Ok.ensures.marks
 
 pub unreachable-requires : goal.unreachable-requires
 unreachable-requires g c =
@@ -11,4 +12,5 @@ unreachable-requires g c =
 
 pub returns-in-Ok-clause-known : goal.returns-in-Ok-clause-known
 returns-in-Ok-clause-known g c =
-    known_created c.args.inodes c.args.name.now c.in-Ok.at c.args.free.now (g.B.Blocks.blocks c.args.blocks.now) (g.B.Blocks.blocks c.create_absent.new.blocks) c.in-Ok.ensures.created c.in-Ok.ensures.marks c.requires.known
+    known_created c.args.inodes c.args.name.now c.in-Ok.at c.args.free.now (g.B.Blocks.blocks c.args.blocks.now)
+    (g.B.Blocks.blocks c.create_absent.new.blocks) c.in-Ok.ensures.created c.in-Ok.ensures.marks c.requires.known

@@ -1,9 +1,11 @@
 -- Format 1, defined on its own. Its file system is that of both formats, with no file of more than 4,235,264 octets.
-use Rattle.std.specs.Prelude.{◌≡◌, ◌≢◌, ℕ, ◌+◌, ◌-◌, ◌*◌, ◌/◌, ◌<◌, ◌≤◌, ◌↔◌, ◌==◌, nat_lt, if◌then◌else◌, List, [], ◌∷◌, ◌++◌, map, take, flat_map, length, slice_index_or}
+use Rattle.std.specs.Prelude.{◌≡◌, ◌≢◌, ℕ, ◌+◌, ◌-◌, ◌*◌, ◌/◌, ◌<◌, ◌≤◌, ◌↔◌, ◌==◌, nat_lt, if◌then◌else◌, List, [], ◌∷◌, ◌++◌, map, take}
+use Rattle.std.specs.Prelude.{flat_map, length, slice_index_or}
 use Rattle.std.specs.List.{All, range_with_len}
 use Rattle.model.specs.Stream.{Octets}
 use Rattle.model.specs.Volume.{number_at}
-use Rattle.model.specs.Files.{AreWithin, File, HasRoom, HoldsFiles, IsFile, content_of, entry_of, indirect_of, name_in, owned, size, slot_octets}
+use Rattle.model.specs.Files.{AreWithin, File, HasRoom, HoldsFiles, IsFile, content_of, entry_of, indirect_of, name_in, owned, size}
+use Rattle.model.specs.Files.{slot_octets}
 
 -- an inode, its slot, and its indirect block
 pub record EntryOne : Type 0 where
@@ -51,7 +53,8 @@ FilesOfFormatOne = (blocks : List Octets) (inode slot : Octets) →
 -- they own the same blocks and have the same content
 abbrev pub ReadAsFormatOne : Type 0
 ReadAsFormatOne = (blocks : List Octets) (inode slot : Octets) → IsFileOne (entry_one blocks inode slot) →
-    (owned (entry_of blocks inode slot) ≡ owned_one (entry_one blocks inode slot)) × (content_of blocks (entry_of blocks inode slot) ≡ content_one blocks (entry_one blocks inode slot))
+    (owned (entry_of blocks inode slot) ≡ owned_one (entry_one blocks inode slot))
+    × (content_of blocks (entry_of blocks inode slot) ≡ content_one blocks (entry_one blocks inode slot))
 
 -- No inode says that its file has more than this many octets exactly if no file has more. So a check of the inodes says whether the
 -- spool's files are of the format.

@@ -1,5 +1,6 @@
 -- What the index of a spool relies on, and how it grows.
-use Rattle.std.specs.Prelude.{◌≡◌, ℕ, ◌+◌, ◌*◌, ◌<◌, false, if◌then◌else◌, [], ◌∷◌, ◌++◌, bytes_eq, length, map, slice_get, slice_index, List, Some}
+use Rattle.std.specs.Prelude.{◌≡◌, ℕ, ◌+◌, ◌*◌, ◌<◌, false, if◌then◌else◌, [], ◌∷◌, ◌++◌, bytes_eq, length, map, slice_get, slice_index}
+use Rattle.std.specs.Prelude.{List, Some}
 use Rattle.std.specs.List.{list_any}
 use Rattle.disk.specs.Image.{part}
 use Rattle.model.specs.Stream.{Octets}
@@ -28,19 +29,22 @@ NumbersAreWhole = (S : Spool) (g : Octets) → length (numbers_file S g) ≡ 16 
 abbrev pub LinesStand : Type 0
 LinesStand = (S : Spool) (g : Octets) (k : ℕ) (line : Octets) → slice_get (overview_lines (filed_in S g)) k ≡ Some line →
     (part (line_start (ends_from 0 (overview_lines (filed_in S g))) k) (length line) (overview_file S g) ≡ line)
-    × (slice_index (ends_from 0 (overview_lines (filed_in S g))) k ≡ line_start (ends_from 0 (overview_lines (filed_in S g))) k + length line)
+    × (slice_index (ends_from 0 (overview_lines (filed_in S g))) k ≡ line_start (ends_from 0 (overview_lines (filed_in S g))) k
+    + length line)
 
 -- ---- one more change
 
 pub record GroupsGrow : Type 0 where
   pub others : (S : Spool) (name : Octets) (status : ℕ) (description : Octets) (moment : ℕ) (g : NewsGroup) → bytes_eq name g.name ≡ false →
       group_index (S ++ Group name status description moment ∷ []) g ≡ group_index S g
-  pub its_own : (host : Octets) (S : Spool) (name : Octets) (status : ℕ) (description : Octets) (moment : ℕ) (g : NewsGroup) → IsLawful host S → MayFollow host S (Group name status description moment) →
+  pub its_own : (host : Octets) (S : Spool) (name : Octets) (status : ℕ) (description : Octets) (moment : ℕ) (g : NewsGroup)
+      → IsLawful host S → MayFollow host S (Group name status description moment) →
       g.name ≡ name → group_index (S ++ Group name status description moment ∷ []) g ≡ new_index S g
 
 abbrev pub ArticlesGrow : Type 0
 ArticlesGrow = (S : Spool) (text : Octets) (filed : List Octets) (moment : ℕ) (g : NewsGroup) →
-    group_index (S ++ Article text filed moment ∷ []) g ≡ (if list_any (is_name g.name) filed then with_article S text (group_index S g) else group_index S g)
+    group_index (S ++ Article text filed moment ∷ []) g
+    ≡ (if list_any (is_name g.name) filed then with_article S text (group_index S g) else group_index S g)
 
 abbrev pub ExpiriesGrow : Type 0
 ExpiriesGrow = (host : Octets) (S : Spool) (h : Octets) (number : ℕ) (g : NewsGroup) → MayFollow host S (Expire h number) →
@@ -48,7 +52,8 @@ ExpiriesGrow = (host : Octets) (S : Spool) (h : Octets) (number : ℕ) (g : News
 
 -- each change has one note
 abbrev pub NotesGrow : Type 0
-NotesGrow = (S : Spool) (c : Change) → map note_of (entries (S ++ c ∷ [])) ≡ map note_of (entries S) ++ note_of (record { serial = length S + 1; change = c }) ∷ []
+NotesGrow = (S : Spool) (c : Change)
+    → map note_of (entries (S ++ c ∷ [])) ≡ map note_of (entries S) ++ note_of (record { serial = length S + 1; change = c }) ∷ []
 
 -- ---- the whole
 

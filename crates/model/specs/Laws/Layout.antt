@@ -16,10 +16,12 @@ VersionIsOne = (host image : Octets) (S : Spool) → Stands host image S → num
 
 -- A volume whose blocks are the empty file system stands for the spool without changes.
 abbrev pub EmptyVolumesStand : Type 0
-EmptyVolumesStand = (host image label : Octets) (inodes : ℕ) (blocks : List Octets) → StandsFor image label blocks → IsLabel label (length blocks) inodes host →
+EmptyVolumesStand = (host image label : Octets) (inodes : ℕ) (blocks : List Octets) → StandsFor image label blocks
+    → IsLabel label (length blocks) inodes host →
     IsFileSystem inodes blocks → table inodes blocks ≡ replicate inodes None → Stands host image []
 
 -- An image with the same volume as another, and no lower format, stands for the same spool.
 abbrev pub FormatsMayRise : Type 0
-FormatsMayRise = (host old new label : Octets) (blocks : List Octets) (S : Spool) → StandsFor old label blocks → StandsFor new label blocks →
+FormatsMayRise = (host old new label : Octets) (blocks : List Octets) (S : Spool) → StandsFor old label blocks → StandsFor new label blocks
+    →
     format_number old ≤ format_number new → Stands host old S → Stands host new S

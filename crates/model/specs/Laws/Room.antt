@@ -4,7 +4,8 @@ use Rattle.std.specs.List.{Contains, sum_by}
 use Rattle.model.specs.Stream.{Octets}
 use Rattle.model.specs.Files.{File, HasRoom, HoldsFiles, free_blocks, free_inodes}
 use Rattle.model.specs.Lawful.{IsLawful, MayFollow}
-use Rattle.model.specs.Room.{blocks_changed, blocks_for, blocks_for_more, blocks_taken, files_made, free_blocks_beside, free_inodes_beside, is_full, largest_file, most_changed}
+use Rattle.model.specs.Room.{blocks_changed, blocks_for, blocks_for_more, blocks_taken, files_made, free_blocks_beside, free_inodes_beside}
+use Rattle.model.specs.Room.{is_full, largest_file, most_changed}
 use Rattle.model.specs.Spool.{Spool}
 use Rattle.model.specs.SpoolFiles.{change_calls, change_file, files_of, next_line, next_record, numbers_file, overview_file}
 use Rattle.model.specs.declared.change.Change.{Change}
@@ -16,7 +17,8 @@ pub record IsBeside (inodes : ℕ) (blocks : List Octets) (files : List File) : 
 
 -- The blocks and the inodes that are free are those that the files leave.
 abbrev pub FreeIsBeside : Type 0
-FreeIsBeside = (inodes : ℕ) (blocks : List Octets) (files : List File) → HasRoom inodes blocks → HoldsFiles inodes blocks files → IsBeside inodes blocks files
+FreeIsBeside = (inodes : ℕ) (blocks : List Octets) (files : List File) → HasRoom inodes blocks → HoldsFiles inodes blocks files
+    → IsBeside inodes blocks files
 
 -- A file that gets this many more octets takes at most one block for each 4,096 of them, and the blocks that point to these.
 abbrev pub FilesGrowByBlocks : Type 0
@@ -42,7 +44,8 @@ pub record HasRoomForChange (blocks inodes : ℕ) (S : Spool) (c : Change) : Typ
   pub blocks_enough : sum_by blocks_taken (change_calls S c) ≤ free_blocks_beside blocks inodes (files_of S)
   pub inodes_enough : files_made c ≤ free_inodes_beside inodes (files_of S)
   pub sizes : (text : Octets) (filed : List Octets) (moment : ℕ) (g : Octets) → c ≡ Article text filed moment → Contains filed g →
-      (length (numbers_file S g) + length (next_record S text g) ≤ largest_file) × (length (overview_file S g) + length (next_line S text g) ≤ largest_file)
+      (length (numbers_file S g) + length (next_record S text g) ≤ largest_file)
+      × (length (overview_file S g) + length (next_line S text g) ≤ largest_file)
 
 -- So none of its calls meets a full file system where the spool is not full.
 abbrev pub NotFullHasRoom : Type 0

@@ -1,12 +1,14 @@
 -- How the files of a spool stand for it.
-use Rattle.std.specs.Prelude.{◌≡◌, ℕ, ◌+◌, ◌-◌, ◌*◌, ◌^◌, ◌<◌, ◌≤◌, List, [], ◌∷◌, ◌++◌, replicate, length, slice_get, slice_index_or, slice_set, Option, Some, None, IsPermutation}
+use Rattle.std.specs.Prelude.{◌≡◌, ℕ, ◌+◌, ◌-◌, ◌*◌, ◌^◌, ◌<◌, ◌≤◌, List, [], ◌∷◌, ◌++◌, replicate, length, slice_get, slice_index_or}
+use Rattle.std.specs.Prelude.{slice_set, Option, Some, None, IsPermutation}
 use Rattle.std.specs.List.{All, Contains, count_by}
 use Rattle.model.specs.Stream.{Octets}
 use Rattle.model.specs.Files.{File, HoldsFiles, IsFileSystem, files_in, table}
 use Rattle.model.specs.Spool.{Spool, first, groups}
 use Rattle.model.specs.Lawful.{IsLawful, MayFollow}
 use Rattle.model.specs.Layout.{Holds}
-use Rattle.model.specs.SpoolFiles.{Create, Append, HasRoomInFile, after_call, after_calls, change_calls, change_file, files_by_kind, files_of, is_of_change}
+use Rattle.model.specs.SpoolFiles.{Create, Append, HasRoomInFile, after_call, after_calls, change_calls, change_file, files_by_kind}
+use Rattle.model.specs.SpoolFiles.{files_of, is_of_change}
 use Rattle.model.specs.declared.change.Change.{Change}
 
 -- Blocks hold at most one spool, under any hosts.
@@ -20,7 +22,8 @@ ChangesAreFew = (host : Octets) (inodes : ℕ) (blocks : List Octets) (S : Spool
 
 -- The empty file system holds the spool without changes.
 abbrev pub EmptyHoldsNone : Type 0
-EmptyHoldsNone = (host : Octets) (inodes : ℕ) (blocks : List Octets) → IsFileSystem inodes blocks → table inodes blocks ≡ replicate inodes None →
+EmptyHoldsNone = (host : Octets) (inodes : ℕ) (blocks : List Octets) → IsFileSystem inodes blocks
+    → table inodes blocks ≡ replicate inodes None →
     Holds host inodes blocks []
 
 -- The files of a spool with one more change are those after the calls that the change makes.
@@ -31,20 +34,24 @@ FilesGrow = (host : Octets) (S : Spool) (c : Change) → length S + 1 < 10 ^ 10 
 -- Blocks that hold the files after the calls of a change hold the spool with that change.
 abbrev pub SpoolsGrow : Type 0
 SpoolsGrow = (host : Octets) (inodes : ℕ) (blocks : List Octets) (files : List File) (S : Spool) (c : Change) → length S + 1 < 10 ^ 10 →
-    IsLawful host S → MayFollow host S c → HoldsFiles inodes blocks files → IsPermutation files (after_calls (files_of S) (change_calls S c)) →
+    IsLawful host S → MayFollow host S c → HoldsFiles inodes blocks files
+    → IsPermutation files (after_calls (files_of S) (change_calls S c)) →
     Holds host inodes blocks (S ++ c ∷ [])
 
 -- ---- opening
 
 -- The change that a change's file holds is in every spool that the blocks hold, at its serial.
 abbrev pub ChangesAreRead : Type 0
-ChangesAreRead = (host : Octets) (inodes : ℕ) (blocks : List Octets) (S : Spool) (n : ℕ) (c : Change) → inodes ≤ 32768 → Holds host inodes blocks S →
-    HasRoomInFile n c → Contains (files_in (table inodes blocks)) (change_file (record { serial = n; change = c })) → (1 ≤ n) × (slice_get S (n - 1) ≡ Some c)
+ChangesAreRead = (host : Octets) (inodes : ℕ) (blocks : List Octets) (S : Spool) (n : ℕ) (c : Change) → inodes ≤ 32768
+    → Holds host inodes blocks S →
+    HasRoomInFile n c → Contains (files_in (table inodes blocks)) (change_file (record { serial = n; change = c }))
+    → (1 ≤ n) × (slice_get S (n - 1) ≡ Some c)
 
 -- So the changes that were read, by rising serial, are the first ones of every spool that the blocks hold.
 abbrev pub FrontsAreRead : Type 0
 FrontsAreRead = (host : Octets) (inodes : ℕ) (blocks : List Octets) (S R : Spool) → inodes ≤ 32768 → Holds host inodes blocks S →
-    ((n : ℕ) (c : Change) → slice_get R n ≡ Some c → HasRoomInFile (n + 1) c × Contains (files_in (table inodes blocks)) (change_file (record { serial = n + 1; change = c }))) →
+    ((n : ℕ) (c : Change) → slice_get R n ≡ Some c
+    → HasRoomInFile (n + 1) c × Contains (files_in (table inodes blocks)) (change_file (record { serial = n + 1; change = c }))) →
     R ≡ first S (length R)
 
 -- Such a spool has as many changes as there are files of changes.
@@ -54,7 +61,8 @@ ChangesAreCounted = (host : Octets) (inodes : ℕ) (blocks : List Octets) (S : S
 
 -- Blocks hold a lawful spool if each of their files is one of the spool's own, and there are as many.
 abbrev pub FilesMakeSpool : Type 0
-FilesMakeSpool = (host : Octets) (inodes : ℕ) (blocks : List Octets) (files : List File) (S : Spool) → HoldsFiles inodes blocks files → IsLawful host S →
+FilesMakeSpool = (host : Octets) (inodes : ℕ) (blocks : List Octets) (files : List File) (S : Spool) → HoldsFiles inodes blocks files
+    → IsLawful host S →
     All (Contains (files_of S)) files → length files ≡ length (files_of S) → Holds host inodes blocks S
 
 -- The files are those of the groups, of the articles and of the expiries.
@@ -69,7 +77,8 @@ FilesAreCounted = (S : Spool) → length (files_of S) ≡ length S + 2 * length 
 
 -- an empty file in a free inode
 abbrev pub CreatesOne : Type 0
-CreatesOne = (files : List File) (inodes : List (Option File)) (k : ℕ) (name : Octets) → k < length inodes → slice_index_or inodes k None ≡ None →
+CreatesOne = (files : List File) (inodes : List (Option File)) (k : ℕ) (name : Octets) → k < length inodes
+    → slice_index_or inodes k None ≡ None →
     IsPermutation (files_in inodes) files →
     IsPermutation (files_in (slice_set inodes k (Some (record { name = name; content = [] })))) (after_call files (Create name))
 
@@ -78,4 +87,5 @@ abbrev pub AppendsToOne : Type 0
 AppendsToOne = (files : List File) (inodes : ℕ) (blocks : List Octets) (k : ℕ) (name content octets : Octets) → IsFileSystem inodes blocks →
     slice_index_or (table inodes blocks) k None ≡ Some (record { name = name; content = content }) →
     IsPermutation (files_in (table inodes blocks)) files →
-    IsPermutation (files_in (slice_set (table inodes blocks) k (Some (record { name = name; content = content ++ octets })))) (after_call files (Append name octets))
+    IsPermutation (files_in (slice_set (table inodes blocks) k (Some (record { name = name; content = content ++ octets }))))
+    (after_call files (Append name octets))

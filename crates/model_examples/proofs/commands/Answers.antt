@@ -2,4 +2,16 @@ use Rattle.model_examples.proofs.Examples as example
 use Rattle.model_examples.proofs.commands.Goals as goal
 
 pub returns : goal.returns
-returns c = record { post_then_group = example.post_then_group; empty_group = example.empty_group; other_group = example.other_group; offered_twice = example.offered_twice; posted_twice = example.posted_twice; injection = example.injection; overviews = example.overviews; closed_group = example.closed_group; wildmats = example.wildmats; new_groups = example.new_groups; walk = example.walk }
+returns c = record {
+  post_then_group = example.post_then_group;
+  empty_group = example.empty_group;
+  other_group = example.other_group;
+  offered_twice = example.offered_twice;
+  posted_twice = example.posted_twice;
+  injection = example.injection;
+  overviews = example.overviews;
+  closed_group = example.closed_group;
+  wildmats = example.wildmats;
+  new_groups = example.new_groups;
+  walk = example.walk;
+}

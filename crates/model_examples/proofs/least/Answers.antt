@@ -2,4 +2,9 @@ use Rattle.model_examples.proofs.Smaller as example
 use Rattle.model_examples.proofs.least.Goals as goal
 
 pub returns : goal.returns
-returns c = record { gone_by_id = example.gone_by_id; below_by_number = example.below_by_number; below_current = example.below_current; found_by_number = example.found_by_number }
+returns c = record {
+  gone_by_id = example.gone_by_id;
+  below_by_number = example.below_by_number;
+  below_current = example.below_current;
+  found_by_number = example.found_by_number;
+}

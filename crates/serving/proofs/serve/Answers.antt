@@ -16,9 +16,12 @@ file-requires g c =
     let m = c.args.message.now in
     let t = c.args.moment in
     let k = c.in_ok-answer.field-0.mark in
-    let makes : (answer host S x m t k).change ≡ Some c.in-Some.change = ap (λ (a : Answer). a.change) (sym c.in_ok-answer.ensures.answer) ∙ c.in-Some.is in
+    let makes : (answer host S x m t k).change ≡ Some c.in-Some.change = ap (λ (a : Answer). a.change) (sym c.in_ok-answer.ensures.answer)
+    ∙ c.in-Some.is in
     let few : length S + 1 < 2 ^ 64 = omega (arith, g.met.S.LookUps.few s) in
-    c.lawful_stays.ensures.spool host S x m t k c.in-Some.change (g.met.S.LookUps.good_host s) (g.met.S.LookUps.lawful s) c.requires.session c.requires.moment few (not_long host S x m t k c.in-Some.change c.in_ok-answer.ensures.mark makes) makes
+    c.lawful_stays.ensures.spool host S x m t k c.in-Some.change (g.met.S.LookUps.good_host s)
+    (g.met.S.LookUps.lawful s) c.requires.session c.requires.moment few
+    (not_long host S x m t k c.in-Some.change c.in_ok-answer.ensures.mark makes) makes
 
 pub returns-in-Err-Full-clause-ok : goal.returns-in-Err-Full-clause-ok
 returns-in-Err-Full-clause-ok g c =
@@ -31,8 +34,12 @@ returns-in-Err-Full-clause-ok g c =
     let k = c.in_ok-answer.field-0.mark in
     let lacks = g.S.Files.lacks_room s in
     let adds = g.S.Files.adds s c.file.new.self in
-    let makes : (answer host S x m t k).change ≡ Some c.in-Some.change = ap (λ (a : Answer). a.change) (sym c.in_ok-answer.ensures.answer) ∙ c.in-Some.is in
-    let room : lacks c.in-Some.change ≡ true = no_room (lacks c.in-Some.change ≡ true) (lacks c.in-Some.change ≡ false) c.in-Err-Full.field-0 c.in-Err-Full.field-0-is c.in-Err-Full.ensures.0 in
+    let makes : (answer host S x m t k).change ≡ Some c.in-Some.change = ap (λ (a : Answer). a.change) (sym c.in_ok-answer.ensures.answer)
+    ∙ c.in-Some.is in
+    let room : lacks c.in-Some.change ≡ true =
+    no_room (lacks c.in-Some.change ≡ true) (lacks c.in-Some.change ≡ false) c.in-Err-Full.field-0 c.in-Err-Full.field-0-is
+    c.in-Err-Full.ensures.0 in
     let said = c.turned_away.ensures ∙ ap full_served c.in_ok-full-in-Err-Full.ensures in
     subst (λ (v : Served). IsServed host S lacks adds (c.file.new.self ≡ s) x m t v) (sym said)
-    (is_full_served host S lacks adds (c.file.new.self ≡ s) x m t k c.in-Some.change c.in_ok-answer.ensures.mark makes room c.in-Err-Full.ensures.1)
+    (is_full_served host S lacks adds (c.file.new.self ≡ s) x m t k c.in-Some.change c.in_ok-answer.ensures.mark makes room
+    c.in-Err-Full.ensures.1)

@@ -6,10 +6,14 @@ pub returns : goal.returns
 returns c =
     let date = c.parts_at-date.result in
     let moment = c.args.moment in
-    let name = c.in_ok-extend_from_slice.ensures.items ∙ ap (λ l. l ++ c.weekday_name.result.now) c.new-text.ensures.items ∙ c.weekday_name.ensures in
+    let name = c.in_ok-extend_from_slice.ensures.items ∙ ap (λ l. l ++ c.weekday_name.result.now) c.new-text.ensures.items
+    ∙ c.weekday_name.ensures in
     let front = c.in_ok-extend_from_slice-2.ensures.items ∙ ap (λ l. l ++ codes ", ") name in
-    let day = c.in_ok-push_date.ensures ∙ ap (λ l. l ++ two_digits date.day ++ codes " " ++ month_name date.month ++ codes " " ++ four_digits date.year) front in
+    let day = c.in_ok-push_date.ensures
+    ∙ ap (λ l. l ++ two_digits date.day ++ codes " " ++ month_name date.month ++ codes " " ++ four_digits date.year) front in
     let gap = c.in_ok-extend_from_slice-3.ensures.items ∙ ap (λ l. l ++ codes " ") day in
-    let clock = c.in_ok-push_clock.ensures ∙ ap (λ l. l ++ two_digits (hour_at moment) ++ codes ":" ++ two_digits (minute_at moment) ++ codes ":" ++ two_digits (second_at moment)) gap in
+    let clock = c.in_ok-push_clock.ensures
+    ∙ ap (λ l. l ++ two_digits (hour_at moment) ++ codes ":" ++ two_digits (minute_at moment) ++ codes ":" ++ two_digits
+    (second_at moment)) gap in
     c.in_ok-extend_from_slice-4.ensures.items ∙ ap (λ l. l ++ codes " +0000") clock
     ∙ ap (λ d. date_header_of d moment) c.parts_at-date.ensures.date

@@ -35,4 +35,5 @@ returns-clause-value c =
     ∙ ap (civil.days_from_civil (pos year) month) same_day
     ∙ days_alike year month day (omega (arith, ints, civil_date.2.0)) in
     ap (λ z. Some (to_z w64 (of_z w64 z))) (to_z-of_z w32 n small) ∙ ap Some (to_z-of_z w64 n wide) ∙ ap Some value
-    ∙ sym (cond-true (calendar.is_date (date_of (pos year) month day)) (Some (pos (calendar.day_number (date_of (pos year) month day)) -ℤ pos calendar.epoch)) None is)
+    ∙ sym (cond-true (calendar.is_date (date_of (pos year) month day))
+    (Some (pos (calendar.day_number (date_of (pos year) month day)) -ℤ pos calendar.epoch)) None is)

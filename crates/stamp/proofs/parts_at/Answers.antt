@@ -9,7 +9,8 @@ use Rattle.stamp.proofs.parts_at.Goals as goal
 pub overflow_cast-result : goal.overflow_cast-result
 overflow_cast-result c =
     let d = c.date_at-date.result in
-    let is = is_date_of_day (c.args.moment / 86_400) d.year d.month d.day d.year_in d.month_in.0 d.month_in.1 d.day_in.0 d.day_in.1 c.date_at-date.ensures in
+    let is = is_date_of_day (c.args.moment / 86_400) d.year d.month d.day d.year_in d.month_in.0 d.month_in.1 d.day_in.0 d.day_in.1
+    c.date_at-date.ensures in
     let fits : FitsSigned w16 c.year.result = omega (arith, ints, c.year.type_inv) in
     subst (λ (y : ℤ). T (non_neg y) × Fits w64 (unsigned_abs y)) (sym (to_z-of_z w16 c.year.result fits ∙ c.year.ensures))
     (is.since, omega (arith, is.is.year))
@@ -17,7 +18,8 @@ overflow_cast-result c =
 pub returns-clause-date : goal.returns-clause-date
 returns-clause-date c =
     let d = c.date_at-date.result in
-    let is = is_date_of_day (c.args.moment / 86_400) d.year d.month d.day d.year_in d.month_in.0 d.month_in.1 d.day_in.0 d.day_in.1 c.date_at-date.ensures in
+    let is = is_date_of_day (c.args.moment / 86_400) d.year d.month d.day d.year_in d.month_in.0 d.month_in.1 d.day_in.0 d.day_in.1
+    c.date_at-date.ensures in
     let fits_year : FitsSigned w16 c.year.result = omega (arith, ints, c.year.type_inv) in
     let fits_month : FitsSigned w8 c.month.result = omega (arith, ints, c.month.type_inv) in
     let fits_day : FitsSigned w8 c.day.result = omega (arith, ints, c.day.type_inv) in
@@ -29,6 +31,8 @@ returns-clause-date c =
 pub returns-clause-year_low : goal.returns-clause-year_low
 returns-clause-year_low c =
     let d = c.date_at-date.result in
-    let is = is_date_of_day (c.args.moment / 86_400) d.year d.month d.day d.year_in d.month_in.0 d.month_in.1 d.day_in.0 d.day_in.1 c.date_at-date.ensures in
+    let is = is_date_of_day (c.args.moment / 86_400) d.year d.month d.day d.year_in d.month_in.0 d.month_in.1 d.day_in.0 d.day_in.1
+    c.date_at-date.ensures in
     let fits_year : FitsSigned w16 c.year.result = omega (arith, ints, c.year.type_inv) in
-    subst (λ y. 1970 ≤ unsigned_abs y) (sym (to_z-of_z w16 c.year.result fits_year ∙ c.year.ensures)) (year_since-civil c.args.moment d.year d.month d.day is)
+    subst (λ y. 1970 ≤ unsigned_abs y) (sym (to_z-of_z w16 c.year.result fits_year ∙ c.year.ensures))
+    (year_since-civil c.args.moment d.year d.month d.day is)

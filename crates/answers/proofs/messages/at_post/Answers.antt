@@ -11,4 +11,5 @@ returns-in_ok-said-in-Block g c =
     let S = g.L.LookUps.changes c.args.spool.now in
     let x = c.args.session.now in
     let same : message.Block c.as_slice.result.now ≡ c.args.message.now = cc in
-    c.posted.ensures ∙ ap posted_step c.in_ok-said-in-Block.ensures ∙ post_step host S x c.args.moment c.as_slice.result.now ∙ ap (step_of host S x c.args.moment awaits.PostBlock) same
+    c.posted.ensures ∙ ap posted_step c.in_ok-said-in-Block.ensures ∙ post_step host S x c.args.moment c.as_slice.result.now
+    ∙ ap (step_of host S x c.args.moment awaits.PostBlock) same

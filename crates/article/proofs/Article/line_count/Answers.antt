@@ -7,4 +7,5 @@ use Rattle.article.proofs.Article.line_count.Goals as goal
 pub returns : goal.returns
 returns c =
     let text = c.args.self.now in
-    c.line_count.ensures ∙ ap (λ octets. length (lines octets)) c.body.ensures ∙ ap length (lines-drop (length (header_lines text) + 1) text)
+    c.line_count.ensures ∙ ap (λ octets. length (lines octets)) c.body.ensures
+    ∙ ap length (lines-drop (length (header_lines text) + 1) text)

@@ -9,7 +9,8 @@ use Rattle.article.proofs.Article.read.Goals as goal
 pub returns-in-Some-clause-bad : goal.returns-in-Some-clause-bad
 returns-in-Some-clause-bad c cause same =
     let told : c.in-Some.cause ≡ cause = cc in
-    cause-lines (origin_of c.args.origin) c.args.text.now (cause_of cause) (sym c.shape_cause.ensures ∙ ap (option_map cause_of) c.in-Some.is ∙ ap (λ (t : Told). Some (cause_of t)) told)
+    cause-lines (origin_of c.args.origin) c.args.text.now (cause_of cause) (sym c.shape_cause.ensures
+    ∙ ap (option_map cause_of) c.in-Some.is ∙ ap (λ (t : Told). Some (cause_of t)) told)
 
 pub returns-in-Some-found-clause-bad : goal.returns-in-Some-found-clause-bad
 returns-in-Some-found-clause-bad c cause same =
@@ -18,13 +19,19 @@ returns-in-Some-found-clause-bad c cause same =
     let text = c.args.text.now in
     let items = map (λ (f : Bor (List ℕ)). f.now) c.in_ok-fields.fields.items in
     let none = sym c.shape_cause.ensures ∙ ap (option_map cause_of) c.in_default.is in
-    let said = c.in_ok-newsgroups.ensures ∙ ap (λ (fs : List (Bor (List ℕ))). causes.content_in (codes "Newsgroups") (map (λ (f : Bor (List ℕ)). f.now) fs)) c.deref.ensures.value in
-    let size = c.in_ok-added.ensures.length ∙ ap (λ (fs : List (Bor (List ℕ))). length (causes.front_for origin (map (λ (f : Bor (List ℕ)). f.now) fs))) c.deref-2.ensures.value in
+    let said = c.in_ok-newsgroups.ensures
+    ∙ ap (λ (fs : List (Bor (List ℕ))). causes.content_in (codes "Newsgroups") (map (λ (f : Bor (List ℕ)). f.now) fs))
+    c.deref.ensures.value in
+    let size = c.in_ok-added.ensures.length
+    ∙ ap (λ (fs : List (Bor (List ℕ))). length (causes.front_for origin (map (λ (f : Bor (List ℕ)). f.now) fs))) c.deref-2.ensures.value
+    in
     let found =
     c.in_ok-found.ensures
-    ∙ ap (λ (fs : List (Bor (List ℕ))). causes.field_cause origin (map (λ (f : Bor (List ℕ)). f.now) fs) c.deref-4.result.now c.is_short-short.result) c.deref-3.ensures.value
+    ∙ ap (λ (fs : List (Bor (List ℕ))). causes.field_cause origin (map (λ (f : Bor (List ℕ)). f.now) fs) c.deref-4.result.now
+    c.is_short-short.result) c.deref-3.ensures.value
     ∙ ap (λ g. causes.field_cause origin items g c.is_short-short.result) c.deref-4.ensures.value
-    ∙ cause-fields origin text items c.in_ok-newsgroups.newsgroups.items c.header_length-header.result c.in_ok-added.added c.is_short-short.result c.requires c.in_ok-added.ensures.small none
+    ∙ cause-fields origin text items c.in_ok-newsgroups.newsgroups.items c.header_length-header.result c.in_ok-added.added
+    c.is_short-short.result c.requires c.in_ok-added.ensures.small none
     c.in_ok-fields.ensures said c.header_length-header.ensures size c.is_short-short.ensures in
     sym found ∙ ap (option_map cause_of) c.in-Some-found.is ∙ ap (λ (t : Told). Some (cause_of t)) told
 
@@ -37,7 +44,9 @@ invariant_of-result c =
       room = at.room (ltb-true _ _ (sym at.ends ∙ shape-ends c.args.text.now none));
       fields = c.in_ok-fields.ensures;
       newsgroups =
-          c.in_ok-newsgroups.ensures ∙ ap (λ (fs : List (Bor (List ℕ))). causes.content_in (codes "Newsgroups") (map (λ (f : Bor (List ℕ)). f.now) fs)) c.deref.ensures.value
+          c.in_ok-newsgroups.ensures ∙ ap
+          (λ (fs : List (Bor (List ℕ))). causes.content_in (codes "Newsgroups") (map (λ (f : Bor (List ℕ)). f.now) fs))
+          c.deref.ensures.value
           ∙ ap (causes.content_in (codes "Newsgroups")) c.in_ok-fields.ensures;
     }
 
@@ -47,12 +56,18 @@ returns-clause-no_cause c =
     let text = c.args.text.now in
     let items = map (λ (f : Bor (List ℕ)). f.now) c.in_ok-fields.fields.items in
     let none = sym c.shape_cause.ensures ∙ ap (option_map cause_of) c.in_default.is in
-    let said = c.in_ok-newsgroups.ensures ∙ ap (λ (fs : List (Bor (List ℕ))). causes.content_in (codes "Newsgroups") (map (λ (f : Bor (List ℕ)). f.now) fs)) c.deref.ensures.value in
-    let size = c.in_ok-added.ensures.length ∙ ap (λ (fs : List (Bor (List ℕ))). length (causes.front_for origin (map (λ (f : Bor (List ℕ)). f.now) fs))) c.deref-2.ensures.value in
+    let said = c.in_ok-newsgroups.ensures
+    ∙ ap (λ (fs : List (Bor (List ℕ))). causes.content_in (codes "Newsgroups") (map (λ (f : Bor (List ℕ)). f.now) fs))
+    c.deref.ensures.value in
+    let size = c.in_ok-added.ensures.length
+    ∙ ap (λ (fs : List (Bor (List ℕ))). length (causes.front_for origin (map (λ (f : Bor (List ℕ)). f.now) fs))) c.deref-2.ensures.value
+    in
     let found =
     c.in_ok-found.ensures
-    ∙ ap (λ (fs : List (Bor (List ℕ))). causes.field_cause origin (map (λ (f : Bor (List ℕ)). f.now) fs) c.deref-4.result.now c.is_short-short.result) c.deref-3.ensures.value
+    ∙ ap (λ (fs : List (Bor (List ℕ))). causes.field_cause origin (map (λ (f : Bor (List ℕ)). f.now) fs) c.deref-4.result.now
+    c.is_short-short.result) c.deref-3.ensures.value
     ∙ ap (λ g. causes.field_cause origin items g c.is_short-short.result) c.deref-4.ensures.value
-    ∙ cause-fields origin text items c.in_ok-newsgroups.newsgroups.items c.header_length-header.result c.in_ok-added.added c.is_short-short.result c.requires c.in_ok-added.ensures.small none
+    ∙ cause-fields origin text items c.in_ok-newsgroups.newsgroups.items c.header_length-header.result c.in_ok-added.added
+    c.is_short-short.result c.requires c.in_ok-added.ensures.small none
     c.in_ok-fields.ensures said c.header_length-header.ensures size c.is_short-short.ensures in
     sym found ∙ ap (option_map cause_of) c.in_default-found.is

@@ -7,5 +7,6 @@ use Rattle.article.proofs.causes.any_blank.Goals as goal
 
 pub returns : goal.returns
 returns c =
-    any_from_yields_List (λ (x : Bor (List ℕ)). (is_blank_in (map (λ (f : Bor (List ℕ)). f.now) c.args.fields.now)) x.now) _ _ c.any.result c.any.ensures.ran (YieldsList-from_slice c.args.names.now cc) (λ x b q k. search (rules, tests))
+    any_from_yields_List (λ (x : Bor (List ℕ)). (is_blank_in (map (λ (f : Bor (List ℕ)). f.now) c.args.fields.now)) x.now) _ _ c.any.result
+    c.any.ensures.ran (YieldsList-from_slice c.args.names.now cc) (λ x b q k. search (rules, tests))
     ∙ any-borrowed (is_blank_in (map (λ (f : Bor (List ℕ)). f.now) c.args.fields.now)) c.args.names.now

@@ -8,5 +8,7 @@ use Rattle.article.proofs.causes.any_missing.Goals as goal
 
 pub returns : goal.returns
 returns c =
-    any_from_yields_List (λ (x : Bor (List ℕ)). (λ (name : List ℕ). count_by (is_named name) (map (λ (f : Bor (List ℕ)). f.now) c.args.fields.now) == 0) x.now) _ _ c.any.result c.any.ensures.ran (YieldsList-from_slice c.args.names.now cc) (λ x b q k. search (rules, tests))
+    any_from_yields_List (λ (x : Bor (List ℕ)).
+    (λ (name : List ℕ). count_by (is_named name) (map (λ (f : Bor (List ℕ)). f.now) c.args.fields.now) == 0) x.now) _ _ c.any.result
+    c.any.ensures.ran (YieldsList-from_slice c.args.names.now cc) (λ x b q k. search (rules, tests))
     ∙ any-borrowed (λ (name : List ℕ). count_by (is_named name) (map (λ (f : Bor (List ℕ)). f.now) c.args.fields.now) == 0) c.args.names.now

@@ -8,5 +8,8 @@ use Rattle.article.proofs.causes.any_twice.Goals as goal
 
 pub returns : goal.returns
 returns c =
-    any_from_yields_List (λ (x : Bor (List ℕ)). (λ (name : List ℕ). nat_lt 1 (count_by (is_named name) (map (λ (f : Bor (List ℕ)). f.now) c.args.fields.now))) x.now) _ _ c.any.result c.any.ensures.ran (YieldsList-from_slice c.args.names.now cc) (λ x b q k. search (rules, tests))
-    ∙ any-borrowed (λ (name : List ℕ). nat_lt 1 (count_by (is_named name) (map (λ (f : Bor (List ℕ)). f.now) c.args.fields.now))) c.args.names.now
+    any_from_yields_List (λ (x : Bor (List ℕ)).
+    (λ (name : List ℕ). nat_lt 1 (count_by (is_named name) (map (λ (f : Bor (List ℕ)). f.now) c.args.fields.now))) x.now) _ _
+    c.any.result c.any.ensures.ran (YieldsList-from_slice c.args.names.now cc) (λ x b q k. search (rules, tests))
+    ∙ any-borrowed (λ (name : List ℕ). nat_lt 1 (count_by (is_named name) (map (λ (f : Bor (List ℕ)). f.now) c.args.fields.now)))
+    c.args.names.now

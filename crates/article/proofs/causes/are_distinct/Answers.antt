@@ -3,7 +3,8 @@ use Rattle.article.proofs.CauseLaws.{distinct-more, distinct-twice, distinct-non
 use Rattle.article.proofs.causes.are_distinct.Goals as goal
 
 pub returns-then-is_among : goal.returns-then-is_among
-returns-then-is_among c = sym (distinct-twice c.loop-rest.rest.now _ c.in-len1-up.len_at_least (sym c.if-is_among.ensures)) ∙ c.loop-rest.invariant
+returns-then-is_among c = sym (distinct-twice c.loop-rest.rest.now _ c.in-len1-up.len_at_least (sym c.if-is_among.ensures))
+    ∙ c.loop-rest.invariant
 
 pub loop-rest-preserved : goal.loop-rest-preserved
 loop-rest-preserved c = distinct-more c.loop-rest.rest.now _ c.in-len1-up.len_at_least (sym c.if-is_among.ensures) ∙ c.loop-rest.invariant

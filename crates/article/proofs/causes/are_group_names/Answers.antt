@@ -7,5 +7,6 @@ use Rattle.article.proofs.causes.are_group_names.Goals as goal
 
 pub returns : goal.returns
 returns c =
-    all_from_yields_List (λ (x : Bor (List ℕ)). is_group_name x.now) _ _ c.all.result c.all.ensures.ran (YieldsList-from_slice c.args.names.now cc) (λ x b q k. search (rules, tests))
+    all_from_yields_List (λ (x : Bor (List ℕ)). is_group_name x.now) _ _ c.all.result c.all.ensures.ran
+    (YieldsList-from_slice c.args.names.now cc) (λ x b q k. search (rules, tests))
     ∙ all-borrowed is_group_name c.args.names.now

@@ -7,5 +7,6 @@ use Rattle.article.proofs.causes.is_among.Goals as goal
 
 pub returns : goal.returns
 returns c =
-    any_from_yields_List (λ (x : Bor (List ℕ)). (bytes_eq c.args.name.now) x.now) _ _ c.any.result c.any.ensures.ran (YieldsList-from_slice c.args.names.now cc) (λ x b q k. search (rules, tests))
+    any_from_yields_List (λ (x : Bor (List ℕ)). (bytes_eq c.args.name.now) x.now) _ _ c.any.result c.any.ensures.ran
+    (YieldsList-from_slice c.args.names.now cc) (λ x b q k. search (rules, tests))
     ∙ any-borrowed (bytes_eq c.args.name.now) c.args.names.now

@@ -9,5 +9,7 @@ use Rattle.article.proofs.contents.find_field.Goals as goal
 pub returns : goal.returns
 returns c =
     let name = c.args.name.now in
-    ap (option_map (λ (f : Bor (List ℕ)). f.now)) (c.copied.ensures ∙ find_from_yields_List (λ (f : Bor (List ℕ)). is_named name f.now) _ _ c.find.result c.find.ensures.ran (YieldsList-from_slice c.args.fields.now cc) (λ x b q k. search (rules, tests)))
+    ap (option_map (λ (f : Bor (List ℕ)). f.now)) (c.copied.ensures
+    ∙ find_from_yields_List (λ (f : Bor (List ℕ)). is_named name f.now) _ _ c.find.result c.find.ensures.ran
+    (YieldsList-from_slice c.args.fields.now cc) (λ x b q k. search (rules, tests)))
     ∙ find-borrowed (is_named name) c.args.fields.now

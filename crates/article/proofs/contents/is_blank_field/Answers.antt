@@ -9,5 +9,6 @@ use Rattle.article.proofs.contents.is_blank_field.Goals as goal
 
 pub returns : goal.returns
 returns c =
-    any_from_yields_List (λ (x : Bor (List ℕ)). (λ (field : List ℕ). is_named c.args.name.now field && list_all is_blank (content_of field)) x.now) _ _ c.any.result c.any.ensures.ran (YieldsList-from_slice c.args.fields.now cc) (λ x b q k. search (rules, tests))
+    any_from_yields_List (λ (x : Bor (List ℕ)). (λ (field : List ℕ). is_named c.args.name.now field && list_all is_blank (content_of field))
+    x.now) _ _ c.any.result c.any.ensures.ran (YieldsList-from_slice c.args.fields.now cc) (λ x b q k. search (rules, tests))
     ∙ any-borrowed (λ (field : List ℕ). is_named c.args.name.now field && list_all is_blank (content_of field)) c.args.fields.now

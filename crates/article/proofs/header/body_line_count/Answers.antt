@@ -17,5 +17,6 @@ returns-then-header-text c =
 pub returns : goal.returns
 returns c =
     let text = c.args.text.now in
-    c.line_count.ensures ∙ ap (λ (octets : Octets). length (lines octets)) (take_rest text (c.header_length-header.result + 2) ∙ sym c.header_length-header.ensures.body)
+    c.line_count.ensures ∙ ap (λ (octets : Octets). length (lines octets)) (take_rest text (c.header_length-header.result + 2)
+    ∙ sym c.header_length-header.ensures.body)
     ∙ ap (λ (ls : List Octets). length ls) (lines-drop (length (header_lines text) + 1) text)

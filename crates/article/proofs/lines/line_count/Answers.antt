@@ -8,7 +8,8 @@ use Rattle.article.proofs.lines.line_count.Goals as goal
 pub returns : goal.returns
 returns c =
     let rest = c.loop-rest.rest.now in
-    let none : length (lines rest) ≡ 0 = ap (λ octets. length (lines octets)) (nil_from_length rest (eqb-true _ _ (sym c.loop-rest-test.ensures))) ∙ ap length lines-empty in
+    let none : length (lines rest) ≡ 0 =
+    ap (λ octets. length (lines octets)) (nil_from_length rest (eqb-true _ _ (sym c.loop-rest-test.ensures))) ∙ ap length lines-empty in
     omega (arith, none, c.loop-rest.invariant.0)
 
 pub loop-rest-init : goal.loop-rest-init

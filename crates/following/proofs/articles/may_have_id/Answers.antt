@@ -8,7 +8,10 @@ returns-in-Some c = λ S is. (λ yes. absurd (true≢false (sym yes)), λ may. a
 
 pub returns-then-not-is_of_host : goal.returns-then-not-is_of_host
 returns-then-not-is_of_host c = λ S is. (
-  λ yes. record { new = none_by _ (c.in_default.ensures S is); own = λ own. absurd (true≢false (sym own ∙ sym c.is_of_host.ensures ∙ c.if-not-is_of_host.true)) },
+  λ yes. record {
+    new = none_by _ (c.in_default.ensures S is);
+    own = λ own. absurd (true≢false (sym own ∙ sym c.is_of_host.ensures ∙ c.if-not-is_of_host.true));
+  },
   λ may. refl,
 )
 

@@ -5,4 +5,5 @@ use Rattle.following.proofs.Testing.{same_some}
 use Rattle.following.proofs.groups.is_here.Goals as goal
 
 pub returns : goal.returns
-returns c = λ S is. let e = same_some (λ g. shown g.now) (group_index S) c.find_group.result (group_named S c.args.name.now) (c.find_group.ensures S is) in cc
+returns c = λ S is. let e = same_some (λ g. shown g.now) (group_index S) c.find_group.result (group_named S c.args.name.now)
+    (c.find_group.ensures S is) in cc

@@ -16,8 +16,10 @@ find_from-requires-clause-before g c =
     λ k low zeros. elim (cases_lt k c.args.inodes) [
       | inl within ↦
           c.requires.used k low
-          (get_or-table c.args.inodes blocks k within ∙ file_at_free c.args.inodes blocks k (free_from_slot c.args.inodes blocks c.requires.room c.requires.rule k within zeros))
-      | inr past ↦ c.requires.used k low (get_or_past (table c.args.inodes blocks) k None (omega (arith, length-table c.args.inodes blocks)))
+          (get_or-table c.args.inodes blocks k within
+          ∙ file_at_free c.args.inodes blocks k (free_from_slot c.args.inodes blocks c.requires.room c.requires.rule k within zeros))
+      | inr past ↦ c.requires.used k low
+          (get_or_past (table c.args.inodes blocks) k None (omega (arith, length-table c.args.inodes blocks)))
     ]
 
 pub returns-in_default-clause-full : goal.returns-in_default-clause-full
@@ -29,15 +31,22 @@ pub returns-clause-created : goal.returns-clause-created
 returns-clause-created g c =
     let blocks = g.B.Blocks.blocks c.args.blocks.now in
     let at = c.in-Some.at in
-    creates c.args.inodes at c.args.name.now blocks (g.B.Blocks.blocks c.put_record.new.blocks) (g.B.Blocks.blocks c.put_record-2.new.blocks)
+    creates c.args.inodes at c.args.name.now blocks (g.B.Blocks.blocks c.put_record.new.blocks)
+    (g.B.Blocks.blocks c.put_record-2.new.blocks)
     c.requires.room c.requires.name c.requires.rule
-    (λ k low same. c.requires.absent (k, content_of blocks (entry c.args.inodes blocks k), there_from_slot c.args.inodes blocks c.requires.rule k c.args.name.now low c.requires.name.0 same)) c.in-Some.ensures
-    (subst (λ (s : List ℕ). PutsRecord (2 + c.args.inodes / 64) at s blocks (g.B.Blocks.blocks c.put_record.new.blocks)) c.slot_for-slot.ensures c.in_ok-put_record.ensures.done)
+    (λ k low same. c.requires.absent (
+      k,
+      content_of blocks (entry c.args.inodes blocks k),
+      there_from_slot c.args.inodes blocks c.requires.rule k c.args.name.now low c.requires.name.0 same,
+    )) c.in-Some.ensures
+    (subst (λ (s : List ℕ). PutsRecord (2 + c.args.inodes / 64) at s blocks (g.B.Blocks.blocks c.put_record.new.blocks))
+    c.slot_for-slot.ensures c.in_ok-put_record.ensures.done)
     c.in_ok-put_record-2.ensures.done
 
 pub returns-clause-touches : goal.returns-clause-touches
 returns-clause-touches g c =
-    slot_then_inode c.args.inodes c.in-Some.at _ c.slot_for-slot.result (g.B.Blocks.blocks c.args.blocks.now) (g.B.Blocks.blocks c.put_record.new.blocks) (g.B.Blocks.blocks c.put_record-2.new.blocks)
+    slot_then_inode c.args.inodes c.in-Some.at _ c.slot_for-slot.result (g.B.Blocks.blocks c.args.blocks.now)
+    (g.B.Blocks.blocks c.put_record.new.blocks) (g.B.Blocks.blocks c.put_record-2.new.blocks)
     c.in_ok-put_record.ensures.done c.in_ok-put_record-2.ensures.done
 
 pub returns-clause-marks : goal.returns-clause-marks
@@ -48,5 +57,6 @@ returns-clause-marks g c =
     let inode = c.in_ok-put_record-2.ensures.done in
     record {
       count = inode.count ∙ slot.count;
-      marks = marks_same old new (inode.blocks 0 (omega arith) ∙ slot.blocks 0 (omega arith)) (inode.blocks 1 (omega arith) ∙ slot.blocks 1 (omega arith));
+      marks = marks_same old new (inode.blocks 0 (omega arith) ∙ slot.blocks 0 (omega arith)) (inode.blocks 1 (omega arith)
+          ∙ slot.blocks 1 (omega arith));
     }

@@ -8,7 +8,8 @@ use Rattle.fs.proofs.directory.names.Goals.{then-slot-gt0+in_ok-name_of+in_ok-pu
 
 pub name_of-requires-clause-few : goal.name_of-requires-clause-few
 name_of-requires-clause-few g c =
-    small_name c.args.inodes (g.B.Blocks.blocks c.args.blocks.now) c.requires.rule c.loop-at.at (omega arith) c.get_record.new.into c.get_record.ensures
+    small_name c.args.inodes (g.B.Blocks.blocks c.args.blocks.now) c.requires.rule c.loop-at.at
+    (omega arith) c.get_record.new.into c.get_record.ensures
 
 pub loop-at-preserved : goal.loop-at-preserved
 loop-at-preserved g c =
@@ -26,7 +27,8 @@ loop-at-preserved g c =
       | else-slot-gt0 w ↦
           ap (λ (v : Vec (Vec ℕ Global) Global). map (λ name. name.items) v.items) w.names-is
           ∙ c.loop-at.invariant
-          ∙ sym (no_name c.args.inodes blocks c.requires.rule at low c.get_record.new.into c.get_record.ensures (omega (arith, w.if-slot-gt0.false)))
+          ∙ sym (no_name c.args.inodes blocks c.requires.rule at low c.get_record.new.into c.get_record.ensures
+          (omega (arith, w.if-slot-gt0.false)))
     ]
 
 pub returns : goal.returns

@@ -6,8 +6,11 @@ use Rattle.fs.proofs.directory.size.Goals as goal
 
 pub returns-in_default-clause-refused : goal.returns-in_default-clause-refused
 returns-in_default-clause-refused g c =
-    let blocks = g.B.Blocks.blocks c.args.blocks.now in
-    (refl, no_slot c.args.inodes blocks c.requires.rule c.args.name.now (λ k low same. c.in_default.ensures k low (same ∙ sym c.slot_for.ensures)))
+    let blocks = g.B.Blocks.blocks c.args.blocks.now in (
+      refl,
+      no_slot c.args.inodes blocks c.requires.rule c.args.name.now
+          (λ k low same. c.in_default.ensures k low (same ∙ sym c.slot_for.ensures)),
+    )
 
 pub returns-clause-found : goal.returns-clause-found
 returns-clause-found g c =
@@ -17,5 +20,6 @@ returns-clause-found g c =
       at,
       content_of blocks (entry c.args.inodes blocks at),
       there_from_slot c.args.inodes blocks c.requires.rule at c.args.name.now found.below c.requires.name.0 (found.is ∙ c.slot_for.ensures),
-      c.size_of.ensures ∙ sym (length-content blocks (entry c.args.inodes blocks at) c.requires.room.blocks_whole (λ b owns. (c.requires.rule.within at b found.below owns).1)),
+      c.size_of.ensures ∙ sym (length-content blocks (entry c.args.inodes blocks at) c.requires.room.blocks_whole
+          (λ b owns. (c.requires.rule.within at b found.below owns).1)),
     )

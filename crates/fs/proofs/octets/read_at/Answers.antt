@@ -6,12 +6,14 @@ use Rattle.fs.proofs.octets.read_at.Goals as goal
 pub returns-in_default-clause-not_found : goal.returns-in_default-clause-not_found
 returns-in_default-clause-not_found g c =
     let blocks = g.B.Blocks.blocks c.args.blocks.now in
-    λ e. no_slot c.args.inodes blocks c.requires.rule c.args.name.now (λ k low same. c.in_default.ensures k low (same ∙ sym c.slot_for.ensures))
+    λ e. no_slot c.args.inodes blocks c.requires.rule c.args.name.now
+    (λ k low same. c.in_default.ensures k low (same ∙ sym c.slot_for.ensures))
 
 pub read_entry-requires-clause-file : goal.read_entry-requires-clause-file
 read_entry-requires-clause-file g c =
     let found = c.in-Some.ensures in
-    file_from_slot c.args.inodes (g.B.Blocks.blocks c.args.blocks.now) c.requires.rule c.in-Some.at c.args.name.now found.below c.requires.name.0 (found.is ∙ c.slot_for.ensures)
+    file_from_slot c.args.inodes (g.B.Blocks.blocks c.args.blocks.now) c.requires.rule c.in-Some.at c.args.name.now found.below
+    c.requires.name.0 (found.is ∙ c.slot_for.ensures)
 
 pub returns-clause-found : goal.returns-clause-found
 returns-clause-found g c =

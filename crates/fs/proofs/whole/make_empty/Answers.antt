@@ -14,7 +14,8 @@ returns-clause-made g c =
 pub returns-clause-touches : goal.returns-clause-touches
 returns-clause-touches g c =
     let old = g.B.Blocks.blocks c.args.blocks.now in
-    subst (λ (bs : List (List ℕ)). Touches 0 old bs) (sym c.in_ok-put.ensures.put) (put_in_bitmap 0 c.set_front.new.octets old (omega arith))
+    subst (λ (bs : List (List ℕ)). Touches 0 old bs) (sym c.in_ok-put.ensures.put)
+    (put_in_bitmap 0 c.set_front.new.octets old (omega arith))
 
 pub returns-clause-count : goal.returns-clause-count
 returns-clause-count g c = ap length c.in_ok-put.ensures.put ∙ length-set (g.B.Blocks.blocks c.args.blocks.now) 0 c.set_front.new.octets

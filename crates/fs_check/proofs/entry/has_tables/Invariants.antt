@@ -4,4 +4,6 @@ use Rattle.fs_check.specs.Checking.{HasNumber}
 use Rattle.fs_check.proofs.entry.has_tables.Given as goal
 
 abbrev pub invariant-loop-p : goal.invariant-loop-p
-invariant-loop-p g l = (p : ℕ) → p < l.p → HasNumber (first_data l.inodes) (length (g.B.Blocks.blocks l.blocks)) p l.tables (indirect_pointer (entry_of (g.B.Blocks.blocks l.blocks) l.inode []) p)
+invariant-loop-p g l = (p : ℕ) → p < l.p
+    → HasNumber (first_data l.inodes) (length (g.B.Blocks.blocks l.blocks)) p l.tables
+    (indirect_pointer (entry_of (g.B.Blocks.blocks l.blocks) l.inode []) p)

@@ -8,11 +8,25 @@ use Rattle.fs_check.proofs.Deciding.{entry_from_file, free_from_entry, free_smal
 use Rattle.fs_check.proofs.entry.is_entry.Goals as goal
 
 -- pointers do not depend on the slot
-of_inode : (first count most inodes at : ℕ) (blocks : List (List ℕ)) → HasPointers most first count (entry_of blocks (inode_of blocks at) []) → HasPointers most first count (entry inodes blocks at)
-of_inode first count most inodes at blocks has = record { small = has.small; spare = has.spare; double = has.double; tables = has.tables; no_other_pointer = has.no_other_pointer }
+of_inode : (first count most inodes at : ℕ) (blocks : List (List ℕ))
+    → HasPointers most first count (entry_of blocks (inode_of blocks at) []) → HasPointers most first count (entry inodes blocks at)
+of_inode first count most inodes at blocks has = record {
+  small = has.small;
+  spare = has.spare;
+  double = has.double;
+  tables = has.tables;
+  no_other_pointer = has.no_other_pointer;
+}
 
-to_inode : (first count most inodes at : ℕ) (blocks : List (List ℕ)) → HasPointers most first count (entry inodes blocks at) → HasPointers most first count (entry_of blocks (inode_of blocks at) [])
-to_inode first count most inodes at blocks has = record { small = has.small; spare = has.spare; double = has.double; tables = has.tables; no_other_pointer = has.no_other_pointer }
+to_inode : (first count most inodes at : ℕ) (blocks : List (List ℕ)) → HasPointers most first count (entry inodes blocks at)
+    → HasPointers most first count (entry_of blocks (inode_of blocks at) [])
+to_inode first count most inodes at blocks has = record {
+  small = has.small;
+  spare = has.spare;
+  double = has.double;
+  tables = has.tables;
+  no_other_pointer = has.no_other_pointer;
+}
 
 pub returns-then-are_zeros : goal.returns-then-are_zeros
 returns-then-are_zeros g c =
@@ -21,11 +35,13 @@ returns-then-are_zeros g c =
     let none : kind e ≡ 0 = sym (c.number32.ensures ∙ ap (λ (o : List ℕ). number_at 0 4 o) c.get_record.ensures) ∙ c.in-0.is in (
       (λ zeros.
           let free : IsFree e = record {
-            inode_zeros = subst (λ (o : List ℕ). All (λ octet. octet ≡ 0) o) c.get_record.ensures (c.are_zeros.ensures.0 c.if-are_zeros.true);
+            inode_zeros = subst (λ (o : List ℕ). All (λ octet. octet ≡ 0) o) c.get_record.ensures
+                (c.are_zeros.ensures.0 c.if-are_zeros.true);
             slot_zeros = rw (← c.get_record-2.ensures) (c.are_zeros-then-are_zeros.ensures.0 zeros);
           } in
           (inl free, free_small (most_octets c.args.format) e free)),
-      (λ has. c.are_zeros-then-are_zeros.ensures.1 (rw c.get_record-2.ensures (free_from_entry (first_data c.args.inodes) (length blocks) e none has.0).slot_zeros)),
+      (λ has. c.are_zeros-then-are_zeros.ensures.1
+          (rw c.get_record-2.ensures (free_from_entry (first_data c.args.inodes) (length blocks) e none has.0).slot_zeros)),
     )
 
 pub returns-else-is_slot : goal.returns-else-is_slot
@@ -34,7 +50,8 @@ returns-else-is_slot g c =
     let e : Entry = entry c.args.inodes blocks c.args.at in
     let is : c.number32.result ≡ kind e = c.number32.ensures ∙ ap (λ (o : List ℕ). number_at 0 4 o) c.get_record.ensures in (
       (λ slot. absurd (false≢true (sym c.if-is_slot.false ∙ slot))),
-      (λ one. c.is_slot.ensures.1 (rw c.get_record-2.ensures (slot_from_entry (first_data c.args.inodes) (length blocks) e (sym is ∙ c.in-1.is) one.0))),
+      (λ one. c.is_slot.ensures.1 (rw c.get_record-2.ensures
+          (slot_from_entry (first_data c.args.inodes) (length blocks) e (sym is ∙ c.in-1.is) one.0))),
     )
 
 pub returns-in_default : goal.returns-in_default
@@ -45,7 +62,8 @@ returns-in_default g c =
     let other : c.number32.result ≢ 0 = omega arith in
     let another : c.number32.result ≢ 1 = omega arith in (
       (λ slot. absurd (false≢true slot)),
-      (λ one. absurd (no_entry (first_data c.args.inodes) (length blocks) e (λ zero. other (is ∙ zero)) (λ first. another (is ∙ first)) one.0)),
+      (λ one. absurd (no_entry (first_data c.args.inodes) (length blocks) e (λ zero. other (is ∙ zero))
+          (λ first. another (is ∙ first)) one.0)),
     )
 
 pub returns-then-is_slot : goal.returns-then-is_slot
@@ -56,7 +74,12 @@ returns-then-is_slot g c =
     let most = most_octets c.args.format in
     let has = λ (o : List ℕ). HasPointers most first (length blocks) (entry_of blocks o []) in
     let one : kind e ≡ 1 = sym (c.number32.ensures ∙ ap (λ (o : List ℕ). number_at 0 4 o) c.get_record.ensures) ∙ c.in-1.is in (
-      (λ some. entry_from_file first (length blocks) e most (most_few c.args.format) (omega arith) one (subst IsSlot c.get_record-2.ensures (c.is_slot.ensures.0 c.if-is_slot.true))
-          (of_inode first (length blocks) most c.args.inodes c.args.at blocks (subst has c.get_record.ensures (c.has_pointers.ensures.0 some)))),
-      (λ file. c.has_pointers.ensures.1 (subst has (sym c.get_record.ensures) (to_inode first (length blocks) most c.args.inodes c.args.at blocks (pointers_from_entry first (length blocks) e most one file.0 file.1)))),
+      (λ some. entry_from_file first (length blocks) e most (most_few c.args.format) (omega arith) one
+          (subst IsSlot c.get_record-2.ensures (c.is_slot.ensures.0 c.if-is_slot.true))
+          (of_inode first (length blocks) most c.args.inodes c.args.at blocks
+          (subst has c.get_record.ensures (c.has_pointers.ensures.0 some)))),
+      (λ file. c.has_pointers.ensures.1
+          (subst has (sym c.get_record.ensures)
+          (to_inode first (length blocks) most c.args.inodes c.args.at blocks
+          (pointers_from_entry first (length blocks) e most one file.0 file.1)))),
     )

@@ -10,4 +10,5 @@ returns-clause-refused c =
     let double = c.args.double in
     let one = ap (λ (b : Bool). cond {A = List ℕ} b [] (double ∷ [])) (ne_eqb double 0 c.if-double-eq0.false) in
     subst (λ (l : List ℕ). OnFalse c.mark.result (¬ (CanMark c.args.count l c.args.marks.now))) (sym one)
-    (OnFalse_from c.mark.result (¬ (CanMark c.args.count (double ∷ []) c.args.marks.now)) (λ some. cannot_one c.args.count double c.args.marks.now (OnFalse_at some c.mark.ensures.refused)))
+    (OnFalse_from c.mark.result (¬ (CanMark c.args.count (double ∷ []) c.args.marks.now))
+    (λ some. cannot_one c.args.count double c.args.marks.now (OnFalse_at some c.mark.ensures.refused)))

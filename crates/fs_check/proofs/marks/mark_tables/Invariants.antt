@@ -5,4 +5,5 @@ use Rattle.fs_check.specs.Checking.{Marks}
 use Rattle.fs_check.proofs.marks.mark_tables.Given as goal
 
 abbrev pub invariant-loop-p : goal.invariant-loop-p
-invariant-loop-p g l = Marks (length (g.B.Blocks.blocks l.blocks)) (map (λ n. indirect_pointer (entry_of (g.B.Blocks.blocks l.blocks) l.inode []) n) (range_with_len 0 l.p)) l.initial.marks l.marks
+invariant-loop-p g l = Marks (length (g.B.Blocks.blocks l.blocks))
+    (map (λ n. indirect_pointer (entry_of (g.B.Blocks.blocks l.blocks) l.inode []) n) (range_with_len 0 l.p)) l.initial.marks l.marks

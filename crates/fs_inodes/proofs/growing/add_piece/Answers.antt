@@ -1,4 +1,5 @@
-use Rattle.std.proofs.Common.{◌≡◌, ◌≢◌, ℕ, ◌+◌, ◌-◌, ◌*◌, ◌/◌, ◌%◌, ◌<◌, ◌≤◌, List, [], ◌∷◌, ◌++◌, length, get_or, take, set, sym, ◌∙◌, ap, subst, arith, length-set, ◌⊎◌, inl, inr}
+use Rattle.std.proofs.Common.{◌≡◌, ◌≢◌, ℕ, ◌+◌, ◌-◌, ◌*◌, ◌/◌, ◌%◌, ◌<◌, ◌≤◌, List, [], ◌∷◌, ◌++◌, length, get_or, take, set, sym, ◌∙◌, ap}
+use Rattle.std.proofs.Common.{subst, arith, length-set, ◌⊎◌, inl, inr}
 use Rattle.std.proofs.lemmas.Bool.{cases_eq}
 use Rattle.std.proofs.lemmas.List.{length-replicate}
 use Rattle.std.proofs.lemmas.List.Elements.{Contains-append_right, Contains-push}
@@ -6,7 +7,8 @@ use Rattle.std.proofs.lemmas.Result.{on_ok_weaker}
 use Rattle.byteorder.specs.Endian.{little_bytes}
 use Rattle.disk.specs.Image.{overwritten}
 use Rattle.model.specs.Volume.{number_at}
-use Rattle.model.specs.Files.{Entry, entry, entry_of, free_blocks, inode_of, size, pointer, first_data, indirect_for, indirect_pointer, block_count}
+use Rattle.model.specs.Files.{Entry, entry, entry_of, free_blocks, inode_of, size, pointer, first_data, indirect_for, indirect_pointer}
+use Rattle.model.specs.Files.{block_count}
 use Rattle.fs_layout.specs.Blocks.{IsThere, PutsRecord}
 use Rattle.fs_inodes.specs.Growing.{inode_entry, with_indirect, AddsBlock, NamesBlocks}
 use Rattle.fs_inodes.proofs.Named.{double_is_there, file_names, table_is_there}
@@ -22,7 +24,8 @@ add_block-requires-clause-names g c =
     let e : Entry = entry c.args.inodes blocks c.args.at in
     let sized : c.number64-size.result ≡ size e = c.number64-size.ensures ∙ ap (λ (o : List ℕ). number_at 4 8 o) c.get_record.ensures in
     let count : block_count e ≡ c.number64-size.result / 4096 = omega (arith, sized, c.if-within-eq0.true) in
-    subst (λ (o : List ℕ). NamesBlocks (indirect_for (c.number64-size.result / 4096)) (inode_entry blocks o) blocks) (sym c.get_record.ensures)
+    subst (λ (o : List ℕ). NamesBlocks (indirect_for (c.number64-size.result / 4096)) (inode_entry blocks o) blocks)
+    (sym c.get_record.ensures)
     (subst (λ (m : ℕ). NamesBlocks (indirect_for m) (inode_entry blocks (inode_of blocks c.args.at)) blocks) count
     (file_names c.args.inodes c.args.at blocks c.requires.room c.requires.rule c.requires.below c.requires.file))
 
@@ -33,7 +36,8 @@ add_block-requires-clause-free g c =
     let piece = c.args.piece.now in
     let sized : c.number64-size.result ≡ size e = c.number64-size.ensures ∙ ap (λ (o : List ℕ). number_at 4 8 o) c.get_record.ensures in
     let was : block_count e ≡ c.number64-size.result / 4096 = omega (arith, sized, c.if-within-eq0.true) in
-    let now : (size e + length piece + 4095) / 4096 ≡ c.number64-size.result / 4096 + 1 = omega (arith, sized, c.if-within-eq0.true, c.requires.some, c.requires.within) in
+    let now : (size e + length piece + 4095) / 4096 ≡ c.number64-size.result / 4096 + 1 =
+    omega (arith, sized, c.if-within-eq0.true, c.requires.some, c.requires.within) in
     subst (λ (m : ℕ). with_indirect (c.number64-size.result / 4096 + 1) ≤ free_blocks blocks + with_indirect m) was
     (subst (λ (m : ℕ). with_indirect m ≤ free_blocks blocks + with_indirect (block_count e)) now c.requires.enough.1)
 
@@ -43,15 +47,18 @@ pointer_at-last-requires-clause-double g c =
     let e : Entry = entry c.args.inodes blocks c.args.at in
     let sized : c.number64-size.result ≡ size e = c.number64-size.ensures ∙ ap (λ (o : List ℕ). number_at 4 8 o) c.get_record.ensures in
     subst (λ (o : List ℕ). 1034 ≤ c.number64-size.result / 4096 → IsThere (number_at 56 4 o) blocks) (sym c.get_record.ensures)
-    (double_is_there c.args.inodes c.args.at blocks c.requires.room c.requires.rule c.requires.below c.requires.file (c.number64-size.result / 4096) (omega (arith, c.if-within-eq0.false)))
+    (double_is_there c.args.inodes c.args.at blocks c.requires.room c.requires.rule c.requires.below c.requires.file
+    (c.number64-size.result / 4096) (omega (arith, c.if-within-eq0.false)))
 
 pub pointer_at-last-requires-clause-indirect : goal.pointer_at-last-requires-clause-indirect
 pointer_at-last-requires-clause-indirect g c =
     let blocks = g.B.Blocks.blocks c.args.blocks.now in
     let e : Entry = entry c.args.inodes blocks c.args.at in
     let sized : c.number64-size.result ≡ size e = c.number64-size.ensures ∙ ap (λ (o : List ℕ). number_at 4 8 o) c.get_record.ensures in
-    subst (λ (o : List ℕ). 10 ≤ c.number64-size.result / 4096 → IsThere (indirect_pointer (entry_of blocks o []) ((c.number64-size.result / 4096 - 10) / 1024)) blocks) (sym c.get_record.ensures)
-    (table_is_there c.args.inodes c.args.at blocks c.requires.room c.requires.rule c.requires.below c.requires.file (c.number64-size.result / 4096) (omega (arith, c.if-within-eq0.false)))
+    subst (λ (o : List ℕ). 10 ≤ c.number64-size.result / 4096
+    → IsThere (indirect_pointer (entry_of blocks o []) ((c.number64-size.result / 4096 - 10) / 1024)) blocks) (sym c.get_record.ensures)
+    (table_is_there c.args.inodes c.args.at blocks c.requires.room c.requires.rule c.requires.below c.requires.file
+    (c.number64-size.result / 4096) (omega (arith, c.if-within-eq0.false)))
 
 pub get-requires-clause-there : goal.get-requires-clause-there
 get-requires-clause-there g c =
@@ -60,8 +67,10 @@ get-requires-clause-there g c =
     let i = c.number64-size.result / 4096 in
     let sized : c.number64-size.result ≡ size e = c.number64-size.ensures ∙ ap (λ (o : List ℕ). number_at 4 8 o) c.get_record.ensures in
     let low : i < block_count e = omega (arith, c.if-within-eq0.false) in
-    let is : c.pointer_at-last.result ≡ pointer e i = c.pointer_at-last.ensures ∙ ap (λ (o : List ℕ). pointer (entry_of blocks o []) i) c.get_record.ensures in
-    subst (λ (n : ℕ). n < length blocks) (sym is) ((c.requires.rule.within c.args.at (pointer e i) c.requires.below (owns_pointer e i low)).1)
+    let is : c.pointer_at-last.result ≡ pointer e i = c.pointer_at-last.ensures
+    ∙ ap (λ (o : List ℕ). pointer (entry_of blocks o []) i) c.get_record.ensures in
+    subst (λ (n : ℕ). n < length blocks) (sym is)
+    ((c.requires.rule.within c.args.at (pointer e i) c.requires.below (owns_pointer e i low)).1)
 
 pub put-requires-clause-there : goal.put-requires-clause-there
 put-requires-clause-there g c =
@@ -73,11 +82,14 @@ put-requires-clause-there g c =
       | then-within-eq0+in_ok-number w ↦
           let adds = w.in_ok-number.ensures.done in
           let count = ap (λ (b : g.row.B.Denot). length (g.B.Blocks.blocks b)) w.blocks-is ∙ adds.count in
-          let low = (adds.takes.free w.in_ok-number.number (Contains-append_right adds.doubles (adds.tables ++ w.in_ok-number.number ∷ []) w.in_ok-number.number (Contains-push adds.tables w.in_ok-number.number))).0 in
+          let low = (adds.takes.free w.in_ok-number.number
+          (Contains-append_right adds.doubles (adds.tables ++ w.in_ok-number.number ∷ []) w.in_ok-number.number
+          (Contains-push adds.tables w.in_ok-number.number))).0 in
           omega (arith, count, low, w.number-is)
       | else-within-eq0 w ↦
           let low : i < block_count e = omega (arith, w.if-within-eq0.false) in
-          let is : w.pointer_at-last.result ≡ pointer e i = w.pointer_at-last.ensures ∙ ap (λ (o : List ℕ). pointer (entry_of blocks o []) i) c.get_record.ensures in
+          let is : w.pointer_at-last.result ≡ pointer e i = w.pointer_at-last.ensures
+          ∙ ap (λ (o : List ℕ). pointer (entry_of blocks o []) i) c.get_record.ensures in
           let count = ap (λ (b : g.row.B.Denot). length (g.B.Blocks.blocks b)) w.blocks-is in
           let inside = (c.requires.rule.within c.args.at (pointer e i) c.requires.below (owns_pointer e i low)).1 in
           omega (arith, count, w.number-is, is, inside)
@@ -99,37 +111,47 @@ returns-clause-grown g c =
     let sized : c.number64-size.result ≡ size e = c.number64-size.ensures ∙ ap (λ (o : List ℕ). number_at 4 8 o) c.get_record.ensures in
     let parts : size e ≡ 4096 * n + r = omega arith in
     let few : n < 65536 = omega (arith, sized, c.requires.enough.0, c.requires.some) in
-    let ready : Extends (first_data c.args.inodes) n number e (inode_entry mid inode) old mid × (length block ≡ 4096) × (take r block ≡ take r (get_or old (pointer e n) [])) = (elim c.if-within-eq0.branch [
+    let ready : Extends (first_data c.args.inodes) n number e (inode_entry mid inode) old mid × (length block ≡ 4096)
+    × (take r block ≡ take r (get_or old (pointer e n) [])) = (elim c.if-within-eq0.branch [
       | then-within-eq0+in_ok-number w ↦
           let none : r ≡ 0 = w.if-within-eq0.true in
           let blocks_are = ap (λ (b : g.row.B.Denot). g.B.Blocks.blocks b) w.blocks-is in
           let adds : AddsBlock n number (inode_of old at) inode old mid =
           subst (λ (bs : List (List ℕ)). AddsBlock n number (inode_of old at) inode old bs) (sym blocks_are)
           (subst (λ (o : List ℕ). AddsBlock n number (inode_of old at) o old (g.B.Blocks.blocks w.add_block.new.blocks)) (sym w.inode-is)
-          (subst (λ (m : ℕ). AddsBlock n m (inode_of old at) w.add_block.new.inode old (g.B.Blocks.blocks w.add_block.new.blocks)) (sym w.number-is)
-          (subst (λ (o : List ℕ). AddsBlock n w.in_ok-number.number o w.add_block.new.inode old (g.B.Blocks.blocks w.add_block.new.blocks)) c.get_record.ensures w.in_ok-number.ensures.done))) in (
-            extends_new c.args.inodes at n old c.requires.room c.requires.rule c.requires.below c.requires.file few number inode mid (omega arith) adds,
+          (subst (λ (m : ℕ). AddsBlock n m (inode_of old at) w.add_block.new.inode old (g.B.Blocks.blocks w.add_block.new.blocks))
+          (sym w.number-is)
+          (subst (λ (o : List ℕ). AddsBlock n w.in_ok-number.number o w.add_block.new.inode old (g.B.Blocks.blocks w.add_block.new.blocks))
+          c.get_record.ensures w.in_ok-number.ensures.done))) in (
+            extends_new c.args.inodes at n old c.requires.room c.requires.rule c.requires.below c.requires.file few number inode mid
+                (omega arith) adds,
             ap (λ (b : List ℕ). length b) w.block-is ∙ length-replicate {A = ℕ} 4096 0,
             ap (λ (m : ℕ). take m block) none ∙ sym (ap (λ (m : ℕ). take m (get_or old (pointer e n) [])) none),
           )
       | else-within-eq0 w ↦
           let low : n < block_count e = omega (arith, w.if-within-eq0.false) in
-          let is : w.pointer_at-last.result ≡ pointer e n = w.pointer_at-last.ensures ∙ ap (λ (o : List ℕ). pointer (entry_of old o []) n) c.get_record.ensures in
+          let is : w.pointer_at-last.result ≡ pointer e n = w.pointer_at-last.ensures
+          ∙ ap (λ (o : List ℕ). pointer (entry_of old o []) n) c.get_record.ensures in
           let block_is : block ≡ get_or old (pointer e n) [] = w.block-is ∙ w.get.ensures ∙ ap (λ (m : ℕ). get_or old m []) is in
           let blocks_are : mid ≡ old = ap (λ (b : g.row.B.Denot). g.B.Blocks.blocks b) w.blocks-is in
           let inside = (c.requires.rule.within at (pointer e n) c.requires.below (owns_pointer e n low)).1 in (
             subst (λ (bs : List (List ℕ)). Extends (first_data c.args.inodes) n number e (inode_entry bs inode) old bs) (sym blocks_are)
-                (subst (λ (o : List ℕ). Extends (first_data c.args.inodes) n number e (inode_entry old o) old old) (sym (w.inode-is ∙ c.get_record.ensures))
-                (extends_last c.args.inodes at n old c.requires.room c.requires.rule c.requires.below c.requires.file few r number parts (omega (arith, w.if-within-eq0.false)) (omega arith) (w.number-is ∙ is))),
+                (subst (λ (o : List ℕ). Extends (first_data c.args.inodes) n number e (inode_entry old o) old old)
+                (sym (w.inode-is ∙ c.get_record.ensures))
+                (extends_last c.args.inodes at n old c.requires.room c.requires.rule c.requires.below c.requires.file few r number parts
+                (omega (arith, w.if-within-eq0.false)) (omega arith) (w.number-is ∙ is))),
             ap (λ (b : List ℕ). length b) block_is ∙ c.requires.room.blocks_whole (pointer e n) [] inside,
             ap (λ (b : List ℕ). take r b) block_is,
           )
     ]) in
     let inside : r + length piece ≤ 4096 = omega (arith, c.requires.within) in
-    let octets_are : c.put64.new.octets ≡ overwritten 4 (little_bytes 8 (size e + length piece)) inode = c.put64.ensures ∙ ap (λ (m : ℕ). overwritten 4 (little_bytes 8 (m + length piece)) inode) sized in
-    let blocks_are : g.B.Blocks.blocks c.put.new.self ≡ set mid number (overwritten r piece block) = c.in_ok-put.ensures.put ∙ ap (λ (b : List ℕ). set mid number b) c.put_part.ensures in
+    let octets_are : c.put64.new.octets ≡ overwritten 4 (little_bytes 8 (size e + length piece)) inode = c.put64.ensures
+    ∙ ap (λ (m : ℕ). overwritten 4 (little_bytes 8 (m + length piece)) inode) sized in
+    let blocks_are : g.B.Blocks.blocks c.put.new.self ≡ set mid number (overwritten r piece block) = c.in_ok-put.ensures.put
+    ∙ ap (λ (b : List ℕ). set mid number b) c.put_part.ensures in
     on_ok_weaker c.put_record.result
-    (λ done. grows c.args.inodes at n r number piece block inode old mid new c.requires.room c.requires.rule c.requires.below c.requires.file parts inside c.requires.some c.requires.enough.0 ready.0 ready.1 ready.2
+    (λ done. grows c.args.inodes at n r number piece block inode old mid new c.requires.room c.requires.rule c.requires.below
+    c.requires.file parts inside c.requires.some c.requires.enough.0 ready.0 ready.1 ready.2
     (subst (λ (o : List ℕ). PutsRecord 2 at o (set mid number (overwritten r piece block)) new) octets_are
     (subst (λ (bs : List (List ℕ)). PutsRecord 2 at c.put64.new.octets bs new) blocks_are done)))
     c.put_record.ensures.done
@@ -150,39 +172,49 @@ returns-clause-touches g c =
     let sized : c.number64-size.result ≡ size e = c.number64-size.ensures ∙ ap (λ (o : List ℕ). number_at 4 8 o) c.get_record.ensures in
     let parts : size e ≡ 4096 * n + r = omega arith in
     let few : n < 65536 = omega (arith, sized, c.requires.enough.0, c.requires.some) in
-    let ready : Extends (first_data c.args.inodes) n number e (inode_entry mid inode) old mid × (length block ≡ 4096) × (take r block ≡ take r (get_or old (pointer e n) [])) = (elim c.if-within-eq0.branch [
+    let ready : Extends (first_data c.args.inodes) n number e (inode_entry mid inode) old mid × (length block ≡ 4096)
+    × (take r block ≡ take r (get_or old (pointer e n) [])) = (elim c.if-within-eq0.branch [
       | then-within-eq0+in_ok-number w ↦
           let none : r ≡ 0 = w.if-within-eq0.true in
           let blocks_are = ap (λ (b : g.row.B.Denot). g.B.Blocks.blocks b) w.blocks-is in
           let adds : AddsBlock n number (inode_of old at) inode old mid =
           subst (λ (bs : List (List ℕ)). AddsBlock n number (inode_of old at) inode old bs) (sym blocks_are)
           (subst (λ (o : List ℕ). AddsBlock n number (inode_of old at) o old (g.B.Blocks.blocks w.add_block.new.blocks)) (sym w.inode-is)
-          (subst (λ (m : ℕ). AddsBlock n m (inode_of old at) w.add_block.new.inode old (g.B.Blocks.blocks w.add_block.new.blocks)) (sym w.number-is)
-          (subst (λ (o : List ℕ). AddsBlock n w.in_ok-number.number o w.add_block.new.inode old (g.B.Blocks.blocks w.add_block.new.blocks)) c.get_record.ensures w.in_ok-number.ensures.done))) in (
-            extends_new c.args.inodes at n old c.requires.room c.requires.rule c.requires.below c.requires.file few number inode mid (omega arith) adds,
+          (subst (λ (m : ℕ). AddsBlock n m (inode_of old at) w.add_block.new.inode old (g.B.Blocks.blocks w.add_block.new.blocks))
+          (sym w.number-is)
+          (subst (λ (o : List ℕ). AddsBlock n w.in_ok-number.number o w.add_block.new.inode old (g.B.Blocks.blocks w.add_block.new.blocks))
+          c.get_record.ensures w.in_ok-number.ensures.done))) in (
+            extends_new c.args.inodes at n old c.requires.room c.requires.rule c.requires.below c.requires.file few number inode mid
+                (omega arith) adds,
             ap (λ (b : List ℕ). length b) w.block-is ∙ length-replicate {A = ℕ} 4096 0,
             ap (λ (m : ℕ). take m block) none ∙ sym (ap (λ (m : ℕ). take m (get_or old (pointer e n) [])) none),
           )
       | else-within-eq0 w ↦
           let low : n < block_count e = omega (arith, w.if-within-eq0.false) in
-          let is : w.pointer_at-last.result ≡ pointer e n = w.pointer_at-last.ensures ∙ ap (λ (o : List ℕ). pointer (entry_of old o []) n) c.get_record.ensures in
+          let is : w.pointer_at-last.result ≡ pointer e n = w.pointer_at-last.ensures
+          ∙ ap (λ (o : List ℕ). pointer (entry_of old o []) n) c.get_record.ensures in
           let block_is : block ≡ get_or old (pointer e n) [] = w.block-is ∙ w.get.ensures ∙ ap (λ (m : ℕ). get_or old m []) is in
           let blocks_are : mid ≡ old = ap (λ (b : g.row.B.Denot). g.B.Blocks.blocks b) w.blocks-is in
           let inside = (c.requires.rule.within at (pointer e n) c.requires.below (owns_pointer e n low)).1 in (
             subst (λ (bs : List (List ℕ)). Extends (first_data c.args.inodes) n number e (inode_entry bs inode) old bs) (sym blocks_are)
-                (subst (λ (o : List ℕ). Extends (first_data c.args.inodes) n number e (inode_entry old o) old old) (sym (w.inode-is ∙ c.get_record.ensures))
-                (extends_last c.args.inodes at n old c.requires.room c.requires.rule c.requires.below c.requires.file few r number parts (omega (arith, w.if-within-eq0.false)) (omega arith) (w.number-is ∙ is))),
+                (subst (λ (o : List ℕ). Extends (first_data c.args.inodes) n number e (inode_entry old o) old old)
+                (sym (w.inode-is ∙ c.get_record.ensures))
+                (extends_last c.args.inodes at n old c.requires.room c.requires.rule c.requires.below c.requires.file few r number parts
+                (omega (arith, w.if-within-eq0.false)) (omega arith) (w.number-is ∙ is))),
             ap (λ (b : List ℕ). length b) block_is ∙ c.requires.room.blocks_whole (pointer e n) [] inside,
             ap (λ (b : List ℕ). take r b) block_is,
           )
     ]) in
     let inside : r + length piece ≤ 4096 = omega (arith, c.requires.within) in
-    let octets_are : c.put64.new.octets ≡ overwritten 4 (little_bytes 8 (size e + length piece)) inode = c.put64.ensures ∙ ap (λ (m : ℕ). overwritten 4 (little_bytes 8 (m + length piece)) inode) sized in
-    let blocks_are : g.B.Blocks.blocks c.put.new.self ≡ set mid number (overwritten r piece block) = c.in_ok-put.ensures.put ∙ ap (λ (b : List ℕ). set mid number b) c.put_part.ensures in
+    let octets_are : c.put64.new.octets ≡ overwritten 4 (little_bytes 8 (size e + length piece)) inode = c.put64.ensures
+    ∙ ap (λ (m : ℕ). overwritten 4 (little_bytes 8 (m + length piece)) inode) sized in
+    let blocks_are : g.B.Blocks.blocks c.put.new.self ≡ set mid number (overwritten r piece block) = c.in_ok-put.ensures.put
+    ∙ ap (λ (b : List ℕ). set mid number b) c.put_part.ensures in
     on_ok_weaker c.put_record.result
     (λ done. (
       number,
-      touches c.args.inodes at n r number piece block inode old mid new c.requires.room c.requires.rule c.requires.below c.requires.file parts inside c.requires.some c.requires.enough.0 ready.0 ready.1 ready.2
+      touches c.args.inodes at n r number piece block inode old mid new c.requires.room c.requires.rule c.requires.below c.requires.file
+          parts inside c.requires.some c.requires.enough.0 ready.0 ready.1 ready.2
           (subst (λ (o : List ℕ). PutsRecord 2 at o (set mid number (overwritten r piece block)) new) octets_are
           (subst (λ (bs : List (List ℕ)). PutsRecord 2 at c.put64.new.octets bs new) blocks_are done)),
     ))
@@ -194,7 +226,8 @@ put_record-requires-clause-there g c =
     ap (λ (bs : List (List ℕ)). length bs) c.in_ok-put.ensures.put
     ∙ length-set (g.B.Blocks.blocks c.if-within-eq0.blocks) c.if-within-eq0.number c.put_part.new.block
     ∙ elim c.if-within-eq0.branch [
-      | then-within-eq0+in_ok-number w ↦ ap (λ (b : g.row.B.Denot). length (g.B.Blocks.blocks b)) w.blocks-is ∙ w.in_ok-number.ensures.done.count
+      | then-within-eq0+in_ok-number w ↦ ap (λ (b : g.row.B.Denot). length (g.B.Blocks.blocks b)) w.blocks-is
+          ∙ w.in_ok-number.ensures.done.count
       | else-within-eq0 w ↦ ap (λ (b : g.row.B.Denot). length (g.B.Blocks.blocks b)) w.blocks-is
     ] in
     omega (arith, count, c.requires.room.room, c.requires.room.whole, c.requires.below)
@@ -205,7 +238,8 @@ put_record-requires-clause-few g c =
     ap (λ (bs : List (List ℕ)). length bs) c.in_ok-put.ensures.put
     ∙ length-set (g.B.Blocks.blocks c.if-within-eq0.blocks) c.if-within-eq0.number c.put_part.new.block
     ∙ elim c.if-within-eq0.branch [
-      | then-within-eq0+in_ok-number w ↦ ap (λ (b : g.row.B.Denot). length (g.B.Blocks.blocks b)) w.blocks-is ∙ w.in_ok-number.ensures.done.count
+      | then-within-eq0+in_ok-number w ↦ ap (λ (b : g.row.B.Denot). length (g.B.Blocks.blocks b)) w.blocks-is
+          ∙ w.in_ok-number.ensures.done.count
       | else-within-eq0 w ↦ ap (λ (b : g.row.B.Denot). length (g.B.Blocks.blocks b)) w.blocks-is
     ] in
     omega (arith, count, c.requires.room.count_few)

@@ -17,9 +17,13 @@ returns-clause-done g c =
     let inode = c.args.inode.now in
     let p = c.args.p in
     let at = c.number32-double.ensures in
-    on_put c.put.result (PutsIndirect p c.args.number inode inode old (g.B.Blocks.blocks c.put.new.self)) (g.B.Blocks.blocks c.put.new.self) old
+    on_put c.put.result (PutsIndirect p c.args.number inode inode old (g.B.Blocks.blocks c.put.new.self))
+    (g.B.Blocks.blocks c.put.new.self) old
     (set old c.number32-double.result c.put32-2.new.octets) c.put.ensures.put
     (λ is. subst (λ (bs : List (List ℕ)). PutsIndirect p c.args.number inode inode old bs)
     (sym (is ∙ ap (λ (b : List ℕ). set old c.number32-double.result b) c.put32-2.ensures))
-    (puts_later c.args.number inode c.requires.whole (omega arith) p old c.get.new.into (omega (arith, c.if-p-eq0.false)) c.requires.few c.number32-double.result at
-    (omega (arith, at, (c.requires.double (omega (arith, c.if-p-eq0.false))).0)) (omega (arith, at, (c.requires.double (omega (arith, c.if-p-eq0.false))).1)) (c.requires.apart (omega (arith, c.if-p-eq0.false))) c.get.ensures (omega arith)))
+    (puts_later c.args.number inode c.requires.whole (omega arith) p old c.get.new.into
+    (omega (arith, c.if-p-eq0.false)) c.requires.few c.number32-double.result at
+    (omega (arith, at, (c.requires.double (omega (arith, c.if-p-eq0.false))).0))
+    (omega (arith, at, (c.requires.double (omega (arith, c.if-p-eq0.false))).1)) (c.requires.apart (omega (arith, c.if-p-eq0.false)))
+    c.get.ensures (omega arith)))

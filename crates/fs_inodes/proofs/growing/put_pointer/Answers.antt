@@ -17,9 +17,11 @@ returns-clause-done g c =
     let i = c.args.i in
     let high = c.if-i-lt-DIRECT_POINTERS.false in
     let at = c.indirect_at-indirect.ensures in
-    on_put c.put.result (PutsPointer i c.args.number inode inode old (g.B.Blocks.blocks c.put.new.self)) (g.B.Blocks.blocks c.put.new.self) old
+    on_put c.put.result (PutsPointer i c.args.number inode inode old (g.B.Blocks.blocks c.put.new.self))
+    (g.B.Blocks.blocks c.put.new.self) old
     (set old c.indirect_at-indirect.result c.put32-2.new.octets) c.put.ensures.put
     (λ is. subst (λ (bs : List (List ℕ)). PutsPointer i c.args.number inode inode old bs)
     (sym (is ∙ ap (λ (b : List ℕ). set old c.indirect_at-indirect.result b) c.put32-2.ensures))
     (puts_indirect i c.args.number inode c.requires.whole (omega arith) old c.get.new.into high c.indirect_at-indirect.result at
-    (omega (arith, at, (c.requires.indirect high).0)) (omega (arith, at, (c.requires.indirect high).1)) (c.requires.apart high) c.get.ensures (omega arith)))
+    (omega (arith, at, (c.requires.indirect high).0)) (omega (arith, at, (c.requires.indirect high).1))
+    (c.requires.apart high) c.get.ensures (omega arith)))

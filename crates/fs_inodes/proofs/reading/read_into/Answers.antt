@@ -1,4 +1,5 @@
-use Rattle.std.proofs.Common.{◌≡◌, inl, inr, ℕ, ◌+◌, ◌-◌, ◌%◌, ◌≤◌, List, ◌++◌, length, take, drop, refl, sym, ◌∙◌, ap, arith, append_assoc, length-drop}
+use Rattle.std.proofs.Common.{◌≡◌, inl, inr, ℕ, ◌+◌, ◌-◌, ◌%◌, ◌≤◌, List, ◌++◌, length, take, drop, refl, sym, ◌∙◌, ap, arith, append_assoc}
+use Rattle.std.proofs.Common.{length-drop}
 use Rattle.std.specs.Prelude.{min}
 use Rattle.std.proofs.lemmas.Bool.{cases_lt}
 use Rattle.std.proofs.lemmas.List.{append-nil, length-take}
@@ -8,9 +9,11 @@ use Rattle.fs_inodes.proofs.Contents.{take_then, taken_all}
 use Rattle.fs_inodes.proofs.reading.read_into.Goals as goal
 
 -- how many octets a piece has
-piece_size : (content octets : List ℕ) (from end few : ℕ) → octets ≡ take (min (end - from) few) (drop from content) → end ≤ length content → from ≤ end → length octets ≡ min (end - from) few
+piece_size : (content octets : List ℕ) (from end few : ℕ) → octets ≡ take (min (end - from) few) (drop from content) → end ≤ length content
+    → from ≤ end → length octets ≡ min (end - from) few
 piece_size content octets from end few is fits order =
-    ap (λ (l : List ℕ). length l) is ∙ length-take (min (end - from) few) (drop from content) ∙ shorter (end - from) few (length (drop from content)) (omega (arith, length-drop from content))
+    ap (λ (l : List ℕ). length l) is ∙ length-take (min (end - from) few) (drop from content)
+    ∙ shorter (end - from) few (length (drop from content)) (omega (arith, length-drop from content))
   where
     shorter : (a b c : ℕ) → a ≤ c → min (min a b) c ≡ min a b
     shorter a b c low = omega arith
@@ -22,7 +25,8 @@ loop-from-init g c =
     record {
       from_place = omega arith;
       to_end = inl refl;
-      octets_are = sym (ap (λ (n : ℕ). c.args.into.now.items ++ take n (drop c.args.place (content_of blocks (entry c.args.inodes blocks c.args.at)))) none ∙ append-nil c.args.into.now.items);
+      octets_are = sym (ap (λ (n : ℕ). c.args.into.now.items ++ take n
+          (drop c.args.place (content_of blocks (entry c.args.inodes blocks c.args.at)))) none ∙ append-nil c.args.into.now.items);
     }
 
 pub overflow_add-from : goal.overflow_add-from
@@ -31,10 +35,12 @@ overflow_add-from g c =
     let e : Entry = entry c.args.inodes blocks c.args.at in
     let content = content_of blocks e in
     let from = c.loop-from.from in
-    let long = length-content blocks e c.requires.room.blocks_whole (λ b owns. (c.requires.rule.within c.args.at b c.requires.below owns).1) in
+    let long = length-content blocks e c.requires.room.blocks_whole (λ b owns. (c.requires.rule.within c.args.at b c.requires.below owns).1)
+    in
     let sized = c.size_of.ensures in
     let fits : c.min-end.result ≤ length content = omega arith in
-    let many = piece_size content c.piece-octets.result.now from c.min-end.result (4096 - from % 4096) c.piece-octets.ensures fits (omega arith) in
+    let many = piece_size content c.piece-octets.result.now from c.min-end.result (4096 - from % 4096) c.piece-octets.ensures fits
+    (omega arith) in
     omega (arith, many)
 
 pub loop-from-preserved : goal.loop-from-preserved
@@ -43,10 +49,12 @@ loop-from-preserved g c =
     let e : Entry = entry c.args.inodes blocks c.args.at in
     let content = content_of blocks e in
     let from = c.loop-from.from in
-    let long = length-content blocks e c.requires.room.blocks_whole (λ b owns. (c.requires.rule.within c.args.at b c.requires.below owns).1) in
+    let long = length-content blocks e c.requires.room.blocks_whole (λ b owns. (c.requires.rule.within c.args.at b c.requires.below owns).1)
+    in
     let sized = c.size_of.ensures in
     let fits : c.min-end.result ≤ length content = omega arith in
-    let many = piece_size content c.piece-octets.result.now from c.min-end.result (4096 - from % 4096) c.piece-octets.ensures fits (omega arith) in
+    let many = piece_size content c.piece-octets.result.now from c.min-end.result (4096 - from % 4096) c.piece-octets.ensures fits
+    (omega arith) in
     let some = length c.piece-octets.result.now in
     record {
       from_place = omega (arith, c.loop-from.invariant.from_place);
@@ -56,7 +64,8 @@ loop-from-preserved g c =
           ∙ ap (λ (l : List ℕ). l ++ c.piece-octets.result.now) c.loop-from.invariant.octets_are
           ∙ append_assoc c.args.into.now.items (take (from - c.args.place) (drop c.args.place content)) c.piece-octets.result.now
           ∙ ap (λ (l : List ℕ). c.args.into.now.items ++ l)
-          (ap (λ (l : List ℕ). take (from - c.args.place) (drop c.args.place content) ++ l) (c.piece-octets.ensures ∙ ap (λ (n : ℕ). take n (drop from content)) (sym many))
+          (ap (λ (l : List ℕ). take (from - c.args.place) (drop c.args.place content) ++ l) (c.piece-octets.ensures
+          ∙ ap (λ (n : ℕ). take n (drop from content)) (sym many))
           ∙ sym (take_then content c.args.place from some c.loop-from.invariant.from_place));
     }
 
@@ -66,10 +75,12 @@ loop-from-smaller g c =
     let e : Entry = entry c.args.inodes blocks c.args.at in
     let content = content_of blocks e in
     let from = c.loop-from.from in
-    let long = length-content blocks e c.requires.room.blocks_whole (λ b owns. (c.requires.rule.within c.args.at b c.requires.below owns).1) in
+    let long = length-content blocks e c.requires.room.blocks_whole (λ b owns. (c.requires.rule.within c.args.at b c.requires.below owns).1)
+    in
     let sized = c.size_of.ensures in
     let fits : c.min-end.result ≤ length content = omega arith in
-    let many = piece_size content c.piece-octets.result.now from c.min-end.result (4096 - from % 4096) c.piece-octets.ensures fits (omega arith) in
+    let many = piece_size content c.piece-octets.result.now from c.min-end.result (4096 - from % 4096) c.piece-octets.ensures fits
+    (omega arith) in
     omega (arith, many)
 
 pub returns : goal.returns
@@ -77,11 +88,13 @@ returns g c =
     let blocks = g.B.Blocks.blocks c.args.blocks.now in
     let e : Entry = entry c.args.inodes blocks c.args.at in
     let sized = c.size_of.ensures in
-    let long = length-content blocks e c.requires.room.blocks_whole (λ b owns. (c.requires.rule.within c.args.at b c.requires.below owns).1) in
+    let long = length-content blocks e c.requires.room.blocks_whole (λ b owns. (c.requires.rule.within c.args.at b c.requires.below owns).1)
+    in
     let small = c.requires.file.small in
     c.loop-from.invariant.octets_are
     ∙ ap (λ (l : List ℕ). c.args.into.now.items ++ l)
-    (taken_all (content_of blocks e) c.args.place c.args.count c.loop-from.from c.min-end.result (omega arith) c.loop-from.invariant.from_place c.loop-from.invariant.to_end
+    (taken_all (content_of blocks e) c.args.place c.args.count c.loop-from.from c.min-end.result
+    (omega arith) c.loop-from.invariant.from_place c.loop-from.invariant.to_end
     (elim (cases_lt (c.args.place + c.args.count) (size e)) [
       | inl asked ↦ inr (omega arith)
       | inr past ↦ inl (omega arith)

@@ -8,7 +8,8 @@ pub record Read (place from end : ℕ) (old octets content : List ℕ) : Type 0 
   pub octets_are : octets ≡ old ++ take (from - place) (drop place content)
 
 abbrev pub invariant-loop-from : goal.invariant-loop-from
-invariant-loop-from g l = Read l.place l.from l.end l.initial.into.items l.into.items (content_of (g.B.Blocks.blocks l.blocks) (entry l.inodes (g.B.Blocks.blocks l.blocks) l.at))
+invariant-loop-from g l = Read l.place l.from l.end l.initial.into.items l.into.items
+    (content_of (g.B.Blocks.blocks l.blocks) (entry l.inodes (g.B.Blocks.blocks l.blocks) l.at))
 
 abbrev pub decreases-loop-from : goal.decreases-loop-from
 decreases-loop-from g l = l.end - l.from

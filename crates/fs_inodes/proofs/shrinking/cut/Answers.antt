@@ -14,8 +14,10 @@ returns-clause-done g c =
     let old = g.B.Blocks.blocks c.args.blocks.now in
     let new = g.B.Blocks.blocks c.put_record.new.blocks in
     let inode = c.put64.ensures ∙ ap (λ (o : List ℕ). overwritten 4 (little_bytes 8 c.args.end) o) c.get_record.ensures in
-    on_ok c.put_record.result (PutsRecord 2 c.args.at c.put64.new.octets old new) (ReplacesContent c.args.inodes c.args.at (take c.args.end (content_of old (entry c.args.inodes old c.args.at))) old new)
-    (λ put. cuts c.args.inodes c.args.at c.args.end old new c.requires.room c.requires.rule c.requires.below c.requires.file c.requires.shorter c.requires.same_count
+    on_ok c.put_record.result (PutsRecord 2 c.args.at c.put64.new.octets old new)
+    (ReplacesContent c.args.inodes c.args.at (take c.args.end (content_of old (entry c.args.inodes old c.args.at))) old new)
+    (λ put. cuts c.args.inodes c.args.at c.args.end old new c.requires.room c.requires.rule c.requires.below c.requires.file
+    c.requires.shorter c.requires.same_count
     (subst (λ (o : List ℕ). PutsRecord 2 c.args.at o old new) inode put))
     c.put_record.ensures.done
 
@@ -25,7 +27,8 @@ returns-clause-marks g c =
     let new = g.B.Blocks.blocks c.put_record.new.blocks in
     let inode = c.put64.ensures ∙ ap (λ (o : List ℕ). overwritten 4 (little_bytes 8 c.args.end) o) c.get_record.ensures in
     on_ok c.put_record.result (PutsRecord 2 c.args.at c.put64.new.octets old new) (SameMarks old new)
-    (λ put. cuts_marks c.args.inodes c.args.at c.args.end old new c.requires.room c.requires.rule c.requires.below c.requires.file c.requires.shorter c.requires.same_count
+    (λ put. cuts_marks c.args.inodes c.args.at c.args.end old new c.requires.room c.requires.rule c.requires.below c.requires.file
+    c.requires.shorter c.requires.same_count
     (subst (λ (o : List ℕ). PutsRecord 2 c.args.at o old new) inode put))
     c.put_record.ensures.done
 
@@ -34,7 +37,9 @@ returns-clause-touches g c =
     let old = g.B.Blocks.blocks c.args.blocks.now in
     let new = g.B.Blocks.blocks c.put_record.new.blocks in
     let inode = c.put64.ensures ∙ ap (λ (o : List ℕ). overwritten 4 (little_bytes 8 c.args.end) o) c.get_record.ensures in
-    on_ok c.put_record.result (PutsRecord 2 c.args.at c.put64.new.octets old new) (TouchesInode c.args.at ((c.args.end + 4095) / 4096) ((c.args.end + 4095) / 4096) old new)
-    (λ put. cuts_touches c.args.inodes c.args.at c.args.end old new c.requires.room c.requires.rule c.requires.below c.requires.file c.requires.shorter c.requires.same_count
+    on_ok c.put_record.result (PutsRecord 2 c.args.at c.put64.new.octets old new)
+    (TouchesInode c.args.at ((c.args.end + 4095) / 4096) ((c.args.end + 4095) / 4096) old new)
+    (λ put. cuts_touches c.args.inodes c.args.at c.args.end old new c.requires.room c.requires.rule c.requires.below c.requires.file
+    c.requires.shorter c.requires.same_count
     (subst (λ (o : List ℕ). PutsRecord 2 c.args.at o old new) inode put))
     c.put_record.ensures.done

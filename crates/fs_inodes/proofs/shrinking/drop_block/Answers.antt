@@ -18,13 +18,16 @@ pub pointer_at-number-requires-clause-double : goal.pointer_at-number-requires-c
 pointer_at-number-requires-clause-double g c =
     let blocks = g.B.Blocks.blocks c.args.blocks.now in
     subst (λ (o : List ℕ). 1034 ≤ c.args.last → IsThere (number_at 56 4 o) blocks) (sym c.get_record.ensures)
-    (double_is_there c.args.inodes c.args.at blocks c.requires.room c.requires.rule c.requires.below c.requires.file c.args.last (omega (arith, c.requires.counted)))
+    (double_is_there c.args.inodes c.args.at blocks c.requires.room c.requires.rule c.requires.below c.requires.file c.args.last
+    (omega (arith, c.requires.counted)))
 
 pub pointer_at-number-requires-clause-indirect : goal.pointer_at-number-requires-clause-indirect
 pointer_at-number-requires-clause-indirect g c =
     let blocks = g.B.Blocks.blocks c.args.blocks.now in
-    subst (λ (o : List ℕ). 10 ≤ c.args.last → IsThere (indirect_pointer (entry_of blocks o []) ((c.args.last - 10) / 1024)) blocks) (sym c.get_record.ensures)
-    (table_is_there c.args.inodes c.args.at blocks c.requires.room c.requires.rule c.requires.below c.requires.file c.args.last (omega (arith, c.requires.counted)))
+    subst (λ (o : List ℕ). 10 ≤ c.args.last → IsThere (indirect_pointer (entry_of blocks o []) ((c.args.last - 10) / 1024)) blocks)
+    (sym c.get_record.ensures)
+    (table_is_there c.args.inodes c.args.at blocks c.requires.room c.requires.rule c.requires.below c.requires.file c.args.last
+    (omega (arith, c.requires.counted)))
 
 pub drop_pointer-requires-clause-names : goal.drop_pointer-requires-clause-names
 drop_pointer-requires-clause-names g c =
@@ -43,8 +46,10 @@ pub unmark-requires-clause-there : goal.unmark-requires-clause-there
 unmark-requires-clause-there g c =
     let blocks = g.B.Blocks.blocks c.args.blocks.now in
     let e : Entry = entry c.args.inodes blocks c.args.at in
-    let is : c.pointer_at-number.result ≡ pointer e c.args.last = c.pointer_at-number.ensures ∙ ap (λ (o : List ℕ). pointer (entry_of blocks o []) c.args.last) c.get_record.ensures in
-    let inside = (c.requires.rule.within c.args.at (pointer e c.args.last) c.requires.below (owns_pointer e c.args.last (omega (arith, c.requires.counted)))).1 in
+    let is : c.pointer_at-number.result ≡ pointer e c.args.last = c.pointer_at-number.ensures
+    ∙ ap (λ (o : List ℕ). pointer (entry_of blocks o []) c.args.last) c.get_record.ensures in
+    let inside = (c.requires.rule.within c.args.at (pointer e c.args.last) c.requires.below
+    (owns_pointer e c.args.last (omega (arith, c.requires.counted)))).1 in
     omega (arith, is, inside, c.in_ok-drop_pointer.ensures.done.count)
 
 pub returns-clause-done : goal.returns-clause-done
@@ -57,12 +62,17 @@ returns-clause-done g c =
     let last = c.args.last in
     let e : Entry = entry c.args.inodes old at in
     let inode1 = c.drop_pointer.new.inode in
-    let is : c.pointer_at-number.result ≡ pointer e last = c.pointer_at-number.ensures ∙ ap (λ (o : List ℕ). pointer (entry_of old o []) last) c.get_record.ensures in
-    let drop : DropsPointer last (inode_of old at) inode1 old mid = subst (λ (o : List ℕ). DropsPointer last o inode1 old mid) c.get_record.ensures c.in_ok-drop_pointer.ensures.done in
+    let is : c.pointer_at-number.result ≡ pointer e last = c.pointer_at-number.ensures
+    ∙ ap (λ (o : List ℕ). pointer (entry_of old o []) last) c.get_record.ensures in
+    let drop : DropsPointer last (inode_of old at) inode1 old mid =
+    subst (λ (o : List ℕ). DropsPointer last o inode1 old mid) c.get_record.ensures c.in_ok-drop_pointer.ensures.done in
     let times : last * 4096 ≡ 4096 * last = omega arith in
-    let octets : c.put64.new.octets ≡ overwritten 4 (little_bytes 8 (4096 * last)) inode1 = c.put64.ensures ∙ ap (λ (n : ℕ). overwritten 4 (little_bytes 8 n) inode1) times in
-    on_ok c.put_record.result (PutsRecord 2 at c.put64.new.octets later new) (ReplacesContent c.args.inodes at (take (4096 * last) (content_of old e)) old new)
-    (λ put. drops c.args.inodes at last c.pointer_at-number.result inode1 old mid later new c.requires.room c.requires.rule c.requires.below c.requires.file c.requires.counted is drop c.in_ok-unmark.ensures.done
+    let octets : c.put64.new.octets ≡ overwritten 4 (little_bytes 8 (4096 * last)) inode1 = c.put64.ensures
+    ∙ ap (λ (n : ℕ). overwritten 4 (little_bytes 8 n) inode1) times in
+    on_ok c.put_record.result (PutsRecord 2 at c.put64.new.octets later new)
+    (ReplacesContent c.args.inodes at (take (4096 * last) (content_of old e)) old new)
+    (λ put. drops c.args.inodes at last c.pointer_at-number.result inode1 old mid later new c.requires.room c.requires.rule c.requires.below
+    c.requires.file c.requires.counted is drop c.in_ok-unmark.ensures.done
     (subst (λ (o : List ℕ). PutsRecord 2 at o later new) octets put))
     c.put_record.ensures.done
 
@@ -76,12 +86,16 @@ returns-clause-none_taken g c =
     let last = c.args.last in
     let e : Entry = entry c.args.inodes old at in
     let inode1 = c.drop_pointer.new.inode in
-    let is : c.pointer_at-number.result ≡ pointer e last = c.pointer_at-number.ensures ∙ ap (λ (o : List ℕ). pointer (entry_of old o []) last) c.get_record.ensures in
-    let drop : DropsPointer last (inode_of old at) inode1 old mid = subst (λ (o : List ℕ). DropsPointer last o inode1 old mid) c.get_record.ensures c.in_ok-drop_pointer.ensures.done in
+    let is : c.pointer_at-number.result ≡ pointer e last = c.pointer_at-number.ensures
+    ∙ ap (λ (o : List ℕ). pointer (entry_of old o []) last) c.get_record.ensures in
+    let drop : DropsPointer last (inode_of old at) inode1 old mid =
+    subst (λ (o : List ℕ). DropsPointer last o inode1 old mid) c.get_record.ensures c.in_ok-drop_pointer.ensures.done in
     let times : last * 4096 ≡ 4096 * last = omega arith in
-    let octets : c.put64.new.octets ≡ overwritten 4 (little_bytes 8 (4096 * last)) inode1 = c.put64.ensures ∙ ap (λ (n : ℕ). overwritten 4 (little_bytes 8 n) inode1) times in
+    let octets : c.put64.new.octets ≡ overwritten 4 (little_bytes 8 (4096 * last)) inode1 = c.put64.ensures
+    ∙ ap (λ (n : ℕ). overwritten 4 (little_bytes 8 n) inode1) times in
     on_ok c.put_record.result (PutsRecord 2 at c.put64.new.octets later new) (TakesNone old new)
-    (λ put. drops_takes_none c.args.inodes at last c.pointer_at-number.result inode1 old mid later new c.requires.room c.requires.rule c.requires.below c.requires.file c.requires.counted is drop c.in_ok-unmark.ensures.done
+    (λ put. drops_takes_none c.args.inodes at last c.pointer_at-number.result inode1 old mid later new c.requires.room c.requires.rule
+    c.requires.below c.requires.file c.requires.counted is drop c.in_ok-unmark.ensures.done
     (subst (λ (o : List ℕ). PutsRecord 2 at o later new) octets put))
     c.put_record.ensures.done
 
@@ -95,11 +109,15 @@ returns-clause-touches g c =
     let last = c.args.last in
     let e : Entry = entry c.args.inodes old at in
     let inode1 = c.drop_pointer.new.inode in
-    let is : c.pointer_at-number.result ≡ pointer e last = c.pointer_at-number.ensures ∙ ap (λ (o : List ℕ). pointer (entry_of old o []) last) c.get_record.ensures in
-    let drop : DropsPointer last (inode_of old at) inode1 old mid = subst (λ (o : List ℕ). DropsPointer last o inode1 old mid) c.get_record.ensures c.in_ok-drop_pointer.ensures.done in
+    let is : c.pointer_at-number.result ≡ pointer e last = c.pointer_at-number.ensures
+    ∙ ap (λ (o : List ℕ). pointer (entry_of old o []) last) c.get_record.ensures in
+    let drop : DropsPointer last (inode_of old at) inode1 old mid =
+    subst (λ (o : List ℕ). DropsPointer last o inode1 old mid) c.get_record.ensures c.in_ok-drop_pointer.ensures.done in
     let times : last * 4096 ≡ 4096 * last = omega arith in
-    let octets : c.put64.new.octets ≡ overwritten 4 (little_bytes 8 (4096 * last)) inode1 = c.put64.ensures ∙ ap (λ (n : ℕ). overwritten 4 (little_bytes 8 n) inode1) times in
+    let octets : c.put64.new.octets ≡ overwritten 4 (little_bytes 8 (4096 * last)) inode1 = c.put64.ensures
+    ∙ ap (λ (n : ℕ). overwritten 4 (little_bytes 8 n) inode1) times in
     on_ok c.put_record.result (PutsRecord 2 at c.put64.new.octets later new) (TouchesInode at last (last + 1) old new)
-    (λ put. drops_touches c.args.inodes at last c.pointer_at-number.result inode1 old mid later new c.requires.room c.requires.rule c.requires.below c.requires.file c.requires.counted is drop c.in_ok-unmark.ensures.done
+    (λ put. drops_touches c.args.inodes at last c.pointer_at-number.result inode1 old mid later new c.requires.room c.requires.rule
+    c.requires.below c.requires.file c.requires.counted is drop c.in_ok-unmark.ensures.done
     (subst (λ (o : List ℕ). PutsRecord 2 at o later new) octets put))
     c.put_record.ensures.done

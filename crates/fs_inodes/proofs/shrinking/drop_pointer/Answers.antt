@@ -13,7 +13,8 @@ returns-then-i-eq-DIRECT_POINTERS-clause-done g c =
     let new = g.B.Blocks.blocks c.drop_table.new.blocks in
     let i = c.args.i in
     let is : i ≡ 1024 * (i / 1024) + 10 = omega (arith, c.if-i-eq-DIRECT_POINTERS.true) in
-    on_ok c.drop_table.result (DropsTable (i / 1024) c.args.inode.now c.drop_table.new.inode old new) (DropsPointer i c.args.inode.now c.drop_table.new.inode old new)
+    on_ok c.drop_table.result (DropsTable (i / 1024) c.args.inode.now c.drop_table.new.inode old new)
+    (DropsPointer i c.args.inode.now c.drop_table.new.inode old new)
     (λ drop. drops_first i c.args.inode.now c.drop_table.new.inode old new c.requires.names (i / 1024) is c.requires.last drop)
     c.drop_table.ensures.done
 
@@ -22,6 +23,7 @@ returns-clause-done g c =
     let old = g.B.Blocks.blocks c.args.blocks.now in
     let new = g.B.Blocks.blocks c.put_pointer.new.blocks in
     let i = c.args.i in
-    on_ok c.put_pointer.result (PutsPointer i 0 c.args.inode.now c.put_pointer.new.inode old new) (DropsPointer i c.args.inode.now c.put_pointer.new.inode old new)
+    on_ok c.put_pointer.result (PutsPointer i 0 c.args.inode.now c.put_pointer.new.inode old new)
+    (DropsPointer i c.args.inode.now c.put_pointer.new.inode old new)
     (λ puts. drops_within i c.args.inode.now c.put_pointer.new.inode old new c.requires.names c.if-i-eq-DIRECT_POINTERS.false puts)
     c.put_pointer.ensures.done

@@ -27,9 +27,12 @@ returns-then-p-ne1-clause-done g c =
     let new = g.B.Blocks.blocks c.put_indirect.new.blocks in
     let inode = c.args.inode.now in
     let p = c.args.p in
-    let first : SetsMark (indirect_pointer (inode_entry old inode) p) false old mid = subst (λ (n : ℕ). SetsMark n false old mid) c.indirect_at-table.ensures c.in_ok-unmark.ensures.done in
-    on_ok c.put_indirect.result (PutsIndirect p 0 inode c.put_indirect.new.inode mid new) (DropsTable p inode c.put_indirect.new.inode old new)
-    (λ puts. drops_table p inode old mid c.requires.count_few c.requires.whole c.requires.names first c.put_indirect.new.inode new c.if-p-ne1.true puts)
+    let first : SetsMark (indirect_pointer (inode_entry old inode) p) false old mid =
+    subst (λ (n : ℕ). SetsMark n false old mid) c.indirect_at-table.ensures c.in_ok-unmark.ensures.done in
+    on_ok c.put_indirect.result (PutsIndirect p 0 inode c.put_indirect.new.inode mid new)
+    (DropsTable p inode c.put_indirect.new.inode old new)
+    (λ puts. drops_table p inode old mid c.requires.count_few c.requires.whole c.requires.names first c.put_indirect.new.inode new
+    c.if-p-ne1.true puts)
     c.put_indirect.ensures.done
 
 pub returns-clause-done : goal.returns-clause-done
@@ -39,7 +42,9 @@ returns-clause-done g c =
     let then = g.B.Blocks.blocks c.unmark-2.new.blocks in
     let inode = c.args.inode.now in
     let p = c.args.p in
-    let first : SetsMark (indirect_pointer (inode_entry old inode) p) false old mid = subst (λ (n : ℕ). SetsMark n false old mid) c.indirect_at-table.ensures c.in_ok-unmark.ensures.done in
-    let second : SetsMark (number_at 56 4 inode) false mid then = subst (λ (n : ℕ). SetsMark n false mid then) c.number32.ensures c.in_ok-unmark-2.ensures.done in
+    let first : SetsMark (indirect_pointer (inode_entry old inode) p) false old mid =
+    subst (λ (n : ℕ). SetsMark n false old mid) c.indirect_at-table.ensures c.in_ok-unmark.ensures.done in
+    let second : SetsMark (number_at 56 4 inode) false mid then =
+    subst (λ (n : ℕ). SetsMark n false mid then) c.number32.ensures c.in_ok-unmark-2.ensures.done in
     subst (λ (o : List ℕ). DropsTable p inode o old then) (sym c.put32.ensures)
     (drops_double p inode old mid c.requires.count_few c.requires.whole c.requires.names first then c.if-p-ne1.false second)

@@ -13,8 +13,10 @@ returns-clause-done g c =
     let old = g.B.Blocks.blocks c.args.blocks.now in
     let mid = g.B.Blocks.blocks c.put_record.new.blocks in
     let new = g.B.Blocks.blocks c.put_record-2.new.blocks in
-    on_ok c.put_record-2.result (PutsRecord (2 + c.args.inodes / 64) c.args.at (replicate 64 0) mid new) (Makes c.args.inodes (set (table c.args.inodes old) c.args.at None) new)
-    (λ put. removes c.args.inodes c.args.at old mid new c.requires.room c.requires.rule c.requires.below c.requires.file c.requires.empty c.in_ok-put_record.ensures.done put)
+    on_ok c.put_record-2.result (PutsRecord (2 + c.args.inodes / 64) c.args.at (replicate 64 0) mid new)
+    (Makes c.args.inodes (set (table c.args.inodes old) c.args.at None) new)
+    (λ put. removes c.args.inodes c.args.at old mid new c.requires.room c.requires.rule c.requires.below c.requires.file c.requires.empty
+    c.in_ok-put_record.ensures.done put)
     c.put_record-2.ensures.done
 
 pub returns-clause-touches : goal.returns-clause-touches
@@ -22,6 +24,7 @@ returns-clause-touches g c =
     let old = g.B.Blocks.blocks c.args.blocks.now in
     let mid = g.B.Blocks.blocks c.put_record.new.blocks in
     let new = g.B.Blocks.blocks c.put_record-2.new.blocks in
-    on_ok c.put_record-2.result (PutsRecord (2 + c.args.inodes / 64) c.args.at (replicate 64 0) mid new) (SameBut (inode_block c.args.at ∷ slot_block c.args.inodes c.args.at ∷ []) old new)
+    on_ok c.put_record-2.result (PutsRecord (2 + c.args.inodes / 64) c.args.at (replicate 64 0) mid new)
+    (SameBut (inode_block c.args.at ∷ slot_block c.args.inodes c.args.at ∷ []) old new)
     (λ put. inode_then_slot c.args.inodes c.args.at (replicate 64 0) (replicate 64 0) old mid new c.in_ok-put_record.ensures.done put)
     c.put_record-2.ensures.done

@@ -11,7 +11,8 @@ use Rattle.fs_layout.proofs.Touching.{inode_none, inode_then}
 use Rattle.fs_inodes.proofs.shrinking.shrink_to.Invariants.{Shrunk}
 use Rattle.fs_inodes.proofs.shrinking.shrink_to.Goals as goal
 
-module _ (inodes at end keep : ℕ) (old : List (List ℕ)) (room : HasRoom inodes old) (fs : IsFileSystem inodes old) (low : at < inodes) (file : IsFile (entry inodes old at)) (shorter : end ≤ size (entry inodes old at)) (kept : keep ≡ (end + 4095) / 4096) where
+module _ (inodes at end keep : ℕ) (old : List (List ℕ)) (room : HasRoom inodes old) (fs : IsFileSystem inodes old) (low : at < inodes)
+    (file : IsFile (entry inodes old at)) (shorter : end ≤ size (entry inodes old at)) (kept : keep ≡ (end + 4095) / 4096) where
   abbrev content : List ℕ
   content = content_of old (entry inodes old at)
 
@@ -23,7 +24,8 @@ module _ (inodes at end keep : ℕ) (old : List (List ℕ)) (room : HasRoom inod
     at_least = omega arith;
     at_most = omega arith;
     counted = sym is;
-    replaced = replaces_none inodes at (take (4096 * left) content) old room fs low file (take_all (4096 * left) content (omega (arith, long)));
+    replaced = replaces_none inodes at (take (4096 * left) content) old room fs low file
+        (take_all (4096 * left) content (omega (arith, long)));
     none_taken = λ b small marked. marked;
     touched = subst (λ (n : ℕ). TouchesInode at left n old old) is (inode_none at left old);
   }
@@ -38,13 +40,18 @@ module _ (inodes at end keep : ℕ) (old : List (List ℕ)) (room : HasRoom inod
     sized : size (entry inodes new at) ≡ length (take (4096 * left) content)
     sized = size_now inodes at (take (4096 * left) content) old new low so_far.replaced
 
-    more : (last : ℕ) (newer : List (List ℕ)) → last + 1 ≡ left → keep < left → ReplacesContent inodes at (take (4096 * last) (content_of new (entry inodes new at))) new newer → TakesNone new newer → TouchesInode at last (last + 1) new newer → Shrunk inodes at keep last old newer
+    more : (last : ℕ) (newer : List (List ℕ)) → last + 1 ≡ left → keep < left
+        → ReplacesContent inodes at (take (4096 * last) (content_of new (entry inodes new at))) new newer → TakesNone new newer
+        → TouchesInode at last (last + 1) new newer → Shrunk inodes at keep last old newer
     more last newer is above then taken touches =
-        let front : length (take (4096 * last) content) ≡ 4096 * last = length-take-le (4096 * last) content (omega (arith, long, so_far.at_most)) in
+        let front : length (take (4096 * last) content) ≡ 4096 * last =
+        length-take-le (4096 * last) content (omega (arith, long, so_far.at_most)) in
         let content_is : take (4096 * last) (content_of new (entry inodes new at)) ≡ take (4096 * last) content =
         ap (λ (o : List ℕ). take (4096 * last) o) (sym content_now) ∙ take-take (4096 * last) (4096 * left) content (omega arith) in
-        let replaced = replaces_same inodes at (take (4096 * last) (content_of new (entry inodes new at))) (take (4096 * last) content) old newer content_is
-        (replaces_then inodes at (take (4096 * left) content) old new low so_far.replaced (take (4096 * last) (content_of new (entry inodes new at))) newer then) in
+        let replaced = replaces_same inodes at (take (4096 * last) (content_of new (entry inodes new at)))
+        (take (4096 * last) content) old newer content_is
+        (replaces_then inodes at (take (4096 * left) content) old new low so_far.replaced
+        (take (4096 * last) (content_of new (entry inodes new at))) newer then) in
         let size_then = size_now inodes at (take (4096 * last) content) old newer low replaced in
         record {
           at_least = omega arith;
@@ -52,7 +59,8 @@ module _ (inodes at end keep : ℕ) (old : List (List ℕ)) (room : HasRoom inod
           counted = omega (arith, size_then, front);
           replaced = replaced;
           none_taken = λ b small marked. so_far.none_taken b small (taken b small marked);
-          touched = inode_then at last left (block_count (entry inodes old at)) old new newer (omega (arith, is)) so_far.at_most so_far.touched (subst (λ (n : ℕ). TouchesInode at last n new newer) is touches);
+          touched = inode_then at last left (block_count (entry inodes old at)) old new newer
+              (omega (arith, is)) so_far.at_most so_far.touched (subst (λ (n : ℕ). TouchesInode at last n new newer) is touches);
         }
 
     module _ (ends : left ≤ keep) where
@@ -63,47 +71,64 @@ module _ (inodes at end keep : ℕ) (old : List (List ℕ)) (room : HasRoom inod
           length-take-min : end ≤ length (take (4096 * left) content)
           length-take-min = omega (arith, length-take (4096 * left) content, long, so_far.at_least)
 
-      all : (newer : List (List ℕ)) → ReplacesContent inodes at (take end (content_of new (entry inodes new at))) new newer → ReplacesContent inodes at (take end content) old newer
+      all : (newer : List (List ℕ)) → ReplacesContent inodes at (take end (content_of new (entry inodes new at))) new newer
+          → ReplacesContent inodes at (take end content) old newer
       all newer then =
           replaces_same inodes at (take end (content_of new (entry inodes new at))) (take end content) old newer
           (ap (λ (o : List ℕ). take end o) (sym content_now) ∙ take-take end (4096 * left) content (omega (arith, so_far.at_least)))
-          (replaces_then inodes at (take (4096 * left) content) old new low so_far.replaced (take end (content_of new (entry inodes new at))) newer then)
+          (replaces_then inodes at (take (4096 * left) content) old new low so_far.replaced
+          (take end (content_of new (entry inodes new at))) newer then)
 
 pub loop-left-init : goal.loop-left-init
 loop-left-init g c =
     let old = g.B.Blocks.blocks c.args.blocks.now in
     let e : Entry = entry c.args.inodes old c.args.at in
     let sized : c.number64.result ≡ size e = c.number64.ensures ∙ ap (λ (o : List ℕ). number_at 4 8 o) c.get_record.ensures in
-    let counted : c.content_blocks-left.result ≡ block_count e = c.content_blocks-left.ensures ∙ ap (λ (n : ℕ). (n + 4095) / 4096) sized in
-    (none c.args.inodes c.args.at c.args.end c.content_blocks-keep.result old c.requires.room c.requires.rule c.requires.below c.requires.file c.requires.shorter c.content_blocks-keep.ensures c.content_blocks-left.result counted, refl)
+    let counted : c.content_blocks-left.result ≡ block_count e = c.content_blocks-left.ensures ∙ ap (λ (n : ℕ). (n + 4095) / 4096) sized in (
+      none c.args.inodes c.args.at c.args.end c.content_blocks-keep.result old c.requires.room c.requires.rule c.requires.below
+          c.requires.file c.requires.shorter c.content_blocks-keep.ensures c.content_blocks-left.result counted,
+      refl,
+    )
 
 pub drop_block-requires-clause-file : goal.drop_block-requires-clause-file
 drop_block-requires-clause-file g c =
-    still_file c.args.inodes c.args.at c.args.end c.content_blocks-keep.result (g.B.Blocks.blocks c.args.blocks.now) c.requires.room c.requires.rule c.requires.below c.requires.file c.requires.shorter c.content_blocks-keep.ensures c.loop-left.left (g.B.Blocks.blocks c.loop-left.blocks) c.loop-left.invariant.0
+    still_file c.args.inodes c.args.at c.args.end c.content_blocks-keep.result (g.B.Blocks.blocks c.args.blocks.now) c.requires.room
+    c.requires.rule c.requires.below c.requires.file c.requires.shorter c.content_blocks-keep.ensures c.loop-left.left
+    (g.B.Blocks.blocks c.loop-left.blocks) c.loop-left.invariant.0
 
 pub loop-left-preserved : goal.loop-left-preserved
 loop-left-preserved g c =
     let last : c.loop-left.left - 1 + 1 ≡ c.loop-left.left = omega arith in (
-      more c.args.inodes c.args.at c.args.end c.content_blocks-keep.result (g.B.Blocks.blocks c.args.blocks.now) c.requires.room c.requires.rule c.requires.below c.requires.file c.requires.shorter c.content_blocks-keep.ensures c.loop-left.left (g.B.Blocks.blocks c.loop-left.blocks) c.loop-left.invariant.0
-          (c.loop-left.left - 1) (g.B.Blocks.blocks c.drop_block.new.blocks) last (omega arith) c.in_ok-drop_block.ensures.done c.in_ok-drop_block.ensures.none_taken c.in_ok-drop_block.ensures.touches,
+      more c.args.inodes c.args.at c.args.end c.content_blocks-keep.result (g.B.Blocks.blocks c.args.blocks.now) c.requires.room
+          c.requires.rule c.requires.below c.requires.file c.requires.shorter c.content_blocks-keep.ensures c.loop-left.left
+          (g.B.Blocks.blocks c.loop-left.blocks) c.loop-left.invariant.0
+          (c.loop-left.left - 1) (g.B.Blocks.blocks c.drop_block.new.blocks) last
+          (omega arith) c.in_ok-drop_block.ensures.done c.in_ok-drop_block.ensures.none_taken c.in_ok-drop_block.ensures.touches,
       c.in_ok-drop_block.ensures.kept ∙ c.loop-left.invariant.1,
     )
 
 pub cut-requires-clause-file : goal.cut-requires-clause-file
 cut-requires-clause-file g c =
-    still_file c.args.inodes c.args.at c.args.end c.content_blocks-keep.result (g.B.Blocks.blocks c.args.blocks.now) c.requires.room c.requires.rule c.requires.below c.requires.file c.requires.shorter c.content_blocks-keep.ensures c.loop-left.left (g.B.Blocks.blocks c.loop-left.blocks) c.loop-left.invariant.0
+    still_file c.args.inodes c.args.at c.args.end c.content_blocks-keep.result (g.B.Blocks.blocks c.args.blocks.now) c.requires.room
+    c.requires.rule c.requires.below c.requires.file c.requires.shorter c.content_blocks-keep.ensures c.loop-left.left
+    (g.B.Blocks.blocks c.loop-left.blocks) c.loop-left.invariant.0
 
 pub cut-requires-clause-shorter : goal.cut-requires-clause-shorter
 cut-requires-clause-shorter g c =
-    fits c.args.inodes c.args.at c.args.end c.content_blocks-keep.result (g.B.Blocks.blocks c.args.blocks.now) c.requires.room c.requires.rule c.requires.below c.requires.file c.requires.shorter c.content_blocks-keep.ensures c.loop-left.left (g.B.Blocks.blocks c.loop-left.blocks) c.loop-left.invariant.0 (omega arith)
+    fits c.args.inodes c.args.at c.args.end c.content_blocks-keep.result (g.B.Blocks.blocks c.args.blocks.now) c.requires.room
+    c.requires.rule c.requires.below c.requires.file c.requires.shorter c.content_blocks-keep.ensures c.loop-left.left
+    (g.B.Blocks.blocks c.loop-left.blocks) c.loop-left.invariant.0 (omega arith)
 
 pub returns-clause-done : goal.returns-clause-done
 returns-clause-done g c =
     let old = g.B.Blocks.blocks c.args.blocks.now in
     let mid = g.B.Blocks.blocks c.loop-left.blocks in
     let new = g.B.Blocks.blocks c.cut.new.blocks in
-    on_ok c.cut.result (ReplacesContent c.args.inodes c.args.at (take c.args.end (content_of mid (entry c.args.inodes mid c.args.at))) mid new) (ReplacesContent c.args.inodes c.args.at (take c.args.end (content_of old (entry c.args.inodes old c.args.at))) old new)
-    (λ then. all c.args.inodes c.args.at c.args.end c.content_blocks-keep.result old c.requires.room c.requires.rule c.requires.below c.requires.file c.requires.shorter c.content_blocks-keep.ensures c.loop-left.left mid c.loop-left.invariant.0 (omega arith) new then)
+    on_ok c.cut.result (ReplacesContent c.args.inodes c.args.at (take c.args.end (content_of mid (entry c.args.inodes mid c.args.at))) mid
+    new) (ReplacesContent c.args.inodes c.args.at (take c.args.end (content_of old (entry c.args.inodes old c.args.at))) old new)
+    (λ then. all c.args.inodes c.args.at c.args.end c.content_blocks-keep.result old c.requires.room c.requires.rule c.requires.below
+    c.requires.file c.requires.shorter c.content_blocks-keep.ensures c.loop-left.left mid c.loop-left.invariant.0
+    (omega arith) new then)
     c.cut.ensures.done
 
 pub returns-clause-touches : goal.returns-clause-touches

@@ -15,7 +15,8 @@ pub record Shrunk (inodes at keep left : ℕ) (old new : List (List ℕ)) : Type
 
 abbrev pub invariant-loop-left : goal.invariant-loop-left
 invariant-loop-left g l =
-    Shrunk l.inodes l.at l.keep l.left (g.B.Blocks.blocks l.initial.blocks) (g.B.Blocks.blocks l.blocks) × (g.B.Blocks.applied l.blocks ≡ g.B.Blocks.applied l.initial.blocks)
+    Shrunk l.inodes l.at l.keep l.left (g.B.Blocks.blocks l.initial.blocks) (g.B.Blocks.blocks l.blocks)
+    × (g.B.Blocks.applied l.blocks ≡ g.B.Blocks.applied l.initial.blocks)
 
 abbrev pub decreases-loop-left : goal.decreases-loop-left
 decreases-loop-left g l = l.left

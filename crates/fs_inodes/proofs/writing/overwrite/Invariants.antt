@@ -17,7 +17,8 @@ pub record Wrote (inodes at place done : ℕ) (octets : List ℕ) (old new : Lis
 
 abbrev pub invariant-loop-done : goal.invariant-loop-done
 invariant-loop-done g l =
-    Wrote l.inodes l.at l.place l.done l.octets (g.B.Blocks.blocks l.initial.blocks) (g.B.Blocks.blocks l.blocks) × (g.B.Blocks.applied l.blocks ≡ g.B.Blocks.applied l.initial.blocks)
+    Wrote l.inodes l.at l.place l.done l.octets (g.B.Blocks.blocks l.initial.blocks) (g.B.Blocks.blocks l.blocks)
+    × (g.B.Blocks.applied l.blocks ≡ g.B.Blocks.applied l.initial.blocks)
 
 abbrev pub decreases-loop-done : goal.decreases-loop-done
 decreases-loop-done g l = length l.octets - l.done

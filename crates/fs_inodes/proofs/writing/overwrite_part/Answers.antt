@@ -16,13 +16,16 @@ pub pointer_at-number-requires-clause-double : goal.pointer_at-number-requires-c
 pointer_at-number-requires-clause-double g c =
     let blocks = g.B.Blocks.blocks c.args.blocks.now in
     subst (λ (o : List ℕ). 1034 ≤ c.args.place / 4096 → IsThere (number_at 56 4 o) blocks) (sym c.get_record.ensures)
-    (double_is_there c.args.inodes c.args.at blocks c.requires.room c.requires.rule c.requires.below c.requires.file (c.args.place / 4096) (omega arith))
+    (double_is_there c.args.inodes c.args.at blocks c.requires.room c.requires.rule c.requires.below c.requires.file (c.args.place / 4096)
+    (omega arith))
 
 pub pointer_at-number-requires-clause-indirect : goal.pointer_at-number-requires-clause-indirect
 pointer_at-number-requires-clause-indirect g c =
     let blocks = g.B.Blocks.blocks c.args.blocks.now in
-    subst (λ (o : List ℕ). 10 ≤ c.args.place / 4096 → IsThere (indirect_pointer (entry_of blocks o []) ((c.args.place / 4096 - 10) / 1024)) blocks) (sym c.get_record.ensures)
-    (table_is_there c.args.inodes c.args.at blocks c.requires.room c.requires.rule c.requires.below c.requires.file (c.args.place / 4096) (omega arith))
+    subst (λ (o : List ℕ). 10 ≤ c.args.place / 4096
+    → IsThere (indirect_pointer (entry_of blocks o []) ((c.args.place / 4096 - 10) / 1024)) blocks) (sym c.get_record.ensures)
+    (table_is_there c.args.inodes c.args.at blocks c.requires.room c.requires.rule c.requires.below c.requires.file (c.args.place / 4096)
+    (omega arith))
 
 pub get-requires-clause-there : goal.get-requires-clause-there
 get-requires-clause-there g c =
@@ -30,8 +33,10 @@ get-requires-clause-there g c =
     let e : Entry = entry c.args.inodes blocks c.args.at in
     let i = c.args.place / 4096 in
     let low : i < block_count e = omega arith in
-    let is : c.pointer_at-number.result ≡ pointer e i = c.pointer_at-number.ensures ∙ ap (λ (o : List ℕ). pointer (entry_of blocks o []) i) c.get_record.ensures in
-    subst (λ (n : ℕ). n < length blocks) (sym is) ((c.requires.rule.within c.args.at (pointer e i) c.requires.below (owns_pointer e i low)).1)
+    let is : c.pointer_at-number.result ≡ pointer e i = c.pointer_at-number.ensures
+    ∙ ap (λ (o : List ℕ). pointer (entry_of blocks o []) i) c.get_record.ensures in
+    subst (λ (n : ℕ). n < length blocks) (sym is)
+    ((c.requires.rule.within c.args.at (pointer e i) c.requires.below (owns_pointer e i low)).1)
 
 pub returns-clause-done : goal.returns-clause-done
 returns-clause-done g c =
@@ -40,13 +45,17 @@ returns-clause-done g c =
     let e : Entry = entry c.args.inodes old c.args.at in
     let i = c.args.place / 4096 in
     let octets = c.args.octets.now in
-    let is : c.pointer_at-number.result ≡ pointer e i = c.pointer_at-number.ensures ∙ ap (λ (o : List ℕ). pointer (entry_of old o []) i) c.get_record.ensures in
-    let block : c.put_part.new.block ≡ overwritten (c.args.place % 4096) octets (get_or old (pointer e i) []) = c.put_part.ensures ∙ ap (λ (b : List ℕ). overwritten (c.args.place % 4096) octets b) (c.get.ensures ∙ ap (λ (n : ℕ). get_or old n []) is) in
+    let is : c.pointer_at-number.result ≡ pointer e i = c.pointer_at-number.ensures
+    ∙ ap (λ (o : List ℕ). pointer (entry_of old o []) i) c.get_record.ensures in
+    let block : c.put_part.new.block ≡ overwritten (c.args.place % 4096) octets (get_or old (pointer e i) []) = c.put_part.ensures
+    ∙ ap (λ (b : List ℕ). overwritten (c.args.place % 4096) octets b) (c.get.ensures ∙ ap (λ (n : ℕ). get_or old n []) is) in
     on_put c.put.result (ReplacesContent c.args.inodes c.args.at (overwritten c.args.place octets (content_of old e)) old new) new old
     (set old c.pointer_at-number.result c.put_part.new.block) c.put.ensures.put
-    (λ put. subst (λ (bs : List (List ℕ)). ReplacesContent c.args.inodes c.args.at (overwritten c.args.place octets (content_of old e)) old bs)
+    (λ put. subst (λ (bs : List (List ℕ)). ReplacesContent c.args.inodes c.args.at (overwritten c.args.place octets (content_of old e)) old
+    bs)
     (sym (put ∙ ap (λ (n : ℕ). set old n c.put_part.new.block) is ∙ ap (λ (b : List ℕ). set old (pointer e i) b) block))
-    (overwrites c.args.inodes c.args.at c.args.place octets old c.requires.room c.requires.rule c.requires.below c.requires.file c.requires.some c.requires.fits c.requires.one_block))
+    (overwrites c.args.inodes c.args.at c.args.place octets old c.requires.room c.requires.rule c.requires.below c.requires.file
+    c.requires.some c.requires.fits c.requires.one_block))
 
 pub returns-clause-marks : goal.returns-clause-marks
 returns-clause-marks g c =
@@ -55,13 +64,16 @@ returns-clause-marks g c =
     let e : Entry = entry c.args.inodes old c.args.at in
     let i = c.args.place / 4096 in
     let octets = c.args.octets.now in
-    let is : c.pointer_at-number.result ≡ pointer e i = c.pointer_at-number.ensures ∙ ap (λ (o : List ℕ). pointer (entry_of old o []) i) c.get_record.ensures in
-    let block : c.put_part.new.block ≡ overwritten (c.args.place % 4096) octets (get_or old (pointer e i) []) = c.put_part.ensures ∙ ap (λ (b : List ℕ). overwritten (c.args.place % 4096) octets b) (c.get.ensures ∙ ap (λ (n : ℕ). get_or old n []) is) in
+    let is : c.pointer_at-number.result ≡ pointer e i = c.pointer_at-number.ensures
+    ∙ ap (λ (o : List ℕ). pointer (entry_of old o []) i) c.get_record.ensures in
+    let block : c.put_part.new.block ≡ overwritten (c.args.place % 4096) octets (get_or old (pointer e i) []) = c.put_part.ensures
+    ∙ ap (λ (b : List ℕ). overwritten (c.args.place % 4096) octets b) (c.get.ensures ∙ ap (λ (n : ℕ). get_or old n []) is) in
     on_put c.put.result (SameMarks old new) new old
     (set old c.pointer_at-number.result c.put_part.new.block) c.put.ensures.put
     (λ put. subst (λ (bs : List (List ℕ)). SameMarks old bs)
     (sym (put ∙ ap (λ (n : ℕ). set old n c.put_part.new.block) is ∙ ap (λ (b : List ℕ). set old (pointer e i) b) block))
-    (overwrites_marks c.args.inodes c.args.at c.args.place octets old c.requires.room c.requires.rule c.requires.below c.requires.file c.requires.some c.requires.fits c.requires.one_block))
+    (overwrites_marks c.args.inodes c.args.at c.args.place octets old c.requires.room c.requires.rule c.requires.below c.requires.file
+    c.requires.some c.requires.fits c.requires.one_block))
 
 pub returns-clause-touches : goal.returns-clause-touches
 returns-clause-touches g c =

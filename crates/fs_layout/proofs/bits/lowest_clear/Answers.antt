@@ -1,4 +1,5 @@
-use Rattle.std.proofs.Common.{◌≡◌, inl, inr, ℕ, ◌+◌, ◌-◌, ◌*◌, ◌/◌, ◌%◌, ◌^◌, ◌<◌, ◌≤◌, true, eqb, w8, List, get_or, sym, ◌∙◌, ap, subst, arith}
+use Rattle.std.proofs.Common.{◌≡◌, inl, inr, ℕ, ◌+◌, ◌-◌, ◌*◌, ◌/◌, ◌%◌, ◌^◌, ◌<◌, ◌≤◌, true, eqb, w8, List, get_or, sym, ◌∙◌, ap, subst}
+use Rattle.std.proofs.Common.{arith}
 use Rattle.std.specs.Int.{bit_at, trailing_ones}
 use Rattle.std.proofs.lemmas.Bool.{cases_lt}
 use Rattle.std.proofs.lemmas.Nat.Bits.{bit_at-trailing_ones, bit_at_ones}
@@ -10,10 +11,12 @@ in_octet : (octets : List ℕ) (place i : ℕ) → i < 8 → bit_of octets (8 * 
 in_octet octets place i low =
     let at : (8 * place + i) / 8 ≡ place = omega arith in
     let bit : (8 * place + i) % 8 ≡ i = omega arith in
-    ap (λ (k : ℕ). eqb (get_or octets k 0 / 2 ^ ((8 * place + i) % 8) % 2) 1) at ∙ ap (λ (k : ℕ). eqb (get_or octets place 0 / 2 ^ k % 2) 1) bit
+    ap (λ (k : ℕ). eqb (get_or octets k 0 / 2 ^ ((8 * place + i) % 8) % 2) 1) at
+    ∙ ap (λ (k : ℕ). eqb (get_or octets place 0 / 2 ^ k % 2) 1) bit
 
 -- bits before this octet and in its front are set
-front_set : (octets : List ℕ) (place some : ℕ) → some ≤ 8 → ((b : ℕ) → b < 8 * place → bit_of octets b ≡ true) → ((i : ℕ) → i < some → bit_at (get_or octets place 0) i ≡ 1) → (b : ℕ) → b < 8 * place + some → bit_of octets b ≡ true
+front_set : (octets : List ℕ) (place some : ℕ) → some ≤ 8 → ((b : ℕ) → b < 8 * place → bit_of octets b ≡ true)
+    → ((i : ℕ) → i < some → bit_at (get_or octets place 0) i ≡ 1) → (b : ℕ) → b < 8 * place + some → bit_of octets b ≡ true
 front_set octets place some few before ones b low = elim (cases_lt b (8 * place)) [
   | inl earlier ↦ before b earlier
   | inr here ↦
@@ -23,9 +26,11 @@ front_set octets place some few before ones b low = elim (cases_lt b (8 * place)
 ]
 
 -- the lowest clear bit of an octet
-lowest_in : (octet t : ℕ) → octet < 255 → t ≡ trailing_ones w8 octet → (t < 8) × (bit_at octet t ≡ 0) × ((i : ℕ) → i < t → bit_at octet i ≡ 1)
+lowest_in : (octet t : ℕ) → octet < 255 → t ≡ trailing_ones w8 octet
+    → (t < 8) × (bit_at octet t ≡ 0) × ((i : ℕ) → i < t → bit_at octet i ≡ 1)
 lowest_in octet t low is =
-    subst (λ (n : ℕ). (n < 8) × (bit_at octet n ≡ 0) × ((i : ℕ) → i < n → bit_at octet i ≡ 1)) (sym is) (bit_at-trailing_ones w8 octet (omega arith))
+    subst (λ (n : ℕ). (n < 8) × (bit_at octet n ≡ 0) × ((i : ℕ) → i < n → bit_at octet i ≡ 1)) (sym is)
+    (bit_at-trailing_ones w8 octet (omega arith))
 
 full : (octet : ℕ) → 255 ≤ octet → octet < 256 → (i : ℕ) → i < 8 → bit_at octet i ≡ 1
 full octet high small i low =
@@ -53,4 +58,5 @@ returns-else-bit-count c b low =
 pub loop-place-preserved : goal.loop-place-preserved
 loop-place-preserved c b low =
     let place = c.loop-place.place in
-    front_set c.args.octets.now place 8 (omega arith) c.loop-place.invariant (full (get_or c.args.octets.now place 0) c.if-octet-lt255.false (omega (arith, c.type_inv.octets place))) b (omega arith)
+    front_set c.args.octets.now place 8 (omega arith) c.loop-place.invariant
+    (full (get_or c.args.octets.now place 0) c.if-octet-lt255.false (omega (arith, c.type_inv.octets place))) b (omega arith)

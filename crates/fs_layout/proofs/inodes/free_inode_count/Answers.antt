@@ -10,7 +10,8 @@ loop-table-preserved g c =
     let blocks = g.B.Blocks.blocks c.args.blocks.now in
     let t = c.loop-table.table in (
       omega (arith, c.loop-table.invariant.0, c.count_free-free.ensures.few),
-      table_more (λ k. eqb (kind (entry c.args.inodes blocks k)) 0) (λ k. eqb (number_at (64 * k) 4 c.block.result.now) 0) t 64 c.loop-table.free c.count_free-free.result refl c.loop-table.invariant.1 c.count_free-free.ensures.free
+      table_more (λ k. eqb (kind (entry c.args.inodes blocks k)) 0) (λ k. eqb (number_at (64 * k) 4 c.block.result.now) 0) t 64
+          c.loop-table.free c.count_free-free.result refl c.loop-table.invariant.1 c.count_free-free.ensures.free
           (λ i low. kind_in_block c.args.inodes blocks c.block.result.now t i low c.block.ensures.octets),
     )
 

@@ -9,6 +9,7 @@ returns-then-eq c =
     let width : place * 64 + 64 - place * 64 ≡ 64 = omega arith in
     record {
       below = omega arith;
-      is = ap (λ (m : ℕ). take m (drop (place * 64) c.args.block.now)) (sym width) ∙ (slice_eq-Decides Decides-eqb _ _ _ (sym c.if-eq.true ∙ c.eq.ensures)).0 refl;
+      is = ap (λ (m : ℕ). take m (drop (place * 64) c.args.block.now)) (sym width)
+          ∙ (slice_eq-Decides Decides-eqb _ _ _ (sym c.if-eq.true ∙ c.eq.ensures)).0 refl;
       lowest = c.loop-place.invariant;
     }

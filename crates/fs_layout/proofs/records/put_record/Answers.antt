@@ -11,5 +11,6 @@ returns-clause-done g c =
     let octets = c.args.octets.now in
     on_put c.put.result (PutsRecord first at octets old (g.B.Blocks.blocks c.put.new.self)) (g.B.Blocks.blocks c.put.new.self) old
     (set old (first + at / 64) c.put_part.new.block) c.put.ensures.put
-    (λ is. subst (λ (bs : List (List ℕ)). PutsRecord first at octets old bs) (sym (is ∙ ap (λ (b : List ℕ). set old (first + at / 64) b) c.put_part.ensures))
+    (λ is. subst (λ (bs : List (List ℕ)). PutsRecord first at octets old bs)
+    (sym (is ∙ ap (λ (b : List ℕ). set old (first + at / 64) b) c.put_part.ensures))
     (puts_record first at octets c.get.new.into old c.requires.there (sym c.get.ensures) (omega arith) c.requires.whole))

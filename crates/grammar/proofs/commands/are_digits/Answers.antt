@@ -10,5 +10,7 @@ use Rattle.grammar.proofs.commands.are_digits.Goals as goal
 pub returns-then-word-count : goal.returns-then-word-count
 returns-then-word-count c =
     let word = c.args.word.now in
-    and_second (length word == c.args.count) (list_all is_ascii_digit word) c.all.result (eq-eqb (length word) c.args.count c.if-word-count.true)
-    (all_from_yields_List is_ascii_digit _ _ c.all.result c.all.ensures.ran (YieldsList-from_slice word cc) (λ x b q k. search (rules, tests)))
+    and_second (length word == c.args.count) (list_all is_ascii_digit word) c.all.result
+    (eq-eqb (length word) c.args.count c.if-word-count.true)
+    (all_from_yields_List is_ascii_digit _ _ c.all.result c.all.ensures.ran (YieldsList-from_slice word cc)
+    (λ x b q k. search (rules, tests)))

@@ -8,4 +8,5 @@ use Rattle.index.specs.View.{Indexes}
 use Rattle.index.proofs.Index.is_in_any.Given as goal
 
 abbrev pub invariant-loop-name : goal.invariant-loop-name
-invariant-loop-name l = (host : Octets) (S : Spool) → IsLawful host S → Indexes S l.self → list_any (is_still_in S l.serial) (take l.name-index l.groups) ≡ false
+invariant-loop-name l = (host : Octets) (S : Spool) → IsLawful host S → Indexes S l.self
+    → list_any (is_still_in S l.serial) (take l.name-index l.groups) ≡ false

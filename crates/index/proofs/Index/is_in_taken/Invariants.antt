@@ -10,4 +10,5 @@ use Rattle.index.specs.View.{Indexes}
 use Rattle.index.proofs.Index.is_in_taken.Given as goal
 
 abbrev pub invariant-loop-name : goal.invariant-loop-name
-invariant-loop-name l = (host : Octets) (S : Spool) → IsLawful host S → Indexes S l.self → list_any (λ g. wildmat_matches l.wildmat g && is_still_in S l.serial g) (take l.name-index l.groups) ≡ false
+invariant-loop-name l = (host : Octets) (S : Spool) → IsLawful host S → Indexes S l.self
+    → list_any (λ g. wildmat_matches l.wildmat g && is_still_in S l.serial g) (take l.name-index l.groups) ≡ false

@@ -7,6 +7,8 @@ use Rattle.index.proofs.Index.last_taken.Goals as goal
 
 pub loop-name-preserved : goal.loop-name-preserved
 loop-name-preserved c = λ host S lawful is.
-    c.max-last.ensures ∙ ap (max c.loop-name.last) (c.taken_at.ensures host S lawful is ∙ ap (λ g. expired_at S g (number_upto S g c.args.serial)) c.as_slice.ensures)
-    ∙ greatest_step (λ g. expired_at S g (number_upto S g c.args.serial)) c.args.groups.now c.loop-name.name-index c.name-item.result c.loop-name.last
+    c.max-last.ensures ∙ ap (max c.loop-name.last) (c.taken_at.ensures host S lawful is
+    ∙ ap (λ g. expired_at S g (number_upto S g c.args.serial)) c.as_slice.ensures)
+    ∙ greatest_step (λ g. expired_at S g (number_upto S g c.args.serial)) c.args.groups.now c.loop-name.name-index c.name-item.result
+    c.loop-name.last
     (omega arith) c.name-item.is (c.loop-name.invariant host S lawful is)

@@ -7,4 +7,5 @@ use Rattle.index.specs.View.{Indexes}
 use Rattle.index.proofs.Index.last_taken.Given as goal
 
 abbrev pub invariant-loop-name : goal.invariant-loop-name
-invariant-loop-name l = (host : Octets) (S : Spool) → IsLawful host S → Indexes S l.self → l.last ≡ greatest (map (λ g. expired_at S g (number_upto S g l.serial)) (take l.name-index l.groups))
+invariant-loop-name l = (host : Octets) (S : Spool) → IsLawful host S → Indexes S l.self
+    → l.last ≡ greatest (map (λ g. expired_at S g (number_upto S g l.serial)) (take l.name-index l.groups))

@@ -5,5 +5,6 @@ use Rattle.index.proofs.Index.len.Goals as goal
 
 pub returns : goal.returns
 returns c = λ S is.
-    let all : length c.self.inside.notes.items ≡ length S = ap (λ (x : IndexView). length x.notes) c.self.view_is ∙ notes_count S c.args.self.now is in
+    let all : length c.self.inside.notes.items ≡ length S = ap (λ (x : IndexView). length x.notes) c.self.view_is
+    ∙ notes_count S c.args.self.now is in
     omega (arith, c.len.ensures, all, c.self.inside.notes.ok)

@@ -9,13 +9,15 @@ use Rattle.index.proofs.Index.place.Goals as goal
 
 pub returns-clause-here : goal.returns-clause-here
 returns-clause-here c =
-    place_here c.self.inside.places (heads (map shown c.self.inside.groups.items)) (length c.deref.result.now) c.args.name.now c.place_of.result c.self.invariant.0 c.place_of.ensures
+    place_here c.self.inside.places (heads (map shown c.self.inside.groups.items))
+    (length c.deref.result.now) c.args.name.now c.place_of.result c.self.invariant.0 c.place_of.ensures
     ∙ ap (λ (x : IndexView). list_any (bytes_eq c.args.name.now) (heads x.groups)) c.self.view_is
 
 pub returns-clause-there : goal.returns-clause-there
 returns-clause-there c =
     subst (λ (x : IndexView). IfSome c.place_of.result (λ k. slice_get (heads x.groups) k ≡ Some c.args.name.now)) c.self.view_is
-    (place_there c.self.inside.places (heads (map shown c.self.inside.groups.items)) (length c.deref.result.now) c.args.name.now c.place_of.result c.self.invariant.0 c.place_of.ensures)
+    (place_there c.self.inside.places (heads (map shown c.self.inside.groups.items))
+    (length c.deref.result.now) c.args.name.now c.place_of.result c.self.invariant.0 c.place_of.ensures)
 
 pub returns-clause-spool : goal.returns-clause-spool
 returns-clause-spool c = λ S is.

@@ -14,22 +14,37 @@ use Rattle.index.proofs.Index.push_article.Goals as goal
 
 pub invariant_of-self-2 : goal.invariant_of-self-2
 invariant_of-self-2 c =
-    let more = filed_twice c.self.inside.groups.items c.deref_mut.result.now c.reserve_lines.new.groups c.deref_mut-2.result.now c.push_lines.new.groups c.self.inside.groups.len (c.len.result + 1) c.as_slice-2.result.now c.args.filed c.args.sizes.now
-    (omega (arith, c.self.inside.groups.ok)) c.deref_mut.ensures.value c.in_ok-reserve_lines.ensures.same c.deref_mut-2.ensures.value c.push_lines.ensures c.as_slice-2.ensures in (
-      subst (AreNamed c.self.inside.places) (sym (ap heads more ∙ heads_by (c.len.result + 1) c.args.filed c.args.sizes.now (length c.args.filed) (map shown c.self.inside.groups.items))) c.self.invariant.0,
-      subst (AreLatest c.push_latest.new.latest.items) (sym (c.in-Ok.ensures.items ∙ ap (λ (ns : List Note). ns ++ note.Article c.args.size c.args.filed c.args.moment ∷ []) c.in_ok-reserve.ensures.items))
-          (c.push_latest.ensures c.self.inside.notes.items (subst (λ (ms : List ℕ). AreLatest ms c.self.inside.notes.items) (sym c.in_ok-reserve-2.ensures.items) c.self.invariant.1)),
+    let more = filed_twice c.self.inside.groups.items c.deref_mut.result.now c.reserve_lines.new.groups c.deref_mut-2.result.now
+    c.push_lines.new.groups c.self.inside.groups.len (c.len.result + 1) c.as_slice-2.result.now c.args.filed c.args.sizes.now
+    (omega (arith, c.self.inside.groups.ok)) c.deref_mut.ensures.value c.in_ok-reserve_lines.ensures.same c.deref_mut-2.ensures.value
+    c.push_lines.ensures c.as_slice-2.ensures in (
+      subst (AreNamed c.self.inside.places)
+          (sym (ap heads more ∙ heads_by (c.len.result + 1) c.args.filed c.args.sizes.now (length c.args.filed)
+          (map shown c.self.inside.groups.items))) c.self.invariant.0,
+      subst (AreLatest c.push_latest.new.latest.items)
+          (sym (c.in-Ok.ensures.items ∙ ap (λ (ns : List Note). ns ++ note.Article c.args.size c.args.filed c.args.moment ∷ [])
+          c.in_ok-reserve.ensures.items))
+          (c.push_latest.ensures c.self.inside.notes.items
+          (subst (λ (ms : List ℕ). AreLatest ms c.self.inside.notes.items) (sym c.in_ok-reserve-2.ensures.items) c.self.invariant.1)),
     )
 
 pub returns-clause-ok : goal.returns-clause-ok
 returns-clause-ok c = λ host S text may key size sized is.
-    let more = filed_twice c.self.inside.groups.items c.deref_mut.result.now c.reserve_lines.new.groups c.deref_mut-2.result.now c.push_lines.new.groups c.self.inside.groups.len (c.len.result + 1) c.as_slice-2.result.now c.args.filed c.args.sizes.now
-    (omega (arith, c.self.inside.groups.ok)) c.deref_mut.ensures.value c.in_ok-reserve_lines.ensures.same c.deref_mut-2.ensures.value c.push_lines.ensures c.as_slice-2.ensures in
-    let next : c.len.result + 1 ≡ length S + 1 = new_serial S c.args.self.now c.self.inside.notes.items c.len.result (ap (λ (x : IndexView). x.notes) c.self.view_is) is (omega (arith, c.len.ensures, c.self.inside.notes.ok)) in
-    article_indexed host S c.args.self.now _ text c.args.id.now c.args.filed c.args.moment c.args.sizes.now (note.Article c.args.size c.args.filed c.args.moment) (c.len.result + 1) may is
-    (c.in-Ok.ensures.items ∙ ap (λ (ns : List Note). ns ++ note.Article c.args.size c.args.filed c.args.moment ∷ []) (c.in_ok-reserve.ensures.items ∙ ap (λ (x : IndexView). x.notes) c.self.view_is))
+    let more = filed_twice c.self.inside.groups.items c.deref_mut.result.now c.reserve_lines.new.groups c.deref_mut-2.result.now
+    c.push_lines.new.groups c.self.inside.groups.len (c.len.result + 1) c.as_slice-2.result.now c.args.filed c.args.sizes.now
+    (omega (arith, c.self.inside.groups.ok)) c.deref_mut.ensures.value c.in_ok-reserve_lines.ensures.same c.deref_mut-2.ensures.value
+    c.push_lines.ensures c.as_slice-2.ensures in
+    let next : c.len.result + 1 ≡ length S + 1 =
+    new_serial S c.args.self.now c.self.inside.notes.items c.len.result (ap (λ (x : IndexView). x.notes) c.self.view_is) is
+    (omega (arith, c.len.ensures, c.self.inside.notes.ok)) in
+    article_indexed host S c.args.self.now _ text c.args.id.now c.args.filed c.args.moment c.args.sizes.now
+    (note.Article c.args.size c.args.filed c.args.moment) (c.len.result + 1) may is
+    (c.in-Ok.ensures.items ∙ ap (λ (ns : List Note). ns ++ note.Article c.args.size c.args.filed c.args.moment ∷ [])
+    (c.in_ok-reserve.ensures.items ∙ ap (λ (x : IndexView). x.notes) c.self.view_is))
     (ap (λ (n : ℕ). note.Article n c.args.filed c.args.moment) size)
     sized next
-    (more ∙ ap (λ (x : IndexView). map (filed_by (c.len.result + 1) c.args.filed c.args.sizes.now (length c.args.filed)) x.groups) c.self.view_is)
+    (more ∙ ap (λ (x : IndexView). map (filed_by (c.len.result + 1) c.args.filed c.args.sizes.now (length c.args.filed)) x.groups)
+    c.self.view_is)
     key
-    (λ q. c.in_ok-insert.ensures.ok q ∙ ap (λ (x : IndexView). cond (bytes_eq q c.args.id.now) (Some (c.len.result + 1)) (value_of x.ids q)) c.self.view_is)
+    (λ q. c.in_ok-insert.ensures.ok q
+    ∙ ap (λ (x : IndexView). cond (bytes_eq q c.args.id.now) (Some (c.len.result + 1)) (value_of x.ids q)) c.self.view_is)

@@ -17,12 +17,20 @@ invariant_of-self-2 c =
     let items : List Group = c.self.inside.groups.items in
     let serial : ℕ = c.len.result + 1 in
     let more : map shown c.expire_one.new.groups ≡ map (expired_once serial c.args.name.now c.args.number) (map shown items) =
-    c.in_ok-expire_one.ensures.ok ∙ ap (λ (gs : List Group). map (expired_once serial c.args.name.now c.args.number) (map shown gs)) c.deref_mut.ensures.value in
-    let size : length c.expire_one.new.groups ≡ c.self.inside.groups.len = kept_size items c.expire_one.new.groups (expired_once serial c.args.name.now c.args.number) more ∙ omega (arith, c.self.inside.groups.ok) in
+    c.in_ok-expire_one.ensures.ok ∙ ap (λ (gs : List Group). map (expired_once serial c.args.name.now c.args.number) (map shown gs))
+    c.deref_mut.ensures.value in
+    let size : length c.expire_one.new.groups ≡ c.self.inside.groups.len =
+    kept_size items c.expire_one.new.groups (expired_once serial c.args.name.now c.args.number) more
+    ∙ omega (arith, c.self.inside.groups.ok) in
     let back = written items c.expire_one.new.groups c.self.inside.groups.len size in (
-      subst (AreNamed c.self.inside.places) (sym (ap (λ (gs : List Group). heads (map shown gs)) back ∙ ap heads more ∙ heads_expired serial c.args.name.now c.args.number (map shown items))) c.self.invariant.0,
-      subst (AreLatest c.push_latest.new.latest.items) (sym (c.in-Ok.ensures.items ∙ ap (λ (ns : List Note). ns ++ note.Expiry c.new-group.result c.args.number ∷ []) c.in_ok-reserve.ensures.items))
-          (c.push_latest.ensures c.self.inside.notes.items (subst (λ (ms : List ℕ). AreLatest ms c.self.inside.notes.items) (sym c.in_ok-reserve-2.ensures.items) c.self.invariant.1)),
+      subst (AreNamed c.self.inside.places)
+          (sym (ap (λ (gs : List Group). heads (map shown gs)) back ∙ ap heads more
+          ∙ heads_expired serial c.args.name.now c.args.number (map shown items))) c.self.invariant.0,
+      subst (AreLatest c.push_latest.new.latest.items)
+          (sym (c.in-Ok.ensures.items ∙ ap (λ (ns : List Note). ns ++ note.Expiry c.new-group.result c.args.number ∷ [])
+          c.in_ok-reserve.ensures.items))
+          (c.push_latest.ensures c.self.inside.notes.items
+          (subst (λ (ms : List ℕ). AreLatest ms c.self.inside.notes.items) (sym c.in_ok-reserve-2.ensures.items) c.self.invariant.1)),
     )
 
 pub returns-clause-ok : goal.returns-clause-ok
@@ -30,12 +38,18 @@ returns-clause-ok c = λ host S may is.
     let items : List Group = c.self.inside.groups.items in
     let serial : ℕ = c.len.result + 1 in
     let more : map shown c.expire_one.new.groups ≡ map (expired_once serial c.args.name.now c.args.number) (map shown items) =
-    c.in_ok-expire_one.ensures.ok ∙ ap (λ (gs : List Group). map (expired_once serial c.args.name.now c.args.number) (map shown gs)) c.deref_mut.ensures.value in
-    let size : length c.expire_one.new.groups ≡ c.self.inside.groups.len = kept_size items c.expire_one.new.groups (expired_once serial c.args.name.now c.args.number) more ∙ omega (arith, c.self.inside.groups.ok) in
+    c.in_ok-expire_one.ensures.ok ∙ ap (λ (gs : List Group). map (expired_once serial c.args.name.now c.args.number) (map shown gs))
+    c.deref_mut.ensures.value in
+    let size : length c.expire_one.new.groups ≡ c.self.inside.groups.len =
+    kept_size items c.expire_one.new.groups (expired_once serial c.args.name.now c.args.number) more
+    ∙ omega (arith, c.self.inside.groups.ok) in
     let back = written items c.expire_one.new.groups c.self.inside.groups.len size in
-    let next : serial ≡ length S + 1 = new_serial S c.args.self.now c.self.inside.notes.items c.len.result (ap (λ (x : IndexView). x.notes) c.self.view_is) is (omega (arith, c.len.ensures, c.self.inside.notes.ok)) in
+    let next : serial ≡ length S + 1 =
+    new_serial S c.args.self.now c.self.inside.notes.items c.len.result (ap (λ (x : IndexView). x.notes) c.self.view_is) is
+    (omega (arith, c.len.ensures, c.self.inside.notes.ok)) in
     expiry_indexed host S c.args.self.now _ c.args.name.now c.args.number (note.Expiry c.new-group.result c.args.number) may is
-    (c.in-Ok.ensures.items ∙ ap (λ (ns : List Note). ns ++ note.Expiry c.new-group.result c.args.number ∷ []) (c.in_ok-reserve.ensures.items ∙ ap (λ (x : IndexView). x.notes) c.self.view_is))
+    (c.in-Ok.ensures.items ∙ ap (λ (ns : List Note). ns ++ note.Expiry c.new-group.result c.args.number ∷ []) (c.in_ok-reserve.ensures.items
+    ∙ ap (λ (x : IndexView). x.notes) c.self.view_is))
     (ap (λ (g : Octets). note.Expiry g c.args.number) (c.new-group.ensures ∙ c.in_ok-from_slice.ensures.items))
     (ap (map shown) back ∙ more ∙ ap (λ (n : ℕ). map (expired_once n c.args.name.now c.args.number) (map shown items)) next
     ∙ ap (λ (x : IndexView). map (expired_once (length S + 1) c.args.name.now c.args.number) x.groups) c.self.view_is)

@@ -13,7 +13,8 @@ pub returns : goal.returns
 returns c = λ S is.
     let gs = c.groups.result.now in
     let g = c.index-groups-place.result in
-    let same : length (map shown gs) ≡ length c.args.self.now.groups = ap (λ (is' : Rattle.std.proofs.Common.List GroupIndex). length is') c.groups.ensures.kept in
+    let same : length (map shown gs) ≡ length c.args.self.now.groups =
+    ap (λ (is' : Rattle.std.proofs.Common.List GroupIndex). length is') c.groups.ensures.kept in
     let low : c.args.place < length gs = omega (arith, c.requires, same, length-map gs shown) in
     known_at S (map shown gs) c.args.place (shown g) (held.shown c.view.result) (c.groups.ensures.spool S is)
     (slice_get-map shown gs c.args.place ∙ ap (option_map shown) (got gs c.args.place g low ∙ ap Some (sym c.index-groups-place.is)))

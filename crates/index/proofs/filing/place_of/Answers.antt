@@ -4,4 +4,7 @@ use Rattle.index.proofs.Naming.{within}
 use Rattle.index.proofs.filing.place_of.Goals as goal
 
 pub returns-in-Some : goal.returns-in-Some
-returns-in-Some c = (within shown c.args.groups.now c.args.places.now c.args.name.now c.in-Some.place c.requires (sym c.in-Some.ensures), sym c.in-Some.ensures)
+returns-in-Some c = (
+  within shown c.args.groups.now c.args.places.now c.args.name.now c.in-Some.place c.requires (sym c.in-Some.ensures),
+  sym c.in-Some.ensures,
+)

@@ -5,4 +5,5 @@ use Rattle.index.specs.declared.group.Expired.{Expired}
 use Rattle.index.proofs.group.expiries_below.Goals as goal
 
 pub returns-clause-partitioned : goal.returns-clause-partitioned
-returns-clause-partitioned c = λ parts. IsPartitionPoint-from_clause (λ (l : Expired). nat_lt l.number c.args.number) c.args.expired.now c.partition_point.result c.partition_point.ensures.partitioned parts (λ a r f' called. search rules)
+returns-clause-partitioned c = λ parts. IsPartitionPoint-from_clause (λ (l : Expired). nat_lt l.number c.args.number) c.args.expired.now
+    c.partition_point.result c.partition_point.ensures.partitioned parts (λ a r f' called. search rules)

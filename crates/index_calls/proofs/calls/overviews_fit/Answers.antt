@@ -17,7 +17,8 @@ loop-group-preserved c = λ k i low at. elim (cases_lt k c.loop-group.group-inde
       let at_place = slice_get-map shown gs c.loop-group.group-index in
       let got = slice_get-get_or gs c.loop-group.group-index c.group-item.result small in
       let found : Some (shown c.group-item.result) ≡ Some i =
-      ap (λ g. Some (shown g)) c.group-item.is ∙ sym (at_place ∙ ap (option_map shown) got) ∙ ap (slice_get (map shown gs)) (sym here) ∙ at in
+      ap (λ g. Some (shown g)) c.group-item.is ∙ sym (at_place ∙ ap (option_map shown) got) ∙ ap (slice_get (map shown gs)) (sym here)
+      ∙ at in
       let its : end_of (shown c.group-item.result) ≡ end_of i = ap end_of (same_Some (shown c.group-item.result) i found) in
       omega (arith, its, c.overview_size.ensures, c.if-overview_size-ge-OVERVIEW_LIMIT.false)
 ]

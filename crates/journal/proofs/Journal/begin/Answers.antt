@@ -18,11 +18,18 @@ invariant_of-self g c =
     let running : v.halted ≡ false = ap (λ (j : JournalView g.row.D.Denot). j.halted) c.self.view_is ∙ c.requires.running in
     let kept : IsKept (g.D.Disk.device v.disk) v.blocks v.superblock.items Idle false v.room.items v.filled v.is_last =
     subst (λ (n : Next). IsKept (g.D.Disk.device v.disk) v.blocks v.superblock.items n false v.room.items v.filled v.is_last) is
-    (subst (λ (b : Bool). IsKept (g.D.Disk.device v.disk) v.blocks v.superblock.items v.next b v.room.items v.filled v.is_last) running c.self.invariant) in
-    let below = subst (λ (n : ℕ). All (λ k. k < n) c.args.numbers.now) (sym (ap (λ (j : JournalView g.row.D.Denot). j.size) c.self.view_is)) c.requires.below in
-    subst (λ (b : Bool). IsKept (g.D.Disk.device v.disk) v.blocks v.superblock.items Descriptor v.halted c.fill.new.room.items c.lowest_closed-filled.result b) (sym c.is_last_of-self-inside.ensures)
-    (subst (λ (b : Bool). IsKept (g.D.Disk.device v.disk) v.blocks v.superblock.items Descriptor b c.fill.new.room.items c.lowest_closed-filled.result (eqb (c.lowest_closed-filled.result + 1) (length c.fill.new.room.items))) (sym running)
-    (begun (g.D.Disk.device v.disk) v.blocks v.superblock.items v.room.items c.fill.new.room.items v.filled v.is_last kept c.lowest_closed-filled.result c.lowest_closed-filled.ensures c.fill.ensures.count c.fill.ensures.others c.args.last c.args.numbers.now c.args.images.now c.fill.ensures.taken c.requires.some c.requires.few below c.requires.distinct c.requires.images))
+    (subst (λ (b : Bool). IsKept (g.D.Disk.device v.disk) v.blocks v.superblock.items v.next b v.room.items v.filled v.is_last) running
+    c.self.invariant) in
+    let below = subst (λ (n : ℕ). All (λ k. k < n) c.args.numbers.now) (sym (ap (λ (j : JournalView g.row.D.Denot). j.size) c.self.view_is))
+    c.requires.below in
+    subst (λ (b : Bool). IsKept (g.D.Disk.device v.disk) v.blocks v.superblock.items Descriptor v.halted c.fill.new.room.items
+    c.lowest_closed-filled.result b) (sym c.is_last_of-self-inside.ensures)
+    (subst (λ (b : Bool). IsKept (g.D.Disk.device v.disk) v.blocks v.superblock.items Descriptor b c.fill.new.room.items
+    c.lowest_closed-filled.result (eqb (c.lowest_closed-filled.result + 1) (length c.fill.new.room.items))) (sym running)
+    (begun (g.D.Disk.device v.disk) v.blocks v.superblock.items v.room.items c.fill.new.room.items v.filled v.is_last kept
+    c.lowest_closed-filled.result c.lowest_closed-filled.ensures c.fill.ensures.count c.fill.ensures.others c.args.last
+    c.args.numbers.now c.args.images.now c.fill.ensures.taken c.requires.some c.requires.few below c.requires.distinct
+    c.requires.images))
 
 pub returns-clause-held : goal.returns-clause-held
 returns-clause-held g c =
@@ -31,8 +38,10 @@ returns-clause-held g c =
     let running : v.halted ≡ false = ap (λ (j : JournalView g.row.D.Denot). j.halted) c.self.view_is ∙ c.requires.running in
     let kept : IsKept (g.D.Disk.device v.disk) v.blocks v.superblock.items Idle false v.room.items v.filled v.is_last =
     subst (λ (n : Next). IsKept (g.D.Disk.device v.disk) v.blocks v.superblock.items n false v.room.items v.filled v.is_last) is
-    (subst (λ (b : Bool). IsKept (g.D.Disk.device v.disk) v.blocks v.superblock.items v.next b v.room.items v.filled v.is_last) running c.self.invariant) in
-    rw (← c.self.view_is) (held_now (g.D.Disk.device v.disk) v.blocks v.superblock.items v.room.items c.fill.new.room.items v.filled v.is_last kept c.lowest_closed-filled.result c.lowest_closed-filled.ensures c.fill.ensures.count c.fill.ensures.others)
+    (subst (λ (b : Bool). IsKept (g.D.Disk.device v.disk) v.blocks v.superblock.items v.next b v.room.items v.filled v.is_last) running
+    c.self.invariant) in
+    rw (← c.self.view_is) (held_now (g.D.Disk.device v.disk) v.blocks v.superblock.items v.room.items c.fill.new.room.items v.filled
+    v.is_last kept c.lowest_closed-filled.result c.lowest_closed-filled.ensures c.fill.ensures.count c.fill.ensures.others)
 
 pub returns-clause-place : goal.returns-clause-place
 returns-clause-place g c =
@@ -41,8 +50,11 @@ returns-clause-place g c =
     let running : v.halted ≡ false = ap (λ (j : JournalView g.row.D.Denot). j.halted) c.self.view_is ∙ c.requires.running in
     let kept : IsKept (g.D.Disk.device v.disk) v.blocks v.superblock.items Idle false v.room.items v.filled v.is_last =
     subst (λ (n : Next). IsKept (g.D.Disk.device v.disk) v.blocks v.superblock.items n false v.room.items v.filled v.is_last) is
-    (subst (λ (b : Bool). IsKept (g.D.Disk.device v.disk) v.blocks v.superblock.items v.next b v.room.items v.filled v.is_last) running c.self.invariant) in
-    rw (← c.self.view_is) (c.fill.ensures.taken.place_is ∙ sym (length_now (g.D.Disk.device v.disk) v.blocks v.superblock.items v.room.items c.fill.new.room.items v.filled v.is_last kept c.lowest_closed-filled.result c.lowest_closed-filled.ensures c.fill.ensures.count c.fill.ensures.others))
+    (subst (λ (b : Bool). IsKept (g.D.Disk.device v.disk) v.blocks v.superblock.items v.next b v.room.items v.filled v.is_last) running
+    c.self.invariant) in
+    rw (← c.self.view_is) (c.fill.ensures.taken.place_is
+    ∙ sym (length_now (g.D.Disk.device v.disk) v.blocks v.superblock.items v.room.items c.fill.new.room.items v.filled v.is_last kept
+    c.lowest_closed-filled.result c.lowest_closed-filled.ensures c.fill.ensures.count c.fill.ensures.others))
 
 pub returns-clause-number : goal.returns-clause-number
 returns-clause-number g c =
@@ -51,8 +63,11 @@ returns-clause-number g c =
     let running : v.halted ≡ false = ap (λ (j : JournalView g.row.D.Denot). j.halted) c.self.view_is ∙ c.requires.running in
     let kept : IsKept (g.D.Disk.device v.disk) v.blocks v.superblock.items Idle false v.room.items v.filled v.is_last =
     subst (λ (n : Next). IsKept (g.D.Disk.device v.disk) v.blocks v.superblock.items n false v.room.items v.filled v.is_last) is
-    (subst (λ (b : Bool). IsKept (g.D.Disk.device v.disk) v.blocks v.superblock.items v.next b v.room.items v.filled v.is_last) running c.self.invariant) in
-    rw (← c.self.view_is) (c.fill.ensures.taken.number_is ∙ ap (λ (k : ℕ). k + 1) (sym (length_now (g.D.Disk.device v.disk) v.blocks v.superblock.items v.room.items c.fill.new.room.items v.filled v.is_last kept c.lowest_closed-filled.result c.lowest_closed-filled.ensures c.fill.ensures.count c.fill.ensures.others)))
+    (subst (λ (b : Bool). IsKept (g.D.Disk.device v.disk) v.blocks v.superblock.items v.next b v.room.items v.filled v.is_last) running
+    c.self.invariant) in
+    rw (← c.self.view_is) (c.fill.ensures.taken.number_is
+    ∙ ap (λ (k : ℕ). k + 1) (sym (length_now (g.D.Disk.device v.disk) v.blocks v.superblock.items v.room.items c.fill.new.room.items
+    v.filled v.is_last kept c.lowest_closed-filled.result c.lowest_closed-filled.ensures c.fill.ensures.count c.fill.ensures.others)))
 
 pub returns-clause-is_last : goal.returns-clause-is_last
 returns-clause-is_last g c =
@@ -61,8 +76,13 @@ returns-clause-is_last g c =
     let running : v.halted ≡ false = ap (λ (j : JournalView g.row.D.Denot). j.halted) c.self.view_is ∙ c.requires.running in
     let kept : IsKept (g.D.Disk.device v.disk) v.blocks v.superblock.items Idle false v.room.items v.filled v.is_last =
     subst (λ (n : Next). IsKept (g.D.Disk.device v.disk) v.blocks v.superblock.items n false v.room.items v.filled v.is_last) is
-    (subst (λ (b : Bool). IsKept (g.D.Disk.device v.disk) v.blocks v.superblock.items v.next b v.room.items v.filled v.is_last) running c.self.invariant) in
-    rw (← c.self.view_is) (c.is_last_of-self-inside.ensures ∙ ap (λ (k : ℕ). eqb (k + 1) (length c.fill.new.room.items)) (sym (length_now (g.D.Disk.device v.disk) v.blocks v.superblock.items v.room.items c.fill.new.room.items v.filled v.is_last kept c.lowest_closed-filled.result c.lowest_closed-filled.ensures c.fill.ensures.count c.fill.ensures.others)) ∙ ap (λ (k : ℕ). eqb (length (left_of (flight_in v.room.items v.filled v.is_last)) + 1) k) c.fill.ensures.count)
+    (subst (λ (b : Bool). IsKept (g.D.Disk.device v.disk) v.blocks v.superblock.items v.next b v.room.items v.filled v.is_last) running
+    c.self.invariant) in
+    rw (← c.self.view_is) (c.is_last_of-self-inside.ensures
+    ∙ ap (λ (k : ℕ). eqb (k + 1) (length c.fill.new.room.items))
+    (sym (length_now (g.D.Disk.device v.disk) v.blocks v.superblock.items v.room.items c.fill.new.room.items v.filled v.is_last kept
+    c.lowest_closed-filled.result c.lowest_closed-filled.ensures c.fill.ensures.count c.fill.ensures.others))
+    ∙ ap (λ (k : ℕ). eqb (length (left_of (flight_in v.room.items v.filled v.is_last)) + 1) k) c.fill.ensures.count)
 
 pub returns-clause-now : goal.returns-clause-now
 returns-clause-now g c t =
@@ -71,9 +91,14 @@ returns-clause-now g c t =
     let running : v.halted ≡ false = ap (λ (j : JournalView g.row.D.Denot). j.halted) c.self.view_is ∙ c.requires.running in
     let kept : IsKept (g.D.Disk.device v.disk) v.blocks v.superblock.items Idle false v.room.items v.filled v.is_last =
     subst (λ (n : Next). IsKept (g.D.Disk.device v.disk) v.blocks v.superblock.items n false v.room.items v.filled v.is_last) is
-    (subst (λ (b : Bool). IsKept (g.D.Disk.device v.disk) v.blocks v.superblock.items v.next b v.room.items v.filled v.is_last) running c.self.invariant) in
-    let below = subst (λ (n : ℕ). All (λ k. k < n) c.args.numbers.now) (sym (ap (λ (j : JournalView g.row.D.Denot). j.size) c.self.view_is)) c.requires.below in
-    let begins = (begun (g.D.Disk.device v.disk) v.blocks v.superblock.items v.room.items c.fill.new.room.items v.filled v.is_last kept c.lowest_closed-filled.result c.lowest_closed-filled.ensures c.fill.ensures.count c.fill.ensures.others c.args.last c.args.numbers.now c.args.images.now c.fill.ensures.taken c.requires.some c.requires.few below c.requires.distinct c.requires.images) in
+    (subst (λ (b : Bool). IsKept (g.D.Disk.device v.disk) v.blocks v.superblock.items v.next b v.room.items v.filled v.is_last) running
+    c.self.invariant) in
+    let below = subst (λ (n : ℕ). All (λ k. k < n) c.args.numbers.now) (sym (ap (λ (j : JournalView g.row.D.Denot). j.size) c.self.view_is))
+    c.requires.below in
+    let begins = (begun (g.D.Disk.device v.disk) v.blocks v.superblock.items v.room.items c.fill.new.room.items v.filled v.is_last kept
+    c.lowest_closed-filled.result c.lowest_closed-filled.ensures c.fill.ensures.count c.fill.ensures.others c.args.last
+    c.args.numbers.now c.args.images.now c.fill.ensures.taken c.requires.some c.requires.few below c.requires.distinct
+    c.requires.images) in
     λ image left. ((begins.told t).admits image left, begins.formats t image left)
 
 pub returns-clause-lowest : goal.returns-clause-lowest
@@ -83,10 +108,15 @@ returns-clause-lowest g c =
     let running : v.halted ≡ false = ap (λ (j : JournalView g.row.D.Denot). j.halted) c.self.view_is ∙ c.requires.running in
     let kept : IsKept (g.D.Disk.device v.disk) v.blocks v.superblock.items Idle false v.room.items v.filled v.is_last =
     subst (λ (n : Next). IsKept (g.D.Disk.device v.disk) v.blocks v.superblock.items n false v.room.items v.filled v.is_last) is
-    (subst (λ (b : Bool). IsKept (g.D.Disk.device v.disk) v.blocks v.superblock.items v.next b v.room.items v.filled v.is_last) running c.self.invariant) in
+    (subst (λ (b : Bool). IsKept (g.D.Disk.device v.disk) v.blocks v.superblock.items v.next b v.room.items v.filled v.is_last) running
+    c.self.invariant) in
     λ s below.
-    subst (λ (hs : List Held). IsAmong s hs) (sym (held_now (g.D.Disk.device v.disk) v.blocks v.superblock.items v.room.items c.fill.new.room.items v.filled v.is_last kept c.lowest_closed-filled.result c.lowest_closed-filled.ensures c.fill.ensures.count c.fill.ensures.others))
-    (lowest (g.D.Disk.device v.disk) v.blocks v.superblock.items v.room.items c.fill.new.room.items v.filled v.is_last kept c.lowest_closed-filled.result c.lowest_closed-filled.ensures c.fill.ensures.count c.fill.ensures.others s (subst (λ (p : ℕ). s < p) c.fill.ensures.taken.place_is below))
+    subst (λ (hs : List Held). IsAmong s hs)
+    (sym (held_now (g.D.Disk.device v.disk) v.blocks v.superblock.items v.room.items c.fill.new.room.items v.filled v.is_last kept
+    c.lowest_closed-filled.result c.lowest_closed-filled.ensures c.fill.ensures.count c.fill.ensures.others))
+    (lowest (g.D.Disk.device v.disk) v.blocks v.superblock.items v.room.items c.fill.new.room.items v.filled v.is_last kept
+    c.lowest_closed-filled.result c.lowest_closed-filled.ensures c.fill.ensures.count c.fill.ensures.others s
+    (subst (λ (p : ℕ). s < p) c.fill.ensures.taken.place_is below))
 
 pub returns-clause-closed : goal.returns-clause-closed
 returns-clause-closed g c among =
@@ -95,9 +125,14 @@ returns-clause-closed g c among =
     let running : v.halted ≡ false = ap (λ (j : JournalView g.row.D.Denot). j.halted) c.self.view_is ∙ c.requires.running in
     let kept : IsKept (g.D.Disk.device v.disk) v.blocks v.superblock.items Idle false v.room.items v.filled v.is_last =
     subst (λ (n : Next). IsKept (g.D.Disk.device v.disk) v.blocks v.superblock.items n false v.room.items v.filled v.is_last) is
-    (subst (λ (b : Bool). IsKept (g.D.Disk.device v.disk) v.blocks v.superblock.items v.next b v.room.items v.filled v.is_last) running c.self.invariant) in
-    not_among (g.D.Disk.device v.disk) v.blocks v.superblock.items v.room.items c.fill.new.room.items v.filled v.is_last kept c.lowest_closed-filled.result c.lowest_closed-filled.ensures c.fill.ensures.count c.fill.ensures.others
-    (subst (λ (p : ℕ). IsAmong p (left_of (flight_in v.room.items v.filled v.is_last))) c.fill.ensures.taken.place_is (subst (λ (hs : List Held). IsAmong (staged_at c.fill.new.room.items c.lowest_closed-filled.result).place hs) (held_now (g.D.Disk.device v.disk) v.blocks v.superblock.items v.room.items c.fill.new.room.items v.filled v.is_last kept c.lowest_closed-filled.result c.lowest_closed-filled.ensures c.fill.ensures.count c.fill.ensures.others) among))
+    (subst (λ (b : Bool). IsKept (g.D.Disk.device v.disk) v.blocks v.superblock.items v.next b v.room.items v.filled v.is_last) running
+    c.self.invariant) in
+    not_among (g.D.Disk.device v.disk) v.blocks v.superblock.items v.room.items c.fill.new.room.items v.filled v.is_last kept
+    c.lowest_closed-filled.result c.lowest_closed-filled.ensures c.fill.ensures.count c.fill.ensures.others
+    (subst (λ (p : ℕ). IsAmong p (left_of (flight_in v.room.items v.filled v.is_last))) c.fill.ensures.taken.place_is
+    (subst (λ (hs : List Held). IsAmong (staged_at c.fill.new.room.items c.lowest_closed-filled.result).place hs)
+    (held_now (g.D.Disk.device v.disk) v.blocks v.superblock.items v.room.items c.fill.new.room.items v.filled v.is_last kept
+    c.lowest_closed-filled.result c.lowest_closed-filled.ensures c.fill.ensures.count c.fill.ensures.others) among))
 
 pub returns-clause-greatest : goal.returns-clause-greatest
 returns-clause-greatest g c =
@@ -106,6 +141,14 @@ returns-clause-greatest g c =
     let running : v.halted ≡ false = ap (λ (j : JournalView g.row.D.Denot). j.halted) c.self.view_is ∙ c.requires.running in
     let kept : IsKept (g.D.Disk.device v.disk) v.blocks v.superblock.items Idle false v.room.items v.filled v.is_last =
     subst (λ (n : Next). IsKept (g.D.Disk.device v.disk) v.blocks v.superblock.items n false v.room.items v.filled v.is_last) is
-    (subst (λ (b : Bool). IsKept (g.D.Disk.device v.disk) v.blocks v.superblock.items v.next b v.room.items v.filled v.is_last) running c.self.invariant) in
-    let below = subst (λ (n : ℕ). All (λ k. k < n) c.args.numbers.now) (sym (ap (λ (j : JournalView g.row.D.Denot). j.size) c.self.view_is)) c.requires.below in
-    subst (λ (hs : List Held). HaveLess (number_at 0 8 (staged_at c.fill.new.room.items c.lowest_closed-filled.result).descriptor) hs) (sym (held_now (g.D.Disk.device v.disk) v.blocks v.superblock.items v.room.items c.fill.new.room.items v.filled v.is_last kept c.lowest_closed-filled.result c.lowest_closed-filled.ensures c.fill.ensures.count c.fill.ensures.others)) (greatest (g.D.Disk.device v.disk) v.blocks v.superblock.items v.room.items c.fill.new.room.items v.filled v.is_last kept c.lowest_closed-filled.result c.lowest_closed-filled.ensures c.fill.ensures.count c.fill.ensures.others c.args.last c.args.numbers.now c.args.images.now c.fill.ensures.taken c.requires.some c.requires.few below c.requires.distinct c.requires.images)
+    (subst (λ (b : Bool). IsKept (g.D.Disk.device v.disk) v.blocks v.superblock.items v.next b v.room.items v.filled v.is_last) running
+    c.self.invariant) in
+    let below = subst (λ (n : ℕ). All (λ k. k < n) c.args.numbers.now) (sym (ap (λ (j : JournalView g.row.D.Denot). j.size) c.self.view_is))
+    c.requires.below in
+    subst (λ (hs : List Held). HaveLess (number_at 0 8 (staged_at c.fill.new.room.items c.lowest_closed-filled.result).descriptor) hs)
+    (sym (held_now (g.D.Disk.device v.disk) v.blocks v.superblock.items v.room.items c.fill.new.room.items v.filled v.is_last kept
+    c.lowest_closed-filled.result c.lowest_closed-filled.ensures c.fill.ensures.count c.fill.ensures.others))
+    (greatest (g.D.Disk.device v.disk) v.blocks v.superblock.items v.room.items c.fill.new.room.items v.filled v.is_last kept
+    c.lowest_closed-filled.result c.lowest_closed-filled.ensures c.fill.ensures.count c.fill.ensures.others c.args.last
+    c.args.numbers.now c.args.images.now c.fill.ensures.taken c.requires.some c.requires.few below c.requires.distinct
+    c.requires.images)

@@ -14,14 +14,17 @@ loop-self-init g c = at_first_home g.D.Disk.device _ c.requires.next c.requires.
 pub loop-self-preserved : goal.loop-self-preserved
 loop-self-preserved g c =
     let other = flies g.row.D.Denot _ _ c.self.view_is (c.is_idle.ensures.no c.loop-self-test.true) in
-    on_the_way g.D.Disk.device _ _ _ c.loop-self.invariant other c.in_ok-step.field-0 (c.in_ok-step.ensures.call c.loop-self.invariant.running other)
+    on_the_way g.D.Disk.device _ _ _ c.loop-self.invariant other c.in_ok-step.field-0
+    (c.in_ok-step.ensures.call c.loop-self.invariant.running other)
 
 pub loop-self-smaller : goal.loop-self-smaller
 loop-self-smaller g c =
     let other = flies g.row.D.Denot _ _ c.self.view_is (c.is_idle.ensures.no c.loop-self-test.true) in
-    fewer g.D.Disk.device _ _ _ c.loop-self.invariant other c.in_ok-step.field-0 (c.in_ok-step.ensures.call c.loop-self.invariant.running other)
+    fewer g.D.Disk.device _ _ _ c.loop-self.invariant other c.in_ok-step.field-0
+    (c.in_ok-step.ensures.call c.loop-self.invariant.running other)
 
 pub returns-in_err-step-clause-during : goal.returns-in_err-step-clause-during
 returns-in_err-step-clause-during g c =
     let other = flies g.row.D.Denot _ _ c.self.view_is (c.is_idle.ensures.no c.loop-self-test.true) in
-    stepped_on g.D.Disk.device _ _ _ c.loop-self.invariant other c.step.result (c.step.ensures.call c.loop-self.invariant.running other) (c.step.ensures.retried c.loop-self.invariant.running other) (c.step.ensures.no_other c.loop-self.invariant.running)
+    stepped_on g.D.Disk.device _ _ _ c.loop-self.invariant other c.step.result (c.step.ensures.call c.loop-self.invariant.running other)
+    (c.step.ensures.retried c.loop-self.invariant.running other) (c.step.ensures.no_other c.loop-self.invariant.running)

@@ -13,7 +13,9 @@ use Rattle.journal.proofs.Whole.{kept_whole}
 use Rattle.journal.proofs.Journal.load.Goals as goal
 
 pub lay_over-requires-clause-there : goal.lay_over-requires-clause-there
-lay_over-requires-clause-there g c = left_there c.self.inside.is_last c.lowest_closed-open.result c.self.inside.filled (length c.self.inside.room.items) c.lowest_closed-open.ensures c.self.invariant.left
+lay_over-requires-clause-there g c =
+    left_there c.self.inside.is_last c.lowest_closed-open.result c.self.inside.filled
+    (length c.self.inside.room.items) c.lowest_closed-open.ensures c.self.invariant.left
 
 pub lay_over-requires-clause-full : goal.lay_over-requires-clause-full
 lay_over-requires-clause-full g c t low =
@@ -30,18 +32,24 @@ returns-in-Ok-clause-value g c =
     let below = subst (λ (n : ℕ). c.args.block < n) (sym (ap (λ (v : JournalView _). v.size) c.self.view_is)) c.requires.below in
     let told = c.self.invariant.told t in
     let x = (g.D.Disk.device c.self.inside.disk).content in
-    let place : c.start_of.result ≡ 4096 * home_place (length c.self.inside.room.items) c.args.block = omega (arith, c.start_of.ensures, c.home_block.ensures) in
+    let place : c.start_of.result ≡ 4096 * home_place (length c.self.inside.room.items) c.args.block =
+    omega (arith, c.start_of.ensures, c.home_block.ensures) in
     let read = c.in-Ok.ensures.value t
     ∙ ap (λ (n : ℕ). part c.start_of.result n (g.D.Disk.device c.self.inside.disk).content) c.requires.room
     ∙ ap (λ (n : ℕ). part n 4096 (g.D.Disk.device c.self.inside.disk).content) place in
-    sym (c.lay_over.ensures.laid (home x) (subst (λ (n : ℕ). c.args.block < n) (sym (idle_size _ _ _ _ _ _ told is running)) below) (idle_home _ _ _ _ _ _ told is running c.args.block below ∙ sym read))
-    ∙ ap (λ (hs : List Held). get_or (all_laid_over (home x) (batches_of hs)) c.args.block []) (left_in_room c.self.inside.room.items c.self.inside.filled c.self.inside.is_last c.lowest_closed-open.result c.self.invariant.there c.lowest_closed-open.ensures)
+    sym (c.lay_over.ensures.laid (home x) (subst (λ (n : ℕ). c.args.block < n) (sym (idle_size _ _ _ _ _ _ told is running)) below)
+    (idle_home _ _ _ _ _ _ told is running c.args.block below ∙ sym read))
+    ∙ ap (λ (hs : List Held). get_or (all_laid_over (home x) (batches_of hs)) c.args.block [])
+    (left_in_room c.self.inside.room.items c.self.inside.filled c.self.inside.is_last c.lowest_closed-open.result c.self.invariant.there
+    c.lowest_closed-open.ensures)
     ∙ ap (λ (bs : List (List ℕ)). get_or bs c.args.block []) (sym (idle_laid _ _ _ _ _ _ told is running)))
 
 pub returns-in-Ok-clause-whole : goal.returns-in-Ok-clause-whole
 returns-in-Ok-clause-whole g c t =
     let old = subst (λ (b : Bool). IsTrue b) c.read.ensures.time.tells t in
-    subst (λ (x : List ℕ). AreWhole c.self.inside.blocks (blocks_without (staged_at c.self.inside.room.items c.self.inside.filled).place c.self.inside.next x)) (sym (c.in-Ok.ensures.content old))
+    subst (λ (x : List ℕ). AreWhole c.self.inside.blocks
+    (blocks_without (staged_at c.self.inside.room.items c.self.inside.filled).place c.self.inside.next x))
+    (sym (c.in-Ok.ensures.content old))
     (kept_whole _ _ _ _ _ _ _ _ c.self.invariant (g.met.D.Disk.counts_content c.self.inside.disk) old)
 
 pub returns-in-Err-clause-blocks : goal.returns-in-Err-clause-blocks
@@ -50,14 +58,17 @@ returns-in-Err-clause-blocks g c =
     (λ t.
     let is = ap (λ (v : JournalView _). v.next) c.self.view_is ∙ c.requires.idle in
     let now = g.met.D.Disk.counts_content c.read.new.self (subst (λ (b : Bool). IsTrue b) (sym c.read.ensures.time.tells) t) in
-    idle_same (staged_at c.self.inside.room.items c.self.inside.filled).place c.self.inside.next _ (g.D.Disk.device c.self.inside.disk).content _ _ is ((c.self.invariant.told t).admits _ (c.read.ensures.crash t _ now)))
+    idle_same (staged_at c.self.inside.room.items c.self.inside.filled).place c.self.inside.next _
+    (g.D.Disk.device c.self.inside.disk).content _ _ is ((c.self.invariant.told t).admits _ (c.read.ensures.crash t _ now)))
 
 pub returns-in-Err-clause-whole : goal.returns-in-Err-clause-whole
 returns-in-Err-clause-whole g c t =
     let is = ap (λ (v : JournalView _). v.next) c.self.view_is ∙ c.requires.idle in
     let old = subst (λ (b : Bool). IsTrue b) c.read.ensures.time.tells t in
     let now = g.met.D.Disk.counts_content c.read.new.self t in
-    let same = idle_same (staged_at c.self.inside.room.items c.self.inside.filled).place c.self.inside.next _ (g.D.Disk.device c.self.inside.disk).content (g.D.Disk.device c.read.new.self).content _ is ((c.self.invariant.told old).admits _ (c.read.ensures.crash old _ now)) in
+    let same = idle_same (staged_at c.self.inside.room.items c.self.inside.filled).place c.self.inside.next _
+    (g.D.Disk.device c.self.inside.disk).content (g.D.Disk.device c.read.new.self).content _ is
+    ((c.self.invariant.told old).admits _ (c.read.ensures.crash old _ now)) in
     subst (λ (bs : List (List ℕ)). AreWhole c.self.inside.blocks bs) (sym same)
     (kept_whole _ _ _ _ _ _ _ _ c.self.invariant (g.met.D.Disk.counts_content c.self.inside.disk) old)
 
@@ -67,9 +78,12 @@ returns-in-Err-clause-now g c t image left =
     let old = subst (λ (b : Bool). IsTrue b) c.read.ensures.time.tells t in
     let now = g.met.D.Disk.counts_content c.read.new.self t in
     let told = c.self.invariant.told old in
-    let same = idle_same (staged_at c.self.inside.room.items c.self.inside.filled).place c.self.inside.next _ (g.D.Disk.device c.self.inside.disk).content (g.D.Disk.device c.read.new.self).content _ is (told.admits _ (c.read.ensures.crash old _ now)) in
+    let same = idle_same (staged_at c.self.inside.room.items c.self.inside.filled).place c.self.inside.next _
+    (g.D.Disk.device c.self.inside.disk).content (g.D.Disk.device c.read.new.self).content _ is
+    (told.admits _ (c.read.ensures.crash old _ now)) in
     let batch = staged_at c.self.inside.room.items c.self.inside.filled in (
-      subst (λ (bs : List (List ℕ)). IsAdmitted c.self.inside.next (part 20 128 c.self.inside.superblock.items) bs (laid_over bs batch.numbers batch.images) image) (sym same)
+      subst (λ (bs : List (List ℕ)). IsAdmitted c.self.inside.next (part 20 128 c.self.inside.superblock.items) bs
+          (laid_over bs batch.numbers batch.images) image) (sym same)
           (told.admits image (c.read.ensures.crash old image left)),
       c.self.invariant.formats old image (c.read.ensures.crash old image left),
     )
@@ -78,5 +92,9 @@ pub invariant_of-self-in-Err : goal.invariant_of-self-in-Err
 invariant_of-self-in-Err g c =
     let is = ap (λ (v : JournalView _). v.next) c.self.view_is ∙ c.requires.idle in
     let running = ap (λ (v : JournalView _). v.halted) c.self.view_is ∙ c.requires.running in
-    let was = subst (λ (b : Bool). IsKept (g.D.Disk.device c.self.inside.disk) c.self.inside.blocks c.self.inside.superblock.items c.self.inside.next b c.self.inside.room.items c.self.inside.filled c.self.inside.is_last) running c.self.invariant in
-    kept_failed (g.D.Disk.device c.self.inside.disk) (g.D.Disk.device c.read.new.self) c.self.inside.blocks c.self.inside.superblock.items c.self.inside.room.items c.self.inside.filled c.self.inside.is_last c.read.ensures.time (g.met.D.Disk.counts_content c.read.new.self) c.self.inside.next (λ e. absurd (let both : Idle ≡ Descriptor = sym is ∙ e in cc)) was c.read.ensures.crash
+    let was = subst (λ (b : Bool). IsKept (g.D.Disk.device c.self.inside.disk) c.self.inside.blocks c.self.inside.superblock.items
+    c.self.inside.next b c.self.inside.room.items c.self.inside.filled c.self.inside.is_last) running c.self.invariant in
+    kept_failed (g.D.Disk.device c.self.inside.disk) (g.D.Disk.device c.read.new.self) c.self.inside.blocks c.self.inside.superblock.items
+    c.self.inside.room.items c.self.inside.filled c.self.inside.is_last c.read.ensures.time
+    (g.met.D.Disk.counts_content c.read.new.self) c.self.inside.next (λ e. absurd (let both : Idle ≡ Descriptor = sym is ∙ e in cc)) was
+    c.read.ensures.crash

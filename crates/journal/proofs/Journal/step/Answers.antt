@@ -8,67 +8,115 @@ use Rattle.journal.proofs.Made.{kept_ok, kept_err, made_ok, made_err, retried, r
 use Rattle.journal.proofs.Journal.step.Goals as goal
 
 pub ask-requires-clause-carried : goal.ask-requires-clause-carried
-ask-requires-clause-carried g c = home_within c.self.inside.room.items c.self.inside.filled c.self.inside.is_last c.self.invariant.there _ c.self.inside.next c.self.invariant.within
+ask-requires-clause-carried g c =
+    home_within c.self.inside.room.items c.self.inside.filled c.self.inside.is_last c.self.invariant.there _ c.self.inside.next
+    c.self.invariant.within
 
 pub ask-requires-clause-home : goal.ask-requires-clause-home
 ask-requires-clause-home g c j i is =
-    let within = home_within c.self.inside.room.items c.self.inside.filled c.self.inside.is_last c.self.invariant.there _ c.self.inside.next c.self.invariant.within j i is in
+    let within = home_within c.self.inside.room.items c.self.inside.filled c.self.inside.is_last c.self.invariant.there _ c.self.inside.next
+    c.self.invariant.within j i is in
     let live = subst (λ (n : Next). IsLive c.self.inside.is_last n) (sym is) tt in
     let below = (c.self.invariant.staged live j within.0).sound.below i 0 within.1 in
     omega (arith, c.self.invariant.size, below)
 
 pub ask-requires-clause-gate : goal.ask-requires-clause-gate
 ask-requires-clause-gate g c j is =
-    let low = gate_within c.self.inside.room.items c.self.inside.filled c.self.inside.is_last c.self.invariant.there _ c.self.inside.next c.self.invariant.within j is in
+    let low = gate_within c.self.inside.room.items c.self.inside.filled c.self.inside.is_last c.self.invariant.there _ c.self.inside.next
+    c.self.invariant.within j is in
     let live = subst (λ (n : Next). IsLive c.self.inside.is_last n) (sym is) tt in
     (low, c.self.invariant.places live j low)
 
 pub invariant_of-self : goal.invariant_of-self
 invariant_of-self g c = rw c.if-self.false
-    (kept_ok g.row.D.Denot g.D.Disk.device c.self.inside.disk c.ask.new.disk _ _ _ _ _ c.ask.ensures.asked.time (g.met.D.Disk.counts_content c.ask.new.disk) c.self.inside.next c.call_after-self-inside.result c.self.inside.halted c.in-Ok.field-0 c.if-self.false (c.is_idle.ensures.no c.if-is_idle.false) c.self.invariant c.call_after-self-inside.ensures c.in-Ok.ensures.asked.does).is_kept
+    (kept_ok g.row.D.Denot g.D.Disk.device c.self.inside.disk c.ask.new.disk _ _ _ _ _ c.ask.ensures.asked.time
+    (g.met.D.Disk.counts_content c.ask.new.disk) c.self.inside.next c.call_after-self-inside.result c.self.inside.halted c.in-Ok.field-0
+    c.if-self.false (c.is_idle.ensures.no c.if-is_idle.false) c.self.invariant c.call_after-self-inside.ensures
+    c.in-Ok.ensures.asked.does).is_kept
 
 pub invariant_of-self-in-Err-Fault : goal.invariant_of-self-in-Err-Fault
 invariant_of-self-in-Err-Fault g c =
-    (kept_err g.row.D.Denot g.D.Disk.device c.self.inside.disk c.ask.new.disk _ _ _ _ _ c.ask.ensures.asked.time (g.met.D.Disk.counts_content c.ask.new.disk) c.self.inside.next c.call_at_fault-self-inside.result c.self.inside.halted c.in-Err-Fault.field-0 c.if-self.false (c.is_idle.ensures.no c.if-is_idle.false) c.self.invariant c.call_at_fault-self-inside.ensures (c.in-Err-Fault.ensures.asked.does c.in-Err-Fault.field-0-is)).is_kept
+    (kept_err g.row.D.Denot g.D.Disk.device c.self.inside.disk c.ask.new.disk _ _ _ _ _ c.ask.ensures.asked.time
+    (g.met.D.Disk.counts_content c.ask.new.disk) c.self.inside.next c.call_at_fault-self-inside.result c.self.inside.halted
+    c.in-Err-Fault.field-0 c.if-self.false (c.is_idle.ensures.no c.if-is_idle.false) c.self.invariant
+    c.call_at_fault-self-inside.ensures (c.in-Err-Fault.ensures.asked.does c.in-Err-Fault.field-0-is)).is_kept
 
 pub returns-in-Ok-clause-call : goal.returns-in-Ok-clause-call
 returns-in-Ok-clause-call g c =
     rw (← c.self.view_is)
-    (λ running other. made_ok g.row.D.Denot g.D.Disk.device c.self.inside.disk c.ask.new.disk _ _ _ _ _ c.ask.ensures.asked.time (g.met.D.Disk.counts_content c.ask.new.disk) c.self.inside.next c.call_after-self-inside.result c.self.inside.halted c.in-Ok.field-0 c.answer_to.result c.if-self.false (c.is_idle.ensures.no c.if-is_idle.false) c.self.invariant c.call_after-self-inside.ensures (answered c.self.inside.room.items c.self.inside.filled c.self.inside.is_last c.self.invariant.there c.last-last.result _ c.self.inside.next c.answer_to.result (c.last-last.ensures ∙ ap (λ (s : Staged). number_at 8 8 s.descriptor) c.segment_at.ensures) c.self.invariant.within c.answer_to.ensures) c.in-Ok.ensures.asked.does c.in-Ok.ensures.asked.cause.ok)
+    (λ running other. made_ok g.row.D.Denot g.D.Disk.device c.self.inside.disk c.ask.new.disk _ _ _ _ _ c.ask.ensures.asked.time
+    (g.met.D.Disk.counts_content c.ask.new.disk) c.self.inside.next c.call_after-self-inside.result c.self.inside.halted c.in-Ok.field-0
+    c.answer_to.result c.if-self.false (c.is_idle.ensures.no c.if-is_idle.false) c.self.invariant c.call_after-self-inside.ensures
+    (answered c.self.inside.room.items c.self.inside.filled c.self.inside.is_last c.self.invariant.there c.last-last.result _
+    c.self.inside.next c.answer_to.result (c.last-last.ensures
+    ∙ ap (λ (s : Staged). number_at 8 8 s.descriptor) c.segment_at.ensures) c.self.invariant.within c.answer_to.ensures)
+    c.in-Ok.ensures.asked.does c.in-Ok.ensures.asked.cause.ok)
 
 pub returns-in-Ok-clause-now : goal.returns-in-Ok-clause-now
-returns-in-Ok-clause-now g c = (made_ok g.row.D.Denot g.D.Disk.device c.self.inside.disk c.ask.new.disk _ _ _ _ _ c.ask.ensures.asked.time (g.met.D.Disk.counts_content c.ask.new.disk) c.self.inside.next c.call_after-self-inside.result c.self.inside.halted c.in-Ok.field-0 c.answer_to.result c.if-self.false (c.is_idle.ensures.no c.if-is_idle.false) c.self.invariant c.call_after-self-inside.ensures (answered c.self.inside.room.items c.self.inside.filled c.self.inside.is_last c.self.invariant.there c.last-last.result _ c.self.inside.next c.answer_to.result (c.last-last.ensures ∙ ap (λ (s : Staged). number_at 8 8 s.descriptor) c.segment_at.ensures) c.self.invariant.within c.answer_to.ensures) c.in-Ok.ensures.asked.does c.in-Ok.ensures.asked.cause.ok).now
+returns-in-Ok-clause-now g c = (made_ok g.row.D.Denot g.D.Disk.device c.self.inside.disk c.ask.new.disk _ _ _ _ _ c.ask.ensures.asked.time
+    (g.met.D.Disk.counts_content c.ask.new.disk) c.self.inside.next c.call_after-self-inside.result c.self.inside.halted c.in-Ok.field-0
+    c.answer_to.result c.if-self.false (c.is_idle.ensures.no c.if-is_idle.false) c.self.invariant c.call_after-self-inside.ensures
+    (answered c.self.inside.room.items c.self.inside.filled c.self.inside.is_last c.self.invariant.there c.last-last.result _
+    c.self.inside.next c.answer_to.result (c.last-last.ensures
+    ∙ ap (λ (s : Staged). number_at 8 8 s.descriptor) c.segment_at.ensures) c.self.invariant.within c.answer_to.ensures)
+    c.in-Ok.ensures.asked.does c.in-Ok.ensures.asked.cause.ok).now
 
 pub returns-in-Ok-clause-since : goal.returns-in-Ok-clause-since
 returns-in-Ok-clause-since g c =
-    rw (← c.self.view_is) (made_ok g.row.D.Denot g.D.Disk.device c.self.inside.disk c.ask.new.disk _ _ _ _ _ c.ask.ensures.asked.time (g.met.D.Disk.counts_content c.ask.new.disk) c.self.inside.next c.call_after-self-inside.result c.self.inside.halted c.in-Ok.field-0 c.answer_to.result c.if-self.false (c.is_idle.ensures.no c.if-is_idle.false) c.self.invariant c.call_after-self-inside.ensures (answered c.self.inside.room.items c.self.inside.filled c.self.inside.is_last c.self.invariant.there c.last-last.result _ c.self.inside.next c.answer_to.result (c.last-last.ensures ∙ ap (λ (s : Staged). number_at 8 8 s.descriptor) c.segment_at.ensures) c.self.invariant.within c.answer_to.ensures) c.in-Ok.ensures.asked.does c.in-Ok.ensures.asked.cause.ok).since
+    rw (← c.self.view_is) (made_ok g.row.D.Denot g.D.Disk.device c.self.inside.disk c.ask.new.disk _ _ _ _ _ c.ask.ensures.asked.time
+    (g.met.D.Disk.counts_content c.ask.new.disk) c.self.inside.next c.call_after-self-inside.result c.self.inside.halted c.in-Ok.field-0
+    c.answer_to.result c.if-self.false (c.is_idle.ensures.no c.if-is_idle.false) c.self.invariant c.call_after-self-inside.ensures
+    (answered c.self.inside.room.items c.self.inside.filled c.self.inside.is_last c.self.invariant.there c.last-last.result _
+    c.self.inside.next c.answer_to.result (c.last-last.ensures
+    ∙ ap (λ (s : Staged). number_at 8 8 s.descriptor) c.segment_at.ensures) c.self.invariant.within c.answer_to.ensures)
+    c.in-Ok.ensures.asked.does c.in-Ok.ensures.asked.cause.ok).since
 
 pub returns-in-Err-Fault-clause-call : goal.returns-in-Err-Fault-clause-call
 returns-in-Err-Fault-clause-call g c =
     rw (← c.self.view_is)
-    (λ running other is. made_err g.row.D.Denot g.D.Disk.device c.self.inside.disk c.ask.new.disk _ _ _ _ _ c.ask.ensures.asked.time (g.met.D.Disk.counts_content c.ask.new.disk) c.self.inside.next c.call_at_fault-self-inside.result c.self.inside.halted c.in-Err-Fault.field-0 c.if-self.false (c.is_idle.ensures.no c.if-is_idle.false) c.self.invariant c.call_at_fault-self-inside.ensures (c.in-Err-Fault.ensures.asked.does c.in-Err-Fault.field-0-is) (c.in-Err-Fault.ensures.asked.cause.fault c.in-Err-Fault.field-0-is))
+    (λ running other is. made_err g.row.D.Denot g.D.Disk.device c.self.inside.disk c.ask.new.disk _ _ _ _ _ c.ask.ensures.asked.time
+    (g.met.D.Disk.counts_content c.ask.new.disk) c.self.inside.next c.call_at_fault-self-inside.result c.self.inside.halted
+    c.in-Err-Fault.field-0 c.if-self.false (c.is_idle.ensures.no c.if-is_idle.false) c.self.invariant
+    c.call_at_fault-self-inside.ensures (c.in-Err-Fault.ensures.asked.does c.in-Err-Fault.field-0-is)
+    (c.in-Err-Fault.ensures.asked.cause.fault c.in-Err-Fault.field-0-is))
 
 pub returns-in-Err-Fault-clause-now : goal.returns-in-Err-Fault-clause-now
-returns-in-Err-Fault-clause-now g c = (made_err g.row.D.Denot g.D.Disk.device c.self.inside.disk c.ask.new.disk _ _ _ _ _ c.ask.ensures.asked.time (g.met.D.Disk.counts_content c.ask.new.disk) c.self.inside.next c.call_at_fault-self-inside.result c.self.inside.halted c.in-Err-Fault.field-0 c.if-self.false (c.is_idle.ensures.no c.if-is_idle.false) c.self.invariant c.call_at_fault-self-inside.ensures (c.in-Err-Fault.ensures.asked.does c.in-Err-Fault.field-0-is) (c.in-Err-Fault.ensures.asked.cause.fault c.in-Err-Fault.field-0-is)).now
+returns-in-Err-Fault-clause-now g c =
+    (made_err g.row.D.Denot g.D.Disk.device c.self.inside.disk c.ask.new.disk _ _ _ _ _ c.ask.ensures.asked.time
+    (g.met.D.Disk.counts_content c.ask.new.disk) c.self.inside.next c.call_at_fault-self-inside.result c.self.inside.halted
+    c.in-Err-Fault.field-0 c.if-self.false (c.is_idle.ensures.no c.if-is_idle.false) c.self.invariant c.call_at_fault-self-inside.ensures
+    (c.in-Err-Fault.ensures.asked.does c.in-Err-Fault.field-0-is) (c.in-Err-Fault.ensures.asked.cause.fault c.in-Err-Fault.field-0-is)).now
 
 pub returns-in-Err-Fault-clause-since : goal.returns-in-Err-Fault-clause-since
 returns-in-Err-Fault-clause-since g c =
-    rw (← c.self.view_is) (made_err g.row.D.Denot g.D.Disk.device c.self.inside.disk c.ask.new.disk _ _ _ _ _ c.ask.ensures.asked.time (g.met.D.Disk.counts_content c.ask.new.disk) c.self.inside.next c.call_at_fault-self-inside.result c.self.inside.halted c.in-Err-Fault.field-0 c.if-self.false (c.is_idle.ensures.no c.if-is_idle.false) c.self.invariant c.call_at_fault-self-inside.ensures (c.in-Err-Fault.ensures.asked.does c.in-Err-Fault.field-0-is) (c.in-Err-Fault.ensures.asked.cause.fault c.in-Err-Fault.field-0-is)).since
+    rw (← c.self.view_is) (made_err g.row.D.Denot g.D.Disk.device c.self.inside.disk c.ask.new.disk _ _ _ _ _ c.ask.ensures.asked.time
+    (g.met.D.Disk.counts_content c.ask.new.disk) c.self.inside.next c.call_at_fault-self-inside.result c.self.inside.halted
+    c.in-Err-Fault.field-0 c.if-self.false (c.is_idle.ensures.no c.if-is_idle.false) c.self.invariant
+    c.call_at_fault-self-inside.ensures (c.in-Err-Fault.ensures.asked.does c.in-Err-Fault.field-0-is)
+    (c.in-Err-Fault.ensures.asked.cause.fault c.in-Err-Fault.field-0-is)).since
 
 pub invariant_of-self-in-Err-Memory : goal.invariant_of-self-in-Err-Memory
 invariant_of-self-in-Err-Memory g c =
-    retried_kept g.row.D.Denot g.D.Disk.device c.self.inside.disk c.ask.new.disk _ _ _ _ _ c.ask.ensures.asked.time (g.met.D.Disk.counts_content c.ask.new.disk) c.self.inside.next c.self.inside.halted c.self.invariant (c.in-Err-Memory.ensures.asked.refused c.in-Err-Memory.field-0-is)
+    retried_kept g.row.D.Denot g.D.Disk.device c.self.inside.disk c.ask.new.disk _ _ _ _ _ c.ask.ensures.asked.time
+    (g.met.D.Disk.counts_content c.ask.new.disk) c.self.inside.next c.self.inside.halted c.self.invariant
+    (c.in-Err-Memory.ensures.asked.refused c.in-Err-Memory.field-0-is)
 
 pub returns-in-Err-Memory-clause-retried : goal.returns-in-Err-Memory-clause-retried
 returns-in-Err-Memory-clause-retried g c =
     rw (← c.self.view_is)
-    (λ running other is. retried g.row.D.Denot g.D.Disk.device c.self.inside.disk c.ask.new.disk _ _ _ _ _ c.ask.ensures.asked.time (g.met.D.Disk.counts_content c.ask.new.disk) c.self.inside.next c.self.inside.halted c.self.invariant (c.in-Err-Memory.ensures.asked.refused c.in-Err-Memory.field-0-is))
+    (λ running other is. retried g.row.D.Denot g.D.Disk.device c.self.inside.disk c.ask.new.disk _ _ _ _ _ c.ask.ensures.asked.time
+    (g.met.D.Disk.counts_content c.ask.new.disk) c.self.inside.next c.self.inside.halted c.self.invariant
+    (c.in-Err-Memory.ensures.asked.refused c.in-Err-Memory.field-0-is))
 
 pub returns-in-Err-Memory-clause-now : goal.returns-in-Err-Memory-clause-now
 returns-in-Err-Memory-clause-now g c =
-    (retried g.row.D.Denot g.D.Disk.device c.self.inside.disk c.ask.new.disk _ _ _ _ _ c.ask.ensures.asked.time (g.met.D.Disk.counts_content c.ask.new.disk) c.self.inside.next c.self.inside.halted c.self.invariant (c.in-Err-Memory.ensures.asked.refused c.in-Err-Memory.field-0-is)).now
+    (retried g.row.D.Denot g.D.Disk.device c.self.inside.disk c.ask.new.disk _ _ _ _ _ c.ask.ensures.asked.time
+    (g.met.D.Disk.counts_content c.ask.new.disk) c.self.inside.next c.self.inside.halted c.self.invariant
+    (c.in-Err-Memory.ensures.asked.refused c.in-Err-Memory.field-0-is)).now
 
 pub returns-in-Err-Memory-clause-since : goal.returns-in-Err-Memory-clause-since
 returns-in-Err-Memory-clause-since g c =
     rw (← c.self.view_is)
-    (retried g.row.D.Denot g.D.Disk.device c.self.inside.disk c.ask.new.disk _ _ _ _ _ c.ask.ensures.asked.time (g.met.D.Disk.counts_content c.ask.new.disk) c.self.inside.next c.self.inside.halted c.self.invariant (c.in-Err-Memory.ensures.asked.refused c.in-Err-Memory.field-0-is)).since
+    (retried g.row.D.Denot g.D.Disk.device c.self.inside.disk c.ask.new.disk _ _ _ _ _ c.ask.ensures.asked.time
+    (g.met.D.Disk.counts_content c.ask.new.disk) c.self.inside.next c.self.inside.halted c.self.invariant
+    (c.in-Err-Memory.ensures.asked.refused c.in-Err-Memory.field-0-is)).since

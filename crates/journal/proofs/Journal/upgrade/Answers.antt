@@ -8,53 +8,84 @@ invariant_of-self g c =
     let is = ap (λ (v : JournalView _). v.next) c.self.view_is ∙ c.requires.ready.1 in
     let running = ap (λ (v : JournalView _). v.halted) c.self.view_is ∙ c.requires.ready.0 in
     let first = ap (λ (v : JournalView _). v.format) c.self.view_is ∙ c.requires.first in
-    (when_unwritten g.D.Disk.device c.self.inside.disk c.write_gate_of_format.new.disk c.self.inside.blocks c.self.inside.superblock.items c.self.inside.room.items c.self.inside.filled c.self.inside.is_last (g.met.D.Disk.counts_content c.write_gate_of_format.new.disk) first c.self.inside.next c.self.inside.halted is running c.self.invariant c.in-Err-Fault.field-0 c.in-Err-Fault.field-0-is c.in-Err-Fault.ensures.asked).0
+    (when_unwritten g.D.Disk.device c.self.inside.disk c.write_gate_of_format.new.disk c.self.inside.blocks c.self.inside.superblock.items
+    c.self.inside.room.items c.self.inside.filled c.self.inside.is_last (g.met.D.Disk.counts_content c.write_gate_of_format.new.disk)
+    first c.self.inside.next c.self.inside.halted is running c.self.invariant c.in-Err-Fault.field-0 c.in-Err-Fault.field-0-is
+    c.in-Err-Fault.ensures.asked).0
 
 pub returns-in-Err-Fault-clause-upgrades : goal.returns-in-Err-Fault-clause-upgrades
 returns-in-Err-Fault-clause-upgrades g c =
     let is = ap (λ (v : JournalView _). v.next) c.self.view_is ∙ c.requires.ready.1 in
     let running = ap (λ (v : JournalView _). v.halted) c.self.view_is ∙ c.requires.ready.0 in
     let first = ap (λ (v : JournalView _). v.format) c.self.view_is ∙ c.requires.first in
-    rw (← c.self.view_is) ((when_unwritten g.D.Disk.device c.self.inside.disk c.write_gate_of_format.new.disk c.self.inside.blocks c.self.inside.superblock.items c.self.inside.room.items c.self.inside.filled c.self.inside.is_last (g.met.D.Disk.counts_content c.write_gate_of_format.new.disk) first c.self.inside.next c.self.inside.halted is running c.self.invariant c.in-Err-Fault.field-0 c.in-Err-Fault.field-0-is c.in-Err-Fault.ensures.asked).1)
+    rw (← c.self.view_is) ((when_unwritten g.D.Disk.device c.self.inside.disk c.write_gate_of_format.new.disk c.self.inside.blocks
+    c.self.inside.superblock.items c.self.inside.room.items c.self.inside.filled c.self.inside.is_last
+    (g.met.D.Disk.counts_content c.write_gate_of_format.new.disk) first c.self.inside.next c.self.inside.halted is running
+    c.self.invariant c.in-Err-Fault.field-0 c.in-Err-Fault.field-0-is c.in-Err-Fault.ensures.asked).1)
 
 pub invariant_of-self-in-Ok-sync_gate_of_format : goal.invariant_of-self-in-Ok-sync_gate_of_format
 invariant_of-self-in-Ok-sync_gate_of_format g c =
     let is = ap (λ (v : JournalView _). v.next) c.self.view_is ∙ c.requires.ready.1 in
     let running = ap (λ (v : JournalView _). v.halted) c.self.view_is ∙ c.requires.ready.0 in
     let first = ap (λ (v : JournalView _). v.format) c.self.view_is ∙ c.requires.first in
-    (when_ok g.D.Disk.device c.self.inside.disk c.sync_gate_of_format.new.disk c.self.inside.blocks c.self.inside.superblock.items c.self.inside.room.items c.self.inside.filled c.self.inside.is_last (g.met.D.Disk.counts_content c.sync_gate_of_format.new.disk) first c.self.inside.next c.self.inside.halted is running c.self.invariant c.write_gate_of_format.new.disk c.open_gate.new.superblock.items c.open_gate.ensures.size c.open_gate.ensures.label c.open_gate.ensures.format c.in-Ok.field-0 c.in-Ok-sync_gate_of_format.field-0 c.in-Ok.ensures.asked c.in-Ok-sync_gate_of_format.ensures.asked).0
+    (when_ok g.D.Disk.device c.self.inside.disk c.sync_gate_of_format.new.disk c.self.inside.blocks c.self.inside.superblock.items
+    c.self.inside.room.items c.self.inside.filled c.self.inside.is_last (g.met.D.Disk.counts_content c.sync_gate_of_format.new.disk)
+    first c.self.inside.next c.self.inside.halted is running c.self.invariant c.write_gate_of_format.new.disk
+    c.open_gate.new.superblock.items c.open_gate.ensures.size c.open_gate.ensures.label c.open_gate.ensures.format c.in-Ok.field-0
+    c.in-Ok-sync_gate_of_format.field-0 c.in-Ok.ensures.asked c.in-Ok-sync_gate_of_format.ensures.asked).0
 
 pub returns-in-Ok-sync_gate_of_format-clause-upgrades : goal.returns-in-Ok-sync_gate_of_format-clause-upgrades
 returns-in-Ok-sync_gate_of_format-clause-upgrades g c =
     let is = ap (λ (v : JournalView _). v.next) c.self.view_is ∙ c.requires.ready.1 in
     let running = ap (λ (v : JournalView _). v.halted) c.self.view_is ∙ c.requires.ready.0 in
     let first = ap (λ (v : JournalView _). v.format) c.self.view_is ∙ c.requires.first in
-    rw (← c.self.view_is) ((when_ok g.D.Disk.device c.self.inside.disk c.sync_gate_of_format.new.disk c.self.inside.blocks c.self.inside.superblock.items c.self.inside.room.items c.self.inside.filled c.self.inside.is_last (g.met.D.Disk.counts_content c.sync_gate_of_format.new.disk) first c.self.inside.next c.self.inside.halted is running c.self.invariant c.write_gate_of_format.new.disk c.open_gate.new.superblock.items c.open_gate.ensures.size c.open_gate.ensures.label c.open_gate.ensures.format c.in-Ok.field-0 c.in-Ok-sync_gate_of_format.field-0 c.in-Ok.ensures.asked c.in-Ok-sync_gate_of_format.ensures.asked).1)
+    rw (← c.self.view_is) ((when_ok g.D.Disk.device c.self.inside.disk c.sync_gate_of_format.new.disk c.self.inside.blocks
+    c.self.inside.superblock.items c.self.inside.room.items c.self.inside.filled c.self.inside.is_last
+    (g.met.D.Disk.counts_content c.sync_gate_of_format.new.disk) first c.self.inside.next c.self.inside.halted is running
+    c.self.invariant c.write_gate_of_format.new.disk c.open_gate.new.superblock.items c.open_gate.ensures.size c.open_gate.ensures.label
+    c.open_gate.ensures.format c.in-Ok.field-0 c.in-Ok-sync_gate_of_format.field-0 c.in-Ok.ensures.asked
+    c.in-Ok-sync_gate_of_format.ensures.asked).1)
 
 pub invariant_of-self-in-Err-Fault-sync_gate_of_format : goal.invariant_of-self-in-Err-Fault-sync_gate_of_format
 invariant_of-self-in-Err-Fault-sync_gate_of_format g c =
     let is = ap (λ (v : JournalView _). v.next) c.self.view_is ∙ c.requires.ready.1 in
     let running = ap (λ (v : JournalView _). v.halted) c.self.view_is ∙ c.requires.ready.0 in
     let first = ap (λ (v : JournalView _). v.format) c.self.view_is ∙ c.requires.first in
-    (when_unsynced g.D.Disk.device c.self.inside.disk c.sync_gate_of_format.new.disk c.self.inside.blocks c.self.inside.superblock.items c.self.inside.room.items c.self.inside.filled c.self.inside.is_last (g.met.D.Disk.counts_content c.sync_gate_of_format.new.disk) first c.self.inside.next c.self.inside.halted is running c.self.invariant c.write_gate_of_format.new.disk c.in-Ok.field-0 c.in-Err-Fault-sync_gate_of_format.field-0 c.in-Err-Fault-sync_gate_of_format.field-0-is c.in-Ok.ensures.asked c.in-Err-Fault-sync_gate_of_format.ensures.asked).0
+    (when_unsynced g.D.Disk.device c.self.inside.disk c.sync_gate_of_format.new.disk c.self.inside.blocks c.self.inside.superblock.items
+    c.self.inside.room.items c.self.inside.filled c.self.inside.is_last (g.met.D.Disk.counts_content c.sync_gate_of_format.new.disk)
+    first c.self.inside.next c.self.inside.halted is running c.self.invariant c.write_gate_of_format.new.disk c.in-Ok.field-0
+    c.in-Err-Fault-sync_gate_of_format.field-0 c.in-Err-Fault-sync_gate_of_format.field-0-is c.in-Ok.ensures.asked
+    c.in-Err-Fault-sync_gate_of_format.ensures.asked).0
 
 pub returns-in-Err-Fault-sync_gate_of_format-clause-upgrades : goal.returns-in-Err-Fault-sync_gate_of_format-clause-upgrades
 returns-in-Err-Fault-sync_gate_of_format-clause-upgrades g c =
     let is = ap (λ (v : JournalView _). v.next) c.self.view_is ∙ c.requires.ready.1 in
     let running = ap (λ (v : JournalView _). v.halted) c.self.view_is ∙ c.requires.ready.0 in
     let first = ap (λ (v : JournalView _). v.format) c.self.view_is ∙ c.requires.first in
-    rw (← c.self.view_is) ((when_unsynced g.D.Disk.device c.self.inside.disk c.sync_gate_of_format.new.disk c.self.inside.blocks c.self.inside.superblock.items c.self.inside.room.items c.self.inside.filled c.self.inside.is_last (g.met.D.Disk.counts_content c.sync_gate_of_format.new.disk) first c.self.inside.next c.self.inside.halted is running c.self.invariant c.write_gate_of_format.new.disk c.in-Ok.field-0 c.in-Err-Fault-sync_gate_of_format.field-0 c.in-Err-Fault-sync_gate_of_format.field-0-is c.in-Ok.ensures.asked c.in-Err-Fault-sync_gate_of_format.ensures.asked).1)
+    rw (← c.self.view_is) ((when_unsynced g.D.Disk.device c.self.inside.disk c.sync_gate_of_format.new.disk c.self.inside.blocks
+    c.self.inside.superblock.items c.self.inside.room.items c.self.inside.filled c.self.inside.is_last
+    (g.met.D.Disk.counts_content c.sync_gate_of_format.new.disk) first c.self.inside.next c.self.inside.halted is running
+    c.self.invariant c.write_gate_of_format.new.disk c.in-Ok.field-0 c.in-Err-Fault-sync_gate_of_format.field-0
+    c.in-Err-Fault-sync_gate_of_format.field-0-is c.in-Ok.ensures.asked c.in-Err-Fault-sync_gate_of_format.ensures.asked).1)
 
 pub invariant_of-self-in-Err-Memory-sync_gate_of_format : goal.invariant_of-self-in-Err-Memory-sync_gate_of_format
 invariant_of-self-in-Err-Memory-sync_gate_of_format g c =
     let is = ap (λ (v : JournalView _). v.next) c.self.view_is ∙ c.requires.ready.1 in
     let running = ap (λ (v : JournalView _). v.halted) c.self.view_is ∙ c.requires.ready.0 in
     let first = ap (λ (v : JournalView _). v.format) c.self.view_is ∙ c.requires.first in
-    (when_unsynced_for_memory g.D.Disk.device c.self.inside.disk c.sync_gate_of_format.new.disk c.self.inside.blocks c.self.inside.superblock.items c.self.inside.room.items c.self.inside.filled c.self.inside.is_last (g.met.D.Disk.counts_content c.sync_gate_of_format.new.disk) first c.self.inside.next c.self.inside.halted is running c.self.invariant c.write_gate_of_format.new.disk c.in-Ok.field-0 c.in-Err-Memory-sync_gate_of_format.field-0 c.in-Err-Memory-sync_gate_of_format.field-0-is c.in-Ok.ensures.asked c.in-Err-Memory-sync_gate_of_format.ensures.asked).0
+    (when_unsynced_for_memory g.D.Disk.device c.self.inside.disk c.sync_gate_of_format.new.disk c.self.inside.blocks
+    c.self.inside.superblock.items c.self.inside.room.items c.self.inside.filled c.self.inside.is_last
+    (g.met.D.Disk.counts_content c.sync_gate_of_format.new.disk) first c.self.inside.next c.self.inside.halted is running
+    c.self.invariant c.write_gate_of_format.new.disk c.in-Ok.field-0 c.in-Err-Memory-sync_gate_of_format.field-0
+    c.in-Err-Memory-sync_gate_of_format.field-0-is c.in-Ok.ensures.asked c.in-Err-Memory-sync_gate_of_format.ensures.asked).0
 
 pub returns-in-Err-Memory-sync_gate_of_format-clause-upgrades : goal.returns-in-Err-Memory-sync_gate_of_format-clause-upgrades
 returns-in-Err-Memory-sync_gate_of_format-clause-upgrades g c =
     let is = ap (λ (v : JournalView _). v.next) c.self.view_is ∙ c.requires.ready.1 in
     let running = ap (λ (v : JournalView _). v.halted) c.self.view_is ∙ c.requires.ready.0 in
     let first = ap (λ (v : JournalView _). v.format) c.self.view_is ∙ c.requires.first in
-    rw (← c.self.view_is) ((when_unsynced_for_memory g.D.Disk.device c.self.inside.disk c.sync_gate_of_format.new.disk c.self.inside.blocks c.self.inside.superblock.items c.self.inside.room.items c.self.inside.filled c.self.inside.is_last (g.met.D.Disk.counts_content c.sync_gate_of_format.new.disk) first c.self.inside.next c.self.inside.halted is running c.self.invariant c.write_gate_of_format.new.disk c.in-Ok.field-0 c.in-Err-Memory-sync_gate_of_format.field-0 c.in-Err-Memory-sync_gate_of_format.field-0-is c.in-Ok.ensures.asked c.in-Err-Memory-sync_gate_of_format.ensures.asked).1)
+    rw (← c.self.view_is) ((when_unsynced_for_memory g.D.Disk.device c.self.inside.disk c.sync_gate_of_format.new.disk c.self.inside.blocks
+    c.self.inside.superblock.items c.self.inside.room.items c.self.inside.filled c.self.inside.is_last
+    (g.met.D.Disk.counts_content c.sync_gate_of_format.new.disk) first c.self.inside.next c.self.inside.halted is running
+    c.self.invariant c.write_gate_of_format.new.disk c.in-Ok.field-0 c.in-Err-Memory-sync_gate_of_format.field-0
+    c.in-Err-Memory-sync_gate_of_format.field-0-is c.in-Ok.ensures.asked c.in-Err-Memory-sync_gate_of_format.ensures.asked).1)

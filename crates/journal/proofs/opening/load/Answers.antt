@@ -10,7 +10,8 @@ returns-in-Ok-find_open-clause-found g c =
     let second = c.find_open.ensures.quiet in
     let old = λ (t : IsTrue (g.D.Disk.device c.find_open.new.disk).tells). subst (λ (b : Bool). IsTrue b) (second.tells ∙ first.tells) t in
     let mid = λ (t : IsTrue (g.D.Disk.device c.find_open.new.disk).tells). subst (λ (b : Bool). IsTrue b) second.tells t in
-    let same = λ (t : IsTrue (g.D.Disk.device c.find_open.new.disk).tells). c.in-Ok-find_open.ensures.still.content (mid t) ∙ c.in-Ok.ensures.still.content (old t) in
+    let same = λ (t : IsTrue (g.D.Disk.device c.find_open.new.disk).tells). c.in-Ok-find_open.ensures.still.content (mid t)
+    ∙ c.in-Ok.ensures.still.content (old t) in
     record {
       valid = subst (λ (n : ℕ). IsSuperblock c.load_superblock.new.superblock.items n) (sym (second.size ∙ first.size)) valid.0;
       blocks_are = valid.1;
@@ -23,4 +24,5 @@ returns-in-Ok-find_open-clause-found g c =
 
 pub returns-in-Err-find_open-clause-err : goal.returns-in-Err-find_open-clause-err
 returns-in-Err-find_open-clause-err g c =
-    rejects_then c.in-Err-find_open.error (g.D.Disk.device c.args.disk.now) (g.D.Disk.device c.load_superblock.new.disk) (g.D.Disk.device c.find_open.new.disk) c.load_superblock.ensures.quiet c.in-Ok.ensures.still c.in-Err-find_open.ensures.err
+    rejects_then c.in-Err-find_open.error (g.D.Disk.device c.args.disk.now) (g.D.Disk.device c.load_superblock.new.disk)
+    (g.D.Disk.device c.find_open.new.disk) c.load_superblock.ensures.quiet c.in-Ok.ensures.still c.in-Err-find_open.ensures.err

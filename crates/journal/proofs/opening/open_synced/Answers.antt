@@ -20,56 +20,102 @@ pub returns-in-Ok-clause-ok : goal.returns-in-Ok-clause-ok
 returns-in-Ok-clause-ok g c =
     let device = g.D.Disk.device in
     let journal = c.to_be_replayed.result in
-    let quiet = subst (λ (d : g.row.D.Denot). IsQuiet (g.D.Disk.device c.args.disk) (g.D.Disk.device d)) (sym c.to_be_replayed.ensures.disk) c.load.ensures.quiet in
-    let still = subst (λ (d : g.row.D.Denot). IsStill (g.D.Disk.device c.args.disk) (g.D.Disk.device d)) (sym c.to_be_replayed.ensures.disk) c.in-Ok.ensures.still in
-    let stands = subst (λ (d : g.row.D.Denot). IsTrue (g.D.Disk.device d).tells → StandsFor (g.D.Disk.device d).content c.to_be_replayed.result.label c.to_be_replayed.result.blocks) (sym c.to_be_replayed.ensures.disk) c.to_be_replayed.ensures.stands in
-    let format = subst (λ (d : g.row.D.Denot). IsTrue (g.D.Disk.device d).tells → format_number (g.D.Disk.device d).content ≡ c.to_be_replayed.result.format) (sym c.to_be_replayed.ensures.disk) c.to_be_replayed.ensures.format in
-    IfOk-weaker c.replay.result (λ (after : JournalView g.row.D.Denot). IsReady after × IsDuring g.D.Disk.device c.to_be_replayed.result after × ((g.D.Disk.device after.disk).failures ≡ (g.D.Disk.device c.to_be_replayed.result.disk).failures)) (Opens g.D.Disk.device c.args.disk)
-    (λ after h. opens_replayed g.D.Disk.device c.args.disk c.to_be_replayed.result quiet still stands c.to_be_replayed.ensures.whole format c.to_be_replayed.ensures.rest after h.0 h.1 h.2)
+    let quiet = subst (λ (d : g.row.D.Denot). IsQuiet (g.D.Disk.device c.args.disk) (g.D.Disk.device d))
+    (sym c.to_be_replayed.ensures.disk) c.load.ensures.quiet in
+    let still = subst (λ (d : g.row.D.Denot). IsStill (g.D.Disk.device c.args.disk) (g.D.Disk.device d))
+    (sym c.to_be_replayed.ensures.disk) c.in-Ok.ensures.still in
+    let stands = subst (λ (d : g.row.D.Denot). IsTrue (g.D.Disk.device d).tells
+    → StandsFor (g.D.Disk.device d).content c.to_be_replayed.result.label c.to_be_replayed.result.blocks)
+    (sym c.to_be_replayed.ensures.disk) c.to_be_replayed.ensures.stands in
+    let format = subst (λ (d : g.row.D.Denot). IsTrue (g.D.Disk.device d).tells
+    → format_number (g.D.Disk.device d).content ≡ c.to_be_replayed.result.format)
+    (sym c.to_be_replayed.ensures.disk) c.to_be_replayed.ensures.format in
+    IfOk-weaker c.replay.result (λ (after : JournalView g.row.D.Denot). IsReady after
+    × IsDuring g.D.Disk.device c.to_be_replayed.result after
+    × ((g.D.Disk.device after.disk).failures ≡ (g.D.Disk.device c.to_be_replayed.result.disk).failures))
+    (Opens g.D.Disk.device c.args.disk)
+    (λ after h. opens_replayed g.D.Disk.device c.args.disk c.to_be_replayed.result quiet still stands c.to_be_replayed.ensures.whole format
+    c.to_be_replayed.ensures.rest after h.0 h.1 h.2)
     c.replay.ensures.ok
 
 pub returns-in-Ok-clause-err : goal.returns-in-Ok-clause-err
 returns-in-Ok-clause-err g c =
-    let quiet = subst (λ (d : g.row.D.Denot). IsQuiet (g.D.Disk.device c.args.disk) (g.D.Disk.device d)) (sym c.to_be_replayed.ensures.disk) c.load.ensures.quiet in
-    let still = subst (λ (d : g.row.D.Denot). IsStill (g.D.Disk.device c.args.disk) (g.D.Disk.device d)) (sym c.to_be_replayed.ensures.disk) c.in-Ok.ensures.still in
-    let stands = subst (λ (d : g.row.D.Denot). IsTrue (g.D.Disk.device d).tells → StandsFor (g.D.Disk.device d).content c.to_be_replayed.result.label c.to_be_replayed.result.blocks) (sym c.to_be_replayed.ensures.disk) c.to_be_replayed.ensures.stands in
-    let format = subst (λ (d : g.row.D.Denot). IsTrue (g.D.Disk.device d).tells → format_number (g.D.Disk.device d).content ≡ c.to_be_replayed.result.format) (sym c.to_be_replayed.ensures.disk) c.to_be_replayed.ensures.format in
+    let quiet = subst (λ (d : g.row.D.Denot). IsQuiet (g.D.Disk.device c.args.disk) (g.D.Disk.device d))
+    (sym c.to_be_replayed.ensures.disk) c.load.ensures.quiet in
+    let still = subst (λ (d : g.row.D.Denot). IsStill (g.D.Disk.device c.args.disk) (g.D.Disk.device d))
+    (sym c.to_be_replayed.ensures.disk) c.in-Ok.ensures.still in
+    let stands = subst (λ (d : g.row.D.Denot). IsTrue (g.D.Disk.device d).tells
+    → StandsFor (g.D.Disk.device d).content c.to_be_replayed.result.label c.to_be_replayed.result.blocks)
+    (sym c.to_be_replayed.ensures.disk) c.to_be_replayed.ensures.stands in
+    let format = subst (λ (d : g.row.D.Denot). IsTrue (g.D.Disk.device d).tells
+    → format_number (g.D.Disk.device d).content ≡ c.to_be_replayed.result.format)
+    (sym c.to_be_replayed.ensures.disk) c.to_be_replayed.ensures.format in
     err_weaker_both c.replay.result
-    (λ (refused : Refused g.row.D.Denot). IsCaused refused.error (g.D.Disk.device c.to_be_replayed.result.disk) (g.D.Disk.device refused.disk) × Elapses (g.D.Disk.device c.to_be_replayed.result.disk) (g.D.Disk.device refused.disk) × LeftAs (g.D.Disk.device c.to_be_replayed.result.disk) (g.D.Disk.device refused.disk) c.to_be_replayed.result.format c.to_be_replayed.result.label c.to_be_replayed.result.blocks)
-    (λ (refused : Refused g.row.D.Denot). IsTrue (g.D.Disk.device c.to_be_replayed.result.disk).tells → IsVolume c.to_be_replayed.result.format c.to_be_replayed.result.label c.to_be_replayed.result.blocks (g.D.Disk.device refused.disk).content)
+    (λ (refused : Refused g.row.D.Denot). IsCaused refused.error (g.D.Disk.device c.to_be_replayed.result.disk)
+    (g.D.Disk.device refused.disk) × Elapses (g.D.Disk.device c.to_be_replayed.result.disk) (g.D.Disk.device refused.disk)
+    × LeftAs (g.D.Disk.device c.to_be_replayed.result.disk) (g.D.Disk.device refused.disk) c.to_be_replayed.result.format
+    c.to_be_replayed.result.label c.to_be_replayed.result.blocks)
+    (λ (refused : Refused g.row.D.Denot). IsTrue (g.D.Disk.device c.to_be_replayed.result.disk).tells
+    → IsVolume c.to_be_replayed.result.format c.to_be_replayed.result.label c.to_be_replayed.result.blocks
+    (g.D.Disk.device refused.disk).content)
     (λ (refused : Refused g.row.D.Denot). Refuses g.D.Disk.device c.args.disk refused.disk refused.error)
-    (λ refused h holds. refuses_replayed g.D.Disk.device c.args.disk c.to_be_replayed.result quiet still stands c.to_be_replayed.ensures.whole format refused.disk refused.error h.0 h.1 h.2 holds)
+    (λ refused h holds. refuses_replayed g.D.Disk.device c.args.disk c.to_be_replayed.result quiet still stands
+    c.to_be_replayed.ensures.whole format refused.disk refused.error h.0 h.1 h.2 holds)
     c.replay.ensures.err c.replay.ensures.left
 
 -- a read's refusal, as the journal's
-refused_as : (e : SegmentError) (error : JournalError) → (e ≡ ReadFault → error ≡ Fault) → (e ≡ ReadNotAVolume → error ≡ NotAVolume) → (error ≡ Fault → e ≡ ReadFault) × (error ≡ NotAVolume → e ≡ ReadNotAVolume) × (error ≢ Memory) × (error ≢ Halted)
+refused_as : (e : SegmentError) (error : JournalError) → (e ≡ ReadFault → error ≡ Fault) → (e ≡ ReadNotAVolume → error ≡ NotAVolume)
+    → (error ≡ Fault → e ≡ ReadFault) × (error ≡ NotAVolume → e ≡ ReadNotAVolume) × (error ≢ Memory) × (error ≢ Halted)
 refused_as ReadFault error fault no_volume =
-    let is : error ≡ Fault = fault refl in
-    (λ e. refl, λ e. absurd (let two : Fault ≡ NotAVolume = sym is ∙ e in cc), λ e. (let two : Fault ≡ Memory = sym is ∙ e in cc), λ e. (let two : Fault ≡ Halted = sym is ∙ e in cc))
+    let is : error ≡ Fault = fault refl in (
+      λ e. refl,
+      λ e. absurd (let two : Fault ≡ NotAVolume = sym is ∙ e in cc),
+      λ e. (let two : Fault ≡ Memory = sym is ∙ e in cc),
+      λ e. (let two : Fault ≡ Halted = sym is ∙ e in cc),
+    )
 refused_as ReadNotAVolume error fault no_volume =
-    let is : error ≡ NotAVolume = no_volume refl in
-    (λ e. absurd (let two : NotAVolume ≡ Fault = sym is ∙ e in cc), λ e. refl, λ e. (let two : NotAVolume ≡ Memory = sym is ∙ e in cc), λ e. (let two : NotAVolume ≡ Halted = sym is ∙ e in cc))
+    let is : error ≡ NotAVolume = no_volume refl in (
+      λ e. absurd (let two : NotAVolume ≡ Fault = sym is ∙ e in cc),
+      λ e. refl,
+      λ e. (let two : NotAVolume ≡ Memory = sym is ∙ e in cc),
+      λ e. (let two : NotAVolume ≡ Halted = sym is ∙ e in cc),
+    )
 
 pub returns-in-Err-clause-err : goal.returns-in-Err-clause-err
 returns-in-Err-clause-err g c =
     let rejects = c.in-Err.ensures.err in
     let other = refused_as c.in-Err.error c.from.result c.from.ensures.fault c.from.ensures.no_volume in
-    refuses_found g.D.Disk.device c.args.disk c.load.new.disk c.from.result c.load.ensures.quiet (λ e. rejects.fault (other.0 e)) (λ e. rejects.no_volume (other.1 e)) other.2 other.3
+    refuses_found g.D.Disk.device c.args.disk c.load.new.disk c.from.result c.load.ensures.quiet (λ e. rejects.fault (other.0 e))
+    (λ e. rejects.no_volume (other.1 e)) other.2 other.3
 
 pub returns-in-Ok-clause-cost : goal.returns-in-Ok-clause-cost
 returns-in-Ok-clause-cost g c t =
     let found = c.to_be_replayed.result in
     let device = g.D.Disk.device in
-    let quiet = subst (λ (d : g.row.D.Denot). IsQuiet (g.D.Disk.device c.args.disk) (g.D.Disk.device d)) (sym c.to_be_replayed.ensures.disk) c.load.ensures.quiet in
-    let still = subst (λ (d : g.row.D.Denot). IsStill (g.D.Disk.device c.args.disk) (g.D.Disk.device d)) (sym c.to_be_replayed.ensures.disk) c.in-Ok.ensures.still in
-    let writes = subst (λ (d : g.row.D.Denot). IsTrue (g.D.Disk.device d).tells → home_writes (g.D.Disk.device d).content (open_segments (g.D.Disk.device d).content) ≡ sum (sizes c.to_be_replayed.result) + length (sizes c.to_be_replayed.result)) (sym c.to_be_replayed.ensures.disk) c.to_be_replayed.ensures.open in
-    let syncs = subst (λ (d : g.row.D.Denot). IsTrue (g.D.Disk.device d).tells → home_syncs (open_segments (g.D.Disk.device d).content) ≡ 1 + length (sizes c.to_be_replayed.result)) (sym c.to_be_replayed.ensures.disk) c.to_be_replayed.ensures.syncs in
-    IfOk-weaker c.replay.result (λ (after : JournalView g.row.D.Denot). IsMore (sum (sizes c.to_be_replayed.result) + length (sizes c.to_be_replayed.result)) (g.D.Disk.device c.to_be_replayed.result.disk).writes (g.D.Disk.device after.disk).writes × IsMore (1 + length (sizes c.to_be_replayed.result)) (g.D.Disk.device c.to_be_replayed.result.disk).syncs (g.D.Disk.device after.disk).syncs)
-    (λ (after : JournalView g.row.D.Denot). Costs 0 (g.D.Disk.device c.args.disk).content (g.D.Disk.device c.args.disk) (g.D.Disk.device after.disk))
-    (λ after h. costs_replayed (g.D.Disk.device c.args.disk) (g.D.Disk.device c.to_be_replayed.result.disk) (g.D.Disk.device after.disk) (sum (sizes c.to_be_replayed.result) + length (sizes c.to_be_replayed.result)) (1 + length (sizes c.to_be_replayed.result)) quiet still writes syncs h.0 h.1 t)
+    let quiet = subst (λ (d : g.row.D.Denot). IsQuiet (g.D.Disk.device c.args.disk) (g.D.Disk.device d))
+    (sym c.to_be_replayed.ensures.disk) c.load.ensures.quiet in
+    let still = subst (λ (d : g.row.D.Denot). IsStill (g.D.Disk.device c.args.disk) (g.D.Disk.device d))
+    (sym c.to_be_replayed.ensures.disk) c.in-Ok.ensures.still in
+    let writes = subst (λ (d : g.row.D.Denot). IsTrue (g.D.Disk.device d).tells
+    → home_writes (g.D.Disk.device d).content (open_segments (g.D.Disk.device d).content) ≡ sum (sizes c.to_be_replayed.result) + length
+    (sizes c.to_be_replayed.result)) (sym c.to_be_replayed.ensures.disk) c.to_be_replayed.ensures.open in
+    let syncs = subst (λ (d : g.row.D.Denot). IsTrue (g.D.Disk.device d).tells
+    → home_syncs (open_segments (g.D.Disk.device d).content) ≡ 1 + length (sizes c.to_be_replayed.result))
+    (sym c.to_be_replayed.ensures.disk) c.to_be_replayed.ensures.syncs in
+    IfOk-weaker c.replay.result (λ (after : JournalView g.row.D.Denot). IsMore
+    (sum (sizes c.to_be_replayed.result) + length (sizes c.to_be_replayed.result)) (g.D.Disk.device c.to_be_replayed.result.disk).writes
+    (g.D.Disk.device after.disk).writes × IsMore (1 + length (sizes c.to_be_replayed.result))
+    (g.D.Disk.device c.to_be_replayed.result.disk).syncs (g.D.Disk.device after.disk).syncs)
+    (λ (after : JournalView g.row.D.Denot). Costs 0 (g.D.Disk.device c.args.disk).content (g.D.Disk.device c.args.disk)
+    (g.D.Disk.device after.disk))
+    (λ after h. costs_replayed (g.D.Disk.device c.args.disk) (g.D.Disk.device c.to_be_replayed.result.disk) (g.D.Disk.device after.disk)
+    (sum (sizes c.to_be_replayed.result) + length (sizes c.to_be_replayed.result)) (1 + length (sizes c.to_be_replayed.result)) quiet
+    still writes syncs h.0 h.1 t)
     c.replay.ensures.cost
 
 pub returns-in-Ok-default-eq0-clause-cost : goal.returns-in-Ok-default-eq0-clause-cost
 returns-in-Ok-default-eq0-clause-cost g c =
-    subst (λ (d : g.row.D.Denot). IsTrue (g.D.Disk.device c.args.disk).tells → Costs 0 (g.D.Disk.device c.args.disk).content (g.D.Disk.device c.args.disk) (g.D.Disk.device d)) (sym c.at_rest.ensures.disk)
-    (costs_none (g.D.Disk.device c.args.disk) (g.D.Disk.device c.load.new.disk) c.load.ensures.quiet c.in-Ok-default-eq0.ensures.still c.at_rest.ensures.none)
+    subst (λ (d : g.row.D.Denot). IsTrue (g.D.Disk.device c.args.disk).tells
+    → Costs 0 (g.D.Disk.device c.args.disk).content (g.D.Disk.device c.args.disk) (g.D.Disk.device d)) (sym c.at_rest.ensures.disk)
+    (costs_none (g.D.Disk.device c.args.disk) (g.D.Disk.device c.load.new.disk) c.load.ensures.quiet c.in-Ok-default-eq0.ensures.still
+    c.at_rest.ensures.none)

@@ -14,13 +14,17 @@ returns-in-Home c =
     let j = c.in-Home.j in
     let i = c.in-Home.i in
     let f : Flight = flight_in room c.args.filled c.args.is_last in
-    let within : IsWithin (length (staged_at room c.args.filled).numbers) (sizes_of f) (Home j i) = subst (λ (x : Next). IsWithin (length (staged_at room c.args.filled).numbers) (sizes_of f) x) c.in-Home.is c.requires.within in
+    let within : IsWithin (length (staged_at room c.args.filled).numbers) (sizes_of f) (Home j i) =
+    subst (λ (x : Next). IsWithin (length (staged_at room c.args.filled).numbers) (sizes_of f) x) c.in-Home.is c.requires.within in
     let last = last_where f (omega (arith, within.0)) in
     let here = there_of f j within.0 in
     let low : j ≤ c.args.filled = omega (arith, here, length-all room c.args.filled c.args.is_last c.requires.there) in
     let count : c.count-in-Home.result ≡ get_or (sizes_of f) j 0 =
-    c.count-in-Home.ensures.count ∙ ap (λ (s : Staged). length s.numbers) c.segment_at-in-Home.ensures ∙ ap (λ (h : Held). length h.batch.numbers) (sym (held_in_room room c.args.filled c.args.is_last c.requires.there j low)) ∙ sym (size_at f j last here) in
-    let all : c.args.filled + 1 ≡ length (sizes_of f) = sym (length-sizes f last ∙ length-all room c.args.filled c.args.is_last c.requires.there) in
+    c.count-in-Home.ensures.count ∙ ap (λ (s : Staged). length s.numbers) c.segment_at-in-Home.ensures
+    ∙ ap (λ (h : Held). length h.batch.numbers) (sym (held_in_room room c.args.filled c.args.is_last c.requires.there j low))
+    ∙ sym (size_at f j last here) in
+    let all : c.args.filled + 1 ≡ length (sizes_of f) =
+    sym (length-sizes f last ∙ length-all room c.args.filled c.args.is_last c.requires.there) in
     rw c.in-Home.is
     (c.after_home.ensures
     ∙ ap (λ (k : ℕ). cond (eqb (i + 1) k) (cond (eqb (j + 1) (c.args.filled + 1)) Settle (Home (j + 1) 0)) (Home j (i + 1))) count

@@ -5,4 +5,6 @@ use Rattle.journal.proofs.stepping.write_descriptor.Goals as goal
 
 pub returns-clause-asked : goal.returns-clause-asked
 returns-clause-asked g c =
-    asked_at c.descriptor_block.result (descriptor_place c.args.segment.now.place) c.descriptor.result.now c.args.segment.now.descriptor c.write.result _ _ (c.descriptor_block.ensures ∙ ap descriptor_place c.place.ensures) c.descriptor.ensures.block c.write.ensures.asked
+    asked_at c.descriptor_block.result (descriptor_place c.args.segment.now.place) c.descriptor.result.now c.args.segment.now.descriptor
+    c.write.result _ _ (c.descriptor_block.ensures
+    ∙ ap descriptor_place c.place.ensures) c.descriptor.ensures.block c.write.ensures.asked

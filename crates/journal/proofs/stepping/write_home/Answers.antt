@@ -5,5 +5,8 @@ use Rattle.journal.proofs.stepping.write_home.Goals as goal
 
 pub returns-clause-asked : goal.returns-clause-asked
 returns-clause-asked g c =
-    let number : c.from.result ≡ get_or c.args.segment.now.numbers c.args.i 0 = (let n : c.from.result ≡ c.number.result = cc in n ∙ c.number.ensures) in
-    asked_at c.home_block-home.result (home_place c.args.segments (get_or c.args.segment.now.numbers c.args.i 0)) c.image.result.now (get_or c.args.segment.now.images c.args.i []) c.write.result _ _ (c.home_block-home.ensures ∙ ap (home_place c.args.segments) number) c.image.ensures.image c.write.ensures.asked
+    let number : c.from.result ≡ get_or c.args.segment.now.numbers c.args.i 0 =
+    (let n : c.from.result ≡ c.number.result = cc in n ∙ c.number.ensures) in
+    asked_at c.home_block-home.result (home_place c.args.segments (get_or c.args.segment.now.numbers c.args.i 0)) c.image.result.now
+    (get_or c.args.segment.now.images c.args.i []) c.write.result _ _ (c.home_block-home.ensures
+    ∙ ap (home_place c.args.segments) number) c.image.ensures.image c.write.ensures.asked

@@ -8,12 +8,14 @@ use Rattle.journal_segments.proofs.laying.lay_over.Goals as goal
 pub loop-i-preserved : goal.loop-i-preserved
 loop-i-preserved c =
     let there : c.loop-i.i < length c.args.room.now.items = omega (arith, c.loop-i-test.true, c.requires.there) in
-    let is : c.index.result.now ≡ staged_at c.args.room.now.items c.loop-i.i = c.index.ensures ∙ get_or_default c.args.room.now.items c.loop-i.i c.index.result.now none_staged there in
+    let is : c.index.result.now ≡ staged_at c.args.room.now.items c.loop-i.i = c.index.ensures
+    ∙ get_or_default c.args.room.now.items c.loop-i.i c.index.result.now none_staged there in
     record {
       whole = c.lay_image.ensures.whole;
       laid = λ blocks below first.
           block_put c.args.room.now.items c.loop-i.i c.args.block there blocks below c.loop-i.octets c.lay_image.new.octets
-          (subst (λ (s : Staged). (bs : List (List ℕ)) → c.args.block < length bs → get_or bs c.args.block [] ≡ c.loop-i.octets → get_or (laid_over bs s.numbers s.images) c.args.block [] ≡ c.lay_image.new.octets) is c.lay_image.ensures.laid)
+          (subst (λ (s : Staged). (bs : List (List ℕ)) → c.args.block < length bs → get_or bs c.args.block [] ≡ c.loop-i.octets
+          → get_or (laid_over bs s.numbers s.images) c.args.block [] ≡ c.lay_image.new.octets) is c.lay_image.ensures.laid)
           (c.loop-i.invariant.laid blocks below first);
     }
 

@@ -7,5 +7,8 @@ use Rattle.journal_segments.proofs.reading.read_block.Goals as goal
 pub returns-clause-value : goal.returns-clause-value
 returns-clause-value g c t =
     let slice : length c.as_mut_slice.result.now ≡ 4096 = ap length c.as_mut_slice.ensures.value ∙ c.requires.room in
-    let size : length c.read_part.new.into ≡ c.args.into.now.len = omega (arith, c.read_part.auto.into, slice, c.requires.room, c.args.into.now.ok.0) in
-    on_ok_weaker c.read_part.result (λ e. take_at c.read_part.new.into _ c.args.into.now.len size ∙ e ∙ ap (λ (n : ℕ). part c.start_of.result n (g.D.Disk.device c.args.disk.now).content) slice ∙ ap (λ (n : ℕ). part n 4096 (g.D.Disk.device c.args.disk.now).content) c.start_of.ensures) (c.read_part.ensures.value t)
+    let size : length c.read_part.new.into ≡ c.args.into.now.len =
+    omega (arith, c.read_part.auto.into, slice, c.requires.room, c.args.into.now.ok.0) in
+    on_ok_weaker c.read_part.result (λ e. take_at c.read_part.new.into _ c.args.into.now.len size ∙ e
+    ∙ ap (λ (n : ℕ). part c.start_of.result n (g.D.Disk.device c.args.disk.now).content) slice
+    ∙ ap (λ (n : ℕ). part n 4096 (g.D.Disk.device c.args.disk.now).content) c.start_of.ensures) (c.read_part.ensures.value t)

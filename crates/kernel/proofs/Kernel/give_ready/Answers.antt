@@ -11,15 +11,20 @@ release_of-requires-clause-rising c = c.self.invariant.rising
 
 pub invariant_of-self : goal.invariant_of-self
 invariant_of-self c =
-    subst (λ (seats : List Seat). IsKept (kernel_of c.self.inside.spool c.self.inside.durable c.self.inside.in_flight c.self.inside.halted c.self.inside.joined seats)) (sym c.release_of.ensures.kept)
-    (kept_gave c.self.inside.spool c.self.inside.durable c.self.inside.in_flight c.self.inside.halted c.self.inside.joined c.self.inside.seats.items c.args.into.now c.args.sid c.self.invariant)
+    subst (λ (seats : List Seat). IsKept
+    (kernel_of c.self.inside.spool c.self.inside.durable c.self.inside.in_flight c.self.inside.halted c.self.inside.joined seats))
+    (sym c.release_of.ensures.kept)
+    (kept_gave c.self.inside.spool c.self.inside.durable c.self.inside.in_flight c.self.inside.halted c.self.inside.joined
+    c.self.inside.seats.items c.args.into.now c.args.sid c.self.invariant)
 
 pub returns-clause-given : goal.returns-clause-given
-returns-clause-given c = c.release_of.ensures.given ∙ ap (λ (k : KernelView). c.args.into.now ++ (ready_of k.durable c.args.into.now c.args.sid k.seats).entries) c.self.view_is
+returns-clause-given c = c.release_of.ensures.given
+    ∙ ap (λ (k : KernelView). c.args.into.now ++ (ready_of k.durable c.args.into.now c.args.sid k.seats).entries) c.self.view_is
 
 pub returns-clause-kept : goal.returns-clause-kept
 returns-clause-kept c =
-    (λ i. kernel_of c.self.inside.spool c.self.inside.durable c.self.inside.in_flight c.self.inside.halted c.self.inside.joined (c.release_of.ensures.kept i))
+    (λ i. kernel_of c.self.inside.spool c.self.inside.durable c.self.inside.in_flight c.self.inside.halted c.self.inside.joined
+    (c.release_of.ensures.kept i))
     ∙ ap (λ (k : KernelView). released_of k c.args.into.now c.args.sid) c.self.view_is
 
 pub returns-clause-holds : goal.returns-clause-holds

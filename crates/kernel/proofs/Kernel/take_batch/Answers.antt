@@ -8,13 +8,19 @@ use Rattle.kernel.proofs.Kernel.take_batch.Goals as goal
 
 pub returns-clause-takes : goal.returns-clause-takes
 returns-clause-takes c =
-    let new : KernelView = kernel_of c.copy_dirty.new.self c.self.inside.durable (Some c.len-last.result) c.self.inside.halted c.self.inside.joined c.self.inside.seats.items in
+    let new : KernelView = kernel_of c.copy_dirty.new.self c.self.inside.durable
+    (Some c.len-last.result) c.self.inside.halted c.self.inside.joined c.self.inside.seats.items in
     let some : length c.self.inside.spool.dirty ≢ 0 = λ none. c.if-dirty_len-eq0.false (c.dirty_len.ensures ∙ none) in
-    subst (λ (old : KernelView). Takes old new c.copy_dirty.new.into.numbers (blocks_from 0 (length c.copy_dirty.new.into.numbers) c.copy_dirty.new.into.images) c.len-last.result) c.self.view_is
-    (takes_dirty c.self.inside.spool c.copy_dirty.new.self c.self.inside.durable c.self.inside.in_flight c.self.inside.halted c.self.inside.joined c.self.inside.seats.items c.copy_dirty.new.into.numbers c.copy_dirty.new.into.images c.len-last.result some c.len-last.ensures
-    c.kept.ensures c.copy_dirty.ensures.numbers c.copy_dirty.ensures.images c.copy_dirty.ensures.laid c.copy_dirty.ensures.clean c.self.invariant)
+    subst (λ (old : KernelView). Takes old new c.copy_dirty.new.into.numbers
+    (blocks_from 0 (length c.copy_dirty.new.into.numbers) c.copy_dirty.new.into.images) c.len-last.result) c.self.view_is
+    (takes_dirty c.self.inside.spool c.copy_dirty.new.self c.self.inside.durable c.self.inside.in_flight c.self.inside.halted
+    c.self.inside.joined c.self.inside.seats.items c.copy_dirty.new.into.numbers c.copy_dirty.new.into.images c.len-last.result some
+    c.len-last.ensures
+    c.kept.ensures c.copy_dirty.ensures.numbers c.copy_dirty.ensures.images c.copy_dirty.ensures.laid c.copy_dirty.ensures.clean
+    c.self.invariant)
 
 pub returns-clause-size : goal.returns-clause-size
 returns-clause-size c = λ some.
-    let sizes = images_are c.self.inside.spool c.copy_dirty.new.into.images c.kept.ensures c.self.invariant.below c.copy_dirty.ensures.images in
+    let sizes = images_are c.self.inside.spool c.copy_dirty.new.into.images c.kept.ensures c.self.invariant.below
+    c.copy_dirty.ensures.images in
     omega (arith, sizes.0, ap length c.copy_dirty.ensures.numbers)

@@ -8,5 +8,8 @@ use Rattle.kernel.proofs.Kernel.take_ready.Goals as goal
 
 pub invariant_of-self : goal.invariant_of-self
 invariant_of-self c =
-    subst (λ (seats : List Seat). IsKept (kernel_of c.self.inside.spool c.self.inside.durable c.self.inside.in_flight c.self.inside.halted c.self.inside.joined seats)) (sym c.release.ensures.kept)
-    (kept_released c.self.inside.spool c.self.inside.durable c.self.inside.in_flight c.self.inside.halted c.self.inside.joined c.self.inside.seats.items c.self.invariant)
+    subst (λ (seats : List Seat). IsKept
+    (kernel_of c.self.inside.spool c.self.inside.durable c.self.inside.in_flight c.self.inside.halted c.self.inside.joined seats))
+    (sym c.release.ensures.kept)
+    (kept_released c.self.inside.spool c.self.inside.durable c.self.inside.in_flight c.self.inside.halted c.self.inside.joined
+    c.self.inside.seats.items c.self.invariant)

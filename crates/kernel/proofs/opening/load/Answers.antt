@@ -12,7 +12,8 @@ use Rattle.kernel.proofs.opening.load.Goals as goal
 
 pub open_over-requires-clause-room : goal.open_over-requires-clause-room
 open_over-requires-clause-room g c =
-    let labelled : IsLabel c.args.journal.now.label c.args.journal.now.size c.in-Some.label.inodes c.in-Some.label.host.now = search rules in
+    let labelled : IsLabel c.args.journal.now.label c.args.journal.now.size c.in-Some.label.inodes c.in-Some.label.host.now =
+    search rules in
     let count : length c.in-Ok-loaded.volume.cache ≡ c.args.journal.now.size = c.in-Ok-loaded.ensures.count in
     record {
       some = labelled.some;
@@ -20,16 +21,19 @@ open_over-requires-clause-room g c =
       whole = labelled.whole;
       room = omega (arith, labelled.room, labelled.whole, count);
       count_few = omega (arith, count, c.is_idle.ensures.few);
-      blocks_whole = subst (λ (blocks : List (List ℕ)). All (λ octets. length octets ≡ 4096) blocks) c.in-Ok-loaded.ensures.seen c.len-count.ensures.whole;
+      blocks_whole = subst (λ (blocks : List (List ℕ)). All (λ octets. length octets ≡ 4096) blocks) c.in-Ok-loaded.ensures.seen
+          c.len-count.ensures.whole;
     }
 
 -- a kernel over the blocks of a journal, in its format and under its label
-opened : {D : Type 0} (device : D → Device) (journal : JournalView D) (format inodes : ℕ) (host : Octets) (blocks : List Octets) (kernel : KernelView)
+opened : {D : Type 0} (device : D → Device) (journal : JournalView D) (format inodes : ℕ) (host : Octets) (blocks : List Octets)
+    (kernel : KernelView)
     → OpensOver format host inodes blocks kernel → format ≡ journal.format → IsLabel journal.label journal.size inodes host
     → length blocks ≡ journal.size → (IsTrue (device journal.disk).tells → blocks ≡ journal.blocks) → IsOpened device journal kernel
 opened device journal format inodes host blocks kernel over its_format labelled count same = record {
   fresh = over.fresh;
-  labelled = subst (λ (t : ℕ × Octets). IsLabel journal.label journal.size t.0 t.1) (λ i. (sym over.inodes_are i, sym over.host_is i)) labelled;
+  labelled = subst (λ (t : ℕ × Octets). IsLabel journal.label journal.size t.0 t.1) (λ i. (sym over.inodes_are i, sym over.host_is i))
+      labelled;
   size = ap length over.blocks_are ∙ count;
   blocks = λ tells. over.blocks_are ∙ same tells;
   holds = over.holds;
@@ -41,7 +45,8 @@ returns-in-Ok-loaded-clause-ok g c =
     let labelled : IsLabel c.args.journal.now.label c.args.journal.now.size c.in-Some.label.inodes c.new.result = search rules in
     IfOk-weaker c.open_over.result _ _
     (λ kernel over. opened g.D.Disk.device c.args.journal.now c.format_number-format.result c.in-Some.label.inodes c.new.result
-    c.in-Ok-loaded.volume.cache kernel over c.format_number-format.ensures.format labelled c.in-Ok-loaded.ensures.count c.in-Ok-loaded.ensures.blocks)
+    c.in-Ok-loaded.volume.cache kernel over c.format_number-format.ensures.format labelled c.in-Ok-loaded.ensures.count
+    c.in-Ok-loaded.ensures.blocks)
     c.open_over.ensures.ok
 
 pub returns-in-Ok-loaded-clause-damaged : goal.returns-in-Ok-loaded-clause-damaged
@@ -53,7 +58,9 @@ returns-in-Ok-loaded-clause-damaged g c =
       host = c.new.result;
       labelled = labelled;
       holds_none = λ t S holds.
-          none is S (subst (λ (bs : List Octets). HoldsIn c.format_number-format.result c.new.result c.in-Some.label.inodes bs S) (sym (c.in-Ok-loaded.ensures.blocks t))
-          (subst (λ (f : ℕ). HoldsIn f c.new.result c.in-Some.label.inodes c.args.journal.now.blocks S) (sym c.format_number-format.ensures.format) holds));
+          none is S (subst (λ (bs : List Octets). HoldsIn c.format_number-format.result c.new.result c.in-Some.label.inodes bs S)
+          (sym (c.in-Ok-loaded.ensures.blocks t))
+          (subst (λ (f : ℕ). HoldsIn f c.new.result c.in-Some.label.inodes c.args.journal.now.blocks S)
+          (sym c.format_number-format.ensures.format) holds));
     })
     c.open_over.ensures.damaged

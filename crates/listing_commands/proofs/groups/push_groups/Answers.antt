@@ -17,5 +17,6 @@ loop-place-preserved g c =
           ∙ ap (λ os. os ++ line_of pick show k) c.loop-place.invariant.lines
           ∙ append_assoc c.args.reply.now.items (lines_of pick show (take n ks)) (line_of pick show k)
           ∙ ap (λ os. c.args.reply.now.items ++ os) (sym (line_more pick ks n k c.group_at-group.ensures show));
-      last = c.in_ok-last.ensures.last ∙ ap (λ last. later_of pick last k) c.loop-place.invariant.last ∙ sym (last_more pick ks n k c.group_at-group.ensures);
+      last = c.in_ok-last.ensures.last ∙ ap (λ last. later_of pick last k) c.loop-place.invariant.last
+          ∙ sym (last_more pick ks n k c.group_at-group.ensures);
     }

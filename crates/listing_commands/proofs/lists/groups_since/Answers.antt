@@ -21,7 +21,11 @@ returns g c =
     let from = to_z w64 (of_z w64 c.args.from) in
     let same : from ≡ c.args.from = to_z-of_z w64 c.args.from c.ranges.from in
     let items = c.in_ok-push_end.ensures
-    ∙ ap (λ os. os ++ dot_line) (c.in_ok-push_groups.ensures.lines ∙ ap (λ os. os ++ lines_of (Since from) Active (all_known S)) (c.in_ok-push_heading.ensures ∙ ap (λ os. os ++ line groups_follow) c.new-reply.ensures.items))
+    ∙ ap (λ os. os ++ dot_line) (c.in_ok-push_groups.ensures.lines
+    ∙ ap (λ os. os ++ lines_of (Since from) Active (all_known S)) (c.in_ok-push_heading.ensures
+    ∙ ap (λ os. os ++ line groups_follow) c.new-reply.ensures.items))
     ∙ block_since S (Since from) from (λ group. refl) Active groups_follow
-    ∙ ap (λ moment. block groups_follow (map active_line (filter (λ (l : Listed). is_since moment l.group.moment) (listed S (answers.is_listed None))))) same in
-    subst (λ (a : Answered). IfOk c.says.result (λ r. r ≡ a)) (λ i. answered (answers.says c.args.session.now (items i)) (c.len.ensures i)) c.says.ensures
+    ∙ ap (λ moment. block groups_follow
+    (map active_line (filter (λ (l : Listed). is_since moment l.group.moment) (listed S (answers.is_listed None))))) same in
+    subst (λ (a : Answered). IfOk c.says.result (λ r. r ≡ a)) (λ i. answered (answers.says c.args.session.now (items i)) (c.len.ensures i))
+    c.says.ensures

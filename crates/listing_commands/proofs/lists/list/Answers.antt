@@ -17,7 +17,10 @@ returns g c =
     let pick = c.pick_of.result in
     let test = answers.is_listed c.args.wildmat.now in
     let items = c.in_ok-push_end.ensures
-    ∙ ap (λ os. os ++ dot_line) (c.in_ok-last.ensures.lines ∙ ap (λ os. os ++ lines_of pick c.args.show (all_known S)) (c.in_ok-push_heading.ensures ∙ ap (λ os. os ++ line information_follows) c.new-reply.ensures.items))
+    ∙ ap (λ os. os ++ dot_line) (c.in_ok-last.ensures.lines
+    ∙ ap (λ os. os ++ lines_of pick c.args.show (all_known S)) (c.in_ok-push_heading.ensures
+    ∙ ap (λ os. os ++ line information_follows) c.new-reply.ensures.items))
     ∙ block_listed host S pick test c.pick_of.ensures.same c.args.show information_follows in
     let reads = c.in_ok-last.ensures.last ∙ last_listed host S pick test c.pick_of.ensures.same (g.met.L.LookUps.lawful c.args.spool.now) in
-    subst (λ (a : Answered). IfOk c.says.result (λ r. r ≡ a)) (λ i. answered (answers.says c.args.session.now (items i)) (reads i)) c.says.ensures
+    subst (λ (a : Answered). IfOk c.says.result (λ r. r ≡ a)) (λ i. answered (answers.says c.args.session.now (items i)) (reads i))
+    c.says.ensures

@@ -21,7 +21,12 @@ returns g c =
     let from = to_z w64 (of_z w64 c.args.from) in
     let same : from ≡ c.args.from = to_z-of_z w64 c.args.from c.ranges.from in
     let items = c.in_ok-push_end.ensures
-    ∙ ap (λ os. os ++ dot_line) (c.in_ok-push_articles.ensures ∙ ap (λ os. os ++ new_lines S wildmat from (articles S)) (c.in_ok-push_heading.ensures ∙ ap (λ os. os ++ line articles_follow) c.new-reply.ensures.items))
+    ∙ ap (λ os. os ++ dot_line) (c.in_ok-push_articles.ensures
+    ∙ ap (λ os. os ++ new_lines S wildmat from (articles S)) (c.in_ok-push_heading.ensures
+    ∙ ap (λ os. os ++ line articles_follow) c.new-reply.ensures.items))
     ∙ block_new (g.L.LookUps.host_of c.args.spool.now) S wildmat from articles_follow (g.met.L.LookUps.lawful c.args.spool.now)
-    ∙ ap (λ moment. block articles_follow (map id_of (filter (λ (a : NewsArticle). list_any (wildmat_matches wildmat) a.groups && is_since moment a.moment) (articles_now S)))) same in
-    subst (λ (a : Answered). IfOk c.says.result (λ r. r ≡ a)) (λ i. answered (answers.says c.args.session.now (items i)) (c.len.ensures i)) c.says.ensures
+    ∙ ap (λ moment. block articles_follow
+    (map id_of (filter (λ (a : NewsArticle). list_any (wildmat_matches wildmat) a.groups && is_since moment a.moment) (articles_now S))))
+    same in
+    subst (λ (a : Answered). IfOk c.says.result (λ r. r ≡ a)) (λ i. answered (answers.says c.args.session.now (items i)) (c.len.ensures i))
+    c.says.ensures

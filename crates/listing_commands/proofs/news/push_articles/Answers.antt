@@ -12,7 +12,8 @@ loop-place-init g c =
     let S = g.L.LookUps.changes c.args.spool.now in
     let wildmat = c.args.wildmat.now in
     let from = to_z w64 (of_z w64 c.args.from) in
-    sym (ap (λ os. c.args.reply.now.items ++ os) (old_lines S wildmat from c.older_than-place.result c.older_than-place.ensures.older) ∙ append-nil c.args.reply.now.items)
+    sym (ap (λ os. c.args.reply.now.items ++ os) (old_lines S wildmat from c.older_than-place.result c.older_than-place.ensures.older)
+    ∙ append-nil c.args.reply.now.items)
 
 pub loop-place-preserved : goal.loop-place-preserved
 loop-place-preserved g c =
@@ -32,7 +33,8 @@ returns g c =
     let wildmat = c.args.wildmat.now in
     let from = to_z w64 (of_z w64 c.args.from) in
     let same : from ≡ c.args.from = to_z-of_z w64 c.args.from c.ranges.from in
-    let all : c.loop-place.place ≡ length S = omega (arith, c.len-place-end.ensures, c.loop-place-test.false, c.loop-place.auto.place-end) in
+    let all : c.loop-place.place ≡ length S =
+    omega (arith, c.len-place-end.ensures, c.loop-place-test.false, c.loop-place.auto.place-end) in
     c.loop-place.invariant
     ∙ ap (λ n. c.args.reply.now.items ++ lines_up_to S wildmat from n) all
     ∙ ap (λ os. c.args.reply.now.items ++ os) (all_lines S wildmat from ∙ ap (λ moment. new_lines S wildmat moment (articles S)) same)

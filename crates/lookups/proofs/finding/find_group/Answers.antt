@@ -23,7 +23,11 @@ returns-in-None-clause-here g c = ap (λ (o : Option NewsGroup). is_some o) (non
 
 pub returns-in-None-clause-has : goal.returns-in-None-clause-has
 unfolding contents_if_here
-returns-in-None-clause-has g c = ap (λ (o : Option NewsGroup). option_map (λ (h : NewsGroup). contents (g.L.LookUps.changes c.args.spool.now) c.args.group.now) o) (none_of _ c.args.group.now c.in-None.ensures)
+returns-in-None-clause-has g c =
+    ap (λ (o : Option NewsGroup). option_map (λ (h : NewsGroup). contents (g.L.LookUps.changes c.args.spool.now) c.args.group.now) o)
+    (none_of _ c.args.group.now c.in-None.ensures)
 
 pub returns-in-None-clause-closed : goal.returns-in-None-clause-closed
-returns-in-None-clause-closed g c = ap (λ (o : Option NewsGroup). unwrap_or (option_map (λ (h : NewsGroup). h.status == 110) o) false) (none_of _ c.args.group.now c.in-None.ensures)
+returns-in-None-clause-closed g c =
+    ap (λ (o : Option NewsGroup). unwrap_or (option_map (λ (h : NewsGroup). h.status == 110) o) false)
+    (none_of _ c.args.group.now c.in-None.ensures)

@@ -6,4 +6,5 @@ pub returns-in-Some-clause-is : goal.returns-in-Some-clause-is
 returns-in-Some-clause-is g c = (found _ _ _ (number_stands _ c.args.group.now c.args.number) (sym c.in-Some.is ∙ c.by_number.ensures)).is
 
 pub returns-in-Some-clause-there : goal.returns-in-Some-clause-there
-returns-in-Some-clause-there g c = (found _ _ _ (number_stands _ c.args.group.now c.args.number) (sym c.in-Some.is ∙ c.by_number.ensures)).there
+returns-in-Some-clause-there g c =
+    (found _ _ _ (number_stands _ c.args.group.now c.args.number) (sym c.in-Some.is ∙ c.by_number.ensures)).there

@@ -4,4 +4,5 @@ use Rattle.memdisk.proofs.Picking.{IsSettledTo}
 use Rattle.memdisk.proofs.blocks.settle_marked.Given as goal
 
 abbrev pub invariant-loop-block : goal.invariant-loop-block
-invariant-loop-block l = IsSettledTo l.picks l.count (l.block * 4096) l.touched l.synced (picked_from l.picks 0 l.touched l.synced l.initial.present.items) l.initial.present.items l.present.items
+invariant-loop-block l = IsSettledTo l.picks l.count (l.block * 4096) l.touched l.synced
+    (picked_from l.picks 0 l.touched l.synced l.initial.present.items) l.initial.present.items l.present.items

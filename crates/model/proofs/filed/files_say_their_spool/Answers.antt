@@ -3,4 +3,11 @@ use Rattle.model.proofs.Opening.{changes_counted, changes_read, files_counted, f
 use Rattle.model.proofs.filed.files_say_their_spool.Goals as goal
 
 pub returns : goal.returns
-returns c = record { read = changes_read; fronts = fronts_read; changes = changes_counted; make = files_make_spool; counted = files_counted; kinds = files_kinds }
+returns c = record {
+  read = changes_read;
+  fronts = fronts_read;
+  changes = changes_counted;
+  make = files_make_spool;
+  counted = files_counted;
+  kinds = files_kinds;
+}

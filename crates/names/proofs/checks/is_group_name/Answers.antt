@@ -10,7 +10,9 @@ use Rattle.names.proofs.checks.is_group_name.Goals as goal
 pub returns-then-text-le-GROUP_NAME_LIMIT : goal.returns-then-text-le-GROUP_NAME_LIMIT
 returns-then-text-le-GROUP_NAME_LIMIT c =
     let text = c.args.text.now in
-    and_second (nat_le (length text) 40) (is_dotted is_group_octet text) c.all.result (le-leb (length text) 40 c.if-text-le-GROUP_NAME_LIMIT.true)
+    and_second (nat_le (length text) 40) (is_dotted is_group_octet text) c.all.result
+    (le-leb (length text) 40 c.if-text-le-GROUP_NAME_LIMIT.true)
     (all_from_yields_List (is_run_of is_group_octet) _ _ c.all.result c.all.ensures.ran
-    (YieldsList-from_slice_split _ (λ x. x == 46) text c.split.ensures.rest c.split.ensures.done c.split.ensures.closure (λ x b q. search (rules, tests)))
+    (YieldsList-from_slice_split _ (λ x. x == 46) text c.split.ensures.rest c.split.ensures.done c.split.ensures.closure
+    (λ x b q. search (rules, tests)))
     (λ x b q k. search (rules, tests)))

@@ -12,5 +12,6 @@ returns-then-text-le-HOST_LIMIT c =
     let text = c.args.text.now in
     and_second (nat_le (length text) 64) (is_dotted is_host_octet text) c.all.result (le-leb (length text) 64 c.if-text-le-HOST_LIMIT.true)
     (all_from_yields_List (is_run_of is_host_octet) _ _ c.all.result c.all.ensures.ran
-    (YieldsList-from_slice_split _ (λ x. x == 46) text c.split.ensures.rest c.split.ensures.done c.split.ensures.closure (λ x b q. search (rules, tests)))
+    (YieldsList-from_slice_split _ (λ x. x == 46) text c.split.ensures.rest c.split.ensures.done c.split.ensures.closure
+    (λ x b q. search (rules, tests)))
     (λ x b q k. search (rules, tests)))

@@ -13,7 +13,8 @@ returns-then-all c =
     let text = c.args.text.now in
     let visible : c.all.result ≡ list_all is_visible text =
     all_from_yields_List is_visible _ _ c.all.result c.all.ensures.ran (YieldsList-from_slice text cc) (λ x b q k. search (rules, tests)) in
-    let size = and_from (nat_le 3 (length text)) (nat_le (length text) 250) (le-leb 3 (length text) c.if-text-lt3.false) (le-leb (length text) 250 c.if-text-gt-MESSAGE_ID_LIMIT.false) in
+    let size = and_from (nat_le 3 (length text)) (nat_le (length text) 250) (le-leb 3 (length text) c.if-text-lt3.false)
+    (le-leb (length text) 250 c.if-text-gt-MESSAGE_ID_LIMIT.false) in
     and_second (nat_le 3 (length text) && nat_le (length text) 250) _ c.has_brackets.result size
     (and_second (list_all is_visible text) _ c.has_brackets.result (sym visible ∙ c.if-all.true) c.has_brackets.ensures)
 
@@ -23,4 +24,5 @@ returns-else-all c =
     let visible : c.all.result ≡ list_all is_visible text =
     all_from_yields_List is_visible _ _ c.all.result c.all.ensures.ran (YieldsList-from_slice text cc) (λ x b q k. search (rules, tests)) in
     c.if-all.false
-    ∙ sym (and_right (nat_le 3 (length text) && nat_le (length text) 250) _ (and_left (list_all is_visible text) _ (sym visible ∙ c.if-all.false)))
+    ∙ sym (and_right (nat_le 3 (length text) && nat_le (length text) 250) _
+    (and_left (list_all is_visible text) _ (sym visible ∙ c.if-all.false)))

@@ -4,12 +4,28 @@ use Rattle.names.proofs.checks.value_of.Goals as goal
 
 pub overflow_mul-value : goal.overflow_mul-value
 overflow_mul-value c =
-    omega (arith, c.loop-octet.invariant, digits_more c.args.digits.now c.requires.digits c.loop-octet.octet-index c.loop-octet-test.true, digits_small c.args.digits.now c.requires.digits c.requires.small (c.loop-octet.octet-index + 1))
+    omega (
+      arith,
+      c.loop-octet.invariant,
+      digits_more c.args.digits.now c.requires.digits c.loop-octet.octet-index c.loop-octet-test.true,
+      digits_small c.args.digits.now c.requires.digits c.requires.small (c.loop-octet.octet-index + 1),
+    )
 
 pub overflow_add-value : goal.overflow_add-value
 overflow_add-value c =
-    omega (arith, c.loop-octet.invariant, c.from.ensures, digits_more c.args.digits.now c.requires.digits c.loop-octet.octet-index c.loop-octet-test.true, digits_small c.args.digits.now c.requires.digits c.requires.small (c.loop-octet.octet-index + 1))
+    omega (
+      arith,
+      c.loop-octet.invariant,
+      c.from.ensures,
+      digits_more c.args.digits.now c.requires.digits c.loop-octet.octet-index c.loop-octet-test.true,
+      digits_small c.args.digits.now c.requires.digits c.requires.small (c.loop-octet.octet-index + 1),
+    )
 
 pub loop-octet-preserved : goal.loop-octet-preserved
 loop-octet-preserved c =
-    omega (arith, c.loop-octet.invariant, c.from.ensures, digits_more c.args.digits.now c.requires.digits c.loop-octet.octet-index c.loop-octet-test.true)
+    omega (
+      arith,
+      c.loop-octet.invariant,
+      c.from.ensures,
+      digits_more c.args.digits.now c.requires.digits c.loop-octet.octet-index c.loop-octet-test.true,
+    )

@@ -10,7 +10,8 @@ pub returns-then-not-begins_negated : goal.returns-then-not-begins_negated
 returns-then-not-begins_negated c =
     let text = c.args.text.now in
     all_from_yields_List (λ part. is_some (later_pattern_of part)) _ _ c.all.result c.all.ensures.ran
-    (YieldsList-from_slice_split _ (λ x. x == 44) text c.split.ensures.rest c.split.ensures.done c.split.ensures.closure (λ x b q. search (rules, tests)))
+    (YieldsList-from_slice_split _ (λ x. x == 44) text c.split.ensures.rest c.split.ensures.done c.split.ensures.closure
+    (λ x b q. search (rules, tests)))
     (λ x b q k. search (rules, tests))
     ∙ sym (all_patterns (parts 44 text))
     ∙ ap is_some (sym (wildmat_by_parts text (sym c.if-not-begins_negated.ensures)))

@@ -7,7 +7,9 @@ use Rattle.std.proofs.lemmas.Iterator.Search.{all_from_yields_List}
 use Rattle.std.specs.List.{list_all}
 use Rattle.names.proofs.TakesLaws.{tail_takes, run_takes, run-here, tail-one, tail-one_on, tail-end, takes-end, star-further, name-ends}
 use Rattle.names.proofs.patterns.takes_behind_run.Goals as goal
-use Rattle.names.proofs.patterns.takes_behind_run.Goals.{else-at-items-via-then-at-items+else-items-at-eq42, else-at-items-via-else-at-items, else-at-items-2-via-then-at-items-2+else-fits, else-at-items-2-via-else-at-items-2}
+use Rattle.names.proofs.patterns.takes_behind_run.Goals.{else-at-items-via-then-at-items+else-items-at-eq42}
+use Rattle.names.proofs.patterns.takes_behind_run.Goals.{else-at-items-via-else-at-items, else-at-items-2-via-then-at-items-2+else-fits}
+use Rattle.names.proofs.patterns.takes_behind_run.Goals.{else-at-items-2-via-else-at-items-2}
 
 pub loop-from-init : goal.loop-from-init
 loop-from-init c =
@@ -33,8 +35,10 @@ loop-from-preserved-then-items-at-eq42 c =
       name = inv.name;
       behind = omega arith;
       tried = omega arith;
-      same = inv.same ∙ star-further items name l.behind l.at l.tried l.from inv.behind inv.tried inv.later c.if-at-items.true c.if-items-at-eq42.true;
-      later = λ k above taken. let same : k + (l.at + 1 - (l.at + 1)) ≡ k = omega arith in ap (tail_takes items name (l.at + 1)) same ∙ taken;
+      same = inv.same ∙ star-further items name l.behind l.at l.tried l.from inv.behind inv.tried inv.later c.if-at-items.true
+          c.if-items-at-eq42.true;
+      later = λ k above taken. let same : k + (l.at + 1 - (l.at + 1)) ≡ k = omega arith in ap (tail_takes items name (l.at + 1)) same
+          ∙ taken;
     }
 
 pub loop-from-preserved-then-fits : goal.loop-from-preserved-then-fits
@@ -56,10 +60,12 @@ loop-from-preserved-then-fits c =
       tried = omega (arith, inv.behind, inv.tried);
       same = inv.same
           ∙ ap (λ b. b || run_takes items name l.behind (l.tried + 1))
-          (tail-one items name l.at within one l.from c.loop-from-test.true ∙ ap (λ b. b && tail_takes items name (l.at + 1) (l.from + 1)) (sym c.if-fits.ensures));
+          (tail-one items name l.at within one l.from c.loop-from-test.true
+          ∙ ap (λ b. b && tail_takes items name (l.at + 1) (l.from + 1)) (sym c.if-fits.ensures));
       later = λ k above taken.
           let step : k + (l.at + 1 - l.behind) ≡ k + (l.at - l.behind) + 1 = omega (arith, inv.behind) in
-          ap (tail_takes items name (l.at + 1)) step ∙ tail-one_on items name l.at within one (k + (l.at - l.behind)) (inv.later k above taken);
+          ap (tail_takes items name (l.at + 1)) step
+          ∙ tail-one_on items name l.at within one (k + (l.at - l.behind)) (inv.later k above taken);
     }
 
 pub loop-from-preserved : goal.loop-from-preserved
@@ -99,7 +105,8 @@ returns c =
     let name = c.args.name.now in
     let l = c.loop-from in
     let inv = c.loop-from.invariant in
-    all_from_yields_List (λ item. item == 42) _ _ c.all.result c.all.ensures.ran (YieldsList-from_slice (take (length items - l.at) (drop l.at items)) cc) (λ x b q k. search (rules, tests))
+    all_from_yields_List (λ item. item == 42) _ _ c.all.result c.all.ensures.ran
+    (YieldsList-from_slice (take (length items - l.at) (drop l.at items)) cc) (λ x b q k. search (rules, tests))
     ∙ ap (list_all (λ item. item == 42)) (take_rest items l.at)
     ∙ takes-end (drop l.at items)
     ∙ sym (inv.same ∙ name-ends items name l.behind l.at l.tried l.from inv.behind inv.tried inv.later c.loop-from-test.false)

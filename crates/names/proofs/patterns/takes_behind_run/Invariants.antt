@@ -12,8 +12,10 @@ invariant-loop-from l = record {
   name : l.from ≤ length l.name;
   behind : l.behind ≤ l.at;
   tried : l.tried + (l.at - l.behind) ≡ l.from;
-  same : model.takes (model.AnyRun ∷ map model.item_of l.items) l.name ≡ (tail_takes l.items l.name l.at l.from || run_takes l.items l.name l.behind (l.tried + 1));
-  later : (k : ℕ) → l.tried < k → tail_takes l.items l.name l.behind k ≡ true → tail_takes l.items l.name l.at (k + (l.at - l.behind)) ≡ true;
+  same : model.takes (model.AnyRun ∷ map model.item_of l.items) l.name
+      ≡ (tail_takes l.items l.name l.at l.from || run_takes l.items l.name l.behind (l.tried + 1));
+  later : (k : ℕ) → l.tried < k → tail_takes l.items l.name l.behind k ≡ true
+      → tail_takes l.items l.name l.at (k + (l.at - l.behind)) ≡ true;
 }
 
 abbrev pub decreases-loop-from : goal.decreases-loop-from

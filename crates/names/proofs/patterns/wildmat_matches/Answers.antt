@@ -11,6 +11,7 @@ returns c =
     let wildmat = c.args.wildmat.now in
     let name = c.args.name.now in
     fold_from_yields_List _ (λ d part. unwrap_or (verdict_of name part) d) false c.fold.result c.fold.ensures.ran
-    (YieldsList-from_slice_split _ (λ x. x == 44) wildmat c.split-patterns.ensures.rest c.split-patterns.ensures.done c.split-patterns.ensures.closure (λ x b q. search (rules, tests)))
+    (YieldsList-from_slice_split _ (λ x. x == 44) wildmat c.split-patterns.ensures.rest c.split-patterns.ensures.done
+    c.split-patterns.ensures.closure (λ x b q. search (rules, tests)))
     (λ a x b q k. search (rules, tests))
     ∙ wildmat_says name wildmat c.requires

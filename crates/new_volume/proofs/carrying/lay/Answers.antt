@@ -14,5 +14,7 @@ returns-in-Err-clause-err g c =
 
 pub returns-in-Ok-clause-ok : goal.returns-in-Ok-clause-ok
 returns-in-Ok-clause-ok g c =
-    lays g.D.Disk.device c.args.first.now c.args.journal c.begin.new.self c.carry.new.journal c.into_disk.result c.requires.whole c.begin.ensures.disk c.begin.ensures.label c.begin.ensures.format c.begin.ensures.blocks c.begin.ensures.numbers c.begin.ensures.images
+    lays g.D.Disk.device c.args.first.now c.args.journal c.begin.new.self c.carry.new.journal c.into_disk.result c.requires.whole
+    c.begin.ensures.disk c.begin.ensures.label c.begin.ensures.format c.begin.ensures.blocks c.begin.ensures.numbers
+    c.begin.ensures.images
     c.in-Ok.ensures.ok c.in-Ok.ensures.time c.into_disk.ensures

@@ -9,5 +9,7 @@ returns-in-Ok-open_zeroed-clause-ok g c =
     let journal = c.in-Ok-open_zeroed in
     ok_map c.lay.result
     (λ made lays.
-    formatted g.D.Disk.device plan.blocks c.deref.result.now plan.format c.args.disk journal.journal journal.ensures.ok plan.host.now plan.inodes c.first_block.result made plan.named plan.sized (c.deref.ensures.value ∙ c.in-Ok.ensures.octets) c.first_block.ensures.whole c.first_block.ensures.front lays)
+    formatted g.D.Disk.device plan.blocks c.deref.result.now plan.format c.args.disk journal.journal journal.ensures.ok plan.host.now
+    plan.inodes c.first_block.result made plan.named plan.sized (c.deref.ensures.value
+    ∙ c.in-Ok.ensures.octets) c.first_block.ensures.whole c.first_block.ensures.front lays)
     c.lay.ensures.ok

@@ -7,7 +7,8 @@ use Rattle.outbox.proofs.queue.give_front.Given as goal
 -- what is still to be given goes on from what was given
 abbrev pub invariant-loop-front : goal.invariant-loop-front
 invariant-loop-front l = record {
-  goes_on : GoesOn (give l.durable (65_536 - length l.fn.octets.items) l.fn.given l.fn.outputs.items) (give l.durable (65_536 - length l.octets.items) l.given l.outputs.items) l.fn.octets.items l.octets.items l.ended;
+  goes_on : GoesOn (give l.durable (65_536 - length l.fn.octets.items) l.fn.given l.fn.outputs.items)
+      (give l.durable (65_536 - length l.octets.items) l.given l.outputs.items) l.fn.octets.items l.octets.items l.ended;
   bound : vec_len l.octets ≤ 65_536;
   room : 65_536 ≤ vec_capacity l.octets;
   capacity : deque_capacity l.outputs ≡ deque_capacity l.fn.outputs;

@@ -12,7 +12,12 @@ push-requires-clause-room c =
 pub push-requires-clause-countable : goal.push-requires-clause-countable
 push-requires-clause-countable c =
     let seat = c.index_mut.result.now in
-    omega (arith, c.requires.countable, ap (λ (s : Session). buffered s.held) (session_here c.args.sid c.args.at c.args.seats.now.items seat seat c.requires.at c.index_mut.ensures.value))
+    omega (
+      arith,
+      c.requires.countable,
+      ap (λ (s : Session). buffered s.held)
+          (session_here c.args.sid c.args.at c.args.seats.now.items seat seat c.requires.at c.index_mut.ensures.value),
+    )
 
 pub returns-clause-sent : goal.returns-clause-sent
 returns-clause-sent c =
@@ -21,4 +26,5 @@ returns-clause-sent c =
 
 pub returns-clause-room : goal.returns-clause-room
 returns-clause-room c =
-    room_less c.args.sid c.args.at c.args.seats.now.items c.index_mut.result.now c.push.new.self c.requires.at c.index_mut.ensures.value 1 (ap (λ (s : Session). s.number) c.push.ensures.session) (omega (arith, c.push.ensures.room))
+    room_less c.args.sid c.args.at c.args.seats.now.items c.index_mut.result.now c.push.new.self c.requires.at c.index_mut.ensures.value 1
+    (ap (λ (s : Session). s.number) c.push.ensures.session) (omega (arith, c.push.ensures.room))

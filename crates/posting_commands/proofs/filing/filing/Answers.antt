@@ -17,5 +17,6 @@ pub returns-in-None : goal.returns-in-None
 returns-in-None g c =
     let S = g.L.LookUps.changes c.args.spool.now in
     let text = c.args.article.now in
-    subst (λ (o : Option NewsArticle). IfOk c.by_groups.result (λ outcome. outcome ≡ told S (spool_outcome o (groups_here S text) (closed_among c.args.closed S (groups_of text)))))
+    subst (λ (o : Option NewsArticle). IfOk c.by_groups.result
+    (λ outcome. outcome ≡ told S (spool_outcome o (groups_here S text) (closed_among c.args.closed S (groups_of text)))))
     (sym (no_id _ c.in-None.ensures)) c.by_groups.ensures

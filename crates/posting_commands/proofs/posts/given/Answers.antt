@@ -15,7 +15,8 @@ returns-then-not-has_id g c =
     let text = c.args.article.now in
     let nothing = transfer_other S c.args.id.now text c.requires (c.has_id.ensures ∙ ap not c.if-not-has_id.true) in
     subst (λ (a : Answered). IfOk c.answer.result (λ said. said ≡ a))
-    (refused_said S c.args.session.now transferred rejected text c.args.moment 0 (transfer_outcome S c.args.id.now text) (ap (told S) (sym nothing)))
+    (refused_said S c.args.session.now transferred rejected text c.args.moment 0 (transfer_outcome S c.args.id.now text)
+    (ap (told S) (sym nothing)))
     c.answer.ensures
 
 pub returns-in-Refused : goal.returns-in-Refused
@@ -24,7 +25,8 @@ returns-in-Refused g c =
     let text = c.args.article.now in
     let what = transfer_filed S c.args.id.now text c.requires (c.has_id.ensures ∙ ap not c.if-not-has_id.false) in
     subst (λ (a : Answered). IfOk c.answer-in-Refused.result (λ said. said ≡ a))
-    (refused_said S c.args.session.now transferred rejected text c.args.moment c.in-Refused.reads (transfer_outcome S c.args.id.now text) (sym c.in-Refused.is ∙ c.in_ok-reads.ensures ∙ ap (told S) (sym what)))
+    (refused_said S c.args.session.now transferred rejected text c.args.moment c.in-Refused.reads (transfer_outcome S c.args.id.now text)
+    (sym c.in-Refused.is ∙ c.in_ok-reads.ensures ∙ ap (told S) (sym what)))
     c.answer-in-Refused.ensures
 
 pub returns-in_ok-text-in-Accepted : goal.returns-in_ok-text-in-Accepted
@@ -34,8 +36,10 @@ returns-in_ok-text-in-Accepted g c =
     let x = c.args.session.now in
     let t = c.args.moment in
     let what = transfer_filed S c.args.id.now text c.requires (c.has_id.ensures ∙ ap not c.if-not-has_id.false) in
-    let change = c.filed-change.ensures ∙ ap (λ os. Article os c.in-Accepted.groups t) (c.in_ok-text-in-Accepted.ensures ∙ c.text.ensures) in
+    let change = c.filed-change.ensures
+    ∙ ap (λ os. Article os c.in-Accepted.groups t) (c.in_ok-text-in-Accepted.ensures ∙ c.text.ensures) in
     subst (λ (a : Answered). IfOk c.answer-in-Accepted.result (λ said. said ≡ a))
     ((λ i. answered (then_line x transferred (Some (change i))) (c.len-serial.ensures i + 1))
-    ∙ accepted_said S x transferred rejected text t c.in-Accepted.groups (transfer_outcome S c.args.id.now text) (sym c.in-Accepted.is ∙ c.in_ok-reads.ensures ∙ ap (told S) (sym what)))
+    ∙ accepted_said S x transferred rejected text t c.in-Accepted.groups (transfer_outcome S c.args.id.now text) (sym c.in-Accepted.is
+    ∙ c.in_ok-reads.ensures ∙ ap (told S) (sym what)))
     c.answer-in-Accepted.ensures

@@ -12,7 +12,9 @@ pub returns-in-Err-Bad : goal.returns-in-Err-Bad
 returns-in-Err-Bad g c =
     let S = g.L.LookUps.changes c.args.spool.now in
     let text = c.args.text.now in
-    let nothing = transfer_bad S c.args.id.now text (cause_of c.in-Err-Bad.field-0-0) (c.in-Err-Bad.ensures.bad c.in-Err-Bad.field-0-0 c.in-Err-Bad.field-0-is) in
+    let nothing = transfer_bad S c.args.id.now text (cause_of c.in-Err-Bad.field-0-0)
+    (c.in-Err-Bad.ensures.bad c.in-Err-Bad.field-0-0 c.in-Err-Bad.field-0-is) in
     subst (λ (a : Answered). IfOk c.answer.result (λ said. said ≡ a))
-    (refused_said S c.args.session.now transferred rejected text c.args.moment 0 (transfer_outcome S c.args.id.now text) (ap (told S) (sym nothing)))
+    (refused_said S c.args.session.now transferred rejected text c.args.moment 0 (transfer_outcome S c.args.id.now text)
+    (ap (told S) (sym nothing)))
     c.answer.ensures

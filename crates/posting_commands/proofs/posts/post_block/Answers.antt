@@ -20,6 +20,7 @@ returns-in_ok-answer-in-Err-Bad g c =
     let host = g.L.LookUps.host_of c.args.spool.now in
     let S = g.L.LookUps.changes c.args.spool.now in
     let text = c.args.text.now in
-    let bad = (λ i. cause (Posted (sym c.host-host.ensures i) (sym c.len-serial.ensures i + 1)) text) ∙ c.in-Err-Bad.ensures.bad c.in-Err-Bad.cause c.in-Err-Bad.field-0-is in
+    let bad = (λ i. cause (Posted (sym c.host-host.ensures i) (sym c.len-serial.ensures i + 1)) text)
+    ∙ c.in-Err-Bad.ensures.bad c.in-Err-Bad.cause c.in-Err-Bad.field-0-is in
     (λ i. record { answered = c.in_ok-answer-in-Err-Bad.ensures i; mark = c.mark_of.ensures i })
     ∙ sym (said_refused host S c.args.session.now c.args.moment text (cause_of c.in-Err-Bad.cause) bad)

@@ -18,7 +18,8 @@ returns-in-Refused g c =
     let what = spool_outcome (same_id S text) (groups_here S text) (closed_among closed.Refuse S (groups_of text)) in
     let stored = injected (g.L.LookUps.host_of c.args.spool.now) (length S + 1) c.args.moment text in
     subst (λ (a : Answered). IfOk c.answer.result (λ said. said ≡ a))
-    (refused_said S c.args.session.now received not_accepted stored c.args.moment c.in-Refused.reads what (sym c.in-Refused.is ∙ c.in_ok-reads.ensures))
+    (refused_said S c.args.session.now received not_accepted stored c.args.moment c.in-Refused.reads what (sym c.in-Refused.is
+    ∙ c.in_ok-reads.ensures))
     c.answer.ensures
 
 pub returns-in_ok-text-in-Accepted : goal.returns-in_ok-text-in-Accepted

@@ -19,8 +19,12 @@ returns g c =
     (λ i. number_lines (c.numbers_in.ensures.first i) (c.numbers_in.ensures.last i + 1 - c.numbers_in.ensures.first i)) in
     let items = c.in_ok-push_end.ensures
     ∙ ap (λ os. os ++ dot_line) (c.in_ok-push_numbers.ensures
-    ∙ ap (λ os. os ++ sent) (c.in_ok-push_line.ensures ∙ ap (λ os. os ++ line (codes " list follows")) (c.in_ok-push_counted.ensures ∙ ap (λ os. os ++ counted low high c.args.group.now) c.new-reply.ensures.items)))
+    ∙ ap (λ os. os ++ sent) (c.in_ok-push_line.ensures
+    ∙ ap (λ os. os ++ line (codes " list follows")) (c.in_ok-push_counted.ensures
+    ∙ ap (λ os. os ++ counted low high c.args.group.now) c.new-reply.ensures.items)))
     ∙ ap (λ os. counted low high c.args.group.now ++ line (codes " list follows") ++ os ++ dot_line) same in
     subst (λ (a : Answered). IfOk c.selects.result (λ r. r ≡ a))
-    (λ i. answered (listed_answer c.args.session.now range c.args.group.now (contents (g.L.LookUps.changes c.args.spool.now) c.args.group.now) low high _ _ c.requires.low c.requires.high some items refl i) (c.requires.last i))
+    (λ i. answered (listed_answer c.args.session.now range c.args.group.now
+    (contents (g.L.LookUps.changes c.args.spool.now) c.args.group.now) low high _ _ c.requires.low c.requires.high some items refl i)
+    (c.requires.last i))
     c.selects.ensures

@@ -13,7 +13,9 @@ pub returns : goal.returns
 returns g c =
     let one = line (overview_line c.args.number (text_of (g.L.LookUps.changes c.args.spool.now) c.args.serial)) in
     let items = c.in_ok-push_end.ensures
-    ∙ ap (λ os. os ++ dot_line) (c.in_ok-push_overview.ensures ∙ ap (λ os. os ++ one) (c.in_ok-push_heading.ensures ∙ ap (λ os. os ++ line overview_follows) c.new-reply.ensures.items)) in
+    ∙ ap (λ os. os ++ dot_line) (c.in_ok-push_overview.ensures
+    ∙ ap (λ os. os ++ one) (c.in_ok-push_heading.ensures ∙ ap (λ os. os ++ line overview_follows) c.new-reply.ensures.items)) in
     subst (λ os. IfOk c.says.result (λ r. r ≡ answered (answers.says c.args.session.now os) c.args.reads))
-    (items ∙ sym (overview_block overview_follows c.args.number (text_of (g.L.LookUps.changes c.args.spool.now) c.args.serial) (omega (arith, c.ranges.number.fits))))
+    (items ∙ sym (overview_block overview_follows c.args.number (text_of (g.L.LookUps.changes c.args.spool.now) c.args.serial)
+    (omega (arith, c.ranges.number.fits))))
     c.says.ensures

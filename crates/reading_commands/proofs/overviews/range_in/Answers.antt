@@ -21,7 +21,8 @@ returns-then-numbers g c =
     let most = c.counts_of-counts.result.high in
     let some : 1 ≤ least = omega (arith, counts.low) in
     let none : count_in c.args.range.now least most ≡ 0 = omega (arith, numbers.first, numbers.last, c.if-numbers.true) in
-    let nothing = nothing_over c.args.session.now c.args.range.now least most (contents S c.args.group.now) counts.low counts.high some none in
+    let nothing = nothing_over c.args.session.now c.args.range.now least most (contents S c.args.group.now) counts.low counts.high some none
+    in
     subst (λ (a : Answered). IfOk c.says_line.result (λ r. r ≡ a)) (λ i. answered (sym nothing i) (counts.last i)) c.says_line.ensures
 
 pub returns : goal.returns
@@ -39,10 +40,13 @@ returns g c =
     let small : length (filed_in S name) + 1 < 2 ^ 64 = omega (arith, high_few S name, g.met.L.LookUps.few c.args.spool.now) in
     let any : 0 < count_in range least most = omega (arith, numbers.first, numbers.last, c.if-numbers.false) in
     let items = c.in_ok-push_end.ensures
-    ∙ ap (λ os. os ++ dot_line) (c.in_ok-push_overviews.ensures ∙ ap (λ os. os ++ overviews_between S name first last) (c.in_ok-push_heading.ensures ∙ ap (λ os. os ++ line overview_follows) c.new-reply.ensures.items)) in
+    ∙ ap (λ os. os ++ dot_line) (c.in_ok-push_overviews.ensures
+    ∙ ap (λ os. os ++ overviews_between S name first last) (c.in_ok-push_heading.ensures
+    ∙ ap (λ os. os ++ line overview_follows) c.new-reply.ensures.items)) in
     let from : first ≡ first_in range (low S name) = numbers.first ∙ ap (first_in range) counts.low in
     let to : last ≡ last_in range.last (high S name) = numbers.last ∙ ap (last_in range.last) counts.high in
     let said : answers.says c.args.session.now c.push_end.new.reply.items ≡ answers.over_range c.args.session.now range (contents S name) =
-    ap (answers.says c.args.session.now) (items ∙ append_assoc (line overview_follows) (overviews_between S name first last) dot_line ∙ (λ i. line overview_follows ++ (overviews_between S name (from i) (to i) ++ dot_line)))
+    ap (answers.says c.args.session.now) (items ∙ append_assoc (line overview_follows) (overviews_between S name first last) dot_line
+    ∙ (λ i. line overview_follows ++ (overviews_between S name (from i) (to i) ++ dot_line)))
     ∙ sym (some_over c.args.session.now range least most (contents S name) counts.low counts.high some small any) in
     subst (λ (a : Answered). IfOk c.says.result (λ r. r ≡ a)) (λ i. answered (said i) (counts.last i)) c.says.ensures

@@ -6,6 +6,7 @@ use Rattle.records.proofs.names.serial_digits.Goals as goal
 pub loop-i-preserved : goal.loop-i-preserved
 loop-i-preserved c = record {
   size = length-set c.loop-i.digits (9 - c.loop-i.i) _ ∙ c.loop-i.invariant.size;
-  written = next_written c.loop-i.digits c.loop-i.i c.args.serial c.loop-i.rest c.loop-i.invariant.size (omega arith) c.loop-i.invariant.left c.loop-i.invariant.written;
+  written = next_written c.loop-i.digits c.loop-i.i c.args.serial c.loop-i.rest c.loop-i.invariant.size
+      (omega arith) c.loop-i.invariant.left c.loop-i.invariant.written;
   left = next_left c.loop-i.i c.args.serial c.loop-i.rest c.loop-i.invariant.left;
 }

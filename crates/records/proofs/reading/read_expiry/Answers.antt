@@ -7,7 +7,8 @@ use Rattle.records.proofs.reading.read_expiry.Goals as goal
 pub returns-in_default : goal.returns-in_default
 returns-in_default c = λ e is.
     c.in_default.ensures e.group []
-    (expiry_behind c.args.octets.now c.in_ok-serial.rest.now c.in_ok-number.rest.now c.in_ok-serial.serial c.in_ok-number.number e c.in_ok-serial.ensures c.in_ok-number.ensures.1 is
+    (expiry_behind c.args.octets.now c.in_ok-serial.rest.now c.in_ok-number.rest.now c.in_ok-serial.serial c.in_ok-number.number e
+    c.in_ok-serial.ensures c.in_ok-number.ensures.1 is
     ∙ sym (append-nil (length e.group ∷ e.group)))
 
 pub returns : goal.returns

@@ -13,5 +13,7 @@ returns c =
     ∙ ap (λ (o : List ℕ). o ++ length c.args.groups.now ∷ []) (c.in_ok-extend_from_slice-2.ensures.items
     ∙ ap (λ (o : List ℕ). o ++ c.to_le_bytes-3.result) (c.in_ok-extend_from_slice.ensures.items
     ∙ ap (λ (o : List ℕ). o ++ c.to_le_bytes-2.result) c.in_ok-octets.ensures.items))))
-    ∙ article_joined c.args.serial c.args.moment c.args.text.now (map (λ g. g.now) c.args.groups.now) c.to_le_bytes.result c.to_le_bytes-2.result c.to_le_bytes-3.result (flat_map (λ g. length g.now ∷ g.now) c.args.groups.now) (length c.args.groups.now)
-    c.to_le_bytes.ensures c.to_le_bytes-2.ensures c.to_le_bytes-3.ensures (sym (length-map c.args.groups.now (λ g. g.now))) (sym (flat_map-map (λ (g : List ℕ). length g ∷ g) (λ g. g.now) c.args.groups.now))
+    ∙ article_joined c.args.serial c.args.moment c.args.text.now (map (λ g. g.now) c.args.groups.now) c.to_le_bytes.result
+    c.to_le_bytes-2.result c.to_le_bytes-3.result (flat_map (λ g. length g.now ∷ g.now) c.args.groups.now) (length c.args.groups.now)
+    c.to_le_bytes.ensures c.to_le_bytes-2.ensures c.to_le_bytes-3.ensures (sym (length-map c.args.groups.now (λ g. g.now)))
+    (sym (flat_map-map (λ (g : List ℕ). length g ∷ g) (λ g. g.now) c.args.groups.now))

@@ -11,5 +11,7 @@ use Rattle.script.proofs.lines.is_description.Goals as goal
 pub returns-then-text-le-DESCRIPTION_LIMIT : goal.returns-then-text-le-DESCRIPTION_LIMIT
 returns-then-text-le-DESCRIPTION_LIMIT c =
     let text = c.args.text.now in
-    and_second (nat_le (length text) 200) (list_all is_description_octet text) c.all.result (le-leb (length text) 200 c.if-text-le-DESCRIPTION_LIMIT.true)
-    (all_from_yields_List is_description_octet _ _ c.all.result c.all.ensures.ran (YieldsList-from_slice text cc) (λ x b q k. search (rules, tests)))
+    and_second (nat_le (length text) 200) (list_all is_description_octet text) c.all.result
+    (le-leb (length text) 200 c.if-text-le-DESCRIPTION_LIMIT.true)
+    (all_from_yields_List is_description_octet _ _ c.all.result c.all.ensures.ran (YieldsList-from_slice text cc)
+    (λ x b q k. search (rules, tests)))

@@ -6,7 +6,13 @@ use Rattle.served.proofs.Served.admin.Goals as goal
 
 pub invariant_of-self-2 : goal.invariant_of-self-2
 invariant_of-self-2 c =
-    let old : ServedView = record { kernel = c.self.inside.kernel; first = c.self.inside.first; sessions = sents c.self.inside.peers.items; trace = c.self.inside.trace.items; ready = c.self.inside.ready } in
+    let old : ServedView = record {
+      kernel = c.self.inside.kernel;
+      first = c.self.inside.first;
+      sessions = sents c.self.inside.peers.items;
+      trace = c.self.inside.trace.items;
+      ready = c.self.inside.ready;
+    } in
     let done = c.in_ok-serial.ensures.1 in
     sound_makes old _ (inputs c.self.inside.peers.items) _ c.in_ok-serial.serial
     (record {

@@ -9,5 +9,12 @@ use Rattle.served.proofs.Served.halt.Goals as goal
 
 pub invariant_of-self : goal.invariant_of-self
 invariant_of-self c =
-    let old : ServedView = record { kernel = c.self.inside.kernel; first = c.self.inside.first; sessions = sents c.self.inside.peers.items; trace = c.self.inside.trace.items; ready = c.self.inside.ready } in
-    subst (λ (k : KernelView). IsSound (with_kernel old k) (inputs c.self.inside.peers.items)) (sym c.halt.ensures) (sound_halts old (inputs c.self.inside.peers.items) c.self.invariant)
+    let old : ServedView = record {
+      kernel = c.self.inside.kernel;
+      first = c.self.inside.first;
+      sessions = sents c.self.inside.peers.items;
+      trace = c.self.inside.trace.items;
+      ready = c.self.inside.ready;
+    } in
+    subst (λ (k : KernelView). IsSound (with_kernel old k) (inputs c.self.inside.peers.items)) (sym c.halt.ensures)
+    (sound_halts old (inputs c.self.inside.peers.items) c.self.invariant)

@@ -16,7 +16,8 @@ file-requires-clause-known c =
     let given : c.give_ready.new.into ≡ (ready_of k.durable [] c.args.number k.seats).entries = c.give_ready.ensures.given
     ∙ ap (λ es. es ++ (ready_of k.durable es c.args.number k.seats).entries) c.clear.ensures in
     subst (λ (t : List Sent × List Entry). AreKnown t.0 t.1) (λ i. (sym c.make_room.ensures.sent i, sym given i))
-    (one_known k.host k.spool k.joined k.durable [] c.args.number (sents c.self.inside.peers.items) k.seats c.self.invariant.beside.numbers c.kept.ensures.seats)
+    (one_known k.host k.spool k.joined k.durable [] c.args.number (sents c.self.inside.peers.items) k.seats c.self.invariant.beside.numbers
+    c.kept.ensures.seats)
 
 pub file-requires-clause-room : goal.file-requires-clause-room
 file-requires-clause-room c =
@@ -31,8 +32,15 @@ invariant_of-self-2 c =
     let k = c.self.inside.kernel in
     let given : c.give_ready.new.into ≡ (ready_of k.durable [] c.args.number k.seats).entries = c.give_ready.ensures.given
     ∙ ap (λ es. es ++ (ready_of k.durable es c.args.number k.seats).entries) c.clear.ensures in
-    let kept : c.give_ready.new.self ≡ released_of k [] c.args.number = c.give_ready.ensures.kept ∙ ap (λ es. released_of k es c.args.number) c.clear.ensures in
-    let old : ServedView = record { kernel = k; first = c.self.inside.first; sessions = sents c.self.inside.peers.items; trace = c.self.inside.trace.items; ready = c.self.inside.ready } in
+    let kept : c.give_ready.new.self ≡ released_of k [] c.args.number = c.give_ready.ensures.kept
+    ∙ ap (λ es. released_of k es c.args.number) c.clear.ensures in
+    let old : ServedView = record {
+      kernel = k;
+      first = c.self.inside.first;
+      sessions = sents c.self.inside.peers.items;
+      trace = c.self.inside.trace.items;
+      ready = c.self.inside.ready;
+    } in
     IsSound-along {old = releases_of old c.args.number}
     (λ i. record {
       kernel = kept i;

@@ -8,7 +8,11 @@ use Rattle.spool_changes.proofs.stored.change.Goals as goal
 pub offset_bounds-changes-serial : goal.offset_bounds-changes-serial
 offset_bounds-changes-serial g c =
     let blocks = g.B.Blocks.blocks c.args.blocks.now in
-    omega (arith, few_serials c.args.inodes blocks c.requires.room.few c.args.places.now c.changes.result.now c.args.serial c.changes.ensures c.requires.there)
+    omega (
+      arith,
+      few_serials c.args.inodes blocks c.requires.room.few c.args.places.now c.changes.result.now c.args.serial
+          c.changes.ensures c.requires.there,
+    )
 
 pub bounds-changes-serial : goal.bounds-changes-serial
 bounds-changes-serial g c =
@@ -18,19 +22,25 @@ bounds-changes-serial g c =
 pub file_at-requires-clause-below : goal.file_at-requires-clause-below
 file_at-requires-clause-below g c =
     let blocks = g.B.Blocks.blocks c.args.blocks.now in
-    below c.args.inodes blocks c.requires.room.few c.args.places.now c.changes.result.now c.args.serial c.changes.ensures c.requires.there _ refl
+    below c.args.inodes blocks c.requires.room.few c.args.places.now c.changes.result.now c.args.serial c.changes.ensures c.requires.there _
+    refl
 
 pub file_at-requires-clause-there : goal.file_at-requires-clause-there
 file_at-requires-clause-there g c =
-    let blocks = g.B.Blocks.blocks c.args.blocks.now in
-    (_, there_file c.args.inodes blocks c.requires.room.few c.args.places.now c.changes.result.now c.args.serial c.changes.ensures c.requires.there _ refl)
+    let blocks = g.B.Blocks.blocks c.args.blocks.now in (
+      _,
+      there_file c.args.inodes blocks c.requires.room.few c.args.places.now c.changes.result.now c.args.serial c.changes.ensures
+          c.requires.there _ refl,
+    )
 
 pub unreachable-requires : goal.unreachable-requires
 unreachable-requires g c =
     let blocks = g.B.Blocks.blocks c.args.blocks.now in
     let none = rw c.in_default.is at c.in_ok-said.ensures in
-    let own = is_its_file c.args.inodes blocks c.requires.room.few c.args.places.now c.changes.result.now c.args.serial c.changes.ensures c.requires.there _ c.in_ok-file.file.name.items c.in_ok-file.file.content.items refl c.in_ok-file.ensures.is in
-    none _ (read_same c.args.serial _ c.in_ok-file.file.name.items c.deref.result.now c.in_ok-file.file.content.items c.deref-2.result.now (sym c.deref.ensures.value) (sym c.deref-2.ensures.value) own)
+    let own = is_its_file c.args.inodes blocks c.requires.room.few c.args.places.now c.changes.result.now c.args.serial c.changes.ensures
+    c.requires.there _ c.in_ok-file.file.name.items c.in_ok-file.file.content.items refl c.in_ok-file.ensures.is in
+    none _ (read_same c.args.serial _ c.in_ok-file.file.name.items c.deref.result.now c.in_ok-file.file.content.items c.deref-2.result.now
+    (sym c.deref.ensures.value) (sym c.deref-2.ensures.value) own)
 
 pub returns : goal.returns
 returns g c =
@@ -38,7 +48,10 @@ returns g c =
     let said = rw c.in-Some.is at c.in_ok-said.ensures in
     ok_map c.change_said.result
     (λ change is host S held.
-    is_change c.args.inodes blocks c.requires.room.few c.args.places.now c.changes.result.now c.args.serial c.changes.ensures c.requires.there _ c.in_ok-file.file.name.items c.in_ok-file.file.content.items (change_of c.in-Some.said) refl c.in_ok-file.ensures.is
-    (read_same c.args.serial (change_of c.in-Some.said) c.deref.result.now c.in_ok-file.file.name.items c.deref-2.result.now c.in_ok-file.file.content.items c.deref.ensures.value c.deref-2.ensures.value said) host S held
+    is_change c.args.inodes blocks c.requires.room.few c.args.places.now c.changes.result.now c.args.serial c.changes.ensures
+    c.requires.there _ c.in_ok-file.file.name.items c.in_ok-file.file.content.items
+    (change_of c.in-Some.said) refl c.in_ok-file.ensures.is
+    (read_same c.args.serial (change_of c.in-Some.said) c.deref.result.now c.in_ok-file.file.name.items c.deref-2.result.now
+    c.in_ok-file.file.content.items c.deref.ensures.value c.deref-2.ensures.value said) host S held
     ∙ ap (λ (d : Change). Some d) (sym is))
     c.change_said.ensures

@@ -18,7 +18,8 @@ returns-then-is_full_for_article c =
     let s = c.args.self.now in
     let its : Change = Article c.args.text.now c.args.groups.now c.args.moment in
     let full : is_full_for (length s.blocks) s.inodes s.changes its ≡ true =
-    full_any_article (length s.blocks) s.inodes s.changes c.args.text.now c.args.groups.now c.args.moment ∙ sym c.is_full_for_article.ensures ∙ c.if-is_full_for_article.true in
+    full_any_article (length s.blocks) s.inodes s.changes c.args.text.now c.args.groups.now c.args.moment
+    ∙ sym c.is_full_for_article.ensures ∙ c.if-is_full_for_article.true in
     (inr (article_refused s its true full), refl)
 
 pub push_article-requires-clause-may : goal.push_article-requires-clause-may
@@ -29,7 +30,8 @@ push_article-requires-clause-may c =
 pub push_article-requires-clause-room : goal.push_article-requires-clause-room
 push_article-requires-clause-room c =
     let s = c.args.self.now in
-    full_any_article (length s.blocks) s.inodes s.changes c.in-Ok.article c.args.groups.now c.args.moment ∙ sym c.is_full_for_article.ensures ∙ c.if-is_full_for_article.false
+    full_any_article (length s.blocks) s.inodes s.changes c.in-Ok.article c.args.groups.now c.args.moment
+    ∙ sym c.is_full_for_article.ensures ∙ c.if-is_full_for_article.false
 
 pub unreachable-requires : goal.unreachable-requires
 unreachable-requires c = no_cause_there _ _ c.requires.carried (c.in-Err-Bad.ensures.bad c.in-Err-Bad.field-0-0 c.in-Err-Bad.field-0-is)
@@ -39,7 +41,8 @@ returns-in-Err-Memory c =
     let s = c.args.self.now in
     let its : Change = Article c.args.text.now c.args.groups.now c.args.moment in
     let room : is_full_for (length s.blocks) s.inodes s.changes its ≡ false =
-    full_any_article (length s.blocks) s.inodes s.changes c.args.text.now c.args.groups.now c.args.moment ∙ sym c.is_full_for_article.ensures ∙ c.if-is_full_for_article.false in
+    full_any_article (length s.blocks) s.inodes s.changes c.args.text.now c.args.groups.now c.args.moment
+    ∙ sym c.is_full_for_article.ensures ∙ c.if-is_full_for_article.false in
     (inl (refl, article_refused s its false room), refl)
 
 pub returns : goal.returns
@@ -47,7 +50,8 @@ returns c =
     let s = c.args.self.now in
     let its : Change = Article c.args.text.now c.args.groups.now c.args.moment in
     let room : is_full_for (length s.blocks) s.inodes s.changes its ≡ false =
-    full_any_article (length s.blocks) s.inodes s.changes c.args.text.now c.args.groups.now c.args.moment ∙ sym c.is_full_for_article.ensures ∙ c.if-is_full_for_article.false in
+    full_any_article (length s.blocks) s.inodes s.changes c.args.text.now c.args.groups.now c.args.moment
+    ∙ sym c.is_full_for_article.ensures ∙ c.if-is_full_for_article.false in
     (inl (refl, article_refused s its false room), c.in-Err.ensures.err)
 
 pub returns-in-Ok-push_article : goal.returns-in-Ok-push_article
@@ -56,6 +60,8 @@ returns-in-Ok-push_article c =
     let n = c.push_article.new.self in
     let its : Change = Article c.args.text.now c.args.groups.now c.args.moment in
     let room : is_full_for (length s.blocks) s.inodes s.changes its ≡ false =
-    full_any_article (length s.blocks) s.inodes s.changes c.args.text.now c.args.groups.now c.args.moment ∙ sym c.is_full_for_article.ensures ∙ c.if-is_full_for_article.false in
-    let adds : Adds s n its = subst (λ (t : List ℕ). Adds s n (Article t c.args.groups.now c.args.moment)) c.in-Ok.ensures.ok c.in-Ok-push_article.ensures.ok in
+    full_any_article (length s.blocks) s.inodes s.changes c.args.text.now c.args.groups.now c.args.moment
+    ∙ sym c.is_full_for_article.ensures ∙ c.if-is_full_for_article.false in
+    let adds : Adds s n its = subst (λ (t : List ℕ). Adds s n (Article t c.args.groups.now c.args.moment)) c.in-Ok.ensures.ok
+    c.in-Ok-push_article.ensures.ok in
     (article_refused s its false room, (last_serial s n its c.len.result adds c.len.ensures, adds))

@@ -12,13 +12,15 @@ returns-then-is_full_for_group c =
     let its : Change = Group c.args.name.now c.args.status c.args.description.now c.args.moment in
     let here : is_here s.changes c.args.name.now ≡ false = sym c.is_here.ensures ∙ c.if-is_here.false in
     let full : is_full_for (length s.blocks) s.inodes s.changes its ≡ true =
-    full_any (length s.blocks) s.inodes s.changes c.args.name.now c.args.status c.args.description.now c.args.moment ∙ sym c.is_full_for_group.ensures ∙ c.if-is_full_for_group.true in
+    full_any (length s.blocks) s.inodes s.changes c.args.name.now c.args.status c.args.description.now c.args.moment
+    ∙ sym c.is_full_for_group.ensures ∙ c.if-is_full_for_group.true in
     (inr (group_refused s c.args.name.now its false true here full), refl)
 
 pub push_group-requires-clause-room : goal.push_group-requires-clause-room
 push_group-requires-clause-room c =
     let s = c.args.self.now in
-    full_any (length s.blocks) s.inodes s.changes c.args.name.now c.args.status c.args.description.now c.args.moment ∙ sym c.is_full_for_group.ensures ∙ c.if-is_full_for_group.false
+    full_any (length s.blocks) s.inodes s.changes c.args.name.now c.args.status c.args.description.now c.args.moment
+    ∙ sym c.is_full_for_group.ensures ∙ c.if-is_full_for_group.false
 
 pub returns-in-Err : goal.returns-in-Err
 returns-in-Err c =
@@ -26,7 +28,8 @@ returns-in-Err c =
     let its : Change = Group c.args.name.now c.args.status c.args.description.now c.args.moment in
     let here : is_here s.changes c.args.name.now ≡ false = sym c.is_here.ensures ∙ c.if-is_here.false in
     let room : is_full_for (length s.blocks) s.inodes s.changes its ≡ false =
-    full_any (length s.blocks) s.inodes s.changes c.args.name.now c.args.status c.args.description.now c.args.moment ∙ sym c.is_full_for_group.ensures ∙ c.if-is_full_for_group.false in
+    full_any (length s.blocks) s.inodes s.changes c.args.name.now c.args.status c.args.description.now c.args.moment
+    ∙ sym c.is_full_for_group.ensures ∙ c.if-is_full_for_group.false in
     (inl (refl, group_refused s c.args.name.now its false false here room), c.in-Err.ensures.err)
 
 pub returns-in-Ok : goal.returns-in-Ok
@@ -36,5 +39,8 @@ returns-in-Ok c =
     let adds = c.in-Ok.ensures.ok in
     let here : is_here s.changes c.args.name.now ≡ false = sym c.is_here.ensures ∙ c.if-is_here.false in
     let room : is_full_for (length s.blocks) s.inodes s.changes its ≡ false =
-    full_any (length s.blocks) s.inodes s.changes c.args.name.now c.args.status c.args.description.now c.args.moment ∙ sym c.is_full_for_group.ensures ∙ c.if-is_full_for_group.false in
-    (group_refused s c.args.name.now its false false here room, (last_serial s c.push_group.new.self its c.len.result adds c.len.ensures, adds))
+    full_any (length s.blocks) s.inodes s.changes c.args.name.now c.args.status c.args.description.now c.args.moment
+    ∙ sym c.is_full_for_group.ensures ∙ c.if-is_full_for_group.false in (
+      group_refused s c.args.name.now its false false here room,
+      (last_serial s c.push_group.new.self its c.len.result adds c.len.ensures, adds),
+    )

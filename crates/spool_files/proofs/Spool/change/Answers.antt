@@ -33,5 +33,6 @@ returns c =
     let kept = c.self.invariant.0 in
     let held = subst (λ (bs : List Octets). Holds s.host s.inodes bs s.stands.changes) (sym kept.seen) kept.is.held in
     ok_map c.change.result
-    (λ change is. subst (λ (x : SpoolView). slice_get x.changes (c.args.serial - 1) ≡ Some change) c.self.view_is (is s.host s.stands.changes held))
+    (λ change is. subst (λ (x : SpoolView). slice_get x.changes (c.args.serial - 1) ≡ Some change) c.self.view_is
+    (is s.host s.stands.changes held))
     c.change.ensures

@@ -10,7 +10,8 @@ pub returns-then-lacks_room : goal.returns-then-lacks_room
 returns-then-lacks_room c =
     let s = c.args.self.now in
     let rest = list_any (one_large s.changes) c.args.groups.now in
-    c.if-lacks_room.true ∙ ap (λ (b : Bool). b || rest) (sym c.if-lacks_room.true ∙ c.lacks_room.ensures) ∙ sym (full_article (length s.blocks) s.inodes s.changes [] c.args.groups.now 0)
+    c.if-lacks_room.true ∙ ap (λ (b : Bool). b || rest) (sym c.if-lacks_room.true ∙ c.lacks_room.ensures)
+    ∙ sym (full_article (length s.blocks) s.inodes s.changes [] c.args.groups.now 0)
 
 pub returns-else-lacks_room : goal.returns-else-lacks_room
 returns-else-lacks_room c =
@@ -18,5 +19,7 @@ returns-else-lacks_room c =
     let inside = c.self.inside in
     let rest = list_any (one_large s.changes) c.args.groups.now in
     let here = subst (λ (x : SpoolView). AreHere x.changes c.args.groups.now) (sym c.self.view_is) c.requires in
-    let large = c.extends_large.ensures inside.stands.changes c.self.invariant.0.indexed here ∙ ap (λ (x : SpoolView). list_any (one_large x.changes) c.args.groups.now) c.self.view_is in
-    large ∙ ap (λ (b : Bool). b || rest) (sym c.if-lacks_room.false ∙ c.lacks_room.ensures) ∙ sym (full_article (length s.blocks) s.inodes s.changes [] c.args.groups.now 0)
+    let large = c.extends_large.ensures inside.stands.changes c.self.invariant.0.indexed here
+    ∙ ap (λ (x : SpoolView). list_any (one_large x.changes) c.args.groups.now) c.self.view_is in
+    large ∙ ap (λ (b : Bool). b || rest) (sym c.if-lacks_room.false ∙ c.lacks_room.ensures)
+    ∙ sym (full_article (length s.blocks) s.inodes s.changes [] c.args.groups.now 0)

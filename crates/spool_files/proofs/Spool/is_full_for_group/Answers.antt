@@ -11,7 +11,8 @@ pub returns-then-lacks_room : goal.returns-then-lacks_room
 returns-then-lacks_room c =
     let s = c.args.self.now in
     let rest = nat_le 4096 (length (groups s.changes)) in
-    c.if-lacks_room.true ∙ ap (λ (b : Bool). b || rest) (sym c.if-lacks_room.true ∙ c.lacks_room.ensures) ∙ sym (full_group (length s.blocks) s.inodes s.changes [] 0 [] 0)
+    c.if-lacks_room.true ∙ ap (λ (b : Bool). b || rest) (sym c.if-lacks_room.true ∙ c.lacks_room.ensures)
+    ∙ sym (full_group (length s.blocks) s.inodes s.changes [] 0 [] 0)
 
 pub returns-else-lacks_room : goal.returns-else-lacks_room
 returns-else-lacks_room c =
@@ -19,5 +20,7 @@ returns-else-lacks_room c =
     let rest = nat_le 4096 (length (groups s.changes)) in
     let list = c.groups.ensures.spool c.self.inside.stands.changes c.self.invariant.0.indexed in
     let count : length c.groups.result.now ≡ length (groups s.changes) =
-    sym (length-map c.groups.result.now shown) ∙ group_count c.self.inside.stands.changes (map shown c.groups.result.now) list ∙ ap (λ (x : SpoolView). length (groups x.changes)) c.self.view_is in
-    ap (λ (n : ℕ). nat_le 4096 n) count ∙ ap (λ (b : Bool). b || rest) (sym c.if-lacks_room.false ∙ c.lacks_room.ensures) ∙ sym (full_group (length s.blocks) s.inodes s.changes [] 0 [] 0)
+    sym (length-map c.groups.result.now shown) ∙ group_count c.self.inside.stands.changes (map shown c.groups.result.now) list
+    ∙ ap (λ (x : SpoolView). length (groups x.changes)) c.self.view_is in
+    ap (λ (n : ℕ). nat_le 4096 n) count ∙ ap (λ (b : Bool). b || rest) (sym c.if-lacks_room.false ∙ c.lacks_room.ensures)
+    ∙ sym (full_group (length s.blocks) s.inodes s.changes [] 0 [] 0)

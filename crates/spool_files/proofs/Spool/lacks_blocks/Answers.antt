@@ -11,4 +11,5 @@ returns c =
     let s = c.self.inside in
     let count : s.free.blocks ≡ free_blocks_beside (length s.volume.cache) s.inodes (files_of s.stands.changes) =
     c.self.invariant.2.count ∙ blocks_beside s.host s.inodes s.volume.cache s.stands.changes c.self.invariant.0.is in
-    subst (λ (x : SpoolView). nat_lt s.free.blocks 256 ≡ nat_lt (free_blocks_beside (length x.blocks) x.inodes (files_of x.changes)) 256) c.self.view_is (ap (λ (n : ℕ). nat_lt n 256) count)
+    subst (λ (x : SpoolView). nat_lt s.free.blocks 256 ≡ nat_lt (free_blocks_beside (length x.blocks) x.inodes (files_of x.changes)) 256)
+    c.self.view_is (ap (λ (n : ℕ). nat_lt n 256) count)

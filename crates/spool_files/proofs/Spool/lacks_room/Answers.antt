@@ -9,7 +9,8 @@ use Rattle.spool_files.proofs.Spool.lacks_room.Goals as goal
 pub returns-then-lacks_blocks : goal.returns-then-lacks_blocks
 returns-then-lacks_blocks c =
     let v = c.args.self.now in
-    or_true c.lacks_blocks.result (nat_lt (free_blocks_beside (length v.blocks) v.inodes (files_of v.changes)) 256) (nat_lt (free_inodes_beside v.inodes (files_of v.changes)) c.args.files)
+    or_true c.lacks_blocks.result (nat_lt (free_blocks_beside (length v.blocks) v.inodes (files_of v.changes)) 256)
+    (nat_lt (free_inodes_beside v.inodes (files_of v.changes)) c.args.files)
     c.lacks_blocks.ensures c.if-lacks_blocks.true
 
 pub returns-else-lacks_blocks : goal.returns-else-lacks_blocks
@@ -17,6 +18,8 @@ returns-else-lacks_blocks c =
     let s = c.self.inside in
     let v = c.args.self.now in
     let left : s.free_inodes ≡ free_inodes_beside v.inodes (files_of v.changes) =
-    subst (λ (x : SpoolView). s.free_inodes ≡ free_inodes_beside x.inodes (files_of x.changes)) c.self.view_is (omega (arith, c.self.invariant.1)) in
-    or_false c.lacks_blocks.result (nat_lt (free_blocks_beside (length v.blocks) v.inodes (files_of v.changes)) 256) (nat_lt (free_inodes_beside v.inodes (files_of v.changes)) c.args.files) (nat_lt s.free_inodes c.args.files)
+    subst (λ (x : SpoolView). s.free_inodes ≡ free_inodes_beside x.inodes (files_of x.changes)) c.self.view_is
+    (omega (arith, c.self.invariant.1)) in
+    or_false c.lacks_blocks.result (nat_lt (free_blocks_beside (length v.blocks) v.inodes (files_of v.changes)) 256)
+    (nat_lt (free_inodes_beside v.inodes (files_of v.changes)) c.args.files) (nat_lt s.free_inodes c.args.files)
     c.lacks_blocks.ensures c.if-lacks_blocks.false (ap (λ (n : ℕ). nat_lt n c.args.files) left)

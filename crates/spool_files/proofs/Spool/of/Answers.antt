@@ -5,14 +5,24 @@ use Rattle.spool_files.proofs.Held.{kept_stands, the_changes}
 use Rattle.spool_files.proofs.Spool.of.Goals as goal
 
 pub free_block_count-blocks-requires : goal.free_block_count-blocks-requires
-free_block_count-blocks-requires c = subst (λ (bs : List Octets). HasRoom c.args.inodes bs) (sym c.requires.kept.seen) c.requires.kept.is.room
+free_block_count-blocks-requires c =
+    subst (λ (bs : List Octets). HasRoom c.args.inodes bs) (sym c.requires.kept.seen) c.requires.kept.is.room
 
 pub invariant_of-result-2 : goal.invariant_of-result-2
 invariant_of-result-2 c =
     let its = c.requires in
-    let both = kept_stands c.args.host c.args.inodes c.args.volume c.args.index c.args.places c.args.free_inodes its.changes c.result-1.given.0 its.kept its.free_are in
-    (both.0, both.1, record { used = λ k less. omega (arith, less); none = λ b less low. absurd (omega (arith, less)); count = c.free_block_count-blocks.ensures ∙ ap free_blocks its.kept.seen })
+    let both = kept_stands c.args.host c.args.inodes c.args.volume c.args.index c.args.places c.args.free_inodes its.changes
+    c.result-1.given.0 its.kept its.free_are in (
+      both.0,
+      both.1,
+      record {
+        used = λ k less. omega (arith, less);
+        none = λ b less low. absurd (omega (arith, less));
+        count = c.free_block_count-blocks.ensures ∙ ap free_blocks its.kept.seen;
+      },
+    )
 
 pub returns-clause-changes : goal.returns-clause-changes
 returns-clause-changes c =
-    λ S held. the_changes c.args.host c.args.inodes c.args.volume.cache S (record { named = c.requires.kept.is.named; room = c.requires.kept.is.room; held = held }) c.result-1.given.0
+    λ S held. the_changes c.args.host c.args.inodes c.args.volume.cache S
+    (record { named = c.requires.kept.is.named; room = c.requires.kept.is.room; held = held }) c.result-1.given.0

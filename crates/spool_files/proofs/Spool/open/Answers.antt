@@ -21,9 +21,12 @@ moved format host other inodes blocks seen S same is held =
     subst (λ (p : Octets × List Octets). HoldsIn format p.0 inodes p.1 S) (λ i. (sym same i, sym is i)) held
 
 -- what was opened can stand
-stands : (host other : Octets) (inodes free : ℕ) (v : VolumeView) (x : IndexView) (p : FilePlaces) → IsTrue (is_host host) → other ≡ host → v.seen ≡ v.cache → HasRoom inodes v.cache → free ≡ free_inodes inodes v.seen → IsOpened other inodes v.seen x p → CanStand host inodes free v x p
+stands : (host other : Octets) (inodes free : ℕ) (v : VolumeView) (x : IndexView) (p : FilePlaces) → IsTrue (is_host host) → other ≡ host
+    → v.seen ≡ v.cache → HasRoom inodes v.cache → free ≡ free_inodes inodes v.seen → IsOpened other inodes v.seen x p
+    → CanStand host inodes free v x p
 stands host other inodes free v x p named same seen room free_is opened =
-    let held : Holds host inodes v.cache opened.changes = subst (λ (q : Octets × List Octets). Holds q.0 inodes q.1 opened.changes) (λ i. (same i, seen i)) opened.held in
+    let held : Holds host inodes v.cache opened.changes =
+    subst (λ (q : Octets × List Octets). Holds q.0 inodes q.1 opened.changes) (λ i. (same i, seen i)) opened.held in
     let count = subst (λ (b : List Octets). free ≡ free_inodes inodes b) seen free_is in
     record {
       changes = opened.changes;
@@ -33,7 +36,13 @@ stands host other inodes free v x p named same seen room free_is opened =
         indexed = opened.indexed;
         placed = subst (λ (b : List Octets). ArePlaces inodes b opened.changes p) seen opened.placed;
       };
-      free_are = omega (arith, count, used_and_free inodes v.cache room held.held.rule, files_as_many host inodes v.cache opened.changes held, files_counted opened.changes);
+      free_are = omega (
+        arith,
+        count,
+        used_and_free inodes v.cache room held.held.rule,
+        files_as_many host inodes v.cache opened.changes held,
+        files_counted opened.changes,
+      );
     }
 
 pub returns-in-Err-clause-damaged : goal.returns-in-Err-clause-damaged
@@ -43,4 +52,6 @@ returns-in-Err-clause-damaged c = λ e S held.
     c.as_slice.ensures c.requires.seen held)
 
 pub of-requires : goal.of-requires
-of-requires c = stands c.args.host c.as_slice.result.now c.args.inodes c.free_inode_count-free.result c.args.volume c.in-Ok.opened.index c.in-Ok.opened.places c.requires.named c.as_slice.ensures c.requires.seen c.requires.room c.free_inode_count-free.ensures c.in-Ok.ensures.ok
+of-requires c = stands c.args.host c.as_slice.result.now c.args.inodes c.free_inode_count-free.result c.args.volume c.in-Ok.opened.index
+    c.in-Ok.opened.places c.requires.named c.as_slice.ensures c.requires.seen c.requires.room c.free_inode_count-free.ensures
+    c.in-Ok.ensures.ok

@@ -10,7 +10,8 @@ pub returns-then-is_large_in : goal.returns-then-is_large_in
 returns-then-is_large_in c = λ S is here.
     let j = c.loop-name.name-index in
     let gs = c.args.groups.now in
-    let name : c.as_slice.result.now ≡ get_or gs j [] = name_here gs j c.name-item.result c.as_slice.result.now c.loop-name-test.true c.as_slice.ensures c.name-item.is in
+    let name : c.as_slice.result.now ≡ get_or gs j [] =
+    name_here gs j c.name-item.result c.as_slice.result.now c.loop-name-test.true c.as_slice.ensures c.name-item.is in
     let there = subst (λ (g : List ℕ). is_here S g ≡ true) (sym name) (here j c.loop-name-test.true) in
     let its = c.is_large_in.ensures S is there in
     sym (any_at (one_large S) gs j [] c.loop-name-test.true (ap (one_large S) (sym name) ∙ sym its ∙ c.if-is_large_in.true))
@@ -19,7 +20,8 @@ pub loop-name-preserved : goal.loop-name-preserved
 loop-name-preserved c = λ S is here.
     let j = c.loop-name.name-index in
     let gs = c.args.groups.now in
-    let name : c.as_slice.result.now ≡ get_or gs j [] = name_here gs j c.name-item.result c.as_slice.result.now c.loop-name-test.true c.as_slice.ensures c.name-item.is in
+    let name : c.as_slice.result.now ≡ get_or gs j [] =
+    name_here gs j c.name-item.result c.as_slice.result.now c.loop-name-test.true c.as_slice.ensures c.name-item.is in
     let there = subst (λ (g : List ℕ). is_here S g ≡ true) (sym name) (here j c.loop-name-test.true) in
     let its = c.is_large_in.ensures S is there in
     list_any_more (one_large S) gs j [] c.loop-name-test.true

@@ -4,4 +4,5 @@ use Rattle.spool_files.proofs.Large.{large_group}
 use Rattle.spool_files.proofs.room.is_large_in.Goals as goal
 
 pub returns-in-Some : goal.returns-in-Some
-returns-in-Some c = λ S is here. c.is_large.ensures ∙ large_group S c.args.name.now (shown c.in-Some.group.now) (c.in-Some.ensures.spool S is)
+returns-in-Some c = λ S is here. c.is_large.ensures
+    ∙ large_group S c.args.name.now (shown c.in-Some.group.now) (c.in-Some.ensures.spool S is)

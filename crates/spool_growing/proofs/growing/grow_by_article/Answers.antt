@@ -27,7 +27,11 @@ use Rattle.spool_growing.proofs.growing.grow_by_article.Goals as goal
 pub overflow_add-serial : goal.overflow_add-serial
 overflow_add-serial c =
     let ready = c.requires.ready in
-    omega (arith, c.len-serial.ensures ready.changes ready.kept.indexed, changes_are_few ready.host c.args.inodes c.args.volume.now.cache ready.changes ready.kept.is)
+    omega (
+      arith,
+      c.len-serial.ensures ready.changes ready.kept.indexed,
+      changes_are_few ready.host c.args.inodes c.args.volume.now.cache ready.changes ready.kept.is,
+    )
 
 pub record_of-requires-clause-text : goal.record_of-requires-clause-text
 record_of-requires-clause-text c = omega (arith, carried_size c.args.article.now c.requires.ready.may.carried)
@@ -41,16 +45,30 @@ pub record_of-requires-clause-names : goal.record_of-requires-clause-names
 record_of-requires-clause-names c = λ k d low.
     let ready = c.requires.ready in
     let g = get_or c.args.groups.now k d in
-    let here = filed_here ready.host ready.changes c.args.article.now c.args.groups.now c.args.moment g ready.may (k, low, get_or_default c.args.groups.now k g d low) in
+    let here = filed_here ready.host ready.changes c.args.article.now c.args.groups.now c.args.moment g ready.may (
+      k,
+      low,
+      get_or_default c.args.groups.now k g d low,
+    ) in
     omega (arith, here_is_short ready.host ready.changes g ready.kept.is.held.lawful here)
 
 pub file_article-requires-clause-short : goal.file_article-requires-clause-short
 file_article-requires-clause-short c =
     let ready = c.requires.ready in
     let serial : c.len-serial.result ≡ length ready.changes = c.len-serial.ensures ready.changes ready.kept.indexed in
-    let says : c.deref.result.now ≡ article_record (record { serial = length ready.changes + 1; text = c.args.article.now; groups = c.args.groups.now; moment = c.args.moment }) =
+    let says : c.deref.result.now ≡ article_record (record {
+      serial = length ready.changes + 1;
+      text = c.args.article.now;
+      groups = c.args.groups.now;
+      moment = c.args.moment;
+    }) =
     c.deref.ensures.value ∙ c.in_ok-octets.ensures
-    ∙ ap (λ (n : ℕ). article_record (record { serial = n + 1; text = c.args.article.now; groups = c.args.groups.now; moment = c.args.moment })) serial in
+    ∙ ap (λ (n : ℕ). article_record (record {
+      serial = n + 1;
+      text = c.args.article.now;
+      groups = c.args.groups.now;
+      moment = c.args.moment;
+    })) serial in
     let few = changes_ask_few ready.host ready.changes (Article c.args.article.now c.args.groups.now c.args.moment)
     (changes_are_few ready.host c.args.inodes c.args.volume.now.cache ready.changes ready.kept.is) ready.kept.is.held.lawful ready.may in
     omega (arith, ap (λ (o : Octets). length o) says, few.made)
@@ -60,19 +78,24 @@ file_article-requires-clause-lacks c =
     let ready = c.requires.ready in
     let serial : c.len-serial.result ≡ length ready.changes = c.len-serial.ensures ready.changes ready.kept.indexed in
     subst (λ (n : ℕ). ¬ (IsThere (table c.args.inodes c.args.volume.now.seen) (article_name (n + 1)))) (sym serial)
-    (subst (λ (bs : List Octets). ¬ (IsThere (table c.args.inodes bs) (article_name (length ready.changes + 1)))) (sym ready.kept.seen) (lacks_article ready.host c.args.inodes c.args.volume.now.cache ready.changes ready.kept.is))
+    (subst (λ (bs : List Octets). ¬ (IsThere (table c.args.inodes bs) (article_name (length ready.changes + 1)))) (sym ready.kept.seen)
+    (lacks_article ready.host c.args.inodes c.args.volume.now.cache ready.changes ready.kept.is))
 
 pub file_article-requires-clause-free : goal.file_article-requires-clause-free
 file_article-requires-clause-free c =
     let ready = c.requires.ready in
-    subst (λ (bs : List Octets). HasFree c.args.inodes 1 bs) (sym ready.kept.seen) (enough ready.host c.args.inodes c.args.volume.now.cache ready.changes ready.kept.is (Article c.args.article.now c.args.groups.now c.args.moment) ready.room)
+    subst (λ (bs : List Octets). HasFree c.args.inodes 1 bs) (sym ready.kept.seen)
+    (enough ready.host c.args.inodes c.args.volume.now.cache ready.changes ready.kept.is
+    (Article c.args.article.now c.args.groups.now c.args.moment) ready.room)
 
 pub file_article-requires-clause-grow : goal.file_article-requires-clause-grow
 file_article-requires-clause-grow c =
     let ready = c.requires.ready in
     let serial = ap (λ (n : ℕ). n + 1) (c.len-serial.ensures ready.changes ready.kept.indexed) in
-    let are = c.in_ok-lines.ensures.pieces ready.changes ready.kept.indexed serial c.args.inodes c.args.volume.now.cache ready.kept.placed in
-    let may = pieces_may_grow ready.host c.args.inodes c.args.volume.now.cache ready.changes c.args.article.now c.args.groups.now c.args.moment c.in_ok-lines.lines.pieces.items ready.kept.is ready.may ready.room are in
+    let are = c.in_ok-lines.ensures.pieces ready.changes ready.kept.indexed serial c.args.inodes c.args.volume.now.cache ready.kept.placed
+    in
+    let may = pieces_may_grow ready.host c.args.inodes c.args.volume.now.cache ready.changes c.args.article.now c.args.groups.now
+    c.args.moment c.in_ok-lines.lines.pieces.items ready.kept.is ready.may ready.room are in
     subst (λ (ps : List Piece). MayAllGrow c.args.inodes ps c.args.volume.now.seen) (sym c.deref-2.ensures.value)
     (subst (λ (bs : List Octets). MayAllGrow c.args.inodes c.in_ok-lines.lines.pieces.items bs) (sym ready.kept.seen) may)
 
@@ -80,18 +103,24 @@ pub file_article-requires-clause-few : goal.file_article-requires-clause-few
 file_article-requires-clause-few c =
     let ready = c.requires.ready in
     let serial = ap (λ (n : ℕ). n + 1) (c.len-serial.ensures ready.changes ready.kept.indexed) in
-    let are = c.in_ok-lines.ensures.pieces ready.changes ready.kept.indexed serial c.args.inodes c.args.volume.now.cache ready.kept.placed in
+    let are = c.in_ok-lines.ensures.pieces ready.changes ready.kept.indexed serial c.args.inodes c.args.volume.now.cache ready.kept.placed
+    in
     omega (
       arith,
       ap (λ (ps : List Piece). length ps) c.deref-2.ensures.value,
-      pieces_count (table c.args.inodes c.args.volume.now.cache) ready.changes c.args.article.now c.args.groups.now c.in_ok-lines.lines.pieces.items are,
+      pieces_count (table c.args.inodes c.args.volume.now.cache) ready.changes c.args.article.now c.args.groups.now
+          c.in_ok-lines.lines.pieces.items are,
       few_groups ready.host ready.changes c.args.article.now c.args.groups.now c.args.moment ready.may,
     )
 
 pub push_article-requires-clause-few : goal.push_article-requires-clause-few
 push_article-requires-clause-few c =
     let ready = c.requires.ready in
-    omega (arith, few_groups ready.host ready.changes c.args.article.now c.args.groups.now c.args.moment ready.may, ap (λ (gs : List Octets). length gs) c.in_ok-filed.ensures)
+    omega (
+      arith,
+      few_groups ready.host ready.changes c.args.article.now c.args.groups.now c.args.moment ready.may,
+      ap (λ (gs : List Octets). length gs) c.in_ok-filed.ensures,
+    )
 
 pub push_article-requires-clause-fits : goal.push_article-requires-clause-fits
 push_article-requires-clause-fits c =
@@ -121,21 +150,27 @@ returns-clause-grown c =
     c.apply.ensures.cache c.apply.ensures.seen c.in-Ok-push_change.ensures.ok
     (λ host S may kept.
     let serial = ap (λ (n : ℕ). n + 1) (c.len-serial.ensures S kept.indexed) in
-    let sizes : AreLineSizes S text groups c.deref-3.result.now = subst (λ (ns : List ℕ). AreLineSizes S text groups ns) (sym c.deref-3.ensures.value) (c.in_ok-lines.ensures.sizes S kept.indexed serial c.args.inodes v.cache kept.placed) in
+    let sizes : AreLineSizes S text groups c.deref-3.result.now =
+    subst (λ (ns : List ℕ). AreLineSizes S text groups ns) (sym c.deref-3.ensures.value)
+    (c.in_ok-lines.ensures.sizes S kept.indexed serial c.args.inodes v.cache kept.placed) in
     subst (λ (gs : List Octets). Indexes (S ++ Article text gs c.args.moment ∷ []) c.push_article.new.self) c.in_ok-filed.ensures
-    (c.in-Ok-push_article.ensures.ok host S text (subst (λ (gs : List Octets). MayFile host S text gs c.args.moment) (sym c.in_ok-filed.ensures) may) c.id_of.ensures (ap (λ (o : Octets). length o) c.text.ensures)
+    (c.in-Ok-push_article.ensures.ok host S text
+    (subst (λ (gs : List Octets). MayFile host S text gs c.args.moment) (sym c.in_ok-filed.ensures) may) c.id_of.ensures
+    (ap (λ (o : Octets). length o) c.text.ensures)
     (subst (λ (gs : List Octets). AreLineSizes S text gs c.deref-3.result.now) (sym c.in_ok-filed.ensures) sizes) kept.indexed))
     (λ S indexed. ap (λ (n : ℕ). n + 1) (c.len-serial.ensures S indexed)) (c.deref.ensures.value ∙ c.in_ok-octets.ensures)
     (λ host S kept.
     let serial = ap (λ (n : ℕ). n + 1) (c.len-serial.ensures S kept.indexed) in
-    subst (λ (ps : List Piece). ArePieces (table c.args.inodes v.cache) S text groups ps) (sym c.deref-2.ensures.value) (c.in_ok-lines.ensures.pieces S kept.indexed serial c.args.inodes v.cache kept.placed))
+    subst (λ (ps : List Piece). ArePieces (table c.args.inodes v.cache) S text groups ps) (sym c.deref-2.ensures.value)
+    (c.in_ok-lines.ensures.pieces S kept.indexed serial c.args.inodes v.cache kept.placed))
 
 pub file_article-requires-clause-known : goal.file_article-requires-clause-known
 file_article-requires-clause-known c =
     subst (λ (bs : List Octets). IsKnown c.args.inodes c.args.free bs) (sym c.requires.ready.kept.seen) c.requires.known
 
 pub seek_block-requires-clause-room : goal.seek_block-requires-clause-room
-seek_block-requires-clause-room c = subst (λ (bs : List Octets). HasRoom c.args.inodes bs) (sym c.apply.ensures.seen) c.in-Ok.ensures.filed.calls.room
+seek_block-requires-clause-room c =
+    subst (λ (bs : List Octets). HasRoom c.args.inodes bs) (sym c.apply.ensures.seen) c.in-Ok.ensures.filed.calls.room
 
 pub seek_block-requires-clause-known : goal.seek_block-requires-clause-known
 seek_block-requires-clause-known c =
@@ -143,4 +178,5 @@ seek_block-requires-clause-known c =
 
 pub returns-clause-known : goal.returns-clause-known
 returns-clause-known c =
-    subst (λ (bs : List Octets). IsKnown c.args.inodes c.seek_block.result bs) (c.apply.ensures.seen ∙ sym c.apply.ensures.cache) c.seek_block.ensures
+    subst (λ (bs : List Octets). IsKnown c.args.inodes c.seek_block.result bs) (c.apply.ensures.seen
+    ∙ sym c.apply.ensures.cache) c.seek_block.ensures

@@ -16,7 +16,11 @@ use Rattle.spool_growing.proofs.growing.grow_by_expiry.Goals as goal
 pub overflow_add-serial : goal.overflow_add-serial
 overflow_add-serial c =
     let ready = c.requires.ready in
-    omega (arith, c.len-serial.ensures ready.changes ready.kept.indexed, changes_are_few ready.host c.args.inodes c.args.volume.now.cache ready.changes ready.kept.is)
+    omega (
+      arith,
+      c.len-serial.ensures ready.changes ready.kept.indexed,
+      changes_are_few ready.host c.args.inodes c.args.volume.now.cache ready.changes ready.kept.is,
+    )
 
 pub expiry_record-requires : goal.expiry_record-requires
 expiry_record-requires c =
@@ -27,7 +31,11 @@ pub make_expiry-requires-clause-short : goal.make_expiry-requires-clause-short
 make_expiry-requires-clause-short c =
     let ready = c.requires.ready in
     let serial : c.len-serial.result ≡ length ready.changes = c.len-serial.ensures ready.changes ready.kept.indexed in
-    let says : c.deref.result.now ≡ expiry_record (record { serial = length ready.changes + 1; group = c.args.name.now; number = c.args.number }) =
+    let says : c.deref.result.now ≡ expiry_record (record {
+      serial = length ready.changes + 1;
+      group = c.args.name.now;
+      number = c.args.number;
+    }) =
     c.deref.ensures.value ∙ c.in_ok-record.ensures
     ∙ ap (λ (n : ℕ). expiry_record (record { serial = n + 1; group = c.args.name.now; number = c.args.number })) serial in
     let few = changes_ask_few ready.host ready.changes (Expire c.args.name.now c.args.number)
@@ -39,12 +47,15 @@ make_expiry-requires-clause-lacks c =
     let ready = c.requires.ready in
     let serial : c.len-serial.result ≡ length ready.changes = c.len-serial.ensures ready.changes ready.kept.indexed in
     subst (λ (n : ℕ). ¬ (IsThere (table c.args.inodes c.args.volume.now.seen) (expiry_name (n + 1)))) (sym serial)
-    (subst (λ (bs : List Octets). ¬ (IsThere (table c.args.inodes bs) (expiry_name (length ready.changes + 1)))) (sym ready.kept.seen) (lacks_expiry ready.host c.args.inodes c.args.volume.now.cache ready.changes ready.kept.is))
+    (subst (λ (bs : List Octets). ¬ (IsThere (table c.args.inodes bs) (expiry_name (length ready.changes + 1)))) (sym ready.kept.seen)
+    (lacks_expiry ready.host c.args.inodes c.args.volume.now.cache ready.changes ready.kept.is))
 
 pub make_expiry-requires-clause-free : goal.make_expiry-requires-clause-free
 make_expiry-requires-clause-free c =
     let ready = c.requires.ready in
-    subst (λ (bs : List Octets). HasFree c.args.inodes 1 bs) (sym ready.kept.seen) (enough ready.host c.args.inodes c.args.volume.now.cache ready.changes ready.kept.is (Expire c.args.name.now c.args.number) ready.room)
+    subst (λ (bs : List Octets). HasFree c.args.inodes 1 bs) (sym ready.kept.seen)
+    (enough ready.host c.args.inodes c.args.volume.now.cache ready.changes ready.kept.is
+    (Expire c.args.name.now c.args.number) ready.room)
 
 pub returns-clause-grown : goal.returns-clause-grown
 returns-clause-grown c =
@@ -54,8 +65,11 @@ returns-clause-grown c =
     let w = c.apply.new.self in
     expiry_grown c.args.inodes v m w c.args.index.now c.push_expiry.new.self c.args.places.now c.push_change.new.self
     c.args.name.now c.args.number c.in-Ok.at (c.len-serial.result + 1) c.deref.result.now
-    ready.kept.seen c.in-Ok.ensures.made (applied_dirties v m w ready.kept.seen c.in-Ok.ensures.kept c.in-Ok.ensures.made.calls.count c.in-Ok.ensures.touches c.apply.ensures.cache c.apply.ensures.dirty c.apply.ensures.distinct)
-    c.apply.ensures.cache c.apply.ensures.seen c.in-Ok-push_change.ensures.ok (λ S may indexed. c.in-Ok-push_expiry.ensures.ok ready.host S may indexed)
+    ready.kept.seen c.in-Ok.ensures.made
+    (applied_dirties v m w ready.kept.seen c.in-Ok.ensures.kept c.in-Ok.ensures.made.calls.count c.in-Ok.ensures.touches
+    c.apply.ensures.cache c.apply.ensures.dirty c.apply.ensures.distinct)
+    c.apply.ensures.cache c.apply.ensures.seen c.in-Ok-push_change.ensures.ok
+    (λ S may indexed. c.in-Ok-push_expiry.ensures.ok ready.host S may indexed)
     (λ S indexed. ap (λ (n : ℕ). n + 1) (c.len-serial.ensures S indexed)) (c.deref.ensures.value ∙ c.in_ok-record.ensures)
 
 pub make_expiry-requires-clause-known : goal.make_expiry-requires-clause-known
@@ -63,7 +77,8 @@ make_expiry-requires-clause-known c =
     subst (λ (bs : List Octets). IsKnown c.args.inodes c.args.free bs) (sym c.requires.ready.kept.seen) c.requires.known
 
 pub seek_block-requires-clause-room : goal.seek_block-requires-clause-room
-seek_block-requires-clause-room c = subst (λ (bs : List Octets). HasRoom c.args.inodes bs) (sym c.apply.ensures.seen) c.in-Ok.ensures.made.calls.room
+seek_block-requires-clause-room c =
+    subst (λ (bs : List Octets). HasRoom c.args.inodes bs) (sym c.apply.ensures.seen) c.in-Ok.ensures.made.calls.room
 
 pub seek_block-requires-clause-known : goal.seek_block-requires-clause-known
 seek_block-requires-clause-known c =
@@ -71,4 +86,5 @@ seek_block-requires-clause-known c =
 
 pub returns-clause-known : goal.returns-clause-known
 returns-clause-known c =
-    subst (λ (bs : List Octets). IsKnown c.args.inodes c.seek_block.result bs) (c.apply.ensures.seen ∙ sym c.apply.ensures.cache) c.seek_block.ensures
+    subst (λ (bs : List Octets). IsKnown c.args.inodes c.seek_block.result bs) (c.apply.ensures.seen
+    ∙ sym c.apply.ensures.cache) c.seek_block.ensures

@@ -13,15 +13,31 @@ use Rattle.spool_growing.proofs.growing.grow_by_group.Goals as goal
 pub overflow_add-serial : goal.overflow_add-serial
 overflow_add-serial c =
     let ready = c.requires.ready in
-    omega (arith, c.len-serial.ensures ready.changes ready.kept.indexed, changes_are_few ready.host c.args.inodes c.args.volume.now.cache ready.changes ready.kept.is)
+    omega (
+      arith,
+      c.len-serial.ensures ready.changes ready.kept.indexed,
+      changes_are_few ready.host c.args.inodes c.args.volume.now.cache ready.changes ready.kept.is,
+    )
 
 pub make_group-requires-clause-short : goal.make_group-requires-clause-short
 make_group-requires-clause-short c =
     let ready = c.requires.ready in
     let serial : c.len-serial.result ≡ length ready.changes = c.len-serial.ensures ready.changes ready.kept.indexed in
-    let says : c.deref.result.now ≡ group_record (record { serial = length ready.changes + 1; name = c.args.name.now; status = c.args.status; description = c.args.description.now; moment = c.args.moment }) =
+    let says : c.deref.result.now ≡ group_record (record {
+      serial = length ready.changes + 1;
+      name = c.args.name.now;
+      status = c.args.status;
+      description = c.args.description.now;
+      moment = c.args.moment;
+    }) =
     c.deref.ensures.value ∙ c.in_ok-record.ensures c.args.name.now
-    ∙ ap (λ (n : ℕ). group_record (record { serial = n + 1; name = c.args.name.now; status = c.args.status; description = c.args.description.now; moment = c.args.moment })) serial in
+    ∙ ap (λ (n : ℕ). group_record (record {
+      serial = n + 1;
+      name = c.args.name.now;
+      status = c.args.status;
+      description = c.args.description.now;
+      moment = c.args.moment;
+    })) serial in
     let few = changes_ask_few ready.host ready.changes (Group c.args.name.now c.args.status c.args.description.now c.args.moment)
     (changes_are_few ready.host c.args.inodes c.args.volume.now.cache ready.changes ready.kept.is) ready.kept.is.held.lawful ready.may in
     omega (arith, ap (λ (o : Octets). length o) says, few.made)
@@ -29,12 +45,15 @@ make_group-requires-clause-short c =
 pub make_group-requires-clause-lacks : goal.make_group-requires-clause-lacks
 make_group-requires-clause-lacks c =
     let ready = c.requires.ready in
-    subst (λ (bs : List Octets). LacksGroup c.args.inodes bs c.args.name.now) (sym ready.kept.seen) (lacks_group ready.host c.args.inodes c.args.volume.now.cache ready.changes c.args.name.now ready.kept.is ready.may.new)
+    subst (λ (bs : List Octets). LacksGroup c.args.inodes bs c.args.name.now) (sym ready.kept.seen)
+    (lacks_group ready.host c.args.inodes c.args.volume.now.cache ready.changes c.args.name.now ready.kept.is ready.may.new)
 
 pub make_group-requires-clause-free : goal.make_group-requires-clause-free
 make_group-requires-clause-free c =
     let ready = c.requires.ready in
-    subst (λ (bs : List Octets). HasFree c.args.inodes 3 bs) (sym ready.kept.seen) (enough ready.host c.args.inodes c.args.volume.now.cache ready.changes ready.kept.is (Group c.args.name.now c.args.status c.args.description.now c.args.moment) ready.room)
+    subst (λ (bs : List Octets). HasFree c.args.inodes 3 bs) (sym ready.kept.seen)
+    (enough ready.host c.args.inodes c.args.volume.now.cache ready.changes ready.kept.is
+    (Group c.args.name.now c.args.status c.args.description.now c.args.moment) ready.room)
 
 pub push_group-requires-2 : goal.push_group-requires-2
 push_group-requires-2 c =
@@ -50,17 +69,26 @@ returns-clause-grown c =
     let at = c.in-Ok.made in
     group_grown c.args.inodes v m w c.args.index.now c.push_group-2.new.self c.args.places.now c.push_group.new.self
     c.args.name.now c.args.status c.args.description.now c.args.moment at.at at.numbers at.overview c.deref.result.now
-    ready.kept.seen c.in-Ok.ensures.made (applied_dirties v m w ready.kept.seen c.in-Ok.ensures.kept c.in-Ok.ensures.made.calls.count c.in-Ok.ensures.touches c.apply.ensures.cache c.apply.ensures.dirty c.apply.ensures.distinct)
+    ready.kept.seen c.in-Ok.ensures.made
+    (applied_dirties v m w ready.kept.seen c.in-Ok.ensures.kept c.in-Ok.ensures.made.calls.count c.in-Ok.ensures.touches
+    c.apply.ensures.cache c.apply.ensures.dirty c.apply.ensures.distinct)
     c.apply.ensures.cache c.apply.ensures.seen c.in-Ok-push_group.ensures.ok c.in-Ok-push_group-2.ensures.ok
     (λ S indexed. c.deref.ensures.value ∙ c.in_ok-record.ensures c.args.name.now
-    ∙ ap (λ (n : ℕ). group_record (record { serial = n + 1; name = c.args.name.now; status = c.args.status; description = c.args.description.now; moment = c.args.moment })) (c.len-serial.ensures S indexed))
+    ∙ ap (λ (n : ℕ). group_record (record {
+      serial = n + 1;
+      name = c.args.name.now;
+      status = c.args.status;
+      description = c.args.description.now;
+      moment = c.args.moment;
+    })) (c.len-serial.ensures S indexed))
 
 pub make_group-requires-clause-known : goal.make_group-requires-clause-known
 make_group-requires-clause-known c =
     subst (λ (bs : List Octets). IsKnown c.args.inodes c.args.free bs) (sym c.requires.ready.kept.seen) c.requires.known
 
 pub seek_block-requires-clause-room : goal.seek_block-requires-clause-room
-seek_block-requires-clause-room c = subst (λ (bs : List Octets). HasRoom c.args.inodes bs) (sym c.apply.ensures.seen) c.in-Ok.ensures.made.calls.room
+seek_block-requires-clause-room c =
+    subst (λ (bs : List Octets). HasRoom c.args.inodes bs) (sym c.apply.ensures.seen) c.in-Ok.ensures.made.calls.room
 
 pub seek_block-requires-clause-known : goal.seek_block-requires-clause-known
 seek_block-requires-clause-known c =
@@ -68,7 +96,8 @@ seek_block-requires-clause-known c =
 
 pub returns-clause-known : goal.returns-clause-known
 returns-clause-known c =
-    subst (λ (bs : List Octets). IsKnown c.args.inodes c.seek_block.result bs) (c.apply.ensures.seen ∙ sym c.apply.ensures.cache) c.seek_block.ensures
+    subst (λ (bs : List Octets). IsKnown c.args.inodes c.seek_block.result bs) (c.apply.ensures.seen
+    ∙ sym c.apply.ensures.cache) c.seek_block.ensures
 
 pub returns-in_default-push_group-2-clause-places : goal.returns-in_default-push_group-2-clause-places
 returns-in_default-push_group-2-clause-places c = search rules

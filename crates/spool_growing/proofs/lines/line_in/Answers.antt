@@ -7,118 +7,183 @@ use Rattle.model.specs.Indexed.{GroupIndex, group_index}
 use Rattle.model.specs.Spool.{group_named, groups}
 use Rattle.model.specs.SpoolFiles.{number_record}
 use Rattle.index.specs.Shown.{shown}
-use Rattle.spool_growing.proofs.Adding.{are_its_pieces, at_place, filed_here, groups_few, is_at, kept_at, never_absent, numbers_at, overview_at, same_count, short_end, short_line}
+use Rattle.spool_growing.proofs.Adding.{are_its_pieces, at_place, filed_here, groups_few, is_at, kept_at, never_absent, numbers_at}
+use Rattle.spool_growing.proofs.Adding.{overview_at, same_count, short_end, short_line}
 use Rattle.spool_growing.proofs.Held.{changes_are_few}
 use Rattle.spool_growing.proofs.lines.line_in.Goals as goal
 
 pub unreachable-requires : goal.unreachable-requires
 unreachable-requires c =
     let can = c.requires.can in
-    never_absent can.changes c.args.name.now c.place.result (c.place.ensures.spool can.changes can.indexed) (filed_here can.host can.changes c.args.article.now c.requires.filed can.moment c.args.name.now can.may c.requires.has) c.in_default.is
+    never_absent can.changes c.args.name.now c.place.result (c.place.ensures.spool can.changes can.indexed)
+    (filed_here can.host can.changes c.args.article.now c.requires.filed can.moment c.args.name.now can.may c.requires.has)
+    c.in_default.is
 
 pub offset_bounds-groups-place : goal.offset_bounds-groups-place
 offset_bounds-groups-place c =
     let can = c.requires.can in
-    let same : slice_get (groups can.changes) c.in-Some.place ≡ group_named can.changes c.args.name.now = c.in-Some.ensures.spool can.changes can.indexed in
+    let same : slice_get (groups can.changes) c.in-Some.place ≡ group_named can.changes c.args.name.now =
+    c.in-Some.ensures.spool can.changes can.indexed in
     let here = filed_here can.host can.changes c.args.article.now c.requires.filed can.moment c.args.name.now can.may c.requires.has in
-    omega (arith, at_place can.changes c.args.name.now c.in-Some.place same here, groups_few can.changes, changes_are_few can.host can.inodes can.blocks can.changes can.is)
+    omega (
+      arith,
+      at_place can.changes c.args.name.now c.in-Some.place same here,
+      groups_few can.changes,
+      changes_are_few can.host can.inodes can.blocks can.changes can.is,
+    )
 
 pub bounds-groups-place : goal.bounds-groups-place
 bounds-groups-place c =
     let can = c.requires.can in
-    let same : slice_get (groups can.changes) c.in-Some.place ≡ group_named can.changes c.args.name.now = c.in-Some.ensures.spool can.changes can.indexed in
+    let same : slice_get (groups can.changes) c.in-Some.place ≡ group_named can.changes c.args.name.now =
+    c.in-Some.ensures.spool can.changes can.indexed in
     let here = filed_here can.host can.changes c.args.article.now c.requires.filed can.moment c.args.name.now can.may c.requires.has in
-    omega (arith, at_place can.changes c.args.name.now c.in-Some.place same here, ap (λ (l : List GroupIndex). length l) (c.groups.ensures.spool can.changes can.indexed), length-map c.groups.result.now shown, length-map (groups can.changes) (group_index can.changes))
+    omega (
+      arith,
+      at_place can.changes c.args.name.now c.in-Some.place same here,
+      ap (λ (l : List GroupIndex). length l) (c.groups.ensures.spool can.changes can.indexed),
+      length-map c.groups.result.now shown,
+      length-map (groups can.changes) (group_index can.changes),
+    )
 
 pub overflow_cast-overview_size : goal.overflow_cast-overview_size
 overflow_cast-overview_size c =
     let can = c.requires.can in
-    let same : slice_get (groups can.changes) c.in-Some.place ≡ group_named can.changes c.args.name.now = c.in-Some.ensures.spool can.changes can.indexed in
+    let same : slice_get (groups can.changes) c.in-Some.place ≡ group_named can.changes c.args.name.now =
+    c.in-Some.ensures.spool can.changes can.indexed in
     let here = filed_here can.host can.changes c.args.article.now c.requires.filed can.moment c.args.name.now can.may c.requires.has in
     let low = at_place can.changes c.args.name.now c.in-Some.place same here in
     let its = is_at can.changes c.args.name.now c.in-Some.place low same in
     let kept = c.groups.ensures.spool can.changes can.indexed in
-    let size : length c.groups.result.now ≡ length (groups can.changes) = sym (length-map c.groups.result.now shown) ∙ ap (λ (l : List GroupIndex). length l) kept ∙ length-map (groups can.changes) (group_index can.changes) in
-    let read = slice_get_read c.groups.result.now (length (groups can.changes)) c.in-Some.place c.index-groups-place.result (sym size) low c.index-groups-place.is in
+    let size : length c.groups.result.now ≡ length (groups can.changes) = sym (length-map c.groups.result.now shown)
+    ∙ ap (λ (l : List GroupIndex). length l) kept ∙ length-map (groups can.changes) (group_index can.changes) in
+    let read = slice_get_read c.groups.result.now (length (groups can.changes)) c.in-Some.place c.index-groups-place.result
+    (sym size) low c.index-groups-place.is in
     let is = kept_at shown c.groups.result.now can.changes c.args.name.now c.in-Some.place c.index-groups-place.result its kept read in
-    omega (arith, c.overview_size.ensures, short_end c.args.index.now c.args.places.now c.args.article.now c.requires.filed can c.args.name.now c.in-Some.place its (shown c.index-groups-place.result) is)
+    omega (
+      arith,
+      c.overview_size.ensures,
+      short_end c.args.index.now c.args.places.now c.args.article.now c.requires.filed can c.args.name.now c.in-Some.place its
+          (shown c.index-groups-place.result) is,
+    )
 
 pub returns-clause-short : goal.returns-clause-short
 returns-clause-short c =
     let can = c.requires.can in
-    let same : slice_get (groups can.changes) c.in-Some.place ≡ group_named can.changes c.args.name.now = c.in-Some.ensures.spool can.changes can.indexed in
+    let same : slice_get (groups can.changes) c.in-Some.place ≡ group_named can.changes c.args.name.now =
+    c.in-Some.ensures.spool can.changes can.indexed in
     let here = filed_here can.host can.changes c.args.article.now c.requires.filed can.moment c.args.name.now can.may c.requires.has in
     let low = at_place can.changes c.args.name.now c.in-Some.place same here in
     let its = is_at can.changes c.args.name.now c.in-Some.place low same in
     let kept = c.groups.ensures.spool can.changes can.indexed in
-    let size : length c.groups.result.now ≡ length (groups can.changes) = sym (length-map c.groups.result.now shown) ∙ ap (λ (l : List GroupIndex). length l) kept ∙ length-map (groups can.changes) (group_index can.changes) in
-    let read = slice_get_read c.groups.result.now (length (groups can.changes)) c.in-Some.place c.index-groups-place.result (sym size) low c.index-groups-place.is in
+    let size : length c.groups.result.now ≡ length (groups can.changes) = sym (length-map c.groups.result.now shown)
+    ∙ ap (λ (l : List GroupIndex). length l) kept ∙ length-map (groups can.changes) (group_index can.changes) in
+    let read = slice_get_read c.groups.result.now (length (groups can.changes)) c.in-Some.place c.index-groups-place.result
+    (sym size) low c.index-groups-place.is in
     let is = kept_at shown c.groups.result.now can.changes c.args.name.now c.in-Some.place c.index-groups-place.result its kept read in
-    short_line c.args.index.now c.args.places.now c.args.article.now c.requires.filed can c.args.name.now c.in-Some.place its (shown c.index-groups-place.result) c.in_ok-line.line.items is
+    short_line c.args.index.now c.args.places.now c.args.article.now c.requires.filed can c.args.name.now c.in-Some.place its
+    (shown c.index-groups-place.result) c.in_ok-line.line.items is
     (c.in_ok-line.ensures ∙ ap (λ (n : ℕ). overview_line (n + 1) c.args.article.now) c.high.ensures)
 
 pub number_record-record-requires : goal.number_record-record-requires
 number_record-record-requires c =
     let can = c.requires.can in
-    let same : slice_get (groups can.changes) c.in-Some.place ≡ group_named can.changes c.args.name.now = c.in-Some.ensures.spool can.changes can.indexed in
+    let same : slice_get (groups can.changes) c.in-Some.place ≡ group_named can.changes c.args.name.now =
+    c.in-Some.ensures.spool can.changes can.indexed in
     let here = filed_here can.host can.changes c.args.article.now c.requires.filed can.moment c.args.name.now can.may c.requires.has in
     let low = at_place can.changes c.args.name.now c.in-Some.place same here in
     let its = is_at can.changes c.args.name.now c.in-Some.place low same in
     let kept = c.groups.ensures.spool can.changes can.indexed in
-    let size : length c.groups.result.now ≡ length (groups can.changes) = sym (length-map c.groups.result.now shown) ∙ ap (λ (l : List GroupIndex). length l) kept ∙ length-map (groups can.changes) (group_index can.changes) in
-    let read = slice_get_read c.groups.result.now (length (groups can.changes)) c.in-Some.place c.index-groups-place.result (sym size) low c.index-groups-place.is in
+    let size : length c.groups.result.now ≡ length (groups can.changes) = sym (length-map c.groups.result.now shown)
+    ∙ ap (λ (l : List GroupIndex). length l) kept ∙ length-map (groups can.changes) (group_index can.changes) in
+    let read = slice_get_read c.groups.result.now (length (groups can.changes)) c.in-Some.place c.index-groups-place.result
+    (sym size) low c.index-groups-place.is in
     let is = kept_at shown c.groups.result.now can.changes c.args.name.now c.in-Some.place c.index-groups-place.result its kept read in
     omega (
       arith,
       ap (λ (l : List ℕ). length l) c.deref.ensures.value,
-      short_line c.args.index.now c.args.places.now c.args.article.now c.requires.filed can c.args.name.now c.in-Some.place its (shown c.index-groups-place.result) c.in_ok-line.line.items is
+      short_line c.args.index.now c.args.places.now c.args.article.now c.requires.filed can c.args.name.now c.in-Some.place its
+          (shown c.index-groups-place.result) c.in_ok-line.line.items is
           (c.in_ok-line.ensures ∙ ap (λ (n : ℕ). overview_line (n + 1) c.args.article.now) c.high.ensures),
     )
 
 pub offset_bounds-numbers-place : goal.offset_bounds-numbers-place
 offset_bounds-numbers-place c =
     let can = c.requires.can in
-    let same : slice_get (groups can.changes) c.in-Some.place ≡ group_named can.changes c.args.name.now = c.in-Some.ensures.spool can.changes can.indexed in
+    let same : slice_get (groups can.changes) c.in-Some.place ≡ group_named can.changes c.args.name.now =
+    c.in-Some.ensures.spool can.changes can.indexed in
     let here = filed_here can.host can.changes c.args.article.now c.requires.filed can.moment c.args.name.now can.may c.requires.has in
-    omega (arith, at_place can.changes c.args.name.now c.in-Some.place same here, groups_few can.changes, changes_are_few can.host can.inodes can.blocks can.changes can.is)
+    omega (
+      arith,
+      at_place can.changes c.args.name.now c.in-Some.place same here,
+      groups_few can.changes,
+      changes_are_few can.host can.inodes can.blocks can.changes can.is,
+    )
 
 pub bounds-numbers-place : goal.bounds-numbers-place
 bounds-numbers-place c =
     let can = c.requires.can in
-    let same : slice_get (groups can.changes) c.in-Some.place ≡ group_named can.changes c.args.name.now = c.in-Some.ensures.spool can.changes can.indexed in
+    let same : slice_get (groups can.changes) c.in-Some.place ≡ group_named can.changes c.args.name.now =
+    c.in-Some.ensures.spool can.changes can.indexed in
     let here = filed_here can.host can.changes c.args.article.now c.requires.filed can.moment c.args.name.now can.may c.requires.has in
     let its = is_at can.changes c.args.name.now c.in-Some.place (at_place can.changes c.args.name.now c.in-Some.place same here) same in
-    omega (arith, (numbers_at can.inodes can.blocks can.changes c.args.places.now c.args.name.now c.in-Some.place its can.placed).0, ap (λ (l : List ℕ). length l) c.numbers.ensures)
+    omega (
+      arith,
+      (numbers_at can.inodes can.blocks can.changes c.args.places.now c.args.name.now c.in-Some.place its can.placed).0,
+      ap (λ (l : List ℕ). length l) c.numbers.ensures,
+    )
 
 pub offset_bounds-overviews-place : goal.offset_bounds-overviews-place
 offset_bounds-overviews-place c =
     let can = c.requires.can in
-    let same : slice_get (groups can.changes) c.in-Some.place ≡ group_named can.changes c.args.name.now = c.in-Some.ensures.spool can.changes can.indexed in
+    let same : slice_get (groups can.changes) c.in-Some.place ≡ group_named can.changes c.args.name.now =
+    c.in-Some.ensures.spool can.changes can.indexed in
     let here = filed_here can.host can.changes c.args.article.now c.requires.filed can.moment c.args.name.now can.may c.requires.has in
-    omega (arith, at_place can.changes c.args.name.now c.in-Some.place same here, groups_few can.changes, changes_are_few can.host can.inodes can.blocks can.changes can.is)
+    omega (
+      arith,
+      at_place can.changes c.args.name.now c.in-Some.place same here,
+      groups_few can.changes,
+      changes_are_few can.host can.inodes can.blocks can.changes can.is,
+    )
 
 pub bounds-overviews-place : goal.bounds-overviews-place
 bounds-overviews-place c =
     let can = c.requires.can in
-    let same : slice_get (groups can.changes) c.in-Some.place ≡ group_named can.changes c.args.name.now = c.in-Some.ensures.spool can.changes can.indexed in
+    let same : slice_get (groups can.changes) c.in-Some.place ≡ group_named can.changes c.args.name.now =
+    c.in-Some.ensures.spool can.changes can.indexed in
     let here = filed_here can.host can.changes c.args.article.now c.requires.filed can.moment c.args.name.now can.may c.requires.has in
     let its = is_at can.changes c.args.name.now c.in-Some.place (at_place can.changes c.args.name.now c.in-Some.place same here) same in
-    omega (arith, (overview_at can.inodes can.blocks can.changes c.args.places.now c.args.name.now c.in-Some.place its can.placed).0, ap (λ (l : List ℕ). length l) c.overviews.ensures)
+    omega (
+      arith,
+      (overview_at can.inodes can.blocks can.changes c.args.places.now c.args.name.now c.in-Some.place its can.placed).0,
+      ap (λ (l : List ℕ). length l) c.overviews.ensures,
+    )
 
 pub returns-clause-pieces : goal.returns-clause-pieces
 returns-clause-pieces c = λ S indexed count inodes blocks placed.
     let can = c.requires.can in
-    let first : slice_get (groups can.changes) c.in-Some.place ≡ group_named can.changes c.args.name.now = c.in-Some.ensures.spool can.changes can.indexed in
+    let first : slice_get (groups can.changes) c.in-Some.place ≡ group_named can.changes c.args.name.now =
+    c.in-Some.ensures.spool can.changes can.indexed in
     let here = filed_here can.host can.changes c.args.article.now c.requires.filed can.moment c.args.name.now can.may c.requires.has in
-    let low : c.in-Some.place < length (groups S) = omega (arith, at_place can.changes c.args.name.now c.in-Some.place first here, same_count can.changes S c.args.index.now can.indexed indexed) in
+    let low : c.in-Some.place < length (groups S) =
+    omega (
+      arith,
+      at_place can.changes c.args.name.now c.in-Some.place first here,
+      same_count can.changes S c.args.index.now can.indexed indexed,
+    ) in
     let same : slice_get (groups S) c.in-Some.place ≡ group_named S c.args.name.now = c.in-Some.ensures.spool S indexed in
     let its = is_at S c.args.name.now c.in-Some.place low same in
     let kept = c.groups.ensures.spool S indexed in
-    let size : length c.groups.result.now ≡ length (groups S) = sym (length-map c.groups.result.now shown) ∙ ap (λ (l : List GroupIndex). length l) kept ∙ length-map (groups S) (group_index S) in
-    let read = slice_get_read c.groups.result.now (length (groups S)) c.in-Some.place c.index-groups-place.result (sym size) low c.index-groups-place.is in
+    let size : length c.groups.result.now ≡ length (groups S) = sym (length-map c.groups.result.now shown)
+    ∙ ap (λ (l : List GroupIndex). length l) kept ∙ length-map (groups S) (group_index S) in
+    let read = slice_get_read c.groups.result.now (length (groups S)) c.in-Some.place c.index-groups-place.result
+    (sym size) low c.index-groups-place.is in
     let is = kept_at shown c.groups.result.now S c.args.name.now c.in-Some.place c.index-groups-place.result its kept read in
     let i = shown c.index-groups-place.result in
-    are_its_pieces inodes blocks S c.args.places.now c.args.article.now c.args.name.now c.in-Some.place c.args.serial its i _ _ placed is count
-    (ap (λ (l : List ℕ). get_or l c.in-Some.place 0) c.numbers.ensures) (ap (λ (l : List ℕ). get_or l c.in-Some.place 0) c.overviews.ensures)
-    (c.in_ok-from_slice.ensures.items ∙ c.number_record-record.ensures ∙ (λ j. number_record c.args.serial (c.overview_size.ensures j) (c.deref.ensures.value j)))
+    are_its_pieces inodes blocks S c.args.places.now c.args.article.now c.args.name.now c.in-Some.place c.args.serial its i _ _ placed is
+    count
+    (ap (λ (l : List ℕ). get_or l c.in-Some.place 0) c.numbers.ensures)
+    (ap (λ (l : List ℕ). get_or l c.in-Some.place 0) c.overviews.ensures)
+    (c.in_ok-from_slice.ensures.items ∙ c.number_record-record.ensures
+    ∙ (λ j. number_record c.args.serial (c.overview_size.ensures j) (c.deref.ensures.value j)))
     (c.in_ok-line.ensures ∙ ap (λ (n : ℕ). overview_line (n + 1) c.args.article.now) c.high.ensures)

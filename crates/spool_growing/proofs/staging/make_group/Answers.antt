@@ -10,14 +10,21 @@ use Rattle.spool_growing.proofs.staging.make_group.Goals as goal
 
 pub create_file-requires-clause-few : goal.create_file-requires-clause-few
 create_file-requires-clause-few g c =
-    omega (arith, one_file_more c.args.inodes c.in_ok-at.at _ _ (g.B.Blocks.blocks c.args.blocks.now) (g.B.Blocks.blocks c.make_file.new.blocks) c.in_ok-at.ensures.made, c.requires.free.inodes_free)
+    omega (
+      arith,
+      one_file_more c.args.inodes c.in_ok-at.at _ _ (g.B.Blocks.blocks c.args.blocks.now)
+          (g.B.Blocks.blocks c.make_file.new.blocks) c.in_ok-at.ensures.made,
+      c.requires.free.inodes_free,
+    )
 
 pub create_file-requires-2-clause-few : goal.create_file-requires-2-clause-few
 create_file-requires-2-clause-few g c =
     omega (
       arith,
-      one_file_more c.args.inodes c.in_ok-at.at _ _ (g.B.Blocks.blocks c.args.blocks.now) (g.B.Blocks.blocks c.make_file.new.blocks) c.in_ok-at.ensures.made,
-      one_empty_more c.args.inodes c.in_ok-numbers.numbers _ (g.B.Blocks.blocks c.make_file.new.blocks) (g.B.Blocks.blocks c.create_file.new.blocks) c.in_ok-numbers.ensures.created,
+      one_file_more c.args.inodes c.in_ok-at.at _ _ (g.B.Blocks.blocks c.args.blocks.now)
+          (g.B.Blocks.blocks c.make_file.new.blocks) c.in_ok-at.ensures.made,
+      one_empty_more c.args.inodes c.in_ok-numbers.numbers _ (g.B.Blocks.blocks c.make_file.new.blocks)
+          (g.B.Blocks.blocks c.create_file.new.blocks) c.in_ok-numbers.ensures.created,
       c.requires.free.inodes_free,
     )
 
@@ -43,4 +50,5 @@ returns-clause-touches g c =
     let e = g.B.Blocks.blocks c.create_file-2.new.blocks in
     let reached = 2 + touched_by_growth 0 (length c.args.record.now) in
     touches_more (reached + (2 + 2)) 254 a e (omega (arith, few_reached (length c.args.record.now) c.requires.short))
-    (touches_then reached (2 + 2) a b e c.in_ok-at.ensures.touches (touches_then 2 2 b d e c.in_ok-numbers.ensures.touches c.in_ok-overview.ensures.touches))
+    (touches_then reached (2 + 2) a b e c.in_ok-at.ensures.touches
+    (touches_then 2 2 b d e c.in_ok-numbers.ensures.touches c.in_ok-overview.ensures.touches))

@@ -11,6 +11,8 @@ pub returns : goal.returns
 returns g c = λ S is.
     let blocks = g.B.Blocks.blocks c.args.blocks.now in
     let used = used_and_free c.args.inodes blocks c.requires.room c.requires.rule in
-    let made : length c.groups.result.now ≡ length (groups S) = sym (length-map c.groups.result.now shown) ∙ ap (λ (l : List GroupIndex). length l) (c.groups.ensures.spool S is) ∙ length-map (groups S) (group_index S) in
-    count_used c.free_inode_count-free.result c.len.result (length c.groups.result.now) c.args.inodes (length (files_in (table c.args.inodes blocks))) (length S) (length (groups S))
+    let made : length c.groups.result.now ≡ length (groups S) = sym (length-map c.groups.result.now shown)
+    ∙ ap (λ (l : List GroupIndex). length l) (c.groups.ensures.spool S is) ∙ length-map (groups S) (group_index S) in
+    count_used c.free_inode_count-free.result c.len.result (length c.groups.result.now) c.args.inodes
+    (length (files_in (table c.args.inodes blocks))) (length S) (length (groups S))
     (ap (λ n. n + length (files_in (table c.args.inodes blocks))) c.free_inode_count-free.ensures ∙ used) (c.len.ensures S is) made

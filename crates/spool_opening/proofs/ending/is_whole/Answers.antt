@@ -7,8 +7,12 @@ use Rattle.spool_opening.proofs.ending.is_whole.Goals as goal
 
 pub returns-then-names_change : goal.returns-then-names_change
 returns-then-names_change g c = λ S is.
-    let its = named_file_is _ c.in-Some.name.items (rw c.in-Some.is at c.in_ok-name.ensures) in
-    (λ yes. whole_change (table c.args.inodes (g.B.Blocks.blocks c.args.blocks.now)) S c.args.at its.file its.there (change_by_name its.file c.as_slice-octets.result.now _ (its.named ∙ sym c.as_slice-octets.ensures.value) c.names_change.ensures ∙ c.if-names_change.true), λ whole. refl)
+    let its = named_file_is _ c.in-Some.name.items (rw c.in-Some.is at c.in_ok-name.ensures) in (
+      λ yes. whole_change (table c.args.inodes (g.B.Blocks.blocks c.args.blocks.now)) S c.args.at its.file its.there
+          (change_by_name its.file c.as_slice-octets.result.now _ (its.named ∙ sym c.as_slice-octets.ensures.value) c.names_change.ensures
+          ∙ c.if-names_change.true),
+      λ whole. refl,
+    )
 
 pub returns-in_default-size_by_name : goal.returns-in_default-size_by_name
 returns-in_default-size_by_name g c = λ S is.
@@ -16,7 +20,9 @@ returns-in_default-size_by_name g c = λ S is.
     let named = its.named ∙ sym c.as_slice-octets.ensures.value in
     let other = change_by_name its.file c.as_slice-octets.result.now _ named c.names_change.ensures ∙ c.if-names_change.false in (
       λ yes. absurd (true≢false (sym yes)),
-      λ whole. absurd (c.in_default-size_by_name.ensures S is _ (named_whole (table c.args.inodes (g.B.Blocks.blocks c.args.blocks.now)) S c.args.at its.file c.as_slice-octets.result.now its.there named other whole)),
+      λ whole. absurd (c.in_default-size_by_name.ensures S is _
+          (named_whole (table c.args.inodes (g.B.Blocks.blocks c.args.blocks.now)) S c.args.at its.file c.as_slice-octets.result.now
+          its.there named other whole)),
     )
 
 pub returns : goal.returns

@@ -14,6 +14,8 @@ invariant-loop-name g l = record {
   count : length l.sizes.items ≡ l.name-index;
   small : All (λ n. n < 2 ^ 32) l.sizes.items;
   pieces : (S : Spool) → Indexes S l.index → l.serial ≡ length S + 1 → AreHere S l.here → (k : ℕ) (w : Which) → k < l.name-index
-      → HasPiece (table l.inodes (g.B.Blocks.blocks l.blocks)) (name_for w (get_or l.here k [])) (length (file_for w S (get_or l.here k []))) (piece_for w S l.article (get_or l.here k []));
-  sizes : (S : Spool) → Indexes S l.index → l.serial ≡ length S + 1 → AreHere S l.here → (k : ℕ) → k < l.name-index → get_or l.sizes.items k 0 ≡ length (next_line S l.article (get_or l.here k []));
+      → HasPiece (table l.inodes (g.B.Blocks.blocks l.blocks)) (name_for w (get_or l.here k []))
+      (length (file_for w S (get_or l.here k []))) (piece_for w S l.article (get_or l.here k []));
+  sizes : (S : Spool) → Indexes S l.index → l.serial ≡ length S + 1 → AreHere S l.here → (k : ℕ) → k < l.name-index
+      → get_or l.sizes.items k 0 ≡ length (next_line S l.article (get_or l.here k []));
 }

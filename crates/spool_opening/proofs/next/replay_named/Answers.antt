@@ -6,12 +6,14 @@ use Rattle.spool_opening.proofs.next.replay_named.Goals as goal
 
 pub returns-in_default-clause-damaged : goal.returns-in_default-clause-damaged
 returns-in_default-clause-damaged c = λ e host inodes blocks R S sorted replayed held next.
-    group_named_there host inodes blocks R S c.args.files.now.slots.items c.args.files.now.named Numbers c.args.name.now c.deref.result.now c.args.status c.args.description.now c.args.moment sorted held next
+    group_named_there host inodes blocks R S c.args.files.now.slots.items c.args.files.now.named Numbers c.args.name.now c.deref.result.now
+    c.args.status c.args.description.now c.args.moment sorted held next
     (c.deref.ensures.value ∙ c.in_ok-numbers.ensures) c.in_default.ensures
 
 pub returns-in_default-get-clause-damaged : goal.returns-in_default-get-clause-damaged
 returns-in_default-get-clause-damaged c = λ e host inodes blocks R S sorted replayed held next.
-    group_named_there host inodes blocks R S c.args.files.now.slots.items c.args.files.now.named Overview c.args.name.now c.deref-2.result.now c.args.status c.args.description.now c.args.moment sorted held next
+    group_named_there host inodes blocks R S c.args.files.now.slots.items c.args.files.now.named Overview c.args.name.now
+    c.deref-2.result.now c.args.status c.args.description.now c.args.moment sorted held next
     (c.deref-2.ensures.value ∙ c.in_ok-overview.ensures) c.in_default-get.ensures
 
 pub returns-clause-ok : goal.returns-clause-ok
@@ -19,6 +21,8 @@ returns-clause-ok c =
     ok_map c.replay_group.result
     (λ goes host inodes blocks R sorted replayed its.
     goes host inodes blocks R replayed its
-    (named_at inodes blocks Numbers c.args.name.now c.deref.result.now c.in-Some.first (c.deref.ensures.value ∙ c.in_ok-numbers.ensures) (sorted.from c.deref.result.now c.in-Some.first (sym c.in-Some.ensures)))
-    (named_at inodes blocks Overview c.args.name.now c.deref-2.result.now c.in-Some-get.second (c.deref-2.ensures.value ∙ c.in_ok-overview.ensures) (sorted.from c.deref-2.result.now c.in-Some-get.second (sym c.in-Some-get.ensures))))
+    (named_at inodes blocks Numbers c.args.name.now c.deref.result.now c.in-Some.first (c.deref.ensures.value ∙ c.in_ok-numbers.ensures)
+    (sorted.from c.deref.result.now c.in-Some.first (sym c.in-Some.ensures)))
+    (named_at inodes blocks Overview c.args.name.now c.deref-2.result.now c.in-Some-get.second (c.deref-2.ensures.value
+    ∙ c.in_ok-overview.ensures) (sorted.from c.deref-2.result.now c.in-Some-get.second (sym c.in-Some-get.ensures))))
     c.replay_group.ensures.ok

@@ -9,12 +9,15 @@ use Rattle.spool_opening.proofs.next.replay_said.Goals as goal
 
 pub returns-in-Group-clause-ok : goal.returns-in-Group-clause-ok
 returns-in-Group-clause-ok g c =
-    rw c.in-Group.is (ok_map c.replay_named.result (λ goes R replayed its. goes c.args.host.now c.args.inodes (g.B.Blocks.blocks c.args.blocks.now) R c.requires.sorted replayed its) c.replay_named.ensures.ok)
+    rw c.in-Group.is (ok_map c.replay_named.result
+    (λ goes R replayed its. goes c.args.host.now c.args.inodes (g.B.Blocks.blocks c.args.blocks.now) R c.requires.sorted replayed its)
+    c.replay_named.ensures.ok)
 
 pub returns-in-Group-clause-damaged : goal.returns-in-Group-clause-damaged
 returns-in-Group-clause-damaged g c =
     rw c.in-Group.is
-    (err_map c.replay_named.result (λ e none is R S replayed held next. none is c.args.host.now c.args.inodes (g.B.Blocks.blocks c.args.blocks.now) R S c.requires.sorted replayed held next) c.replay_named.ensures.damaged)
+    (err_map c.replay_named.result (λ e none is R S replayed held next. none is c.args.host.now c.args.inodes
+    (g.B.Blocks.blocks c.args.blocks.now) R S c.requires.sorted replayed held next) c.replay_named.ensures.damaged)
 
 pub returns-in-Article-clause-damaged : goal.returns-in-Article-clause-damaged
 returns-in-Article-clause-damaged g c =
@@ -23,10 +26,15 @@ returns-in-Article-clause-damaged g c =
     rw c.in-Article.is
     (err_map c.replay_article.result
     (λ e none is R S replayed held next.
-    none is R replayed.indexed (subst (λ (l : List (List ℕ)). MayFile c.args.host.now R c.in-Article.text.now l c.in-Article.moment) (sym names) next.may)
-    (subst (λ (l : List (List ℕ)). AllGoOn (table c.args.inodes (g.B.Blocks.blocks c.args.blocks.now)) R c.in-Article.text.now l) (sym names) (all_go_on c.args.host.now c.args.inodes (g.B.Blocks.blocks c.args.blocks.now) R S c.in-Article.text.now gs c.in-Article.moment held next)))
+    none is R replayed.indexed (subst (λ (l : List (List ℕ)). MayFile c.args.host.now R c.in-Article.text.now l c.in-Article.moment)
+    (sym names) next.may)
+    (subst (λ (l : List (List ℕ)). AllGoOn (table c.args.inodes (g.B.Blocks.blocks c.args.blocks.now)) R c.in-Article.text.now l)
+    (sym names) (all_go_on c.args.host.now c.args.inodes (g.B.Blocks.blocks c.args.blocks.now) R S c.in-Article.text.now gs
+    c.in-Article.moment held next)))
     c.replay_article.ensures.damaged)
 
 pub returns-in-Expiry-clause-ok : goal.returns-in-Expiry-clause-ok
 returns-in-Expiry-clause-ok g c =
-    rw c.in-Expiry.is (ok_map c.replay_expiry.result (λ goes R replayed its. goes c.args.host.now c.args.inodes (g.B.Blocks.blocks c.args.blocks.now) R replayed its) c.replay_expiry.ensures.ok)
+    rw c.in-Expiry.is (ok_map c.replay_expiry.result
+    (λ goes R replayed its. goes c.args.host.now c.args.inodes (g.B.Blocks.blocks c.args.blocks.now) R replayed its)
+    c.replay_expiry.ensures.ok)

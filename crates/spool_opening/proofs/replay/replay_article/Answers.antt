@@ -4,26 +4,33 @@ use Rattle.model.specs.Files.{table}
 use Rattle.model.specs.Lawful.{MayFile}
 use Rattle.model.specs.declared.change.Change.TheVariants.{Article}
 use Rattle.index.specs.View.{Indexes}
-use Rattle.spool_opening.proofs.Filed.{all_of_text, article_replayed, bounded, ends_below, few_groups, filed_are, filed_here, may_of_text, no_cause_there, same_groups, sizes_of_text}
+use Rattle.spool_opening.proofs.Filed.{all_of_text, article_replayed, bounded, ends_below, few_groups, filed_are, filed_here, may_of_text}
+use Rattle.spool_opening.proofs.Filed.{no_cause_there, same_groups, sizes_of_text}
 use Rattle.spool_opening.proofs.replay.replay_article.Goals as goal
 
 pub returns-in-Err-Bad-clause-damaged : goal.returns-in-Err-Bad-clause-damaged
-returns-in-Err-Bad-clause-damaged g c = λ e S is may all. no_cause_there _ _ may.carried (c.in-Err-Bad.ensures.bad c.in-Err-Bad.field-0-0 c.in-Err-Bad.field-0-is)
+returns-in-Err-Bad-clause-damaged g c =
+    λ e S is may all. no_cause_there _ _ may.carried (c.in-Err-Bad.ensures.bad c.in-Err-Bad.field-0-0 c.in-Err-Bad.field-0-is)
 
 pub line_sizes-requires-clause-bounded : goal.line_sizes-requires-clause-bounded
 line_sizes-requires-clause-bounded g c =
     let its = c.requires.replayed in
-    bounded c.args.host.now c.args.inodes (g.B.Blocks.blocks c.args.blocks.now) c.args.replay.now.index c.args.replay.now.places its.changes c.requires.room c.requires.rule its.replayed (omega (arith, its.few))
+    bounded c.args.host.now c.args.inodes (g.B.Blocks.blocks c.args.blocks.now) c.args.replay.now.index c.args.replay.now.places its.changes
+    c.requires.room c.requires.rule its.replayed (omega (arith, its.few))
 
 pub returns-in_default-clause-damaged : goal.returns-in_default-clause-damaged
 returns-in_default-clause-damaged g c = λ e S is may all.
     let gs = map (λ g'. g'.now) c.args.groups.now in
     let text : c.in-Ok.article ≡ c.args.text.now = c.in-Ok.ensures.ok in
-    let filed = filed_are S c.in-Ok.article c.in_ok-names.names.items c.as_slice-listed.result.now c.in_ok-here.here.items c.as_slice-filed.result.now c.in_ok-names.ensures c.as_slice-listed.ensures.value (c.in_ok-here.ensures S is) c.as_slice-filed.ensures.value in
-    let same = same_groups c.args.host.now S c.in-Ok.article gs c.as_slice-filed.result.now c.args.moment filed (may_of_text c.args.host.now S c.args.text.now c.in-Ok.article gs c.args.moment (sym text) may) in
+    let filed = filed_are S c.in-Ok.article c.in_ok-names.names.items c.as_slice-listed.result.now c.in_ok-here.here.items
+    c.as_slice-filed.result.now c.in_ok-names.ensures c.as_slice-listed.ensures.value
+    (c.in_ok-here.ensures S is) c.as_slice-filed.ensures.value in
+    let same = same_groups c.args.host.now S c.in-Ok.article gs c.as_slice-filed.result.now c.args.moment filed
+    (may_of_text c.args.host.now S c.args.text.now c.in-Ok.article gs c.args.moment (sym text) may) in
     let none = rw c.in_default.is at c.in_ok-sizes.ensures.lines in
     none S is (ap (λ (n : ℕ). n + 1) (c.len-count.ensures S is)) (filed_here S c.in-Ok.article c.as_slice-filed.result.now filed)
-    (all_of_text (table c.args.inodes (g.B.Blocks.blocks c.args.blocks.now)) S c.args.text.now c.in-Ok.article gs c.as_slice-filed.result.now (sym text) (sym same) all)
+    (all_of_text (table c.args.inodes (g.B.Blocks.blocks c.args.blocks.now)) S c.args.text.now c.in-Ok.article gs
+    c.as_slice-filed.result.now (sym text) (sym same) all)
 
 pub push_article-requires-clause-few : goal.push_article-requires-clause-few
 push_article-requires-clause-few g c =
@@ -31,15 +38,23 @@ push_article-requires-clause-few g c =
     let S = its.changes in
     let is = its.replayed.indexed in
     let gs = map (λ g'. g'.now) c.args.groups.now in
-    let filed = filed_are S c.in-Ok.article c.in_ok-names.names.items c.as_slice-listed.result.now c.in_ok-here.here.items c.as_slice-filed.result.now c.in_ok-names.ensures c.as_slice-listed.ensures.value (c.in_ok-here.ensures S is) c.as_slice-filed.ensures.value in
+    let filed = filed_are S c.in-Ok.article c.in_ok-names.names.items c.as_slice-listed.result.now c.in_ok-here.here.items
+    c.as_slice-filed.result.now c.in_ok-names.ensures c.as_slice-listed.ensures.value
+    (c.in_ok-here.ensures S is) c.as_slice-filed.ensures.value in
     let may = (c.in_ok-may.ensures S is filed (ap (λ (n : ℕ). n + 1) (c.len-count.ensures S is))).0 c.if-not-may.false in
     let same = same_groups c.args.host.now S c.in-Ok.article gs c.as_slice-filed.result.now c.args.moment filed may in
-    omega (arith, few_groups c.args.host.now S c.in-Ok.article gs c.args.moment may, ap (λ (l : List (List ℕ)). length l) (c.new.ensures ∙ sym c.as_slice-filed.ensures.value ∙ same))
+    omega (
+      arith,
+      few_groups c.args.host.now S c.in-Ok.article gs c.args.moment may,
+      ap (λ (l : List (List ℕ)). length l) (c.new.ensures ∙ sym c.as_slice-filed.ensures.value ∙ same),
+    )
 
 pub push_article-requires-clause-fits : goal.push_article-requires-clause-fits
 push_article-requires-clause-fits g c =
     let its = c.requires.replayed in
-    ends_below c.args.replay.now.index (bounded c.args.host.now c.args.inodes (g.B.Blocks.blocks c.args.blocks.now) c.args.replay.now.index c.args.replay.now.places its.changes c.requires.room c.requires.rule its.replayed (omega (arith, its.few)))
+    ends_below c.args.replay.now.index
+    (bounded c.args.host.now c.args.inodes (g.B.Blocks.blocks c.args.blocks.now) c.args.replay.now.index c.args.replay.now.places
+    its.changes c.requires.room c.requires.rule its.replayed (omega (arith, its.few)))
 
 pub returns-clause-ok : goal.returns-clause-ok
 returns-clause-ok g c = λ R replayed its.
@@ -48,16 +63,22 @@ returns-clause-ok g c = λ R replayed its.
     let gs = map (λ g'. g'.now) c.args.groups.now in
     let text : c.in-Ok.article ≡ c.args.text.now = c.in-Ok.ensures.ok in
     let serial = ap (λ (n : ℕ). n + 1) (c.len-count.ensures R is) in
-    let filed = filed_are R c.in-Ok.article c.in_ok-names.names.items c.as_slice-listed.result.now c.in_ok-here.here.items c.as_slice-filed.result.now c.in_ok-names.ensures c.as_slice-listed.ensures.value (c.in_ok-here.ensures R is) c.as_slice-filed.ensures.value in
+    let filed = filed_are R c.in-Ok.article c.in_ok-names.names.items c.as_slice-listed.result.now c.in_ok-here.here.items
+    c.as_slice-filed.result.now c.in_ok-names.ensures c.as_slice-listed.ensures.value
+    (c.in_ok-here.ensures R is) c.as_slice-filed.ensures.value in
     let may = (c.in_ok-may.ensures R is filed serial).0 c.if-not-may.false in
     let same = same_groups c.args.host.now R c.in-Ok.article gs c.as_slice-filed.result.now c.args.moment filed may in
     let may_text = may_of_text c.args.host.now R c.in-Ok.article c.args.text.now gs c.args.moment text may in
     let lines = rw c.in-Some.is at c.in_ok-sizes.ensures.lines in
     let both = lines R is serial (filed_here R c.in-Ok.article c.as_slice-filed.result.now filed) in
     let names : c.new.result ≡ gs = c.new.ensures ∙ sym c.as_slice-filed.ensures.value ∙ same in
-    let indexed = c.in_ok-push_article.ensures.ok c.args.host.now R c.args.text.now (subst (λ (l : List (List ℕ)). MayFile c.args.host.now R c.args.text.now l c.args.moment) (sym names) may_text) (c.id_of-id.ensures ∙ ap id text) refl
-    (sizes_of_text R c.in-Ok.article c.args.text.now c.as_slice-filed.result.now c.new.result c.in-Some.sizes.items c.as_slice-lengths.result.now text (same ∙ sym names) c.as_slice-lengths.ensures.value both.1) is in
-    article_replayed c.args.host.now c.args.inodes blocks R c.args.replay.now.index c.push_article.new.self c.args.replay.now.places c.push_change.new.self c.args.at c.args.text.now gs c.args.moment c.requires.rule replayed its may_text
+    let indexed = c.in_ok-push_article.ensures.ok c.args.host.now R c.args.text.now
+    (subst (λ (l : List (List ℕ)). MayFile c.args.host.now R c.args.text.now l c.args.moment) (sym names) may_text) (c.id_of-id.ensures
+    ∙ ap id text) refl
+    (sizes_of_text R c.in-Ok.article c.args.text.now c.as_slice-filed.result.now c.new.result c.in-Some.sizes.items
+    c.as_slice-lengths.result.now text (same ∙ sym names) c.as_slice-lengths.ensures.value both.1) is in
+    article_replayed c.args.host.now c.args.inodes blocks R c.args.replay.now.index c.push_article.new.self c.args.replay.now.places
+    c.push_change.new.self c.args.at c.args.text.now gs c.args.moment c.requires.rule replayed its may_text
     (all_of_text (table c.args.inodes blocks) R c.in-Ok.article c.args.text.now c.as_slice-filed.result.now gs text same both.0)
     (subst (λ (l : List (List ℕ)). Indexes (R ++ Article c.args.text.now l c.args.moment ∷ []) c.push_article.new.self) names indexed)
     c.in_ok-push_change.ensures.ok

@@ -5,10 +5,13 @@ use Rattle.spool_opening.proofs.replay.replay_group.Goals as goal
 pub push_group-requires : goal.push_group-requires
 push_group-requires c =
     let its = c.requires.replayed in
-    not_headed c.requires.changes _ c.args.name.now its.indexed ((c.may_make.ensures c.requires.changes its.indexed).0 c.if-not-may_make.false).new
+    not_headed c.requires.changes _ c.args.name.now its.indexed
+    ((c.may_make.ensures c.requires.changes its.indexed).0 c.if-not-may_make.false).new
 
 pub returns-clause-ok : goal.returns-clause-ok
 returns-clause-ok c = λ host inodes blocks R replayed its numbered shown.
-    let may : MayMake R c.args.name.now c.args.status c.args.description.now c.args.moment = (c.may_make.ensures R replayed.indexed).0 c.if-not-may_make.false in
-    group_replayed host inodes blocks R _ _ _ _ c.args.at c.args.numbers c.args.overview c.args.name.now c.args.status c.args.description.now c.args.moment replayed its may numbered shown
+    let may : MayMake R c.args.name.now c.args.status c.args.description.now c.args.moment =
+    (c.may_make.ensures R replayed.indexed).0 c.if-not-may_make.false in
+    group_replayed host inodes blocks R _ _ _ _ c.args.at c.args.numbers c.args.overview c.args.name.now c.args.status
+    c.args.description.now c.args.moment replayed its may numbered shown
     (c.in_ok-push_group.ensures.ok host R replayed.read.lawful may replayed.indexed) c.in_ok-push_group-2.ensures.ok

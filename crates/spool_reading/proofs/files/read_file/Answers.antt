@@ -4,7 +4,8 @@ use Rattle.spool_reading.proofs.files.read_file.Goals as goal
 
 pub read_entry-requires : goal.read_entry-requires
 read_entry-requires g c =
-    let its = named_file c.args.inodes (g.B.Blocks.blocks c.args.blocks.now) c.args.at c.requires.there.0 c.requires.rule c.requires.there.1 in
+    let its = named_file c.args.inodes (g.B.Blocks.blocks c.args.blocks.now) c.args.at c.requires.there.0 c.requires.rule c.requires.there.1
+    in
     record { room = c.requires.room; rule = c.requires.rule; below = its.below; file = its.file }
 
 pub returns : goal.returns

@@ -5,4 +5,5 @@ use Rattle.spool_texts.proofs.articles.push_article.Goals as goal
 
 pub returns : goal.returns
 returns g c =
-    on_ok_weaker c.push_stuffed.result (λ is S indexed placed. is ∙ ap (λ (l : List ℕ). c.args.reply.now.items ++ stuffed l) (c.place_of-text.ensures.text S indexed placed)) c.push_stuffed.ensures
+    on_ok_weaker c.push_stuffed.result (λ is S indexed placed. is
+    ∙ ap (λ (l : List ℕ). c.args.reply.now.items ++ stuffed l) (c.place_of-text.ensures.text S indexed placed)) c.push_stuffed.ensures

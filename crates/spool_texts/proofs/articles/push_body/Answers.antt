@@ -13,8 +13,11 @@ returns g c =
     let blocks = g.B.Blocks.blocks c.args.blocks.now in
     let text = c.place_of-text.result in
     let n = c.header_length.result in
-    let its = c.in_ok-front.ensures.header n (subst (λ (o : List ℕ). IsHeader o c.header_length.result) c.deref.ensures.value c.header_length.ensures) in
+    let its = c.in_ok-front.ensures.header n
+    (subst (λ (o : List ℕ). IsHeader o c.header_length.result) c.deref.ensures.value c.header_length.ensures) in
     let skipped : c.min-skipped.result ≡ min c.place_of-text.result.size (c.header_length.result + 2) = omega arith in
-    let is = body_stands text.from text.size c.min-skipped.result n (content_of blocks (entry c.args.inodes blocks text.inode)) c.place_of-text.ensures.size skipped its in
+    let is = body_stands text.from text.size c.min-skipped.result n (content_of blocks (entry c.args.inodes blocks text.inode))
+    c.place_of-text.ensures.size skipped its in
     on_ok_weaker c.push_stuffed.result (λ sent S indexed placed.
-    sent ∙ ap (λ (l : List ℕ). c.args.reply.now.items ++ stuffed l) (is ∙ ap body (c.place_of-text.ensures.text S indexed placed))) c.push_stuffed.ensures
+    sent ∙ ap (λ (l : List ℕ). c.args.reply.now.items ++ stuffed l) (is ∙ ap body (c.place_of-text.ensures.text S indexed placed)))
+    c.push_stuffed.ensures

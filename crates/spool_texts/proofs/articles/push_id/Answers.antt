@@ -9,7 +9,9 @@ pub returns : goal.returns
 returns g c =
     let of_front = c.in_ok-header.ensures ∙ ap fields c.deref.ensures.value in
     let of_text = ap fields_of_lines c.in_ok-front.ensures.lines in
-    let is = c.id.ensures ∙ ap (λ (h : List (List ℕ)). unwrap_or (option_map id_in_field (find (is_named (codes "Message-ID")) h)) []) (of_front ∙ of_text) in
+    let is = c.id.ensures ∙ ap (λ (h : List (List ℕ)). unwrap_or (option_map id_in_field (find (is_named (codes "Message-ID")) h)) [])
+    (of_front ∙ of_text) in
     on_ok_weaker c.extend_from_slice.result (λ sent S indexed placed.
     sent ∙ ap (λ (l : List ℕ). c.args.reply.now.items ++ l) (is ∙ ap id (c.place_of-text.ensures.text S indexed placed)))
-    (appended c.extend_from_slice.result c.args.reply.now.items c.id.result.now c.extend_from_slice.new.self.items c.extend_from_slice.ensures.items)
+    (appended c.extend_from_slice.result c.args.reply.now.items c.id.result.now c.extend_from_slice.new.self.items
+    c.extend_from_slice.ensures.items)

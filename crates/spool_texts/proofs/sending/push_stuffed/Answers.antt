@@ -1,4 +1,5 @@
-use Rattle.std.proofs.Common.{◌≡◌, inl, inr, ℕ, ◌+◌, ◌-◌, ◌%◌, ◌≤◌, List, ◌++◌, length, take, drop, refl, sym, ◌∙◌, ap, arith, append_assoc, length-drop}
+use Rattle.std.proofs.Common.{◌≡◌, inl, inr, ℕ, ◌+◌, ◌-◌, ◌%◌, ◌≤◌, List, ◌++◌, length, take, drop, refl, sym, ◌∙◌, ap, arith, append_assoc}
+use Rattle.std.proofs.Common.{length-drop}
 use Rattle.std.specs.Prelude.{min}
 use Rattle.std.proofs.lemmas.Bool.{cases_lt}
 use Rattle.std.proofs.lemmas.List.{append-nil, length-take}
@@ -14,9 +15,11 @@ use Rattle.spool_texts.proofs.sending.push_stuffed.Invariants.{fresh}
 use Rattle.spool_texts.proofs.sending.push_stuffed.Goals as goal
 
 -- how many octets a piece has
-piece_size : (content octets : List ℕ) (from end few : ℕ) → octets ≡ take (min (end - from) few) (drop from content) → end ≤ length content → from ≤ end → length octets ≡ min (end - from) few
+piece_size : (content octets : List ℕ) (from end few : ℕ) → octets ≡ take (min (end - from) few) (drop from content) → end ≤ length content
+    → from ≤ end → length octets ≡ min (end - from) few
 piece_size content octets from end few is fits order =
-    ap (λ (l : List ℕ). length l) is ∙ length-take (min (end - from) few) (drop from content) ∙ shorter (end - from) few (length (drop from content)) (omega (arith, length-drop from content))
+    ap (λ (l : List ℕ). length l) is ∙ length-take (min (end - from) few) (drop from content)
+    ∙ shorter (end - from) few (length (drop from content)) (omega (arith, length-drop from content))
   where
     shorter : (a b c : ℕ) → a ≤ c → min (min a b) c ≡ min a b
     shorter a b c low = omega arith
@@ -36,7 +39,8 @@ loop-from-init g c =
     record {
       from_place = omega arith;
       to_end = inl refl;
-      reply_is = sym (ap (λ (n : ℕ). c.args.reply.now.items ++ stuffed_from fresh (take n (drop c.args.place content))) none ∙ append-nil c.args.reply.now.items);
+      reply_is = sym (ap (λ (n : ℕ). c.args.reply.now.items ++ stuffed_from fresh (take n (drop c.args.place content))) none
+          ∙ append-nil c.args.reply.now.items);
       state_is = c.new-stuffing.ensures ∙ sym (ap (λ (n : ℕ). after fresh (take n (drop c.args.place content))) none);
     }
 
@@ -46,10 +50,12 @@ overflow_add-from g c =
     let e : Entry = entry c.args.inodes blocks c.args.at in
     let content = content_of blocks e in
     let from = c.loop-from.from in
-    let long = length-content blocks e c.requires.room.blocks_whole (λ b owns. (c.requires.rule.within c.args.at b c.requires.below owns).1) in
+    let long = length-content blocks e c.requires.room.blocks_whole (λ b owns. (c.requires.rule.within c.args.at b c.requires.below owns).1)
+    in
     let sized = c.size_of.ensures in
     let fits : c.min-end.result ≤ length content = omega arith in
-    let many = piece_size content c.piece-octets.result.now from c.min-end.result (4096 - from % 4096) c.piece-octets.ensures fits (omega arith) in
+    let many = piece_size content c.piece-octets.result.now from c.min-end.result (4096 - from % 4096) c.piece-octets.ensures fits
+    (omega arith) in
     omega (arith, many)
 
 pub loop-from-preserved : goal.loop-from-preserved
@@ -59,12 +65,14 @@ loop-from-preserved g c =
     let content = content_of blocks e in
     let from = c.loop-from.from in
     let octets = c.piece-octets.result.now in
-    let long = length-content blocks e c.requires.room.blocks_whole (λ b owns. (c.requires.rule.within c.args.at b c.requires.below owns).1) in
+    let long = length-content blocks e c.requires.room.blocks_whole (λ b owns. (c.requires.rule.within c.args.at b c.requires.below owns).1)
+    in
     let sized = c.size_of.ensures in
     let fits : c.min-end.result ≤ length content = omega arith in
     let many = piece_size content octets from c.min-end.result (4096 - from % 4096) c.piece-octets.ensures fits (omega arith) in
     let sent = take (from - c.args.place) (drop c.args.place content) in
-    let more = one_more content octets c.args.place from (min (c.min-end.result - from) (4096 - from % 4096)) c.piece-octets.ensures (sym many) c.loop-from.invariant.from_place in
+    let more = one_more content octets c.args.place from (min (c.min-end.result - from) (4096 - from % 4096)) c.piece-octets.ensures
+    (sym many) c.loop-from.invariant.from_place in
     record {
       from_place = omega (arith, c.loop-from.invariant.from_place);
       to_end = inr (omega arith);
@@ -89,26 +97,31 @@ loop-from-smaller g c =
     let e : Entry = entry c.args.inodes blocks c.args.at in
     let content = content_of blocks e in
     let from = c.loop-from.from in
-    let long = length-content blocks e c.requires.room.blocks_whole (λ b owns. (c.requires.rule.within c.args.at b c.requires.below owns).1) in
+    let long = length-content blocks e c.requires.room.blocks_whole (λ b owns. (c.requires.rule.within c.args.at b c.requires.below owns).1)
+    in
     let sized = c.size_of.ensures in
     let fits : c.min-end.result ≤ length content = omega arith in
-    let many = piece_size content c.piece-octets.result.now from c.min-end.result (4096 - from % 4096) c.piece-octets.ensures fits (omega arith) in
+    let many = piece_size content c.piece-octets.result.now from c.min-end.result (4096 - from % 4096) c.piece-octets.ensures fits
+    (omega arith) in
     omega (arith, many)
 
 pub returns : goal.returns
 returns g c =
     let blocks = g.B.Blocks.blocks c.args.blocks.now in
     let e : Entry = entry c.args.inodes blocks c.args.at in
-    let long = length-content blocks e c.requires.room.blocks_whole (λ b owns. (c.requires.rule.within c.args.at b c.requires.below owns).1) in
+    let long = length-content blocks e c.requires.room.blocks_whole (λ b owns. (c.requires.rule.within c.args.at b c.requires.below owns).1)
+    in
     let sized = c.size_of.ensures in
     let small = c.requires.file.small in
-    let all = taken_all (content_of blocks e) c.args.place c.args.count c.loop-from.from c.min-end.result (omega arith) c.loop-from.invariant.from_place c.loop-from.invariant.to_end
+    let all = taken_all (content_of blocks e) c.args.place c.args.count c.loop-from.from c.min-end.result
+    (omega arith) c.loop-from.invariant.from_place c.loop-from.invariant.to_end
     (elim (cases_lt (c.args.place + c.args.count) (size e)) [
       | inl asked ↦ inr (omega arith)
       | inr past ↦ inl (omega arith)
     ]) (omega arith) (omega arith) in
     let text = take c.args.count (drop c.args.place (content_of blocks e)) in
     on_ok_weaker c.push_end.result (λ is.
-    is ∙ ap (λ (l : List ℕ). l ++ dot_line) (c.loop-from.invariant.reply_is ∙ ap (λ (l : List ℕ). c.args.reply.now.items ++ stuffed_from fresh l) all)
+    is ∙ ap (λ (l : List ℕ). l ++ dot_line) (c.loop-from.invariant.reply_is
+    ∙ ap (λ (l : List ℕ). c.args.reply.now.items ++ stuffed_from fresh l) all)
     ∙ append_assoc c.args.reply.now.items (stuffed_from fresh text) dot_line
     ∙ ap (λ (l : List ℕ). c.args.reply.now.items ++ l) (pieces_make text)) c.push_end.ensures

@@ -13,7 +13,8 @@ loop-place-preserved c =
     let octets = c.args.octets.now in
     let images = c.loop-place.images in
     let within : at < length numbers = omega arith in
-    let more : flat_map (λ n. block n octets) (take (at + 1) numbers) ≡ flat_map (λ n. block n octets) (take at numbers) ++ block (get_or numbers at 0) octets =
+    let more : flat_map (λ n. block n octets) (take (at + 1) numbers) ≡ flat_map (λ n. block n octets) (take at numbers) ++ block
+    (get_or numbers at 0) octets =
     ap (λ (l : List ℕ). flat_map (λ n. block n octets) l) (take_more numbers at 0 within)
     ∙ flat_map-append (λ n. block n octets) (take at numbers) (get_or numbers at 0 ∷ [])
     ∙ ap (λ (l : List ℕ). flat_map (λ n. block n octets) (take at numbers) ++ l) (append-nil (block (get_or numbers at 0) octets)) in (

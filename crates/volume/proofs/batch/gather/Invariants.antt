@@ -5,4 +5,5 @@ use Rattle.volume.proofs.batch.gather.Given as goal
 
 abbrev pub invariant-loop-place : goal.invariant-loop-place
 invariant-loop-place l =
-    (length l.images ≡ length l.initial.images) × (take (4096 * l.place) l.images ≡ flat_map (λ n. block n l.octets) (take l.place l.numbers))
+    (length l.images ≡ length l.initial.images)
+    × (take (4096 * l.place) l.images ≡ flat_map (λ n. block n l.octets) (take l.place l.numbers))

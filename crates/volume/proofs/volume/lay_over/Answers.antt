@@ -26,14 +26,19 @@ loop-place-preserved c =
           w.cache-is ∙ w.put_block.ensures ∙ ap (λ (l : List ℕ). overwritten (4096 * get_or staged at 0) l c.loop-place.cache) image in
           let other : block (get_or staged at 0) c.loop-place.cache ≢ block at images =
           λ same. told_apart (c.block_of.result.now) (c.block_of-image.result.now) w.if-ne.ensures (old ∙ same ∙ sym image) in
-          let more = applied_other at staged images c.args.cache.now c.loop-place.cache c.args.dirty.now c.loop-place.dirty c.loop-place.invariant c.requires.staged c.requires.whole c.requires.images within w.mark.new.dirty other w.mark.ensures.bound w.mark.ensures.valid w.mark.ensures.members in
+          let more = applied_other at staged images c.args.cache.now c.loop-place.cache c.args.dirty.now c.loop-place.dirty
+          c.loop-place.invariant c.requires.staged c.requires.whole c.requires.images within w.mark.new.dirty other w.mark.ensures.bound
+          w.mark.ensures.valid w.mark.ensures.members in
           subst (λ (d : Numbers). IsApplied (at + 1) staged images c.args.cache.now c.if-ne.cache c.args.dirty.now d) (sym w.dirty-is)
           (subst (λ (l : List ℕ). IsApplied (at + 1) staged images c.args.cache.now l c.args.dirty.now w.mark.new.dirty) (sym put) more)
       | else-ne w ↦
-          let same : block (get_or staged at 0) c.loop-place.cache ≡ block at images = sym old ∙ told_same (c.block_of.result.now) (c.block_of-image.result.now) w.if-ne.ensures ∙ image in
-          let more = applied_same at staged images c.args.cache.now c.loop-place.cache c.args.dirty.now c.loop-place.dirty c.loop-place.invariant c.requires.staged c.requires.whole c.requires.images within same in
+          let same : block (get_or staged at 0) c.loop-place.cache ≡ block at images = sym old
+          ∙ told_same (c.block_of.result.now) (c.block_of-image.result.now) w.if-ne.ensures ∙ image in
+          let more = applied_same at staged images c.args.cache.now c.loop-place.cache c.args.dirty.now c.loop-place.dirty
+          c.loop-place.invariant c.requires.staged c.requires.whole c.requires.images within same in
           subst (λ (d : Numbers). IsApplied (at + 1) staged images c.args.cache.now c.if-ne.cache c.args.dirty.now d) (sym w.dirty-is)
-          (subst (λ (l : List ℕ). IsApplied (at + 1) staged images c.args.cache.now l c.args.dirty.now c.loop-place.dirty) (sym w.cache-is) more)
+          (subst (λ (l : List ℕ). IsApplied (at + 1) staged images c.args.cache.now l c.args.dirty.now c.loop-place.dirty)
+          (sym w.cache-is) more)
     ]
   where
     told_apart : (xs ys : List ℕ) → true ≡ not (bytes_eq xs ys) → xs ≢ ys
@@ -48,4 +53,5 @@ loop-place-preserved c =
 
 pub returns-clause-cache : goal.returns-clause-cache
 returns-clause-cache c =
-    applied_all c.loop-place.place c.args.staged.now c.args.images.now c.args.cache.now c.loop-place.cache c.args.dirty.now c.loop-place.dirty c.loop-place.invariant (omega arith)
+    applied_all c.loop-place.place c.args.staged.now c.args.images.now c.args.cache.now c.loop-place.cache c.args.dirty.now
+    c.loop-place.dirty c.loop-place.invariant (omega arith)

@@ -24,9 +24,12 @@ load_block-requires g c =
 pub loop-number-preserved : goal.loop-number-preserved
 loop-number-preserved g c =
     let done = c.in_ok-load_block.ensures in
-    loaded_more g.D.Disk.device c.loop-number.number c.args.count c.loop-number.octets c.args.octets.now c.load_block.new.octets c.args.journal.now c.loop-number.journal c.load_block.new.journal
-    c.loop-number.invariant c.requires.whole c.requires.count c.requires.room (omega arith) c.load_block.auto.octets done.octets done.loads done.ok.0 done.ok.1
+    loaded_more g.D.Disk.device c.loop-number.number c.args.count c.loop-number.octets c.args.octets.now c.load_block.new.octets
+    c.args.journal.now c.loop-number.journal c.load_block.new.journal
+    c.loop-number.invariant c.requires.whole c.requires.count c.requires.room (omega arith) c.load_block.auto.octets done.octets done.loads
+    done.ok.0 done.ok.1
 
 pub returns-clause-loaded : goal.returns-clause-loaded
 returns-clause-loaded g c =
-    loaded_all g.D.Disk.device c.loop-number.number c.args.count c.loop-number.octets c.args.octets.now c.args.journal.now c.loop-number.journal c.loop-number.invariant c.requires.whole c.requires.count (omega arith)
+    loaded_all g.D.Disk.device c.loop-number.number c.args.count c.loop-number.octets c.args.octets.now c.args.journal.now
+    c.loop-number.journal c.loop-number.invariant c.requires.whole c.requires.count (omega arith)

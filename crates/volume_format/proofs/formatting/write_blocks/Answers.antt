@@ -14,9 +14,12 @@ loop-k-preserved g c = record {
   blocks = λ t.
       let here = subst (λ (b : Bool). IsTrue b) (sym c.loop-k.invariant.time.tells) t in
       let old = (g.D.Disk.device c.loop-k.disk).content in
-      let size : length (g.D.Disk.device c.loop-k.disk).content ≡ (g.D.Disk.device c.loop-k.disk).size = g.met.D.Disk.image_size c.loop-k.disk old here (g.met.D.Disk.counts_content c.loop-k.disk here) in
-      let put = c.in_ok-write_part.ensures.content here ∙ ap (λ (n : ℕ). overwritten n c.args.octets.now (g.D.Disk.device c.loop-k.disk).content) c.start_of.ensures in
-      blocks_more c.loop-k.k c.args.octets.now old (g.D.Disk.device c.write_part.new.disk).content put c.requires.whole (omega (arith, size, c.loop-k.invariant.time.size, c.requires.size, c.loop-k-test.true)) (c.loop-k.invariant.blocks t);
+      let size : length (g.D.Disk.device c.loop-k.disk).content ≡ (g.D.Disk.device c.loop-k.disk).size =
+      g.met.D.Disk.image_size c.loop-k.disk old here (g.met.D.Disk.counts_content c.loop-k.disk here) in
+      let put = c.in_ok-write_part.ensures.content here
+      ∙ ap (λ (n : ℕ). overwritten n c.args.octets.now (g.D.Disk.device c.loop-k.disk).content) c.start_of.ensures in
+      blocks_more c.loop-k.k c.args.octets.now old (g.D.Disk.device c.write_part.new.disk).content put c.requires.whole
+      (omega (arith, size, c.loop-k.invariant.time.size, c.requires.size, c.loop-k-test.true)) (c.loop-k.invariant.blocks t);
 }
 
 pub loop-k-init : goal.loop-k-init

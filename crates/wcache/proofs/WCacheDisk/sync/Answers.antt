@@ -7,14 +7,18 @@ use Rattle.wcache.proofs.Caching.{err_crash, err_since, ok_content, ok_crash, ok
 use Rattle.wcache.proofs.Places.{get_or-places_none, places_none}
 use Rattle.wcache.proofs.WCacheDisk.sync.Goals as goal
 
-sized : (D : Type 0) (device : D → Device) → ((d : D) (image : List ℕ) → IsTrue (device d).tells → (device d).may_leave image → length image ≡ (device d).size) → ((d : D) → IsTrue (device d).tells → (device d).may_leave (device d).content) → (d : D) → IsTrue (device d).tells → length (device d).content ≡ (device d).size
+sized : (D : Type 0) (device : D → Device)
+    → ((d : D) (image : List ℕ) → IsTrue (device d).tells → (device d).may_leave image → length image ≡ (device d).size)
+    → ((d : D) → IsTrue (device d).tells → (device d).may_leave (device d).content) → (d : D) → IsTrue (device d).tells
+    → length (device d).content ≡ (device d).size
 sized D device law now d t = law d (device d).content t (now d t)
 
 pub invariant_of-self : goal.invariant_of-self
 invariant_of-self g c =
     record {
       size = (sync_given g.row.D.Denot g.D.Disk.device
-          (sized g.row.D.Denot g.D.Disk.device g.met.D.Disk.image_size g.met.D.Disk.counts_content) c.self.inside.disk c.give_and_sync.new.disk
+          (sized g.row.D.Denot g.D.Disk.device g.met.D.Disk.image_size g.met.D.Disk.counts_content) c.self.inside.disk
+          c.give_and_sync.new.disk
           (places (taken c.self.inside.collected) c.self.inside.len)
           (let n = length-places (taken c.self.inside.collected) c.self.inside.len in omega (arith, n, c.self.invariant.size)) (Ok tt)
           (c.in-Ok.ensures.makes c.self.inside.len c.self.invariant.past)).time.size
@@ -69,53 +73,135 @@ returns-in-Ok-clause-since g c =
     (get_or-places_none (taken c.clear.new.self) c.self.inside.len c.clear.ensures.none))
 
 pub returns-in-Ok-clause-time : goal.returns-in-Ok-clause-time
-returns-in-Ok-clause-time g c = rw (← c.self.view_is) (let time = (sync_given g.row.D.Denot g.D.Disk.device (sized g.row.D.Denot g.D.Disk.device g.met.D.Disk.image_size g.met.D.Disk.counts_content) c.self.inside.disk c.give_and_sync.new.disk (places (taken c.self.inside.collected) c.self.inside.len) (let n = length-places (taken c.self.inside.collected) c.self.inside.len in omega (arith, n, c.self.invariant.size)) (Ok tt) (c.in-Ok.ensures.makes c.self.inside.len c.self.invariant.past)).time in record { size = time.size; tells = time.tells; later = time.later })
+returns-in-Ok-clause-time g c =
+    rw (← c.self.view_is) (let time =
+    (sync_given g.row.D.Denot g.D.Disk.device (sized g.row.D.Denot g.D.Disk.device g.met.D.Disk.image_size g.met.D.Disk.counts_content)
+    c.self.inside.disk c.give_and_sync.new.disk (places (taken c.self.inside.collected) c.self.inside.len) (let n =
+    length-places (taken c.self.inside.collected) c.self.inside.len in
+    omega (arith, n, c.self.invariant.size)) (Ok tt) (c.in-Ok.ensures.makes c.self.inside.len c.self.invariant.past)).time in
+    record { size = time.size; tells = time.tells; later = time.later })
 
 pub returns-in-Ok-clause-cause : goal.returns-in-Ok-clause-cause
-returns-in-Ok-clause-cause g c = rw (← c.self.view_is) (let cause = (sync_given g.row.D.Denot g.D.Disk.device (sized g.row.D.Denot g.D.Disk.device g.met.D.Disk.image_size g.met.D.Disk.counts_content) c.self.inside.disk c.give_and_sync.new.disk (places (taken c.self.inside.collected) c.self.inside.len) (let n = length-places (taken c.self.inside.collected) c.self.inside.len in omega (arith, n, c.self.invariant.size)) (Ok tt) (c.in-Ok.ensures.makes c.self.inside.len c.self.invariant.past)).cause in record { ok = cause.ok; fault = tt })
+returns-in-Ok-clause-cause g c =
+    rw (← c.self.view_is) (let cause =
+    (sync_given g.row.D.Denot g.D.Disk.device (sized g.row.D.Denot g.D.Disk.device g.met.D.Disk.image_size g.met.D.Disk.counts_content)
+    c.self.inside.disk c.give_and_sync.new.disk (places (taken c.self.inside.collected) c.self.inside.len) (let n =
+    length-places (taken c.self.inside.collected) c.self.inside.len in
+    omega (arith, n, c.self.invariant.size)) (Ok tt) (c.in-Ok.ensures.makes c.self.inside.len c.self.invariant.past)).cause in
+    record { ok = cause.ok; fault = tt })
 
 pub invariant_of-self-in-Err-Fault : goal.invariant_of-self-in-Err-Fault
-invariant_of-self-in-Err-Fault g c = record { size = (sync_given g.row.D.Denot g.D.Disk.device (sized g.row.D.Denot g.D.Disk.device g.met.D.Disk.image_size g.met.D.Disk.counts_content) c.self.inside.disk c.give_and_sync.new.disk (places (taken c.self.inside.collected) c.self.inside.len) (let n = length-places (taken c.self.inside.collected) c.self.inside.len in omega (arith, n, c.self.invariant.size)) (Err c.in-Err-Fault.field-0) (c.in-Err-Fault.ensures.makes c.self.inside.len c.self.invariant.past)).time.size ∙ c.self.invariant.size; past = c.self.invariant.past }
+invariant_of-self-in-Err-Fault g c =
+    record {
+      size = (sync_given g.row.D.Denot g.D.Disk.device
+          (sized g.row.D.Denot g.D.Disk.device g.met.D.Disk.image_size g.met.D.Disk.counts_content) c.self.inside.disk c.give_and_sync.new.disk
+          (places (taken c.self.inside.collected) c.self.inside.len) (let n = length-places (taken c.self.inside.collected) c.self.inside.len in
+          omega (arith, n, c.self.invariant.size)) (Err c.in-Err-Fault.field-0)
+          (c.in-Err-Fault.ensures.makes c.self.inside.len c.self.invariant.past)).time.size ∙ c.self.invariant.size;
+      past = c.self.invariant.past;
+    }
 
 pub returns-in-Err-Fault-clause-calls : goal.returns-in-Err-Fault-clause-calls
-returns-in-Err-Fault-clause-calls g c = rw (← c.self.view_is, ← c.in-Err-Fault.field-0-is) (c.in-Err-Fault.ensures.makes c.self.inside.len c.self.invariant.past)
+returns-in-Err-Fault-clause-calls g c =
+    rw (← c.self.view_is, ← c.in-Err-Fault.field-0-is) (c.in-Err-Fault.ensures.makes c.self.inside.len c.self.invariant.past)
 
 pub returns-in-Err-Fault-clause-crash : goal.returns-in-Err-Fault-clause-crash
-returns-in-Err-Fault-clause-crash g c = rw (← c.self.view_is) (err_crash g.row.D.Denot g.D.Disk.device (sized g.row.D.Denot g.D.Disk.device g.met.D.Disk.image_size g.met.D.Disk.counts_content) c.self.inside.disk c.give_and_sync.new.disk (places (taken c.self.inside.collected) c.self.inside.len) (let n = length-places (taken c.self.inside.collected) c.self.inside.len in omega (arith, n, c.self.invariant.size)) c.in-Err-Fault.field-0 (c.in-Err-Fault.ensures.makes c.self.inside.len c.self.invariant.past))
+returns-in-Err-Fault-clause-crash g c =
+    rw (← c.self.view_is) (err_crash g.row.D.Denot g.D.Disk.device
+    (sized g.row.D.Denot g.D.Disk.device g.met.D.Disk.image_size g.met.D.Disk.counts_content) c.self.inside.disk c.give_and_sync.new.disk
+    (places (taken c.self.inside.collected) c.self.inside.len) (let n = length-places (taken c.self.inside.collected) c.self.inside.len in
+    omega (arith, n, c.self.invariant.size)) c.in-Err-Fault.field-0 (c.in-Err-Fault.ensures.makes c.self.inside.len c.self.invariant.past))
 
 pub returns-in-Err-Fault-clause-since : goal.returns-in-Err-Fault-clause-since
-returns-in-Err-Fault-clause-since g c = rw (← c.self.view_is) (err_since g.row.D.Denot g.D.Disk.device (sized g.row.D.Denot g.D.Disk.device g.met.D.Disk.image_size g.met.D.Disk.counts_content) c.self.inside.disk c.give_and_sync.new.disk (places (taken c.self.inside.collected) c.self.inside.len) (let n = length-places (taken c.self.inside.collected) c.self.inside.len in omega (arith, n, c.self.invariant.size)) c.in-Err-Fault.field-0 (c.in-Err-Fault.ensures.makes c.self.inside.len c.self.invariant.past))
+returns-in-Err-Fault-clause-since g c =
+    rw (← c.self.view_is) (err_since g.row.D.Denot g.D.Disk.device
+    (sized g.row.D.Denot g.D.Disk.device g.met.D.Disk.image_size g.met.D.Disk.counts_content) c.self.inside.disk c.give_and_sync.new.disk
+    (places (taken c.self.inside.collected) c.self.inside.len) (let n = length-places (taken c.self.inside.collected) c.self.inside.len in
+    omega (arith, n, c.self.invariant.size)) c.in-Err-Fault.field-0 (c.in-Err-Fault.ensures.makes c.self.inside.len c.self.invariant.past))
 
 pub returns-in-Err-Fault-clause-time : goal.returns-in-Err-Fault-clause-time
-returns-in-Err-Fault-clause-time g c = rw (← c.self.view_is) (let time = (sync_given g.row.D.Denot g.D.Disk.device (sized g.row.D.Denot g.D.Disk.device g.met.D.Disk.image_size g.met.D.Disk.counts_content) c.self.inside.disk c.give_and_sync.new.disk (places (taken c.self.inside.collected) c.self.inside.len) (let n = length-places (taken c.self.inside.collected) c.self.inside.len in omega (arith, n, c.self.invariant.size)) (Err c.in-Err-Fault.field-0) (c.in-Err-Fault.ensures.makes c.self.inside.len c.self.invariant.past)).time in record { size = time.size; tells = time.tells; later = time.later })
+returns-in-Err-Fault-clause-time g c =
+    rw (← c.self.view_is) (let time =
+    (sync_given g.row.D.Denot g.D.Disk.device (sized g.row.D.Denot g.D.Disk.device g.met.D.Disk.image_size g.met.D.Disk.counts_content)
+    c.self.inside.disk c.give_and_sync.new.disk (places (taken c.self.inside.collected) c.self.inside.len) (let n =
+    length-places (taken c.self.inside.collected) c.self.inside.len in omega (arith, n, c.self.invariant.size)) (Err c.in-Err-Fault.field-0)
+    (c.in-Err-Fault.ensures.makes c.self.inside.len c.self.invariant.past)).time in
+    record { size = time.size; tells = time.tells; later = time.later })
 
 pub invariant_of-self-in-Err-Memory : goal.invariant_of-self-in-Err-Memory
-invariant_of-self-in-Err-Memory g c = record { size = (sync_given g.row.D.Denot g.D.Disk.device (sized g.row.D.Denot g.D.Disk.device g.met.D.Disk.image_size g.met.D.Disk.counts_content) c.self.inside.disk c.give_and_sync.new.disk (places (taken c.self.inside.collected) c.self.inside.len) (let n = length-places (taken c.self.inside.collected) c.self.inside.len in omega (arith, n, c.self.invariant.size)) (Err c.in-Err-Memory.field-0) (c.in-Err-Memory.ensures.makes c.self.inside.len c.self.invariant.past)).time.size ∙ c.self.invariant.size; past = c.self.invariant.past }
+invariant_of-self-in-Err-Memory g c =
+    record {
+      size = (sync_given g.row.D.Denot g.D.Disk.device
+          (sized g.row.D.Denot g.D.Disk.device g.met.D.Disk.image_size g.met.D.Disk.counts_content) c.self.inside.disk c.give_and_sync.new.disk
+          (places (taken c.self.inside.collected) c.self.inside.len) (let n = length-places (taken c.self.inside.collected) c.self.inside.len in
+          omega (arith, n, c.self.invariant.size)) (Err c.in-Err-Memory.field-0)
+          (c.in-Err-Memory.ensures.makes c.self.inside.len c.self.invariant.past)).time.size ∙ c.self.invariant.size;
+      past = c.self.invariant.past;
+    }
 
 pub returns-in-Err-Memory-clause-calls : goal.returns-in-Err-Memory-clause-calls
-returns-in-Err-Memory-clause-calls g c = rw (← c.self.view_is, ← c.in-Err-Memory.field-0-is) (c.in-Err-Memory.ensures.makes c.self.inside.len c.self.invariant.past)
+returns-in-Err-Memory-clause-calls g c =
+    rw (← c.self.view_is, ← c.in-Err-Memory.field-0-is) (c.in-Err-Memory.ensures.makes c.self.inside.len c.self.invariant.past)
 
 pub returns-in-Err-Memory-clause-crash : goal.returns-in-Err-Memory-clause-crash
-returns-in-Err-Memory-clause-crash g c = rw (← c.self.view_is) (err_crash g.row.D.Denot g.D.Disk.device (sized g.row.D.Denot g.D.Disk.device g.met.D.Disk.image_size g.met.D.Disk.counts_content) c.self.inside.disk c.give_and_sync.new.disk (places (taken c.self.inside.collected) c.self.inside.len) (let n = length-places (taken c.self.inside.collected) c.self.inside.len in omega (arith, n, c.self.invariant.size)) c.in-Err-Memory.field-0 (c.in-Err-Memory.ensures.makes c.self.inside.len c.self.invariant.past))
+returns-in-Err-Memory-clause-crash g c =
+    rw (← c.self.view_is) (err_crash g.row.D.Denot g.D.Disk.device
+    (sized g.row.D.Denot g.D.Disk.device g.met.D.Disk.image_size g.met.D.Disk.counts_content) c.self.inside.disk c.give_and_sync.new.disk
+    (places (taken c.self.inside.collected) c.self.inside.len) (let n = length-places (taken c.self.inside.collected) c.self.inside.len in
+    omega (arith, n, c.self.invariant.size)) c.in-Err-Memory.field-0
+    (c.in-Err-Memory.ensures.makes c.self.inside.len c.self.invariant.past))
 
 pub returns-in-Err-Memory-clause-since : goal.returns-in-Err-Memory-clause-since
-returns-in-Err-Memory-clause-since g c = rw (← c.self.view_is) (err_since g.row.D.Denot g.D.Disk.device (sized g.row.D.Denot g.D.Disk.device g.met.D.Disk.image_size g.met.D.Disk.counts_content) c.self.inside.disk c.give_and_sync.new.disk (places (taken c.self.inside.collected) c.self.inside.len) (let n = length-places (taken c.self.inside.collected) c.self.inside.len in omega (arith, n, c.self.invariant.size)) c.in-Err-Memory.field-0 (c.in-Err-Memory.ensures.makes c.self.inside.len c.self.invariant.past))
+returns-in-Err-Memory-clause-since g c =
+    rw (← c.self.view_is) (err_since g.row.D.Denot g.D.Disk.device
+    (sized g.row.D.Denot g.D.Disk.device g.met.D.Disk.image_size g.met.D.Disk.counts_content) c.self.inside.disk c.give_and_sync.new.disk
+    (places (taken c.self.inside.collected) c.self.inside.len) (let n = length-places (taken c.self.inside.collected) c.self.inside.len in
+    omega (arith, n, c.self.invariant.size)) c.in-Err-Memory.field-0
+    (c.in-Err-Memory.ensures.makes c.self.inside.len c.self.invariant.past))
 
 pub returns-in-Err-Memory-clause-time : goal.returns-in-Err-Memory-clause-time
-returns-in-Err-Memory-clause-time g c = rw (← c.self.view_is) (let time = (sync_given g.row.D.Denot g.D.Disk.device (sized g.row.D.Denot g.D.Disk.device g.met.D.Disk.image_size g.met.D.Disk.counts_content) c.self.inside.disk c.give_and_sync.new.disk (places (taken c.self.inside.collected) c.self.inside.len) (let n = length-places (taken c.self.inside.collected) c.self.inside.len in omega (arith, n, c.self.invariant.size)) (Err c.in-Err-Memory.field-0) (c.in-Err-Memory.ensures.makes c.self.inside.len c.self.invariant.past)).time in record { size = time.size; tells = time.tells; later = time.later })
+returns-in-Err-Memory-clause-time g c =
+    rw (← c.self.view_is) (let time =
+    (sync_given g.row.D.Denot g.D.Disk.device (sized g.row.D.Denot g.D.Disk.device g.met.D.Disk.image_size g.met.D.Disk.counts_content)
+    c.self.inside.disk c.give_and_sync.new.disk (places (taken c.self.inside.collected) c.self.inside.len) (let n =
+    length-places (taken c.self.inside.collected) c.self.inside.len in
+    omega (arith, n, c.self.invariant.size)) (Err c.in-Err-Memory.field-0)
+    (c.in-Err-Memory.ensures.makes c.self.inside.len c.self.invariant.past)).time in
+    record { size = time.size; tells = time.tells; later = time.later })
 
 pub returns-in-Err-Fault-clause-cause : goal.returns-in-Err-Fault-clause-cause
-returns-in-Err-Fault-clause-cause g c = rw (← c.self.view_is) (let cause = (sync_given g.row.D.Denot g.D.Disk.device (sized g.row.D.Denot g.D.Disk.device g.met.D.Disk.image_size g.met.D.Disk.counts_content) c.self.inside.disk c.give_and_sync.new.disk (places (taken c.self.inside.collected) c.self.inside.len) (let n = length-places (taken c.self.inside.collected) c.self.inside.len in omega (arith, n, c.self.invariant.size)) (Err c.in-Err-Fault.field-0) (c.in-Err-Fault.ensures.makes c.self.inside.len c.self.invariant.past)).cause in record { ok = tt; fault = λ is. cause.fault c.in-Err-Fault.field-0-is })
+returns-in-Err-Fault-clause-cause g c =
+    rw (← c.self.view_is) (let cause =
+    (sync_given g.row.D.Denot g.D.Disk.device (sized g.row.D.Denot g.D.Disk.device g.met.D.Disk.image_size g.met.D.Disk.counts_content)
+    c.self.inside.disk c.give_and_sync.new.disk (places (taken c.self.inside.collected) c.self.inside.len) (let n =
+    length-places (taken c.self.inside.collected) c.self.inside.len in omega (arith, n, c.self.invariant.size)) (Err c.in-Err-Fault.field-0)
+    (c.in-Err-Fault.ensures.makes c.self.inside.len c.self.invariant.past)).cause in
+    record { ok = tt; fault = λ is. cause.fault c.in-Err-Fault.field-0-is })
 
 pub returns-in-Err-Memory-clause-refused : goal.returns-in-Err-Memory-clause-refused
 returns-in-Err-Memory-clause-refused g c =
-    let given = sync_given g.row.D.Denot g.D.Disk.device (sized g.row.D.Denot g.D.Disk.device g.met.D.Disk.image_size g.met.D.Disk.counts_content) c.self.inside.disk c.give_and_sync.new.disk (places (taken c.self.inside.collected) c.self.inside.len) (let n = length-places (taken c.self.inside.collected) c.self.inside.len in omega (arith, n, c.self.invariant.size)) (Err c.in-Err-Memory.field-0) (c.in-Err-Memory.ensures.makes c.self.inside.len c.self.invariant.past) in
+    let given = sync_given g.row.D.Denot g.D.Disk.device
+    (sized g.row.D.Denot g.D.Disk.device g.met.D.Disk.image_size g.met.D.Disk.counts_content) c.self.inside.disk
+    c.give_and_sync.new.disk (places (taken c.self.inside.collected) c.self.inside.len) (let n =
+    length-places (taken c.self.inside.collected) c.self.inside.len in
+    omega (arith, n, c.self.invariant.size)) (Err c.in-Err-Memory.field-0)
+    (c.in-Err-Memory.ensures.makes c.self.inside.len c.self.invariant.past) in
     rw (← c.self.view_is)
     (λ is. record {
       time = record { size = given.time.size; tells = given.time.tells; later = given.time.later };
       content = λ t. given.refused t c.in-Err-Memory.field-0-is;
-      crash = err_crash g.row.D.Denot g.D.Disk.device (sized g.row.D.Denot g.D.Disk.device g.met.D.Disk.image_size g.met.D.Disk.counts_content) c.self.inside.disk c.give_and_sync.new.disk (places (taken c.self.inside.collected) c.self.inside.len) (let n = length-places (taken c.self.inside.collected) c.self.inside.len in omega (arith, n, c.self.invariant.size)) c.in-Err-Memory.field-0 (c.in-Err-Memory.ensures.makes c.self.inside.len c.self.invariant.past);
-      since = err_since g.row.D.Denot g.D.Disk.device (sized g.row.D.Denot g.D.Disk.device g.met.D.Disk.image_size g.met.D.Disk.counts_content) c.self.inside.disk c.give_and_sync.new.disk (places (taken c.self.inside.collected) c.self.inside.len) (let n = length-places (taken c.self.inside.collected) c.self.inside.len in omega (arith, n, c.self.invariant.size)) c.in-Err-Memory.field-0 (c.in-Err-Memory.ensures.makes c.self.inside.len c.self.invariant.past);
+      crash = err_crash g.row.D.Denot g.D.Disk.device
+          (sized g.row.D.Denot g.D.Disk.device g.met.D.Disk.image_size g.met.D.Disk.counts_content) c.self.inside.disk
+          c.give_and_sync.new.disk (places (taken c.self.inside.collected) c.self.inside.len) (let n =
+          length-places (taken c.self.inside.collected) c.self.inside.len in
+          omega (arith, n, c.self.invariant.size)) c.in-Err-Memory.field-0
+          (c.in-Err-Memory.ensures.makes c.self.inside.len c.self.invariant.past);
+      since = err_since g.row.D.Denot g.D.Disk.device
+          (sized g.row.D.Denot g.D.Disk.device g.met.D.Disk.image_size g.met.D.Disk.counts_content) c.self.inside.disk
+          c.give_and_sync.new.disk (places (taken c.self.inside.collected) c.self.inside.len) (let n =
+          length-places (taken c.self.inside.collected) c.self.inside.len in
+          omega (arith, n, c.self.invariant.size)) c.in-Err-Memory.field-0
+          (c.in-Err-Memory.ensures.makes c.self.inside.len c.self.invariant.past);
       reads = refl;
       writes = refl;
       syncs = refl;

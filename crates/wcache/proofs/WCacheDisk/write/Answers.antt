@@ -8,58 +8,143 @@ use Rattle.wcache.proofs.Caching.{IsUntouched, collects, collects_content, colle
 use Rattle.wcache.proofs.Places.{places_same}
 use Rattle.wcache.proofs.WCacheDisk.write.Goals as goal
 
-sized : (D : Type 0) (device : D → Device) → ((d : D) (image : List ℕ) → IsTrue (device d).tells → (device d).may_leave image → length image ≡ (device d).size) → ((d : D) → IsTrue (device d).tells → (device d).may_leave (device d).content) → (d : D) → IsTrue (device d).tells → length (device d).content ≡ (device d).size
+sized : (D : Type 0) (device : D → Device)
+    → ((d : D) (image : List ℕ) → IsTrue (device d).tells → (device d).may_leave image → length image ≡ (device d).size)
+    → ((d : D) → IsTrue (device d).tells → (device d).may_leave (device d).content) → (d : D) → IsTrue (device d).tells
+    → length (device d).content ≡ (device d).size
 sized D device law now d t = law d (device d).content t (now d t)
 
-fits : (D : Type 0) (device : D → Device) (v w : CacheView D) → v ≡ w → (at : ℕ) (from : List ℕ) → at + length from ≤ (device w.disk).size → at + length from ≤ (device v.disk).size
+fits : (D : Type 0) (device : D → Device) (v w : CacheView D) → v ≡ w → (at : ℕ) (from : List ℕ) → at + length from ≤ (device w.disk).size
+    → at + length from ≤ (device v.disk).size
 fits D device v w is at from room = subst (λ (x : CacheView D). at + length from ≤ (device x.disk).size) (sym is) room
 
 pub invariant_of-self : goal.invariant_of-self
-invariant_of-self g c = record { size = c.self.invariant.size; past = none_past (g.D.Disk.device c.self.inside.disk) c.self.inside.len c.args.at c.args.from.now (taken c.self.inside.collected) (taken c.collect.new.self) c.self.invariant.size (λ t. sized g.row.D.Denot g.D.Disk.device g.met.D.Disk.image_size g.met.D.Disk.counts_content c.self.inside.disk t) (fits g.row.D.Denot g.D.Disk.device _ _ c.self.view_is c.args.at c.args.from.now c.requires) c.in-Ok.ensures.inside c.in-Ok.ensures.outside c.self.invariant.past }
+invariant_of-self g c = record {
+  size = c.self.invariant.size;
+  past = none_past (g.D.Disk.device c.self.inside.disk) c.self.inside.len c.args.at c.args.from.now (taken c.self.inside.collected)
+      (taken c.collect.new.self) c.self.invariant.size
+      (λ t. sized g.row.D.Denot g.D.Disk.device g.met.D.Disk.image_size g.met.D.Disk.counts_content c.self.inside.disk t)
+      (fits g.row.D.Denot g.D.Disk.device _ _ c.self.view_is c.args.at c.args.from.now c.requires) c.in-Ok.ensures.inside
+      c.in-Ok.ensures.outside c.self.invariant.past;
+}
 
 pub invariant_of-self-in-Err : goal.invariant_of-self-in-Err
-invariant_of-self-in-Err g c = record { size = c.self.invariant.size; past = λ k past. c.in-Err.ensures.refused k ∙ c.self.invariant.past k past }
+invariant_of-self-in-Err g c = record {
+  size = c.self.invariant.size;
+  past = λ k past. c.in-Err.ensures.refused k
+      ∙ c.self.invariant.past k past;
+}
 
 pub returns-in-Ok-clause-collects : goal.returns-in-Ok-clause-collects
-returns-in-Ok-clause-collects g c = rw (← c.self.view_is) (collects (g.D.Disk.device c.self.inside.disk) c.self.inside.len c.args.at c.args.from.now (taken c.self.inside.collected) (taken c.collect.new.self) c.self.invariant.size (λ t. sized g.row.D.Denot g.D.Disk.device g.met.D.Disk.image_size g.met.D.Disk.counts_content c.self.inside.disk t) (fits g.row.D.Denot g.D.Disk.device _ _ c.self.view_is c.args.at c.args.from.now c.requires) c.in-Ok.ensures.inside c.in-Ok.ensures.outside c.self.invariant.past)
+returns-in-Ok-clause-collects g c =
+    rw (← c.self.view_is) (collects (g.D.Disk.device c.self.inside.disk) c.self.inside.len c.args.at c.args.from.now
+    (taken c.self.inside.collected) (taken c.collect.new.self) c.self.invariant.size
+    (λ t. sized g.row.D.Denot g.D.Disk.device g.met.D.Disk.image_size g.met.D.Disk.counts_content c.self.inside.disk t)
+    (fits g.row.D.Denot g.D.Disk.device _ _ c.self.view_is c.args.at c.args.from.now c.requires) c.in-Ok.ensures.inside
+    c.in-Ok.ensures.outside c.self.invariant.past)
 
 pub returns-in-Ok-clause-content : goal.returns-in-Ok-clause-content
-returns-in-Ok-clause-content g c = rw (← c.self.view_is) (collects_content (g.D.Disk.device c.self.inside.disk) c.self.inside.len c.args.at c.args.from.now (taken c.self.inside.collected) (taken c.collect.new.self) c.self.invariant.size (λ t. sized g.row.D.Denot g.D.Disk.device g.met.D.Disk.image_size g.met.D.Disk.counts_content c.self.inside.disk t) (fits g.row.D.Denot g.D.Disk.device _ _ c.self.view_is c.args.at c.args.from.now c.requires) c.in-Ok.ensures.inside c.in-Ok.ensures.outside c.self.invariant.past)
+returns-in-Ok-clause-content g c =
+    rw (← c.self.view_is) (collects_content (g.D.Disk.device c.self.inside.disk) c.self.inside.len c.args.at c.args.from.now
+    (taken c.self.inside.collected) (taken c.collect.new.self) c.self.invariant.size
+    (λ t. sized g.row.D.Denot g.D.Disk.device g.met.D.Disk.image_size g.met.D.Disk.counts_content c.self.inside.disk t)
+    (fits g.row.D.Denot g.D.Disk.device _ _ c.self.view_is c.args.at c.args.from.now c.requires) c.in-Ok.ensures.inside
+    c.in-Ok.ensures.outside c.self.invariant.past)
 
 pub returns-in-Ok-clause-crash : goal.returns-in-Ok-clause-crash
 returns-in-Ok-clause-crash g c =
     rw (← c.self.view_is)
-    (λ t. collects_crash (g.D.Disk.device c.self.inside.disk) c.self.inside.len c.args.at c.args.from.now (taken c.self.inside.collected) (taken c.collect.new.self) c.self.invariant.size (λ t. sized g.row.D.Denot g.D.Disk.device g.met.D.Disk.image_size g.met.D.Disk.counts_content c.self.inside.disk t) (fits g.row.D.Denot g.D.Disk.device _ _ c.self.view_is c.args.at c.args.from.now c.requires) c.in-Ok.ensures.inside c.in-Ok.ensures.outside c.self.invariant.past (λ image left. g.met.D.Disk.image_size c.self.inside.disk image t left) (λ k. omega (arith, c.type_inv.from k)))
+    (λ t. collects_crash (g.D.Disk.device c.self.inside.disk) c.self.inside.len c.args.at c.args.from.now (taken c.self.inside.collected)
+    (taken c.collect.new.self) c.self.invariant.size
+    (λ t. sized g.row.D.Denot g.D.Disk.device g.met.D.Disk.image_size g.met.D.Disk.counts_content c.self.inside.disk t)
+    (fits g.row.D.Denot g.D.Disk.device _ _ c.self.view_is c.args.at c.args.from.now c.requires) c.in-Ok.ensures.inside
+    c.in-Ok.ensures.outside c.self.invariant.past (λ image left. g.met.D.Disk.image_size c.self.inside.disk image t left)
+    (λ k. omega (arith, c.type_inv.from k)))
 
 pub returns-in-Ok-clause-since : goal.returns-in-Ok-clause-since
 returns-in-Ok-clause-since g c =
     rw (← c.self.view_is)
-    (λ t time image before left. left_collected (places (taken c.self.inside.collected) c.self.inside.len) (g.D.Disk.device c.self.inside.disk) (g.D.Disk.device c.self.inside.disk) (places (taken c.collect.new.self) c.self.inside.len) _
-    (collects_crash (g.D.Disk.device c.self.inside.disk) c.self.inside.len c.args.at c.args.from.now (taken c.self.inside.collected) (taken c.collect.new.self) c.self.invariant.size (λ t. sized g.row.D.Denot g.D.Disk.device g.met.D.Disk.image_size g.met.D.Disk.counts_content c.self.inside.disk t) (fits g.row.D.Denot g.D.Disk.device _ _ c.self.view_is c.args.at c.args.from.now c.requires) c.in-Ok.ensures.inside c.in-Ok.ensures.outside c.self.invariant.past (λ image left. g.met.D.Disk.image_size c.self.inside.disk image t left) (λ k. omega (arith, c.type_inv.from k))) time image left)
+    (λ t time image before left. left_collected (places (taken c.self.inside.collected) c.self.inside.len)
+    (g.D.Disk.device c.self.inside.disk) (g.D.Disk.device c.self.inside.disk) (places (taken c.collect.new.self) c.self.inside.len) _
+    (collects_crash (g.D.Disk.device c.self.inside.disk) c.self.inside.len c.args.at c.args.from.now (taken c.self.inside.collected)
+    (taken c.collect.new.self) c.self.invariant.size
+    (λ t. sized g.row.D.Denot g.D.Disk.device g.met.D.Disk.image_size g.met.D.Disk.counts_content c.self.inside.disk t)
+    (fits g.row.D.Denot g.D.Disk.device _ _ c.self.view_is c.args.at c.args.from.now c.requires) c.in-Ok.ensures.inside
+    c.in-Ok.ensures.outside c.self.invariant.past (λ image left. g.met.D.Disk.image_size c.self.inside.disk image t left)
+    (λ k. omega (arith, c.type_inv.from k))) time image left)
 
 pub returns-in-Err-clause-untouched : goal.returns-in-Err-clause-untouched
 returns-in-Err-clause-untouched g c =
     rw (← c.self.view_is)
-    (ap (λ (cs : List (Option ℕ)). let w : CacheView g.row.D.Denot = record { disk = c.self.inside.disk; collected = cs; reads = c.self.inside.reads; writes = c.self.inside.writes; syncs = c.self.inside.syncs } in w)
+    (ap (λ (cs : List (Option ℕ)). let w : CacheView g.row.D.Denot =
+    record {
+      disk = c.self.inside.disk;
+      collected = cs;
+      reads = c.self.inside.reads;
+      writes = c.self.inside.writes;
+      syncs = c.self.inside.syncs;
+    } in w)
     (places_same (taken c.self.inside.collected) (taken c.collect.new.self) c.self.inside.len c.in-Err.ensures.refused))
 
 pub returns-in-Err-clause-crash : goal.returns-in-Err-clause-crash
 returns-in-Err-clause-crash g c =
-    let same = subst (λ (cs : List (Option ℕ)). IsUntouched c.args.at (length c.args.from.now) (cache_device g.D.Disk.device (record { disk = c.self.inside.disk; collected = places (taken c.self.inside.collected) c.self.inside.len; reads = c.self.inside.reads; writes = c.self.inside.writes; syncs = c.self.inside.syncs })) (cache_device g.D.Disk.device (record { disk = c.self.inside.disk; collected = cs; reads = c.self.inside.reads; writes = c.self.inside.writes; syncs = c.self.inside.syncs })))
+    let same = subst (λ (cs : List (Option ℕ)). IsUntouched c.args.at (length c.args.from.now)
+    (cache_device g.D.Disk.device (record {
+      disk = c.self.inside.disk;
+      collected = places (taken c.self.inside.collected) c.self.inside.len;
+      reads = c.self.inside.reads;
+      writes = c.self.inside.writes;
+      syncs = c.self.inside.syncs;
+    }))
+    (cache_device g.D.Disk.device (record {
+      disk = c.self.inside.disk;
+      collected = cs;
+      reads = c.self.inside.reads;
+      writes = c.self.inside.writes;
+      syncs = c.self.inside.syncs;
+    })))
     (sym (places_same (taken c.self.inside.collected) (taken c.collect.new.self) c.self.inside.len c.in-Err.ensures.refused))
     (untouched c.args.at (length c.args.from.now) _) in
     rw (← c.self.view_is) (λ t. same.crash)
 
 pub returns-in-Err-clause-since : goal.returns-in-Err-clause-since
 returns-in-Err-clause-since g c =
-    let same = subst (λ (cs : List (Option ℕ)). IsUntouched c.args.at (length c.args.from.now) (cache_device g.D.Disk.device (record { disk = c.self.inside.disk; collected = places (taken c.self.inside.collected) c.self.inside.len; reads = c.self.inside.reads; writes = c.self.inside.writes; syncs = c.self.inside.syncs })) (cache_device g.D.Disk.device (record { disk = c.self.inside.disk; collected = cs; reads = c.self.inside.reads; writes = c.self.inside.writes; syncs = c.self.inside.syncs })))
+    let same = subst (λ (cs : List (Option ℕ)). IsUntouched c.args.at (length c.args.from.now)
+    (cache_device g.D.Disk.device (record {
+      disk = c.self.inside.disk;
+      collected = places (taken c.self.inside.collected) c.self.inside.len;
+      reads = c.self.inside.reads;
+      writes = c.self.inside.writes;
+      syncs = c.self.inside.syncs;
+    }))
+    (cache_device g.D.Disk.device (record {
+      disk = c.self.inside.disk;
+      collected = cs;
+      reads = c.self.inside.reads;
+      writes = c.self.inside.writes;
+      syncs = c.self.inside.syncs;
+    })))
     (sym (places_same (taken c.self.inside.collected) (taken c.collect.new.self) c.self.inside.len c.in-Err.ensures.refused))
     (untouched c.args.at (length c.args.from.now) _) in
     rw (← c.self.view_is) (λ t. same.since)
 
 pub returns-in-Err-clause-refused : goal.returns-in-Err-clause-refused
 returns-in-Err-clause-refused g c =
-    let same = subst (λ (cs : List (Option ℕ)). IsUntouched c.args.at (length c.args.from.now) (cache_device g.D.Disk.device (record { disk = c.self.inside.disk; collected = places (taken c.self.inside.collected) c.self.inside.len; reads = c.self.inside.reads; writes = c.self.inside.writes; syncs = c.self.inside.syncs })) (cache_device g.D.Disk.device (record { disk = c.self.inside.disk; collected = cs; reads = c.self.inside.reads; writes = c.self.inside.writes; syncs = c.self.inside.syncs })))
+    let same = subst (λ (cs : List (Option ℕ)). IsUntouched c.args.at (length c.args.from.now)
+    (cache_device g.D.Disk.device (record {
+      disk = c.self.inside.disk;
+      collected = places (taken c.self.inside.collected) c.self.inside.len;
+      reads = c.self.inside.reads;
+      writes = c.self.inside.writes;
+      syncs = c.self.inside.syncs;
+    }))
+    (cache_device g.D.Disk.device (record {
+      disk = c.self.inside.disk;
+      collected = cs;
+      reads = c.self.inside.reads;
+      writes = c.self.inside.writes;
+      syncs = c.self.inside.syncs;
+    })))
     (sym (places_same (taken c.self.inside.collected) (taken c.collect.new.self) c.self.inside.len c.in-Err.ensures.refused))
     (untouched c.args.at (length c.args.from.now) _) in
     rw (← c.self.view_is) (λ is. same.refused)

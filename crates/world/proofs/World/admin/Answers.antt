@@ -8,6 +8,13 @@ use Rattle.world.proofs.World.admin.Goals as goal
 
 pub invariant_of-self : goal.invariant_of-self
 invariant_of-self g c =
-    let old : WorldView g.row.D.Denot = record { journal = c.self.inside.journal; served = c.self.inside.served; untold = news_in c.self.inside.ticket c.self.inside.is_committed c.self.inside.has_failed } in
-    sound_tested of_admin Memory _ _ (g.D.Disk.device c.self.inside.journal.disk).tells old c.admin.new.self c.self.inside.ticket c.admin.result _
-    (λ serial done. Grows-administers (kernel_of old) c.admin.new.self.kernel _ serial done.kernel) c.kept.ensures.kernel c.admin.ensures c.self.invariant
+    let old : WorldView g.row.D.Denot =
+    record {
+      journal = c.self.inside.journal;
+      served = c.self.inside.served;
+      untold = news_in c.self.inside.ticket c.self.inside.is_committed c.self.inside.has_failed;
+    } in
+    sound_tested of_admin Memory _ _ (g.D.Disk.device c.self.inside.journal.disk).tells old c.admin.new.self c.self.inside.ticket
+    c.admin.result _
+    (λ serial done. Grows-administers (kernel_of old) c.admin.new.self.kernel _ serial done.kernel) c.kept.ensures.kernel c.admin.ensures
+    c.self.invariant

@@ -10,7 +10,13 @@ use Rattle.world.proofs.World.join.Goals as goal
 
 pub invariant_of-self : goal.invariant_of-self
 invariant_of-self g c =
-    let old : WorldView g.row.D.Denot = record { journal = c.self.inside.journal; served = c.self.inside.served; untold = news_in c.self.inside.ticket c.self.inside.is_committed c.self.inside.has_failed } in
-    sound_tested of_join Memory None (join_refusal (kernel_of old)) (g.D.Disk.device c.self.inside.journal.disk).tells old c.join.new.self c.self.inside.ticket c.join.result _
+    let old : WorldView g.row.D.Denot =
+    record {
+      journal = c.self.inside.journal;
+      served = c.self.inside.served;
+      untold = news_in c.self.inside.ticket c.self.inside.is_committed c.self.inside.has_failed;
+    } in
+    sound_tested of_join Memory None (join_refusal (kernel_of old)) (g.D.Disk.device c.self.inside.journal.disk).tells old c.join.new.self
+    c.self.inside.ticket c.join.result _
     (λ number done. Grows-seats (kernel_of old) c.join.new.self.kernel _ _ (ap (λ (s : ServedView). s.kernel) done.1)) c.kept.ensures.kernel
     (tested_or of_join Memory (join_refusal (kernel_of old)) old.served c.join.new.self c.join.result _ c.join.ensures) c.self.invariant

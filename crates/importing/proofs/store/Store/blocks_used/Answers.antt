@@ -9,7 +9,8 @@ use Rattle.importing.proofs.store.Store.blocks_used.Goals as goal
 
 pub returns-clause-value : goal.returns-clause-value
 returns-clause-value g c = λ tells.
-    let told : IsTrue (g.D.Disk.device c.self.inside.journal.disk).tells = subst (λ (b : Bool). IsTrue b) c.blocks_used.ensures.tells tells in
+    let told : IsTrue (g.D.Disk.device c.self.inside.journal.disk).tells =
+    subst (λ (b : Bool). IsTrue b) c.blocks_used.ensures.tells tells in
     let saved = subst (λ (s : StoreView g.row.D.Denot). IsSaved g.D.Disk.device s) (sym c.self.view_is) c.requires in
     IfOk-weaker c.blocks_used.result _ _
     (λ used is. used_are c.self.inside.spool c.self.inside.journal.blocks used c.kept.ensures saved.clean

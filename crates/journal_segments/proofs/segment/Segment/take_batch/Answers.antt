@@ -7,7 +7,8 @@ use Rattle.journal_segments.proofs.segment.Segment.take_batch.Goals as goal
 pub returns : goal.returns
 returns c =
     let numbers : take (length c.args.numbers.now) c.put_front.new.room.items ≡ c.args.numbers.now =
-    ap (λ (l : List ℕ). take (length c.args.numbers.now) l) c.put_front.ensures ∙ take_at c.args.numbers.now _ (length c.args.numbers.now) refl in
+    ap (λ (l : List ℕ). take (length c.args.numbers.now) l) c.put_front.ensures
+    ∙ take_at c.args.numbers.now _ (length c.args.numbers.now) refl in
     record {
       place_is = refl;
       size = c.describe_batch.ensures.size;

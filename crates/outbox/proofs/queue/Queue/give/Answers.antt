@@ -12,7 +12,12 @@ overflow_sub-self-2 c =
     let before = c.into.inside.octets.items in
     let gives = c.give_front-ended.ensures.gives in
     let g = give c.args.durable (65_536 - length before) q.given q.outputs.items in
-    omega (arith, ap length gives.octets_are, length-append before g.octets, give-buffered c.args.durable (65_536 - length before) q.given q.outputs.items)
+    omega (
+      arith,
+      ap length gives.octets_are,
+      length-append before g.octets,
+      give-buffered c.args.durable (65_536 - length before) q.given q.outputs.items,
+    )
 
 pub invariant_of-self : goal.invariant_of-self
 invariant_of-self c =
@@ -20,7 +25,13 @@ invariant_of-self c =
     let before = c.into.inside.octets.items in
     let gives = c.give_front-ended.ensures.gives in
     let g = give c.args.durable (65_536 - length before) q.given q.outputs.items in
-    omega (arith, ap length gives.octets_are, ap buffered gives.held_is, length-append before g.octets, give-buffered c.args.durable (65_536 - length before) q.given q.outputs.items)
+    omega (
+      arith,
+      ap length gives.octets_are,
+      ap buffered gives.held_is,
+      length-append before g.octets,
+      give-buffered c.args.durable (65_536 - length before) q.given q.outputs.items,
+    )
 
 pub invariant_of-into : goal.invariant_of-into
 invariant_of-into c =
@@ -28,15 +39,24 @@ invariant_of-into c =
     let gives = c.give_front-ended.ensures.gives in
     let start : c.len-start.result ≡ length b.octets.items = c.len-start.ensures ∙ b.octets.ok.0 in
     let end : c.len-end.result ≡ length c.give_front-ended.new.octets.items = c.len-end.ensures ∙ c.give_front-ended.new.octets.ok.0 in
-    let few = given-few b.octets.items c.give_front-ended.new.octets.items b.slots.items c.end_entry.new.slots.items c.args.number c.len-start.result c.len-end.result _ _ _ _ c.into.invariant.within gives start end c.end_entry.ensures.items in
-    let room : length b.slots.items < 64 = omega (arith, c.requires, ap (λ (entries : List Entry). length entries) c.into.view_is, length-map b.slots.items (entry_at b.octets.items)) in
+    let few = given-few b.octets.items c.give_front-ended.new.octets.items b.slots.items c.end_entry.new.slots.items c.args.number
+    c.len-start.result c.len-end.result _ _ _ _ c.into.invariant.within gives start end c.end_entry.ensures.items in
+    let room : length b.slots.items < 64 =
+    omega (
+      arith,
+      c.requires,
+      ap (λ (entries : List Entry). length entries) c.into.view_is,
+      length-map b.slots.items (entry_at b.octets.items),
+    ) in
     let now : c.end_entry.new.slots.len ≡ length c.end_entry.new.slots.items = c.end_entry.new.slots.ok.0 in
     record {
-      within = given-within b.octets.items c.give_front-ended.new.octets.items b.slots.items c.end_entry.new.slots.items c.args.number c.len-start.result c.len-end.result _ _ _ _ c.into.invariant.within gives start end c.end_entry.ensures.items;
+      within = given-within b.octets.items c.give_front-ended.new.octets.items b.slots.items c.end_entry.new.slots.items c.args.number
+          c.len-start.result c.len-end.result _ _ _ _ c.into.invariant.within gives start end c.end_entry.ensures.items;
       along = given-along b.octets.items c.give_front-ended.new.octets.items b.slots.items c.end_entry.new.slots.items c.args.number
           c.len-start.result c.len-end.result _ _ _ _ c.into.invariant.within gives start end c.end_entry.ensures.items
           c.into.invariant.along;
-      counted = given-counted b.octets.items c.give_front-ended.new.octets.items b.slots.items c.end_entry.new.slots.items c.args.number c.len-start.result c.len-end.result _ _ _ _ c.into.invariant.within gives start end c.end_entry.ensures.items
+      counted = given-counted b.octets.items c.give_front-ended.new.octets.items b.slots.items c.end_entry.new.slots.items c.args.number
+          c.len-start.result c.len-end.result _ _ _ _ c.into.invariant.within gives start end c.end_entry.ensures.items
           c.into.invariant.counted;
       octets = c.give_front-ended.ensures.bound;
       octet_room = c.give_front-ended.ensures.room;
@@ -49,8 +69,13 @@ returns-clause-entries c =
     let q = c.self.inside in
     let b = c.into.inside in
     let gives = c.give_front-ended.ensures.gives in
-    given-entries b.octets.items c.give_front-ended.new.octets.items b.slots.items c.end_entry.new.slots.items c.args.number c.len-start.result c.len-end.result _ _ _ _
-    c.into.invariant.within gives (c.len-start.ensures ∙ b.octets.ok.0) (c.len-end.ensures ∙ c.give_front-ended.new.octets.ok.0) c.end_entry.ensures.items
-    ∙ ap (λ room. entries_in b.octets.items b.slots.items ++ entry_of c.args.number (give c.args.durable (65_536 - room) q.given q.outputs.items)) (sym c.into.invariant.counted)
-    ∙ ap (λ entries. entries ++ entry_of c.args.number (give c.args.durable (65_536 - octets_in entries) q.given q.outputs.items)) c.into.view_is
-    ∙ ap (λ (view : QueueView). c.args.into.now ++ entry_of c.args.number (give c.args.durable (65_536 - octets_in c.args.into.now) view.given view.held)) c.self.view_is
+    given-entries b.octets.items c.give_front-ended.new.octets.items b.slots.items c.end_entry.new.slots.items c.args.number
+    c.len-start.result c.len-end.result _ _ _ _
+    c.into.invariant.within gives (c.len-start.ensures ∙ b.octets.ok.0) (c.len-end.ensures
+    ∙ c.give_front-ended.new.octets.ok.0) c.end_entry.ensures.items
+    ∙ ap (λ room. entries_in b.octets.items b.slots.items ++ entry_of c.args.number
+    (give c.args.durable (65_536 - room) q.given q.outputs.items)) (sym c.into.invariant.counted)
+    ∙ ap (λ entries. entries ++ entry_of c.args.number (give c.args.durable (65_536 - octets_in entries) q.given q.outputs.items))
+    c.into.view_is
+    ∙ ap (λ (view : QueueView). c.args.into.now ++ entry_of c.args.number
+    (give c.args.durable (65_536 - octets_in c.args.into.now) view.given view.held)) c.self.view_is

@@ -10,7 +10,8 @@ invariant_of-self-2 c =
     let output : Held = record { octets = c.args.octets.items; dependency = c.args.dependency; ends = c.args.ends } in
     let now = c.in_ok-put.ensures.ok in
     let same = ap (λ (ks : List Kept). holding (sent c.args.sid output (sessions ks))) c.self.view_is in
-    sound_with (with_output output) (λ s. refl) c.args.sid c.self.inside.seats.items c.put.new.seats.items now c.self.invariant (omega (arith, ap holding now, same, c.requires))
+    sound_with (with_output output) (λ s. refl) c.args.sid c.self.inside.seats.items c.put.new.seats.items now c.self.invariant
+    (omega (arith, ap holding now, same, c.requires))
 
 pub returns-then-buffered-len-clause-full : goal.returns-then-buffered-len-clause-full
 returns-then-buffered-len-clause-full c = search rules

@@ -17,11 +17,13 @@ loop-i-preserved c =
       sent = elim c.if-doubles.branch [
         | then-doubles+in_ok-push_with_dot w ↦
             (λ j. (w.reply-is j).items ++ take (i + 1 - w.start-is j) (drop (w.start-is j) piece))
-            ∙ dot_more c.args.self.now c.loop-i.state piece c.args.reply.now.items c.loop-i.reply.items c.loop-i.start i low c.loop-i.invariant.order c.loop-i.invariant.sent c.loop-i.invariant.state
+            ∙ dot_more c.args.self.now c.loop-i.state piece c.args.reply.now.items c.loop-i.reply.items c.loop-i.start i low
+            c.loop-i.invariant.order c.loop-i.invariant.sent c.loop-i.invariant.state
             w.push_with_dot.new.reply.items (sym c.doubles.ensures ∙ w.if-doubles.true) w.in_ok-push_with_dot.ensures
         | else-doubles w ↦
             (λ j. (w.reply-is j).items ++ take (i + 1 - w.start-is j) (drop (w.start-is j) piece))
-            ∙ plain_more c.args.self.now c.loop-i.state piece c.args.reply.now.items c.loop-i.reply.items c.loop-i.start i low c.loop-i.invariant.order c.loop-i.invariant.sent c.loop-i.invariant.state
+            ∙ plain_more c.args.self.now c.loop-i.state piece c.args.reply.now.items c.loop-i.reply.items c.loop-i.start i low
+            c.loop-i.invariant.order c.loop-i.invariant.sent c.loop-i.invariant.state
             (sym c.doubles.ensures ∙ w.if-doubles.false)
       ];
       state = c.next-state.ensures ∙ more_state c.args.self.now piece i c.loop-i.state low c.loop-i.invariant.state;

@@ -26,5 +26,6 @@ returns-clause-dirty c k =
     subst (λ (l : List ℕ). P l now.dirty now.cache now.seen) (sym after)
     (subst (λ (l : List ℕ). P c.lay_over.new.dirty.members l now.cache now.seen) before
     (subst (λ (l : List (List ℕ)). P c.lay_over.new.dirty.members inside.dirty.members l now.seen) start
-    (subst (λ (l : List (List ℕ)). P c.lay_over.new.dirty.members inside.dirty.members (blocks_from 0 inside.dirty.bound c.deref_mut.result.now) l) moved
+    (subst (λ (l : List (List ℕ)). P c.lay_over.new.dirty.members inside.dirty.members
+    (blocks_from 0 inside.dirty.bound c.deref_mut.result.now) l) moved
     (c.lay_over.ensures.dirty k))))

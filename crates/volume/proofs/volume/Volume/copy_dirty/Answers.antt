@@ -20,7 +20,8 @@ pub returns-clause-below : goal.returns-clause-below
 returns-clause-below c =
     let inside = c.self.inside in
     let count : inside.dirty.bound ≡ length c.args.self.now.cache =
-    c.self.invariant.same_bound ∙ sym (length-blocks_from inside.staged.bound inside.cache.items) ∙ ap (λ (v : VolumeView). length v.cache) c.self.view_is in
+    c.self.invariant.same_bound ∙ sym (length-blocks_from inside.staged.bound inside.cache.items)
+    ∙ ap (λ (v : VolumeView). length v.cache) c.self.view_is in
     let numbers : c.fill.new.self.numbers ≡ inside.dirty.members = ap (λ (b : BatchView). b.numbers) c.fill.ensures ∙ c.as_slice.ensures in
     subst (λ (l : List ℕ). All (λ m. m < length c.args.self.now.cache) l) (sym numbers)
     (subst (λ (n : ℕ). All (λ m. m < n) inside.dirty.members) count c.self.invariant.dirty_numbers.below)
@@ -34,10 +35,12 @@ returns-clause-laid c =
     ap (λ (b : BatchView). b.images) c.fill.ensures
     ∙ ap (λ (l : List ℕ). flat_map (λ n. block n c.deref.result.now) l) c.as_slice.ensures
     ∙ ap (λ (l : List ℕ). flat_map (λ n. block n l) inside.dirty.members) c.deref.ensures.value in
-    let P : List ℕ → List ℕ → List (List ℕ) → Type 0 = λ ns octets cache. (blocks : List (List ℕ)) → AgreeOutside ns blocks cache → laid_over blocks ns (blocks_from 0 (length ns) octets) ≡ cache in
+    let P : List ℕ → List ℕ → List (List ℕ) → Type 0 = λ ns octets cache. (blocks : List (List ℕ)) → AgreeOutside ns blocks cache
+    → laid_over blocks ns (blocks_from 0 (length ns) octets) ≡ cache in
     subst (λ (l : List ℕ). P l c.fill.new.self.images c.args.self.now.cache) (sym numbers)
     (subst (λ (l : List ℕ). P inside.dirty.members l c.args.self.now.cache) (sym images)
-    (subst (λ (v : VolumeView). P inside.dirty.members (flat_map (λ n. block n inside.cache.items) inside.dirty.members) v.cache) c.self.view_is
+    (subst (λ (v : VolumeView). P inside.dirty.members (flat_map (λ n. block n inside.cache.items) inside.dirty.members) v.cache)
+    c.self.view_is
     (copied_laid inside.staged.bound inside.cache.items inside.dirty.members c.self.invariant.cache_size below)))
 
 pub returns-clause-clean : goal.returns-clause-clean

@@ -6,7 +6,8 @@ use Rattle.volume.proofs.volume.VolumeBlocks.len.Goals as goal
 
 pub returns-clause-count : goal.returns-clause-count
 returns-clause-count c =
-    let count = length-seen c.self.inside.cache.items c.self.inside.images.items c.self.inside.staged c.self.inside.dirty c.self.invariant in
+    let count = length-seen c.self.inside.cache.items c.self.inside.images.items c.self.inside.staged c.self.inside.dirty c.self.invariant
+    in
     let same = ap (λ (v : VolumeView). length v.seen) c.self.view_is in
     omega (arith, c.self.invariant.cache_size)
 
