@@ -23,6 +23,14 @@ class Graph:
                 left += self.uses[name]
         return [it for it in self.lines if it in found]
 
+    def lowest_first(self):
+        """All crates, each after those that it uses, and else as the file has them."""
+        found = []
+        while len(found) < len(self.lines):
+            ready = [it for it in self.lines if it not in found and all(used in found for used in self.uses[it] if used in self.uses)]
+            found.append(ready[0])
+        return found
+
     def copy(self, names, to, without):
         """Copies these crates and all that they stand on, as a repository of their own. Files and folders of these names are left out."""
         below = self.below(names)
