@@ -1,5 +1,6 @@
 #!/usr/bin/env python3
-"""Checks of the pages: links, named files, the columns of lines, and pictures. They need no program. pages.py [NEWSD [NAME..]]"""
+"""Checks of the pages: links, named files, the columns of lines, pictures, and the list of what has to be believed. They need no program.
+pages.py [NEWSD [NAME..]]"""
 import os
 import re
 import subprocess
@@ -94,14 +95,24 @@ def no_line_is_too_long():
                 yield "%s:%d has %d columns" % (page, number, len(line))
 
 
+def faults_by(script):
+    """What a script says with `--check`, if its status isn't 0."""
+    done = subprocess.run([sys.executable, "-B", os.path.join(TOP, script), "--check"], capture_output=True, text=True, timeout=60)
+    if done.returncode:
+        yield from (script + ": " + it for it in (done.stdout + done.stderr).strip().splitlines())
+
+
 def pictures_are_what_their_scripts_draw():
     for script in ("bin/pictures", "bench/plots"):
-        done = subprocess.run([sys.executable, "-B", os.path.join(TOP, script), "--check"], capture_output=True, text=True, timeout=60)
-        if done.returncode:
-            yield "%s: %s" % (script, (done.stdout + done.stderr).strip())
+        yield from faults_by(script)
 
 
-TESTS = [each_link_leads_somewhere, each_named_file_is_there, no_line_is_too_long, pictures_are_what_their_scripts_draw]
+def theorem_lists_what_has_to_be_believed():
+    yield from faults_by("bin/believed")
+
+
+TESTS = [each_link_leads_somewhere, each_named_file_is_there, no_line_is_too_long, pictures_are_what_their_scripts_draw,
+         theorem_lists_what_has_to_be_believed]
 
 
 def main():
