@@ -36,6 +36,10 @@ class Sim:
         self.process.stdin.close()
         self.printed.close()
 
+    def stay_on_one_processor(self):
+        """From now on it runs on the processor of all others that do, so that their times compare."""
+        os.sched_setaffinity(self.process.pid, {max(os.sched_getaffinity(0))})
+
     def play(self, lines):
         """Has these lines played. The processor seconds of the run up to then."""
         self.process.stdin.write("".join(line + "\n" for line in lines).encode())
