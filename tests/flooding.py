@@ -1,4 +1,4 @@
-"""A caller that asks for articles without end. Its process has a session of its own, so it takes no time of the one that measures."""
+"""A caller that asks without end. Its process has a session of its own, so it takes no time of the one that measures."""
 import multiprocessing
 import os
 import threading
@@ -9,7 +9,7 @@ FORK = multiprocessing.get_context("fork")
 
 
 class Flood:
-    """It asks for one article again and again, and reads so fast at most: in octets for each second, or as fast as it can where that
+    """It asks the same again and again, and reads so fast at most: in octets for each second, or as fast as it can where that
     is None, or not at all where it is 0. It has failed where it got something else than its replies, or no more."""
 
     def __init__(self, caller, asked, reply, rate):
