@@ -1,13 +1,13 @@
 //! The lines of a text, and where its header ends.
 
-ghost use Rattle.std.specs.Prelude.{◌≡◌, ◌<◌, ◌≤◌, ◌∷◌, length, take, drop, bytes_eq};
+ghost use Rattle.std.specs.Prelude.{◌≡◌, ◌<◌, ◌≤◌, ◌↔◌, ◌∷◌, IsTrue, MatchOption, false, length, take, drop, bytes_eq};
 ghost use Rattle.std.specs.List.{list_all};
 ghost use Rattle.model.specs.Stream.{crlf, lines};
 ghost use Rattle.model.specs.Article as article;
-ghost use Rattle.article.specs.Header.{IsHeader, is_plain};
+ghost use Rattle.article.specs.Header.{IsFirstWhole, IsHeader};
+ghost use Rattle.memchr.specs.Find.{FindsNeedle, OccursAt};
 
-use bstr::ByteSlice;
-use memchr::memchr3;
+use memchr::{memchr, memchr3};
 
 /// The length of a text's first line, with its CRLF if it has one.
 pub(crate) fn line_length(text: &[u8]) -> usize
@@ -16,10 +16,25 @@ pub(crate) fn line_length(text: &[u8]) -> usize
     ensures within { result ≤ length text.now }
     ensures first { lines text.now ≡ take result text.now ∷ lines (drop result text.now) }
 {
-    match text.find(b"\r\n") {
+    match crlf_in(text) {
         Some(at) => at + 2,
         None => text.len(),
     }
+}
+
+/// Where the first CRLF of a text stands. A text of whole lines is searched for LF once.
+fn crlf_in(text: &[u8]) -> Option<usize>
+    ensures { FindsNeedle text.now crlf 0 result }
+{
+    let mut from = 0;
+    while let Some(place) = memchr(b'\n', &text[from..]) {
+        let at = from + place;
+        if at > 0 && text[at - 1] == b'\r' {
+            return Some(at - 1);
+        }
+        from = at + 1;
+    }
+    None
 }
 
 /// Whether a line is empty.
@@ -29,18 +44,26 @@ pub(crate) fn is_empty_line(line: &[u8]) -> bool
     line == b"\r\n".as_slice()
 }
 
-/// Whether none of the octets is NUL, CR or LF.
-fn are_plain(octets: &[u8]) -> bool
-    ensures { result ≡ list_all is_plain octets.now }
+/// Whether CRLF stands at a place of a text.
+fn has_crlf(text: &[u8], at: usize) -> bool
+    requires { at < length text.now }
+    ensures { IsTrue result ↔ OccursAt text.now crlf at }
 {
-    memchr3(0, b'\r', b'\n', octets).is_none()
+    at + 1 < text.len() && text[at] == b'\r' && text[at + 1] == b'\n'
 }
 
-/// Whether a line ends in CRLF and has no NUL, CR or LF before it.
-fn is_whole_line(line: &[u8]) -> bool
-    ensures { result ≡ article.is_whole_line line.now }
+/// The length of a text's first line with its CRLF. `None` if it has none, or NUL, CR or LF before it.
+fn whole_line_length(text: &[u8]) -> Option<usize>
+    requires { 0 < length text.now }
+    ensures { MatchOption result (list_all article.is_whole_line (lines text.now) ≡ false) (IsFirstWhole text.now) }
 {
-    line.ends_with(b"\r\n") && are_plain(&line[..line.len() - 2])
+    let Some(at) = memchr3(0, b'\r', b'\n', text) else {
+        return None;
+    };
+    if !has_crlf(text, at) {
+        return None;
+    }
+    Some(at + 2)
 }
 
 /// Whether a text consists of whole lines, at least one.
@@ -49,11 +72,10 @@ pub(crate) fn has_lines_alone(text: &[u8]) -> bool
 {
     let mut rest = text;
     while !rest.is_empty() {
-        let (line, later) = rest.split_at(line_length(rest));
-        if !is_whole_line(line) {
+        let Some(line) = whole_line_length(rest) else {
             return false;
-        }
-        rest = later;
+        };
+        rest = &rest[line..];
     }
     !text.is_empty()
 }
