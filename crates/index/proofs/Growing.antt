@@ -12,7 +12,7 @@ use Rattle.std.proofs.lemmas.Slice.Eq.{bytes_eq-Decides}
 use Rattle.model.specs.Stream.{Octets}
 use Rattle.model.specs.Article.{Carried, are_distinct, groups_of, id}
 use Rattle.model.specs.Names.{is_group_name}
-use Rattle.model.specs.Indexed.{GroupIndex, ends_from, group_index, line_start, new_index, note_of, value_of, with_article, with_expiry}
+use Rattle.model.specs.Indexed.{GroupIndex, ends_from, group_index, line_start, new_index, value_of, with_article, with_expiry}
 use Rattle.model.specs.Lawful.{IsLawful, MayExpire, MayFile, MayMake}
 use Rattle.model.specs.Spool.{Spool, Entry, entries_from, entries, NewsArticle, NewsGroup, article_filed, articles, by_id, filed_in}
 use Rattle.model.specs.Spool.{group_made, group_named, groups, has_id, is_here, is_name}
@@ -22,7 +22,7 @@ use Rattle.model.specs.declared.change.Change.TheVariants.{Group, Article, Expir
 use Rattle.model.proofs.Filing.{entries_push}
 use Rattle.model.proofs.HoldsOne.{carried_cause}
 use Rattle.model.proofs.Ids.{no_cause}
-use Rattle.model.proofs.Indexing.{articles_grow, empty_index, expiries_grow, groups_grow, notes_grow}
+use Rattle.model.proofs.Indexing.{articles_grow, empty_index, expiries_grow, groups_grow}
 use Rattle.model.proofs.Joined.{bytes_swap, map_twice}
 use Rattle.index.specs.Filing.{AreLineSizes, end_of, filed_by, filed_once, with_line}
 use Rattle.index.specs.Shown.{kept}
@@ -32,8 +32,9 @@ use Rattle.index.specs.declared.note.Note.{Note}
 -- ---- no change
 
 pub none_indexed : (x : IndexView) → x.notes ≡ [] → x.groups ≡ [] → x.ids ≡ [] → Indexes [] x
+unfolding entries
 none_indexed x notes groups' ids = record {
-  notes_are = notes ∙ ap (map kept) empty_index.notes_are;
+  notes_are = notes;
   groups_are = groups' ∙ empty_index.groups_are;
   ids_are = λ wanted. ap (λ (es : List (Octets × ℕ)). value_of es wanted) ids ∙ empty_index.ids_are wanted;
 }
@@ -50,8 +51,7 @@ count_entries S = entries_count 1 S
 
 pub notes_count : (S : Spool) (x : IndexView) → Indexes S x → length x.notes ≡ length S
 notes_count S x is =
-    ap (λ (ns : List Note). length ns) is.notes_are ∙ length-map (map note_of (entries S)) kept ∙ length-map (entries S) note_of
-    ∙ count_entries S
+    ap (λ (ns : List Note). length ns) is.notes_are ∙ length-map (entries S) kept ∙ count_entries S
 
 pub new_serial : (S : Spool) (x : IndexView) (notes : List Note) (count : ℕ) → notes ≡ x.notes → Indexes S x → count ≡ length notes
     → count + 1 ≡ length S + 1
@@ -65,12 +65,12 @@ unfolding entries
 more_entries S c = entries_push 1 S c
 
 notes_more : (S : Spool) (x : IndexView) (c : Change) → Indexes S x
-    → x.notes ++ kept (note_of (record { serial = length S + 1; change = c })) ∷ [] ≡ map kept (map note_of (entries (S ++ c ∷ [])))
+    → x.notes ++ kept (record { serial = length S + 1; change = c }) ∷ [] ≡ map kept (entries (S ++ c ∷ []))
 notes_more S x c is =
     let e : Entry = record { serial = length S + 1; change = c } in
-    ap (λ ns. ns ++ kept (note_of e) ∷ []) is.notes_are
-    ∙ sym (map_push kept (map note_of (entries S)) (note_of e))
-    ∙ ap (map kept) (sym (notes_grow S c))
+    ap (λ ns. ns ++ kept e ∷ []) is.notes_are
+    ∙ sym (map_push kept (entries S) e)
+    ∙ ap (map kept) (sym (more_entries S c))
 
 groups_of_more : (S : Spool) (c : Change)
     → groups (S ++ c ∷ []) ≡ groups S ++ filter_map group_made (record { serial = length S + 1; change = c } ∷ [])
@@ -124,7 +124,7 @@ groups_apart host S name status description moment none =
 pub group_indexed : (host : Octets) (S : Spool) (x y : IndexView) (name : Octets) (status : ℕ) (description : Octets) (moment : ℕ)
     (new : GroupIndex) (note : Note) → IsLawful host S → MayMake S name status description moment → Indexes S x
     → y.notes ≡ x.notes ++ note ∷ []
-    → note ≡ kept (note_of (record { serial = length S + 1; change = Group name status description moment }))
+    → note ≡ kept (record { serial = length S + 1; change = Group name status description moment })
     → y.groups ≡ x.groups ++ new ∷ []
     → new ≡ new_index S (record { serial = length S + 1; name = name; status = status; description = description; moment = moment })
     → y.ids ≡ x.ids → Indexes (S ++ Group name status description moment ∷ []) y
@@ -153,7 +153,7 @@ group_indexed host S x y name status description moment new note lawful may is n
 
 pub expiry_indexed : (host : Octets) (S : Spool) (x y : IndexView) (name : Octets) (number : ℕ) (note : Note) → MayExpire S name number
     → Indexes S x
-    → y.notes ≡ x.notes ++ note ∷ [] → note ≡ kept (note_of (record { serial = length S + 1; change = Expire name number }))
+    → y.notes ≡ x.notes ++ note ∷ [] → note ≡ kept (record { serial = length S + 1; change = Expire name number })
     → y.groups ≡ map (λ i. cond (bytes_eq name i.group.name) (with_expiry S number i) i) x.groups
     → y.ids ≡ x.ids → Indexes (S ++ Expire name number ∷ []) y
 expiry_indexed host S x y name number note may is notes note_is groups' ids = record {
@@ -322,7 +322,7 @@ same_key q key is = (bytes_eq-Decides key q).1 (sym ((bytes_eq-Decides q key).0 
 
 pub article_indexed : (host : Octets) (S : Spool) (x y : IndexView) (text key : Octets) (filed : List Octets) (moment : ℕ) (sizes : List ℕ)
     (note : Note) (serial : ℕ) → MayFile host S text filed moment → Indexes S x
-    → y.notes ≡ x.notes ++ note ∷ [] → note ≡ kept (note_of (record { serial = length S + 1; change = Article text filed moment }))
+    → y.notes ≡ x.notes ++ note ∷ [] → note ≡ kept (record { serial = length S + 1; change = Article text filed moment })
     → AreLineSizes S text filed sizes → serial ≡ length S + 1 → y.groups ≡ map (filed_by serial filed sizes (length filed)) x.groups
     → key ≡ id text → ((q : Octets) → value_of y.ids q ≡ cond (bytes_eq q key) (Some serial) (value_of x.ids q))
     → Indexes (S ++ Article text filed moment ∷ []) y

@@ -8,3 +8,4 @@ pub mod Serials
 pub mod Known
 pub mod Callers
 pub mod Moments
+pub mod Newest

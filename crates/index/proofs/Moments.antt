@@ -1,5 +1,5 @@
 -- One change more, and its moment.
-use Rattle.std.proofs.Common.{◌≡◌, ◌⊎◌, ℕ, zero, suc, ◌+◌, ◌<◌, ◌≤◌, List, [], ◌∷◌, ◌++◌, ◌-◌, length, get_or, refl, sym, ◌∙◌, ap, arith}
+use Rattle.std.proofs.Common.{◌≡◌, ◌⊎◌, ℕ, zero, suc, ◌+◌, ◌<◌, ◌≤◌, List, [], ◌∷◌, ◌++◌, ◌-◌, length, refl, sym, ◌∙◌, ap, arith}
 use Rattle.std.proofs.Common.{add-one, inl, inr, pos, negsuc}
 use Rattle.std.specs.Prelude.{Option, Some, None, IfSome, ℤ, true, false, max, nat_lt, option_map, slice_get, slice_index, unwrap_or}
 use Rattle.std.specs.Int.{FitsUnsignedBits}
@@ -11,7 +11,6 @@ use Rattle.std.proofs.lemmas.Option.{same_Some, unwrap_or-slice_get}
 use Rattle.std.proofs.Math.Nat.{le-max_left, le-max_right}
 use Rattle.std.proofs.Math.Seq.{get_or-append_seam}
 use Rattle.model.specs.Answer.{is_since}
-use Rattle.model.specs.Indexed.{note_of}
 use Rattle.model.specs.Spool.{Spool, Entry, NewsArticle, article_filed}
 use Rattle.lookups.specs.Held.{article_with}
 use Rattle.index.specs.Finding.{entry_with}
@@ -158,10 +157,10 @@ latest_later moments notes note last its top last_is its_is top_is latest =
 later_note : (S : Spool) (x : IndexView) (k : ℕ) (a : NewsArticle) → Indexes S x → article_with S (suc k) ≡ Some a
     → (n : Note) × (slice_get x.notes k ≡ Some n) × (moment_in n ≡ Some a.moment)
 later_note S x k a is at = by_entry (entry_with S (suc k)) (noted S x (suc k) is) at where
-  by_entry : (o : Option Entry) → slice_get x.notes k ≡ option_map (λ (e : Entry). kept (note_of e)) o
+  by_entry : (o : Option Entry) → slice_get x.notes k ≡ option_map kept o
       → option_and_then article_filed o ≡ Some a → (n : Note) × (slice_get x.notes k ≡ Some n) × (moment_in n ≡ Some a.moment)
   by_entry None got none = absurd (cc)
-  by_entry (Some e) got filed = (kept (note_of e), got, each_moment e ∙ ap (option_map (λ (b : NewsArticle). b.moment)) filed)
+  by_entry (Some e) got filed = (kept e, got, each_moment e ∙ ap (option_map (λ (b : NewsArticle). b.moment)) filed)
 
 -- where the latest moments of the first changes are below this one, no article among them is of it or later
 pub all_older : (S : Spool) (x : IndexView) (moments : List ℕ) (count : ℕ) (from : ℤ) (moment : ℕ) → FitsUnsignedBits 64 from

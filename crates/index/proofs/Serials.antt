@@ -7,7 +7,8 @@ use Rattle.std.proofs.lemmas.Bool.{lt-leb}
 use Rattle.std.proofs.lemmas.List.{length-map}
 use Rattle.std.proofs.lemmas.Option.{same_Some, slice_get-map}
 use Rattle.model.specs.Stream.{Octets}
-use Rattle.model.specs.Indexed.{GroupIndex, group_index, note_of}
+use Rattle.model.specs.Article.{id}
+use Rattle.model.specs.Indexed.{GroupIndex, group_index}
 use Rattle.model.specs.Lawful.{IsLawful}
 use Rattle.model.specs.Spool.{Spool, Entry, NewsArticle, article_filed, as_it_is, entries, entries_from, expired_at, filed_in, gone_at}
 use Rattle.model.specs.Spool.{greatest, group_named, is_gone, is_in, low}
@@ -17,7 +18,7 @@ use Rattle.model.proofs.Filing.{new_has_nothing}
 use Rattle.model.proofs.Rising.{filed_rise}
 use Rattle.lookups.specs.Held.{article_with, gone_with, groups_now}
 use Rattle.index.specs.Finding.{Rise, entry_with, is_still_in, note_at, number_upto}
-use Rattle.index.specs.Notes.{groups_in, moment_in, size_in}
+use Rattle.index.specs.Notes.{groups_in, id_in, moment_in, size_in}
 use Rattle.index.specs.Shown.{kept}
 use Rattle.index.specs.View.{IndexView, Indexes}
 use Rattle.index.specs.declared.note.Note.{Note}
@@ -27,59 +28,63 @@ use Rattle.index.proofs.LookUps.{filter_mapped, group_is, not_here}
 -- ---- notes
 
 pub noted : (S : Spool) (x : IndexView) (n : ℕ) → Indexes S x
-    → note_at x.notes n ≡ option_map (λ (e : Entry). kept (note_of e)) (entry_with S n)
+    → note_at x.notes n ≡ option_map kept (entry_with S n)
 noted S x zero is = refl
 noted S x (suc k) is =
-    ap (λ (ns : List Note). slice_get ns k) is.notes_are ∙ slice_get-map kept (map note_of (entries S)) k
-    ∙ ap (option_map kept) (slice_get-map note_of (entries S) k) ∙ twice (slice_get (entries S) k)
-  where
-    twice : (o : Option Entry) → option_map kept (option_map note_of o) ≡ option_map (λ (e : Entry). kept (note_of e)) o
-    twice None = refl
-    twice (Some e) = refl
+    ap (λ (ns : List Note). slice_get ns k) is.notes_are ∙ slice_get-map kept (entries S) k
 
 with_entry : (S : Spool) (n : ℕ) → article_with S n ≡ option_and_then article_filed (entry_with S n)
 with_entry S zero = refl
 with_entry S (suc k) = refl
 
 pub said : {X : Type 0} (says : Note → Option X) (of : NewsArticle → X)
-    → ((e : Entry) → says (kept (note_of e)) ≡ option_map of (article_filed e)) → (S : Spool) (n : ℕ) (note : Note)
-    → Some note ≡ option_map (λ (e : Entry). kept (note_of e)) (entry_with S n) → says note ≡ option_map of (article_with S n)
+    → ((e : Entry) → says (kept e) ≡ option_map of (article_filed e)) → (S : Spool) (n : ℕ) (note : Note)
+    → Some note ≡ option_map kept (entry_with S n) → says note ≡ option_map of (article_with S n)
 said says of each S n note is = by_entry (entry_with S n) is ∙ ap (option_map of) (sym (with_entry S n)) where
-  by_entry : (o : Option Entry) → Some note ≡ option_map (λ (e : Entry). kept (note_of e)) o
+  by_entry : (o : Option Entry) → Some note ≡ option_map kept o
       → says note ≡ option_map of (option_and_then article_filed o)
   by_entry None same = absurd (cc)
-  by_entry (Some e) same = ap says (same_Some note (kept (note_of e)) same) ∙ each e
+  by_entry (Some e) same = ap says (same_Some note (kept e) same) ∙ each e
 
-pub unsaid : {X : Type 0} (of : NewsArticle → X) (S : Spool) (n : ℕ) → None ≡ option_map (λ (e : Entry). kept (note_of e)) (entry_with S n)
+pub unsaid : {X : Type 0} (of : NewsArticle → X) (S : Spool) (n : ℕ) → None ≡ option_map kept (entry_with S n)
     → None ≡ option_map of (article_with S n)
 unsaid of S n is = by_entry (entry_with S n) is ∙ ap (option_map of) (sym (with_entry S n)) where
-  by_entry : (o : Option Entry) → None ≡ option_map (λ (e : Entry). kept (note_of e)) o
+  by_entry : (o : Option Entry) → None ≡ option_map kept o
       → None ≡ option_map of (option_and_then article_filed o)
   by_entry None same = refl
   by_entry (Some e) same = absurd (cc)
 
-pub each_size : (e : Entry) → size_in (kept (note_of e)) ≡ option_map (λ (a : NewsArticle). length a.text) (article_filed e)
+pub each_id : (e : Entry) → id_in (kept e) ≡ option_map (λ (a : NewsArticle). id a.text) (article_filed e)
+each_id e = by_change e.serial e.change where
+  by_change : (n : ℕ) (c : Change)
+      → id_in (kept (record { serial = n; change = c })) ≡ option_map (λ (a : NewsArticle). id a.text)
+      (article_filed (record { serial = n; change = c }))
+  by_change n (Group name status description moment) = refl
+  by_change n (Article text filed moment) = refl
+  by_change n (Expire group number) = refl
+
+pub each_size : (e : Entry) → size_in (kept e) ≡ option_map (λ (a : NewsArticle). length a.text) (article_filed e)
 each_size e = by_change e.serial e.change where
   by_change : (n : ℕ) (c : Change)
-      → size_in (kept (note_of (record { serial = n; change = c }))) ≡ option_map (λ (a : NewsArticle). length a.text)
+      → size_in (kept (record { serial = n; change = c })) ≡ option_map (λ (a : NewsArticle). length a.text)
       (article_filed (record { serial = n; change = c }))
   by_change n (Group name status description moment) = refl
   by_change n (Article text filed moment) = refl
   by_change n (Expire group number) = refl
 
-pub each_moment : (e : Entry) → moment_in (kept (note_of e)) ≡ option_map (λ (a : NewsArticle). a.moment) (article_filed e)
+pub each_moment : (e : Entry) → moment_in (kept e) ≡ option_map (λ (a : NewsArticle). a.moment) (article_filed e)
 each_moment e = by_change e.serial e.change where
   by_change : (n : ℕ) (c : Change)
-      → moment_in (kept (note_of (record { serial = n; change = c }))) ≡ option_map (λ (a : NewsArticle). a.moment)
+      → moment_in (kept (record { serial = n; change = c })) ≡ option_map (λ (a : NewsArticle). a.moment)
       (article_filed (record { serial = n; change = c }))
   by_change n (Group name status description moment) = refl
   by_change n (Article text filed moment) = refl
   by_change n (Expire group number) = refl
 
-pub each_groups : (e : Entry) → groups_in (kept (note_of e)) ≡ option_map (λ (a : NewsArticle). a.groups) (article_filed e)
+pub each_groups : (e : Entry) → groups_in (kept e) ≡ option_map (λ (a : NewsArticle). a.groups) (article_filed e)
 each_groups e = by_change e.serial e.change where
   by_change : (n : ℕ) (c : Change)
-      → groups_in (kept (note_of (record { serial = n; change = c }))) ≡ option_map (λ (a : NewsArticle). a.groups)
+      → groups_in (kept (record { serial = n; change = c })) ≡ option_map (λ (a : NewsArticle). a.groups)
       (article_filed (record { serial = n; change = c }))
   by_change n (Group name status description moment) = refl
   by_change n (Article text filed moment) = refl

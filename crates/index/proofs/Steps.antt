@@ -238,7 +238,7 @@ kept_size old new f same = omega (
   length-map old shown,
 )
 
-pub written : (old new : List Group) (len : ℕ) → length new ≡ len → take len (new ++ drop (length new) old) ≡ new
+pub written : {X : Type 0} (old new : List X) (len : ℕ) → length new ≡ len → take len (new ++ drop (length new) old) ≡ new
 written old new len size = ap (λ (n : ℕ). take n (new ++ drop (length new) old)) (sym size)
     ∙ take_at new (drop (length new) old) (length new) refl
 

@@ -1,13 +1,16 @@
 -- What the index keeps, stated in terms of the spool.
-use Rattle.std.specs.Prelude.{map}
-use Rattle.model.specs.Indexed as indexed
+use Rattle.std.specs.Prelude.{length, map}
+use Rattle.model.specs.Article.{id}
 use Rattle.model.specs.Indexed.{GroupIndex}
-use Rattle.index.specs.declared.group.Group.{Group}
+use Rattle.model.specs.Spool.{Entry}
+use Rattle.model.specs.declared.change.Change.{Change}
+use Rattle.model.specs.declared.change.Change.TheVariants.{Group, Article, Expire}
+use Rattle.index.specs.declared.group.Group as declared
 use Rattle.index.specs.declared.note.Note.{Note}
 use Rattle.index.specs.declared.note.Note.TheVariants as note
 
 -- what is kept of a group
-abbrev pub shown : Group → GroupIndex
+abbrev pub shown : declared.Group → GroupIndex
 shown g = record {
   group = record { serial = g.serial; name = g.name; status = g.status; description = g.description; moment = g.moment };
   filed = map (λ l. l.serial) g.lines.items;
@@ -18,7 +21,9 @@ shown g = record {
 }
 
 -- what is kept of a change; the fields of a group are kept with the group
-abbrev pub kept : indexed.Note → Note
-kept (indexed.GroupNote g) = note.Group
-kept (indexed.ArticleNote size groups moment) = note.Article size groups moment
-kept (indexed.ExpiryNote group number) = note.Expiry group number
+abbrev pub kept : Entry → Note
+kept e = kept_of e.change where
+  kept_of : Change → Note
+  kept_of (Group name status description moment) = note.Group
+  kept_of (Article text groups moment) = note.Article (id text) (length text) groups moment
+  kept_of (Expire group number) = note.Expiry group number

@@ -1,7 +1,7 @@
 -- The index as its callers see it.
 use Rattle.std.specs.Prelude.{◌≡◌, ℕ, List, map, option_map}
 use Rattle.model.specs.Stream.{Octets}
-use Rattle.model.specs.Indexed.{GroupIndex, group_index, note_of, value_of}
+use Rattle.model.specs.Indexed.{GroupIndex, group_index, value_of}
 use Rattle.model.specs.Spool.{Spool, by_id, entries, groups}
 use Rattle.index.specs.Shown.{kept}
 use Rattle.index.specs.declared.note.Note.{Note}
@@ -14,6 +14,6 @@ pub record IndexView : Type 0 where
 
 -- it is the index of these changes
 pub record Indexes (S : Spool) (x : IndexView) : Type 0 where
-  pub notes_are : x.notes ≡ map kept (map note_of (entries S))
+  pub notes_are : x.notes ≡ map kept (entries S)
   pub groups_are : x.groups ≡ map (group_index S) (groups S)
   pub ids_are : (wanted : Octets) → value_of x.ids wanted ≡ option_map (λ a. a.serial) (by_id S wanted)

@@ -1,21 +1,18 @@
 //! Look-ups of articles by their serials.
 
-ghost use Rattle.std.specs.Prelude.{◌≡◌, ◌+◌, ◌<◌, ◌≤◌, ◌&&◌, ℕ, IfSome, IsTrue, Some, true, false, length, map, option_map};
+ghost use Rattle.std.specs.Prelude.{◌≡◌, ◌+◌, ◌<◌, ◌≤◌, ℕ, IfSome, Some, true, false, length, map, option_map};
 ghost use Rattle.std.specs.List.{list_any};
 ghost use Rattle.model.specs.Answer.{is_since};
 ghost use Rattle.model.specs.Stream.{Octets};
-ghost use Rattle.model.specs.Names as model;
-ghost use Rattle.model.specs.Indexed.{note_of};
 ghost use Rattle.model.specs.Lawful.{IsLawful};
 ghost use Rattle.model.specs.Spool.{Spool, expired_at, greatest};
-ghost use Rattle.lookups.specs.Held.{article_with, gone_with, groups_now};
+ghost use Rattle.lookups.specs.Held.{article_with, gone_with};
 ghost use Rattle.index.specs.Finding.{note_at};
 
 use crate::Index;
 use crate::latest::moments_below;
 use crate::note::Note;
 use model::Text;
-use names::wildmat_matches;
 
 impl Index {
     ghost use Rattle.index.specs.Finding.{entry_with, is_still_in, number_upto};
@@ -26,7 +23,7 @@ impl Index {
     pub fn note(&self, serial: u64) -> Option<&Note>
         ensures at { option_map (λ n. n.now) result ≡ note_at self.now.notes serial }
         ensures change { (S : Spool) → Indexes S self.now
-            → option_map (λ n. n.now) result ≡ option_map (λ e. kept (note_of e)) (entry_with S serial) }
+            → option_map (λ n. n.now) result ≡ option_map kept (entry_with S serial) }
     {
         note_in(&self.notes, serial)
     }
@@ -124,18 +121,6 @@ impl Index {
         }
     }
 
-    /// Whether the article with this serial is in a group whose name the wildmat matches.
-    pub fn is_in_one(&self, serial: u64, wildmat: &[u8]) -> bool
-        requires { IsTrue (model.is_wildmat wildmat.now) }
-        ensures { (host : Octets) (S : Spool) → IsLawful host S → Indexes S self.now
-            → result ≡ list_any (model.wildmat_matches wildmat.now) (groups_now S serial) }
-    {
-        match self.groups_of(serial) {
-            Some(groups) => self.is_in_taken(groups, serial, wildmat),
-            None => false,
-        }
-    }
-
     /// Whether the article with this serial is still in one of the groups that it was filed in.
     fn is_in_any(&self, groups: &[Text], serial: u64) -> bool
         ensures { (host : Octets) (S : Spool) → IsLawful host S → Indexes S self.now → result ≡ list_any (is_still_in S serial) groups.now }
@@ -159,30 +144,6 @@ impl Index {
             last = last.max(self.taken_at(name.as_slice(), serial));
         }
         last
-    }
-
-    /// Whether the article with this serial is still in one of the groups that it was filed in and whose names the
-    /// wildmat matches.
-    fn is_in_taken(&self, groups: &[Text], serial: u64, wildmat: &[u8]) -> bool
-        requires { IsTrue (model.is_wildmat wildmat.now) }
-        ensures { (host : Octets) (S : Spool) → IsLawful host S → Indexes S self.now
-            → result ≡ list_any (λ g. model.wildmat_matches wildmat.now g && is_still_in S serial g) groups.now }
-    {
-        for name in groups {
-            if self.is_in_if_taken(name.as_slice(), serial, wildmat) {
-                return true;
-            }
-        }
-        false
-    }
-
-    /// Whether the wildmat matches the group's name, and the article with this serial is still in the group.
-    fn is_in_if_taken(&self, group: &[u8], serial: u64, wildmat: &[u8]) -> bool
-        requires { IsTrue (model.is_wildmat wildmat.now) }
-        ensures { (host : Octets) (S : Spool) → IsLawful host S → Indexes S self.now
-            → result ≡ (model.wildmat_matches wildmat.now group.now && is_still_in S serial group.now) }
-    {
-        wildmat_matches(wildmat, group) && self.is_in(group, serial)
     }
 }
 

@@ -224,7 +224,7 @@ impl Group {
 }
 
 /// The number of lines at the start that belong to articles up to this serial.
-fn lines_up_to(lines: &[Line], serial: u64) -> usize
+pub(crate) fn lines_up_to(lines: &[Line], serial: u64) -> usize
     ensures bound { result ≤ length lines.now }
     ensures partitioned { IsPartitionedBy (λ l. nat_le l.serial serial) lines.now
         → IsPartitionPoint (λ l. nat_le l.serial serial ≡ true) (λ l. nat_le l.serial serial ≡ false) lines.now result }

@@ -20,6 +20,7 @@ mod filing;
 mod group;
 mod keys;
 mod latest;
+mod news;
 mod note;
 mod views;
 
@@ -191,6 +192,7 @@ impl Index {
         ensures err { OnErr result (self.new ≡ self.old) }
     {
         let serial = self.notes.len() as u64 + 1;
+        let own_id = Text::new(Vec::from_slice(self.alloc, id)?);
         self.notes.reserve(1)?;
         self.latest.reserve(1)?;
         reserve_lines(&mut self.groups, &self.places, filed.as_slice())?;
@@ -202,10 +204,10 @@ impl Index {
             filed.as_slice(),
             sizes,
         );
-        let groups = filed;
         let note = Note::Article {
+            id: own_id,
             size,
-            groups,
+            groups: filed,
             moment,
         };
         push_latest(&mut self.latest, &note);

@@ -11,6 +11,7 @@ pub enum Note {
     Group,
     /// An article was filed. Its text stays in its file.
     Article {
+        id: Text,
         /// the number of octets in its text
         size: u64,
         groups: Names,
@@ -25,7 +26,18 @@ pub enum Note {
 }
 
 impl Note {
-    ghost use Rattle.index.specs.Notes.{groups_in, moment_in, size_in};
+    ghost use Rattle.index.specs.Notes.{groups_in, id_in, moment_in, size_in};
+
+    /// For an article, its message-id.
+    pub fn id(&self) -> Option<&[u8]>
+        ensures { option_map (λ id. id.now) result ≡ id_in self.now }
+    {
+        match self {
+            Note::Group => None,
+            Note::Article { id, .. } => Some(id.as_slice()),
+            Note::Expiry { .. } => None,
+        }
+    }
 
     /// For an article, the number of octets in its text.
     pub fn size(&self) -> Option<u64>

@@ -56,8 +56,11 @@ pub enum Call {
     IsIn(&'static str, u64),
     TakenAt(&'static str, u64),
     GoneAt(u64),
-    /// Whether an article is in a group whose name the wildmat matches.
-    IsInOne(u64, &'static str),
+    /// Whether this is the id of an article.
+    IsId(u64, &'static str),
+    /// Whether these are the lines of the articles that are in a group whose name the wildmat matches and that were
+    /// filed at a moment or later.
+    AreNew(&'static str, i64, &'static str),
     /// The number of changes at the start that are older than a moment.
     OlderThan(i64),
 }
@@ -76,6 +79,13 @@ pub fn answer(alloc: Global, index: &mut Index, call: Call) -> Result<Option<u64
         ),
         Call::FileAt(id, moment) => file_at(alloc, index, id.as_bytes(), moment),
         Call::Expire(name, number) => expire(index, name.as_bytes(), number),
+        Call::AreNew(wildmat, from, lines) => are_new(
+            alloc,
+            index,
+            wildmat.as_bytes(),
+            from,
+            lines.as_bytes(),
+        ),
         found => Ok(find(index, found)),
     }
 }
@@ -159,7 +169,7 @@ fn find(index: &Index, call: Call) -> Option<u64> {
         Call::At(place) => at(index, place),
         Call::ById(id) => index.by_id(id.as_bytes()),
         Call::GoneAt(serial) => index.gone_at(serial),
-        Call::IsInOne(serial, wildmat) => is_in_one(index, serial, wildmat.as_bytes()),
+        Call::IsId(serial, id) => Some(u64::from(index.id(serial)? == id.as_bytes())),
         Call::OlderThan(from) => Some(index.older_than(from)),
         of_group => find_in_group(index, of_group),
     }
@@ -208,9 +218,17 @@ fn line(index: &Index, name: &[u8], number: u64) -> Option<(u64, u64)> {
     Some(group.line(number))
 }
 
-fn is_in_one(index: &Index, serial: u64, wildmat: &[u8]) -> Option<u64> {
+fn are_new(
+    alloc: Global,
+    index: &Index,
+    wildmat: &[u8],
+    from: i64,
+    lines: &[u8],
+) -> Result<Option<u64>, AllocError> {
     if !is_wildmat(wildmat) {
-        return None;
+        return Ok(None);
     }
-    Some(u64::from(index.is_in_one(serial, wildmat)))
+    let mut found = Vec::new(alloc);
+    index.push_new_ids(wildmat, from, &mut found)?;
+    Ok(Some(u64::from(found.as_slice() == lines)))
 }

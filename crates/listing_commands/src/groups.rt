@@ -1,14 +1,14 @@
 //! The groups in a list, and their lines.
 
 ghost use Rattle.std.specs.Prelude.{◌≡◌, ◌++◌, ◌∷◌, IfOk, IfSome, IsTrue, OnOk, decimal};
-ghost use Rattle.model.specs.Answer.{is_listed, is_since};
+ghost use Rattle.model.specs.Answer.{is_listed};
 ghost use Rattle.model.specs.Names.{is_wildmat};
 ghost use Rattle.model.specs.Spool.{NewsGroup};
 ghost use Rattle.model.specs.Stream.{line, stuffed_line};
 ghost use Rattle.lookups.specs.Held.{all_known, shown};
 ghost use Rattle.listing_commands.specs.Lists.{IsPick, is_picked, last_of, later_of, line_of, lines_of, rest_of, shown_as};
 
-use lookups::{GroupView, LookUps};
+use lookups::{GroupView, LookUps, is_since};
 use model::Text;
 use names::wildmat_matches;
 use replies::push_number;
@@ -30,13 +30,6 @@ pub enum Show {
     Active,
     Times,
     Newsgroups,
-}
-
-/// Whether a moment is at or after another, both in seconds since 1970.
-pub fn is_since(from: i64, moment: u64) -> bool
-    ensures { result ≡ is_since from moment }
-{
-    from <= 0 || from as u64 <= moment
 }
 
 /// The groups whose names the wildmat matches, or all without a wildmat.

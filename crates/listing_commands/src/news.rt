@@ -1,17 +1,13 @@
 //! NEWNEWS.
 
-ghost use Rattle.std.specs.Prelude.{◌≡◌, ◌<◌, ◌++◌, IfOk, IsTrue, OnOk, length};
-ghost use Rattle.std.specs.Option.{option_to_list};
+ghost use Rattle.std.specs.Prelude.{◌≡◌, ◌<◌, IfOk, IsTrue, length};
 ghost use Rattle.model.specs.Answer as answers;
 ghost use Rattle.model.specs.Calendar.{moment_limit, since};
 ghost use Rattle.model.specs.Names.{is_wildmat};
 ghost use Rattle.model.specs.Reads.{since_reads};
-ghost use Rattle.model.specs.Spool.{articles, articles_now};
-ghost use Rattle.listing_commands.specs.News.{new_lines};
-ghost use Rattle.lookups.specs.Held.{article_with};
+ghost use Rattle.model.specs.Spool.{articles_now};
 ghost use Rattle.replies.specs.Answered.{answered};
 
-use crate::groups::is_since;
 use lookups::LookUps;
 use model::Session;
 use replies::{Answered, Heading, Reply, push_end, push_heading, says, says_line};
@@ -56,46 +52,7 @@ fn articles_since<L: LookUps>(
 {
     let mut reply = Vec::new(alloc);
     push_heading(&mut reply, Heading::Articles)?;
-    push_articles(spool, wildmat, from, &mut reply)?;
+    spool.push_new_ids(wildmat, from, &mut reply)?;
     push_end(&mut reply)?;
     says(alloc, session, reply, spool.len())
-}
-
-/// Appends a line for each new article, in rising serial. Articles that must be older are skipped.
-fn push_articles<L: LookUps>(
-    spool: &L,
-    wildmat: &[u8],
-    from: i64,
-    reply: &mut Vec<u8>,
-) -> Result<(), AllocError>
-    requires { IsTrue (is_wildmat wildmat.now) }
-    ensures { OnOk result (reply.new.items ≡ reply.old.items ++ new_lines (L.changes spool.now) wildmat.now from
-        (articles (L.changes spool.now))) }
-{
-    for place in spool.older_than(from)..spool.len() {
-        push_new(spool, wildmat, from, place + 1, reply)?;
-    }
-    Ok(())
-}
-
-/// Appends the line of the article with this serial, if there is one and it is new.
-fn push_new<L: LookUps>(
-    spool: &L,
-    wildmat: &[u8],
-    from: i64,
-    serial: u64,
-    reply: &mut Vec<u8>,
-) -> Result<(), AllocError>
-    requires { IsTrue (is_wildmat wildmat.now) }
-    ensures { OnOk result (reply.new.items ≡ reply.old.items ++ new_lines (L.changes spool.now) wildmat.now from
-        (option_to_list (article_with (L.changes spool.now) serial))) }
-{
-    let Some(moment) = spool.moment(serial) else {
-        return Ok(());
-    };
-    if !is_since(from, moment) || !spool.is_in_one(serial, wildmat) {
-        return Ok(());
-    }
-    spool.push_id(serial, reply)?;
-    reply.extend_from_slice(b"\r\n")
 }

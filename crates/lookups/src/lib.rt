@@ -2,24 +2,25 @@
 //! definitions of the crate `model` say what each answer is.
 #![tactic(auto)]
 
-ghost use Rattle.std.specs.Prelude.{◌≡◌, ℕ, ◌+◌, ◌<◌, ◌≤◌, ◌^◌, ◌++◌, IfSome, IsTrue, IsSome, OnOk, Some, true, false, length, option_map};
+ghost use Rattle.std.specs.Prelude.{◌≡◌, ◌+◌, ◌<◌, ◌≤◌, ◌^◌, ◌++◌, IsTrue, IsSome, OnOk, Some, length, option_map};
 ghost use Rattle.std.specs.Prelude.{slice_get};
-ghost use Rattle.std.specs.List.{list_any};
 ghost use Rattle.model.specs.Stream.{Octets, line};
-ghost use Rattle.model.specs.Names.{is_host, is_wildmat, wildmat_matches};
-ghost use Rattle.model.specs.Answer.{is_since};
+ghost use Rattle.model.specs.Names.{is_host, is_wildmat};
 ghost use Rattle.model.specs.Article.{id, overview_line};
 ghost use Rattle.model.specs.Lawful.{IsLawful};
-ghost use Rattle.model.specs.Spool.{Spool, by_id, by_number, expired_at, group_named, groups, high, low};
-ghost use Rattle.lookups.specs.Held.{all_known, article_with, gone_with, groups_now, known, overviews_between, sent_part, shown, text_of};
+ghost use Rattle.model.specs.Spool.{Spool, articles, by_id, by_number, expired_at, group_named, groups, high, low};
+ghost use Rattle.lookups.specs.Held.{all_known, article_with, gone_with, known, overviews_between, sent_part, shown, text_of};
+ghost use Rattle.lookups.specs.News.{new_lines};
 
 mod finding;
+mod moments;
 
 pub use finding::{
     Counts, Found, Located, absent_reads, counts_of, find_group, find_id, find_number, locate_id,
     locate_number,
 };
 use model::Part;
+pub use moments::is_since;
 use std::alloc::AllocError;
 
 /// A group that exists.
@@ -90,20 +91,12 @@ pub trait LookUps {
     fn moment(&self, serial: u64) -> Option<u64>
         ensures { result ≡ option_map (λ a. a.moment) (article_with (changes self.now) serial) };
 
-    /// The number of changes before the first article filed at `from` or later, in seconds since 1970; all changes if
-    /// there is no such article. If `from` is 0 or negative, the answer is 0.
-    fn older_than(&self, from: i64) -> u64
-        ensures few { result ≤ length (changes self.now) }
-        ensures older { (serial : ℕ) → serial ≤ result
-            → IfSome (article_with (changes self.now) serial) (λ a. is_since from a.moment ≡ false) }
-        ensures next { is_since from 0 ≡ false → result < length (changes self.now)
-            → option_map (λ a. is_since from a.moment) (article_with (changes self.now) (result + 1)) ≡ Some true }
-        ensures none { is_since from 0 ≡ true → result ≡ 0 };
-
-    /// Whether the article with this serial is in a group whose name the wildmat matches.
-    fn is_in_one(&self, serial: u64, wildmat: &[u8]) -> bool
+    /// Appends a line for each article that was filed at `from` or later, in seconds since 1970, and that is in a group
+    /// whose name the wildmat matches: its message-id and CRLF, in rising serial.
+    fn push_new_ids(&self, wildmat: &[u8], from: i64, reply: &mut Vec<u8>) -> Result<(), AllocError>
         requires { IsTrue (is_wildmat wildmat.now) }
-        ensures { result ≡ list_any (wildmat_matches wildmat.now) (groups_now (changes self.now) serial) };
+        ensures { OnOk result (reply.new.items ≡ reply.old.items ++ new_lines (changes self.now) wildmat.now from
+            (articles (changes self.now))) };
 
     /// Appends the message-id of an article.
     fn push_id(&self, serial: u64, reply: &mut Vec<u8>) -> Result<(), AllocError>

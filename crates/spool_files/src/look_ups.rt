@@ -52,24 +52,17 @@ impl LookUps for Spool {
         self.index.moment(serial)
     }
 
-    fn older_than(&self, from: i64) -> u64 {
-        self.index.older_than(from)
-    }
-
-    fn is_in_one(&self, serial: u64, wildmat: &[u8]) -> bool {
-        self.index.is_in_one(serial, wildmat)
+    fn push_new_ids(
+        &self,
+        wildmat: &[u8],
+        from: i64,
+        reply: &mut Vec<u8>,
+    ) -> Result<(), AllocError> {
+        self.index.push_new_ids(wildmat, from, reply)
     }
 
     fn push_id(&self, serial: u64, reply: &mut Vec<u8>) -> Result<(), AllocError> {
-        spool_texts::push_id(
-            self.alloc,
-            &self.volume,
-            self.inodes,
-            &self.index,
-            &self.places,
-            serial,
-            reply,
-        )
+        self.index.push_id(serial, reply)
     }
 
     fn push_part(&self, part: &Part, serial: u64, reply: &mut Vec<u8>) -> Result<(), AllocError> {

@@ -34,7 +34,7 @@ const NOTHING: Rows = &[
     (Call::Find(Asked::GoneAt(0)), Answer::Nothing),
     (Call::Find(Asked::GoneAt(1)), Answer::Nothing),
     (Call::Find(Asked::Moment(1)), Answer::Nothing),
-    (Call::Find(Asked::IsInOne(1, "*")), Answer::Found(0)),
+    (Call::Is(Sought::New("*", 0), b""), Answer::Is(true)),
     (Call::Is(Sought::Host, b"news.example"), Answer::Is(true)),
     (Call::IsNone(Sought::Name("x.a")), Answer::Is(true)),
     (Call::IsNone(Sought::Id("<1@a.example>")), Answer::Is(true)),
@@ -128,7 +128,7 @@ const THREE_GROUPS: Rows = &[
     (Call::Find(Asked::ByNumber("x.b", 1)), Answer::Nothing),
     (Call::Find(Asked::ExpiredAt("x.b", 1)), Answer::Found(0)),
     (Call::Find(Asked::Moment(1)), Answer::Nothing),
-    (Call::Find(Asked::IsInOne(1, "*")), Answer::Found(0)),
+    (Call::Is(Sought::New("*", 0), b""), Answer::Is(true)),
     (Call::IsNone(Sought::Lines("x.b", 1, 1)), Answer::Is(true)),
     (
         Call::Add("x.a", b'y', ""),
@@ -267,10 +267,30 @@ const FOUR_ARTICLES: Rows = &[
     (Call::Find(Asked::Moment(3)), Answer::Nothing),
     (Call::Find(Asked::Moment(8)), Answer::Nothing),
     (Call::Find(Asked::GoneAt(4)), Answer::Nothing),
-    (Call::Find(Asked::IsInOne(5, "x.b")), Answer::Found(1)),
-    (Call::Find(Asked::IsInOne(5, "*,!x.a")), Answer::Found(1)),
-    (Call::Find(Asked::IsInOne(4, "*,!x.a")), Answer::Found(0)),
-    (Call::Find(Asked::IsInOne(4, "x.[a]")), Answer::Nothing),
+    (
+        Call::Is(Sought::New("x.b", 0), b"<2@a.example>\r\n"),
+        Answer::Is(true),
+    ),
+    (
+        Call::Is(
+            Sought::New("*,!x.a", 1_000_000_000),
+            b"<2@a.example>\r\n<3@a.example>\r\n",
+        ),
+        Answer::Is(true),
+    ),
+    (
+        Call::Is(
+            Sought::New("*", 0),
+            b"<1@a.example>\r\n<2@a.example>\r\n<3@a.example>\r\n<7@news.example>\r\n",
+        ),
+        Answer::Is(true),
+    ),
+    (Call::Is(Sought::New("x.z", 0), b""), Answer::Is(true)),
+    (
+        Call::Is(Sought::New("*", 1_000_000_001), b""),
+        Answer::Is(true),
+    ),
+    (Call::IsNone(Sought::New("x.[a]", 0)), Answer::Is(true)),
     (
         Call::Is(Sought::Id("<2@a.example>"), b"<2@a.example>"),
         Answer::Is(true),
@@ -406,9 +426,18 @@ const TWO_LEFT: Rows = &[
     (Call::Find(Asked::GoneAt(5)), Answer::Nothing),
     (Call::Find(Asked::Moment(3)), Answer::Found(1_000_000_000)),
     (Call::Find(Asked::Moment(6)), Answer::Nothing),
-    (Call::Find(Asked::IsInOne(3, "*")), Answer::Found(0)),
-    (Call::Find(Asked::IsInOne(4, "x.a")), Answer::Found(0)),
-    (Call::Find(Asked::IsInOne(4, "x.b")), Answer::Found(1)),
+    (
+        Call::Is(Sought::New("*", 0), b"<2@a.example>\r\n<3@a.example>\r\n"),
+        Answer::Is(true),
+    ),
+    (
+        Call::Is(Sought::New("x.a", 0), b"<3@a.example>\r\n"),
+        Answer::Is(true),
+    ),
+    (
+        Call::Is(Sought::New("x.b", 0), b"<2@a.example>\r\n"),
+        Answer::Is(true),
+    ),
     (
         Call::Is(
             Sought::Lines("x.a", 3, 3),
@@ -479,7 +508,10 @@ const ONE_LEFT: Rows = &[
     (Call::Find(Asked::GoneAt(4)), Answer::Found(7)),
     (Call::Find(Asked::GoneAt(5)), Answer::Found(8)),
     (Call::Find(Asked::GoneAt(9)), Answer::Nothing),
-    (Call::Find(Asked::IsInOne(4, "*")), Answer::Found(0)),
+    (
+        Call::Is(Sought::New("*", 0), b"<4@a.example>\r\n"),
+        Answer::Is(true),
+    ),
     (Call::IsNone(Sought::Lines("x.b", 1, 1)), Answer::Is(true)),
     (
         Call::Is(

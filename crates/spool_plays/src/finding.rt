@@ -26,8 +26,6 @@ pub enum Asked {
     ExpiredAt(&'static str, u64),
     GoneAt(u64),
     Moment(u64),
-    /// Whether an article is in a group whose name the wildmat matches.
-    IsInOne(u64, &'static str),
 }
 
 /// What a look-up finds; `None` if it finds nothing, or if its preconditions do not hold.
@@ -43,7 +41,6 @@ pub fn find(spool: &Spool, asked: Asked) -> Option<u64> {
         Asked::ExpiredAt(name, number) => Some(spool.expired_at(name.as_bytes(), number)),
         Asked::GoneAt(serial) => spool.gone_at(serial),
         Asked::Moment(serial) => spool.moment(serial),
-        Asked::IsInOne(serial, wildmat) => is_in_one(spool, serial, wildmat.as_bytes()),
         of_group => find_in_group(spool, of_group),
     }
 }
@@ -53,13 +50,6 @@ fn at(spool: &Spool, place: usize) -> Option<u64> {
         return None;
     }
     Some(spool.group_at(place).serial)
-}
-
-fn is_in_one(spool: &Spool, serial: u64, wildmat: &[u8]) -> Option<u64> {
-    if !is_wildmat(wildmat) {
-        return None;
-    }
-    Some(u64::from(spool.is_in_one(serial, wildmat)))
 }
 
 fn find_in_group(spool: &Spool, asked: Asked) -> Option<u64> {
@@ -89,6 +79,9 @@ pub enum Sought {
     Line(&'static str),
     /// The overview lines of a group from one number to another.
     Lines(&'static str, u64, u64),
+    /// The lines of the articles that are in a group whose name the wildmat matches and that were filed at a moment or
+    /// later.
+    New(&'static str, i64),
 }
 
 /// A text; `None` if nothing is found, or if the look-up's preconditions do not hold.
@@ -106,6 +99,7 @@ pub fn text_of(
         Sought::Name(name) => push_name(spool, name.as_bytes(), &mut text)?,
         Sought::Description(name) => push_description(spool, name.as_bytes(), &mut text)?,
         Sought::Lines(name, from, to) => push_lines(spool, name.as_bytes(), from, to, &mut text)?,
+        Sought::New(wildmat, from) => push_new(spool, wildmat.as_bytes(), from, &mut text)?,
         of_article => push_of_article(spool, of_article, &mut text)?,
     };
     if found { Ok(Some(text)) } else { Ok(None) }
@@ -139,6 +133,19 @@ fn push_lines(
         return Ok(false);
     }
     spool.push_overviews(name, from, to, text)?;
+    Ok(true)
+}
+
+fn push_new(
+    spool: &Spool,
+    wildmat: &[u8],
+    from: i64,
+    text: &mut Vec<u8>,
+) -> Result<bool, AllocError> {
+    if !is_wildmat(wildmat) {
+        return Ok(false);
+    }
+    spool.push_new_ids(wildmat, from, text)?;
     Ok(true)
 }
 

@@ -1,7 +1,7 @@
 //! The texts of articles.
 
 ghost use Rattle.std.specs.Prelude.{◌≡◌, ◌++◌, OnOk};
-ghost use Rattle.model.specs.Article.{body, header, id};
+ghost use Rattle.model.specs.Article.{body, header};
 ghost use Rattle.model.specs.Files.{HasRoom, IsFileSystem};
 ghost use Rattle.model.specs.Indexed.{ArePlaces};
 ghost use Rattle.model.specs.Spool.{Spool};
@@ -12,7 +12,7 @@ ghost use Rattle.spool_texts.specs.Texts.{HasArticle};
 
 use crate::finding::{front_of, place_of};
 use crate::sending::push_stuffed;
-use article::{Header, header_length};
+use article::header_length;
 use index::Index;
 use model::Part;
 use places::Places;
@@ -115,27 +115,4 @@ fn push_body<B: Blocks>(
         .min(header_length(&front) as u64 + EMPTY_LINE_SIZE);
     let from = text.from + skipped;
     push_stuffed(blocks, inodes, text.inode, from, text.size - skipped, reply)
-}
-
-/// Appends the message-id of an article; appends nothing if it has none. Refused only for want of memory; then the
-/// reply may hold any octets, and the caller discards it.
-pub fn push_id<B: Blocks>(
-    alloc: Global,
-    blocks: &B,
-    inodes: u32,
-    index: &Index,
-    places: &Places,
-    serial: u64,
-    reply: &mut Vec<u8>,
-) -> Result<(), AllocError>
-    requires room { HasRoom inodes (B.blocks blocks.now) }
-    requires rule { IsFileSystem inodes (B.blocks blocks.now) }
-    requires there { HasArticle inodes (B.blocks blocks.now) index.now places.now serial }
-    ensures { OnOk result ((S : Spool) → Indexes S index.now → ArePlaces inodes (B.blocks blocks.now) S places.now
-        → reply.new.items ≡ reply.old.items ++ id (text_of S serial)) }
-{
-    let text = place_of(blocks, inodes, index, places, serial);
-    let front = front_of(alloc, blocks, inodes, text)?;
-    let header = Header::read(alloc, &front)?;
-    reply.extend_from_slice(header.id())
 }

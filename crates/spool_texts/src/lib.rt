@@ -6,6 +6,6 @@ mod finding;
 mod overviews;
 mod sending;
 
-pub use articles::{push_article, push_id, push_part};
+pub use articles::{push_article, push_part};
 pub use overviews::{push_overview, push_overviews};
 pub use sending::push_stuffed;

@@ -22,7 +22,8 @@ invariant_of-self-2 c =
           (sym (ap heads more ∙ heads_by (c.len.result + 1) c.args.filed c.args.sizes.now (length c.args.filed)
           (map shown c.self.inside.groups.items))) c.self.invariant.0,
       subst (AreLatest c.push_latest.new.latest.items)
-          (sym (c.in-Ok.ensures.items ∙ ap (λ (ns : List Note). ns ++ note.Article c.args.size c.args.filed c.args.moment ∷ [])
+          (sym (c.in-Ok.ensures.items
+          ∙ ap (λ (ns : List Note). ns ++ note.Article c.new-own_id.result c.args.size c.args.filed c.args.moment ∷ [])
           c.in_ok-reserve.ensures.items))
           (c.push_latest.ensures c.self.inside.notes.items
           (subst (λ (ms : List ℕ). AreLatest ms c.self.inside.notes.items) (sym c.in_ok-reserve-2.ensures.items) c.self.invariant.1)),
@@ -38,10 +39,10 @@ returns-clause-ok c = λ host S text may key size sized is.
     new_serial S c.args.self.now c.self.inside.notes.items c.len.result (ap (λ (x : IndexView). x.notes) c.self.view_is) is
     (omega (arith, c.len.ensures, c.self.inside.notes.ok)) in
     article_indexed host S c.args.self.now _ text c.args.id.now c.args.filed c.args.moment c.args.sizes.now
-    (note.Article c.args.size c.args.filed c.args.moment) (c.len.result + 1) may is
-    (c.in-Ok.ensures.items ∙ ap (λ (ns : List Note). ns ++ note.Article c.args.size c.args.filed c.args.moment ∷ [])
+    (note.Article c.new-own_id.result c.args.size c.args.filed c.args.moment) (c.len.result + 1) may is
+    (c.in-Ok.ensures.items ∙ ap (λ (ns : List Note). ns ++ note.Article c.new-own_id.result c.args.size c.args.filed c.args.moment ∷ [])
     (c.in_ok-reserve.ensures.items ∙ ap (λ (x : IndexView). x.notes) c.self.view_is))
-    (ap (λ (n : ℕ). note.Article n c.args.filed c.args.moment) size)
+    (λ i. note.Article ((c.new-own_id.ensures ∙ c.in_ok-from_slice.ensures.items ∙ key) i) (size i) c.args.filed c.args.moment)
     sized next
     (more ∙ ap (λ (x : IndexView). map (filed_by (c.len.result + 1) c.args.filed c.args.sizes.now (length c.args.filed)) x.groups)
     c.self.view_is)

@@ -10,7 +10,7 @@ use Rattle.model.specs.Spool.{NewsArticle, articles, articles_now}
 use Rattle.model.specs.Stream.{dot_line, line}
 use Rattle.replies.specs.Answered.{answered}
 use Rattle.replies.specs.declared.sessions.Answered.{Answered}
-use Rattle.listing_commands.specs.News.{new_lines}
+use Rattle.lookups.specs.News.{new_lines}
 use Rattle.listing_commands.proofs.Newest.{block_new}
 use Rattle.listing_commands.proofs.news.articles_since.Goals as goal
 
@@ -21,7 +21,7 @@ returns g c =
     let from = to_z w64 (of_z w64 c.args.from) in
     let same : from ≡ c.args.from = to_z-of_z w64 c.args.from c.ranges.from in
     let items = c.in_ok-push_end.ensures
-    ∙ ap (λ os. os ++ dot_line) (c.in_ok-push_articles.ensures
+    ∙ ap (λ os. os ++ dot_line) (c.in_ok-push_new_ids.ensures
     ∙ ap (λ os. os ++ new_lines S wildmat from (articles S)) (c.in_ok-push_heading.ensures
     ∙ ap (λ os. os ++ line articles_follow) c.new-reply.ensures.items))
     ∙ block_new (g.L.LookUps.host_of c.args.spool.now) S wildmat from articles_follow (g.met.L.LookUps.lawful c.args.spool.now)

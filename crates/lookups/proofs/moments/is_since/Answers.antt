@@ -1,5 +1,5 @@
 use Rattle.std.proofs.Common.{rules}
-use Rattle.listing_commands.proofs.groups.is_since.Goals as goal
+use Rattle.lookups.proofs.moments.is_since.Goals as goal
 
 pub returns-else-from-le0 : goal.returns-else-from-le0
 returns-else-from-le0 c = search rules
