@@ -1,6 +1,6 @@
 -- The articles of a group that are in a range, by their numbers.
-use Rattle.std.proofs.Common.{◌≡◌, ℕ, zero, suc, ◌+◌, ◌-◌, ◌<◌, ◌≤◌, ◌^◌, List, [], ◌∷◌, ◌++◌, map, refl, sym, ◌∙◌, ap, arith, append_assoc}
-use Rattle.std.proofs.Common.{append-nil, Bool, true, false, cond, length}
+use Rattle.std.proofs.Common.{◌≡◌, ℕ, suc, ◌+◌, ◌-◌, ◌<◌, ◌≤◌, ◌^◌, List, [], ◌∷◌, ◌++◌, map, refl, sym, ◌∙◌, ap, arith, append_assoc}
+use Rattle.std.proofs.Common.{Bool, true, false, cond, length}
 use Rattle.std.specs.Prelude.{◌&&◌, codes, decimal, drop, filter, flat_map, max, nat_le, take, Option, Some, None}
 use Rattle.std.specs.List.{enumerate_from}
 use Rattle.std.proofs.lemmas.Bool.{le-leb, lt-leb, leb-true, and_from}
@@ -187,20 +187,6 @@ some_over x r low high c low_is high_is some small any =
     last_small : (last : Option ℕ) (high : ℕ) → last_in last high ≤ high
     last_small None high = omega arith
     last_small (Some l) high = omega arith
-
--- one line more
-pub one_more : (from count : ℕ) → number_lines from (count + 1) ≡ number_lines from count ++ stuffed_line (line (decimal (from + count)))
-one_more from zero =
-    let start : from ≡ from + 0 = omega arith in
-    append-nil (stuffed_line (line (decimal from))) ∙ ap (λ n. stuffed_line (line (decimal n))) start
-one_more from (suc count) =
-    let place : from + 1 + count ≡ from + suc count = omega arith in
-    let shift : suc count + 1 ≡ suc (count + 1) = omega arith in
-    ap (number_lines from) shift
-    ∙ ap (λ os. stuffed_line (line (decimal from)) ++ os) (one_more (from + 1) count
-    ∙ ap (λ n. number_lines (from + 1) count ++ stuffed_line (line (decimal n))) place)
-    ∙ sym (append_assoc (stuffed_line (line (decimal from))) (number_lines (from + 1) count)
-    (stuffed_line (line (decimal (from + suc count)))))
 
 -- the answer to LISTGROUP
 pub listed_answer : (x : Session) (r : Range) (g : Octets) (c : Contents) (low high : ℕ) (reply : Octets) (next : Session) → low ≡ c.low

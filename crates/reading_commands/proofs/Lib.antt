@@ -1,3 +1,4 @@
 pub mod Replied
+pub mod Numbered
 pub mod Picking
 pub mod InGroup

@@ -1,5 +1,5 @@
 -- The articles of a range stand one after the other.
-use Rattle.std.proofs.Common.{◌≡◌, ℕ, zero, suc, ◌+◌, ◌-◌, ◌<◌, ◌≤◌, List, [], ◌∷◌, map, refl, ◌∙◌, ap, arith, Bool, true, false, cond}
+use Rattle.std.proofs.Common.{◌≡◌, ℕ, zero, suc, ◌+◌, ◌<◌, ◌≤◌, List, [], ◌∷◌, map, refl, ◌∙◌, ap, arith, Bool, true, false, cond}
 use Rattle.std.proofs.Common.{length}
 use Rattle.std.specs.Prelude.{◌&&◌, drop, filter, take}
 use Rattle.std.specs.List.{enumerate_from, range_with_len}

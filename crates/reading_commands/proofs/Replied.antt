@@ -1,6 +1,6 @@
 -- What is sent of an article.
 use Rattle.std.proofs.Common.{◌≡◌, ℕ, zero, suc, ◌+◌, ◌<◌, ◌^◌, List, [], ◌∷◌, ◌++◌, map, refl, sym, ◌∙◌, ap, arith, append_assoc}
-use Rattle.std.proofs.Common.{append-nil, false, cond, length}
+use Rattle.std.proofs.Common.{append-nil, length}
 use Rattle.std.specs.Prelude.{◌==◌, codes, decimal}
 use Rattle.std.specs.Int.Digits.{digits_of}
 use Rattle.std.proofs.lemmas.Fmt.{decimal-digits_of, decimal_digit, decimal_nonempty}
@@ -38,6 +38,13 @@ number_begins : (n : ℕ) → n < 2 ^ 64 → Begins (decimal n)
 number_begins zero small = record { digit = 0; rest = []; is = decimal_digit 0 (omega arith) }
 number_begins (suc n) small = first_of (suc n) (digits_of 10 (suc n)) (decimal-digits_of (suc n) (omega arith) small)
     (decimal_nonempty (suc n) small)
+
+plain_if : (n : Octets) → Begins n → stuffed_line (line n) ≡ line n
+plain_if n begins = rw begins.is (cond-false (48 + begins.digit == 46) _ _ (ne_eqb (48 + begins.digit) 46 (λ same. omega arith)))
+
+-- a number's line is sent as it is
+pub number_plain : (n : ℕ) → n < 2 ^ 64 → stuffed_line (line (decimal n)) ≡ line (decimal n)
+number_plain n small = plain_if (decimal n) (number_begins n small)
 
 joined_plain : (n s f d m r b l : Octets) → Begins n
     → stuffed_line (line (n ++ codes "\t" ++ s ++ codes "\t" ++ f ++ codes "\t" ++ d ++ codes "\t" ++ m ++ codes "\t" ++ r ++ codes "\t"

@@ -9,11 +9,15 @@ ghost use Rattle.lookups.specs.Held.{IsCounts};
 ghost use Rattle.replies.specs.Answered.{answered, replied, with_group};
 ghost use Rattle.reading_commands.specs.Words.{counted};
 
-use crate::ranges::{numbers_in, push_numbers};
+use crate::ranges::{lines_bound, numbers_in, push_numbers};
 use lookups::{Counts, LookUps, counts_of, find_group};
 use model::{Range, Session};
 use replies::{Answered, Reply, answer, push_end, push_line, push_number, says_line, selecting};
 use std::alloc::{AllocError, Global};
+
+/// The octets that a reply has at most besides the group's name and the lines of numbers: `211`, three numbers, ` list
+/// follows`, CRLF, and the line that ends a block.
+const WORDS: usize = 86;
 
 /// The number of articles in a group with these counts.
 fn count(counts: Counts) -> u64
@@ -91,7 +95,7 @@ fn selected<L: LookUps>(
     ensures { IfOk result (λ r. r ≡ answered (answers.group_answer session.now group.now (contents (L.changes spool.now) group.now))
         (last_naming (L.changes spool.now) group.now)) }
 {
-    let mut reply = Vec::new(alloc);
+    let mut reply = Vec::with_capacity(alloc, group.len().saturating_add(WORDS))?;
     push_counted(&mut reply, counts, group)?;
     reply.extend_from_slice(b"\r\n")?;
     selects(alloc, session, group, counts, reply)
@@ -151,10 +155,12 @@ fn numbered<L: LookUps>(
         (answers.listgroup_answer session.now range.now group.now (contents (L.changes spool.now) group.now))
         (last_naming (L.changes spool.now) group.now)) }
 {
-    let mut reply = Vec::new(alloc);
+    let numbers = numbers_in(range, counts);
+    let bound = lines_bound(numbers).saturating_add(WORDS);
+    let mut reply = Vec::with_capacity(alloc, bound.saturating_add(group.len()))?;
     push_counted(&mut reply, counts, group)?;
     push_line(&mut reply, b" list follows")?;
-    push_numbers(&mut reply, numbers_in(range, counts))?;
+    push_numbers(&mut reply, numbers)?;
     push_end(&mut reply)?;
     selects(alloc, session, group, counts, reply)
 }

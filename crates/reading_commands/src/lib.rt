@@ -5,6 +5,7 @@
 mod fetch;
 mod groups;
 mod moves;
+mod number_lines;
 mod overviews;
 mod parts;
 mod ranges;

@@ -1,12 +1,16 @@
 //! The numbers of a range.
 
-ghost use Rattle.std.specs.Prelude.{◌≡◌, ◌+◌, ◌-◌, ◌++◌, ◌≤◌, OnOk};
+ghost use Rattle.std.specs.Prelude.{◌≡◌, ◌+◌, ◌-◌, ◌*◌, ◌^◌, ◌++◌, ◌≤◌, OnOk, decimal, length, min};
 ghost use Rattle.reading_commands.specs.Words.{first_in, last_in, number_lines};
 
+use crate::number_lines::push_number_lines;
+use itoa::Buffer;
 use lookups::Counts;
 use model::Range;
-use replies::push_number_line;
 use std::alloc::AllocError;
+
+/// The octets that end a line.
+const CRLF: usize = 2;
 
 /// Consecutive numbers; there are none if the last is below the first.
 #[derive(Clone, Copy)]
@@ -41,13 +45,20 @@ fn count(numbers: Numbers) -> u64
     numbers.last - numbers.first + 1
 }
 
+/// The octets that their lines have at most: as many for each number as for the last one.
+pub fn lines_bound(numbers: Numbers) -> usize
+    requires { 1 ≤ numbers.first }
+    ensures { result ≡ min ((numbers.last + 1 - numbers.first) * (length (decimal numbers.last) + 2)) (2 ^ 64 - 1) }
+{
+    let mut digits = Buffer::new();
+    let longest = digits.format(numbers.last).len() + CRLF;
+    (count(numbers) as usize).saturating_mul(longest)
+}
+
 /// Appends a line for each of the numbers.
 pub fn push_numbers(reply: &mut Vec<u8>, numbers: Numbers) -> Result<(), AllocError>
     requires { 1 ≤ numbers.first }
     ensures { OnOk result (reply.new.items ≡ reply.old.items ++ number_lines numbers.first (numbers.last + 1 - numbers.first)) }
 {
-    for step in 0..count(numbers) {
-        push_number_line(reply, numbers.first + step)?;
-    }
-    Ok(())
+    push_number_lines(reply, numbers.first, count(numbers))
 }

@@ -14,14 +14,14 @@ returns g c =
     let high = c.args.counts.high in
     let range = c.args.range.now in
     let some : 1 ≤ low = omega (arith, c.requires.low) in
-    let sent = number_lines c.numbers_in.result.first (c.numbers_in.result.last + 1 - c.numbers_in.result.first) in
+    let sent = number_lines c.numbers_in-numbers.result.first (c.numbers_in-numbers.result.last + 1 - c.numbers_in-numbers.result.first) in
     let same : sent ≡ number_lines (first_in range low) (last_in range.last high + 1 - first_in range low) =
-    (λ i. number_lines (c.numbers_in.ensures.first i) (c.numbers_in.ensures.last i + 1 - c.numbers_in.ensures.first i)) in
+    (λ i. number_lines (c.numbers_in-numbers.ensures.first i) (c.numbers_in-numbers.ensures.last i + 1 - c.numbers_in-numbers.ensures.first i)) in
     let items = c.in_ok-push_end.ensures
     ∙ ap (λ os. os ++ dot_line) (c.in_ok-push_numbers.ensures
     ∙ ap (λ os. os ++ sent) (c.in_ok-push_line.ensures
     ∙ ap (λ os. os ++ line (codes " list follows")) (c.in_ok-push_counted.ensures
-    ∙ ap (λ os. os ++ counted low high c.args.group.now) c.new-reply.ensures.items)))
+    ∙ ap (λ os. os ++ counted low high c.args.group.now) c.in_ok-reply.ensures.items)))
     ∙ ap (λ os. counted low high c.args.group.now ++ line (codes " list follows") ++ os ++ dot_line) same in
     subst (λ (a : Answered). IfOk c.selects.result (λ r. r ≡ a))
     (λ i. answered (listed_answer c.args.session.now range c.args.group.now
