@@ -26,13 +26,13 @@ pub(crate) fn command<L: LookUps>(
     alloc: Global,
     spool: &L,
     session: &Session,
-    command: &Command,
+    command: Command,
     moment: u64,
 ) -> Result<Answered, AllocError>
-    requires grammar { IsInGrammar command.now }
+    requires grammar { IsInGrammar command }
     requires moment { moment < moment_limit }
-    ensures { IfOk result (λ r. r ≡ answered (command_answer (L.host_of spool.now) (L.changes spool.now) session.now moment command.now)
-        (command_reads (L.host_of spool.now) (L.changes spool.now) session.now moment command.now)) }
+    ensures { IfOk result (λ r. r ≡ answered (command_answer (L.host_of spool.now) (L.changes spool.now) session.now moment command)
+        (command_reads (L.host_of spool.now) (L.changes spool.now) session.now moment command)) }
 {
     match command {
         Command::Capabilities => fixed(alloc, session, Block::Capabilities),
@@ -40,21 +40,21 @@ pub(crate) fn command<L: LookUps>(
         Command::Quit => quit(alloc, session),
         Command::Help => fixed(alloc, session, Block::Help),
         Command::Date => date(alloc, session, moment),
-        Command::Group(name) => group(alloc, spool, session, name.as_slice()),
+        Command::Group(name) => group(alloc, spool, session, name),
         Command::ListGroupSelected => list_selected(alloc, spool, session),
         Command::ListGroup(name) => list_whole(alloc, spool, session, name.as_slice()),
         Command::ListGroupRange(name, range) => {
-            list_group(alloc, spool, session, name.as_slice(), range)
+            list_group(alloc, spool, session, name.as_slice(), &range)
         }
         Command::Next => next(alloc, spool, session),
         Command::Last => last(alloc, spool, session),
-        Command::Fetch(part, selector) => fetch(alloc, spool, session, part, selector),
+        Command::Fetch(part, selector) => fetch(alloc, spool, session, &part, &selector),
         Command::OverCurrent => over_current(alloc, spool, session),
-        Command::OverRange(range) => over_range(alloc, spool, session, range),
+        Command::OverRange(range) => over_range(alloc, spool, session, &range),
         Command::OverId(id) => over_id(alloc, spool, session, id.as_slice()),
-        Command::ListActive(wildmat) => list_active(alloc, spool, session, wildmat),
-        Command::ListTimes(wildmat) => list_times(alloc, spool, session, wildmat),
-        Command::ListNewsgroups(wildmat) => list_newsgroups(alloc, spool, session, wildmat),
+        Command::ListActive(wildmat) => list_active(alloc, spool, session, &wildmat),
+        Command::ListTimes(wildmat) => list_times(alloc, spool, session, &wildmat),
+        Command::ListNewsgroups(wildmat) => list_newsgroups(alloc, spool, session, &wildmat),
         Command::ListOverviewFormat => fixed(alloc, session, Block::OverviewFormat),
         Command::NewGroups { date, time } => {
             let (date, time) = (date.as_slice(), time.as_slice());

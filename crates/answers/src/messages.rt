@@ -76,7 +76,7 @@ fn line<L: LookUps>(
 {
     arguments_are_in_grammar();
     match grammar::read(alloc, text)? {
-        Parsed::Command(read) => command(alloc, spool, session, &read, moment),
+        Parsed::Command(read) => command(alloc, spool, session, read, moment),
         Parsed::Unknown => says_line(alloc, session, Reply::UnknownCommand, 0),
         Parsed::Bad => says_line(alloc, session, Reply::SyntaxError, 0),
     }

@@ -7,7 +7,7 @@ ghost use Rattle.model.specs.Spool.{by_id, by_number, contents, here_by_id};
 ghost use Rattle.lookups.specs.Held.{article_of, article_with};
 ghost use Rattle.replies.specs.Answered.{answered};
 
-use crate::parts::push_part;
+use crate::parts::{FOUND_ROOM, push_part};
 use lookups::{LookUps, locate_id, locate_number};
 use model::{Part, Session};
 use replies::{Answered, Reply, answer, at_number, says, says_line};
@@ -84,7 +84,7 @@ fn number_in<L: LookUps>(
     let located = locate_number(spool, group, number);
     match located.serial {
         Some(serial) => {
-            let mut reply = Vec::new(alloc);
+            let mut reply = Vec::with_capacity(alloc, FOUND_ROOM)?;
             push_part(spool, part, number, serial, &mut reply)?;
             Ok(answer(reply, at_number(alloc, session, number)?, located.reads))
         }
@@ -124,7 +124,7 @@ fn shown<L: LookUps>(
     ensures { IfOk result (λ r. r ≡ answered
         (answers.says session.now (answers.part_reply part.now number (article_of (L.changes spool.now) serial))) reads) }
 {
-    let mut reply = Vec::new(alloc);
+    let mut reply = Vec::with_capacity(alloc, FOUND_ROOM)?;
     push_part(spool, part, number, serial, &mut reply)?;
     says(alloc, session, reply, reads)
 }

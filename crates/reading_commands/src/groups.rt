@@ -11,7 +11,7 @@ ghost use Rattle.reading_commands.specs.Words.{counted};
 
 use crate::ranges::{lines_bound, numbers_in, push_numbers};
 use lookups::{Counts, LookUps, counts_of, find_group};
-use model::{Range, Session};
+use model::{Range, Session, Text};
 use replies::{Answered, Reply, answer, push_end, push_line, push_number, says_line, selecting};
 use std::alloc::{AllocError, Global};
 
@@ -28,6 +28,13 @@ fn count(counts: Counts) -> u64
         return 0;
     }
     counts.high - counts.low + 1
+}
+
+/// A copy of a name.
+fn copied(alloc: Global, name: &[u8]) -> Result<Text, AllocError>
+    ensures { IfOk result (λ copy. copy ≡ name.now) }
+{
+    Ok(Text::new(name.to_vec(alloc)?))
 }
 
 /// Appends a space and a number.
@@ -55,30 +62,30 @@ fn push_counted(reply: &mut Vec<u8>, counts: Counts, group: &[u8]) -> Result<(),
 fn selects(
     alloc: Global,
     session: &Session,
-    group: &[u8],
+    group: Text,
     counts: Counts,
     reply: Vec<u8>,
 ) -> Result<Answered, AllocError>
     requires { 1 ≤ counts.low }
     ensures { IfOk result (λ r. r ≡ answered
-        (replied reply.items (with_group session.now group.now counts.low (counts.high + 1 - counts.low))) counts.last) }
+        (replied reply.items (with_group session.now group counts.low (counts.high + 1 - counts.low))) counts.last) }
 {
     let next = selecting(alloc, session, group, counts.low, count(counts))?;
     Ok(answer(reply, next, counts.last))
 }
 
-/// GROUP (RFC 3977, section 6.1.1).
+/// GROUP (RFC 3977, section 6.1.1). The session takes the name.
 pub fn group<L: LookUps>(
     alloc: Global,
     spool: &L,
     session: &Session,
-    group: &[u8],
+    group: Text,
 ) -> Result<Answered, AllocError>
     ensures { IfOk result (λ r. r ≡ answered
-        (answers.if_here session.now (contents_if_here (L.changes spool.now) group.now) (answers.group_answer session.now group.now))
-        (group_reads (L.changes spool.now) group.now)) }
+        (answers.if_here session.now (contents_if_here (L.changes spool.now) group) (answers.group_answer session.now group))
+        (group_reads (L.changes spool.now) group)) }
 {
-    match find_group(spool, group) {
+    match find_group(spool, group.as_slice()) {
         Some(found) => selected(alloc, spool, session, group, found.counts),
         None => says_line(alloc, session, Reply::NoSuchGroup, 0),
     }
@@ -88,15 +95,16 @@ fn selected<L: LookUps>(
     alloc: Global,
     spool: &L,
     session: &Session,
-    group: &[u8],
+    group: Text,
     counts: Counts,
 ) -> Result<Answered, AllocError>
-    requires { IsCounts (L.changes spool.now) group.now counts }
-    ensures { IfOk result (λ r. r ≡ answered (answers.group_answer session.now group.now (contents (L.changes spool.now) group.now))
-        (last_naming (L.changes spool.now) group.now)) }
+    requires { IsCounts (L.changes spool.now) group counts }
+    ensures { IfOk result (λ r. r ≡ answered (answers.group_answer session.now group (contents (L.changes spool.now) group))
+        (last_naming (L.changes spool.now) group)) }
 {
-    let mut reply = Vec::with_capacity(alloc, group.len().saturating_add(WORDS))?;
-    push_counted(&mut reply, counts, group)?;
+    let name = group.as_slice();
+    let mut reply = Vec::with_capacity(alloc, name.len().saturating_add(WORDS))?;
+    push_counted(&mut reply, counts, name)?;
     reply.extend_from_slice(b"\r\n")?;
     selects(alloc, session, group, counts, reply)
 }
@@ -162,5 +170,6 @@ fn numbered<L: LookUps>(
     push_line(&mut reply, b" list follows")?;
     push_numbers(&mut reply, numbers)?;
     push_end(&mut reply)?;
-    selects(alloc, session, group, counts, reply)
+    let name = copied(alloc, group)?;
+    selects(alloc, session, name, counts, reply)
 }

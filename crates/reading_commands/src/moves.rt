@@ -8,7 +8,7 @@ ghost use Rattle.lookups.specs.Held.{article_of, article_with};
 ghost use Rattle.replies.specs.Answered.{answered};
 ghost use Rattle.reading_commands.specs.Words.{current_of};
 
-use crate::parts::push_found;
+use crate::parts::{FOUND_ROOM, push_found};
 use lookups::{LookUps, counts_of, find_number};
 use model::{Part, Session};
 use replies::{Answered, Reply, answer, at_number, says_line};
@@ -102,7 +102,7 @@ fn moved<L: LookUps>(
     requires { article_with (L.changes spool.now) serial ≡ Some (article_of (L.changes spool.now) serial) }
     ensures { IfOk result (λ r. r ≡ answered (answers.moved_answer session.now number (article_of (L.changes spool.now) serial)) reads) }
 {
-    let mut reply = Vec::new(alloc);
+    let mut reply = Vec::with_capacity(alloc, FOUND_ROOM)?;
     push_found(spool, &Part::Nothing, number, serial, &mut reply)?;
     Ok(answer(reply, at_number(alloc, session, number)?, reads))
 }

@@ -11,6 +11,10 @@ use model::Part;
 use replies::push_number;
 use std::alloc::AllocError;
 
+/// The octets of the first line of a reply with an article, if its message-id has at most 80: code, number, message-id,
+/// blanks and CRLF. A longer line is allocated anew.
+pub const FOUND_ROOM: usize = 107;
+
 /// The code of a reply with this part.
 fn code(part: &Part) -> &'static [u8]
     ensures { result.now ≡ code_of part.now }

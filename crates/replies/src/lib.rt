@@ -10,6 +10,5 @@ pub use sessions::{Answered, answer, at_number, awaiting, copy, says, says_line,
 pub use stuffing::{Stuffing, pieces_make_the_text};
 pub use texts::{Block, Heading, Reply};
 pub use writing::{
-    push_end, push_greeting, push_heading, push_line, push_number, push_number_line, push_reply,
-    push_stuffed,
+    push_end, push_greeting, push_heading, push_line, push_number, push_reply, push_stuffed,
 };

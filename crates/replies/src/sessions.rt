@@ -80,22 +80,21 @@ pub fn at_number(alloc: Global, session: &Session, number: u64) -> Result<Sessio
     })
 }
 
-/// The session with this group selected, and with the group's lowest number if it has an article.
+/// The session with this group selected, whose name it takes, and with the group's lowest number if it has an article.
 pub fn selecting(
     alloc: Global,
     session: &Session,
-    group: &[u8],
+    group: Text,
     low: u64,
     count: u64,
 ) -> Result<Session, AllocError>
-    ensures { IfOk result (λ next. next ≡ with_group session.now group.now low count) }
+    ensures { IfOk result (λ next. next ≡ with_group session.now group low count) }
 {
     let awaits = copy_awaits(alloc, &session.awaits)?;
-    let group = Some(Text::new(group.to_vec(alloc)?));
     let current = if count == 0 { None } else { Some(low) };
     Ok(Session {
         awaits,
-        group,
+        group: Some(group),
         current,
     })
 }

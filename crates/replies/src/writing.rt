@@ -10,12 +10,16 @@ use crate::texts::{Heading, Reply};
 use itoa::Buffer;
 use std::alloc::AllocError;
 
+/// What ends a line.
+const CRLF: &[u8] = b"\r\n";
+
 /// Appends a line. In a block it may not begin with a dot.
 pub fn push_line(reply: &mut Vec<u8>, text: &[u8]) -> Result<(), AllocError>
     ensures { OnOk result (reply.new.items ≡ reply.old.items ++ line text.now) }
 {
+    reply.reserve(text.len().saturating_add(CRLF.len()))?;
     reply.extend_from_slice(text)?;
-    reply.extend_from_slice(b"\r\n")
+    reply.extend_from_slice(CRLF)
 }
 
 /// Appends a line of a block, with another dot before it if it begins with one.
@@ -41,14 +45,6 @@ pub fn push_number(reply: &mut Vec<u8>, number: u64) -> Result<(), AllocError>
 {
     let mut buffer = Buffer::new();
     reply.extend_from_slice(buffer.format(number).as_bytes())
-}
-
-/// Appends a line of a block that holds only a number.
-pub fn push_number_line(reply: &mut Vec<u8>, number: u64) -> Result<(), AllocError>
-    ensures { OnOk result (reply.new.items ≡ reply.old.items ++ stuffed_line (line (decimal number))) }
-{
-    let mut buffer = Buffer::new();
-    push_stuffed(reply, buffer.format(number).as_bytes())
 }
 
 /// Appends a one-line reply.
@@ -84,6 +80,5 @@ fn push_joined(
 {
     reply.extend_from_slice(first)?;
     reply.extend_from_slice(second)?;
-    reply.extend_from_slice(third)?;
-    reply.extend_from_slice(b"\r\n")
+    push_line(reply, third)
 }

@@ -1,8 +1,8 @@
-use Rattle.std.proofs.Common.{◌≡◌, ◌++◌, ◌≤◌, ◌∙◌, refl, ap, subst, arith}
+use Rattle.std.proofs.Common.{◌≡◌, ◌++◌, ◌≤◌, ◌∙◌, ap, subst, arith}
 use Rattle.std.specs.Prelude.{IfOk, codes, ◌+◌, ◌-◌}
 use Rattle.model.specs.Spool.{contents}
 use Rattle.model.specs.Stream.{dot_line, line}
-use Rattle.replies.specs.Answered.{answered}
+use Rattle.replies.specs.Answered.{answered, with_group}
 use Rattle.replies.specs.declared.sessions.Answered.{Answered}
 use Rattle.reading_commands.specs.Words.{counted, first_in, last_in, number_lines}
 use Rattle.reading_commands.proofs.InGroup.{listed_answer}
@@ -25,6 +25,7 @@ returns g c =
     ∙ ap (λ os. counted low high c.args.group.now ++ line (codes " list follows") ++ os ++ dot_line) same in
     subst (λ (a : Answered). IfOk c.selects.result (λ r. r ≡ a))
     (λ i. answered (listed_answer c.args.session.now range c.args.group.now
-    (contents (g.L.LookUps.changes c.args.spool.now) c.args.group.now) low high _ _ c.requires.low c.requires.high some items refl i)
+    (contents (g.L.LookUps.changes c.args.spool.now) c.args.group.now) low high _ _ c.requires.low c.requires.high some items
+    (ap (λ name. with_group c.args.session.now name low (high + 1 - low)) c.in_ok-name.ensures) i)
     (c.requires.last i))
     c.selects.ensures
