@@ -12,10 +12,15 @@ ghost use Rattle.replies.specs.Answered.{answered, replied};
 ghost use Rattle.replies.specs.Replies.{sent, sent_block};
 
 use model::{Awaits, Session};
-use replies::{
-    Answered, Block, Reply, answer, awaiting, push_greeting, push_line, push_reply, says,
-};
+use replies::{Answered, Block, Reply, answer, awaiting, push_greeting, push_reply, says};
+use stamp::{DATE_DIGITS, push_date_reply};
 use std::alloc::{AllocError, Global};
+
+/// How the reply to DATE begins.
+const DATE: &[u8] = b"111 ";
+
+/// What ends a line.
+const CRLF: &[u8] = b"\r\n";
 
 /// CAPABILITIES, HELP and LIST OVERVIEW.FMT (RFC 3977, sections 5.2, 7.2 and 8.4).
 pub fn fixed(alloc: Global, session: &Session, which: Block) -> Result<Answered, AllocError>
@@ -38,9 +43,10 @@ pub fn date(alloc: Global, session: &Session, moment: u64) -> Result<Answered, A
     requires { moment < moment_limit }
     ensures { IfOk result (λ said. said ≡ answered (answers.says session.now (line (codes "111 " ++ date_reply moment))) 0) }
 {
-    let mut reply = Vec::new(alloc);
-    reply.extend_from_slice(b"111 ")?;
-    push_line(&mut reply, &stamp::date_reply(alloc, moment)?)?;
+    let mut reply = Vec::with_capacity(alloc, DATE.len() + DATE_DIGITS + CRLF.len())?;
+    reply.extend_from_slice(DATE)?;
+    push_date_reply(&mut reply, moment)?;
+    reply.extend_from_slice(CRLF)?;
     says(alloc, session, reply, 0)
 }
 

@@ -22,6 +22,9 @@ const HOUR: u64 = 3_600;
 
 const DAY: u64 = 86_400;
 
+/// The digits of a moment in the answer to DATE.
+pub const DATE_DIGITS: usize = 14;
+
 /// Why a date and a time of day are refused.
 #[derive(Clone, Copy, Debug, PartialEq, Eq, Error)]
 pub enum SinceError {
@@ -87,16 +90,25 @@ pub fn date_reply(alloc: Global, moment: u64) -> Result<Vec<u8>, AllocError>
     requires { moment < calendar.moment_limit }
     ensures { IfOk result (λ text. text.items ≡ calendar.date_reply moment) }
 {
-    let date = parts_at(moment);
-    let mut text = Vec::new(alloc);
-    push_two(&mut text, date.year / 100)?;
-    push_two(&mut text, date.year)?;
-    push_two(&mut text, date.month)?;
-    push_two(&mut text, date.day)?;
-    push_two(&mut text, moment % DAY / HOUR)?;
-    push_two(&mut text, moment % HOUR / MINUTE)?;
-    push_two(&mut text, moment % MINUTE)?;
+    let mut text = Vec::with_capacity(alloc, DATE_DIGITS)?;
+    push_date_reply(&mut text, moment)?;
     Ok(text)
+}
+
+/// Appends these digits. Refused only for want of memory; then the text may hold any octets, and the caller discards it.
+pub fn push_date_reply(text: &mut Vec<u8>, moment: u64) -> Result<(), AllocError>
+    requires { moment < calendar.moment_limit }
+    ensures { OnOk result (text.new.items ≡ text.old.items ++ calendar.date_reply moment) }
+{
+    let date = parts_at(moment);
+    push_two(text, date.year / 100)?;
+    push_two(text, date.year)?;
+    push_two(text, date.month)?;
+    push_two(text, date.day)?;
+    push_two(text, moment % DAY / HOUR)?;
+    push_two(text, moment % HOUR / MINUTE)?;
+    push_two(text, moment % MINUTE)?;
+    Ok(())
 }
 
 /// The name of a moment's day of the week.
