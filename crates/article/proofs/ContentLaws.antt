@@ -1,9 +1,9 @@
 -- A text without its line ends, line by line.
-use Rattle.std.specs.Prelude.{◌≡◌, ℕ, ◌-◌, true, false, ◌&&◌, ◌==◌, [], ◌∷◌, ◌++◌, length, take, drop, flat_map}
+use Rattle.std.specs.Prelude.{◌≡◌, ℕ, true, false, ◌&&◌, ◌==◌, [], ◌∷◌, ◌++◌, length, take, drop, flat_map}
 use Rattle.std.specs.List.{list_all}
 use Rattle.std.proofs.Common.{sym, ◌∙◌, ap}
 use Rattle.std.proofs.lemmas.Bool.{eqb-true}
-use Rattle.std.proofs.lemmas.List.{nil_from_length}
+use Rattle.std.proofs.lemmas.List.{append_assoc, nil_from_length}
 use Rattle.std.proofs.lemmas.List.Folds.{list_all-append}
 use Rattle.model.specs.Stream.{Octets, lines}
 use Rattle.model.specs.Names.{is_blank}
@@ -24,7 +24,10 @@ module _ (rest line later : Octets) (n : ℕ) (first : lines rest ≡ take n res
   blank-other is = ap (list_all is_blank) unfolded-line ∙ list_all-append is_blank (line_text line) (unfolded later)
       ∙ ap (λ b. b && list_all is_blank (unfolded later)) is
 
-unfolded-none : (rest : Octets) → (length rest == 0) ≡ true → unfolded rest ≡ []
+  pub unfolded-more : (before : Octets) → (before ++ line_text line) ++ unfolded later ≡ before ++ unfolded rest
+  unfolded-more before = append_assoc before (line_text line) (unfolded later) ∙ ap (λ l. before ++ l) (sym unfolded-line)
+
+pub unfolded-none : (rest : Octets) → (length rest == 0) ≡ true → unfolded rest ≡ []
 unfolded-none rest none = ap unfolded (nil_from_length rest (eqb-true _ _ none)) ∙ ap (flat_map line_text) lines-empty
 
 pub blank-empty : (rest : Octets) → (length rest == 0) ≡ true → list_all is_blank (unfolded rest) ≡ true

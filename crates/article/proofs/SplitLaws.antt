@@ -1,5 +1,5 @@
 -- The lines of a text, and the places of CRLF in it.
-use Rattle.std.specs.Prelude.{◌≡◌, ℕ, zero, suc, ◌+◌, ◌-◌, ◌<◌, ◌≤◌, true, false, nat_eq, [], ◌∷◌, ◌++◌, length, take, drop, get_or}
+use Rattle.std.specs.Prelude.{◌≡◌, ℕ, zero, suc, ◌+◌, ◌-◌, ◌<◌, ◌≤◌, false, nat_eq, [], ◌∷◌, ◌++◌, length, take, drop, get_or}
 use Rattle.std.specs.Prelude.{flat_map}
 use Rattle.std.specs.List.{ends_with}
 use Rattle.std.proofs.Common.{sym, ◌∙◌, ap, arith, inl, inr}
@@ -9,7 +9,7 @@ use Rattle.memchr.specs.Find.{OccursAt, Nowhere, matches}
 use Rattle.memchr.proofs.lemmas.MatchLemmas.{matches-first, matches-none}
 use Rattle.bstr.specs.Text.{replaced_at}
 use Rattle.bstr.proofs.lemmas.MatchListLemmas.{replaced-next, replaced-end}
-use Rattle.model.specs.Stream.{Octets, crlf, lines, EndsAt, NeverEnds}
+use Rattle.model.specs.Stream.{Octets, crlf, EndsAt, NeverEnds}
 use Rattle.model.specs.Article.{line_text, unfolded}
 use Rattle.model.specs.declared.message.Mode.TheVariants as mode
 use Rattle.model.proofs.LineLaws.{lines-empty, lines-line, lines-rest}

@@ -1,10 +1,11 @@
 //! The contents of header fields.
 
-ghost use Rattle.std.specs.Prelude.{◌≡◌, ◌+◌, length, drop, map, find, count_by, option_map, reverse, IfOk};
+ghost use Rattle.std.specs.Prelude.{◌≡◌, ◌+◌, ◌++◌, length, drop, map, find, count_by, option_map, reverse, IfOk};
+ghost use Rattle.std.specs.Prelude.{OnOk};
 ghost use Rattle.std.specs.List.{list_all};
 ghost use Rattle.model.specs.Article as article;
 ghost use Rattle.model.specs.Names as names;
-ghost use Rattle.article.specs.Causes.{is_blank_in};
+ghost use Rattle.article.specs.Causes.{content_in, is_blank_in};
 
 use crate::fields::name_of;
 use crate::lines::line_length;
@@ -92,6 +93,35 @@ pub(crate) fn unfold(alloc: Global, text: &[u8]) -> Result<Vec<u8>, AllocError>
     ensures { IfOk result (λ unfolded. unfolded.items ≡ article.unfolded text.now) }
 {
     text.replace(alloc, b"\r\n", b"")
+}
+
+/// Appends a text without its line ends. Refused only for want of memory; then any octets may follow those that were
+/// already there.
+fn push_unfolded(octets: &mut Vec<u8>, text: &[u8]) -> Result<(), AllocError>
+    ensures { OnOk result (octets.new.items ≡ octets.old.items ++ article.unfolded text.now) }
+{
+    let mut rest = text;
+    while !rest.is_empty() {
+        let (line, later) = rest.split_at(line_length(rest));
+        octets.extend_from_slice(line_text(line))?;
+        rest = later;
+    }
+    Ok(())
+}
+
+/// Appends the content of the first field of this name, or nothing if there is none. Refused only for want of memory;
+/// then any octets may follow those that were already there.
+pub(crate) fn push_content(
+    octets: &mut Vec<u8>,
+    fields: &[&[u8]],
+    name: &[u8],
+) -> Result<(), AllocError>
+    ensures { OnOk result (octets.new.items ≡ octets.old.items ++ content_in name.now (map (λ field. field.now) fields.now)) }
+{
+    match find_field(fields, name) {
+        Some(field) => push_unfolded(octets, value_of(field)),
+        None => Ok(()),
+    }
 }
 
 /// A text without its leading SP and TAB.

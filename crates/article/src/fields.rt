@@ -12,6 +12,9 @@ use names::is_visible;
 use std::alloc::{AllocError, Global};
 use std::cmp::min;
 
+/// As many fields as most articles have.
+const USUAL_FIELDS: usize = 16;
+
 /// Whether the octet is SP or TAB.
 fn is_blank(octet: u8) -> bool
     ensures { result ≡ names.is_blank octet }
@@ -120,7 +123,7 @@ fn field_end(text: &[u8], first: usize) -> usize
 pub(crate) fn fields_of<'t>(alloc: Global, text: &'t [u8]) -> Result<Vec<&'t [u8]>, AllocError>
     ensures { IfOk result (λ fields. map (λ field. field.now) fields.items ≡ article.fields text.now) }
 {
-    let mut fields = Vec::new(alloc);
+    let mut fields = Vec::with_capacity(alloc, USUAL_FIELDS)?;
     let mut rest = text;
     while !rest.is_empty() {
         let first = line_length(rest);

@@ -1,10 +1,11 @@
 //! The header of any text, whether or not it is an article.
 
-ghost use Rattle.std.specs.Prelude.{◌≡◌, [], codes, find, length, option_map, unwrap_or, IfOk};
+ghost use Rattle.std.specs.Prelude.{◌≡◌, ◌++◌, [], codes, find, length, option_map, unwrap_or, IfOk, OnOk};
 ghost use Rattle.model.specs.Article as article;
 ghost use Rattle.article.specs.Causes.{content_in};
 
-use crate::contents::{find_field, id_in_field, unfold, value_of};
+use crate::Article;
+use crate::contents::{find_field, id_in_field, push_content, unfold, value_of};
 use crate::fields::fields_of;
 use crate::lines::{header_length, line_count};
 use std::alloc::{AllocError, Global};
@@ -46,6 +47,14 @@ impl<'t> Header<'t> {
         }
     }
 
+    /// Appends the content of the first field of this name, regardless of case, or nothing if there is none. Refused
+    /// only for want of memory; then any octets may follow those that were already there.
+    pub fn push_content(&self, octets: &mut Vec<u8>, name: &[u8]) -> Result<(), AllocError>
+        ensures { OnOk result (octets.new.items ≡ octets.old.items ++ content_in name.now self.now) }
+    {
+        push_content(octets, &self.fields, name)
+    }
+
     /// The message-id; empty if there is none.
     pub fn id(&self) -> &[u8]
         ensures { result.now ≡ unwrap_or (option_map article.id_in_field (find (article.is_named (codes "Message-ID")) self.now)) [] }
@@ -54,6 +63,16 @@ impl<'t> Header<'t> {
             Some(field) => id_in_field(field),
             None => &[],
         }
+    }
+}
+
+impl<'t> Article<'t> {
+    /// Appends the content of the first field of this name, as `field` gives it, or nothing if there is none. Refused
+    /// only for want of memory; then any octets may follow those that were already there.
+    pub fn push_content(&self, octets: &mut Vec<u8>, name: &[u8]) -> Result<(), AllocError>
+        ensures { OnOk result (octets.new.items ≡ octets.old.items ++ article.content name.now self.now) }
+    {
+        push_content(octets, &self.fields, name)
     }
 }
 
