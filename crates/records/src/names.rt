@@ -43,7 +43,9 @@ impl FileKind {
 pub fn file_name(alloc: Global, kind: FileKind, rest: &[u8]) -> Result<Vec<u8>, AllocError>
     ensures { IfOk result (λ name. name.items ≡ front_of kind ++ rest.now) }
 {
-    let mut name = Vec::from_slice(alloc, kind.front())?;
+    let front = kind.front();
+    let mut name = Vec::with_capacity(alloc, rest.len().saturating_add(front.len()))?;
+    name.extend_from_slice(front)?;
     name.extend_from_slice(rest)?;
     Ok(name)
 }

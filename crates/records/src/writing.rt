@@ -7,6 +7,18 @@ ghost use Rattle.model.specs.SpoolFiles as model_files;
 
 use std::alloc::{AllocError, Global};
 
+/// The octets of a group's record before its description.
+const GROUP_HEAD: usize = 17;
+
+/// The octets of an article's record before its groups.
+const ARTICLE_HEAD: usize = 21;
+
+/// The octets of an expiry's record before its group.
+const EXPIRY_HEAD: usize = 12;
+
+/// The most octets of a group's name in a record, with its length.
+const NAME_SIZE: usize = 256;
+
 /// The record of a group: serial, moment, status, description. Refused only for want of memory.
 pub fn group_record(
     alloc: Global,
@@ -24,7 +36,9 @@ pub fn group_record(
           moment = moment;
         })) }
 {
-    let mut octets = Vec::from_slice(alloc, &serial.to_le_bytes())?;
+    let size = GROUP_HEAD.saturating_add(description.len());
+    let mut octets = Vec::with_capacity(alloc, size)?;
+    octets.extend_from_slice(&serial.to_le_bytes())?;
     octets.extend_from_slice(&moment.to_le_bytes())?;
     octets.push(status)?;
     octets.extend_from_slice(description)?;
@@ -46,7 +60,9 @@ pub fn article_record(
     ensures { IfOk result (λ octets. octets.items ≡ model_records.article_record
         (record { serial = serial; text = text.now; groups = map (λ g. g.now) groups.now; moment = moment })) }
 {
-    let mut octets = Vec::from_slice(alloc, &serial.to_le_bytes())?;
+    let size = ARTICLE_HEAD + NAME_SIZE * groups.len() + text.len();
+    let mut octets = Vec::with_capacity(alloc, size)?;
+    octets.extend_from_slice(&serial.to_le_bytes())?;
     octets.extend_from_slice(&moment.to_le_bytes())?;
     octets.extend_from_slice(&(text.len() as u32).to_le_bytes())?;
     octets.push(groups.len() as u8)?;
@@ -78,7 +94,8 @@ pub fn expiry_record(
     ensures { IfOk result (λ octets. octets.items ≡ model_records.expiry_record
         (record { serial = serial; group = group.now; number = number })) }
 {
-    let mut octets = Vec::from_slice(alloc, &serial.to_le_bytes())?;
+    let mut octets = Vec::with_capacity(alloc, EXPIRY_HEAD + NAME_SIZE)?;
+    octets.extend_from_slice(&serial.to_le_bytes())?;
     octets.extend_from_slice(&number.to_le_bytes())?;
     octets.push(group.len() as u8)?;
     octets.extend_from_slice(group)?;
