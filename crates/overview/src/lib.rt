@@ -6,27 +6,72 @@ ghost use Rattle.model.specs.Article.{overview_field, overview_line};
 ghost use Rattle.article.specs.Causes.{content_in};
 
 use article::{Article, Header, body_line_count};
+use itoa::Buffer;
 use std::alloc::{AllocError, Global};
+use std::marker::Model;
 
 const TAB: u8 = b'\t';
+
+/// The octets that a line may have after its number and beside the contents of fields: 7 TABs, and 2 numbers of up to
+/// 20 digits.
+const TABS_AND_SIZES: usize = 47;
+
+/// An article, with the part of its overview lines that is the same in all groups. Contracts see its text.
+#[derive(Drop)]
+pub struct Overview<'t> {
+    text: &'t [u8],
+    /// the line after its number
+    rest: Vec<u8>,
+}
+
+impl<'t> Model for Overview<'t> {
+    ghost use Rattle.std.specs.Prelude.{◌≡◌, List, ℕ};
+    ghost use Rattle.overview.specs.Rest.{overview_rest};
+
+    ghost Value = { List ℕ };
+
+    ghost view = { λ o. o.text.now };
+
+    ghost invariant = { λ o. o.rest.items ≡ overview_rest o.text.now };
+}
+
+impl<'t> Overview<'t> {
+    /// Reads what the overview shows of an article. Refused only for want of memory.
+    pub fn new(alloc: Global, article: &'t Article<'_>) -> Result<Overview<'t>, AllocError>
+        ensures { IfOk result (λ overview. overview ≡ article.now) }
+    {
+        let text = article.text();
+        let room = article.header().len().saturating_add(TABS_AND_SIZES);
+        let mut rest = Vec::with_capacity(alloc, room)?;
+        push_field(&mut rest, article, b"Subject")?;
+        push_field(&mut rest, article, b"From")?;
+        push_field(&mut rest, article, b"Date")?;
+        push_field(&mut rest, article, b"Message-ID")?;
+        push_field(&mut rest, article, b"References")?;
+        push_sizes(&mut rest, text.len(), article.line_count())?;
+        Ok(Overview { text, rest })
+    }
+
+    /// The line of the article under this number of a group, or 0 if it was asked for by its message-id. It has no
+    /// CRLF. Refused only for want of memory.
+    pub fn line(&self, alloc: Global, number: u64) -> Result<Vec<u8>, AllocError>
+        ensures { IfOk result (λ line. line.items ≡ overview_line number self.now) }
+    {
+        let mut buffer = Buffer::new();
+        let digits = buffer.format(number).as_bytes();
+        let mut line = Vec::with_capacity(alloc, self.rest.len().saturating_add(digits.len()))?;
+        line.extend_from_slice(digits)?;
+        line.extend_from_slice(&self.rest)?;
+        Ok(line)
+    }
+}
 
 /// The line of an article that has this number in its group, or 0 if it was asked for by its message-id. It has no
 /// CRLF. Refused only for want of memory.
 pub fn line(alloc: Global, number: u64, article: &Article<'_>) -> Result<Vec<u8>, AllocError>
     ensures { IfOk result (λ line. line.items ≡ overview_line number article.now) }
 {
-    let mut line = Vec::new(alloc);
-    push_number(alloc, &mut line, number)?;
-    push_field(alloc, &mut line, article, b"Subject")?;
-    push_field(alloc, &mut line, article, b"From")?;
-    push_field(alloc, &mut line, article, b"Date")?;
-    push_field(alloc, &mut line, article, b"Message-ID")?;
-    push_field(alloc, &mut line, article, b"References")?;
-    line.push(TAB)?;
-    push_number(alloc, &mut line, article.text().len() as u64)?;
-    line.push(TAB)?;
-    push_number(alloc, &mut line, article.line_count() as u64)?;
-    Ok(line)
+    Overview::new(alloc, article)?.line(alloc, number)
 }
 
 /// Appends the line of a text, whether or not it is an article, with this number. It has no CRLF. Refused only for want
@@ -40,62 +85,63 @@ pub fn push_line(
     ensures { OnOk result (line.new.items ≡ line.old.items ++ overview_line number text.now) }
 {
     let header = Header::read(alloc, text)?;
-    push_number(alloc, line, number)?;
-    push_content(alloc, line, &header, b"Subject")?;
-    push_content(alloc, line, &header, b"From")?;
-    push_content(alloc, line, &header, b"Date")?;
-    push_content(alloc, line, &header, b"Message-ID")?;
-    push_content(alloc, line, &header, b"References")?;
-    line.push(TAB)?;
-    push_number(alloc, line, text.len() as u64)?;
-    line.push(TAB)?;
-    push_number(alloc, line, body_line_count(text) as u64)
+    push_number(line, number)?;
+    push_content(line, &header, b"Subject")?;
+    push_content(line, &header, b"From")?;
+    push_content(line, &header, b"Date")?;
+    push_content(line, &header, b"Message-ID")?;
+    push_content(line, &header, b"References")?;
+    push_sizes(line, text.len(), body_line_count(text))
 }
 
 /// Appends a TAB and the content of the field of this name, or only the TAB if the header has none.
-fn push_content(
-    alloc: Global,
-    line: &mut Vec<u8>,
-    header: &Header<'_>,
-    name: &[u8],
-) -> Result<(), AllocError>
+fn push_content(line: &mut Vec<u8>, header: &Header<'_>, name: &[u8]) -> Result<(), AllocError>
     ensures { OnOk result (line.new.items ≡ line.old.items ++ codes "\t" ++ map (λ octet. if octet == 9 then 32 else octet)
         (content_in name.now header.now)) }
 {
     line.push(TAB)?;
-    push_shown(line, &header.content(alloc, name)?)
-}
-
-/// Appends a number.
-fn push_number(alloc: Global, line: &mut Vec<u8>, number: u64) -> Result<(), AllocError>
-    ensures { OnOk result (line.new.items ≡ line.old.items ++ decimal number) }
-{
-    let digits = format!(in alloc; "{number}")?;
-    line.extend_from_slice(digits.as_bytes())
+    let start = line.len();
+    header.push_content(line, name)?;
+    replace_tabs(&mut line[start..]);
+    Ok(())
 }
 
 /// Appends a TAB and the content of the field of this name, or only the TAB if the article has none.
-fn push_field(
-    alloc: Global,
-    line: &mut Vec<u8>,
-    article: &Article<'_>,
-    name: &[u8],
-) -> Result<(), AllocError>
+fn push_field(line: &mut Vec<u8>, article: &Article<'_>, name: &[u8]) -> Result<(), AllocError>
     ensures { OnOk result (line.new.items ≡ line.old.items ++ codes "\t" ++ overview_field name.now article.now) }
 {
     line.push(TAB)?;
-    match article.field(alloc, name)? {
-        Some(content) => push_shown(line, &content),
-        None => Ok(()),
+    let start = line.len();
+    article.push_content(line, name)?;
+    replace_tabs(&mut line[start..]);
+    Ok(())
+}
+
+/// Puts SP in place of each TAB.
+fn replace_tabs(octets: &mut [u8])
+    ensures { octets.new ≡ map (λ octet. if octet == 9 then 32 else octet) octets.old }
+{
+    for octet in octets.iter_mut() {
+        if *octet == TAB {
+            *octet = b' ';
+        }
     }
 }
 
-/// Appends a field's content, with SP in place of each TAB.
-fn push_shown(line: &mut Vec<u8>, content: &[u8]) -> Result<(), AllocError>
-    ensures { OnOk result (line.new.items ≡ line.old.items ++ map (λ octet. if octet == 9 then 32 else octet) content.now) }
+/// Appends the numbers of octets and of lines of the body, each after a TAB.
+fn push_sizes(line: &mut Vec<u8>, octets: usize, lines: usize) -> Result<(), AllocError>
+    ensures { OnOk result (line.new.items ≡ line.old.items ++ codes "\t" ++ decimal octets ++ codes "\t" ++ decimal lines) }
 {
-    for octet in content {
-        line.push(if *octet == TAB { b' ' } else { *octet })?;
-    }
-    Ok(())
+    line.push(TAB)?;
+    push_number(line, octets as u64)?;
+    line.push(TAB)?;
+    push_number(line, lines as u64)
+}
+
+/// Appends a number.
+fn push_number(line: &mut Vec<u8>, number: u64) -> Result<(), AllocError>
+    ensures { OnOk result (line.new.items ≡ line.old.items ++ decimal number) }
+{
+    let mut buffer = Buffer::new();
+    line.extend_from_slice(buffer.format(number).as_bytes())
 }

@@ -8,12 +8,11 @@ use Rattle.overview.proofs.push_line.Goals as goal
 abbrev shown_in : Octets → List Octets → Octets
 shown_in name h = map (λ x. if x == 9 then 32 else x) (content_in name h)
 
-joined : (l0 l1 l2 l3 l4 l5 l6 l7 l8 l9 l10 tab n s f d m r size count : Octets) → l1 ≡ l0 ++ n → l2 ≡ l1 ++ tab ++ s → l3 ≡ l2 ++ tab ++ f
-    → l4 ≡ l3 ++ tab ++ d → l5 ≡ l4 ++ tab ++ m → l6 ≡ l5 ++ tab ++ r
-    → l7 ≡ l6 ++ tab → l8 ≡ l7 ++ size → l9 ≡ l8 ++ tab → l10 ≡ l9 ++ count
-    → l10 ≡ l0 ++ (n ++ tab ++ s ++ tab ++ f ++ tab ++ d ++ tab ++ m ++ tab ++ r ++ tab ++ size ++ tab ++ count)
-joined l0 l1 l2 l3 l4 l5 l6 l7 l8 l9 l10 tab n s f d m r size count e1 e2 e3 e4 e5 e6 e7 e8 e9 e10 =
-    rw (e10, e9, e8, e7, e6, e5, e4, e3, e2, e1) (simp append_assoc)
+joined : (l0 l1 l2 l3 l4 l5 l6 l7 tab n s f d m r size count : Octets) → l1 ≡ l0 ++ n → l2 ≡ l1 ++ tab ++ s → l3 ≡ l2 ++ tab ++ f
+    → l4 ≡ l3 ++ tab ++ d → l5 ≡ l4 ++ tab ++ m → l6 ≡ l5 ++ tab ++ r → l7 ≡ l6 ++ tab ++ size ++ tab ++ count
+    → l7 ≡ l0 ++ (n ++ tab ++ s ++ tab ++ f ++ tab ++ d ++ tab ++ m ++ tab ++ r ++ tab ++ size ++ tab ++ count)
+joined l0 l1 l2 l3 l4 l5 l6 l7 tab n s f d m r size count e1 e2 e3 e4 e5 e6 e7 =
+    rw (e7, e6, e5, e4, e3, e2, e1) (simp append_assoc)
 
 whole : (number count : ℕ) (text old new : Octets) (h : List Octets) → h ≡ fields text → count ≡ length (body_lines text)
     → new ≡ old ++ (decimal number ++ codes "\t" ++ shown_in (codes "Subject") h ++ codes "\t" ++ shown_in (codes "From") h ++ codes "\t"
@@ -33,15 +32,14 @@ whole number count text old new h same counted is = subst (λ (x : List Octets).
 pub returns : goal.returns
 returns c =
     let h = c.in_ok-header.header in
-    on_ok_weaker c.push_number-3.result (λ last.
-    whole c.args.number c.body_line_count.result c.args.text.now c.args.line.now.items c.push_number-3.new.line.items h
+    let size = length c.args.text.now in
+    let count = c.body_line_count.result in
+    on_ok_weaker c.push_sizes.result (λ last.
+    whole c.args.number count c.args.text.now c.args.line.now.items c.push_sizes.new.line.items h
     c.in_ok-header.ensures c.body_line_count.ensures
     (joined c.args.line.now.items c.push_number.new.line.items c.push_content.new.line.items c.push_content-2.new.line.items
-    c.push_content-3.new.line.items c.push_content-4.new.line.items c.push_content-5.new.line.items
-    c.push.new.self.items c.push_number-2.new.line.items c.push-2.new.self.items c.push_number-3.new.line.items
+    c.push_content-3.new.line.items c.push_content-4.new.line.items c.push_content-5.new.line.items c.push_sizes.new.line.items
     (codes "\t") (decimal c.args.number) (shown_in (codes "Subject") h) (shown_in (codes "From") h) (shown_in (codes "Date") h)
-    (shown_in (codes "Message-ID") h) (shown_in (codes "References") h) (decimal (length c.args.text.now))
-    (decimal c.body_line_count.result)
+    (shown_in (codes "Message-ID") h) (shown_in (codes "References") h) (decimal size) (decimal count)
     c.in_ok-push_number.ensures c.in_ok-push_content.ensures c.in_ok-push_content-2.ensures c.in_ok-push_content-3.ensures
-    c.in_ok-push_content-4.ensures c.in_ok-push_content-5.ensures
-    c.in_ok-push.ensures.items c.in_ok-push_number-2.ensures c.in_ok-push-2.ensures.items last)) c.push_number-3.ensures
+    c.in_ok-push_content-4.ensures c.in_ok-push_content-5.ensures last)) c.push_sizes.ensures
