@@ -12,9 +12,13 @@ ghost use Rattle.following.specs.Fields.{MayHaveId};
 use crate::groups::MOMENT_LIMIT;
 use article::Article;
 use index::Index;
+use itoa::Buffer;
 use model::Text;
 use names::is_of_host;
 use std::alloc::{AllocError, Global};
+
+/// The octets of a made message-id beside its serial and its host: `<`, `@` and `>`.
+const ID_MARKS: usize = 3;
 
 /// The message-id of an article, empty if it has none.
 pub fn id_of<'a>(article: &'a Article<'_>) -> &'a [u8]
@@ -30,10 +34,11 @@ pub fn id_of<'a>(article: &'a Article<'_>) -> &'a [u8]
 fn made_id(alloc: Global, host: &[u8], serial: u64) -> Result<Vec<u8>, AllocError>
     ensures { IfOk result (λ id. id.items ≡ model_article.made_id host.now serial) }
 {
-    let number = format!(in alloc; "{serial}")?;
-    let mut id = Vec::new(alloc);
+    let mut buffer = Buffer::new();
+    let number = buffer.format(serial).as_bytes();
+    let mut id = Vec::with_capacity(alloc, host.len().saturating_add(ID_MARKS + number.len()))?;
     id.extend_from_slice(b"<")?;
-    id.extend_from_slice(number.as_bytes())?;
+    id.extend_from_slice(number)?;
     id.extend_from_slice(b"@")?;
     id.extend_from_slice(host)?;
     id.extend_from_slice(b">")?;

@@ -81,7 +81,7 @@ pub fn may_expire(index: &Index, group: &[u8], number: u64) -> bool
 pub fn groups_here(alloc: Global, index: &Index, names: &[Text]) -> Result<Vec<Text>, AllocError>
     ensures { IfOk result (λ here. (S : Spool) → Indexes S index.now → here.items ≡ filter (spool.is_here S) names.now) }
 {
-    let mut here = Vec::new(alloc);
+    let mut here = Vec::with_capacity(alloc, names.len())?;
     for name in names {
         if is_here(index, name.as_slice()) {
             here.push(name.copy(alloc)?)?;
