@@ -19,6 +19,10 @@ const BLANKS: &[u8] = b" \t";
 fn is_named(name: &[u8], field: &[u8]) -> bool
     ensures { result ≡ article.is_named name.now field.now }
 {
+    // most fields have another name, and this finds no colon in them
+    if name.len() < field.len() && field[name.len()] != b':' {
+        return false;
+    }
     name_of(field).eq_ignore_ascii_case(name)
 }
 
