@@ -13,7 +13,7 @@ use std::alloc::{AllocError, Global};
 pub(crate) fn copy_names(alloc: Global, names: &[Text]) -> Result<Names, AllocError>
     ensures { IfOk result (λ copy. copy ≡ names.now) }
 {
-    let mut copy = Vec::new(alloc);
+    let mut copy = Vec::with_capacity(alloc, names.len())?;
     for name in names {
         copy.push(name.copy(alloc)?)?;
     }
@@ -24,7 +24,7 @@ pub(crate) fn copy_names(alloc: Global, names: &[Text]) -> Result<Names, AllocEr
 fn octets_of(alloc: Global, names: &[Text]) -> Result<Vec<&[u8]>, AllocError>
     ensures { IfOk result (λ octets. map (λ name. name.now) octets.items ≡ names.now) }
 {
-    let mut octets = Vec::new(alloc);
+    let mut octets = Vec::with_capacity(alloc, names.len())?;
     for name in names {
         octets.push(name.as_slice())?;
     }

@@ -13,7 +13,7 @@ use article::Article;
 use filing::Piece;
 use index::Index;
 use model::Text;
-use overview::line;
+use overview::Overview;
 use places::Places;
 use records::number_record;
 use std::alloc::{AllocError, Global};
@@ -33,20 +33,20 @@ fn line_in(
     index: &Index,
     places: &Places,
     serial: u64,
-    article: &Article<'_>,
+    overview: &Overview<'_>,
     name: &[u8],
 ) -> Result<(Piece, Piece), AllocError>
-    requires { CanFileIn index.now places.now article.now name.now }
+    requires { CanFileIn index.now places.now overview.now name.now }
     ensures pieces { IfOk result (λ p. (S : Spool) → Indexes S index.now → serial ≡ length S + 1 → (inodes : ℕ) (blocks : List (List ℕ))
         → ArePlaces inodes blocks S places.now
-        → ArePiecesOf (table inodes blocks) S article.now name.now p.0 p.1) }
+        → ArePiecesOf (table inodes blocks) S overview.now name.now p.0 p.1) }
     ensures short { IfOk result (λ p. length p.1.octets.items ≤ 8191) }
 {
     let Some(place) = index.place(name) else {
         unreachable!()
     };
     let group = &index.groups()[place];
-    let line = line(alloc, group.high() + 1, article)?;
+    let line = overview.line(alloc, group.high() + 1)?;
     let record = number_record(serial, group.overview_size() as u32, &line);
     let number = Piece {
         at: places.numbers()[place],
@@ -78,10 +78,11 @@ pub(crate) fn lines_of(
     ensures count { IfOk result (λ l. length l.sizes.items ≡ length filed.now) }
     ensures small { IfOk result (λ l. All (λ n. n < 2 ^ 32) l.sizes.items) }
 {
-    let mut pieces = Vec::new(alloc);
-    let mut sizes = Vec::new(alloc);
+    let overview = Overview::new(alloc, article)?;
+    let mut pieces = Vec::with_capacity(alloc, filed.len().saturating_mul(2))?;
+    let mut sizes = Vec::with_capacity(alloc, filed.len())?;
     for name in filed {
-        let (number, line) = line_in(alloc, index, places, serial, article, name.as_slice())?;
+        let (number, line) = line_in(alloc, index, places, serial, &overview, name.as_slice())?;
         sizes.push(line.octets.len() as u64)?;
         pieces.push(number)?;
         pieces.push(line)?;

@@ -18,7 +18,7 @@ use article::Article;
 use following::find_group;
 use index::{Group, Index};
 use model::Text;
-use overview::line;
+use overview::Overview;
 use records::{FileKind, file_name, number_record};
 use spool_reading::{Files, read_file};
 use std::alloc::{AllocError, Global};
@@ -60,7 +60,7 @@ pub fn goes_on<B: Blocks>(
     files: &Files,
     group: &Group,
     serial: u64,
-    article: &Article<'_>,
+    overview: &Overview<'_>,
 ) -> Result<Option<u64>, AllocError>
     requires room { HasRoom inodes (B.blocks blocks.now) }
     requires rule { IsFileSystem inodes (B.blocks blocks.now) }
@@ -68,15 +68,15 @@ pub fn goes_on<B: Blocks>(
     requires few { length (shown group.now).filed ≤ 32768 }
     requires short { end_of (shown group.now) < 2 ^ 32 }
     ensures { IfOk result (λ size. MatchOption size
-        (GoesOn (table inodes (B.blocks blocks.now)) (shown group.now) serial article.now → ⊥)
-        (λ n. GoesOn (table inodes (B.blocks blocks.now)) (shown group.now) serial article.now
-        × (n ≡ length (overview_line (length (shown group.now).filed + 1) article.now)) × (n < 2 ^ 32))) }
+        (GoesOn (table inodes (B.blocks blocks.now)) (shown group.now) serial overview.now → ⊥)
+        (λ n. GoesOn (table inodes (B.blocks blocks.now)) (shown group.now) serial overview.now
+        × (n ≡ length (overview_line (length (shown group.now).filed + 1) overview.now)) × (n < 2 ^ 32))) }
 {
     let high = group.high();
     let end = group.overview_size();
-    let line = line(alloc, high + 1, article)?;
-    let overview = file_name(alloc, FileKind::Overview, group.name())?;
-    if !stands(alloc, blocks, inodes, files, &overview, end, &line)? {
+    let line = overview.line(alloc, high + 1)?;
+    let lines = file_name(alloc, FileKind::Overview, group.name())?;
+    if !stands(alloc, blocks, inodes, files, &lines, end, &line)? {
         return Ok(None);
     }
     let record = number_record(serial, end as u32, &line);
@@ -116,12 +116,13 @@ pub fn line_sizes<B: Blocks>(
         (λ v. AllGoOn (table inodes (B.blocks blocks.now)) S article.now here.now × AreLineSizes S article.now here.now v.items)) }
     ensures small { IfOk result (λ sizes. IfSome sizes (λ v. (length v.items ≡ length here.now) × All (λ n. n < 2 ^ 32) v.items)) }
 {
-    let mut sizes = Vec::new(alloc);
+    let overview = Overview::new(alloc, article)?;
+    let mut sizes = Vec::with_capacity(alloc, here.len())?;
     for name in here {
         let Some(group) = find_group(index, name.as_slice()) else {
             return Ok(None);
         };
-        let Some(size) = goes_on(alloc, blocks, inodes, files, group, serial, article)? else {
+        let Some(size) = goes_on(alloc, blocks, inodes, files, group, serial, &overview)? else {
             return Ok(None);
         };
         sizes.push(size)?;

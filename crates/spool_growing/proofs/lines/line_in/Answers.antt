@@ -16,7 +16,7 @@ pub unreachable-requires : goal.unreachable-requires
 unreachable-requires c =
     let can = c.requires.can in
     never_absent can.changes c.args.name.now c.place.result (c.place.ensures.spool can.changes can.indexed)
-    (filed_here can.host can.changes c.args.article.now c.requires.filed can.moment c.args.name.now can.may c.requires.has)
+    (filed_here can.host can.changes c.args.overview.now c.requires.filed can.moment c.args.name.now can.may c.requires.has)
     c.in_default.is
 
 pub offset_bounds-groups-place : goal.offset_bounds-groups-place
@@ -24,7 +24,7 @@ offset_bounds-groups-place c =
     let can = c.requires.can in
     let same : slice_get (groups can.changes) c.in-Some.place ≡ group_named can.changes c.args.name.now =
     c.in-Some.ensures.spool can.changes can.indexed in
-    let here = filed_here can.host can.changes c.args.article.now c.requires.filed can.moment c.args.name.now can.may c.requires.has in
+    let here = filed_here can.host can.changes c.args.overview.now c.requires.filed can.moment c.args.name.now can.may c.requires.has in
     omega (
       arith,
       at_place can.changes c.args.name.now c.in-Some.place same here,
@@ -37,7 +37,7 @@ bounds-groups-place c =
     let can = c.requires.can in
     let same : slice_get (groups can.changes) c.in-Some.place ≡ group_named can.changes c.args.name.now =
     c.in-Some.ensures.spool can.changes can.indexed in
-    let here = filed_here can.host can.changes c.args.article.now c.requires.filed can.moment c.args.name.now can.may c.requires.has in
+    let here = filed_here can.host can.changes c.args.overview.now c.requires.filed can.moment c.args.name.now can.may c.requires.has in
     omega (
       arith,
       at_place can.changes c.args.name.now c.in-Some.place same here,
@@ -51,7 +51,7 @@ overflow_cast-overview_size c =
     let can = c.requires.can in
     let same : slice_get (groups can.changes) c.in-Some.place ≡ group_named can.changes c.args.name.now =
     c.in-Some.ensures.spool can.changes can.indexed in
-    let here = filed_here can.host can.changes c.args.article.now c.requires.filed can.moment c.args.name.now can.may c.requires.has in
+    let here = filed_here can.host can.changes c.args.overview.now c.requires.filed can.moment c.args.name.now can.may c.requires.has in
     let low = at_place can.changes c.args.name.now c.in-Some.place same here in
     let its = is_at can.changes c.args.name.now c.in-Some.place low same in
     let kept = c.groups.ensures.spool can.changes can.indexed in
@@ -63,7 +63,7 @@ overflow_cast-overview_size c =
     omega (
       arith,
       c.overview_size.ensures,
-      short_end c.args.index.now c.args.places.now c.args.article.now c.requires.filed can c.args.name.now c.in-Some.place its
+      short_end c.args.index.now c.args.places.now c.args.overview.now c.requires.filed can c.args.name.now c.in-Some.place its
           (shown c.index-groups-place.result) is,
     )
 
@@ -72,7 +72,7 @@ returns-clause-short c =
     let can = c.requires.can in
     let same : slice_get (groups can.changes) c.in-Some.place ≡ group_named can.changes c.args.name.now =
     c.in-Some.ensures.spool can.changes can.indexed in
-    let here = filed_here can.host can.changes c.args.article.now c.requires.filed can.moment c.args.name.now can.may c.requires.has in
+    let here = filed_here can.host can.changes c.args.overview.now c.requires.filed can.moment c.args.name.now can.may c.requires.has in
     let low = at_place can.changes c.args.name.now c.in-Some.place same here in
     let its = is_at can.changes c.args.name.now c.in-Some.place low same in
     let kept = c.groups.ensures.spool can.changes can.indexed in
@@ -81,16 +81,16 @@ returns-clause-short c =
     let read = slice_get_read c.groups.result.now (length (groups can.changes)) c.in-Some.place c.index-groups-place.result
     (sym size) low c.index-groups-place.is in
     let is = kept_at shown c.groups.result.now can.changes c.args.name.now c.in-Some.place c.index-groups-place.result its kept read in
-    short_line c.args.index.now c.args.places.now c.args.article.now c.requires.filed can c.args.name.now c.in-Some.place its
+    short_line c.args.index.now c.args.places.now c.args.overview.now c.requires.filed can c.args.name.now c.in-Some.place its
     (shown c.index-groups-place.result) c.in_ok-line.line.items is
-    (c.in_ok-line.ensures ∙ ap (λ (n : ℕ). overview_line (n + 1) c.args.article.now) c.high.ensures)
+    (c.in_ok-line.ensures ∙ ap (λ (n : ℕ). overview_line (n + 1) c.args.overview.now) c.high.ensures)
 
 pub number_record-record-requires : goal.number_record-record-requires
 number_record-record-requires c =
     let can = c.requires.can in
     let same : slice_get (groups can.changes) c.in-Some.place ≡ group_named can.changes c.args.name.now =
     c.in-Some.ensures.spool can.changes can.indexed in
-    let here = filed_here can.host can.changes c.args.article.now c.requires.filed can.moment c.args.name.now can.may c.requires.has in
+    let here = filed_here can.host can.changes c.args.overview.now c.requires.filed can.moment c.args.name.now can.may c.requires.has in
     let low = at_place can.changes c.args.name.now c.in-Some.place same here in
     let its = is_at can.changes c.args.name.now c.in-Some.place low same in
     let kept = c.groups.ensures.spool can.changes can.indexed in
@@ -102,9 +102,9 @@ number_record-record-requires c =
     omega (
       arith,
       ap (λ (l : List ℕ). length l) c.deref.ensures.value,
-      short_line c.args.index.now c.args.places.now c.args.article.now c.requires.filed can c.args.name.now c.in-Some.place its
+      short_line c.args.index.now c.args.places.now c.args.overview.now c.requires.filed can c.args.name.now c.in-Some.place its
           (shown c.index-groups-place.result) c.in_ok-line.line.items is
-          (c.in_ok-line.ensures ∙ ap (λ (n : ℕ). overview_line (n + 1) c.args.article.now) c.high.ensures),
+          (c.in_ok-line.ensures ∙ ap (λ (n : ℕ). overview_line (n + 1) c.args.overview.now) c.high.ensures),
     )
 
 pub offset_bounds-numbers-place : goal.offset_bounds-numbers-place
@@ -112,7 +112,7 @@ offset_bounds-numbers-place c =
     let can = c.requires.can in
     let same : slice_get (groups can.changes) c.in-Some.place ≡ group_named can.changes c.args.name.now =
     c.in-Some.ensures.spool can.changes can.indexed in
-    let here = filed_here can.host can.changes c.args.article.now c.requires.filed can.moment c.args.name.now can.may c.requires.has in
+    let here = filed_here can.host can.changes c.args.overview.now c.requires.filed can.moment c.args.name.now can.may c.requires.has in
     omega (
       arith,
       at_place can.changes c.args.name.now c.in-Some.place same here,
@@ -125,7 +125,7 @@ bounds-numbers-place c =
     let can = c.requires.can in
     let same : slice_get (groups can.changes) c.in-Some.place ≡ group_named can.changes c.args.name.now =
     c.in-Some.ensures.spool can.changes can.indexed in
-    let here = filed_here can.host can.changes c.args.article.now c.requires.filed can.moment c.args.name.now can.may c.requires.has in
+    let here = filed_here can.host can.changes c.args.overview.now c.requires.filed can.moment c.args.name.now can.may c.requires.has in
     let its = is_at can.changes c.args.name.now c.in-Some.place (at_place can.changes c.args.name.now c.in-Some.place same here) same in
     omega (
       arith,
@@ -138,7 +138,7 @@ offset_bounds-overviews-place c =
     let can = c.requires.can in
     let same : slice_get (groups can.changes) c.in-Some.place ≡ group_named can.changes c.args.name.now =
     c.in-Some.ensures.spool can.changes can.indexed in
-    let here = filed_here can.host can.changes c.args.article.now c.requires.filed can.moment c.args.name.now can.may c.requires.has in
+    let here = filed_here can.host can.changes c.args.overview.now c.requires.filed can.moment c.args.name.now can.may c.requires.has in
     omega (
       arith,
       at_place can.changes c.args.name.now c.in-Some.place same here,
@@ -151,7 +151,7 @@ bounds-overviews-place c =
     let can = c.requires.can in
     let same : slice_get (groups can.changes) c.in-Some.place ≡ group_named can.changes c.args.name.now =
     c.in-Some.ensures.spool can.changes can.indexed in
-    let here = filed_here can.host can.changes c.args.article.now c.requires.filed can.moment c.args.name.now can.may c.requires.has in
+    let here = filed_here can.host can.changes c.args.overview.now c.requires.filed can.moment c.args.name.now can.may c.requires.has in
     let its = is_at can.changes c.args.name.now c.in-Some.place (at_place can.changes c.args.name.now c.in-Some.place same here) same in
     omega (
       arith,
@@ -164,7 +164,7 @@ returns-clause-pieces c = λ S indexed count inodes blocks placed.
     let can = c.requires.can in
     let first : slice_get (groups can.changes) c.in-Some.place ≡ group_named can.changes c.args.name.now =
     c.in-Some.ensures.spool can.changes can.indexed in
-    let here = filed_here can.host can.changes c.args.article.now c.requires.filed can.moment c.args.name.now can.may c.requires.has in
+    let here = filed_here can.host can.changes c.args.overview.now c.requires.filed can.moment c.args.name.now can.may c.requires.has in
     let low : c.in-Some.place < length (groups S) =
     omega (
       arith,
@@ -180,10 +180,10 @@ returns-clause-pieces c = λ S indexed count inodes blocks placed.
     (sym size) low c.index-groups-place.is in
     let is = kept_at shown c.groups.result.now S c.args.name.now c.in-Some.place c.index-groups-place.result its kept read in
     let i = shown c.index-groups-place.result in
-    are_its_pieces inodes blocks S c.args.places.now c.args.article.now c.args.name.now c.in-Some.place c.args.serial its i _ _ placed is
+    are_its_pieces inodes blocks S c.args.places.now c.args.overview.now c.args.name.now c.in-Some.place c.args.serial its i _ _ placed is
     count
     (ap (λ (l : List ℕ). get_or l c.in-Some.place 0) c.numbers.ensures)
     (ap (λ (l : List ℕ). get_or l c.in-Some.place 0) c.overviews.ensures)
     (c.in_ok-from_slice.ensures.items ∙ c.number_record-record.ensures
     ∙ (λ j. number_record c.args.serial (c.overview_size.ensures j) (c.deref.ensures.value j)))
-    (c.in_ok-line.ensures ∙ ap (λ (n : ℕ). overview_line (n + 1) c.args.article.now) c.high.ensures)
+    (c.in_ok-line.ensures ∙ ap (λ (n : ℕ). overview_line (n + 1) c.args.overview.now) c.high.ensures)

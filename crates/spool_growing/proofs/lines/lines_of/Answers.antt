@@ -18,6 +18,7 @@ loop-name-preserved c =
     let pieces = c.loop-name.pieces.items in
     let names : name ≡ get_or c.args.filed.now j [] =
     name_here c.args.filed.now j c.name-item.result name c.loop-name-test.true c.as_slice.ensures c.name-item.is in
+    let same = c.in_ok-overview.ensures in
     let size : c.len.result ≡ length line.octets.items = omega (arith, c.len.ensures, line.octets.ok) in
     let both : c.push-in-loop-name-2.new.self.items ≡ pieces ++ number ∷ line ∷ [] =
     c.in_ok-push-3.ensures.items ∙ ap (λ (ps : List Piece). ps ++ line ∷ []) c.in_ok-push-2.ensures.items
@@ -29,7 +30,8 @@ loop-name-preserved c =
       pieces = λ S is count inodes blocks placed.
           let its : ArePiecesOf (table inodes blocks) S c.args.article.now (get_or c.args.filed.now j []) number line =
           subst (λ (g : List ℕ). ArePiecesOf (table inodes blocks) S c.args.article.now g number line) names
-          (c.in_ok-number.ensures.pieces S is count inodes blocks placed) in
+          (subst (λ (text : List ℕ). ArePiecesOf (table inodes blocks) S text name number line) same
+          (c.in_ok-number.ensures.pieces S is count inodes blocks placed)) in
           subst (λ (gs : List (List ℕ)). ArePieces (table inodes blocks) S c.args.article.now gs c.push-in-loop-name-2.new.self.items)
           (sym (take_more c.args.filed.now j [] c.loop-name-test.true))
           (subst (λ (ps : List Piece). ArePieces (table inodes blocks) S c.args.article.now
@@ -37,7 +39,8 @@ loop-name-preserved c =
           (pieces_more (table inodes blocks) S c.args.article.now (take j c.args.filed.now) pieces
           (get_or c.args.filed.now j []) number line (c.loop-name.invariant.pieces S is count inodes blocks placed) its));
       sizes = λ S is count inodes blocks placed.
-          let its = c.in_ok-number.ensures.pieces S is count inodes blocks placed in
+          let its = subst (λ (text : List ℕ). ArePiecesOf (table inodes blocks) S text name number line) same
+          (c.in_ok-number.ensures.pieces S is count inodes blocks placed) in
           sizes_more (λ k. length (next_line S c.args.article.now (get_or c.args.filed.now k []))) old c.push.new.self.items c.len.result j
           c.in_ok-push.ensures.items c.loop-name.invariant.count (c.loop-name.invariant.sizes S is count inodes blocks placed)
           (size ∙ ap (λ (l : List ℕ). length l) its.line_is ∙ ap (λ (g : List ℕ). length (next_line S c.args.article.now g)) names);
