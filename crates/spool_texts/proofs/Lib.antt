@@ -3,3 +3,4 @@ pub mod Headers
 pub mod Lines
 pub mod Groups
 pub mod Appended
+pub mod Runs

@@ -97,6 +97,17 @@ between S g content ends from to some order high same also =
     ∙ ap (λ (m : ℕ). flat_map (λ (p : ℕ × NewsArticle). line (overview_line p.0 p.1.text))
     (enumerate_from from (take m (drop (from - 1) (filed_in S g))))) count
 
+-- where the line at a place begins
+pub here : (ends : List ℕ) (place : ℕ) → line_start ends (place + 1 - 1) ≡ line_start ends place
+here ends place = let same : place + 1 - 1 ≡ place = omega arith in ap (line_start ends) same
+
+-- where the line after it begins
+pub next_start : (ends : List ℕ) (place : ℕ) → line_start ends (place + 1) ≡ get_or ends (place + 1 - 1) 0
+next_start ends place =
+    let next : place + 1 ≡ suc place = omega arith in
+    let same : place ≡ place + 1 - 1 = omega arith in
+    ap (line_start ends) next ∙ ap (λ (k : ℕ). get_or ends k 0) same
+
 -- one line more is appended
 pub one_appended : (content : Octets) (ends : List ℕ) (first place start stop : ℕ) (old before read after : Octets) → first ≤ place
     → start ≡ line_start ends (place + 1 - 1) → stop ≡ get_or ends (place + 1 - 1) 0

@@ -61,3 +61,8 @@ lines_from content ends k (suc n) = line (line_at content ends k) ++ lines_from 
 -- each line ends where it begins, or later
 abbrev pub LinesRise : List ℕ → ℕ → Type 0
 LinesRise ends count = (k : ℕ) → k < count → line_start ends k ≤ slice_index ends k
+
+-- these octets are the content's from a place on
+pub record IsRun (content : Octets) (at : ℕ) (octets : Octets) : Type 0 where
+  pub some : ℕ
+  pub is : octets ≡ take some (drop at content)

@@ -10,9 +10,13 @@ use replies::{Stuffing, push_end};
 use std::alloc::AllocError;
 use volume::Blocks;
 
+/// The number of octets of the line that ends a block of lines (RFC 3977, section 3.1.1).
+pub(crate) const END_SIZE: u64 = 3;
+
 /// Appends the octets of the file of an inode from a place up to its size, at most `count`, dot-stuffed and with the
-/// line that ends them (RFC 3977, section 3.1.1). Each octet is copied once. Refused only for want of memory; then the
-/// reply may hold any octets, and the caller discards it.
+/// line that ends them (RFC 3977, section 3.1.1). Each octet is copied once, to a reply that grows once for all of them,
+/// and again only for added dots. Refused only for want of memory; then the reply may hold any octets, and the caller
+/// discards it.
 pub fn push_stuffed<B: Blocks>(
     blocks: &B,
     inodes: u32,
@@ -29,6 +33,7 @@ pub fn push_stuffed<B: Blocks>(
         (take count (drop place (content_of (B.blocks blocks.now) (entry inodes (B.blocks blocks.now) at))))) }
 {
     let end = size_of(blocks, inodes, at).min(place.saturating_add(count));
+    reply.reserve(end.saturating_sub(place).saturating_add(END_SIZE) as usize)?;
     let mut from = place;
     let mut stuffing = Stuffing::new();
     while from < end {

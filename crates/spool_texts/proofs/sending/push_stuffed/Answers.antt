@@ -39,7 +39,8 @@ loop-from-init g c =
     record {
       from_place = omega arith;
       to_end = inl refl;
-      reply_is = sym (ap (λ (n : ℕ). c.args.reply.now.items ++ stuffed_from fresh (take n (drop c.args.place content))) none
+      reply_is = c.in_ok-reserve.ensures.items
+          ∙ sym (ap (λ (n : ℕ). c.args.reply.now.items ++ stuffed_from fresh (take n (drop c.args.place content))) none
           ∙ append-nil c.args.reply.now.items);
       state_is = c.new-stuffing.ensures ∙ sym (ap (λ (n : ℕ). after fresh (take n (drop c.args.place content))) none);
     }

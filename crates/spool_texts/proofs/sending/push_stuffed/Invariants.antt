@@ -15,7 +15,7 @@ pub record Sent (place from end : ℕ) (stuffing : Stuffing) (old reply content 
   pub state_is : stuffing ≡ after fresh (take (from - place) (drop place content))
 
 abbrev pub invariant-loop-from : goal.invariant-loop-from
-invariant-loop-from g l = Sent l.place l.from l.end l.stuffing l.initial.reply.items l.reply.items
+invariant-loop-from g l = Sent l.place l.from l.end l.stuffing l.fn.reply.items l.reply.items
     (content_of (g.B.Blocks.blocks l.blocks) (entry l.inodes (g.B.Blocks.blocks l.blocks) l.at))
 
 abbrev pub decreases-loop-from : goal.decreases-loop-from
