@@ -11,15 +11,13 @@ use Rattle.model.specs.declared.message.Message.{Message}
 use Rattle.model.specs.declared.message.Message.TheVariants as message
 use Rattle.model.specs.declared.session.Awaits.TheVariants as awaits
 use Rattle.model.specs.declared.session.Session.{Session}
-use Rattle.posting_commands.specs.Outcomes.{post_said, then_line}
-use Rattle.posting_commands.specs.declared.posts.Posted.{Posted}
+use Rattle.posting_commands.specs.Outcomes.{Said, post_said, then_line}
 use Rattle.replies.specs.Answered.{answered}
-use Rattle.answers.specs.Steps.{posted_step, step_of}
-use Rattle.answers.specs.declared.messages.Step.{Step}
+use Rattle.answers.specs.Steps.{Taken, posted_step, step_of}
 
 module _ (host : Octets) (S : Spool) (x : Session) (t : ℕ) (m : Message) where
   -- by whether it is an article that is too long
-  abbrev by_length : Bool → Step
+  abbrev by_length : Bool → Taken
   by_length b = if b then record { answer = says (awaiting x awaits.Line) not_accepted; mark = mark.Long; reads = 0 } else record {
     answer =
         served host S x t x.awaits m;
@@ -41,27 +39,27 @@ module _ (host : Octets) (S : Spool) (x : Session) (t : ℕ) (m : Message) where
   mark_by true = refl
   mark_by false = refl
 
-  pub step_answer : (s : Step) → s ≡ step_of host S x t x.awaits m → s.answer ≡ answer host S x m t s.mark
-  step_answer s is = subst (λ (s : Step). s.answer ≡ answer host S x m t s.mark) (sym is) (answer_by (is_long_by host S x.awaits m))
+  pub step_answer : (s : Taken) → s ≡ step_of host S x t x.awaits m → s.answer ≡ answer host S x m t s.mark
+  step_answer s is = subst (λ (s : Taken). s.answer ≡ answer host S x m t s.mark) (sym is) (answer_by (is_long_by host S x.awaits m))
 
-  pub step_reads : (s : Step) → s ≡ step_of host S x t x.awaits m → s.reads ≡ reads host S x m t s.mark
-  step_reads s is = subst (λ (s : Step). s.reads ≡ reads host S x m t s.mark) (sym is) (reads_by (is_long_by host S x.awaits m))
+  pub step_reads : (s : Taken) → s ≡ step_of host S x t x.awaits m → s.reads ≡ reads host S x m t s.mark
+  step_reads s is = subst (λ (s : Taken). s.reads ≡ reads host S x m t s.mark) (sym is) (reads_by (is_long_by host S x.awaits m))
 
-  pub step_mark : (s : Step) → s ≡ step_of host S x t x.awaits m → s.mark ≡ (if is_long host S x m then mark.Long else mark.Served)
+  pub step_mark : (s : Taken) → s ≡ step_of host S x t x.awaits m → s.mark ≡ (if is_long host S x m then mark.Long else mark.Served)
   unfolding is_long
-  step_mark s is = subst (λ (s : Step). s.mark ≡ (if is_long_by host S x.awaits m then mark.Long else mark.Served)) (sym is)
+  step_mark s is = subst (λ (s : Taken). s.mark ≡ (if is_long_by host S x.awaits m then mark.Long else mark.Served)) (sym is)
       (mark_by (is_long_by host S x.awaits m))
 
 -- What is said of a posted article is its step.
 module _ (host : Octets) (S : Spool) (x : Session) (t : ℕ) (text : Octets) where
-  abbrev said_by : Bool → Posted
+  abbrev said_by : Bool → Said
   said_by b = if b then record { answered = answered (then_line x not_accepted None) 0; mark = mark.Long } else record {
     answered =
         answered (post_answer host S x t text) (outcome_reads S (post_outcome host S text));
     mark = mark.Served;
   }
 
-  abbrev step_by : Bool → Step
+  abbrev step_by : Bool → Taken
   step_by b = if b then record { answer = says (awaiting x awaits.Line) not_accepted; mark = mark.Long; reads = 0 } else record {
     answer =
         served host S x t awaits.PostBlock (message.Block text);

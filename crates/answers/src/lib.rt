@@ -7,7 +7,7 @@ ghost use Rattle.model.specs.Answer as answers;
 ghost use Rattle.model.specs.Calendar.{moment_limit};
 ghost use Rattle.model.specs.Reads.{reads};
 ghost use Rattle.model.specs.declared.message.Mark.TheVariants as mark;
-ghost use Rattle.answers.specs.Steps.{step_of};
+ghost use Rattle.answers.specs.Steps.{step_of, taken};
 
 mod commands;
 mod messages;
@@ -21,16 +21,16 @@ use std::alloc::{AllocError, Global};
 /// Answers a message at a moment in seconds since 1970, below 253,402,300,800. A line is a command (RFC 3977, section
 /// 3.1), and a block is the article that POST or IHAVE asked for; a message of another kind than the session awaits is
 /// a bad line. The answer is that of `specs/Answer.antt` for this mark. It does not check for room and changes nothing:
-/// the caller files the change that it accepts.
-pub fn step<L: LookUps>(
+/// the caller files the article that it accepts, which has been read.
+pub fn step<'m, L: LookUps>(
     alloc: Global,
     spool: &L,
     session: &Session,
-    message: &Message,
+    message: &'m Message,
     moment: u64,
-) -> Result<Step, AllocError>
+) -> Result<Step<'m>, AllocError>
     requires { moment < moment_limit }
-    ensures answer { IfOk result (λ step. step.answer ≡ answers.answer (L.host_of spool.now)
+    ensures answer { IfOk result (λ step. (taken step).answer ≡ answers.answer (L.host_of spool.now)
         (L.changes spool.now) session.now message.now moment step.mark) }
     ensures reads { IfOk result (λ step. step.reads ≡ reads (L.host_of spool.now) (L.changes spool.now) session.now message.now moment
         step.mark) }
@@ -41,15 +41,15 @@ pub fn step<L: LookUps>(
 }
 
 /// The step by what the session awaits.
-fn by_kind<L: LookUps>(
+fn by_kind<'m, L: LookUps>(
     alloc: Global,
     spool: &L,
     session: &Session,
-    message: &Message,
+    message: &'m Message,
     moment: u64,
-) -> Result<Step, AllocError>
+) -> Result<Step<'m>, AllocError>
     requires { moment < moment_limit }
-    ensures { IfOk result (λ step. step ≡ step_of (L.host_of spool.now) (L.changes spool.now) session.now moment session.now.awaits
+    ensures { IfOk result (λ step. taken step ≡ step_of (L.host_of spool.now) (L.changes spool.now) session.now moment session.now.awaits
         message.now) }
 {
     match &session.awaits {

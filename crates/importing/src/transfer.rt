@@ -88,7 +88,7 @@ fn file_new(
     if groups.is_empty() {
         return Ok(Outcome::NoGroup);
     }
-    match spool.add_article(article.text(), &groups, moment) {
+    match spool.add_article(article, &groups, moment) {
         Ok(serial) => Ok(Outcome::Filed(serial)),
         Err(FileError::Full) => Ok(Outcome::Full),
         Err(FileError::Memory) => Err(AllocError),

@@ -1,5 +1,5 @@
 -- The outcome of an article, as the code states it.
-use Rattle.std.specs.Prelude.{ℕ, ◌+◌, [], ◌∷◌, List, find, length, if◌then◌else◌, Option, Some, None}
+use Rattle.std.specs.Prelude.{ℕ, ◌+◌, [], ◌∷◌, List, find, length, if◌then◌else◌, Option, Some, None, option_map}
 use Rattle.model.specs.Stream.{Octets}
 use Rattle.model.specs.Answer as answers
 use Rattle.model.specs.Reads.{outcome_reads}
@@ -14,6 +14,7 @@ use Rattle.model.specs.declared.session.Awaits.TheVariants as awaits
 use Rattle.model.specs.declared.session.Session.{Session}
 use Rattle.replies.specs.Answered.{answered}
 use Rattle.replies.specs.declared.sessions.Answered.{Answered}
+use Rattle.posting_commands.specs.Accepted.{change_of}
 use Rattle.posting_commands.specs.declared.filing.Closed.{Closed}
 use Rattle.posting_commands.specs.declared.filing.Closed.TheVariants as closed
 use Rattle.posting_commands.specs.declared.posts.Posted.{Posted}
@@ -37,8 +38,23 @@ closed_among closed.Take S names = None
 abbrev pub then_line : Session → Octets → Option Change → Answer
 then_line x reply c = record { reply = reply; next = answers.awaiting x awaits.Line; change = c }
 
+-- an answer with what it reads, and its mark
+pub record Said : Type 0 where
+  pub answered : Answered
+  pub mark : Mark
+
+abbrev pub said : Posted → Said
+said p = record {
+  answered = answered (record { reply = p.reply; next = p.next; change = option_map change_of p.accepted }) p.reads;
+  mark = p.mark;
+}
+
+-- an answer that is served
+abbrev pub said_served : Answered → Said
+said_served answered = record { answered = answered; mark = mark.Served }
+
 -- the answer to a posted article with what it reads, and its mark
-abbrev pub post_said : Octets → Spool → Session → ℕ → Octets → Posted
+abbrev pub post_said : Octets → Spool → Session → ℕ → Octets → Said
 post_said host S x t text =
     if answers.is_long_as_stored host S text then record { answered = answered (then_line x not_accepted None) 0; mark = mark.Long }
     else record {

@@ -2,9 +2,11 @@
 //! crate `model` says what each answers, and `specs/Reads.antt` what it reads. Each is refused only for want of memory.
 #![tactic(auto)]
 
+mod accepted;
 mod filing;
 mod offers;
 mod posts;
 
+pub use accepted::{Accepted, Stored};
 pub use offers::{ihave, post};
 pub use posts::{Posted, ihave_block, post_block};

@@ -1,5 +1,5 @@
 -- What serving a message answers, and what it does to the spool.
-use Rattle.std.specs.Prelude.{◌≡◌, ℕ, Bool, false, Option, Some, None, if◌then◌else◌}
+use Rattle.std.specs.Prelude.{◌≡◌, ℕ, Bool, true, false, Option, Some, None, Result, MatchResult, if◌then◌else◌}
 use Rattle.model.specs.Stream.{Octets}
 use Rattle.model.specs.Answer.{answer, is_long}
 use Rattle.model.specs.Reads.{reads}
@@ -9,6 +9,8 @@ use Rattle.model.specs.declared.message.Message.{Message}
 use Rattle.model.specs.declared.message.Mark.{Mark}
 use Rattle.model.specs.declared.message.Mark.TheVariants as mark
 use Rattle.model.specs.declared.session.Session.{Session}
+use Rattle.serving.specs.declared.FileError.{FileError}
+use Rattle.serving.specs.declared.FileError.TheVariants as error
 use Rattle.serving.specs.declared.Served.{Served}
 
 -- whether there is no room for the change of an answer, if it makes one
@@ -27,6 +29,11 @@ mark_in host S lacks x m t =
 abbrev pub Grows : (Change → Type 0) → Type 0 → Option Change → Type 0
 Grows adds stays None = stays
 Grows adds stays (Some c) = adds c
+
+-- a change was filed, or there is no room for it, or memory was refused; a refusal leaves the spool as it was
+abbrev pub IsFiled : (Change → Bool) → (Change → Type 0) → Type 0 → Change → Result (Unit {0}) FileError → Type 0
+IsFiled lacks adds stays c result = MatchResult result (λ done. (lacks c ≡ false) × adds c)
+    (λ e. (e ≡ error.Full → lacks c ≡ true) × stays)
 
 pub record IsServed (host : Octets) (S : Spool) (lacks : Change → Bool) (adds : Change → Type 0) (stays : Type 0) (x : Session)
     (m : Message) (t : ℕ) (served : Served) : Type 0 where

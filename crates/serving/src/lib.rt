@@ -4,16 +4,20 @@
 ghost use Rattle.std.specs.Prelude.{◌≡◌, ◌⊎◌, ◌<◌, ◌++◌, ◌∷◌, [], IfOk, MatchResult, OnErr, true, false};
 ghost use Rattle.model.specs.Calendar.{moment_limit};
 ghost use Rattle.model.specs.Lawful.{IsLawful, IsLawfulSession};
-ghost use Rattle.serving.specs.Served.{IsServed};
+ghost use Rattle.model.specs.declared.change.Change.TheVariants as change;
+ghost use Rattle.posting_commands.specs.Accepted.{change_of};
+ghost use Rattle.serving.specs.Served.{IsFiled, IsServed};
 
 use answers::{Step, step};
+use article::{Article, Origin, ReadError};
 use lookups::LookUps;
-use model::{Answer, Change, Mark, Message, Session, Text, lawful_stays};
+use model::{Answer, Mark, Message, Session, Text, lawful_stays};
 use plain_commands::full;
+use posting_commands::{Accepted, Stored};
 use replies::Answered;
 use std::alloc::{AllocError, Global};
 
-/// Why a change was not filed.
+/// Why an article was not filed.
 #[derive(Clone, Copy, Debug, Drop, PartialEq, Eq)]
 pub enum FileError {
     /// There is no room for it.
@@ -22,7 +26,7 @@ pub enum FileError {
     Memory,
 }
 
-/// A spool in which changes may be filed.
+/// A spool in which articles may be filed.
 pub trait Files: LookUps {
     ghost use Rattle.std.specs.Prelude.{Bool};
     ghost use Rattle.model.specs.declared.change.Change.{Change as ChangeView};
@@ -33,14 +37,15 @@ pub trait Files: LookUps {
     /// Relates two values: the second is the first with this change added as the last one.
     ghost adds: { Self → Self → ChangeView → Type 0 };
 
-    /// Files a change that may follow. `Full` comes exactly if there is no room, otherwise only `Memory`; a refusal
-    /// changes nothing.
-    fn file(&mut self, change: &Change) -> Result<(), FileError>
-        requires { IsLawful (Self.host_of self.old) (Self.changes self.old ++ change.now ∷ []) }
-        ensures { MatchResult result
-            (λ done. (lacks_room self.old change.now ≡ false) × adds self.old self.new change.now)
-            (λ error. (((error ≡ FileError.Memory) × (lacks_room self.old change.now ≡ false))
-            ⊎ ((error ≡ FileError.Full) × (lacks_room self.old change.now ≡ true))) × (self.new ≡ self.old)) };
+    /// Files an article in these groups, at a moment in seconds since 1970. Its change must be one that may follow.
+    /// `Full` comes exactly if there is no room, otherwise only `Memory`; a refusal changes nothing.
+    fn file(&mut self, article: &Article<'_>, groups: &[Text], moment: u64) -> Result<(), FileError>
+        requires { IsLawful (Self.host_of self.old)
+            (Self.changes self.old ++ change.Article article.now groups.now moment ∷ []) }
+        ensures { let its = change.Article article.now groups.now moment in MatchResult result
+            (λ done. (lacks_room self.old its ≡ false) × adds self.old self.new its)
+            (λ error. (((error ≡ FileError.Memory) × (lacks_room self.old its ≡ false))
+            ⊎ ((error ≡ FileError.Full) × (lacks_room self.old its ≡ true))) × (self.new ≡ self.old)) };
 }
 
 /// The outcome of a message that was served.
@@ -72,28 +77,42 @@ pub fn serve<S: Files>(
 {
     lawful_stays();
     let Step {
-        answer,
+        reply,
+        next,
+        accepted,
         mark,
         reads,
     } = step(alloc, spool, session, message, moment)?;
-    let Answer {
-        reply,
-        next,
-        change,
-    } = answer;
     let served = Served {
         reply,
         next,
         mark,
         reads,
     };
-    let Some(change) = change else {
+    let Some(accepted) = accepted else {
         return Ok(served);
     };
-    match spool.file(&change) {
+    match file(alloc, spool, &accepted) {
         Ok(()) => Ok(served),
         Err(FileError::Full) => Ok(turned_away(full(alloc, session)?)),
         Err(FileError::Memory) => Err(AllocError),
+    }
+}
+
+/// Files an article that was accepted. One that another server sent has been read; a posted one is read as it is stored.
+/// `Full` comes only if there is no room; a refusal changes nothing.
+fn file<S: Files>(alloc: Global, spool: &mut S, accepted: &Accepted<'_>) -> Result<(), FileError>
+    requires { IsLawful (S.host_of spool.old) (S.changes spool.old ++ change_of accepted.now ∷ []) }
+    ensures { IsFiled (S.lacks_room spool.old) (S.adds spool.old spool.new) (spool.new ≡ spool.old) (change_of accepted.now) result }
+{
+    let groups = accepted.groups.as_slice();
+    match &accepted.text {
+        Stored::Carried(article) => spool.file(article, groups, accepted.moment),
+        Stored::Posted(text) => match Article::read(alloc, text.as_slice(), Origin::Carried) {
+            Ok(article) => spool.file(&article, groups, accepted.moment),
+            Err(ReadError::Bad(_)) => unreachable!(),
+            Err(ReadError::Memory) => Err(FileError::Memory),
+        },
     }
 }
 

@@ -1,5 +1,5 @@
 -- Why a change is refused, apart from memory: the first test that fails.
-use Rattle.std.specs.Prelude.{◌≡◌, ℕ, ◌⊎◌, Bool, true, false, ◌&&◌, nat_le, if◌then◌else◌, length, Option, Some, None, Result, MatchResult}
+use Rattle.std.specs.Prelude.{◌≡◌, ℕ, ◌⊎◌, Bool, ◌&&◌, nat_le, if◌then◌else◌, length, Option, Some, None, Result, MatchResult}
 use Rattle.model.specs.Stream.{Octets}
 use Rattle.model.specs.Spool.{Spool, high, is_here, low}
 use Rattle.model.specs.Room.{is_full}
@@ -38,10 +38,3 @@ expiry_refusal s g n = if has_number s.changes g n then (if is_full_for s (Expir
 -- an article that may follow: there is no room
 abbrev pub article_refusal : SpoolView → Change → Option FileError
 article_refusal s c = if is_full_for s c then Some file.Full else None
-
--- if there was room, a change was filed or memory was refused; a refusal leaves the spool as it was
-abbrev pub IsFiled : SpoolView → SpoolView → Change → Result (Unit {0}) FileError → Type 0
-IsFiled old new c result =
-    MatchResult result (λ done. (is_full_for old c ≡ false) × Adds old new c)
-    (λ error. (((error ≡ file.Memory) × (is_full_for old c ≡ false)) ⊎ ((error ≡ file.Full) × (is_full_for old c ≡ true)))
-    × (new ≡ old))

@@ -24,7 +24,7 @@ mod open;
 mod room;
 mod stored;
 
-use article::{Article, Origin, ReadError};
+use article::Article;
 pub use errors::{AddError, ExpireError};
 use filing::Free;
 use fs::free_block_count;
@@ -307,23 +307,18 @@ impl Spool {
     /// `Full` or `Memory`, tested in that order. A refusal changes nothing.
     pub fn add_article(
         &mut self,
-        text: &[u8],
+        article: &Article<'_>,
         groups: &[Text],
         moment: u64,
     ) -> Result<u64, FileError>
-        requires { MayFile self.old.host self.old.changes text.now groups.now moment }
-        ensures { Tested FileError.Memory (article_refusal self.old (changed.Article text.now groups.now moment)) self.old self.new result
-            (λ serial. (serial ≡ length self.old.changes + 1) × Adds self.old self.new (changed.Article text.now groups.now moment)) }
+        requires { MayFile self.old.host self.old.changes article.now groups.now moment }
+        ensures { Tested FileError.Memory (article_refusal self.old (changed.Article article.now groups.now moment)) self.old self.new result
+            (λ serial. (serial ≡ length self.old.changes + 1) × Adds self.old self.new (changed.Article article.now groups.now moment)) }
     {
         if self.is_full_for_article(groups) {
             return Err(FileError::Full);
         }
-        let article = match Article::read(self.alloc, text, Origin::Carried) {
-            Ok(article) => article,
-            Err(ReadError::Bad(_)) => unreachable!(),
-            Err(ReadError::Memory) => return Err(FileError::Memory),
-        };
-        match self.push_article(&article, groups, moment) {
+        match self.push_article(article, groups, moment) {
             Ok(()) => Ok(self.len()),
             Err(_) => Err(FileError::Memory),
         }

@@ -1,7 +1,6 @@
 //! What calls of one spool answer, one after the other. There are 64 inodes and 1,024 blocks, of which 1,020 are free
 //! at first.
 
-use serving::FileError;
 use spool_files::{AddError, ExpireError};
 use spool_plays::{
     Answer, Asked, CROSSPOSTED, Call, FIRST, FOR_CLOSED, FOURTH, Filed, LARGE, MEDIUM, SMALL, Sent,
@@ -75,10 +74,13 @@ const GROUPS: Rows = &[
         Call::Add("x.d", b'y', "\t"),
         Answer::Changed(Filed::NotCalled),
     ),
-    (Call::FileGroup("x.c", b'y'), Answer::Changed(Filed::Done)),
     (
-        Call::FileGroup("x.c", b'y'),
-        Answer::Changed(Filed::NotCalled),
+        Call::Add("x.c", b'y', ""),
+        Answer::Changed(Filed::Serial(3)),
+    ),
+    (
+        Call::Add("x.c", b'y', ""),
+        Answer::Changed(Filed::NotAdded(AddError::Exists)),
     ),
     (Call::Carry, Answer::Blocks(5)),
 ];
@@ -452,27 +454,23 @@ const TWO_LEFT: Rows = &[
     ),
     (Call::Post(FIRST), Answer::Changed(Filed::Reply(441, 3))),
     (
-        Call::FileExpiry("x.b", 2),
-        Answer::Changed(Filed::NotCalled),
+        Call::Expire("x.b", 2),
+        Answer::Changed(Filed::NotExpired(ExpireError::NotFound)),
     ),
     (
-        Call::FileExpiry("x.a", 2),
-        Answer::Changed(Filed::NotCalled),
+        Call::Expire("x.a", 2),
+        Answer::Changed(Filed::NotExpired(ExpireError::NotFound)),
     ),
     (
-        Call::FileExpiry("x.z", 1),
-        Answer::Changed(Filed::NotCalled),
+        Call::Expire("x.z", 1),
+        Answer::Changed(Filed::NotExpired(ExpireError::NotFound)),
     ),
 ];
 
 /// The other articles are expired too, and one more is posted.
 const MORE_EXPIRIES: Rows = &[
-    (Call::FileExpiry("x.b", 1), Answer::Changed(Filed::Done)),
-    (Call::FileExpiry("x.a", 3), Answer::Changed(Filed::Done)),
-    (
-        Call::FileExpiry("x.a", 3),
-        Answer::Changed(Filed::NotCalled),
-    ),
+    (Call::Expire("x.b", 1), Answer::Changed(Filed::Serial(7))),
+    (Call::Expire("x.a", 3), Answer::Changed(Filed::Serial(8))),
     (
         Call::Expire("x.a", 3),
         Answer::Changed(Filed::NotExpired(ExpireError::NotFound)),
@@ -535,20 +533,12 @@ const FULL: Rows = &[
         Answer::Changed(Filed::NotAdded(AddError::Exists)),
     ),
     (
-        Call::FileGroup("x.b", b'y'),
-        Answer::Changed(Filed::NotFiled(FileError::Full)),
-    ),
-    (
         Call::Expire("x.a", 1),
         Answer::Changed(Filed::NotExpired(ExpireError::Full)),
     ),
     (
         Call::Expire("x.a", 99),
         Answer::Changed(Filed::NotExpired(ExpireError::NotFound)),
-    ),
-    (
-        Call::FileExpiry("x.a", 1),
-        Answer::Changed(Filed::NotFiled(FileError::Full)),
     ),
     (
         Call::Post(Sent {

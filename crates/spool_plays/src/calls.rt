@@ -1,7 +1,7 @@
 //! The calls of a spool, and the answer to each.
 
 use crate::changes::{Wanted, is_change};
-use crate::changing::{Filed, add, expire, file_expiry, file_group, post, take};
+use crate::changing::{Filed, add, expire, post, take};
 use crate::finding::{Asked, Sought, find, text_of};
 use crate::sent::Sent;
 use crate::stored::Stored;
@@ -22,9 +22,6 @@ pub enum Call {
     PostMany(u64, Sent),
     /// Accepts an article from another server.
     Take(Sent),
-    /// Files a group with this status as a change; `FileExpiry` does the same for an expiry.
-    FileGroup(&'static str, u8),
-    FileExpiry(&'static str, u64),
     /// Whether the change with a serial is this one.
     Change(u64, Wanted),
     Find(Asked),
@@ -105,8 +102,6 @@ fn change_by(alloc: Global, stored: &mut Stored, call: Call) -> Filed {
         Call::Post(sent) => post(alloc, spool, &sent),
         Call::PostMany(count, sent) => post_many(alloc, stored, count, &sent),
         Call::Take(sent) => take(alloc, spool, &sent),
-        Call::FileGroup(name, status) => file_group(alloc, spool, name.as_bytes(), status),
-        Call::FileExpiry(name, number) => file_expiry(alloc, spool, name.as_bytes(), number),
         _ => Filed::NotCalled,
     }
 }

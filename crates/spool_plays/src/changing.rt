@@ -1,15 +1,14 @@
 //! Changes of a spool. Each call checks its own preconditions, and has no contract.
 
-ghost use Rattle.std.specs.Prelude.{◌≡◌, ◌⊎◌, ◌≤◌, ◌∷◌, ◌++◌, [], IsTrue, None, length};
+ghost use Rattle.std.specs.Prelude.{◌≡◌, ◌⊎◌, ◌≤◌, IsTrue, length};
 ghost use Rattle.std.specs.List.{list_all};
-ghost use Rattle.model.specs.Lawful.{IsLawful, MayAwait, MayExpire, MayMake, is_description_octet};
-ghost use Rattle.model.specs.Spool.{group_named};
+ghost use Rattle.model.specs.Lawful.{MayAwait, is_description_octet};
 
 use crate::sent::Sent;
-use lookups::{LookUps, find_group};
-use model::{Awaits, Change, Mark, Message, Session, Text};
+use lookups::LookUps;
+use model::{Awaits, Mark, Message, Session, Text};
 use names::{is_group_name, is_of_host, number_of};
-use serving::{FileError, Files, Served, serve};
+use serving::{Served, serve};
 use spool_files::{AddError, ExpireError, Spool};
 use std::alloc::Global;
 
@@ -27,10 +26,8 @@ pub enum Filed {
     Full(u64),
     /// The code of the reply if the article would be too long as it is stored.
     Long(u64),
-    Done,
     NotAdded(AddError),
     NotExpired(ExpireError),
-    NotFiled(FileError),
     /// The call's preconditions do not hold, so it was not made.
     NotCalled,
     Memory,
@@ -69,84 +66,6 @@ pub fn expire(spool: &mut Spool, name: &[u8], number: u32) -> Filed {
     match spool.expire(name, number) {
         Ok(serial) => Filed::Serial(serial),
         Err(error) => Filed::NotExpired(error),
-    }
-}
-
-/// Files a group as a change.
-pub fn file_group(alloc: Global, spool: &mut Spool, name: &[u8], status: u8) -> Filed {
-    let Ok(octets) = name.to_vec(alloc) else {
-        return Filed::Memory;
-    };
-    let change = Change::Group {
-        name: Text::new(octets),
-        status,
-        description: Text::new(Vec::new(alloc)),
-        moment: MOMENT,
-    };
-    file(spool, &change)
-}
-
-/// Files an expiry as a change.
-pub fn file_expiry(alloc: Global, spool: &mut Spool, name: &[u8], number: u64) -> Filed {
-    let Ok(octets) = name.to_vec(alloc) else {
-        return Filed::Memory;
-    };
-    let change = Change::Expire {
-        group: Text::new(octets),
-        number,
-    };
-    file(spool, &change)
-}
-
-fn file(spool: &mut Spool, change: &Change) -> Filed {
-    if !may_follow(spool, change) {
-        return Filed::NotCalled;
-    }
-    match spool.file(change) {
-        Ok(()) => Filed::Done,
-        Err(error) => Filed::NotFiled(error),
-    }
-}
-
-// Whether a group or an expiry may follow the changes of a spool. Articles are filed by messages, not here.
-fn may_follow(spool: &Spool, change: &Change) -> bool
-    ensures { IsTrue result → IsLawful spool.now.host (spool.now.changes ++ change.now ∷ []) }
-{
-    match change {
-        Change::Group {
-            name,
-            status,
-            description,
-            moment,
-        } => {
-            *moment == MOMENT && may_make(spool, name.as_slice(), *status, description.as_slice())
-        }
-        Change::Expire { group, number } => may_expire(spool, group.as_slice(), *number),
-        Change::Article { .. } => false,
-    }
-}
-
-// Whether a group may be made.
-fn may_make(spool: &Spool, name: &[u8], status: u8, description: &[u8]) -> bool
-    ensures { IsTrue result → MayMake spool.now.changes name.now status description.now 1000000000 }
-{
-    is_group_name(name) && is_described(status, description) && is_new(spool, name)
-}
-
-// Whether no group has this name.
-fn is_new(spool: &Spool, name: &[u8]) -> bool
-    ensures { IsTrue result → group_named spool.now.changes name.now ≡ None }
-{
-    spool.group(name).is_none()
-}
-
-// Whether articles up to a number may be removed from a group.
-fn may_expire(spool: &Spool, group: &[u8], number: u64) -> bool
-    ensures { IsTrue result → MayExpire spool.now.changes group.now number }
-{
-    match find_group(spool, group) {
-        Some(found) => found.counts.low <= number && number <= found.counts.high,
-        None => false,
     }
 }
 

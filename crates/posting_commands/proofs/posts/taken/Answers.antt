@@ -1,4 +1,4 @@
-use Rattle.std.proofs.Common.{◌≡◌, ◌+◌, length, sym, ◌∙◌, ap, subst}
+use Rattle.std.proofs.Common.{◌≡◌, ◌+◌, length, sym, ◌∙◌, subst}
 use Rattle.std.specs.Prelude.{IfOk, Some}
 use Rattle.model.specs.Answer.{groups_here, same_id, spool_outcome}
 use Rattle.model.specs.Article.{groups_of, injected}
@@ -6,7 +6,7 @@ use Rattle.model.specs.Replies.{not_accepted, received}
 use Rattle.model.specs.declared.change.Change.TheVariants.{Article}
 use Rattle.replies.specs.Answered.{answered}
 use Rattle.replies.specs.declared.sessions.Answered.{Answered}
-use Rattle.posting_commands.specs.Outcomes.{closed_among, then_line}
+use Rattle.posting_commands.specs.Outcomes.{closed_among, said, said_served, then_line}
 use Rattle.posting_commands.specs.declared.filing.Closed.TheVariants as closed
 use Rattle.posting_commands.proofs.Telling.{accepted_said, refused_said}
 use Rattle.posting_commands.proofs.posts.taken.Goals as goal
@@ -14,25 +14,24 @@ use Rattle.posting_commands.proofs.posts.taken.Goals as goal
 pub returns-in-Refused : goal.returns-in-Refused
 returns-in-Refused g c =
     let S = g.L.LookUps.changes c.args.spool.now in
-    let text = c.args.article.now in
+    let text = c.args.article in
     let what = spool_outcome (same_id S text) (groups_here S text) (closed_among closed.Refuse S (groups_of text)) in
     let stored = injected (g.L.LookUps.host_of c.args.spool.now) (length S + 1) c.args.moment text in
-    subst (λ (a : Answered). IfOk c.answer.result (λ said. said ≡ a))
+    subst (λ (a : Answered). IfOk c.answer.result (λ posted. said posted ≡ said_served a))
     (refused_said S c.args.session.now received not_accepted stored c.args.moment c.in-Refused.reads what (sym c.in-Refused.is
     ∙ c.in_ok-reads.ensures))
     c.answer.ensures
 
-pub returns-in_ok-text-in-Accepted : goal.returns-in_ok-text-in-Accepted
-returns-in_ok-text-in-Accepted g c =
+pub returns : goal.returns
+returns g c =
     let S = g.L.LookUps.changes c.args.spool.now in
-    let text = c.args.article.now in
+    let text = c.args.article in
     let x = c.args.session.now in
     let t = c.args.moment in
     let what = spool_outcome (same_id S text) (groups_here S text) (closed_among closed.Refuse S (groups_of text)) in
     let stored = injected (g.L.LookUps.host_of c.args.spool.now) (length S + 1) t text in
-    let octets = c.in_ok-text-in-Accepted.ensures ∙ (λ i. injected (c.host.ensures i) (c.requires.serial i) t text) in
-    let change = c.filed-change.ensures ∙ ap (λ os. Article os c.in-Accepted.groups t) octets in
-    subst (λ (a : Answered). IfOk c.answer-in-Accepted.result (λ said. said ≡ a))
-    ((λ i. answered (then_line x received (Some (change i))) (c.requires.serial i))
+    let octets = c.new.ensures ∙ c.in_ok-text-in-Accepted.ensures ∙ (λ i. injected (c.host.ensures i) (c.requires.serial i) t text) in
+    subst (λ (a : Answered). IfOk c.answer-in-Accepted.result (λ posted. said posted ≡ said_served a))
+    ((λ i. answered (then_line x received (Some (Article (octets i) c.in-Accepted.groups t))) (c.requires.serial i))
     ∙ accepted_said S x received not_accepted stored t c.in-Accepted.groups what (sym c.in-Accepted.is ∙ c.in_ok-reads.ensures))
     c.answer-in-Accepted.ensures

@@ -2,7 +2,6 @@ use Rattle.std.proofs.Common.{◌≡◌, inl, inr, ℕ, true, false, List, lengt
 use Rattle.model.specs.Room.{is_full_for}
 use Rattle.model.specs.declared.change.Change.{Change}
 use Rattle.model.specs.declared.change.Change.TheVariants.{Article}
-use Rattle.spool_opening.proofs.Filed.{may_of_text, no_cause_there}
 use Rattle.spool_files.specs.View.{Adds}
 use Rattle.spool_files.proofs.Full.{last_serial}
 use Rattle.spool_files.proofs.Large.{are_filed, article_refused, full_any_article}
@@ -11,57 +10,39 @@ use Rattle.spool_files.proofs.Spool.add_article.Goals as goal
 pub is_full_for_article-requires : goal.is_full_for_article-requires
 is_full_for_article-requires c =
     let s = c.args.self.now in
-    are_filed s.host s.changes c.args.text.now c.args.groups.now c.args.moment c.requires
+    are_filed s.host s.changes c.args.article.now c.args.groups.now c.args.moment c.requires
 
 pub returns-then-is_full_for_article : goal.returns-then-is_full_for_article
 returns-then-is_full_for_article c =
     let s = c.args.self.now in
-    let its : Change = Article c.args.text.now c.args.groups.now c.args.moment in
+    let its : Change = Article c.args.article.now c.args.groups.now c.args.moment in
     let full : is_full_for (length s.blocks) s.inodes s.changes its ≡ true =
-    full_any_article (length s.blocks) s.inodes s.changes c.args.text.now c.args.groups.now c.args.moment
+    full_any_article (length s.blocks) s.inodes s.changes c.args.article.now c.args.groups.now c.args.moment
     ∙ sym c.is_full_for_article.ensures ∙ c.if-is_full_for_article.true in
     (inr (article_refused s its true full), refl)
-
-pub push_article-requires-clause-may : goal.push_article-requires-clause-may
-push_article-requires-clause-may c =
-    let s = c.args.self.now in
-    may_of_text s.host s.changes c.args.text.now c.in-Ok.article c.args.groups.now c.args.moment (sym c.in-Ok.ensures.ok) c.requires
 
 pub push_article-requires-clause-room : goal.push_article-requires-clause-room
 push_article-requires-clause-room c =
     let s = c.args.self.now in
-    full_any_article (length s.blocks) s.inodes s.changes c.in-Ok.article c.args.groups.now c.args.moment
+    full_any_article (length s.blocks) s.inodes s.changes c.args.article.now c.args.groups.now c.args.moment
     ∙ sym c.is_full_for_article.ensures ∙ c.if-is_full_for_article.false
-
-pub unreachable-requires : goal.unreachable-requires
-unreachable-requires c = no_cause_there _ _ c.requires.carried (c.in-Err-Bad.ensures.bad c.in-Err-Bad.field-0-0 c.in-Err-Bad.field-0-is)
-
-pub returns-in-Err-Memory : goal.returns-in-Err-Memory
-returns-in-Err-Memory c =
-    let s = c.args.self.now in
-    let its : Change = Article c.args.text.now c.args.groups.now c.args.moment in
-    let room : is_full_for (length s.blocks) s.inodes s.changes its ≡ false =
-    full_any_article (length s.blocks) s.inodes s.changes c.args.text.now c.args.groups.now c.args.moment
-    ∙ sym c.is_full_for_article.ensures ∙ c.if-is_full_for_article.false in
-    (inl (refl, article_refused s its false room), refl)
 
 pub returns : goal.returns
 returns c =
     let s = c.args.self.now in
-    let its : Change = Article c.args.text.now c.args.groups.now c.args.moment in
+    let its : Change = Article c.args.article.now c.args.groups.now c.args.moment in
     let room : is_full_for (length s.blocks) s.inodes s.changes its ≡ false =
-    full_any_article (length s.blocks) s.inodes s.changes c.args.text.now c.args.groups.now c.args.moment
+    full_any_article (length s.blocks) s.inodes s.changes c.args.article.now c.args.groups.now c.args.moment
     ∙ sym c.is_full_for_article.ensures ∙ c.if-is_full_for_article.false in
     (inl (refl, article_refused s its false room), c.in-Err.ensures.err)
 
-pub returns-in-Ok-push_article : goal.returns-in-Ok-push_article
-returns-in-Ok-push_article c =
+pub returns-in-Ok : goal.returns-in-Ok
+returns-in-Ok c =
     let s = c.args.self.now in
     let n = c.push_article.new.self in
-    let its : Change = Article c.args.text.now c.args.groups.now c.args.moment in
+    let its : Change = Article c.args.article.now c.args.groups.now c.args.moment in
     let room : is_full_for (length s.blocks) s.inodes s.changes its ≡ false =
-    full_any_article (length s.blocks) s.inodes s.changes c.args.text.now c.args.groups.now c.args.moment
+    full_any_article (length s.blocks) s.inodes s.changes c.args.article.now c.args.groups.now c.args.moment
     ∙ sym c.is_full_for_article.ensures ∙ c.if-is_full_for_article.false in
-    let adds : Adds s n its = subst (λ (t : List ℕ). Adds s n (Article t c.args.groups.now c.args.moment)) c.in-Ok.ensures.ok
-    c.in-Ok-push_article.ensures.ok in
+    let adds : Adds s n its = c.in-Ok.ensures.ok in
     (article_refused s its false room, (last_serial s n its c.len.result adds c.len.ensures, adds))

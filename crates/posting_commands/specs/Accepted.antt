@@ -1,0 +1,15 @@
+-- The change that files an article which an answer accepts.
+use Rattle.model.specs.Stream.{Octets}
+use Rattle.model.specs.declared.change.Change.{Change}
+use Rattle.model.specs.declared.change.Change.TheVariants as change
+use Rattle.posting_commands.specs.declared.accepted.Accepted.{Accepted}
+use Rattle.posting_commands.specs.declared.accepted.Stored.{Stored}
+use Rattle.posting_commands.specs.declared.accepted.Stored.TheVariants as stored
+
+-- the text that is stored
+abbrev pub text_of : Stored → Octets
+text_of (stored.Carried article) = article
+text_of (stored.Posted text) = text
+
+abbrev pub change_of : Accepted → Change
+change_of a = change.Article (text_of a.text) a.groups a.moment

@@ -1,0 +1,22 @@
+//! An article that an answer accepts.
+
+use article::Article;
+use model::{Names, Text};
+
+/// An article as it is stored.
+#[derive(Drop)]
+pub enum Stored<'t> {
+    /// As it came from another server.
+    Carried(Article<'t>),
+    /// A posted text, after the fields that this server adds.
+    Posted(Text),
+}
+
+/// An article that is to be filed. `specs/Accepted.antt` says which change it is.
+#[derive(Drop)]
+pub struct Accepted<'t> {
+    pub text: Stored<'t>,
+    pub groups: Names,
+    /// seconds since 1970
+    pub moment: u64,
+}
