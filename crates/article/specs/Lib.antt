@@ -3,3 +3,4 @@ pub mod Origins
 pub mod Causes
 pub mod Stored
 pub mod Kept
+pub mod Injected

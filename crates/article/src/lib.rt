@@ -5,6 +5,7 @@
 ghost use Rattle.std.specs.Prelude.{◌≡◌, ◌<◌, IfOk, IfErr, OnOk, IsTrue, Some, None, length, map, option_map};
 ghost use Rattle.model.specs.Calendar.{moment_limit};
 ghost use Rattle.model.specs.Article as model_article;
+ghost use Rattle.model.specs.Names.{is_host};
 ghost use Rattle.article.specs.Origins.{cause_of, names_host, origin_of};
 ghost use Rattle.article.specs.declared.origin.Cause.{Cause as Told};
 
@@ -12,6 +13,7 @@ mod causes;
 mod contents;
 mod fields;
 mod header;
+mod injected;
 mod lines;
 mod origin;
 mod stored;
@@ -21,13 +23,14 @@ pub use causes::{HEADER_LIMIT, TEXT_LIMIT};
 use contents::{find_field, id_in_field, unfold, value_of};
 use fields::fields_of;
 pub use header::{Header, body_line_count};
+pub use injected::Injected;
 pub use lines::header_length;
 use lines::line_count;
 use model::Text;
 pub use origin::{Cause, Origin, ReadError};
 use std::alloc::{AllocError, Global};
 use std::marker::Model;
-use stored::front;
+use stored::{added_fields, front, joined};
 
 /// A text that is an article, seen by contracts as its octets.
 #[derive(Drop)]
@@ -153,6 +156,33 @@ impl<'t> Article<'t> {
         let mut stored = front(alloc, &self.fields, serial, host, moment)?;
         stored.extend_from_slice(self.text)?;
         Ok(stored)
+    }
+
+    /// The same with what was read of it, so that nobody reads the stored text again. It must be an article that this
+    /// host may inject under this serial.
+    pub fn injected(
+        self,
+        alloc: Global,
+        serial: u64,
+        host: &[u8],
+        moment: u64,
+    ) -> Result<Injected<'t>, AllocError>
+        requires moment { moment < moment_limit }
+        requires host { IsTrue (is_host host.now) }
+        requires cause { model_article.cause (model_article.Posted host.now serial) self ≡ None }
+        ensures { IfOk result (λ stored. stored ≡ model_article.injected host.now serial moment self.entry) }
+    {
+        let added = added_fields(alloc, &self.fields, serial, host, moment)?;
+        let mut text = joined(alloc, &added)?;
+        let header = text.len() + self.header;
+        text.extend_from_slice(self.text)?;
+        Ok(Injected {
+            text,
+            header,
+            added,
+            fields: self.fields,
+            newsgroups: self.newsgroups,
+        })
     }
 }
 

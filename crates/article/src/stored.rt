@@ -1,34 +1,41 @@
 //! The fields that the server adds to a posted text.
 
-ghost use Rattle.std.specs.Prelude.{◌≡◌, ◌++◌, ◌<◌, map, IfOk, OnOk};
+ghost use Rattle.std.specs.Prelude.{◌≡◌, ◌++◌, ◌==◌, ◌<◌, count_by, map, IfOk, OnOk};
+ghost use Rattle.std.specs.List.{concat};
+ghost use Rattle.model.specs.Article.{is_named};
 ghost use Rattle.model.specs.Calendar.{moment_limit};
 ghost use Rattle.article.specs.Stored as stored;
 
 use crate::contents::count;
+use model::Text;
 use stamp::date_header;
 use std::alloc::{AllocError, Global};
 
-/// Appends a field.
-fn push_field(text: &mut Vec<u8>, name: &[u8], content: &[u8]) -> Result<(), AllocError>
-    ensures { OnOk result (text.new.items ≡ text.old.items ++ stored.field_line name.now content.now) }
+/// A field of one line.
+fn field_line(alloc: Global, name: &[u8], content: &[u8]) -> Result<Vec<u8>, AllocError>
+    ensures { IfOk result (λ line. line.items ≡ stored.field_line name.now content.now) }
 {
-    text.extend_from_slice(name)?;
-    text.extend_from_slice(b": ")?;
-    text.extend_from_slice(content)?;
-    text.extend_from_slice(b"\r\n")
+    let mut line = Vec::new(alloc);
+    line.extend_from_slice(name)?;
+    line.extend_from_slice(b": ")?;
+    line.extend_from_slice(content)?;
+    line.extend_from_slice(b"\r\n")?;
+    Ok(line)
 }
 
-/// Appends a field if none of the fields has its name.
+/// Appends a field to those that are added if none of the posted fields has its name.
 fn push_missing(
-    text: &mut Vec<u8>,
+    alloc: Global,
+    added: &mut Vec<Text>,
     fields: &[&[u8]],
     name: &[u8],
     content: &[u8],
 ) -> Result<(), AllocError>
-    ensures { OnOk result (text.new.items ≡ text.old.items ++ stored.added_to (map (λ field. field.now) fields.now) name.now content.now) }
+    ensures { OnOk result (added.new.items ≡ added.old.items
+        ++ stored.perhaps (count_by (is_named name.now) (map (λ field. field.now) fields.now) == 0) (stored.field_line name.now content.now)) }
 {
     if count(fields, name) == 0 {
-        push_field(text, name, content)?;
+        added.push(Text::new(field_line(alloc, name, content)?))?;
     }
     Ok(())
 }
@@ -58,6 +65,38 @@ fn made_id(alloc: Global, host: &[u8], serial: u64) -> Result<Vec<u8>, AllocErro
 }
 
 /// The fields that are put before a posted text: Path, Date and Message-ID, where they are missing.
+pub(crate) fn added_fields(
+    alloc: Global,
+    fields: &[&[u8]],
+    serial: u64,
+    host: &[u8],
+    moment: u64,
+) -> Result<Vec<Text>, AllocError>
+    requires { moment < moment_limit }
+    ensures { IfOk result (λ added. added.items ≡ stored.front_fields host.now serial moment (map (λ field. field.now) fields.now)) }
+{
+    let mut added = Vec::new(alloc);
+    let path = path(alloc, host)?;
+    push_missing(alloc, &mut added, fields, b"Path", &path)?;
+    let date = date_header(alloc, moment)?;
+    push_missing(alloc, &mut added, fields, b"Date", &date)?;
+    let id = made_id(alloc, host, serial)?;
+    push_missing(alloc, &mut added, fields, b"Message-ID", &id)?;
+    Ok(added)
+}
+
+/// The octets of the texts, one after the other.
+pub(crate) fn joined(alloc: Global, texts: &[Text]) -> Result<Vec<u8>, AllocError>
+    ensures { IfOk result (λ octets. octets.items ≡ concat texts.now) }
+{
+    let mut octets = Vec::new(alloc);
+    for text in texts {
+        octets.extend_from_slice(text.as_slice())?;
+    }
+    Ok(octets)
+}
+
+/// The octets that are put before a posted text.
 pub(crate) fn front(
     alloc: Global,
     fields: &[&[u8]],
@@ -68,14 +107,6 @@ pub(crate) fn front(
     requires { moment < moment_limit }
     ensures { IfOk result (λ front. front.items ≡ stored.front host.now serial moment (map (λ field. field.now) fields.now)) }
 {
-    let mut front = Vec::new(alloc);
-    push_missing(&mut front, fields, b"Path", &path(alloc, host)?)?;
-    push_missing(&mut front, fields, b"Date", &date_header(alloc, moment)?)?;
-    push_missing(
-        &mut front,
-        fields,
-        b"Message-ID",
-        &made_id(alloc, host, serial)?,
-    )?;
-    Ok(front)
+    let added = added_fields(alloc, fields, serial, host, moment)?;
+    joined(alloc, &added)
 }
