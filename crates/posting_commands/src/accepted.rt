@@ -1,15 +1,15 @@
 //! An article that an answer accepts.
 
-use article::Article;
-use model::{Names, Text};
+use article::{Article, Injected};
+use model::Names;
 
 /// An article as it is stored.
 #[derive(Drop)]
 pub enum Stored<'t> {
     /// As it came from another server.
     Carried(Article<'t>),
-    /// A posted text, after the fields that this server adds.
-    Posted(Text),
+    /// As it was posted, after the fields that this server adds.
+    Posted(Injected<'t>),
 }
 
 /// An article that is to be filed. `specs/Accepted.antt` says which change it is.

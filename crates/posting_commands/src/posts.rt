@@ -2,7 +2,7 @@
 
 ghost use Rattle.std.specs.Prelude.{◌≡◌, ◌+◌, ◌<◌, IfOk, None, length, not, option_map};
 ghost use Rattle.model.specs.Answer as answers;
-ghost use Rattle.model.specs.Article.{Carried, cause};
+ghost use Rattle.model.specs.Article.{Carried, Posted as PostedTo, cause};
 ghost use Rattle.model.specs.Calendar.{moment_limit};
 ghost use Rattle.model.specs.Reads.{outcome_reads};
 ghost use Rattle.article.specs.Origins.{cause_of};
@@ -103,15 +103,16 @@ fn taken<'t, L: LookUps>(
 ) -> Result<Posted<'t>, AllocError>
     requires moment { moment < moment_limit }
     requires serial { serial ≡ length (L.changes spool.now) + 1 }
+    requires cause { cause (PostedTo (L.host_of spool.now) serial) article ≡ None }
     ensures { IfOk result (λ posted. said posted
         ≡ said_served (posted_by (L.host_of spool.now) (L.changes spool.now) session.now moment article.entry)) }
 {
     match filing(alloc, spool, &article, Closed::Refuse)? {
         Outcome::Refused(reads) => answer(alloc, session, Reply::NotAccepted, None, reads),
         Outcome::Accepted(groups) => {
-            let text = article.inject(alloc, serial, spool.host(), moment)?;
+            let stored = article.injected(alloc, serial, spool.host(), moment)?;
             let accepted = Accepted {
-                text: Stored::Posted(Text::new(text)),
+                text: Stored::Posted(stored),
                 groups,
                 moment,
             };

@@ -1,15 +1,11 @@
 -- The mark of a step, and of what is filed.
-use Rattle.std.proofs.Common.{◌≡◌, ℕ, Bool, true, false, List, [], ◌∷◌, ◌++◌, refl, ap, sym, ◌∙◌, subst}
+use Rattle.std.proofs.Common.{◌≡◌, ℕ, Bool, true, false, refl, ap, sym, ◌∙◌, subst}
 use Rattle.std.specs.Prelude.{Option, Some, None, if◌then◌else◌}
-use Rattle.std.proofs.lemmas.List.{append_assoc, append-nil}
 use Rattle.model.specs.Stream.{Octets}
 use Rattle.model.specs.Answer.{answer, full_answer, is_long}
-use Rattle.model.specs.Article.{Carried, Cause, cause}
-use Rattle.model.specs.Lawful.{IsLawful, IsLawfulAfter, MayFollow}
 use Rattle.model.specs.Reads.{reads}
 use Rattle.model.specs.Spool.{Spool}
 use Rattle.model.specs.declared.change.Change.{Change}
-use Rattle.model.specs.declared.change.Change.TheVariants.{Article}
 use Rattle.model.specs.declared.message.Message.{Message}
 use Rattle.model.specs.declared.message.Mark.{Mark}
 use Rattle.model.specs.declared.message.Mark.TheVariants as mark
@@ -77,21 +73,7 @@ module _ (host : Octets) (S : Spool) (x : Session) (m : Message) (t : ℕ) where
     by_awaits (awaits.IhaveBlock id) = refl
     by_awaits awaits.Nothing = refl
 
--- ---- what is filed, and the answer where there is no room
-
--- the last change may follow those before it
-last_may : (host : Octets) (before cs : Spool) (c : Change) → IsLawfulAfter host before (cs ++ c ∷ []) → MayFollow host (before ++ cs) c
-last_may host before [] c lawful = subst (λ (S : Spool). MayFollow host S c) (sym (append-nil before)) lawful.0
-last_may host before (d ∷ cs) c lawful =
-    subst (λ (S : Spool). MayFollow host S c) (append_assoc before (d ∷ []) cs) (last_may host (before ++ d ∷ []) cs c lawful.1)
-
--- an article that may follow is one that could have been carried
-pub last_carried : (host : Octets) (S : Spool) (text : Octets) (groups : List Octets) (moment : ℕ)
-    → IsLawful host (S ++ Article text groups moment ∷ []) → cause Carried text ≡ None
-last_carried host S text groups moment lawful = (last_may host [] S (Article text groups moment) lawful).carried
-
-pub no_cause_there : (o : Option Cause) (x : Cause) → o ≡ None → o ≡ Some x → ⊥
-no_cause_there o x none some = absurd (cc)
+-- ---- an answer that there is no room
 
 -- the answer where there is no room
 abbrev pub full_served : Answered → Served

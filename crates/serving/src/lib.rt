@@ -9,7 +9,7 @@ ghost use Rattle.posting_commands.specs.Accepted.{change_of};
 ghost use Rattle.serving.specs.Served.{IsFiled, IsServed};
 
 use answers::{Step, step};
-use article::{Article, Origin, ReadError};
+use article::Article;
 use lookups::LookUps;
 use model::{Answer, Mark, Message, Session, Text, lawful_stays};
 use plain_commands::full;
@@ -99,8 +99,8 @@ pub fn serve<S: Files>(
     }
 }
 
-/// Files an article that was accepted. One that another server sent has been read; a posted one is read as it is stored.
-/// `Full` comes only if there is no room; a refusal changes nothing.
+/// Files an article that was accepted, by what was read of it. `Full` comes only if there is no room; a refusal
+/// changes nothing.
 fn file<S: Files>(alloc: Global, spool: &mut S, accepted: &Accepted<'_>) -> Result<(), FileError>
     requires { IsLawful (S.host_of spool.old) (S.changes spool.old ++ change_of accepted.now ∷ []) }
     ensures { IsFiled (S.lacks_room spool.old) (S.adds spool.old spool.new) (spool.new ≡ spool.old) (change_of accepted.now) result }
@@ -108,10 +108,9 @@ fn file<S: Files>(alloc: Global, spool: &mut S, accepted: &Accepted<'_>) -> Resu
     let groups = accepted.groups.as_slice();
     match &accepted.text {
         Stored::Carried(article) => spool.file(article, groups, accepted.moment),
-        Stored::Posted(text) => match Article::read(alloc, text.as_slice(), Origin::Carried) {
+        Stored::Posted(stored) => match stored.article(alloc) {
             Ok(article) => spool.file(&article, groups, accepted.moment),
-            Err(ReadError::Bad(_)) => unreachable!(),
-            Err(ReadError::Memory) => Err(FileError::Memory),
+            Err(_) => Err(FileError::Memory),
         },
     }
 }

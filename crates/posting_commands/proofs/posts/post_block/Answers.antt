@@ -1,5 +1,5 @@
-use Rattle.std.proofs.Common.{◌≡◌, ◌+◌, sym, ◌∙◌, ap, subst}
-use Rattle.std.specs.Prelude.{IfOk}
+use Rattle.std.proofs.Common.{◌≡◌, ◌+◌, List, ℕ, sym, ◌∙◌, ap, subst}
+use Rattle.std.specs.Prelude.{IfOk, None}
 use Rattle.model.specs.Article.{Posted, cause}
 use Rattle.article.specs.Origins.{cause_of}
 use Rattle.posting_commands.specs.Outcomes.{Said, posted_by, said, said_served}
@@ -26,3 +26,8 @@ returns-in_ok-refusal-in-Err-Bad g c =
     ∙ c.in-Err-Bad.ensures.bad c.in-Err-Bad.cause c.in-Err-Bad.field-0-is in
     (λ i. record { answered = (c.in_ok-refusal-in-Err-Bad.ensures i).answered; mark = c.mark_of.ensures i })
     ∙ sym (said_refused host S c.args.session.now c.args.moment text (cause_of c.in-Err-Bad.cause) bad)
+
+pub taken-requires-clause-cause : goal.taken-requires-clause-cause
+taken-requires-clause-cause g c =
+    subst (λ (p : List ℕ × List ℕ). cause (Posted p.0 (c.len-serial.result + 1)) p.1 ≡ None) (λ i. (c.host-host.ensures i, sym c.in-Ok.ensures.ok i))
+    c.in-Ok.ensures.no_cause
