@@ -1,12 +1,10 @@
 //! Looks at the forms that the rule of blocks asks for: each inode, its slot, and its blocks of pointers.
 
-use crate::device::{Stop, first_set};
-use crate::grouped::Grouped;
-use crate::reads::{Entry, Pointers, Volume};
 use disk::Disk;
 use fs_layout::inodes::{FREE_KIND, SPARE_AT, most_octets};
 use fs_layout::slots::NAME_MAX;
 use std::alloc::Global;
+use volume_reading::{Entry, Grouped, Pointers, Stop, Volume, wrong, wrong_unless};
 
 /// Looks at all inodes.
 pub(crate) fn look<D: Disk>(volume: &mut Volume<D>) -> Result<(), Stop> {
@@ -127,4 +125,14 @@ pub(crate) fn look_at_pointer<D: Disk>(
     wrong_unless!(volume.alloc; volume.data_start() <= block && block < volume.sizes.blocks,
         "{entry} points to block {block}, which is none of the data");
     Ok(())
+}
+
+/// The first of some octets, from a place on, that isn't zero.
+fn first_set(octets: &[u8], from: usize) -> Option<usize> {
+    for at in from..octets.len() {
+        if octets[at] != 0 {
+            return Some(at);
+        }
+    }
+    None
 }

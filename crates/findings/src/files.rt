@@ -1,14 +1,12 @@
 //! Looks at the rule of files, as far as a file's name, its size and its first octets tell. No article is read.
 
-use crate::device::Stop;
-use crate::grouped::Grouped;
 use crate::owners::{NOBODY, Names};
-use crate::reads::{Entry, Volume};
 use disk::Disk;
 use names::is_group_name;
 use records::{FileKind, kind_of, serial_of};
 use std::alloc::Global;
 use volume_format::layout::{number32, number64};
+use volume_reading::{Entry, Grouped, Stop, Volume, wrong, wrong_unless};
 
 /// The octets of an article in the numbers of a group.
 const NUMBER_SIZE: u64 = 16;

@@ -1,37 +1,15 @@
 //! Says in words, for a person alone, what is wrong with a volume whose opening was refused (docs/FORMATS.md). The
-//! device is read once more, and the first thing that breaks a rule is told. Nothing rests on what is said here: the
-//! journal and the kernel refuse an opening, by their contracts, and no function here promises anything.
+//! device is read once more (`volume_reading`), and the first thing that breaks a rule is told. Nothing rests on what is
+//! said here: the journal and the kernel refuse an opening, by their contracts, and no function here promises anything.
 #![tactic(auto)]
 
-/// Ends a look: this is wrong.
-macro_rules! wrong {
-    ($alloc:expr; $($text:tt)+) => {
-        return Err(Stop::Wrong(format!(in $alloc; $($text)+)?))
-    };
-}
-
-/// Ends a look with a text if a condition doesn't hold.
-macro_rules! wrong_unless {
-    ($alloc:expr; $holds:expr, $($text:tt)+) => {
-        if !$holds {
-            wrong!($alloc; $($text)+);
-        }
-    };
-}
-
-mod batches;
 mod blocks;
-mod device;
 mod files;
-mod grouped;
 mod owners;
-mod reads;
-mod superblock;
 
-use crate::device::Stop;
-use crate::reads::Volume;
 use disk::Disk;
 use std::alloc::Global;
+use volume_reading::{Stop, Volume};
 
 /// Why a device holds no volume, if an opening said `NotAVolume` (E3): its length, its superblock with the label, or the
 /// descriptor of an open segment. `None` if nothing is found, a read fails or memory is refused.

@@ -1,13 +1,11 @@
 //! Looks at the owners of the blocks, at the bitmap and at the names, if each inode has the form that it has to have.
 
 use crate::blocks::look_at_pointer;
-use crate::device::Stop;
-use crate::grouped::Grouped;
-use crate::reads::{Entry, Pointers, Record, Volume};
 use disk::Disk;
 use fs_layout::bits::is_set;
 use fs_layout::marks::BLOCK_BITS;
 use std::collections::BTreeMap;
+use volume_reading::{Entry, Grouped, Pointers, Record, Stop, Volume, wrong, wrong_unless};
 
 /// The slots of all files, with the numbers of their inodes.
 pub(crate) type Names = BTreeMap<Record, u32>;

@@ -15,14 +15,14 @@ use std::fmt::{self, Display, Formatter};
 use volume_format::layout::{BLOCK, number32, number64};
 
 /// The octets of an inode or a slot.
-pub(crate) type Record = [u8; RECORD_SIZE];
+pub type Record = [u8; RECORD_SIZE];
 
 /// The inodes of a block.
 const IN_A_BLOCK: u32 = 64;
 
 /// An inode and its slot in the directory.
 #[derive(Clone, Copy)]
-pub(crate) struct Entry {
+pub struct Entry {
     pub number: u32,
     pub inode: Record,
     pub slot: Record,
@@ -36,14 +36,17 @@ impl Display for Entry {
 }
 
 impl Entry {
+    /// The kind: 0 is free, 1 a file.
     pub fn kind(&self) -> u32 {
         number32(&self.inode, 0)
     }
 
+    /// Whether the inode is a file's.
     pub fn is_file(&self) -> bool {
         self.kind() == u32::from(FILE_KIND)
     }
 
+    /// The size in octets, which may be more than a file can have.
     pub fn size(&self) -> u64 {
         number64(&self.inode, SIZE_AT)
     }
@@ -90,7 +93,7 @@ impl Entry {
 
 /// The pointers of a file. The block of pointers that was read last is kept, so that a walk in order reads each once.
 #[derive(Drop)]
-pub(crate) struct Pointers {
+pub struct Pointers {
     inode: Record,
     /// The double-indirect block; zeros if there is none.
     double: Block,
@@ -148,7 +151,7 @@ impl Pointers {
 
 /// A volume whose superblock and open segments are right.
 #[derive(Drop)]
-pub(crate) struct Volume<D> {
+pub struct Volume<D> {
     pub alloc: Global,
     pub sizes: Sizes,
     disk: D,
@@ -156,7 +159,8 @@ pub(crate) struct Volume<D> {
 }
 
 impl<D: Disk + Drop> Volume<D> {
-    /// Looks at the superblock and at the open segments.
+    /// Looks at the superblock and at the open segments. `Wrong` says what isn't as a volume has it, `Unseen` that a read
+    /// failed or memory was refused.
     pub fn open(alloc: Global, mut disk: D) -> Result<Volume<D>, Stop> {
         let sizes = superblock::look(alloc, &mut disk)?;
         let places = batches::look(alloc, &mut disk, sizes)?;

@@ -14,7 +14,7 @@ const GROUPS: [u64; 6] = [
 
 /// A number with a comma before each three digits, as in 4,096,000.
 #[derive(Clone, Copy)]
-pub(crate) struct Grouped(pub u64);
+pub struct Grouped(pub u64);
 
 impl Display for Grouped {
     fn fmt<W: fmt::Write>(&self, f: &mut Formatter<W>) -> fmt::Result {

@@ -2,6 +2,7 @@
 
 use crate::device::{Block, Stop, read_block};
 use crate::grouped::Grouped;
+use crate::wrong_unless;
 use disk::Disk;
 use names::{HOST_LIMIT, is_host};
 use std::alloc::Global;
@@ -25,9 +26,9 @@ const INODES_IN_A_BLOCK: u32 = 64;
 /// The blocks of a bitmap, and the blocks of data that a volume has at least.
 const FEWEST_OTHERS: u32 = 2 + 256;
 
-/// What a superblock says.
+/// What a superblock says: the numbers of logical blocks, segments and inodes, and the format, which is 1 or 2.
 #[derive(Clone, Copy)]
-pub(crate) struct Sizes {
+pub struct Sizes {
     pub blocks: u32,
     pub segments: u32,
     pub inodes: u32,

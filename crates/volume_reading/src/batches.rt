@@ -3,6 +3,7 @@
 use crate::device::{Block, Stop, read, read_block};
 use crate::grouped::Grouped;
 use crate::superblock::Sizes;
+use crate::wrong_unless;
 use disk::Disk;
 use std::alloc::{AllocError, Global};
 use volume_format::layout::{

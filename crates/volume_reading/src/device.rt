@@ -5,11 +5,11 @@ use std::alloc::AllocError;
 use volume_format::layout::BLOCK;
 
 /// The octets of a block.
-pub(crate) type Block = [u8; BLOCK];
+pub type Block = [u8; BLOCK];
 
 /// Why a look ends before all was seen.
 #[derive(Drop)]
-pub(crate) enum Stop {
+pub enum Stop {
     /// This is wrong.
     Wrong(String),
     /// A read failed, or memory was refused.
@@ -47,14 +47,4 @@ pub(crate) fn read_block<D: Disk>(disk: &mut D, block: u64) -> Result<Block, Sto
     let mut octets = [0; BLOCK];
     read(disk, block, 0, &mut octets)?;
     Ok(octets)
-}
-
-/// The first of some octets, from a place on, that isn't zero.
-pub(crate) fn first_set(octets: &[u8], from: usize) -> Option<usize> {
-    for at in from..octets.len() {
-        if octets[at] != 0 {
-            return Some(at);
-        }
-    }
-    None
 }

@@ -1,0 +1,34 @@
+//! A volume as a person is told of it: its superblock, its open segments, its logical blocks and its inodes, read from
+//! the device beside the journal and the file system. A look ends with words for the first thing that is wrong
+//! (docs/FORMATS.md). Nothing rests on what is read or said here: the journal and the kernel refuse an opening, by their
+//! contracts, and no function here promises anything.
+#![tactic(auto)]
+
+/// Ends a look: this is wrong.
+#[macro_export]
+macro_rules! wrong {
+    ($alloc:expr; $($text:tt)+) => {
+        return Err($crate::Stop::Wrong(format!(in $alloc; $($text)+)?))
+    };
+}
+
+/// Ends a look with a text if a condition doesn't hold.
+#[macro_export]
+macro_rules! wrong_unless {
+    ($alloc:expr; $holds:expr, $($text:tt)+) => {
+        if !$holds {
+            $crate::wrong!($alloc; $($text)+);
+        }
+    };
+}
+
+mod batches;
+mod device;
+mod grouped;
+mod reads;
+mod superblock;
+
+pub use device::{Block, Stop};
+pub use grouped::Grouped;
+pub use reads::{Entry, Pointers, Record, Volume};
+pub use superblock::Sizes;
