@@ -135,7 +135,7 @@ def assert_said(volume, words, said):
 
 
 def assert_rows(volume, image, refusal, rows, stays=True, accepted=4):
-    """Each row has changes of the octets and what they are told as, which stands behind the refusal. The volume as it was has
+    """Each row has changes of the octets and what they are told as, which stands after the refusal. The volume as it was has
     this many accepted changes."""
     for changes, said in rows:
         for word in ("dump", "status"):
@@ -245,8 +245,8 @@ def damaged_inodes_are_told(volume):
         (slot(63) + 63, b"\1", "inode 63 is free, and octet 63 of its slot isn't zero"),
         (slot(EXPIRY), b"\0", "inode 5 is a file, and its slot is free"),
         (slot(EXPIRY), b"\x40", "the slot of inode 5 has a name of 64 octets, where names have 1 to 63"),
-        (slot(EXPIRY) + 13, b"\1", "octet 13 of the slot of inode 5, behind the name, isn't zero"),
-        (slot(EXPIRY) + 63, b"\1", "octet 63 of the slot of inode 5, behind the name, isn't zero"),
+        (slot(EXPIRY) + 13, b"\1", "octet 13 of the slot of inode 5, after the name, isn't zero"),
+        (slot(EXPIRY) + 63, b"\1", "octet 63 of the slot of inode 5, after the name, isn't zero"),
         (inode(ARTICLE) + SIZE_AT, u64(MOST_OCTETS_2 + 1), too_large("a.0000000002", MOST_OCTETS_2 + 1, 2)),
         (inode(ARTICLE) + SIZE_AT, u64(10**18), too_large("a.0000000002", 10**18, 2)),
         (inode(ARTICLE) + SPARE_AT, b"\1", "octet 60 of the inode of file a.0000000002 isn't zero"),

@@ -117,7 +117,7 @@ def callers_from_elsewhere_are_let_in_where_a_network_holds_them(volume):
             (["192.0.2.0/24"], True, False),
             (["192.0.2.4/30"], True, False),
             (["192.0.2.8/29"], False, False),
-            # bits behind the prefix are ignored
+            # bits after the prefix are ignored
             (["192.0.2.99/25"], True, False),
             (["0.0.0.0/0"], True, False),
             ([CALLER_6], False, True),

@@ -41,7 +41,7 @@ fn look_at_slot(alloc: Global, entry: &Entry) -> Result<(), Stop> {
     wrong_unless!(alloc; size > 0, "inode {number} is a file, and its slot is free");
     wrong_unless!(alloc; size <= NAME_MAX, "the slot of inode {number} has a name of {size} octets, where names have 1 to {NAME_MAX}");
     if let Some(at) = first_set(&entry.slot, 1 + size) {
-        wrong!(alloc; "octet {at} of the slot of inode {number}, behind the name, isn't zero");
+        wrong!(alloc; "octet {at} of the slot of inode {number}, after the name, isn't zero");
     }
     Ok(())
 }
