@@ -7,7 +7,7 @@ mod events;
 mod lines;
 mod writing;
 
-pub use clock::moment;
+pub use clock::{Moments, moment};
 pub use events::{Counts, Ended, Ending, Event, Part, Refusal, Served};
 pub use lines::{Entry, line};
 pub use writing::{Log, Verbosity};

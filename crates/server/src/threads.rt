@@ -4,7 +4,6 @@ ghost use Rattle.std.specs.Prelude.{◌≡◌};
 ghost use Rattle.journal.specs.Journal.{IsIdle};
 
 use crate::answering::SessionThread;
-use crate::moments::Moments;
 use crate::watching::Watching;
 use crate::{ServeError, Server};
 use accepting::{Acceptor, Call, Doors, FAREWELLS, Parting, linger_all};
@@ -14,7 +13,7 @@ use flusher::{
     BatchBuf, Bells, Ended, FlushError, Flusher, Gate, Kern, Ringing, SESSIONS, Tally, VolumeFacts,
     flush_all,
 };
-use logging::{Event, Log};
+use logging::{Event, Log, Moments};
 use mark::{Mark, Seat};
 use operator::Operator;
 use releasing::{Closing, ReplyWriter, Shared, release_all};
