@@ -39,8 +39,8 @@ use std::alloc::{AllocError, Global};
 use std::marker::Model;
 use volume::{BatchBuf, Blocks, Volume};
 
-/// A change is refused if fewer blocks than this are free.
-const BLOCKS_ASKED: u32 = 256;
+/// A change is refused as `Full` (E6) if fewer blocks than this are free.
+pub const BLOCKS_ASKED: u32 = 256;
 
 /// The most groups on a server.
 const GROUPS: usize = 4096;
