@@ -9,7 +9,7 @@ use std::sync::atomic::{AtomicU64, Ordering};
 #[derive(Clone, Copy)]
 pub struct VolumeFacts<'a> {
     pub host: &'a [u8],
-    /// The version of its format.
+    /// Its format, 1 or 2.
     pub format: u32,
     /// Its logical blocks, used or free.
     pub blocks: u64,
