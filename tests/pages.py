@@ -1,5 +1,5 @@
 #!/usr/bin/env python3
-"""Checks of the pages: links, named files, the columns of lines, pictures, and the list of what has to be believed. They need no program.
+"""Checks of the pages: links, named files, the columns of lines, pictures, and the rows of crates. They need no program.
 pages.py [NEWSD [NAME..]]"""
 import os
 import re
@@ -20,6 +20,8 @@ NAME = re.compile(r"(?<![\w/.*<$-])([A-Za-z_][\w-]*\.(?:md|antt|rt|py|edit|svg|t
 # a component of a path that stands for others, as in crates/CRATE/must-fail
 STAND_IN = re.compile(r"[A-Z][A-Z_]*")
 FOLDERS = ("bin", "bench", "crates", "docs", "tests", ".ci")
+# a row of a table whose first cell has crates
+ROW = re.compile(r"\| ([a-z_]+(?:, [a-z_]+)*) \|")
 
 
 def files():
@@ -95,24 +97,49 @@ def no_line_is_too_long():
                 yield "%s:%d has %d columns" % (page, number, len(line))
 
 
-def faults_by(script):
-    """What a script says with `--check`, if its status isn't 0."""
-    done = subprocess.run([sys.executable, "-B", os.path.join(TOP, script), "--check"], capture_output=True, text=True, timeout=60)
-    if done.returncode:
-        yield from (script + ": " + it for it in (done.stdout + done.stderr).strip().splitlines())
-
-
 def pictures_are_what_their_scripts_draw():
     for script in ("bin/pictures", "bench/plots"):
-        yield from faults_by(script)
+        done = subprocess.run([sys.executable, "-B", os.path.join(TOP, script), "--check"], capture_output=True, text=True, timeout=60)
+        if done.returncode:
+            yield "%s: %s" % (script, (done.stdout + done.stderr).strip())
 
 
-def theorem_lists_what_has_to_be_believed():
-    yield from faults_by("bin/believed")
+def crates_of_layers():
+    """The crates of crates.txt in their order, each with its layer."""
+    layer = ""
+    for line in read("crates.txt").splitlines():
+        if line.startswith("#"):
+            layer = line[1:].strip()
+        elif ":" in line:
+            yield layer, line.partition(":")[0].split()[0]
+
+
+def rows_of_promises():
+    """The crates of the rows of PROMISES.md in their order, each with the heading of its table, but for the capital."""
+    heading = ""
+    for line in read("docs/PROMISES.md").splitlines():
+        if line.startswith("## "):
+            heading = line[3].lower() + line[4:]
+        row = ROW.match(line)
+        if row:
+            yield from ((heading, crate) for crate in row[1].split(", "))
+
+
+def promises_go_by_the_layers():
+    crates, rows = list(crates_of_layers()), list(rows_of_promises())
+    for layer, crate in rows:
+        if (layer, crate) not in crates:
+            yield "docs/PROMISES.md: crates.txt has no %s among %s" % (crate, layer)
+    if [it for it in crates if it in rows] != [it for it in rows if it in crates]:
+        yield "docs/PROMISES.md: the rows aren't in the order of crates.txt"
+    # the words of the picture are those of the crates of the program
+    program = [line.partition("\t")[0] for line in read("docs/pictures/crates.tsv").splitlines()]
+    for crate in sorted(set(program) - {crate for _, crate in rows}):
+        yield "docs/PROMISES.md: no row for %s" % crate
 
 
 TESTS = [each_link_leads_somewhere, each_named_file_is_there, no_line_is_too_long, pictures_are_what_their_scripts_draw,
-         theorem_lists_what_has_to_be_believed]
+         promises_go_by_the_layers]
 
 
 def main():
