@@ -6,12 +6,10 @@ ghost use Rattle.model.specs.Room.{blocks_asked};
 use flusher::{Gate, Kern, Tally, VolumeFacts};
 use logging::{Event, Log, Part};
 use releasing::Shared;
+use spool_files::BLOCKS_ASKED;
 use std::sync::Wait;
 use std::sync::atomic::{AtomicBool, Ordering};
 use std::time::Clock;
-
-/// A change is refused as `E6 Full` where fewer blocks are free.
-const BLOCKS_ASKED: u64 = 256;
 
 /// A gate that looks at a volume after each batch, and then calls the other gate. It tells the log once when the blocks
 /// are nearly used up, and once when nine tenths of the inodes are used.
@@ -80,7 +78,7 @@ impl<'a, R: Wait + Clock, K: Kern, G> Watching<'a, R, K, G> {
 fn has_few_left(blocks: Part) -> bool
     ensures { IsTrue result ↔ ((9 * blocks.all ≤ 10 * blocks.used) ⊎ (blocks.all < blocks.used + blocks_asked)) }
 {
-    blocks.is_nearly_full() || blocks.all.saturating_sub(blocks.used) < BLOCKS_ASKED
+    blocks.is_nearly_full() || blocks.all.saturating_sub(blocks.used) < u64::from(BLOCKS_ASKED)
 }
 
 /// Whether it is so, the first time that it is.
