@@ -168,7 +168,7 @@ fn ids_of_a_host(rt: HostRuntime) {
 }
 
 #[test]
-fn numbers(rt: HostRuntime) {
+fn article_numbers_are_read(rt: HostRuntime) {
     for (text, number) in [
         ("0", Some(0)),
         ("007", Some(7)),

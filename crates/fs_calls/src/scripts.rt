@@ -242,7 +242,7 @@ fn first_wrong(
 }
 
 #[test]
-fn calls_answer(rt: HostRuntime) -> Result<(), Fail> {
+fn calls_of_small_files_answer(rt: HostRuntime) -> Result<(), Fail> {
     for (shows, script) in SCRIPTS {
         let volume = empty(rt.alloc())?;
         assert_eq!(rt;

@@ -238,7 +238,7 @@ fn first_misread<'a>(
 }
 
 #[test]
-fn command_lines(rt: HostRuntime) -> Result<(), Fail> {
+fn command_lines_are_read(rt: HostRuntime) -> Result<(), Fail> {
     assert_eq!(rt; first_misread(rt.alloc(), lines())?, None);
     Ok(())
 }

@@ -248,7 +248,7 @@ fn first_wrong(alloc: Global, script: Script) -> Result<Option<usize>, AllocErro
 }
 
 #[test]
-fn calls_answer(rt: HostRuntime) -> Result<(), Fail> {
+fn an_index_answers_each_call(rt: HostRuntime) -> Result<(), Fail> {
     for (shows, script) in SCRIPTS {
         assert_eq!(rt; first_wrong(rt.alloc(), script)?, None, "{shows}");
     }

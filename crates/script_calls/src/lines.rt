@@ -248,7 +248,7 @@ fn ranges_of_a_group(rt: HostRuntime) -> Result<(), Fail> {
 }
 
 #[test]
-fn numbers(rt: HostRuntime) {
+fn numbers_of_scripts_are_read(rt: HostRuntime) {
     for (word, value) in [
         (b"0".as_slice(), Some(0)),
         (b"0042", Some(42)),
