@@ -36,7 +36,7 @@ const CLOSED: &[Octets] = &[
     ("zeros of the label", 0, 37, 111, 1, Wanted::NotAVolume),
     ("the format", 0, 148, 1, 1, Wanted::Whole),
     (
-        "zeros behind the format",
+        "zeros after the format",
         0,
         149,
         94,

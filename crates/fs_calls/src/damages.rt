@@ -209,7 +209,7 @@ const ROWS: &[Row<'static>] = &[
         false,
     ),
     ("a name that is too long", &[(SLOT, 0, 64)], &[], false),
-    ("an octet behind a name", &[(SLOT, 63, 1)], &[], false),
+    ("an octet after a name", &[(SLOT, 63, 1)], &[], false),
     ("equal names of neighbours", &[(SLOT, 65, b'a')], &[], false),
     ("equal names", &[(SLOT, 129, b'a')], &[], false),
     ("another name", &[(SLOT, 129, b'z')], &[], true),

@@ -118,7 +118,7 @@ pub(crate) fn read_late<R: Threads + Wait + Clock + Copy + Send + 'static>(
     Some(has_all && is_first && is_second && is_third)
 }
 
-/// Waits until so many lines are written, and no more. It is false at the limit.
+/// Waits until this many lines are written, and no more. It is false at the limit.
 fn has_lines<R: Wait + Clock>(rt: &R, shared: &Shared, lines: usize) -> bool {
     for _ in 0..WAIT_MILLIS {
         let text = shared.text.lock(rt);

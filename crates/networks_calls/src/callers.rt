@@ -11,7 +11,7 @@ const HELD: &[(&str, &str, bool)] = &[
     ("192.0.2.7", "192.0.2.6", false),
     ("192.0.2.0/24", "192.0.2.255", true),
     ("192.0.2.0/24", "192.0.3.0", false),
-    // the octets behind the prefix are ignored
+    // the octets after the prefix are ignored
     ("192.0.2.77/24", "192.0.2.1", true),
     ("192.0.2.0/23", "192.0.3.255", true),
     ("192.0.2.0/23", "192.0.4.0", false),

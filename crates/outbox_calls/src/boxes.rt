@@ -93,7 +93,7 @@ const OUTBOXES: &[(&str, &[Step<'static>])] = &[
         ],
     ),
     (
-        "an end without octets goes behind what is before it",
+        "an end without octets goes after what is before it",
         &[
             Step::Push(2, &[(b'x', 1)], 1, false),
             Step::Push(2, &[], 2, true),

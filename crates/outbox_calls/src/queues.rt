@@ -58,7 +58,7 @@ const QUEUES: &[(&str, &[Step<'static>])] = &[
         ],
     ),
     (
-        "an output behind one that is held waits for it",
+        "an output after one that is held waits for it",
         &[
             Step::Push(1, &[(b'x', 3)], 7, false),
             Step::Push(1, &[(b'y', 3)], 0, false),
@@ -67,7 +67,7 @@ const QUEUES: &[(&str, &[Step<'static>])] = &[
         ],
     ),
     (
-        "an end without octets goes behind what is before it",
+        "an end without octets goes after what is before it",
         &[
             Step::Push(2, &[(b'x', 1)], 1, false),
             Step::Push(2, &[], 2, true),

@@ -41,7 +41,7 @@ impl Lines {
         false
     }
 
-    /// Whether so many lines come in time.
+    /// Whether this many lines come in time.
     pub fn are<R: Wait + Clock>(&self, rt: &R, count: usize) -> bool {
         for _ in 0..WAIT_MILLIS {
             if line_count(self.text.lock(rt).as_slice()) >= count {
