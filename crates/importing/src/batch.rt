@@ -102,7 +102,7 @@ pub enum Stop {
     /// The octets are no batch from here on.
     #[error("E14 Bad: {0}")]
     NotABatch(Refusal),
-    /// At this octet the batch could not be read, or the watcher not told.
+    /// At this octet the batch could not be read, or the watcher could not take what was said of it.
     #[error("octet {0}: {1}")]
     Stream(u64, io::Error),
 }
@@ -141,7 +141,7 @@ impl From<JournalError> for ImportError {
     }
 }
 
-/// Who gives an import the time, and is told what it does.
+/// Gives an import the time, and learns what the import does.
 pub trait Watcher {
     /// The moment of what is filed now, in seconds since 1970.
     fn moment(&mut self) -> u64
@@ -150,7 +150,7 @@ pub trait Watcher {
     /// The text at this place was refused, for this cause in words.
     fn refused(&mut self, place: Place, cause: &'static str) -> io::Result<()>;
 
-    /// So many octets of the batch were read, and the texts in them were filed.
+    /// This many octets of the batch were read, and the texts in them were filed.
     fn progress(&mut self, octets: u64, counts: &Counts) -> io::Result<()>;
 }
 

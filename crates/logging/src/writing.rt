@@ -147,7 +147,7 @@ impl Writing {
         }
     }
 
-    /// Writes the line of an entry. If it is not written whole, or memory for it is refused, so many lines are lost.
+    /// Writes the line of an entry. If it is not written whole, or memory for it is refused, this many lines count as lost.
     fn write<F: Write + Drop>(&self, output: &mut Output<F>, entry: &Entry, lines: u64) {
         let is_written = match line(self.alloc, entry) {
             Ok(line) => output.write_line(line.as_slice()),

@@ -60,7 +60,7 @@ pub(crate) enum Told {
     /// The serial of a change that is durable.
     Serial(u64),
     Status(Status),
-    /// The flusher has stopped as it was asked to, and all changes are durable: so many were accepted.
+    /// The flusher has stopped as it was asked to, and all changes are durable. The number is that of the accepted ones.
     Stopped { accepted: u64 },
 }
 

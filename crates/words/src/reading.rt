@@ -188,7 +188,7 @@ fn read_plan<'a>(alloc: Global, words: &ArgMatches<'a>, format: u32) -> Result<P
     }
 }
 
-/// The plan of a volume, if these words follow their grammars and the blocks have room for so many inodes.
+/// The plan of a volume, if these words follow their grammars and the blocks have room for this many inodes.
 fn plan_of<'a>(host: &'a [u8], blocks: &[u8], inodes: &[u8], format: u32) -> Option<Plan<'a>>
     requires { (1 ≤ format) × (format ≤ 2) }
 {
