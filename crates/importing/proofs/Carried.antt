@@ -55,7 +55,7 @@ one_of {D = D} old now image same either admits = by_blocks either admits.0 wher
       inr (back (with_batch old) (subst (λ (bs : List (List ℕ)). StandsFor image now.label bs) after.0 stands))
   by_blocks (inr after) (inr commits) = absurd (after.1 commits.0)
 
--- which of the two they are is told by the next call
+-- which of the two they are is shown by the next call
 by_next : {D : Type 0} (old now : JournalView D) (next : Next) → now.next ≡ next
     → now.blocks ≡ (if is_to_commit next then old.blocks else with_batch old) → IsEither old now
 by_next old now Idle is blocks = inr (blocks, λ e. let both : Idle ≡ Commit = sym is ∙ e in cc)
@@ -69,7 +69,7 @@ by_next old now Settle is blocks = inr (blocks, λ e. let both : Settle ≡ Comm
 by_next old now (CloseGate j) is blocks = inr (blocks, λ e. let both : CloseGate j ≡ Commit = sym is ∙ e in cc)
 by_next old now (Finish j) is blocks = inr (blocks, λ e. let both : Finish j ≡ Commit = sym is ∙ e in cc)
 
--- behind the commit a fault leaves a call behind the commit
+-- after the commit a fault leaves a call after the commit
 never_back : (n : ℕ) (counts : List ℕ) (next : Next) → next ≢ Idle → is_to_commit next ≡ false → at_fault n counts next ≢ Commit
 never_back n counts Idle flies is = absurd (flies refl)
 never_back n counts Descriptor flies is = absurd (true≢false is)

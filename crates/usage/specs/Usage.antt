@@ -16,6 +16,6 @@ abbrev pub BitsAreUsedBlocks : Type 0
 BitsAreUsedBlocks = (inodes : ℕ) (blocks : List Octets) → HasRoom inodes blocks → IsFileSystem inodes blocks →
     used_in (slice_index_or blocks 0 []) + used_in (slice_index_or blocks 1 []) + free_blocks blocks ≡ length blocks
 
--- every spool of so many changes and so many groups has this many files
+-- every spool of this many changes and this many groups has this many files
 abbrev pub AreFilesOf : ℕ → ℕ → ℕ → Type 0
 AreFilesOf changes made files = (S : Spool) → length S ≡ changes → length (groups S) ≡ made → length (files_of S) ≡ files

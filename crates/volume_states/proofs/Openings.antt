@@ -1,4 +1,4 @@
--- What is told of a journal is told of the device that it was opened on.
+-- What is said of a journal is said of the device that it was opened on.
 use Rattle.std.proofs.Common.{◌≡◌, ℕ, length, sym, subst}
 use Rattle.std.specs.Prelude.{IfErr, IfOk, IsTrue, Result}
 use Rattle.std.proofs.lemmas.Result.{IfErr-weaker, IfOk-weaker}

@@ -1,4 +1,4 @@
--- What is told of the volume on a device.
+-- What is said of the volume on a device.
 use Rattle.std.specs.Prelude.{ℕ, List, length}
 use Rattle.model.specs.Layout.{IsLabel}
 use Rattle.model.specs.Stream.{Octets}
