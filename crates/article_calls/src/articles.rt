@@ -24,16 +24,19 @@ const POSTED_LATER: Origin<'static> = Origin::Posted {
 };
 
 /// The first worked article, 146 octets.
-const FIRST: &[u8] =
-    b"Path: p!not-for-mail\r\nDate: Sun, 09 Sep 2001 01:46:40 +0000\r\nMessage-ID: <1@a.example>\r\nFrom: a@example.org\r\nNewsgroups: x.a\r\nSubject: one\r\n\r\nhi\r\n";
+const FIRST: &[u8] = b"Path: p!not-for-mail\r\nDate: Sun, 09 Sep 2001 01:46:40 +0000\r\n\
+      Message-ID: <1@a.example>\r\nFrom: a@example.org\r\nNewsgroups: x.a\r\nSubject: one\r\n\r\n\
+      hi\r\n";
 
 /// The same with fields that are folded, and two groups.
-const FOLDED: &[u8] =
-    b"Path: p!not-for-mail\r\nDate: Sun, 09 Sep 2001 01:46:40 +0000\r\nMessage-ID: <1@a.example>\r\nFrom: a@example.org\r\nNewsgroups: x.a,\r\n x.b\r\nSubject: a\r\n\tb\r\n\r\nhi\r\n";
+const FOLDED: &[u8] = b"Path: p!not-for-mail\r\nDate: Sun, 09 Sep 2001 01:46:40 +0000\r\n\
+      Message-ID: <1@a.example>\r\nFrom: a@example.org\r\nNewsgroups: x.a,\r\n x.b\r\n\
+      Subject: a\r\n\tb\r\n\r\nhi\r\n";
 
 /// An article with TABs and line ends in its fields, and without a body, 134 octets.
 const TABBED: &[u8] =
-    b"Path: p\r\nDate: d\r\nMessage-ID: <1@a.example>\r\nFrom: a\tb\r\nNewsgroups: x.a\r\nSubject: a\r\n\tb\r\nReferences: <0@a.example>\r\n <2@a.example>\r\n\r\n";
+    b"Path: p\r\nDate: d\r\nMessage-ID: <1@a.example>\r\nFrom: a\tb\r\nNewsgroups: x.a\r\n\
+      Subject: a\r\n\tb\r\nReferences: <0@a.example>\r\n <2@a.example>\r\n\r\n";
 
 /// The fields that a client writes, and the empty line.
 const WRITTEN: &[u8] = b"From: a@example.org\r\nNewsgroups: x.a\r\nSubject: one\r\n\r\n";
@@ -43,7 +46,9 @@ const SHORT: &[u8] = b"From: a@example.org\r\nNewsgroups: x.a\r\nSubject: one\r\
 
 /// What is stored of it when it gets serial 2, 160 octets.
 const STORED: &[u8] =
-    b"Path: news.example!not-for-mail\r\nDate: Sun, 09 Sep 2001 01:46:40 +0000\r\nMessage-ID: <2@news.example>\r\nFrom: a@example.org\r\nNewsgroups: x.a\r\nSubject: one\r\n\r\nhi\r\n";
+    b"Path: news.example!not-for-mail\r\nDate: Sun, 09 Sep 2001 01:46:40 +0000\r\n\
+      Message-ID: <2@news.example>\r\nFrom: a@example.org\r\nNewsgroups: x.a\r\nSubject: one\r\n\
+      \r\nhi\r\n";
 
 /// The fields before those of a row.
 const OTHERS: &[u8] =
@@ -106,7 +111,9 @@ fn texts() -> &'static [Judged] {
         ),
         (WRITTEN, 0, b"", "", "Missing"),
         (
-            b"Path: p!not-for-mail\r\nDate: Sun, 09 Sep 2001 01:46:40 +0000\r\nMessage-ID: <1@news.example>\r\nFrom: a@example.org\r\nNewsgroups: x.a\r\nSubject: one\r\n\r\nhi\r\n",
+            b"Path: p!not-for-mail\r\nDate: Sun, 09 Sep 2001 01:46:40 +0000\r\n\
+              Message-ID: <1@news.example>\r\nFrom: a@example.org\r\nNewsgroups: x.a\r\n\
+              Subject: one\r\n\r\nhi\r\n",
             0,
             b"",
             "Id",
@@ -410,7 +417,9 @@ const ANSWERS: &[(
             (
                 Ask::Header,
                 Some(
-                    b"Path: p!not-for-mail\r\nDate: Sun, 09 Sep 2001 01:46:40 +0000\r\nMessage-ID: <1@a.example>\r\nFrom: a@example.org\r\nNewsgroups: x.a,\r\n x.b\r\nSubject: a\r\n\tb\r\n",
+                    b"Path: p!not-for-mail\r\nDate: Sun, 09 Sep 2001 01:46:40 +0000\r\n\
+                      Message-ID: <1@a.example>\r\nFrom: a@example.org\r\n\
+                      Newsgroups: x.a,\r\n x.b\r\nSubject: a\r\n\tb\r\n",
                 ),
             ),
             (Ask::Body, Some(b"hi\r\n")),

@@ -17,8 +17,8 @@ const READS: u32 = 100;
 const TEXT: usize = 262_144;
 
 /// The fields of each text, except its short ones.
-const FIELDS: &[u8] =
-    b"Path: p!not-for-mail\r\nDate: Sun, 09 Sep 2001 01:46:40 +0000\r\nMessage-ID: <1@a.example>\r\nFrom: a@example.org\r\nNewsgroups: x.a\r\nSubject: one\r\n";
+const FIELDS: &[u8] = b"Path: p!not-for-mail\r\nDate: Sun, 09 Sep 2001 01:46:40 +0000\r\n\
+      Message-ID: <1@a.example>\r\nFrom: a@example.org\r\nNewsgroups: x.a\r\nSubject: one\r\n";
 
 fn main(rt: HostRuntime) -> Result<()> {
     if env::args(&rt)?.nth(1).is_some() {

@@ -78,7 +78,9 @@ fn lines() -> (&'static [&'static str], &'static [&'static str]) {
 /// The article with this serial, as it is sent to a client.
 fn article(alloc: Global, serial: u64) -> Result<String, AllocError> {
     format!(in alloc;
-        "Path: p!not-for-mail\r\nDate: Sun, 09 Sep 2001 01:46:40 +0000\r\nMessage-ID: <{serial}@a.example>\r\nFrom: a@example.org\r\nNewsgroups: x.a\r\nSubject: one\r\n\r\nhi\r\n.\r\n"
+        "Path: p!not-for-mail\r\nDate: Sun, 09 Sep 2001 01:46:40 +0000\r\n\
+         Message-ID: <{serial}@a.example>\r\nFrom: a@example.org\r\nNewsgroups: x.a\r\n\
+         Subject: one\r\n\r\nhi\r\n.\r\n"
     )
 }
 

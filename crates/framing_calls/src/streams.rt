@@ -9,12 +9,16 @@ use std::test::Fail;
 
 /// An article whose second body line begins with a dot, as it is sent.
 const SENT: Octets<'static> = Octets::Are(
-    b"Path: p!not-for-mail\r\nDate: Sun, 09 Sep 2001 01:46:40 +0000\r\nMessage-ID: <1@a.example>\r\nFrom: a@example.org\r\nNewsgroups: x.a\r\nSubject: one\r\n\r\nhi\r\n..x\r\n.\r\n",
+    b"Path: p!not-for-mail\r\nDate: Sun, 09 Sep 2001 01:46:40 +0000\r\n\
+      Message-ID: <1@a.example>\r\nFrom: a@example.org\r\nNewsgroups: x.a\r\nSubject: one\r\n\r\n\
+      hi\r\n..x\r\n.\r\n",
 );
 
 /// The same article as it is meant, 150 octets.
 const MEANT: Octets<'static> = Octets::Are(
-    b"Path: p!not-for-mail\r\nDate: Sun, 09 Sep 2001 01:46:40 +0000\r\nMessage-ID: <1@a.example>\r\nFrom: a@example.org\r\nNewsgroups: x.a\r\nSubject: one\r\n\r\nhi\r\n.x\r\n",
+    b"Path: p!not-for-mail\r\nDate: Sun, 09 Sep 2001 01:46:40 +0000\r\n\
+      Message-ID: <1@a.example>\r\nFrom: a@example.org\r\nNewsgroups: x.a\r\nSubject: one\r\n\r\n\
+      hi\r\n.x\r\n",
 );
 
 /// The reader of a stream, which is asked in one mode until a message is complete.

@@ -10,11 +10,13 @@ use std::test::Fail;
 type Row<'a> = (&'a str, &'a [Octets<'a>], &'a [u8], &'a str);
 
 const GOOD: Octets<'static> = Octets::Are(
-    b"Path: p\nFrom: a@example.org\nNewsgroups: x.a,y.b\nSubject: s\nDate: Sun, 09 Sep 2001 01:46:40 +0000\nMessage-ID: <1@far.example>\n\nhi\n",
+    b"Path: p\nFrom: a@example.org\nNewsgroups: x.a,y.b\nSubject: s\n\
+      Date: Sun, 09 Sep 2001 01:46:40 +0000\nMessage-ID: <1@far.example>\n\nhi\n",
 );
 
 const OTHER: Octets<'static> = Octets::Are(
-    b"Path: p\nFrom: a@example.org\nNewsgroups: x.a\nSubject: s\nDate: Sun, 09 Sep 2001 01:46:40 +0000\nMessage-ID: <7@far.example>\n\nhi\n",
+    b"Path: p\nFrom: a@example.org\nNewsgroups: x.a\nSubject: s\n\
+      Date: Sun, 09 Sep 2001 01:46:40 +0000\nMessage-ID: <7@far.example>\n\nhi\n",
 );
 
 /// The batches, one after the other into one volume.
@@ -34,7 +36,8 @@ const ROWS: &[Row<'static>] = &[
     (
         "lines that end in CRLF",
         &[Octets::Are(
-            b"Path: p\r\nFrom: a@example.org\r\nNewsgroups: x.a\r\nSubject: s\r\nDate: Sun, 09 Sep 2001 01:46:40 +0000\r\nMessage-ID: <2@far.example>\r\n\r\nhi\r\n",
+            b"Path: p\r\nFrom: a@example.org\r\nNewsgroups: x.a\r\nSubject: s\r\n\
+              Date: Sun, 09 Sep 2001 01:46:40 +0000\r\nMessage-ID: <2@far.example>\r\n\r\nhi\r\n",
         )],
         b"",
         "filed 1\nhere 0\nno group 0\nrefused 0\n",
@@ -48,7 +51,8 @@ const ROWS: &[Row<'static>] = &[
     (
         "a group that takes no posts",
         &[Octets::Are(
-            b"Path: p\nFrom: a@example.org\nNewsgroups: x.closed\nSubject: s\nDate: Sun, 09 Sep 2001 01:46:40 +0000\nMessage-ID: <3@far.example>\n\nhi\n",
+            b"Path: p\nFrom: a@example.org\nNewsgroups: x.closed\nSubject: s\n\
+              Date: Sun, 09 Sep 2001 01:46:40 +0000\nMessage-ID: <3@far.example>\n\nhi\n",
         )],
         b"",
         "filed 1\nhere 0\nno group 0\nrefused 0\n",
@@ -56,7 +60,8 @@ const ROWS: &[Row<'static>] = &[
     (
         "no group of the volume",
         &[Octets::Are(
-            b"Path: p\nFrom: a@example.org\nNewsgroups: y.b\nSubject: s\nDate: Sun, 09 Sep 2001 01:46:40 +0000\nMessage-ID: <4@far.example>\n\nhi\n",
+            b"Path: p\nFrom: a@example.org\nNewsgroups: y.b\nSubject: s\n\
+              Date: Sun, 09 Sep 2001 01:46:40 +0000\nMessage-ID: <4@far.example>\n\nhi\n",
         )],
         b"",
         "filed 0\nhere 0\nno group 1\nrefused 0\n",
@@ -64,28 +69,34 @@ const ROWS: &[Row<'static>] = &[
     (
         "an id of the host's own",
         &[Octets::Are(
-            b"Path: p\nFrom: a@example.org\nNewsgroups: x.a\nSubject: s\nDate: Sun, 09 Sep 2001 01:46:40 +0000\nMessage-ID: <9@news.example>\n\nhi\n",
+            b"Path: p\nFrom: a@example.org\nNewsgroups: x.a\nSubject: s\n\
+              Date: Sun, 09 Sep 2001 01:46:40 +0000\nMessage-ID: <9@news.example>\n\nhi\n",
         )],
         b"",
-        "article 1 at octet 0: the message-id is one of this host's own\nfiled 0\nhere 0\nno group 0\nrefused 1\n  1 the message-id is one of this host's own\n",
+        "article 1 at octet 0: the message-id is one of this host's own\nfiled 0\nhere 0\n\
+         no group 0\nrefused 1\n  1 the message-id is one of this host's own\n",
     ),
     (
         "a last line without its end",
         &[GOOD, Octets::Are(b"Path: p\n\nhi")],
         b"",
-        "article 2 at octet 142: it holds NUL or a single CR, or its last line has no end\nfiled 0\nhere 1\nno group 0\nrefused 1\n  1 it holds NUL or a single CR, or its last line has no end\n",
+        "article 2 at octet 142: it holds NUL or a single CR, or its last line has no end\n\
+         filed 0\nhere 1\nno group 0\n\
+         refused 1\n  1 it holds NUL or a single CR, or its last line has no end\n",
     ),
     (
         "a header without its end",
         &[Octets::Are(b"Path: p\n")],
         b"",
-        "article 1 at octet 0: no empty line follows the header\nfiled 0\nhere 0\nno group 0\nrefused 1\n  1 no empty line follows the header\n",
+        "article 1 at octet 0: no empty line follows the header\nfiled 0\nhere 0\nno group 0\n\
+         refused 1\n  1 no empty line follows the header\n",
     ),
     (
         "a line that is no field",
         &[Octets::Are(b"Path p\n\nhi\n")],
         b"",
-        "article 1 at octet 0: a line of the header is no field\nfiled 0\nhere 0\nno group 0\nrefused 1\n  1 a line of the header is no field\n",
+        "article 1 at octet 0: a line of the header is no field\nfiled 0\nhere 0\nno group 0\n\
+         refused 1\n  1 a line of the header is no field\n",
     ),
     (
         "a field twice",
@@ -110,10 +121,12 @@ const ROWS: &[Row<'static>] = &[
     (
         "a group twice",
         &[Octets::Are(
-            b"Path: p\nFrom: a@example.org\nNewsgroups: x.a,x.a\nSubject: s\nDate: Sun, 09 Sep 2001 01:46:40 +0000\nMessage-ID: <5@far.example>\n\nhi\n",
+            b"Path: p\nFrom: a@example.org\nNewsgroups: x.a,x.a\nSubject: s\n\
+              Date: Sun, 09 Sep 2001 01:46:40 +0000\nMessage-ID: <5@far.example>\n\nhi\n",
         )],
         b"",
-        "article 1 at octet 0: its groups aren't 1 to 16 different group names\nfiled 0\nhere 0\nno group 0\nrefused 1\n  1 its groups aren't 1 to 16 different group names\n",
+        "article 1 at octet 0: its groups aren't 1 to 16 different group names\nfiled 0\nhere 0\n\
+         no group 0\nrefused 1\n  1 its groups aren't 1 to 16 different group names\n",
     ),
     (
         "a header that is too long",
@@ -124,7 +137,9 @@ const ROWS: &[Row<'static>] = &[
             b"\n\nhi\n",
         )],
         b"",
-        "article 1 at octet 0: its header has more than 8192 octets, or the article more than 262144\nfiled 0\nhere 0\nno group 0\nrefused 1\n  1 its header has more than 8192 octets, or the article more than 262144\n",
+        "article 1 at octet 0: its header has more than 8192 octets, or the article more than 262144\n\
+         filed 0\nhere 0\nno group 0\n\
+         refused 1\n  1 its header has more than 8192 octets, or the article more than 262144\n",
     ),
     (
         "no batch after an article",

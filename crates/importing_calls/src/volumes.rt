@@ -111,7 +111,8 @@ pub(crate) fn articles(alloc: Global, from: u64, to: u64) -> Result<Vec<u8>, All
     let mut octets = Vec::new(alloc);
     for number in from..to {
         let text = format!(in alloc;
-            "Path: p\nFrom: a@example.org\nNewsgroups: x.a\nSubject: s\nDate: Sun, 09 Sep 2001 01:46:40 +0000\nMessage-ID: <{number}@far.example>\n\nhi\n"
+            "Path: p\nFrom: a@example.org\nNewsgroups: x.a\nSubject: s\n\
+             Date: Sun, 09 Sep 2001 01:46:40 +0000\nMessage-ID: <{number}@far.example>\n\nhi\n"
         )?;
         octets.extend_from_slice(&entry(alloc, text.as_bytes())?)?;
     }

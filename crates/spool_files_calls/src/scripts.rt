@@ -300,14 +300,18 @@ const FOUR_ARTICLES: Rows = &[
     (
         Call::Is(
             Sought::Whole("<1@a.example>"),
-            b"Path: p!not-for-mail\r\nDate: Sun, 09 Sep 2001 01:46:40 +0000\r\nMessage-ID: <1@a.example>\r\nFrom: a@example.org\r\nNewsgroups: x.a\r\nSubject: one\r\n\r\nhi\r\n.\r\n",
+            b"Path: p!not-for-mail\r\nDate: Sun, 09 Sep 2001 01:46:40 +0000\r\n\
+              Message-ID: <1@a.example>\r\nFrom: a@example.org\r\nNewsgroups: x.a\r\n\
+              Subject: one\r\n\r\nhi\r\n.\r\n",
         ),
         Answer::Is(true),
     ),
     (
         Call::Is(
             Sought::Head("<7@news.example>"),
-            b"Path: news.example!not-for-mail\r\nDate: Sun, 09 Sep 2001 01:46:40 +0000\r\nMessage-ID: <7@news.example>\r\nFrom: a@example.org\r\nNewsgroups: x.a\r\nSubject: one\r\n.\r\n",
+            b"Path: news.example!not-for-mail\r\nDate: Sun, 09 Sep 2001 01:46:40 +0000\r\n\
+              Message-ID: <7@news.example>\r\nFrom: a@example.org\r\nNewsgroups: x.a\r\n\
+              Subject: one\r\n.\r\n",
         ),
         Answer::Is(true),
     ),
@@ -333,7 +337,8 @@ const FOUR_ARTICLES: Rows = &[
     (
         Call::Is(
             Sought::Lines("x.a", 1, 2),
-            b"1\tone\ta@example.org\tSun, 09 Sep 2001 01:46:40 +0000\t<1@a.example>\t\t146\t1\r\n2\tone\ta@example.org\tSun, 09 Sep 2001 01:46:40 +0000\t<2@a.example>\t\t156\t1\r\n",
+            b"1\tone\ta@example.org\tSun, 09 Sep 2001 01:46:40 +0000\t<1@a.example>\t\t146\t1\r\n\
+              2\tone\ta@example.org\tSun, 09 Sep 2001 01:46:40 +0000\t<2@a.example>\t\t156\t1\r\n",
         ),
         Answer::Is(true),
     ),

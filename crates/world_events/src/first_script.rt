@@ -79,12 +79,16 @@ pub(crate) fn released() -> &'static [u8] {
 
 /// The article, as it is sent.
 fn article() -> &'static [u8] {
-    b"Path: p!not-for-mail\r\nDate: Sun, 09 Sep 2001 01:46:40 +0000\r\nMessage-ID: <1@a.example>\r\nFrom: a@example.org\r\nNewsgroups: x.a\r\nSubject: one\r\n\r\nhi\r\n.\r\n"
+    b"Path: p!not-for-mail\r\nDate: Sun, 09 Sep 2001 01:46:40 +0000\r\n\
+      Message-ID: <1@a.example>\r\nFrom: a@example.org\r\nNewsgroups: x.a\r\nSubject: one\r\n\r\n\
+      hi\r\n.\r\n"
 }
 
 /// What the session sends.
 fn arrived() -> &'static [u8] {
-    b"POST\r\nPath: p!not-for-mail\r\nDate: Sun, 09 Sep 2001 01:46:40 +0000\r\nMessage-ID: <1@a.example>\r\nFrom: a@example.org\r\nNewsgroups: x.a\r\nSubject: one\r\n\r\nhi\r\n.\r\n"
+    b"POST\r\nPath: p!not-for-mail\r\nDate: Sun, 09 Sep 2001 01:46:40 +0000\r\n\
+      Message-ID: <1@a.example>\r\nFrom: a@example.org\r\nNewsgroups: x.a\r\nSubject: one\r\n\r\n\
+      hi\r\n.\r\n"
 }
 
 /// Plays the rows, and answers the first line with another answer.

@@ -249,7 +249,9 @@ fn long(alloc: Global) -> Result<Vec<u8>, Fail> {
     let mut octets = Vec::new(alloc);
     octets.extend_from_slice(GREETING)?;
     octets.extend_from_slice(
-        b"220 0 <1@a.example>\r\nPath: p!not-for-mail\r\nDate: Sun, 09 Sep 2001 01:46:40 +0000\r\nMessage-ID: <1@a.example>\r\nFrom: a@example.org\r\nNewsgroups: x.a\r\nSubject: one\r\n\r\n",
+        b"220 0 <1@a.example>\r\nPath: p!not-for-mail\r\nDate: Sun, 09 Sep 2001 01:46:40 +0000\r\n\
+          Message-ID: <1@a.example>\r\nFrom: a@example.org\r\nNewsgroups: x.a\r\nSubject: one\r\n\
+          \r\n",
     )?;
     for _ in 0..LINES {
         octets.extend_from_slice(LINE)?;
