@@ -1,7 +1,7 @@
 //! A volume that no server serves, to which texts are added.
 
-ghost use Rattle.std.specs.Prelude.{◌≡◌, ◌≢◌, ◌+◌, ◌<◌, ◌≤◌, [], IfErr, IfOk, IsTrue, OnErr, OnOk, length};
-ghost use Rattle.journal.specs.Journal.{IsCaused, IsReady};
+ghost use Rattle.std.specs.Prelude.{◌≡◌, ◌≢◌, ◌+◌, ◌<◌, ◌≤◌, IfErr, IfOk, IsTrue, OnErr, OnOk, length};
+ghost use Rattle.journal.specs.Journal.{IsReady};
 ghost use Rattle.model.specs.Calendar.{moment_limit};
 ghost use Rattle.model.specs.Files.{free_blocks};
 ghost use Rattle.opening.specs.Standing as standing;
