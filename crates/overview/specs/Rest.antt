@@ -1,8 +1,7 @@
 -- What the lines of an article have in common in the overviews of all its groups.
-use Rattle.std.specs.Prelude.{◌≡◌, ℕ, ◌++◌, codes, decimal, length}
-use Rattle.std.proofs.Common.{append_assoc}
+use Rattle.std.specs.Prelude.{◌++◌, codes, decimal, length}
 use Rattle.model.specs.Stream.{Octets}
-use Rattle.model.specs.Article.{body_lines, overview_field, overview_line}
+use Rattle.model.specs.Article.{body_lines, overview_field}
 
 -- the line after its number
 abbrev pub overview_rest : Octets → Octets
@@ -11,7 +10,3 @@ overview_rest text =
     ++ codes "\t" ++ overview_field (codes "Date") text ++ codes "\t" ++ overview_field (codes "Message-ID") text
     ++ codes "\t" ++ overview_field (codes "References") text
     ++ codes "\t" ++ decimal (length text) ++ codes "\t" ++ decimal (length (body_lines text))
-
--- a line is its number and the rest
-pub line-number-rest : (number : ℕ) (text : Octets) → overview_line number text ≡ decimal number ++ overview_rest text
-line-number-rest number text = simp append_assoc

@@ -1,5 +1,6 @@
 use Rattle.std.proofs.Common.{◌++◌, ◌∙◌, ap, decimal, sym}
-use Rattle.overview.specs.Rest.{line-number-rest, overview_rest}
+use Rattle.overview.specs.Rest.{overview_rest}
+use Rattle.overview.proofs.RestLaws.{line-number-rest}
 use Rattle.overview.proofs.Overview.line.Goals as goal
 
 pub returns : goal.returns
