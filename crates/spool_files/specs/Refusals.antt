@@ -7,7 +7,7 @@ use Rattle.model.specs.declared.change.Change.{Change}
 use Rattle.model.specs.declared.change.Change.TheVariants.{Expire}
 use Rattle.serving.specs.declared.FileError.{FileError}
 use Rattle.serving.specs.declared.FileError.TheVariants as file
-use Rattle.spool_files.specs.View.{Adds, SpoolView}
+use Rattle.spool_files.specs.View.{SpoolView}
 use Rattle.spool_files.specs.declared.errors.AddError.{AddError}
 use Rattle.spool_files.specs.declared.errors.AddError.TheVariants as add
 use Rattle.spool_files.specs.declared.errors.ExpireError.{ExpireError}

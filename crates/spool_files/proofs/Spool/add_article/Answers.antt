@@ -1,4 +1,4 @@
-use Rattle.std.proofs.Common.{◌≡◌, inl, inr, ℕ, true, false, List, length, refl, ◌∙◌, sym, subst}
+use Rattle.std.proofs.Common.{◌≡◌, inl, inr, true, false, length, refl, ◌∙◌, sym}
 use Rattle.model.specs.Room.{is_full_for}
 use Rattle.model.specs.declared.change.Change.{Change}
 use Rattle.model.specs.declared.change.Change.TheVariants.{Article}
@@ -27,8 +27,8 @@ push_article-requires-clause-room c =
     full_any_article (length s.blocks) s.inodes s.changes c.args.article.now c.args.groups.now c.args.moment
     ∙ sym c.is_full_for_article.ensures ∙ c.if-is_full_for_article.false
 
-pub returns : goal.returns
-returns c =
+pub returns-in-Err : goal.returns-in-Err
+returns-in-Err c =
     let s = c.args.self.now in
     let its : Change = Article c.args.article.now c.args.groups.now c.args.moment in
     let room : is_full_for (length s.blocks) s.inodes s.changes its ≡ false =
