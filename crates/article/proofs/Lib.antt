@@ -7,4 +7,5 @@ pub mod ContentLaws
 pub mod Borrowed
 pub mod CauseLaws
 pub mod ReadLaws
+pub mod NameLaws
 pub mod InjectedLaws
