@@ -1,5 +1,6 @@
 #!/usr/bin/env python3
-"""Checks of the pages: links, named files, the columns of lines, pictures, and the rows of crates. They need no program.
+"""Checks of the pages: links, named files, the columns of lines, pictures, the rows of crates, and the list of what has to be believed.
+They need no program.
 pages.py [NEWSD [NAME..]]"""
 import os
 import re
@@ -97,11 +98,20 @@ def no_line_is_too_long():
                 yield "%s:%d has %d columns" % (page, number, len(line))
 
 
+def faults_by(script):
+    """What a script says with `--check`, if its status isn't 0."""
+    done = subprocess.run([sys.executable, "-B", os.path.join(TOP, script), "--check"], capture_output=True, text=True, timeout=60)
+    if done.returncode:
+        yield from (script + ": " + it for it in (done.stdout + done.stderr).strip().splitlines())
+
+
 def pictures_are_what_their_scripts_draw():
     for script in ("bin/pictures", "bench/plots"):
-        done = subprocess.run([sys.executable, "-B", os.path.join(TOP, script), "--check"], capture_output=True, text=True, timeout=60)
-        if done.returncode:
-            yield "%s: %s" % (script, (done.stdout + done.stderr).strip())
+        yield from faults_by(script)
+
+
+def theorem_lists_what_has_to_be_believed():
+    yield from faults_by("bin/believed")
 
 
 def crates_of_layers():
@@ -139,7 +149,7 @@ def promises_go_by_the_layers():
 
 
 TESTS = [each_link_leads_somewhere, each_named_file_is_there, no_line_is_too_long, pictures_are_what_their_scripts_draw,
-         promises_go_by_the_layers]
+         theorem_lists_what_has_to_be_believed, promises_go_by_the_layers]
 
 
 def main():
