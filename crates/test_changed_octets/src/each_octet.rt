@@ -1,0 +1,172 @@
+//! Each octet of the superblock, the bitmap, the inodes and the directory is changed while all segments are closed: the
+//! device is refused as no volume or as damaged, or what is opened answers a session.
+
+use crate::some_octets::{Wanted, becomes, with_closed_segments};
+use std::alloc::Global;
+use std::test::Fail;
+use test_support_batches::{Device, SimError};
+
+/// The octets of a block.
+const BLOCK: u64 = 4096;
+
+/// The first logical block. The first ones are the two of the bitmap, one of inodes and one of slots.
+const HOME: u64 = 4113;
+
+/// Octets of a block: the block, the first one, the first after them, and in how many ways each is changed.
+type Octets = (u64, u64, u64, u64);
+
+/// Octets in use are changed in all four ways: those of the superblock that are not zero, those of the bitmap for the
+/// blocks of files, and those of the inodes and slots of files, with some after each.
+const WAYS: u64 = 4;
+
+const SUPERBLOCK: &[Octets] = &[(0, 0, 160, WAYS), (0, 160, 4096, 1)];
+
+const BITMAP: &[Octets] = &[(HOME, 0, 32, WAYS), (HOME, 32, 2048, 1)];
+
+const REST_OF_BITMAP: &[Octets] = &[(HOME, 2048, 4096, 1)];
+
+const SECOND_OF_BITMAP: &[Octets] = &[(HOME + 1, 0, 2048, 1)];
+
+const REST_OF_SECOND: &[Octets] = &[(HOME + 1, 2048, 4096, 1)];
+
+const INODES: &[Octets] = &[(HOME + 2, 0, 512, WAYS)];
+
+const MORE_INODES: &[Octets] = &[(HOME + 2, 512, 768, WAYS), (HOME + 2, 768, 2048, 1)];
+
+const REST_OF_INODES: &[Octets] = &[(HOME + 2, 2048, 4096, 1)];
+
+const SLOTS: &[Octets] = &[(HOME + 3, 0, 512, WAYS)];
+
+const MORE_SLOTS: &[Octets] = &[(HOME + 3, 512, 768, WAYS), (HOME + 3, 768, 2048, 1)];
+
+const REST_OF_SLOTS: &[Octets] = &[(HOME + 3, 2048, 4096, 1)];
+
+/// Another octet, in one of the ways: one more; its highest bit flipped; zero or 255; or a bit flipped if it is that
+/// already.
+fn changed(octet: u8, way: u64) -> u8 {
+    match (way % WAYS, octet) {
+        (0, _) => octet.wrapping_add(1),
+        (1, _) => octet ^ 0x80,
+        (2, 0) | (3, 255) => octet ^ 0x10,
+        (2, _) => 0,
+        _ => 255,
+    }
+}
+
+/// Changes an octet of a device in this many ways, the first of which depends on its place, and changes it back. It
+/// answers whether the device was each time refused as no volume or as damaged, or opened as a spool that answers.
+fn is_right(alloc: Global, device: Device, at: u64, ways: u64) -> Result<(Device, bool), SimError> {
+    let mut device = device;
+    for k in 0..ways {
+        let was = device.put(at, 0)?;
+        device.put(at, changed(was, at.wrapping_add(k)))?;
+        let (next, is_right) = becomes(alloc, device, 8, Wanted::Any)?;
+        device = next;
+        device.put(at, was)?;
+        if !is_right {
+            return Ok((device, false));
+        }
+    }
+    Ok((device, true))
+}
+
+/// The first of the octets of a block that is wrong.
+fn first_wrong(
+    alloc: Global,
+    device: Device,
+    octets: Octets,
+) -> Result<(Device, Option<u64>), SimError> {
+    let (block, first, end, ways) = octets;
+    let mut device = device;
+    for place in first..end {
+        let at = block.wrapping_mul(BLOCK).wrapping_add(place);
+        let (next, is_told) = is_right(alloc, device, at, ways)?;
+        device = next;
+        if !is_told {
+            return Ok((device, Some(place)));
+        }
+    }
+    Ok((device, None))
+}
+
+/// The first of all these octets that is wrong, and whether the device is opened whole after all changes were undone.
+fn first_wrong_of(alloc: Global, rows: &[Octets]) -> Result<(Option<u64>, bool), SimError> {
+    let mut device = with_closed_segments(alloc)?;
+    for octets in rows {
+        let (next, wrong) = first_wrong(alloc, device, *octets)?;
+        device = next;
+        if wrong.is_some() {
+            return Ok((wrong, false));
+        }
+    }
+    let (_, is_whole) = becomes(alloc, device, 8, Wanted::Whole)?;
+    Ok((None, is_whole))
+}
+
+const RIGHT: (Option<u64>, bool) = (None, true);
+
+#[test]
+fn each_octet_of_the_superblock(rt: HostRuntime) -> Result<(), Fail> {
+    assert_eq!(rt; first_wrong_of(rt.alloc(), SUPERBLOCK)?, RIGHT);
+    Ok(())
+}
+
+#[test]
+fn each_octet_of_the_bitmap(rt: HostRuntime) -> Result<(), Fail> {
+    assert_eq!(rt; first_wrong_of(rt.alloc(), BITMAP)?, RIGHT);
+    Ok(())
+}
+
+#[test]
+fn each_octet_of_the_rest_of_the_bitmaps_first_block(rt: HostRuntime) -> Result<(), Fail> {
+    assert_eq!(rt; first_wrong_of(rt.alloc(), REST_OF_BITMAP)?, RIGHT);
+    Ok(())
+}
+
+#[test]
+fn each_octet_of_the_bitmaps_second_block(rt: HostRuntime) -> Result<(), Fail> {
+    assert_eq!(rt; first_wrong_of(rt.alloc(), SECOND_OF_BITMAP)?, RIGHT);
+    Ok(())
+}
+
+#[test]
+fn each_octet_of_the_rest_of_the_bitmaps_second_block(rt: HostRuntime) -> Result<(), Fail> {
+    assert_eq!(rt; first_wrong_of(rt.alloc(), REST_OF_SECOND)?, RIGHT);
+    Ok(())
+}
+
+#[test]
+fn each_octet_of_the_first_inodes(rt: HostRuntime) -> Result<(), Fail> {
+    assert_eq!(rt; first_wrong_of(rt.alloc(), INODES)?, RIGHT);
+    Ok(())
+}
+
+#[test]
+fn each_octet_of_the_inodes_after_them(rt: HostRuntime) -> Result<(), Fail> {
+    assert_eq!(rt; first_wrong_of(rt.alloc(), MORE_INODES)?, RIGHT);
+    Ok(())
+}
+
+#[test]
+fn each_octet_of_the_rest_of_the_inodes(rt: HostRuntime) -> Result<(), Fail> {
+    assert_eq!(rt; first_wrong_of(rt.alloc(), REST_OF_INODES)?, RIGHT);
+    Ok(())
+}
+
+#[test]
+fn each_octet_of_the_first_slots(rt: HostRuntime) -> Result<(), Fail> {
+    assert_eq!(rt; first_wrong_of(rt.alloc(), SLOTS)?, RIGHT);
+    Ok(())
+}
+
+#[test]
+fn each_octet_of_the_slots_after_them(rt: HostRuntime) -> Result<(), Fail> {
+    assert_eq!(rt; first_wrong_of(rt.alloc(), MORE_SLOTS)?, RIGHT);
+    Ok(())
+}
+
+#[test]
+fn each_octet_of_the_rest_of_the_slots(rt: HostRuntime) -> Result<(), Fail> {
+    assert_eq!(rt; first_wrong_of(rt.alloc(), REST_OF_SLOTS)?, RIGHT);
+    Ok(())
+}

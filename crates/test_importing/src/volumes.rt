@@ -1,0 +1,120 @@
+//! Devices with a volume that has two groups, and batches for them.
+
+use flusher::{BatchBuf, Kern, Locked, NoGate, flush_turn};
+use importing::Store;
+use mark::Mark;
+use memdisk::MemDisk;
+use names::{GroupName, is_host};
+use new_volume::{FORMAT_1, FORMAT_2, Plan, are_sizes, device_octets};
+use opening::Opened;
+use rnews::entry;
+use std::alloc::{AllocError, Global};
+use std::sync::Wait;
+use test_support_rows::Octets;
+
+const HOST: &[u8] = b"news.example";
+
+/// A group that takes posts, and one that takes none.
+const OPEN: &[u8] = b"x.a";
+
+const CLOSED: &[u8] = b"x.closed";
+
+/// When they are made, in seconds since 1970.
+const MOMENT: u64 = 1_000_000_000;
+
+/// The plan of the volume. The sizes are not constants here, because a proof would count with them.
+fn plan(blocks: u64, inodes: u64, format: u32) -> Option<Plan<'static>> {
+    if !is_host(HOST) || !are_sizes(blocks, inodes) || format < FORMAT_1 || FORMAT_2 < format {
+        return None;
+    }
+    Some(Plan {
+        host: HOST,
+        blocks,
+        inodes,
+        format,
+    })
+}
+
+/// A device with a new volume of this format.
+pub(crate) fn formatted(alloc: Global, blocks: u64, inodes: u64, format: u32) -> Option<MemDisk> {
+    let plan = plan(blocks, inodes, format)?;
+    let Ok(disk) = MemDisk::new(alloc, device_octets(plan.blocks)) else {
+        return None;
+    };
+    new_volume::format(alloc, disk, &plan).ok()
+}
+
+/// A device whose volume has the groups, in closed segments: an opening writes nothing.
+pub(crate) fn device<R: Wait>(rt: &R, alloc: Global, blocks: u64, inodes: u64) -> Option<MemDisk> {
+    let disk = with_groups(rt, alloc, formatted(alloc, blocks, inodes, FORMAT_2)?)?;
+    match opening::open(alloc, disk) {
+        Ok(Opened { journal, kernel: _ }) => Some(journal.into_disk()),
+        Err(_) => None,
+    }
+}
+
+/// Makes the groups in a volume.
+fn with_groups<R: Wait>(rt: &R, alloc: Global, disk: MemDisk) -> Option<MemDisk> {
+    let Ok(
+        Opened {
+            mut journal,
+            kernel,
+        },
+    ) = opening::open(alloc, disk)
+    else {
+        return None;
+    };
+    let kern = Locked::new(kernel);
+    let (open, closed) = (GroupName::read(OPEN).ok()?, GroupName::read(CLOSED).ok()?);
+    kern.admin(rt, alloc, &open, b'y', b"test", MOMENT).ok()?;
+    kern.admin(rt, alloc, &closed, b'n', b"test", MOMENT).ok()?;
+    let mut batch = BatchBuf::new(alloc).ok()?;
+    let Ok((mark, mut seat, _)) = Mark::new(alloc) else {
+        return None;
+    };
+    flush_turn(
+        rt,
+        &mut journal,
+        &kern,
+        &mark,
+        &mut seat,
+        &mut batch,
+        &NoGate,
+    )
+    .ok()?;
+    Some(journal.into_disk())
+}
+
+/// A store in a volume with room for a few texts.
+pub(crate) fn store<R: Wait>(rt: &R, alloc: Global) -> Option<Store<MemDisk>> {
+    let disk = device(rt, alloc, 1024, 64)?;
+    Store::open(alloc, disk).ok()
+}
+
+/// The batch of these texts, and octets after them.
+pub(crate) fn batch(
+    alloc: Global,
+    texts: &[Octets<'_>],
+    rest: &[u8],
+) -> Result<Vec<u8>, AllocError> {
+    let mut octets = Vec::new(alloc);
+    for text in texts {
+        let text = text.in_memory(alloc)?;
+        octets.extend_from_slice(&entry(alloc, &text)?)?;
+    }
+    octets.extend_from_slice(rest)?;
+    Ok(octets)
+}
+
+/// A batch of articles with the message-ids of these numbers.
+pub(crate) fn articles(alloc: Global, from: u64, to: u64) -> Result<Vec<u8>, AllocError> {
+    let mut octets = Vec::new(alloc);
+    for number in from..to {
+        let text = format!(in alloc;
+            "Path: p\nFrom: a@example.org\nNewsgroups: x.a\nSubject: s\n\
+             Date: Sun, 09 Sep 2001 01:46:40 +0000\nMessage-ID: <{number}@far.example>\n\nhi\n"
+        )?;
+        octets.extend_from_slice(&entry(alloc, text.as_bytes())?)?;
+    }
+    Ok(octets)
+}

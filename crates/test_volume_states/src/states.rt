@@ -1,0 +1,165 @@
+//! What is told of the volume of a spool.
+
+use crate::volumes::{octets_after, state_of};
+use reporting::{GroupStatus, VolumeStatus};
+use spool_reading::OpenError;
+use std::alloc::Global;
+use std::test::Fail;
+use test_support_spool::{Call, Sent};
+
+const HOST: &[u8] = b"news.example";
+
+/// A group: its name, its lowest and its highest number, the number of articles, its status, the octets of its overview.
+type GroupRow = (&'static str, u64, u64, u64, u8, u32);
+
+/// The name of a row, the changes, the used blocks, the used inodes, the number of changes, and the groups.
+type Row = (
+    &'static str,
+    &'static [Call],
+    u32,
+    u32,
+    u64,
+    &'static [GroupRow],
+);
+
+/// An article of another host in x.a.
+const FIRST: Call = Call::Post(Sent {
+    id: "<1@a.example>",
+    groups: "x.a",
+    size: 0,
+});
+
+/// A second one.
+const SECOND: Call = Call::Post(Sent {
+    id: "<2@a.example>",
+    groups: "x.a",
+    size: 0,
+});
+
+/// An article of this host in two groups.
+const IN_BOTH: Call = Call::Post(Sent {
+    id: "",
+    groups: "x.a,x.b",
+    size: 0,
+});
+
+const ROWS: &[Row] = &[
+    ("no change", &[], 4, 0, 0, &[]),
+    (
+        "a group without articles",
+        &[Call::Add("x.a", b'y', "test")],
+        5,
+        3,
+        1,
+        &[("x.a", 1, 0, 0, b'y', 0)],
+    ),
+    (
+        "an article in one of two groups, one of which is closed",
+        &[
+            Call::Add("x.b", b'n', ""),
+            Call::Add("x.a", b'y', "test"),
+            FIRST,
+        ],
+        9,
+        7,
+        3,
+        &[("x.b", 1, 0, 0, b'n', 0), ("x.a", 1, 1, 1, b'y', 72)],
+    ),
+    (
+        "articles in both groups, some of them expired",
+        &[
+            Call::Add("x.a", b'y', "test"),
+            Call::Add("x.b", b'y', ""),
+            FIRST,
+            IN_BOTH,
+            SECOND,
+            Call::Expire("x.a", 1),
+        ],
+        14,
+        10,
+        6,
+        &[("x.a", 2, 3, 2, b'y', 219), ("x.b", 1, 1, 1, b'y', 75)],
+    ),
+    (
+        "all articles expired",
+        &[
+            Call::Add("x.a", b'y', "test"),
+            FIRST,
+            SECOND,
+            Call::Expire("x.a", 2),
+        ],
+        10,
+        6,
+        4,
+        &[("x.a", 3, 2, 0, b'y', 144)],
+    ),
+];
+
+/// The rows, as a function, so that no proof of a test reads them.
+fn rows() -> &'static [Row] {
+    ROWS
+}
+
+/// Whether a group is that of a row.
+fn is_group(group: &GroupStatus, row: &GroupRow) -> bool {
+    let (name, low, high, count, status, overview) = *row;
+    group.name.as_slice() == name.as_bytes()
+        && (group.low, group.high, group.count) == (low, high, count)
+        && (group.status, group.overview) == (status, overview)
+}
+
+/// Whether a state is that of a row, in a volume of this format.
+fn is_state(state: &VolumeStatus, row: &Row, format: u32) -> bool {
+    let (_, _, blocks, inodes, changes, groups) = *row;
+    state.host.as_slice() == HOST
+        && state.format == format
+        && (state.blocks.all, state.blocks.used) == (1024, blocks)
+        && (state.inodes.all, state.inodes.used) == (64, inodes)
+        && state.changes == changes
+        && state.groups.len() == groups.len()
+        && state
+            .groups
+            .iter()
+            .zip(groups)
+            .all(|(group, row)| is_group(group, row))
+}
+
+/// The first row whose state is another in a volume of this format.
+fn first_other<'a>(alloc: Global, rows: &'a [Row], format: u32) -> Result<Option<&'a str>, Fail> {
+    for row in rows {
+        let octets = octets_after(alloc, row.1)?;
+        let Ok(state) = state_of(alloc, octets, format, HOST) else {
+            return Ok(Some(row.0));
+        };
+        if !is_state(&state, row, format) {
+            return Ok(Some(row.0));
+        }
+    }
+    Ok(None)
+}
+
+#[test]
+fn states_of_volumes_of_format_1(rt: HostRuntime) -> Result<(), Fail> {
+    assert_eq!(rt; first_other(rt.alloc(), rows(), 1)?, None);
+    Ok(())
+}
+
+#[test]
+fn states_of_volumes_of_format_2(rt: HostRuntime) -> Result<(), Fail> {
+    assert_eq!(rt; first_other(rt.alloc(), rows(), 2)?, None);
+    Ok(())
+}
+
+#[test]
+fn a_damaged_volume(rt: HostRuntime) -> Result<(), Fail> {
+    let alloc = rt.alloc();
+    let mut octets = octets_after(alloc, &[Call::Add("x.a", b'y', "test")])?;
+    if let Some(marks) = octets.first_mut() {
+        *marks = 0x0f;
+    }
+    assert_eq!(rt;
+        state_of(alloc, octets, 2, HOST).err(),
+        Some(OpenError::Damaged)
+    );
+    Ok(())
+}

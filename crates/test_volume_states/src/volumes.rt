@@ -1,0 +1,88 @@
+//! A spool in memory, together with the octets of a device that holds its blocks.
+
+ghost use Rattle.std.specs.Prelude.{IsTrue};
+ghost use Rattle.model.specs.Files.{HasRoom};
+
+use reporting::VolumeStatus;
+use spool_reading::OpenError;
+use std::alloc::Global;
+use std::test::Fail;
+use test_support_spool::{Answer, Call, Stored, make};
+use volume::{BATCH_BLOCKS, BLOCK_SIZE, BatchBuf, Blocks, Volume};
+use volume_states::volume_status;
+
+/// The inodes and the blocks of the volumes of `Stored`.
+const INODES: u32 = 64;
+
+const COUNT: u32 = 1024;
+
+/// The octets of the empty file system: the bitmap marks its own two blocks, the block of the inodes and that of the
+/// slots.
+fn empty(alloc: Global) -> Result<Vec<u8>, Fail> {
+    let mut octets = vec![in alloc; 0; COUNT as usize * BLOCK_SIZE]?;
+    if let Some(marks) = octets.first_mut() {
+        *marks = 0x0f;
+    }
+    Ok(octets)
+}
+
+/// Replaces the octets of the blocks in a batch.
+fn lay(octets: &mut [u8], batch: &BatchBuf) {
+    for (number, image) in batch
+        .numbers()
+        .iter()
+        .zip(batch.images().chunks(BLOCK_SIZE))
+    {
+        let start = *number as usize * BLOCK_SIZE;
+        for (place, octet) in image.iter().enumerate() {
+            if let Some(replaced) = octets.get_mut(start.saturating_add(place)) {
+                *replaced = *octet;
+            }
+        }
+    }
+}
+
+/// The octets of the volume after some calls, whose answers aren't looked at.
+pub(crate) fn octets_after(alloc: Global, calls: &[Call]) -> Result<Vec<u8>, Fail> {
+    let mut octets = empty(alloc)?;
+    let mut batch = BatchBuf::new(alloc)?;
+    let Ok(mut stored) = Stored::new(alloc) else {
+        return Err("no spool")?;
+    };
+    for call in calls {
+        if let Answer::Memory = make(alloc, &mut stored, *call) {
+            return Err("memory")?;
+        }
+        if stored.spool.dirty_len() > BATCH_BLOCKS {
+            return Err("too much at once")?;
+        }
+        stored.spool.copy_dirty(&mut batch);
+        lay(&mut octets, &batch);
+    }
+    Ok(octets)
+}
+
+/// Whether a volume has room for a spool.
+fn has_room(volume: &Volume) -> bool
+    ensures { IsTrue result → HasRoom 64 volume.now.seen }
+{
+    let count = volume.len();
+    1024 <= count && count <= 65_536
+}
+
+/// The state of a volume of this format with these octets, under this host.
+pub(crate) fn state_of(
+    alloc: Global,
+    octets: Vec<u8>,
+    format: u32,
+    host: &[u8],
+) -> Result<VolumeStatus, OpenError> {
+    if octets.len() != COUNT as usize * BLOCK_SIZE {
+        return Err(OpenError::Memory);
+    }
+    let volume = Volume::of(alloc, octets, COUNT)?;
+    if !has_room(&volume) {
+        return Err(OpenError::Memory);
+    }
+    volume_status(alloc, &volume, INODES, format, host)
+}
