@@ -4,12 +4,12 @@ use Rattle.std.proofs.Common.{subst, arith}
 use Rattle.std.proofs.lemmas.List.{drop_more}
 use Rattle.model.specs.Volume.{AreDistinct, Batch, IsDescriptor, StandsFor, batch_in, block, descriptor_place, gate_closed, gate_place}
 use Rattle.model.specs.Volume.{home_size, image_place, is_open, laid_over, logical_blocks, number_at, segment_count}
-use Rattle.segments.specs.Held.{AreOpen, HaveLess, Held, IsHomeOfHeld, IsWrittenIn}
-use Rattle.segments.specs.Images.{IsCarried, IsHomeOfOpen, SameBut}
-use Rattle.segments.proofs.Blocks.{first-overwritten, overwritten_same, same_but_back, same_but_more, same_but_then}
-use Rattle.segments.proofs.Gates.{any_shut, closed_or_not, first_is_least, gate_kept, less_than, opened_open, opened_or_not}
-use Rattle.segments.proofs.Standing.{torn, unread}
-use Rattle.segments.proofs.Writing.{torn_held}
+use Rattle.segment_laws.specs.Held.{AreOpen, HaveLess, Held, IsHomeOfHeld, IsWrittenIn}
+use Rattle.segment_laws.specs.Images.{IsCarried, IsHomeOfOpen, SameBut}
+use Rattle.segment_laws.proofs.Blocks.{first-overwritten, overwritten_same, same_but_back, same_but_more, same_but_then}
+use Rattle.segment_laws.proofs.Gates.{any_shut, closed_or_not, first_is_least, gate_kept, less_than, opened_open, opened_or_not}
+use Rattle.segment_laws.proofs.Standing.{torn, unread}
+use Rattle.segment_laws.proofs.Writing.{torn_held}
 use Rattle.journal_segments.proofs.Written.{batch_is}
 use Rattle.journal_segments.specs.Staged.{IsStaged, held_as}
 use Rattle.journal.specs.Flight.{Flight, all_of, held_at, none_held}

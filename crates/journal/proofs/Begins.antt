@@ -6,7 +6,7 @@ use Rattle.std.proofs.lemmas.Bool.{cases_Bool, cases_eq, eqb-false}
 use Rattle.std.proofs.lemmas.List.{length-take-le, map_more}
 use Rattle.disk.specs.Device.{Device}
 use Rattle.model.specs.Volume.{AreDistinct, StandsFor, descriptor_of, is_open, number_at}
-use Rattle.segments.specs.Held.{AreOpen, HaveLess, Held, IsAmong}
+use Rattle.segment_laws.specs.Held.{AreOpen, HaveLess, Held, IsAmong}
 use Rattle.journal_segments.specs.Staged.{IsSound, IsStaged, Staged, held_as, none_staged, staged_at}
 use Rattle.journal.specs.Flight.{all_of, flight_in, left_of}
 use Rattle.journal_segments.specs.Found.{IsTaken}

@@ -3,9 +3,9 @@ use Rattle.std.proofs.Common.{◌≡◌, ◌≢◌, ◌⊎◌, inl, inr, ⊎_eli
 use Rattle.std.proofs.Common.{get_or, drop, refl, sym, ◌∙◌, ap, subst, arith, Result, Ok, Err}
 use Rattle.disk.specs.Device.{Device, Elapses, IsTornImage, LeavesNoMore, TearsAt, LeftTornAt}
 use Rattle.disk.specs.Image.{part, overwritten}
-use Rattle.segments.specs.Held.{AreOpen, Held}
-use Rattle.segments.specs.Images.{SameBut}
-use Rattle.segments.proofs.Writing.{home_of_held}
+use Rattle.segment_laws.specs.Held.{AreOpen, Held}
+use Rattle.segment_laws.specs.Images.{SameBut}
+use Rattle.segment_laws.proofs.Writing.{home_of_held}
 use Rattle.journal_segments.specs.Staged.{IsSound, IsStaged, Staged, staged_at}
 use Rattle.journal.specs.Flight.{Flight, all_of, flight_in, held_at, none_held, sizes_of}
 use Rattle.journal.specs.Inside.{IsLive, IsOrdered, IsWithin, Holds, Touched, IsAdmitted, IsKept, IsTold, blocks_without}

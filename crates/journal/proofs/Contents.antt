@@ -7,13 +7,13 @@ use Rattle.std.proofs.Math.Seq.{take-length}
 use Rattle.disk.specs.Image.{overwritten}
 use Rattle.model.specs.Volume.{StandsFor, all_laid_over, block, descriptor_place, gate_closed, gate_place, home, home_place, home_size}
 use Rattle.model.specs.Volume.{image_place, is_open, logical_blocks, segment_count}
-use Rattle.segments.specs.Held.{AreOpen, Held, IsHomeOfHeld, IsHomeOnTheWay, batches_of}
-use Rattle.segments.specs.Images.{IsInside, SameBut}
-use Rattle.segments.proofs.Blocks.{block-overwritten, first-overwritten, overwritten_same, same_but_more, same_but_then}
-use Rattle.segments.proofs.Carrying.{all_home, none_home, one_home}
-use Rattle.segments.proofs.Gates.{carried_home, closed_open, held_kept}
-use Rattle.segments.proofs.Standing.{full_open, unread_open}
-use Rattle.segments.proofs.Writing.{home_of_held, torn_held_open}
+use Rattle.segment_laws.specs.Held.{AreOpen, Held, IsHomeOfHeld, IsHomeOnTheWay, batches_of}
+use Rattle.segment_laws.specs.Images.{IsInside, SameBut}
+use Rattle.segment_laws.proofs.Blocks.{block-overwritten, first-overwritten, overwritten_same, same_but_more, same_but_then}
+use Rattle.segment_laws.proofs.Carrying.{all_home, none_home, one_home}
+use Rattle.segment_laws.proofs.Gates.{carried_home, closed_open, held_kept}
+use Rattle.segment_laws.proofs.Standing.{full_open, unread_open}
+use Rattle.segment_laws.proofs.Writing.{home_of_held, torn_held_open}
 use Rattle.journal_segments.specs.Staged.{IsSound}
 use Rattle.journal.specs.Flight.{Flight, all_of, held_at, none_held, sizes_of}
 use Rattle.journal.specs.Inside.{Holds}

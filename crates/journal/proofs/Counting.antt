@@ -2,7 +2,7 @@
 use Rattle.std.proofs.Common.{◌≡◌, ◌≢◌, ℕ, ◌+◌, ◌%◌, ◌^◌, Bool, true, false, if◌then◌else◌, List, sym, ◌∙◌, ap, subst, arith, refl, Ok}
 use Rattle.std.proofs.Math.Nat.{mod-add-mod, mod-mod}
 use Rattle.disk.specs.Device.{Device, IsSync, IsWrite, one_more}
-use Rattle.segments.specs.Held.{Held}
+use Rattle.segment_laws.specs.Held.{Held}
 use Rattle.journal.specs.Calls.{Does, call_at}
 use Rattle.journal.specs.Order.{IsMore, following, is_sync, syncs_made, writes_made}
 use Rattle.journal.specs.declared.Next.{Next}

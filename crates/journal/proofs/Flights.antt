@@ -3,7 +3,7 @@ use Rattle.std.proofs.Common.{◌≡◌, ◌≢◌, inl, inr, ◌<◌, ◌≤◌
 use Rattle.std.proofs.Common.{get_or, map, take, refl, sym, ◌∙◌, ap, subst, arith}
 use Rattle.std.proofs.lemmas.Bool.{cases_Bool, cond_both, eqb-true, eqb-false}
 use Rattle.std.proofs.lemmas.List.{get_or-map, get_or-take, length-append, length-map, length-take-le, map_more}
-use Rattle.segments.specs.Held.{HaveLess, Held}
+use Rattle.segment_laws.specs.Held.{HaveLess, Held}
 use Rattle.journal_segments.specs.Staged.{IsSound, IsStaged, Staged, held_as, none_staged, staged_at}
 use Rattle.journal.specs.Flight.{Flight, all_of, counts_of, flight_in, held_at, none_held, sizes_of}
 use Rattle.journal.specs.Inside.{IsWithin}

@@ -9,10 +9,10 @@ use Rattle.std.proofs.lemmas.List.Sums.{sum_by-cons}
 use Rattle.std.proofs.Math.Nat.{mod-add-mod}
 use Rattle.disk.specs.Device.{Device, Elapses, LeavesOnly}
 use Rattle.disk.specs.Image.{part}
-use Rattle.segments.specs.Held.{AreOpen, AreRising, Held, IsAmong, held_at as held_in_places, held_in, sorted_held}
-use Rattle.segments.specs.Images.{IsOpenIn}
-use Rattle.segments.proofs.Judging.{length-sorted, stands_rising, writes_of, writes_sorted}
-use Rattle.segments.proofs.Sorting.{all_found, found_open}
+use Rattle.segment_laws.specs.Held.{AreOpen, AreRising, Held, IsAmong, held_at as held_in_places, held_in, sorted_held}
+use Rattle.segment_laws.specs.Images.{IsOpenIn}
+use Rattle.segment_laws.proofs.Judging.{length-sorted, stands_rising, writes_of, writes_sorted}
+use Rattle.segment_laws.proofs.Sorting.{all_found, found_open}
 use Rattle.journal_segments.specs.Staged.{IsStaged, Staged, held_as, none_staged, staged_at}
 use Rattle.journal.specs.Flight.{Flight, all_of, counts_of, flight_in, sizes_of}
 use Rattle.journal_segments.specs.Found.{IsQuiet, IsStill}
@@ -26,7 +26,7 @@ use Rattle.journal.specs.declared.JournalError.TheVariants.{Fault, Memory, NotAV
 use Rattle.model.specs.Volume.{batch_in, block, descriptor_place, format_in, format_number, home_place, home_size, label_of, number_at}
 use Rattle.model.specs.Volume.{is_open, open_segments, segment_count, IsSuperblock, IsDescriptor, StandsFor, logical_blocks}
 use Rattle.journal.specs.declared.Next.TheVariants.{Idle, Home}
-use Rattle.segments.proofs.Blocks.{same_but_equal}
+use Rattle.segment_laws.proofs.Blocks.{same_but_equal}
 use Rattle.journal.proofs.Transitions.{told_after}
 use Rattle.journal.proofs.Flights.{length-all, sizes_some}
 use Rattle.journal.proofs.Contents.{holds_first}

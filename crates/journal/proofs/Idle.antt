@@ -3,8 +3,8 @@ use Rattle.std.proofs.Common.{◌≡◌, inl, inr, ◌<◌, ◌≤◌, ℕ, ◌+
 use Rattle.std.proofs.Common.{ap, subst, arith}
 use Rattle.std.proofs.lemmas.List.{map_more}
 use Rattle.disk.specs.Device.{Device}
-use Rattle.segments.specs.Held.{AreOpen, batches_of}
-use Rattle.segments.proofs.Standing.{get_or-home, length-home}
+use Rattle.segment_laws.specs.Held.{AreOpen, batches_of}
+use Rattle.segment_laws.proofs.Standing.{get_or-home, length-home}
 use Rattle.journal_segments.specs.Staged.{Staged, held_as, none_staged}
 use Rattle.journal.specs.Flight.{Flight, flight_in, left_of}
 use Rattle.journal.specs.Inside.{IsAdmitted, IsTold, Holds, blocks_without}

@@ -5,7 +5,7 @@ use Rattle.disk.specs.Device.{Device, Elapses, HasCause, OnRefused, IsRefused, I
 use Rattle.disk.specs.Device.{LeftTornAt, OnAsked, TearsAt}
 use Rattle.disk.specs.Image.{part, overwritten}
 use Rattle.disk.specs.declared.DiskError.{DiskError}
-use Rattle.segments.specs.Held.{Held}
+use Rattle.segment_laws.specs.Held.{Held}
 use Rattle.journal_segments.specs.Staged.{Staged, held_as}
 use Rattle.journal.specs.Flight.{Flight, all_of, flight_in, sizes_of}
 use Rattle.journal.specs.Inside.{IsKept, blocks_without}

@@ -1,8 +1,8 @@
 -- How each device call takes a journal from one call to the next.
 use Rattle.std.proofs.Common.{◌≡◌, ◌≢◌, ◌⊎◌, inl, inr, ◌<◌, ◌≤◌, ℕ, ◌*◌, Bool, true, false, List, [], ◌∷◌, refl, sym, ◌∙◌, ap, subst, arith}
 use Rattle.disk.specs.Device.{Device, IsTornImage, LeavesOnly}
-use Rattle.segments.specs.Held.{Held, IsHomeOfHeld}
-use Rattle.segments.specs.Images.{SameBut}
+use Rattle.segment_laws.specs.Held.{Held, IsHomeOfHeld}
+use Rattle.segment_laws.specs.Images.{SameBut}
 use Rattle.journal_segments.specs.Staged.{IsStaged}
 use Rattle.journal.specs.Flight.{Flight, all_of}
 use Rattle.journal.specs.Inside.{Holds, Touched, IsAdmitted, IsTold, blocks_without}
@@ -10,7 +10,7 @@ use Rattle.model.specs.Volume.{home_size, number_at, laid_over, logical_blocks, 
 use Rattle.journal.specs.declared.Next.{Next}
 use Rattle.journal.specs.declared.Next.TheVariants.{Idle, Descriptor, Image, Seal, OpenGate, Commit, Home, Settle, CloseGate, Finish}
 use Rattle.journal.proofs.Admitted.{Bears, images_stand, shut_alike}
-use Rattle.segments.proofs.Blocks.{torn_same, same_but_more, same_but_then, same_but_back, same_but_equal}
+use Rattle.segment_laws.proofs.Blocks.{torn_same, same_but_more, same_but_then, same_but_back, same_but_equal}
 use Rattle.std.proofs.lemmas.Bool.{true≢false}
 
 -- the superblock isn't touched

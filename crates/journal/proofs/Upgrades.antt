@@ -6,12 +6,12 @@ use Rattle.disk.specs.Device.{Device, Elapses, IsRefused, IsTornImage, LeavesNoM
 use Rattle.disk.specs.declared.DiskError.{DiskError}
 use Rattle.disk.specs.declared.DiskError.TheVariants as disk_errors
 use Rattle.disk.specs.Image.{Torn, overwritten, part}
-use Rattle.segments.specs.Held.{AreOpen}
-use Rattle.segments.specs.Images.{SameBut}
-use Rattle.segments.proofs.Blocks.{same_but_equal}
-use Rattle.segments.proofs.Formats.{gate_opens, overwritten_torn, some_format}
-use Rattle.segments.proofs.Standing.{format_open, format_unread}
-use Rattle.segments.proofs.Whole.{stands_length}
+use Rattle.segment_laws.specs.Held.{AreOpen}
+use Rattle.segment_laws.specs.Images.{SameBut}
+use Rattle.segment_laws.proofs.Blocks.{same_but_equal}
+use Rattle.segment_laws.proofs.Formats.{gate_opens, overwritten_torn, some_format}
+use Rattle.segment_laws.proofs.Standing.{format_open, format_unread}
+use Rattle.segment_laws.proofs.Whole.{stands_length}
 use Rattle.journal_segments.specs.Staged.{Staged, held_as}
 use Rattle.journal.specs.Flight.{Flight, flight_in, left_of}
 use Rattle.journal.specs.Calls.{Call, IsAsked}

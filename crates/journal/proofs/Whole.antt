@@ -5,11 +5,11 @@ use Rattle.disk.specs.Image.{part}
 use Rattle.journal_segments.specs.Staged.{Staged}
 use Rattle.journal.specs.Flight.{Flight, flight_in}
 use Rattle.journal.specs.Inside.{IsAdmitted, IsKept, Holds, Touched, blocks_without}
-use Rattle.segments.specs.Images.{SameBut}
+use Rattle.segment_laws.specs.Images.{SameBut}
 use Rattle.journal.specs.Journal.{AreWhole}
 use Rattle.model.specs.Volume.{format_number, gate_closed, logical_blocks, home_size, laid_over, segment_count, StandsFor}
 use Rattle.journal.specs.declared.Next.{Next}
-use Rattle.segments.proofs.Whole.{stands_length, stands_whole as sizes_whole}
+use Rattle.segment_laws.proofs.Whole.{stands_length, stands_whole as sizes_whole}
 use Rattle.journal.specs.declared.Next.TheVariants.{Commit}
 use Rattle.journal.proofs.Admitted.{size_shut, stands_shut}
 

@@ -6,7 +6,7 @@ use Rattle.disk.specs.Device.{Device, Elapses, HasCause, IsRefused, IsSync, IsWr
 use Rattle.disk.specs.Device.{OnAsked, OnRefused, TearsAt}
 use Rattle.disk.specs.Image.{overwritten}
 use Rattle.model.specs.Volume.{descriptor_of, descriptor_place, gate_place, home_place, image_place}
-use Rattle.segments.specs.Held.{Held}
+use Rattle.segment_laws.specs.Held.{Held}
 use Rattle.journal.specs.Flight.{held_at}
 use Rattle.journal.specs.Journal.{CountsFailures, IsSameBatch, JournalView, LeavesAdmitted, LeftAdmitted, all_held, calls, sizes}
 use Rattle.journal.specs.Journal.{with_batch}

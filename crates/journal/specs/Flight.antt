@@ -1,6 +1,6 @@
 -- What a journal has in memory of its segments, and what stays so during the calls of a batch.
 use Rattle.std.specs.Prelude.{ℕ, Bool, if◌then◌else◌, List, [], ◌∷◌, ◌++◌, length, map, slice_index_or, take}
-use Rattle.segments.specs.Held.{Held}
+use Rattle.segment_laws.specs.Held.{Held}
 use Rattle.journal_segments.specs.Staged.{Staged, held_as, staged_at}
 
 abbrev pub none_held : Held

@@ -6,8 +6,8 @@ use Rattle.disk.specs.Image.{part}
 use Rattle.model.specs.Volume.{gate_place, descriptor_place, image_place, home_place, descriptor_of, block, number_at, home_size, is_open}
 use Rattle.model.specs.Volume.{segment_count, IsSuperblock, StandsFor, format_in, format_number, all_laid_over, home, laid_over}
 use Rattle.model.specs.Volume.{logical_blocks, gate_closed}
-use Rattle.segments.specs.Held.{AreOpen, IsHomeOfHeld, IsHomeOnTheWay, IsWrittenIn, batches_of}
-use Rattle.segments.specs.Images.{IsCarried, IsInside, SameBut}
+use Rattle.segment_laws.specs.Held.{AreOpen, IsHomeOfHeld, IsHomeOnTheWay, IsWrittenIn, batches_of}
+use Rattle.segment_laws.specs.Images.{IsCarried, IsInside, SameBut}
 use Rattle.journal_segments.specs.Staged.{IsStaged, Staged, staged_at}
 use Rattle.journal_segments.specs.Found.{AreFound}
 use Rattle.journal.specs.Flight.{Flight, all_of, flight_in, held_at, left_of, sizes_of}

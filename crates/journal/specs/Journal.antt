@@ -3,7 +3,7 @@ use Rattle.std.specs.Prelude.{◌≡◌, ◌≢◌, ◌⊎◌, ℕ, ◌+◌, ◌
 use Rattle.std.specs.Prelude.{OnOk, IfErr}
 use Rattle.std.specs.List.{All}
 use Rattle.disk.specs.Device.{Device}
-use Rattle.segments.specs.Held.{Held}
+use Rattle.segment_laws.specs.Held.{Held}
 use Rattle.journal.specs.Flight.{counts_of}
 use Rattle.journal.specs.Inside.{IsAdmitted, IsVolume}
 use Rattle.journal.specs.Order.{calls_made}

@@ -11,7 +11,7 @@ use disk::Disk;
 use journal_segments::Segment;
 
 impl<D: Disk> Journal<D> {
-    ghost use Rattle.segments.specs.Held.{HaveLess, IsAmong};
+    ghost use Rattle.segment_laws.specs.Held.{HaveLess, IsAmong};
     ghost use Rattle.journal.specs.Journal.{IsIdle, LeavesAdmitted, still_open};
 
     /// Takes a batch into the room that `open` made: images of the logical blocks with these numbers, in this order.

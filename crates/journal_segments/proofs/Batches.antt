@@ -5,7 +5,7 @@ use Rattle.std.specs.List.{All}
 use Rattle.disk.specs.Device.{Device}
 use Rattle.disk.proofs.Images.{length-part}
 use Rattle.model.specs.Volume.{AreDistinct, IsDescriptor, block, blocks_from, descriptor_place, listed, number_at}
-use Rattle.segments.proofs.Blocks.{get_or-blocks_from, length-blocks_from}
+use Rattle.segment_laws.proofs.Blocks.{get_or-blocks_from, length-blocks_from}
 use Rattle.journal_segments.specs.Staged.{IsSound}
 use Rattle.journal_segments.specs.Found.{AreLoaded, IsReadFrom}
 

@@ -8,7 +8,7 @@ use Rattle.disk.specs.Image.{part, overwritten}
 use Rattle.disk.proofs.Images.{length-part, get_or-part}
 use Rattle.journal_segments.specs.Found.{AreLoaded, IsQuiet, IsStill}
 use Rattle.model.specs.Volume.{block, gate_place, image_place, is_open}
-use Rattle.segments.proofs.Blocks.{overwritten_same, block-overwritten}
+use Rattle.segment_laws.proofs.Blocks.{overwritten_same, block-overwritten}
 
 pub quiet_then : (a b c : Device) → IsQuiet a b → IsQuiet b c → IsQuiet a c
 quiet_then a b c first second = record {

@@ -2,7 +2,7 @@
 
 ghost use Rattle.std.specs.Prelude.{◌≡◌, ◌≤◌, ◌<◌, ℕ, List, [], length, map, slice_index_or, take};
 ghost use Rattle.model.specs.Volume.{all_laid_over, laid_over};
-ghost use Rattle.segments.specs.Held.{batches_of};
+ghost use Rattle.segment_laws.specs.Held.{batches_of};
 ghost use Rattle.journal_segments.specs.Staged.{held_as, staged_at};
 
 use crate::segment::Segment;

@@ -15,9 +15,9 @@ use Rattle.model.specs.Stream.{Octets}
 use Rattle.model.specs.Volume.{StandsFor, all_laid_over, batch_in, block, gate_place, home, home_place, home_size, is_open, number_at}
 use Rattle.model.specs.Volume.{open_segments, rising, segment_count}
 use Rattle.model.proofs.Images.{empty_stands}
-use Rattle.segments.specs.Images.{IsInside, IsOpenIn, SameBut}
-use Rattle.segments.proofs.Blocks.{block-overwritten, overwritten_same}
-use Rattle.segments.proofs.Standing.{count_same, get_or-home, head_same, home_size_same, length-home, stands_over}
+use Rattle.segment_laws.specs.Images.{IsInside, IsOpenIn, SameBut}
+use Rattle.segment_laws.proofs.Blocks.{block-overwritten, overwritten_same}
+use Rattle.segment_laws.proofs.Standing.{count_same, get_or-home, head_same, home_size_same, length-home, stands_over}
 use Rattle.volume.proofs.Octets.{length-block}
 use Rattle.volume_format.specs.Formatting.{zero_block, zeroed}
 use Rattle.volume_format.proofs.Formatted.{blocks_are, label_is, length-superblock, none_formatted, segments_are, stands_formatted}

@@ -4,7 +4,7 @@ use Rattle.std.proofs.Common.{length, set, refl, sym, ◌∙◌, ap, subst, arit
 use Rattle.std.proofs.lemmas.Bool.{cond_both}
 use Rattle.std.proofs.lemmas.List.{take_all}
 use Rattle.disk.specs.Device.{Device, Elapses, LeavesOnly}
-use Rattle.segments.specs.Held.{Held}
+use Rattle.segment_laws.specs.Held.{Held}
 use Rattle.journal.specs.Calls.{Call, Does, IsRetried, MakesCall, OnMade, OnRetried, Syncs, blocks_after, call_at}
 use Rattle.journal.specs.Calls.Call.{Sync}
 use Rattle.journal.specs.Inside.{IsAdmitted}

@@ -1,7 +1,7 @@
 use Rattle.std.proofs.Common.{◌≡◌, ◌<◌, ℕ, ◌+◌, Bool, false, eqb, List, length, sym, ◌∙◌, ap, subst}
 use Rattle.std.specs.List.{All}
 use Rattle.model.specs.Volume.{number_at}
-use Rattle.segments.specs.Held.{HaveLess, Held, IsAmong}
+use Rattle.segment_laws.specs.Held.{HaveLess, Held, IsAmong}
 use Rattle.journal_segments.specs.Staged.{staged_at}
 use Rattle.journal.specs.Flight.{flight_in, left_of}
 use Rattle.journal.specs.Inside.{IsKept}

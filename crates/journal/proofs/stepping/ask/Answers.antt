@@ -1,5 +1,5 @@
 use Rattle.std.proofs.Common.{ℕ, ◌*◌, true, [], ◌∷◌, length, get_or, sym, arith}
-use Rattle.segments.specs.Held.{Held}
+use Rattle.segment_laws.specs.Held.{Held}
 use Rattle.model.specs.Volume.{descriptor_place, gate_place, home_place, image_place}
 use Rattle.journal.specs.Calls.{Call}
 use Rattle.journal_segments.specs.Staged.{Staged, held_as, staged_at}

@@ -1,5 +1,5 @@
 use Rattle.std.proofs.Common.{rules, ◌≡◌, ◌≤◌, ℕ, ◌+◌, cond, eqb, length, get_or, sym, ◌∙◌, ap, subst, arith}
-use Rattle.segments.specs.Held.{Held}
+use Rattle.segment_laws.specs.Held.{Held}
 use Rattle.journal_segments.specs.Staged.{Staged, staged_at}
 use Rattle.journal.specs.Flight.{Flight, flight_in, sizes_of}
 use Rattle.journal.specs.Inside.{IsWithin}

@@ -2,7 +2,7 @@ use Rattle.std.proofs.Common.{◌≡◌, inl, ℕ, List, [], ◌∷◌, ◌∙�
 use Rattle.disk.specs.Image.{part}
 use Rattle.disk.proofs.Images.{length-overwritten, part-overwritten_apart}
 use Rattle.model.specs.Volume.{format_in}
-use Rattle.segments.proofs.Formats.{gate_opens_in}
+use Rattle.segment_laws.proofs.Formats.{gate_opens_in}
 use Rattle.journal.proofs.upgrading.set_gate.Goals as goal
 
 pub returns-clause-size : goal.returns-clause-size
