@@ -8,7 +8,7 @@ use Rattle.journal.specs.Inside.{IsVolume}
 use Rattle.journal.specs.Journal.{IsReady, JournalView, LeavesAdmitted, with_batch}
 use Rattle.model.specs.Stream.{Octets}
 use Rattle.model.specs.Volume.{blocks_from, laid_over}
-use Rattle.spool_files.specs.View.{IsSpool, SpoolView}
+use Rattle.spool.specs.View.{IsSpool, SpoolView}
 use Rattle.volume.specs.Volume.{BatchView}
 use Rattle.volume.proofs.Octets.{blocks_from-flat_map}
 use Rattle.importing.specs.Saved.{Carries, IsSameVolume, LeavesOneOf, after_batch}

@@ -9,7 +9,7 @@ use Rattle.kernel.specs.Opening.{ReadsAndUpgrades}
 use Rattle.model.specs.Layout.{Holds, HoldsIn, IsLabel}
 use Rattle.model.specs.Stream.{Octets}
 use Rattle.model.specs.Volume.{StandsFor}
-use Rattle.spool_files.specs.View.{SpoolView}
+use Rattle.spool.specs.View.{SpoolView}
 use Rattle.importing.specs.Opening.{IsLoaded, IsOpened}
 use Rattle.importing.specs.Saved.{IsSaved, IsTied}
 use Rattle.importing.proofs.Carried.{stands}

@@ -12,7 +12,7 @@ use Rattle.model.specs.Stream.{Octets}
 use Rattle.model.proofs.Counting.{free_is_beside}
 use Rattle.model.proofs.HoldsOne.{there_few}
 use Rattle.model.proofs.Opening.{files_counted}
-use Rattle.spool_files.specs.View.{IsSpool, SpoolView}
+use Rattle.spool.specs.View.{IsSpool, SpoolView}
 use Rattle.usage.proofs.Counted.{bits_used}
 use Rattle.usage.specs.Usage.{used_in}
 use Rattle.volume.specs.Volume.{AgreeOutside}

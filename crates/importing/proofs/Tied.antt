@@ -16,7 +16,7 @@ use Rattle.model.specs.Stream.{Octets}
 use Rattle.model.specs.Volume.{format_number}
 use Rattle.model.specs.declared.change.Change.{Change}
 use Rattle.model.specs.declared.change.Change.TheVariants.{Article}
-use Rattle.spool_files.specs.View.{Adds, Dirties, IsSpool, SpoolView}
+use Rattle.spool.specs.View.{Adds, Dirties, IsSpool, SpoolView}
 use Rattle.volume.specs.Volume.{AgreeOutside}
 use Rattle.importing.specs.Filing.{Becomes}
 use Rattle.importing.specs.Saved.{Carries, IsBehind, IsSameVolume, IsSaved, IsTied, LeavesOneOf, LeavesPrefix, StoreView}

@@ -16,8 +16,8 @@ use Rattle.model.specs.Names.{is_of_host}
 use Rattle.model.specs.Spool.{NewsArticle, Spool, by_id, is_here}
 use Rattle.model.specs.Stream.{Octets}
 use Rattle.model.proofs.Ids.{field_counted, no_cause}
-use Rattle.serving.specs.declared.FileError.{FileError}
-use Rattle.serving.specs.declared.FileError.TheVariants as file
+use Rattle.change_spool.specs.declared.FileError.{FileError}
+use Rattle.change_spool.specs.declared.FileError.TheVariants as file
 use Rattle.posting_commands.proofs.Telling.{transfer_filed}
 
 -- ---- an article that was carried has a message-id

@@ -7,8 +7,8 @@ use Rattle.model.specs.Names.{is_of_host}
 use Rattle.model.specs.Spool.{NewsArticle}
 use Rattle.model.specs.Stream.{Octets}
 use Rattle.model.specs.declared.change.Change.TheVariants.{Article}
-use Rattle.spool_files.specs.Refusals.{is_full_for}
-use Rattle.spool_files.specs.View.{Adds, SpoolView}
+use Rattle.spool.specs.Refusals.{is_full_for}
+use Rattle.spool.specs.View.{Adds, SpoolView}
 use Rattle.importing.specs.declared.outcome.Outcome.{Outcome}
 use Rattle.importing.specs.declared.outcome.Outcome.TheVariants.{Filed, Here, NoGroup, Refused, Full}
 use Rattle.importing.specs.declared.outcome.Refused.TheVariants.{NotAnArticle, OwnId}

@@ -4,7 +4,7 @@ use Rattle.disk.specs.Device.{Device}
 use Rattle.journal.specs.Journal.{JournalView}
 use Rattle.model.specs.Layout.{HoldsIn, IsLabel, Stands}
 use Rattle.model.specs.Stream.{Octets}
-use Rattle.spool_files.specs.View.{SpoolView}
+use Rattle.spool.specs.View.{SpoolView}
 use Rattle.importing.specs.Saved.{IsSaved, StoreView}
 
 -- a spool of this host that these blocks of a volume of this format hold, with no change since

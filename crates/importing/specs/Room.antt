@@ -2,7 +2,7 @@
 use Rattle.std.specs.Prelude.{ℕ, if◌then◌else◌, length, nat_lt, Option, Some, None}
 use Rattle.model.specs.Room.{blocks_asked, free_blocks_beside, free_inodes_beside}
 use Rattle.model.specs.SpoolFiles.{files_of}
-use Rattle.spool_files.specs.View.{SpoolView}
+use Rattle.spool.specs.View.{SpoolView}
 use Rattle.importing.specs.declared.outcome.Lack.{Lack}
 use Rattle.importing.specs.declared.outcome.Lack.TheVariants.{Blocks, Inodes}
 

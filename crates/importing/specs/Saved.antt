@@ -6,7 +6,7 @@ use Rattle.journal.specs.Journal.{IsReady, JournalView}
 use Rattle.model.specs.Layout.{Holds, IsLabel, Stands}
 use Rattle.model.specs.Stream.{Octets}
 use Rattle.model.specs.Volume.{blocks_from, laid_over}
-use Rattle.spool_files.specs.View.{SpoolView}
+use Rattle.spool.specs.View.{SpoolView}
 use Rattle.volume.specs.Volume.{AgreeOutside, BatchView}
 
 -- its journal, its spool, and how many of the spool's changes are durable

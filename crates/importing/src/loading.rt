@@ -3,7 +3,7 @@
 ghost use Rattle.std.specs.Prelude.{◌≡◌, ◌⊎◌, [], IfErr, IfOk, IsTrue, OnOk};
 ghost use Rattle.journal.specs.Journal.{IsReady};
 ghost use Rattle.kernel.specs.Opening.{IsDamaged, OnlyReads, ReadsAndUpgrades};
-ghost use Rattle.labels.specs.Label.{IsNoLabel};
+ghost use Rattle.volume_label.specs.Label.{IsNoLabel};
 ghost use Rattle.model.specs.Files.{HasRoom};
 ghost use Rattle.model.specs.Layout.{HoldsIn};
 ghost use Rattle.model.specs.Names.{is_host};
@@ -13,12 +13,12 @@ ghost use Rattle.importing.specs.Opening.{IsLoaded, IsSpoolOf};
 use disk::Disk;
 use journal::Journal;
 use kernel::upgrade;
-use labels::read_label;
 use model::Text;
 use opening::OpenError;
-use spool_files::Spool;
+use spool::Spool;
 use std::alloc::Global;
 use volume::{Blocks, Volume};
+use volume_label::read_label;
 
 /// The spool in the logical blocks of a journal. A volume of format 1 is checked as one, and then made one of format 2.
 /// Apart from that and from reads of the device the journal stays as it was. `NotAVolume` (E3) if the label is not valid,

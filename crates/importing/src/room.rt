@@ -10,12 +10,12 @@ use crate::outcome::Lack;
 use disk::Disk;
 use journal::{Journal, JournalError};
 use lookups::LookUps;
-use spool_files::Spool;
+use spool::Spool;
 use usage::{inodes_used, used_blocks};
 use volume::BLOCK_SIZE;
 
 /// A change is made only if this many blocks are free.
-const BLOCKS_ASKED: u64 = spool_files::BLOCKS_ASKED as u64;
+const BLOCKS_ASKED: u64 = spool::BLOCKS_ASKED as u64;
 
 /// What the volume has too little of for any text, where this many of its blocks are used. `None` if it has enough.
 pub(crate) fn lack_by(spool: &Spool, used: u64) -> Option<Lack>

@@ -21,7 +21,7 @@ use journal::{Journal, JournalError};
 use lookups::LookUps;
 use opening::OpenError;
 use rnews::with_crlf;
-use spool_files::Spool;
+use spool::Spool;
 use std::alloc::{AllocError, Global};
 use std::marker::Model;
 use volume::BatchBuf;

@@ -8,11 +8,11 @@ ghost use Rattle.importing.specs.Filing.{Becomes, IsOffered};
 
 use crate::{Outcome, Refused};
 use article::{Article, Origin, ReadError};
+use change_spool::FileError;
 use lookups::{LookUps, find_group, find_id};
 use model::Text;
 use names::is_of_host;
-use serving::FileError;
-use spool_files::Spool;
+use spool::Spool;
 use std::alloc::{AllocError, Global};
 
 /// Files a text at a moment in seconds since 1970, below 253,402,300,800. It becomes what it would if another server

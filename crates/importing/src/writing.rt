@@ -11,7 +11,7 @@ use crate::carrying::carry;
 use disk::Disk;
 use journal::{Journal, JournalError};
 use lookups::LookUps;
-use spool_files::Spool;
+use spool::Spool;
 use volume::BatchBuf;
 
 /// Makes the dirty blocks of a spool durable, as one batch; then none is dirty. `Fault` if the device failed, `Memory`

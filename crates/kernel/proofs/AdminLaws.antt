@@ -6,10 +6,10 @@ use Rattle.model.specs.Stream.{Octets}
 use Rattle.model.specs.Spool.{is_here}
 use Rattle.model.specs.declared.change.Change.{Change}
 use Rattle.model.specs.declared.change.Change.TheVariants.{Expire, Group}
-use Rattle.spool_files.specs.View.{SpoolView, Adds}
-use Rattle.spool_files.specs.Refusals.{expiry_refusal, group_refusal, has_number, is_full_for}
-use Rattle.spool_files.specs.declared.errors.AddError.TheVariants as add
-use Rattle.spool_files.specs.declared.errors.ExpireError.TheVariants as expire
+use Rattle.spool.specs.View.{SpoolView, Adds}
+use Rattle.spool.specs.Refusals.{expiry_refusal, group_refusal, has_number, is_full_for}
+use Rattle.spool.specs.declared.errors.AddError.TheVariants as add
+use Rattle.spool.specs.declared.errors.ExpireError.TheVariants as expire
 use Rattle.kernel.specs.Kernel.{Administers, Exists, Full, Halted, KernelView, LaterDirty, NotFound, Refusal, TooManySessions}
 use Rattle.kernel.specs.Kernel.{admin_refusal_of, early_refusal, expire_refusal_of, first_failing, join_refusal, only_tested}
 use Rattle.seats.specs.Seats.{Seat}

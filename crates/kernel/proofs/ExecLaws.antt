@@ -23,9 +23,9 @@ use Rattle.model.specs.declared.message.Message.{Message}
 use Rattle.model.specs.declared.message.Mark.{Mark}
 use Rattle.model.specs.declared.message.Mark.TheVariants as mark
 use Rattle.model.specs.declared.message.Mode.{Mode}
-use Rattle.serving.specs.Served.{lacks_room_for}
-use Rattle.spool_files.specs.View.{SpoolView}
-use Rattle.spool_files.specs.View as changed
+use Rattle.session.specs.Served.{lacks_room_for}
+use Rattle.spool.specs.View.{SpoolView}
+use Rattle.spool.specs.View as changed
 use Rattle.std.specs.Cmp.{both_ways}
 use Rattle.std.specs.List.{Contains}
 use Rattle.volume.specs.Volume.{Differs}

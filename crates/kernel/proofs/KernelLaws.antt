@@ -20,7 +20,7 @@ use Rattle.model.specs.declared.message.Mark.{Mark}
 use Rattle.model.specs.declared.message.Mode.{Mode}
 use Rattle.model.specs.declared.session.Session.{Session}
 use Rattle.outbox.specs.Queue.{Entry, Held, octets_in}
-use Rattle.spool_files.specs.View.{Dirties, IsSpool, SpoolView}
+use Rattle.spool.specs.View.{Dirties, IsSpool, SpoolView}
 use Rattle.volume.specs.Volume.{Differs}
 use Rattle.kernel.specs.Kernel.{KernelView, is_block, mode_at}
 use Rattle.seats.specs.Seats.{Seat, answered_by, given_of, new_seat, ready, ready_by, ready_of, seat_given, with_seat}

@@ -19,7 +19,7 @@ use Rattle.model.specs.declared.message.Mark.TheVariants as mark
 use Rattle.model.specs.declared.message.Mode.{Mode}
 use Rattle.model.specs.declared.message.Mode.TheVariants as mode
 use Rattle.model.specs.declared.session.Session.{Session}
-use Rattle.spool_files.specs.Refusals.{has_number}
+use Rattle.spool.specs.Refusals.{has_number}
 use Rattle.outbox.specs.Queue.{Entry, buffered as octets_held}
 use Rattle.seats.specs.Seats.{Seat, answered_by, new_seat, ready, ready_of, with_seat}
 

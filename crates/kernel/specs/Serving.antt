@@ -7,8 +7,8 @@ use Rattle.model.specs.declared.message.Message.{Message}
 use Rattle.model.specs.declared.message.Mark.{Mark}
 use Rattle.model.specs.declared.session.Answer.{Answer}
 use Rattle.model.specs.declared.session.Session.{Session}
-use Rattle.serving.specs.Served as served
-use Rattle.spool_files.specs.View.{SpoolView, Adds}
+use Rattle.session.specs.Served as served
+use Rattle.spool.specs.View.{SpoolView, Adds}
 
 -- the answer of a spool
 abbrev pub answer_in : SpoolView → Session → Message → ℕ → Mark → Answer

@@ -1,6 +1,6 @@
 -- The kernel's view, from the parts that it has.
 use Rattle.std.specs.Prelude.{ℕ, Bool, List, Option}
-use Rattle.spool_files.specs.View.{SpoolView}
+use Rattle.spool.specs.View.{SpoolView}
 use Rattle.kernel.specs.Kernel.{KernelView}
 use Rattle.seats.specs.Seats.{Seat}
 

@@ -28,8 +28,8 @@ use names::GroupName;
 pub use opening::{OpenError, upgrade};
 use outbox::ReadyBuf;
 use seats::{Seat, position, release, release_of};
-use spool_files::AddError;
-pub use spool_files::Spool;
+use spool::AddError;
+pub use spool::Spool;
 use std::alloc::Global;
 use std::marker::Model;
 pub use volume::BatchBuf;
@@ -274,9 +274,9 @@ impl Kernel {
         self.may_expire()?;
         let serial = match self.spool.expire(name.as_slice(), number) {
             Ok(serial) => serial,
-            Err(spool_files::ExpireError::NotFound) => return Err(ExpireError::NotFound),
-            Err(spool_files::ExpireError::Full) => return Err(ExpireError::Full),
-            Err(spool_files::ExpireError::Memory) => return Err(ExpireError::Memory),
+            Err(spool::ExpireError::NotFound) => return Err(ExpireError::NotFound),
+            Err(spool::ExpireError::Full) => return Err(ExpireError::Full),
+            Err(spool::ExpireError::Memory) => return Err(ExpireError::Memory),
         };
         self.spool.kept();
         Ok(serial)

@@ -6,19 +6,19 @@ ghost use Rattle.model.specs.Files.{HasRoom};
 ghost use Rattle.model.specs.Layout.{HoldsIn};
 ghost use Rattle.model.specs.Names.{is_host};
 ghost use Rattle.model.specs.Spool.{Spool as Changes};
-ghost use Rattle.labels.specs.Label.{IsNoLabel};
+ghost use Rattle.volume_label.specs.Label.{IsNoLabel};
 ghost use Rattle.kernel.specs.Opening.{CostsUpgrade, HasFailed, IsDamaged, IsOpened, IsStill, IsUnsynced, OnlyReads, OpensOver};
 ghost use Rattle.kernel.specs.Opening.{ReadsAndUpgrades};
 
 use crate::Kernel;
 use disk::Disk;
 use journal::{Journal, JournalError};
-use labels::read_label;
 use model::Text;
-use spool_files::Spool;
+use spool::Spool;
 use std::alloc::Global;
 use thiserror::Error;
 use volume::{Blocks, Volume};
+use volume_label::read_label;
 
 /// Why a kernel was not opened.
 #[derive(Clone, Copy, Debug, Drop, PartialEq, Eq, Error)]

@@ -9,7 +9,7 @@ use Rattle.journal.specs.declared.JournalError.{JournalError}
 use Rattle.journal.specs.declared.JournalError.TheVariants as journal
 use Rattle.journal.specs.declared.Next.TheVariants.{Commit, Idle}
 use Rattle.kernel.specs.Kernel.{KernelView}
-use Rattle.labels.specs.Label.{IsNoLabel}
+use Rattle.volume_label.specs.Label.{IsNoLabel}
 use Rattle.kernel.specs.Opening.{CostsUpgrade, IsDamaged, IsOpened, ReadsAndUpgrades, upgrade_calls}
 use Rattle.kernel.specs.declared.opening.OpenError.{OpenError}
 use Rattle.kernel.specs.declared.opening.OpenError.TheVariants as open_errors

@@ -3,6 +3,7 @@
 ghost use Rattle.std.specs.Prelude.{◌≡◌};
 ghost use Rattle.printing.specs.Status.{status_of};
 
+use command_line::{Asked, Export, Service, read_words};
 use commands::{Counts, LineEnds, Offer, Streams, Verbosity};
 use names::GroupName;
 use printing::{DONE, Failure, REFUSED};
@@ -17,7 +18,6 @@ use std::rt::Files;
 use std::sync::Wait;
 use std::thread::Threads;
 use std::time::Clock;
-use words::{Asked, Export, Service, read_words};
 
 /// How the program continues after `run`.
 #[derive(Drop)]

@@ -8,7 +8,7 @@ use Rattle.model.specs.declared.change.Change.{Change}
 use Rattle.model.specs.declared.message.Message.{Message}
 use Rattle.model.specs.declared.message.Mark.{Mark}
 use Rattle.model.specs.declared.message.Mode.{Mode}
-use Rattle.serving.specs.Served as served
+use Rattle.session.specs.Served as served
 use Rattle.seats.specs.Seats.{Seat, answered_by}
 
 -- the session was served over a spool of this host with these changes: it has one more reply

@@ -15,11 +15,12 @@ ghost use Rattle.model.specs.Stream.{Octets};
 ghost use Rattle.model.specs.declared.message.Message.{Message as MessageView};
 ghost use Rattle.outbox.specs.Queue.{buffered, entry_of, last_dependency};
 
+use change_spool::ChangeSpool;
 use model::{Answer, Awaits, Mark, Message, Mode, Session};
 use outbox::{Queue, ReadyBuf};
 use plain_commands::stopped;
 use replies::{Answered, push_greeting};
-use serving::{Files, Served, serve};
+use session::{Served, serve};
 use std::alloc::{AllocError, Global};
 use std::marker::Model;
 
@@ -94,7 +95,7 @@ impl Seat {
     /// Serves a message over a spool that takes changes, and holds its reply. Answers what the session sends next, and
     /// the mark of the message. `moment` is in seconds since 1970. Refused only for want of memory; then neither
     /// session nor spool changes.
-    pub fn serve<S: Files>(
+    pub fn serve<S: ChangeSpool>(
         &mut self,
         alloc: Global,
         spool: &mut S,

@@ -6,7 +6,7 @@ ghost use Rattle.model.specs.Room.{blocks_asked};
 use flusher::{Gate, Kern, Tally, VolumeFacts};
 use logging::{Event, Log, Part};
 use releasing::Shared;
-use spool_files::BLOCKS_ASKED;
+use spool::BLOCKS_ASKED;
 use std::sync::Wait;
 use std::sync::atomic::{AtomicBool, Ordering};
 use std::time::Clock;

@@ -10,7 +10,7 @@ ghost use Rattle.spool_opening.specs.Ended.{IsNameOf, IsWholeAt};
 ghost use Rattle.spool_opening.specs.Replayed.{IsBounded};
 
 use crate::lines::NUMBER_SIZE;
-use following::find_group;
+use admission::find_group;
 use fs_layout::inodes::free_inode_count;
 use index::Index;
 use records::{FileKind, kind_of};

@@ -14,8 +14,8 @@ ghost use Rattle.spool_reading.specs.Sorted.{AreSorted};
 ghost use Rattle.spool_opening.specs.Stored.{HasPiece};
 ghost use Rattle.spool_opening.specs.Going.{GoesOn};
 
+use admission::find_group;
 use article::Article;
-use following::find_group;
 use index::{Group, Index};
 use model::Text;
 use overview::Overview;

@@ -12,8 +12,8 @@ ghost use Rattle.spool_reading.specs.Sorted.{AreSorted};
 ghost use Rattle.spool_opening.specs.Stored.{IsFileAt};
 
 use crate::lines::line_sizes;
+use admission::{groups_here, id_of, may_expire, may_file, may_make};
 use article::{Article, Origin, ReadError};
-use following::{groups_here, id_of, may_expire, may_file, may_make};
 use index::Index;
 use model::Names;
 use places::Places;

@@ -2,7 +2,7 @@
 //! answers.
 
 use crate::damages::changed;
-use spool_files::Spool;
+use spool::Spool;
 use spool_reading::OpenError;
 use std::alloc::{AllocError, Global};
 use std::test::Fail;

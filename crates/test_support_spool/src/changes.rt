@@ -4,7 +4,7 @@ use crate::changing::MOMENT;
 use crate::sent::Sent;
 use lookups::LookUps;
 use model::{Change, Names, Text};
-use spool_files::Spool;
+use spool::Spool;
 use std::alloc::{AllocError, Global};
 
 /// The expected change.

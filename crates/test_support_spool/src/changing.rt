@@ -8,8 +8,8 @@ use crate::sent::Sent;
 use lookups::LookUps;
 use model::{Awaits, Mark, Message, Session, Text};
 use names::{is_group_name, is_of_host, number_of};
-use serving::{Served, serve};
-use spool_files::{AddError, ExpireError, Spool};
+use session::{Served, serve};
+use spool::{AddError, ExpireError, Spool};
 use std::alloc::Global;
 
 /// When everything is made, in seconds since 1970.

@@ -3,7 +3,7 @@
 use lookups::{LookUps, counts_of, find_id};
 use model::Part;
 use names::is_wildmat;
-use spool_files::Spool;
+use spool::Spool;
 use std::alloc::{AllocError, Global};
 
 /// The question that is asked.

@@ -5,7 +5,7 @@ ghost use Rattle.model.specs.Files.{HasRoom};
 
 use model::Text;
 use names::is_host;
-use spool_files::Spool;
+use spool::Spool;
 use spool_reading::OpenError;
 use std::alloc::{AllocError, Global};
 use volume::{BATCH_BLOCKS, BLOCK_SIZE, BatchBuf, Blocks, Volume};

@@ -8,7 +8,7 @@ use Rattle.journal.specs.Opening.{Opens}
 use Rattle.kernel.specs.Opening.{IsDamaged}
 use Rattle.kernel.specs.declared.opening.OpenError.{OpenError}
 use Rattle.kernel.specs.declared.opening.OpenError.TheVariants.{Damaged, NotAVolume}
-use Rattle.labels.specs.Label.{IsNoLabel}
+use Rattle.volume_label.specs.Label.{IsNoLabel}
 use Rattle.model.specs.Volume.{format_number}
 use Rattle.opening.proofs.Laws.{is_damaged, no_label}
 use Rattle.opening.specs.Standing.{IsDamagedVolume, IsNoNewsVolume}

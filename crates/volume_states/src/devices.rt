@@ -3,7 +3,7 @@
 ghost use Rattle.std.specs.Prelude.{◌≡◌, ◌⊎◌, IfErr, IfOk, IsTrue};
 ghost use Rattle.journal.specs.Journal.{IsReady};
 ghost use Rattle.kernel.specs.Opening.{IsDamaged};
-ghost use Rattle.labels.specs.Label.{IsNoLabel};
+ghost use Rattle.volume_label.specs.Label.{IsNoLabel};
 ghost use Rattle.model.specs.Files.{HasRoom};
 ghost use Rattle.model.specs.Layout.{HoldsIn};
 ghost use Rattle.model.specs.Spool.{Spool};
@@ -15,10 +15,10 @@ use crate::blocks::volume_status;
 use disk::Disk;
 use journal::{Journal, JournalError};
 use kernel::OpenError;
-use labels::read_label;
 use reporting::VolumeStatus;
 use std::alloc::Global;
 use volume::{Blocks, Volume};
+use volume_label::read_label;
 
 /// The state of the volume on a device, whose format stays as it is. `Fault` (E1) if the device failed, `Memory` (E2) if
 /// a growth was refused, `NotAVolume` (E3) if the device holds no volume with a label of its size, and `Damaged` (E5) if

@@ -20,7 +20,8 @@ use Rattle.synchrony.specs.Dependency.{Output}
 use Rattle.synchrony.specs.Synchrony.{IsExternallySynchronous, IsReleased}
 use Rattle.synchrony.proofs.Released.{IsReleased-none, IsReleased-raise}
 use Rattle.synchrony.proofs.Theorems.{account_sync, releases_are_synchronous}
-use Rattle.served.specs.Served.{Sent, ServedView, IsServed, IsSession, account, arrived_at, first_spool, nobody, released_at, session_at}
+use Rattle.traced_kernel.specs.Traced.{Sent, TracedView, IsServed, IsSession, account}
+use Rattle.traced_kernel.specs.Traced.{arrived_at, first_spool, nobody, released_at, session_at}
 use Rattle.model.proofs.NewsLaws.{lawful}
 use Rattle.world.specs.World.{WorldView, kernel_of}
 use Rattle.world.specs.Images.{Fits, IsSynchronous, MayBeLeft}
@@ -35,7 +36,7 @@ released_of host durable None seat connection outputs h = IsReleased-none durabl
 released_of host durable (Some sent) seat connection outputs h = h.released
 
 -- The theorem: with the durable changes left, or more.
-pub is_synchronous : (served : ServedView) → IsServed served → (p : ℕ) → served.kernel.durable ≤ p → (image : Octets)
+pub is_synchronous : (served : TracedView) → IsServed served → (p : ℕ) → served.kernel.durable ≤ p → (image : Octets)
     → Stands served.kernel.host image (take p served.kernel.spool)
     → IsSynchronous served.kernel.host (first_spool served) (arrived_at served) served.trace (released_at served) p image
 is_synchronous served h p le image stands =

@@ -13,8 +13,8 @@ use Rattle.model.specs.News.{Holds, Stands}
 use Rattle.model.specs.Spool.{Spool}
 use Rattle.model.specs.Stream.{Octets}
 use Rattle.model.specs.Volume.{format_number}
-use Rattle.served.specs.Events.{opens}
-use Rattle.served.specs.Served.{ServedView}
+use Rattle.traced_kernel.specs.Events.{opens}
+use Rattle.traced_kernel.specs.Traced.{TracedView}
 use Rattle.world.specs.Fields.{IsSound}
 use Rattle.opening.specs.Standing.{IsDamagedVolume, IsNoNewsVolume}
 use Rattle.world.specs.Images.{KeepsSpools, StandsForNone}
@@ -51,7 +51,7 @@ none_damaged content d host S s =
 
 -- ---- the new world
 
-pub sound_new : {D : Type 0} (device : D → Device) (journal : JournalView D) (kernel : KernelView) (served : ServedView)
+pub sound_new : {D : Type 0} (device : D → Device) (journal : JournalView D) (kernel : KernelView) (served : TracedView)
     → served ≡ opens kernel → IsOpened device journal kernel → journal.format ≡ 2 → IsReady journal
     → IsSound (device journal.disk).tells (record { journal = journal; served = served; untold = [] }) None
 sound_new {D} device journal kernel served is k format ready =

@@ -13,8 +13,8 @@ use Rattle.kernel.specs.Kernel.{Refusal, TestedOrMemory, has_batch, join_refusal
 use Rattle.model.specs.Stream.{Octets}
 use Rattle.model.specs.declared.message.Message.{Message}
 use Rattle.model.specs.declared.message.Mode.{Mode}
-use Rattle.served.specs.Events.{arrive_refusal}
-use Rattle.served.specs.Served.{ServedView, arrived_at, first_spool, next_of, released_at}
+use Rattle.traced_kernel.specs.Events.{arrive_refusal}
+use Rattle.traced_kernel.specs.Traced.{TracedView, arrived_at, first_spool, next_of, released_at}
 use Rattle.world.specs.Events.{Did, DidDev, DidExec, DidTake, of_kernel}
 use Rattle.journal.specs.declared.JournalError.TheVariants as journal
 use Rattle.world.specs.Images.{EachSince, Fits, IsSynchronous, LeftFits, MayBeLeft}
@@ -29,7 +29,7 @@ use Rattle.world.proofs.Fitting.{admits_fits, now_fits}
 use Rattle.world.proofs.Sound.{tested_or}
 
 -- an image fits by what is served alone
-FitsAt : ServedView → Octets → Type 0
+FitsAt : TracedView → Octets → Type 0
 FitsAt served image = (p : ℕ) × MayBeLeft served.kernel p × IsSynchronous served.kernel.host (first_spool served)
     (arrived_at served) served.trace (released_at served) p image
 
@@ -51,7 +51,7 @@ module _ {D : Type 0} (device : D → Device) (write_grows sync_grows : Bool) (o
   by_world : new ≡ old → Left
   by_world is = same_disk (ap (λ (w : WorldView D). w.journal.disk) is)
 
-  by_served : (served : ServedView) → new ≡ with_served old served → Left
+  by_served : (served : TracedView) → new ≡ with_served old served → Left
   by_served served is = same_disk (ap (λ (w : WorldView D). w.journal.disk) is)
 
   by_tests : {A E : Type 0} (as_error : Refusal → E) (memory : E) (early refusal : Option Refusal) (r : Result A E) (done : A → Type 0)

@@ -30,8 +30,8 @@ use Rattle.model.specs.Volume.{laid_over}
 use Rattle.model.specs.declared.message.Mark.{Mark}
 use Rattle.model.specs.declared.message.Message.{Message}
 use Rattle.model.specs.declared.message.Mode.{Mode}
-use Rattle.served.specs.Events.{DidExec as ServedExec, releases, releases_of, with_kernel}
-use Rattle.served.specs.Served.{ServedView}
+use Rattle.traced_kernel.specs.Events.{DidExec as ServedExec, releases, releases_of, with_kernel}
+use Rattle.traced_kernel.specs.Traced.{TracedView}
 use Rattle.world.specs.Events.{DidExec, Steps, begun, commits, exec_answer, fails, news_of, of_exec_error, of_kernel, told}
 use Rattle.world.specs.Fields.{IsSound, durable_news, failed_news, news_in}
 use Rattle.world.specs.Tied.{AreFaults, IsTied, Phase, Quiet, Flying, IsToBeTold}
@@ -41,12 +41,12 @@ use Rattle.world.proofs.Tying.{IsTied-told_failed, batch_parts}
 
 -- ---- the sessions and the kernel's changes go on
 
-pub sound_grows : {D : Type 0} (tells : Bool) (old : WorldView D) (served : ServedView) (ticket : Option Ticket) → IsKept (kernel_of old)
+pub sound_grows : {D : Type 0} (tells : Bool) (old : WorldView D) (served : TracedView) (ticket : Option Ticket) → IsKept (kernel_of old)
     → Grows (kernel_of old) served.kernel → IsSound tells old ticket → IsSound tells (with_served old served) ticket
 sound_grows tells old served ticket kept g h =
     record { tied = IsTied-grows tells old served kept g h.tied; flies = h.flies ∙ sym g.in_flight }
 
-pub sound_same : {D : Type 0} (tells : Bool) (old : WorldView D) (served : ServedView) (ticket : Option Ticket) → served ≡ old.served
+pub sound_same : {D : Type 0} (tells : Bool) (old : WorldView D) (served : TracedView) (ticket : Option Ticket) → served ≡ old.served
     → IsSound tells old ticket → IsSound tells (with_served old served) ticket
 sound_same tells old served ticket same h = subst (λ s. IsSound tells (with_served old s) ticket) (sym same) h
 
@@ -67,7 +67,7 @@ tested_or as_error memory None old new (Ok x) done h = (refl, h)
 tested_or as_error memory None old new (Err e) done h = (inl (h.0, refl), h.1)
 
 pub sound_tested : {A E D : Type 0} (as_error : Refusal → E) (memory : E) (early refusal : Option Refusal) (tells : Bool)
-    (old : WorldView D) (served : ServedView) (ticket : Option Ticket) (r : Result A E) (done : A → Type 0)
+    (old : WorldView D) (served : TracedView) (ticket : Option Ticket) (r : Result A E) (done : A → Type 0)
     → ((x : A) → done x → Grows (kernel_of old) served.kernel) → IsKept (kernel_of old)
     → TestedOrMemory as_error memory early refusal old.served served r done → IsSound tells old ticket
     → IsSound tells (with_served old served) ticket
@@ -75,7 +75,7 @@ sound_tested as_error memory early refusal tells old served ticket (Ok x) done g
     sound_grows tells old served ticket kept (grows x t.1) h
 sound_tested as_error memory early refusal tells old served ticket (Err e) done grows kept t h = sound_same tells old served ticket t.1 h
 
-pub sound_exec : {D : Type 0} (tells : Bool) (old : WorldView D) (served : ServedView) (ticket : Option Ticket) (number moment : ℕ)
+pub sound_exec : {D : Type 0} (tells : Bool) (old : WorldView D) (served : TracedView) (ticket : Option Ticket) (number moment : ℕ)
     (m : Option Mode) (found : Option (Message × Octets)) (r : Result (Option (Option Mode × Mark)) ExecError)
     → IsKept (kernel_of old) → ServedExec old.served number moment m found r served → IsSound tells old ticket
     → IsSound tells (with_served old served) ticket
@@ -88,21 +88,21 @@ sound_exec tells old served ticket number moment (Some mode) (Some found) (Ok a)
     (Grows-executed (kernel_of old) served.kernel s.kernel.seat found.0 moment d.1.0.1 s.kernel.executed) h
 sound_exec tells old served ticket number moment (Some mode) (Some found) (Err e) kept d h = sound_same tells old served ticket d.1 h
 
-pub sound_release : {D E : Type 0} (tells : Bool) (old : WorldView D) (served : ServedView) (ticket : Option Ticket)
+pub sound_release : {D E : Type 0} (tells : Bool) (old : WorldView D) (served : TracedView) (ticket : Option Ticket)
     (r : Result (Unit {0}) E) → IsKept (kernel_of old) → OnOk r (served ≡ releases old.served) → OnErr r (served ≡ old.served)
     → IsSound tells old ticket → IsSound tells (with_served old served) ticket
 sound_release tells old served ticket (Ok x) kept ok err h =
     sound_grows tells old served ticket kept
-    (Grows-seats (kernel_of old) served.kernel (kernel_of old).joined _ (ap (λ (s : ServedView). s.kernel) ok)) h
+    (Grows-seats (kernel_of old) served.kernel (kernel_of old).joined _ (ap (λ (s : TracedView). s.kernel) ok)) h
 sound_release tells old served ticket (Err e) kept ok err h = sound_same tells old served ticket err h
 
-pub sound_release_of : {D E : Type 0} (tells : Bool) (old : WorldView D) (served : ServedView) (number : ℕ) (ticket : Option Ticket)
+pub sound_release_of : {D E : Type 0} (tells : Bool) (old : WorldView D) (served : TracedView) (number : ℕ) (ticket : Option Ticket)
     (r : Result (Unit {0}) E) → IsKept (kernel_of old) → OnOk r (served ≡ releases_of old.served number) → OnErr r (served ≡ old.served)
     → IsSound tells old ticket
     → IsSound tells (with_served old served) ticket
 sound_release_of tells old served number ticket (Ok x) kept ok err h =
     sound_grows tells old served ticket kept
-    (Grows-seats (kernel_of old) served.kernel (kernel_of old).joined _ (ap (λ (s : ServedView). s.kernel) ok)) h
+    (Grows-seats (kernel_of old) served.kernel (kernel_of old).joined _ (ap (λ (s : TracedView). s.kernel) ok)) h
 sound_release_of tells old served number ticket (Err e) kept ok err h = sound_same tells old served ticket err h
 
 -- ---- Take
@@ -176,7 +176,7 @@ lays_dirty old new numbers images last t base agrees =
 
 -- ---- Exec
 
-pub did_exec : {D : Type 0} (old : WorldView D) (served : ServedView) (number moment : ℕ) (m : Option Mode)
+pub did_exec : {D : Type 0} (old : WorldView D) (served : TracedView) (number moment : ℕ) (m : Option Mode)
     (found : Option (Message × Octets)) (r : Result (Option (Option Mode × Mark)) ExecError)
     → ServedExec old.served number moment m found r served
     → DidExec old number moment m found (exec_answer r) (with_served old served)
@@ -318,7 +318,7 @@ sound_dev device old new ticket untold answered same s h =
 
 -- ---- Told
 
-pub committed_ok : {E : Type 0} (kernel : KernelView) (served new : ServedView) (last : ℕ) (r : Result (Unit {0}) E)
+pub committed_ok : {E : Type 0} (kernel : KernelView) (served new : TracedView) (last : ℕ) (r : Result (Unit {0}) E)
     → kernel.in_flight ≡ Some last → kernel.halted ≡ false
     → IfOk r (λ done. (kernel.in_flight ≡ Some last) × (kernel.halted ≡ false) × (new ≡ with_kernel served (made_durable kernel last)))
     → OnErr r (((kernel.in_flight ≢ Some last) ⊎ (kernel.halted ≡ true)) × (new ≡ served))
@@ -329,7 +329,7 @@ committed_ok kernel served new last (Err e) flies runs ok stale =
     sym halted ∙ runs in absurd (cc both)) stale.0)
 
 -- a commit is told: what became of the kernel, and what the fields keep
-pub sound_told_durable : {E D : Type 0} (tells : Bool) (old : WorldView D) (new : ServedView) (ticket : Option Ticket) (t : Ticket)
+pub sound_told_durable : {E D : Type 0} (tells : Bool) (old : WorldView D) (new : TracedView) (ticket : Option Ticket) (t : Ticket)
     (committed failed : Bool) (r : Result (Unit {0}) E) → old.untold ≡ news_in ticket committed failed → ticket ≡ Some t → committed ≡ true
     → IfOk r (λ done. ((kernel_of old).in_flight ≡ Some t.last) × ((kernel_of old).halted ≡ false)
     × (new ≡ with_kernel old.served (made_durable (kernel_of old) t.last)))
@@ -375,14 +375,14 @@ told_nothing {D} old ticket committed failed is none fine =
     news : old.untold ≡ []
     news = is ∙ (λ i. none i ++ failed_news (fine i))
 
-pub sound_told_failed : {D : Type 0} (tells : Bool) (old : WorldView D) (new : ServedView) (ticket : Option Ticket)
+pub sound_told_failed : {D : Type 0} (tells : Bool) (old : WorldView D) (new : TracedView) (ticket : Option Ticket)
     (committed failed : Bool) → old.untold ≡ news_in ticket committed failed → durable_news ticket committed ≡ [] → failed ≡ true
     → new ≡ with_kernel old.served (halted_for_good (kernel_of old)) → IsSound tells old ticket
     → IsSound tells (record { journal = old.journal; served = new; untold = news_in ticket committed false }) ticket
     × ◌≡◌ {A = WorldView D} (record { journal = old.journal; served = new; untold = news_in ticket committed false })
     (record { journal = old.journal; served = with_kernel old.served (told (kernel_of old) old.untold); untold = drop 1 old.untold })
 sound_told_failed {D} tells old new ticket committed failed is none bad now h = (
-  subst (λ (x : ServedView × List News). IsSound tells (record { journal = old.journal; served = x.0; untold = x.1 }) ticket)
+  subst (λ (x : TracedView × List News). IsSound tells (record { journal = old.journal; served = x.0; untold = x.1 }) ticket)
       (λ i. (sym now i, sym later i)) (record { tied = IsTied-told_failed tells old [] news h.tied; flies = h.flies }),
   λ i. record {
     journal = old.journal;

@@ -27,8 +27,8 @@ use Rattle.model.specs.Volume.{laid_over}
 use Rattle.model.specs.declared.change.Change.{Change}
 use Rattle.model.specs.declared.message.Mark.{Mark}
 use Rattle.model.specs.declared.message.Message.{Message}
-use Rattle.served.specs.Served.{ServedView}
-use Rattle.served.specs.Events.{with_kernel}
+use Rattle.traced_kernel.specs.Traced.{TracedView}
+use Rattle.traced_kernel.specs.Events.{with_kernel}
 use Rattle.world.specs.World.{News, IsDurable, HasFailed, WorldView, kernel_of, with_served}
 use Rattle.world.specs.Events.{begun, news_of, Steps}
 use Rattle.world.specs.Tied.{AreFaults, IsTied, IsQuiet, IsFlying, LieBehind, Phase, Quiet, Flying, IsToBeTold}
@@ -158,7 +158,7 @@ module _ (old new : KernelView) (g : Grows old new) where
       })
 
 -- the sessions and the kernel's changes go on
-pub IsTied-grows : {D : Type 0} (tells : Bool) (world : WorldView D) (served : ServedView) → IsKept (kernel_of world)
+pub IsTied-grows : {D : Type 0} (tells : Bool) (world : WorldView D) (served : TracedView) → IsKept (kernel_of world)
     → Grows (kernel_of world) served.kernel → IsTied tells world → IsTied tells (with_served world served)
 IsTied-grows tells world served kept g h =
     record {

@@ -23,15 +23,15 @@ use Rattle.kernel.specs.declared.errors.ExpireError.{ExpireError}
 use Rattle.kernel.specs.declared.errors.ExpireError.TheVariants as expire
 use Rattle.kernel.specs.declared.errors.JoinError.{JoinError}
 use Rattle.kernel.specs.declared.errors.JoinError.TheVariants as join
-use Rattle.served.specs.declared.errors.ArriveError.{ArriveError}
-use Rattle.served.specs.declared.errors.ArriveError.TheVariants as arrive
+use Rattle.traced_kernel.specs.declared.errors.ArriveError.{ArriveError}
+use Rattle.traced_kernel.specs.declared.errors.ArriveError.TheVariants as arrive
 use Rattle.model.specs.Stream.{Octets}
 use Rattle.model.specs.declared.change.Change.TheVariants.{Expire, Group}
 use Rattle.model.specs.declared.message.Mark.{Mark}
 use Rattle.model.specs.declared.message.Message.{Message}
 use Rattle.model.specs.declared.message.Mode.{Mode}
-use Rattle.served.specs.Events.{Makes, Serves, arrive_refusal, arrives, joins, leaves, releases, releases_of, with_kernel}
-use Rattle.served.specs.Served.{next_of}
+use Rattle.traced_kernel.specs.Events.{Makes, Serves, arrive_refusal, arrives, joins, leaves, releases, releases_of, with_kernel}
+use Rattle.traced_kernel.specs.Traced.{next_of}
 use Rattle.world.specs.World.{HasFailed, IsDurable, News, WorldView, kernel_of, with_served}
 use Rattle.world.specs.declared.events.Answer.{Answer}
 use Rattle.world.specs.declared.events.Answer.TheVariants as answer

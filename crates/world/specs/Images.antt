@@ -10,7 +10,7 @@ use Rattle.kernel.specs.Kernel.{KernelView}
 use Rattle.synchrony.specs.Server.{sync}
 use Rattle.synchrony.specs.Dependency.{account_of, survivors}
 use Rattle.synchrony.specs.Synchrony.{ReleasedWithin}
-use Rattle.served.specs.Served.{Trace, arrived_at, first_spool, released_at}
+use Rattle.traced_kernel.specs.Traced.{Trace, arrived_at, first_spool, released_at}
 use Rattle.world.specs.World.{WorldView, kernel_of}
 
 -- External synchrony of an image, with p changes left. It relates the image to the plain server's run of the trace,

@@ -8,7 +8,7 @@ use Rattle.kernel.specs.Kept.{IsKept}
 use Rattle.model.specs.Stream.{Octets}
 use Rattle.model.specs.Layout.{IsLabel}
 use Rattle.model.specs.News.{Holds}
-use Rattle.served.specs.Served.{FollowsPlain, IsServed}
+use Rattle.traced_kernel.specs.Traced.{FollowsPlain, IsServed}
 use Rattle.world.specs.World.{News, IsDurable, HasFailed, WorldView, kernel_of}
 
 -- blocks that hold the first p changes, and are the cached ones except for the dirty ones

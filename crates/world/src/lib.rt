@@ -10,8 +10,8 @@ ghost use Rattle.kernel.specs.Kernel.{Tested, TestedOrMemory, admin_refusal_of, 
 ghost use Rattle.model.specs.Calendar.{moment_limit};
 ghost use Rattle.model.specs.Lawful.{is_description_octet};
 ghost use Rattle.model.specs.declared.change.Change.TheVariants.{Expire, Group};
-ghost use Rattle.served.specs.Events.{Makes, arrive_refusal, arrives, leaves};
-ghost use Rattle.served.specs.Served.{arrived_at, next_of, released_at};
+ghost use Rattle.traced_kernel.specs.Events.{Makes, arrive_refusal, arrives, leaves};
+ghost use Rattle.traced_kernel.specs.Traced.{arrived_at, next_of, released_at};
 ghost use Rattle.world.specs.Events.{Did, DidDev, DidExec, DidTake, MayHappen, Ran, Went, commits, dev_answer, exec_answer, fails};
 ghost use Rattle.world.specs.Events.{for_memory, of_admin_error, of_arrive_error, of_expire_error, of_join_error, of_kernel, told};
 ghost use Rattle.world.specs.Fields.{durable_news};
@@ -39,15 +39,15 @@ use names::GroupName;
 use opening::Opened;
 pub use opening::{OpenError, Refused};
 use outbox::ReadyBuf;
-use served::{ArriveError, Served};
-pub use served::{Entry, Happened};
 use std::alloc::Global;
 use std::marker::Model;
+use traced_kernel::{ArriveError, TracedKernel};
+pub use traced_kernel::{Entry, Happened};
 
 /// A journal over a device, and what is served.
 pub struct World<D: Disk> {
     journal: Journal<D>,
-    served: Served,
+    served: TracedKernel,
     batch: BatchBuf,
     // The batch in flight.
     ticket: Option<Ticket>,
@@ -141,7 +141,7 @@ impl<D: Disk> World<D> {
             Ok(opened) => opened,
             Err(refused) => return Err(refused),
         };
-        let Ok(served) = Served::new(alloc, kernel) else {
+        let Ok(served) = TracedKernel::new(alloc, kernel) else {
             return Err(Refused {
                 disk: journal.into_disk(),
                 error: OpenError::Memory,

@@ -6,8 +6,8 @@ use Rattle.model.specs.Answer.{groups_here}
 use Rattle.model.specs.Spool.{is_here}
 use Rattle.model.specs.declared.change.Change.{Change}
 use Rattle.model.specs.declared.change.Change.TheVariants.{Article}
-use Rattle.spool_files.specs.Refusals.{article_refusal, is_full_for}
-use Rattle.spool_files.specs.View.{Adds}
+use Rattle.spool.specs.Refusals.{article_refusal, is_full_for}
+use Rattle.spool.specs.View.{Adds}
 use Rattle.importing.proofs.Transfers.{has_room, is_accepted, lacks_room, nowhere, own_id-is, positive}
 use Rattle.importing.proofs.transfer.file_new.Goals as goal
 

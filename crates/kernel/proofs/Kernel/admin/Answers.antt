@@ -2,9 +2,9 @@ use Rattle.std.proofs.Common.{◌≡◌, inl, inr, refl, ap, subst, ◌∙◌}
 use Rattle.model.specs.Stream.{Octets}
 use Rattle.model.specs.declared.change.Change.TheVariants.{Group}
 use Rattle.std.specs.Prelude.{Some, None}
-use Rattle.spool_files.specs.View.{SpoolView}
-use Rattle.spool_files.specs.Refusals.{group_refusal}
-use Rattle.spool_files.specs.declared.errors.AddError.TheVariants as add
+use Rattle.spool.specs.View.{SpoolView}
+use Rattle.spool.specs.Refusals.{group_refusal}
+use Rattle.spool.specs.declared.errors.AddError.TheVariants as add
 use Rattle.kernel.specs.Errors.{of_admin}
 use Rattle.kernel.specs.Kernel.{KernelView, Administers, Exists, Full, admin_refusal_of, early_refusal}
 use Rattle.kernel.specs.Stored.{kernel_of}

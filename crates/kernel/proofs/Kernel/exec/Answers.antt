@@ -5,7 +5,7 @@ use Rattle.model.specs.Service.{mode_of}
 use Rattle.model.specs.declared.message.Mode.{Mode}
 use Rattle.model.specs.declared.message.Mark.TheVariants as mark
 use Rattle.outbox.specs.Queue.{buffered as octets_held}
-use Rattle.spool_files.specs.View.{SpoolView}
+use Rattle.spool.specs.View.{SpoolView}
 use Rattle.seats.specs.Kept.{IsSeat}
 use Rattle.kernel.specs.Kernel.{KernelView, LaterDirty, LaterOut, NoSession, buffered, is_block, mode_at}
 use Rattle.seats.specs.Seats.{answered_by, Seat}

@@ -2,9 +2,9 @@ use Rattle.std.proofs.Common.{◌≡◌, inl, inr, ap, refl, subst, ◌∙◌}
 use Rattle.std.specs.Prelude.{Some, None}
 use Rattle.model.specs.Stream.{Octets}
 use Rattle.model.specs.declared.change.Change.TheVariants.{Expire}
-use Rattle.spool_files.specs.View.{SpoolView}
-use Rattle.spool_files.specs.Refusals.{expiry_refusal}
-use Rattle.spool_files.specs.declared.errors.ExpireError.TheVariants as expire
+use Rattle.spool.specs.View.{SpoolView}
+use Rattle.spool.specs.Refusals.{expiry_refusal}
+use Rattle.spool.specs.declared.errors.ExpireError.TheVariants as expire
 use Rattle.kernel.specs.Errors.{of_expire}
 use Rattle.kernel.specs.Kernel.{KernelView, Administers, Full, NotFound, early_refusal, expire_refusal_of}
 use Rattle.kernel.specs.Stored.{kernel_of}

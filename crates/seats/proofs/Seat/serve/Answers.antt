@@ -49,7 +49,7 @@ returns-clause-ok g c =
     let now : after ≡ answered_by host S c.args.message.now c.args.moment c.in_ok-reply.field-0.mark before =
     answered_is host S c.args.message.now c.args.moment c.in_ok-reply.field-0.mark before after _ _ refl (c.hold.ensures.given
     ∙ c.reserve.ensures.given) said.next (c.into_octets.ensures ∙ said.reply) depends held in
-    subst (λ (was : Seat). SeatServed host S (g.S.Files.lacks_room s) (g.S.Files.adds s c.serve.new.spool)
+    subst (λ (was : Seat). SeatServed host S (g.S.ChangeSpool.lacks_room s) (g.S.ChangeSpool.adds s c.serve.new.spool)
     (c.serve.new.spool ≡ s) was after c.args.message.now c.args.moment (c.mode_of-mode.result, c.in_ok-reply.field-0.mark))
     c.self.view_is
     (record { mark = said.mark; seat = now; spool = said.spool; reads_next = c.mode_of-mode.ensures })

@@ -1,10 +1,10 @@
 use Rattle.std.proofs.Common.{None, ap}
-use Rattle.served.specs.Served.{ServedView}
+use Rattle.traced_kernel.specs.Traced.{TracedView}
 use Rattle.world.specs.Fields.{news_in}
 use Rattle.world.specs.World.{WorldView, kernel_of}
-use Rattle.served.specs.Errors.{of_arrive}
-use Rattle.served.specs.Events.{arrive_refusal}
-use Rattle.served.specs.declared.errors.ArriveError.TheVariants.{Memory}
+use Rattle.traced_kernel.specs.Errors.{of_arrive}
+use Rattle.traced_kernel.specs.Events.{arrive_refusal}
+use Rattle.traced_kernel.specs.declared.errors.ArriveError.TheVariants.{Memory}
 use Rattle.world.proofs.Sound.{Grows-seats, sound_tested, tested_or}
 use Rattle.world.proofs.World.arrive.Goals as goal
 
@@ -18,6 +18,6 @@ invariant_of-self g c =
     } in
     sound_tested of_arrive Memory None (arrive_refusal (kernel_of old) c.args.number) (g.D.Disk.device c.self.inside.journal.disk).tells old
     c.arrive.new.self c.self.inside.ticket c.arrive.result _
-    (λ x done. Grows-seats (kernel_of old) c.arrive.new.self.kernel _ _ (ap (λ (s : ServedView). s.kernel) done)) c.kept.ensures.kernel
+    (λ x done. Grows-seats (kernel_of old) c.arrive.new.self.kernel _ _ (ap (λ (s : TracedView). s.kernel) done)) c.kept.ensures.kernel
     (tested_or of_arrive Memory (arrive_refusal (kernel_of old) c.args.number) old.served c.arrive.new.self c.arrive.result _
     c.arrive.ensures) c.self.invariant

@@ -1,5 +1,5 @@
 use Rattle.std.proofs.Common.{ap}
-use Rattle.served.specs.Served.{ServedView}
+use Rattle.traced_kernel.specs.Traced.{TracedView}
 use Rattle.world.specs.Fields.{news_in}
 use Rattle.world.specs.World.{WorldView, kernel_of}
 use Rattle.world.proofs.Sound.{Grows-seats, sound_grows}
@@ -14,4 +14,4 @@ invariant_of-self g c =
       untold = news_in c.self.inside.ticket c.self.inside.is_committed c.self.inside.has_failed;
     } in
     sound_grows (g.D.Disk.device c.self.inside.journal.disk).tells old c.leave.new.self c.self.inside.ticket c.kept.ensures.kernel
-    (Grows-seats (kernel_of old) c.leave.new.self.kernel _ _ (ap (λ (s : ServedView). s.kernel) c.leave.ensures)) c.self.invariant
+    (Grows-seats (kernel_of old) c.leave.new.self.kernel _ _ (ap (λ (s : TracedView). s.kernel) c.leave.ensures)) c.self.invariant

@@ -3,7 +3,7 @@ use Rattle.disk.specs.Device.{Elapses}
 use Rattle.journal.specs.Opening.{LeavesVolume, LeftKept, SyncsFirst}
 use Rattle.kernel.specs.declared.opening.OpenError.TheVariants.{Memory, NotAVolume, Damaged}
 use Rattle.model.specs.News.{Stands}
-use Rattle.served.specs.Served.{ServedView}
+use Rattle.traced_kernel.specs.Traced.{TracedView}
 use Rattle.world.specs.Images.{KeepsSpools}
 use Rattle.world.proofs.Fitting.{now_fits}
 use Rattle.world.proofs.Opening.{keeps_left, none_damaged, none_unlabelled, sound_new}
@@ -76,7 +76,7 @@ returns-in_default-new-clause-judged g c judged =
 
 pub returns-clause-spool : goal.returns-clause-spool
 returns-clause-spool g c tells =
-    subst (λ (s : ServedView). Stands s.kernel.host (g.D.Disk.device c.args.disk).content s.kernel.spool) (sym c.in-Ok-new.ensures)
+    subst (λ (s : TracedView). Stands s.kernel.host (g.D.Disk.device c.args.disk).content s.kernel.spool) (sym c.in-Ok-new.ensures)
     (c.in-Ok.ensures.spool tells)
 
 pub returns-clause-during : goal.returns-clause-during

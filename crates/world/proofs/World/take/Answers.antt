@@ -3,8 +3,8 @@ use Rattle.std.specs.Prelude.{map, slice_index_or, Ok}
 use Rattle.journal.specs.Journal.{IsReady, JournalView}
 use Rattle.kernel.specs.Kernel.{Takes, has_batch, taken}
 use Rattle.model.specs.Volume.{blocks_from}
-use Rattle.served.specs.Events.{with_kernel}
-use Rattle.served.specs.Served.{ServedView}
+use Rattle.traced_kernel.specs.Events.{with_kernel}
+use Rattle.traced_kernel.specs.Traced.{TracedView}
 use Rattle.world.specs.Events.{DidTake, begun}
 use Rattle.world.specs.Fields.{IsSound, news_in}
 use Rattle.world.specs.World.{WorldView, kernel_of}
@@ -55,7 +55,7 @@ invariant_of-self-2 g c =
     let begins = sound_take (g.D.Disk.device c.self.inside.journal.disk).tells old c.self.inside.ticket c.in-Some.ticket
     (news_in (Some c.in-Some.ticket) false c.self.inside.has_failed) c.kept.ensures.kernel ready has takes.last_is
     (lays_dirty (kernel_of old) c.take_batch.new.self.kernel _ _ c.in-Some.ticket.last takes) untold c.self.invariant in
-    subst (λ (t : JournalView g.row.D.Denot × ServedView). IsSound (g.D.Disk.device t.0.disk).tells
+    subst (λ (t : JournalView g.row.D.Denot × TracedView). IsSound (g.D.Disk.device t.0.disk).tells
     (record { journal = t.0; served = t.1; untold = news_in (Some c.in-Some.ticket) false c.self.inside.has_failed })
     (Some c.in-Some.ticket)) (λ i. (sym journal i, sym served i)) begins
 

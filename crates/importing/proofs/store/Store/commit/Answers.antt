@@ -1,5 +1,5 @@
 use Rattle.std.proofs.Common.{◌≡◌, ℕ, length, refl, sym, ◌∙◌, ap, subst}
-use Rattle.spool_files.specs.View.{SpoolView}
+use Rattle.spool.specs.View.{SpoolView}
 use Rattle.importing.specs.Saved.{IsTied, LeavesPrefix, StoreView}
 use Rattle.importing.proofs.Tied.{prefix, written}
 use Rattle.importing.proofs.store.Store.commit.Goals as goal

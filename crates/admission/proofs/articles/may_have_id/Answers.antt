@@ -1,0 +1,19 @@
+use Rattle.std.proofs.Common.{rules, refl, sym, ◌∙◌}
+use Rattle.std.proofs.lemmas.Bool.{true≢false}
+use Rattle.admission.proofs.Testing.{none_by, some_by}
+use Rattle.admission.proofs.articles.may_have_id.Goals as goal
+
+pub returns-in-Some : goal.returns-in-Some
+returns-in-Some c = λ S is. (λ yes. absurd (true≢false (sym yes)), λ may. absurd (some_by _ _ (c.in-Some.ensures S is) may.new))
+
+pub returns-then-not-is_of_host : goal.returns-then-not-is_of_host
+returns-then-not-is_of_host c = λ S is. (
+  λ yes. record {
+    new = none_by _ (c.in_default.ensures S is);
+    own = λ own. absurd (true≢false (sym own ∙ sym c.is_of_host.ensures ∙ c.if-not-is_of_host.true));
+  },
+  λ may. refl,
+)
+
+pub returns : goal.returns
+returns c = search rules

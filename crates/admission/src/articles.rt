@@ -1,0 +1,110 @@
+//! Whether an article may be filed.
+
+ghost use Rattle.std.specs.Prelude.{◌≡◌, ◌+◌, ◌↔◌, IsTrue, None, filter, length, map, IfOk};
+ghost use Rattle.model.specs.Article as model_article;
+ghost use Rattle.model.specs.Article.{Carried, cause};
+ghost use Rattle.model.specs.Lawful.{MayFile};
+ghost use Rattle.model.specs.Spool.{Spool};
+ghost use Rattle.model.specs.Spool as spool;
+ghost use Rattle.index.specs.View.{Indexes};
+ghost use Rattle.admission.specs.Fields.{MayHaveId};
+
+use crate::groups::MOMENT_LIMIT;
+use article::Article;
+use index::Index;
+use itoa::Buffer;
+use model::Text;
+use names::is_of_host;
+use std::alloc::{AllocError, Global};
+
+/// The octets of a made message-id beside its serial and its host: `<`, `@` and `>`.
+const ID_MARKS: usize = 3;
+
+/// The message-id of an article, empty if it has none.
+pub fn id_of<'a>(article: &'a Article<'_>) -> &'a [u8]
+    ensures { result.now ≡ model_article.id article.now }
+{
+    match article.id() {
+        Some(id) => id,
+        None => &[],
+    }
+}
+
+/// The message-id that a host makes for a serial.
+fn made_id(alloc: Global, host: &[u8], serial: u64) -> Result<Vec<u8>, AllocError>
+    ensures { IfOk result (λ id. id.items ≡ model_article.made_id host.now serial) }
+{
+    let mut buffer = Buffer::new();
+    let number = buffer.format(serial).as_bytes();
+    let mut id = Vec::with_capacity(alloc, host.len().saturating_add(ID_MARKS + number.len()))?;
+    id.extend_from_slice(b"<")?;
+    id.extend_from_slice(number)?;
+    id.extend_from_slice(b"@")?;
+    id.extend_from_slice(host)?;
+    id.extend_from_slice(b">")?;
+    Ok(id)
+}
+
+/// Whether an article with this id may get this serial.
+fn may_have_id(
+    alloc: Global,
+    index: &Index,
+    host: &[u8],
+    serial: u64,
+    id: &[u8],
+) -> Result<bool, AllocError>
+    ensures { IfOk result (λ may. (S : Spool) → Indexes S index.now → (IsTrue may ↔ MayHaveId host.now S serial id.now)) }
+{
+    if let Some(_) = index.by_id(id) {
+        return Ok(false);
+    }
+    if !is_of_host(host, id) {
+        return Ok(true);
+    }
+    let made = made_id(alloc, host, serial)?;
+    Ok(id == made.as_slice())
+}
+
+/// Whether these are the same names in the same order.
+fn are_same(names: &[Text], others: &[&[u8]]) -> bool
+    ensures { IsTrue result ↔ (names.now ≡ map (λ other. other.now) others.now) }
+{
+    if names.len() != others.len() {
+        return false;
+    }
+    for i in 0..names.len() {
+        if names[i].as_slice() != others[i] {
+            return false;
+        }
+    }
+    true
+}
+
+/// Whether a carried article without a cause may be filed in these groups; `here` are those of its own groups that
+/// exist.
+pub fn may_file(
+    alloc: Global,
+    index: &Index,
+    host: &[u8],
+    serial: u64,
+    article: &Article<'_>,
+    here: &[Text],
+    groups: &[&[u8]],
+    moment: u64,
+) -> Result<bool, AllocError>
+    requires { cause Carried article.now ≡ None }
+    ensures { IfOk result (λ may. (S : Spool) → Indexes S index.now
+        → here.now ≡ filter (spool.is_here S) (model_article.groups_of article.now) → serial ≡ length S + 1
+        → (IsTrue may ↔ MayFile host.now S article.now (map (λ g. g.now) groups.now) moment)) }
+{
+    if groups.is_empty() {
+        return Ok(false);
+    }
+    if moment >= MOMENT_LIMIT {
+        return Ok(false);
+    }
+    if !are_same(here, groups) {
+        return Ok(false);
+    }
+    may_have_id(alloc, index, host, serial, id_of(article))
+}

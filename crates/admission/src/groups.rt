@@ -1,0 +1,91 @@
+//! Groups: finding one by name, whether one may be made, and whether articles may be removed from one.
+
+ghost use Rattle.std.specs.Prelude.{◌≡◌, ◌↔◌, IsTrue, filter, length, option_map, IfOk};
+ghost use Rattle.std.specs.List.{list_all};
+ghost use Rattle.model.specs.Indexed.{group_index};
+ghost use Rattle.model.specs.Lawful.{MayExpire, MayMake, is_description_octet};
+ghost use Rattle.model.specs.Spool.{Spool, group_named};
+ghost use Rattle.model.specs.Spool as spool;
+ghost use Rattle.index.specs.Shown.{shown};
+ghost use Rattle.index.specs.View.{Indexes};
+ghost use Rattle.admission.specs.Fields.{are_group_fields};
+
+use index::{Group, Index};
+use model::Text;
+use names::is_group_name;
+use std::alloc::{AllocError, Global};
+
+/// The octets of the longest description.
+const DESCRIPTION_LIMIT: usize = 200;
+
+/// The first moment of the year 10000.
+pub(crate) const MOMENT_LIMIT: u64 = 253_402_300_800;
+
+/// The group with this name.
+pub fn find_group<'i>(index: &'i Index, name: &[u8]) -> Option<&'i Group>
+    ensures { (S : Spool) → Indexes S index.now
+        → option_map (λ g. shown g.now) result ≡ option_map (group_index S) (group_named S name.now) }
+{
+    index.group(name)
+}
+
+/// Whether a group with this name exists.
+fn is_here(index: &Index, name: &[u8]) -> bool
+    ensures { (S : Spool) → Indexes S index.now → result ≡ spool.is_here S name.now }
+{
+    find_group(index, name).is_some()
+}
+
+/// Whether a group with these fields may be made if no other has its name.
+fn are_group_fields(name: &[u8], status: u8, description: &[u8], moment: u64) -> bool
+    ensures { result ≡ are_group_fields name.now status description.now moment }
+{
+    is_group_name(name)
+        && ((status == b'y' || status == b'n')
+            && (description.len() <= DESCRIPTION_LIMIT
+                && (is_printable(description) && moment < MOMENT_LIMIT)))
+}
+
+/// Whether each octet is SP or visible.
+fn is_printable(description: &[u8]) -> bool
+    ensures { result ≡ list_all is_description_octet description.now }
+{
+    description.iter().all(|x| 32 <= *x && *x <= 126)
+}
+
+/// Whether a group with these fields may be made.
+pub fn may_make(index: &Index, name: &[u8], status: u8, description: &[u8], moment: u64) -> bool
+    ensures { (S : Spool) → Indexes S index.now → (IsTrue result ↔ MayMake S name.now status description.now moment) }
+{
+    if !are_group_fields(name, status, description, moment) {
+        return false;
+    }
+    !is_here(index, name)
+}
+
+/// Whether the articles of a group up to a number may be removed from it.
+pub fn may_expire(index: &Index, group: &[u8], number: u64) -> bool
+    ensures { (S : Spool) → Indexes S index.now → (IsTrue result ↔ MayExpire S group.now number) }
+{
+    let Some(found) = find_group(index, group) else {
+        return false;
+    };
+    let low = found.low();
+    if number < low {
+        return false;
+    }
+    number <= found.high()
+}
+
+/// Those of the names whose groups exist. Refused only for want of memory.
+pub fn groups_here(alloc: Global, index: &Index, names: &[Text]) -> Result<Vec<Text>, AllocError>
+    ensures { IfOk result (λ here. (S : Spool) → Indexes S index.now → here.items ≡ filter (spool.is_here S) names.now) }
+{
+    let mut here = Vec::with_capacity(alloc, names.len())?;
+    for name in names {
+        if is_here(index, name.as_slice()) {
+            here.push(name.copy(alloc)?)?;
+        }
+    }
+    Ok(here)
+}

@@ -1,0 +1,42 @@
+//! A spool that takes changes: the questions of `lookups`, and the filing of an article. The commands and the spool in
+//! files both stand on it, and neither on the other.
+#![tactic(auto)]
+
+ghost use Rattle.std.specs.Prelude.{◌≡◌, ◌⊎◌, ◌++◌, ◌∷◌, [], MatchResult, true, false};
+ghost use Rattle.model.specs.Lawful.{IsLawful};
+ghost use Rattle.model.specs.declared.change.Change.TheVariants as change;
+
+use article::Article;
+use lookups::LookUps;
+use model::Text;
+
+/// Why an article was not filed.
+#[derive(Clone, Copy, Debug, Drop, PartialEq, Eq)]
+pub enum FileError {
+    /// There is no room for it.
+    Full,
+    /// A growth was refused.
+    Memory,
+}
+
+/// A spool in which articles may be filed.
+pub trait ChangeSpool: LookUps {
+    ghost use Rattle.std.specs.Prelude.{Bool};
+    ghost use Rattle.model.specs.declared.change.Change.{Change as ChangeView};
+
+    /// Whether there is no room for the change.
+    ghost lacks_room: { Self → ChangeView → Bool };
+
+    /// Relates two values: the second is the first with this change added as the last one.
+    ghost adds: { Self → Self → ChangeView → Type 0 };
+
+    /// Files an article in these groups, at a moment in seconds since 1970. Its change must be one that may follow.
+    /// `Full` comes exactly if there is no room, otherwise only `Memory`; a refusal changes nothing.
+    fn file(&mut self, article: &Article<'_>, groups: &[Text], moment: u64) -> Result<(), FileError>
+        requires { IsLawful (Self.host_of self.old)
+            (Self.changes self.old ++ change.Article article.now groups.now moment ∷ []) }
+        ensures { let its = change.Article article.now groups.now moment in MatchResult result
+            (λ done. (lacks_room self.old its ≡ false) × adds self.old self.new its)
+            (λ error. (((error ≡ FileError.Memory) × (lacks_room self.old its ≡ false))
+            ⊎ ((error ≡ FileError.Full) × (lacks_room self.old its ≡ true))) × (self.new ≡ self.old)) };
+}

@@ -1,5 +1,0 @@
-use Rattle.served.proofs.Room.{Files}
-use Rattle.served.proofs.peer.file.Given as goal
-
-abbrev pub invariant-loop-index : goal.invariant-loop-index
-invariant-loop-index l = Files l.ready l.fn.peers.items l.peers.items l.index

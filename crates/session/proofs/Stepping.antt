@@ -1,0 +1,76 @@
+-- A step by what the session awaits is the step of the session.
+use Rattle.std.proofs.Common.{◌≡◌, ℕ, Bool, true, false, refl, sym, subst}
+use Rattle.std.specs.Prelude.{None, if◌then◌else◌}
+use Rattle.model.specs.Stream.{Octets}
+use Rattle.model.specs.Answer.{answer, awaiting, is_long, is_long_as_stored, is_long_by, post_answer, post_outcome, says, served}
+use Rattle.model.specs.Reads.{outcome_reads, reads, served_reads}
+use Rattle.model.specs.Replies.{not_accepted}
+use Rattle.model.specs.Spool.{Spool}
+use Rattle.model.specs.declared.message.Mark.TheVariants as mark
+use Rattle.model.specs.declared.message.Message.{Message}
+use Rattle.model.specs.declared.message.Message.TheVariants as message
+use Rattle.model.specs.declared.session.Awaits.TheVariants as awaits
+use Rattle.model.specs.declared.session.Session.{Session}
+use Rattle.posting_commands.specs.Outcomes.{Said, post_said, then_line}
+use Rattle.replies.specs.Answered.{answered}
+use Rattle.session.specs.Steps.{Taken, posted_step, step_of}
+
+module _ (host : Octets) (S : Spool) (x : Session) (t : ℕ) (m : Message) where
+  -- by whether it is an article that is too long
+  abbrev by_length : Bool → Taken
+  by_length b = if b then record { answer = says (awaiting x awaits.Line) not_accepted; mark = mark.Long; reads = 0 } else record {
+    answer =
+        served host S x t x.awaits m;
+    mark = mark.Served;
+    reads = served_reads host S x t x.awaits m;
+  }
+
+  answer_by : (b : Bool) → (by_length b).answer ≡ answer host S x m t (by_length b).mark
+  unfolding answer
+  answer_by true = refl
+  answer_by false = refl
+
+  reads_by : (b : Bool) → (by_length b).reads ≡ reads host S x m t (by_length b).mark
+  unfolding reads
+  reads_by true = refl
+  reads_by false = refl
+
+  mark_by : (b : Bool) → (by_length b).mark ≡ (if b then mark.Long else mark.Served)
+  mark_by true = refl
+  mark_by false = refl
+
+  pub step_answer : (s : Taken) → s ≡ step_of host S x t x.awaits m → s.answer ≡ answer host S x m t s.mark
+  step_answer s is = subst (λ (s : Taken). s.answer ≡ answer host S x m t s.mark) (sym is) (answer_by (is_long_by host S x.awaits m))
+
+  pub step_reads : (s : Taken) → s ≡ step_of host S x t x.awaits m → s.reads ≡ reads host S x m t s.mark
+  step_reads s is = subst (λ (s : Taken). s.reads ≡ reads host S x m t s.mark) (sym is) (reads_by (is_long_by host S x.awaits m))
+
+  pub step_mark : (s : Taken) → s ≡ step_of host S x t x.awaits m → s.mark ≡ (if is_long host S x m then mark.Long else mark.Served)
+  unfolding is_long
+  step_mark s is = subst (λ (s : Taken). s.mark ≡ (if is_long_by host S x.awaits m then mark.Long else mark.Served)) (sym is)
+      (mark_by (is_long_by host S x.awaits m))
+
+-- What is said of a posted article is its step.
+module _ (host : Octets) (S : Spool) (x : Session) (t : ℕ) (text : Octets) where
+  abbrev said_by : Bool → Said
+  said_by b = if b then record { answered = answered (then_line x not_accepted None) 0; mark = mark.Long } else record {
+    answered =
+        answered (post_answer host S x t text) (outcome_reads S (post_outcome host S text));
+    mark = mark.Served;
+  }
+
+  abbrev step_by : Bool → Taken
+  step_by b = if b then record { answer = says (awaiting x awaits.Line) not_accepted; mark = mark.Long; reads = 0 } else record {
+    answer =
+        served host S x t awaits.PostBlock (message.Block text);
+    mark = mark.Served;
+    reads = served_reads host S x t awaits.PostBlock (message.Block text);
+  }
+
+  posted_by : (b : Bool) → posted_step (said_by b) ≡ step_by b
+  unfolding served served_reads
+  posted_by true = refl
+  posted_by false = refl
+
+  pub post_step : posted_step (post_said host S x t text) ≡ step_of host S x t awaits.PostBlock (message.Block text)
+  post_step = posted_by (is_long_as_stored host S text)

@@ -1,0 +1,44 @@
+-- What serving a message answers, and what it does to the spool.
+use Rattle.std.specs.Prelude.{◌≡◌, ℕ, Bool, true, false, Option, Some, None, Result, MatchResult, if◌then◌else◌}
+use Rattle.model.specs.Stream.{Octets}
+use Rattle.model.specs.Answer.{answer, is_long}
+use Rattle.model.specs.Reads.{reads}
+use Rattle.model.specs.Spool.{Spool}
+use Rattle.model.specs.declared.change.Change.{Change}
+use Rattle.model.specs.declared.message.Message.{Message}
+use Rattle.model.specs.declared.message.Mark.{Mark}
+use Rattle.model.specs.declared.message.Mark.TheVariants as mark
+use Rattle.model.specs.declared.session.Session.{Session}
+use Rattle.change_spool.specs.declared.FileError.{FileError}
+use Rattle.change_spool.specs.declared.FileError.TheVariants as error
+use Rattle.session.specs.declared.Served.{Served}
+
+-- whether there is no room for the change of an answer, if it makes one
+abbrev pub lacks_room_for : (Change → Bool) → Option Change → Bool
+lacks_room_for lacks None = false
+lacks_room_for lacks (Some c) = lacks c
+
+-- the mark of a message that is served
+abbrev pub mark_in : Octets → Spool → (Change → Bool) → Session → Message → ℕ → Mark
+mark_in host S lacks x m t =
+    if is_long host S x m then mark.Long
+    else if lacks_room_for lacks (answer host S x m t mark.Served).change then mark.Full
+    else mark.Served
+
+-- the change of an answer was filed, or there is none and the spool is as it was
+abbrev pub Grows : (Change → Type 0) → Type 0 → Option Change → Type 0
+Grows adds stays None = stays
+Grows adds stays (Some c) = adds c
+
+-- a change was filed, or there is no room for it, or memory was refused; a refusal leaves the spool as it was
+abbrev pub IsFiled : (Change → Bool) → (Change → Type 0) → Type 0 → Change → Result (Unit {0}) FileError → Type 0
+IsFiled lacks adds stays c result = MatchResult result (λ done. (lacks c ≡ false) × adds c)
+    (λ e. (e ≡ error.Full → lacks c ≡ true) × stays)
+
+pub record IsServed (host : Octets) (S : Spool) (lacks : Change → Bool) (adds : Change → Type 0) (stays : Type 0) (x : Session)
+    (m : Message) (t : ℕ) (served : Served) : Type 0 where
+  pub mark : served.mark ≡ mark_in host S lacks x m t
+  pub reply : served.reply ≡ (answer host S x m t served.mark).reply
+  pub next : served.next ≡ (answer host S x m t served.mark).next
+  pub reads : served.reads ≡ reads host S x m t served.mark
+  pub spool : Grows adds stays (answer host S x m t served.mark).change

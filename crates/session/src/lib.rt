@@ -1,0 +1,107 @@
+//! A message of a session, served over a spool that takes changes: the answer, what it reads, its mark, and the change
+//! that is filed.
+#![tactic(auto)]
+
+ghost use Rattle.std.specs.Prelude.{◌≡◌, ◌<◌, ◌++◌, ◌∷◌, [], IfOk, OnErr};
+ghost use Rattle.model.specs.Calendar.{moment_limit};
+ghost use Rattle.model.specs.Lawful.{IsLawful, IsLawfulSession};
+ghost use Rattle.posting_commands.specs.Accepted.{change_of};
+ghost use Rattle.session.specs.Served.{IsFiled, IsServed};
+
+mod commands;
+mod messages;
+mod steps;
+
+use change_spool::{ChangeSpool, FileError};
+use messages::Step;
+use model::{Answer, Mark, Message, Session, Text, lawful_stays};
+use plain_commands::full;
+use posting_commands::{Accepted, Stored};
+use replies::Answered;
+use std::alloc::{AllocError, Global};
+use steps::step;
+
+/// The outcome of a message that was served.
+#[derive(Drop)]
+pub struct Served {
+    pub reply: Text,
+    /// the session afterwards
+    pub next: Session,
+    pub mark: Mark,
+    /// the greatest serial that the answer reads, counting its own change
+    pub reads: u64,
+}
+
+/// Answers a message and files the change that it accepts, at a moment in seconds since 1970, below 253,402,300,800.
+/// The mark is `Long` if a posted article is refused because it would be too long as it is stored. It is `Full` if
+/// there is no room for the change, and otherwise `Served`. Refused only for want of memory, with nothing changed.
+pub fn serve<S: ChangeSpool>(
+    alloc: Global,
+    spool: &mut S,
+    session: &Session,
+    message: &Message,
+    moment: u64,
+) -> Result<Served, AllocError>
+    requires moment { moment < moment_limit }
+    requires session { IsLawfulSession (S.host_of spool.old) session.now }
+    ensures ok { IfOk result (IsServed (S.host_of spool.old) (S.changes spool.old) (S.lacks_room spool.old) (S.adds spool.old spool.new)
+        (spool.new ≡ spool.old) session.now message.now moment) }
+    ensures err { OnErr result (spool.new ≡ spool.old) }
+{
+    lawful_stays();
+    let Step {
+        reply,
+        next,
+        accepted,
+        mark,
+        reads,
+    } = step(alloc, spool, session, message, moment)?;
+    let served = Served {
+        reply,
+        next,
+        mark,
+        reads,
+    };
+    let Some(accepted) = accepted else {
+        return Ok(served);
+    };
+    match file(alloc, spool, &accepted) {
+        Ok(()) => Ok(served),
+        Err(FileError::Full) => Ok(turned_away(full(alloc, session)?)),
+        Err(FileError::Memory) => Err(AllocError),
+    }
+}
+
+/// Files an article that was accepted, by what was read of it. `Full` comes only if there is no room; a refusal
+/// changes nothing.
+fn file<S: ChangeSpool>(
+    alloc: Global,
+    spool: &mut S,
+    accepted: &Accepted<'_>,
+) -> Result<(), FileError>
+    requires { IsLawful (S.host_of spool.old) (S.changes spool.old ++ change_of accepted.now ∷ []) }
+    ensures { IsFiled (S.lacks_room spool.old) (S.adds spool.old spool.new) (spool.new ≡ spool.old) (change_of accepted.now) result }
+{
+    let groups = accepted.groups.as_slice();
+    match &accepted.text {
+        Stored::Carried(article) => spool.file(article, groups, accepted.moment),
+        Stored::Posted(stored) => match stored.article(alloc) {
+            Ok(article) => spool.file(&article, groups, accepted.moment),
+            Err(_) => Err(FileError::Memory),
+        },
+    }
+}
+
+/// The answer if there is no room.
+fn turned_away(said: Answered) -> Served
+    ensures { result ≡ record { reply = said.answer.reply; next = said.answer.next; mark = Mark.Full; reads = said.reads } }
+{
+    let Answered { answer, reads } = said;
+    let Answer { reply, next, .. } = answer;
+    Served {
+        reply,
+        next,
+        mark: Mark::Full,
+        reads,
+    }
+}

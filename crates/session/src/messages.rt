@@ -1,0 +1,189 @@
+//! Messages, by what the session awaits.
+
+ghost use Rattle.std.specs.Prelude.{◌≡◌, ◌<◌, IfOk, None};
+ghost use Rattle.model.specs.Answer.{awaiting, line_answer, says};
+ghost use Rattle.model.specs.Calendar.{moment_limit};
+ghost use Rattle.model.specs.Commands.{parsed_line};
+ghost use Rattle.model.specs.Reads.{line_reads};
+ghost use Rattle.model.specs.declared.session.Awaits.TheVariants as waits;
+ghost use Rattle.replies.specs.Answered.{answered};
+ghost use Rattle.model.specs.Replies.{syntax_error};
+ghost use Rattle.replies.specs.Replies.{sent};
+ghost use Rattle.posting_commands.specs.Outcomes.{said};
+ghost use Rattle.session.specs.Steps.{posted_step, served_step, step_of, taken};
+
+use crate::commands::command;
+use grammar::arguments_are_in_grammar;
+use lookups::LookUps;
+use model::{Answer, Awaits, Mark, Message, Parsed, Session, Text};
+use plain_commands::ends;
+use posting_commands::{Accepted, Posted, ihave_block, post_block};
+use replies::{Answered, Reply, says_line};
+use std::alloc::{AllocError, Global};
+
+/// The outcome of a message.
+#[derive(Drop)]
+pub(crate) struct Step<'m> {
+    pub reply: Text,
+    /// the session afterwards
+    pub next: Session,
+    /// the article that is to be filed
+    pub accepted: Option<Accepted<'m>>,
+    /// `Long` if a posted article is refused because it would be too long as it is stored, else `Served`
+    pub mark: Mark,
+    /// the greatest serial that the answer reads, counting its own change
+    pub reads: u64,
+}
+
+/// An answer that is served and changes nothing.
+fn served<'m>(said: Answered) -> Step<'m>
+    requires { said.answer.change ≡ None }
+    ensures { taken result ≡ served_step said }
+{
+    let Answered { answer, reads } = said;
+    let Answer { reply, next, .. } = answer;
+    Step {
+        reply,
+        next,
+        accepted: None,
+        mark: Mark::Served,
+        reads,
+    }
+}
+
+/// The answer to the article that follows POST or IHAVE, with its mark.
+fn posted(post: Posted<'_>) -> Step<'_>
+    ensures { taken result ≡ posted_step (said post.entry) }
+{
+    let Posted {
+        reply,
+        next,
+        accepted,
+        mark,
+        reads,
+    } = post;
+    Step {
+        reply,
+        next,
+        accepted,
+        mark,
+        reads,
+    }
+}
+
+/// The answer to a message that is not a line where one is awaited (RFC 3977, section 3.2.1).
+fn bad<'m>(alloc: Global, session: &Session) -> Result<Step<'m>, AllocError>
+    ensures { IfOk result (λ step. taken step ≡ served_step (answered (says session.now syntax_error) 0)) }
+{
+    Ok(served(says_line(alloc, session, Reply::SyntaxError, 0)?))
+}
+
+/// The answer to a command line without its CRLF.
+fn line<L: LookUps>(
+    alloc: Global,
+    spool: &L,
+    session: &Session,
+    text: &[u8],
+    moment: u64,
+) -> Result<Answered, AllocError>
+    requires { moment < moment_limit }
+    ensures { IfOk result (λ r. r ≡ answered
+        (line_answer (L.host_of spool.now) (L.changes spool.now) session.now moment (parsed_line text.now))
+        (line_reads (L.host_of spool.now) (L.changes spool.now) session.now moment (parsed_line text.now))) }
+{
+    arguments_are_in_grammar();
+    match grammar::read(alloc, text)? {
+        Parsed::Command(read) => command(alloc, spool, session, read, moment),
+        Parsed::Unknown => says_line(alloc, session, Reply::UnknownCommand, 0),
+        Parsed::Bad => says_line(alloc, session, Reply::SyntaxError, 0),
+    }
+}
+
+/// The answer where a line is awaited.
+#[tactic(auto, unfolding(model::specs::Answer::served, model::specs::Reads::served_reads))]
+pub(crate) fn at_line<'m, L: LookUps>(
+    alloc: Global,
+    spool: &L,
+    session: &Session,
+    message: &'m Message,
+    moment: u64,
+) -> Result<Step<'m>, AllocError>
+    requires { moment < moment_limit }
+    ensures { IfOk result (λ step. taken step ≡ step_of (L.host_of spool.now) (L.changes spool.now) session.now moment waits.Line message.now) }
+{
+    match message {
+        Message::Line(text) => {
+            let said = line(alloc, spool, session, text.as_slice(), moment)?;
+            Ok(served(said))
+        }
+        Message::Block(_) => bad(alloc, session),
+        Message::TooLong => bad(alloc, session),
+    }
+}
+
+/// The answer where the article after POST is awaited.
+#[tactic(auto, unfolding(model::specs::Answer::served, model::specs::Reads::served_reads))]
+pub(crate) fn at_post<'m, L: LookUps>(
+    alloc: Global,
+    spool: &L,
+    session: &Session,
+    message: &'m Message,
+    moment: u64,
+) -> Result<Step<'m>, AllocError>
+    requires { moment < moment_limit }
+    ensures { IfOk result (λ step. taken step ≡ step_of (L.host_of spool.now) (L.changes spool.now) session.now moment waits.PostBlock
+        message.now) }
+{
+    match message {
+        Message::Block(text) => {
+            let said = post_block(alloc, spool, session, text.as_slice(), moment)?;
+            Ok(posted(said))
+        }
+        Message::TooLong => refused(alloc, session, Reply::NotAccepted),
+        Message::Line(_) => bad(alloc, session),
+    }
+}
+
+/// The answer where the article after IHAVE with this message-id is awaited.
+#[tactic(auto, unfolding(model::specs::Answer::served, model::specs::Reads::served_reads))]
+pub(crate) fn at_ihave<'m, L: LookUps>(
+    alloc: Global,
+    spool: &L,
+    session: &Session,
+    id: &[u8],
+    message: &'m Message,
+    moment: u64,
+) -> Result<Step<'m>, AllocError>
+    ensures { IfOk result (λ step. taken step ≡ step_of (L.host_of spool.now) (L.changes spool.now) session.now moment
+        (waits.IhaveBlock id.now) message.now) }
+{
+    match message {
+        Message::Block(text) => {
+            let said = ihave_block(alloc, spool, session, id, text.as_slice(), moment)?;
+            Ok(posted(said))
+        }
+        Message::TooLong => refused(alloc, session, Reply::Rejected),
+        Message::Line(_) => bad(alloc, session),
+    }
+}
+
+/// The answer to an article that is too long to be read.
+fn refused<'m>(alloc: Global, session: &Session, which: Reply) -> Result<Step<'m>, AllocError>
+    ensures { IfOk result (λ step. taken step ≡ served_step (answered (says (awaiting session.now waits.Line) (sent which)) 0)) }
+{
+    Ok(served(ends(alloc, session, which, Awaits::Line)?))
+}
+
+/// The answer where nothing more is awaited.
+#[tactic(auto, unfolding(model::specs::Answer::served, model::specs::Reads::served_reads))]
+pub(crate) fn at_nothing<'m, L: LookUps>(
+    alloc: Global,
+    spool: &L,
+    session: &Session,
+    message: &'m Message,
+    moment: u64,
+) -> Result<Step<'m>, AllocError>
+    ensures { IfOk result (λ step. taken step ≡ step_of (L.host_of spool.now) (L.changes spool.now) session.now moment waits.Nothing message.now) }
+{
+    bad(alloc, session)
+}

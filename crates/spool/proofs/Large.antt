@@ -1,0 +1,89 @@
+-- Whether the files of groups are too large for another article.
+use Rattle.std.proofs.Common.{◌≡◌, inl, inr, ◌<◌, ℕ, zero, suc, ◌*◌, Bool, true, false, List, [], ◌∷◌, length, get_or, refl, sym, ◌∙◌, ap}
+use Rattle.std.proofs.Common.{subst, arith}
+use Rattle.std.specs.Prelude.{Option, Some, None, nat_lt, option_map, is_some, ◌||◌, if◌then◌else◌}
+use Rattle.std.specs.List.{list_any}
+use Rattle.std.proofs.lemmas.Bool.{cases_lt, le-ltb, lt-ltb, true≢false}
+use Rattle.std.proofs.lemmas.List.{length-map}
+use Rattle.model.specs.Stream.{Octets}
+use Rattle.model.specs.Indexed.{GroupIndex, group_index}
+use Rattle.model.specs.Room.{is_full_for, is_large}
+use Rattle.model.specs.Spool.{Spool, NewsArticle, NewsGroup, filed_in, group_named, high, is_here}
+use Rattle.model.specs.SpoolFiles.{files_of, numbers_file, overview_file}
+use Rattle.model.specs.Article.{groups_of}
+use Rattle.model.specs.Lawful.{MayFile}
+use Rattle.model.specs.declared.change.Change.{Change}
+use Rattle.model.specs.declared.change.Change.TheVariants.{Article}
+use Rattle.change_spool.specs.declared.FileError.TheVariants as file
+use Rattle.spool_opening.specs.Replayed.{AreHere}
+use Rattle.spool_opening.proofs.Filed.{are_here}
+use Rattle.spool.specs.Refusals.{article_refusal}
+use Rattle.spool.specs.View.{SpoolView}
+use Rattle.model.proofs.Indexing.{numbers_size}
+use Rattle.index.specs.Filing.{end_of}
+use Rattle.index.proofs.Growing.{overview_size}
+use Rattle.index.proofs.LookUps.{group_is, not_here}
+use Rattle.spool.proofs.Full.{lacks}
+
+pub any_at : (p : Octets → Bool) (xs : List Octets) (k : ℕ) (d : Octets) → k < length xs → p (get_or xs k d) ≡ true → list_any p xs ≡ true
+any_at p [] k d low passes = absurd (omega arith)
+any_at p (x ∷ xs) zero d low passes = ap (λ (b : Bool). b || list_any p xs) passes
+any_at p (x ∷ xs) (suc k) d low passes = over (p x) (any_at p xs k d (omega arith) passes) where
+  over : (b : Bool) → list_any p xs ≡ true → (b || list_any p xs) ≡ true
+  over true rest = refl
+  over false rest = rest
+
+-- by 16 octets for each number
+pub numbers_large : (n : ℕ) → nat_lt 16776448 n ≡ nat_lt 268423168 (16 * n)
+numbers_large n = elim (cases_lt 16776448 n) [
+  | inl more ↦ lt-ltb 16776448 n more ∙ sym (lt-ltb 268423168 (16 * n) (omega (arith, more)))
+  | inr few ↦ le-ltb 16776448 n few ∙ sym (le-ltb 268423168 (16 * n) (omega (arith, few)))
+]
+
+-- a file of the group is too large
+abbrev pub one_large : Spool → Octets → Bool
+one_large S g = is_large (numbers_file S g) || is_large (overview_file S g)
+
+pub large_group : (S : Spool) (name : Octets) (i : GroupIndex) → Some i ≡ option_map (group_index S) (group_named S name)
+    → (nat_lt 268423168 (16 * length i.filed) || nat_lt 268423168 (end_of i)) ≡ one_large S name
+large_group S name i is =
+    let its = group_is S name i is in
+    let count : length i.filed ≡ high S name =
+    ap (λ (j : GroupIndex). length j.filed) its.its_index ∙ length-map (filed_in S its.group.name) (λ (a : NewsArticle). a.serial)
+    ∙ ap (high S) its.its_name in
+    let numbers : 16 * length i.filed ≡ length (numbers_file S name) = ap (λ (n : ℕ). 16 * n) count ∙ sym (numbers_size S name) in
+    let overview : end_of i ≡ length (overview_file S name) = ap end_of its.its_index ∙ overview_size S its.group
+    ∙ ap (λ (g : Octets). length (overview_file S g)) its.its_name in
+    λ k. nat_lt 268423168 (numbers k) || nat_lt 268423168 (overview k)
+
+pub never_here : (S : Spool) (name : Octets) → None ≡ option_map (group_index S) (group_named S name) → is_here S name ≡ true → ⊥
+never_here S name is here = true≢false (sym here ∙ ap (λ (o : Option NewsGroup). is_some o) (not_here S name is))
+
+-- ---- an article
+
+parted : (a b x : Bool) → (a || (b || (x || false))) ≡ ((a || b) || x)
+parted true b x = refl
+parted false true x = refl
+parted false false true = refl
+parted false false false = refl
+
+pub full_article : (blocks inodes : ℕ) (S : Spool) (text : Octets) (filed : List Octets) (moment : ℕ)
+    → is_full_for blocks inodes S (Article text filed moment) ≡ (lacks blocks inodes S 1 || list_any (one_large S) filed)
+unfolding is_full_for
+full_article blocks inodes S text filed moment =
+    parted (nat_lt (Rattle.model.specs.Room.free_blocks_beside blocks inodes (files_of S)) 256)
+    (nat_lt (Rattle.model.specs.Room.free_inodes_beside inodes (files_of S)) 1) (list_any (one_large S) filed)
+
+pub full_any_article : (blocks inodes : ℕ) (S : Spool) (text : Octets) (filed : List Octets) (moment : ℕ)
+    → is_full_for blocks inodes S (Article text filed moment) ≡ is_full_for blocks inodes S (Article [] filed 0)
+full_any_article blocks inodes S text filed moment = full_article blocks inodes S text filed moment
+    ∙ sym (full_article blocks inodes S [] filed 0)
+
+pub article_refused : (s : SpoolView) (c : Change) (full : Bool) → is_full_for (length s.blocks) s.inodes s.changes c ≡ full
+    → article_refusal s c ≡ (if full then Some file.Full else None)
+article_refused s c full room = ap (λ (b : Bool). if b then Some file.Full else None) room
+
+-- the groups of an article that may be filed are here
+pub are_filed : (host : Octets) (S : Spool) (text : Octets) (filed : List Octets) (moment : ℕ) → MayFile host S text filed moment
+    → AreHere S filed
+are_filed host S text filed moment may = subst (AreHere S) (sym may.filed) (are_here S (groups_of text))

@@ -1,0 +1,25 @@
+use Rattle.std.proofs.Common.{[], ◌∙◌, ap, subst, sym}
+use Rattle.filing.specs.Calls.{IsKnown}
+use Rattle.volume.specs.Volume.{VolumeView}
+use Rattle.spool.specs.View.{SpoolView}
+use Rattle.spool.proofs.Held.{cleaned, kept_stands, kept_view, the_changes}
+use Rattle.spool.proofs.Spool.copy_dirty.Goals as goal
+
+pub invariant_of-self : goal.invariant_of-self
+invariant_of-self c =
+    let s = c.self.inside in
+    let kept = cleaned s.host s.inodes s.volume c.copy_dirty.new.self s.index s.places s.stands.changes c.copy_dirty.ensures.clean
+    c.self.invariant.0 in
+    let both = kept_stands s.host s.inodes c.copy_dirty.new.self s.index s.places s.free_inodes s.stands.changes c.self-1.given.0 kept
+    c.self.invariant.1 in
+    (both.0, both.1, subst (λ (x : VolumeView). IsKnown s.inodes s.free x.cache) (sym c.copy_dirty.ensures.clean) c.self.invariant.2)
+
+pub returns-clause-clean : goal.returns-clause-clean
+returns-clause-clean c =
+    let s = c.self.inside in
+    let clean : VolumeView = record s.volume { dirty = [] } in
+    let kept = cleaned s.host s.inodes s.volume c.copy_dirty.new.self s.index s.places s.stands.changes c.copy_dirty.ensures.clean
+    c.self.invariant.0 in
+    let same = the_changes s.host s.inodes c.copy_dirty.new.self.cache s.stands.changes kept.is c.self-1.given.0 in
+    kept_view s.host s.inodes clean c.copy_dirty.new.self s.stands c.self-1.given.0 c.copy_dirty.ensures.clean same
+    ∙ ap (λ (x : SpoolView). record x { dirty = [] }) c.self.view_is

@@ -1,0 +1,5 @@
+use Rattle.std.proofs.Common.{rules}
+use Rattle.spool.proofs.look_ups.SpoolLookUps.by_number.Goals as goal
+
+pub returns : goal.returns
+returns c = search rules

@@ -1,0 +1,27 @@
+//! Articles filed in the spool.
+
+use crate::Spool;
+use article::Article;
+use change_spool::{ChangeSpool, FileError};
+use model::Text;
+
+impl ChangeSpool for Spool {
+    ghost use Rattle.spool.specs.Refusals.{is_full_for};
+    ghost use Rattle.spool.specs.View.{Adds};
+
+    ghost lacks_room = { λ s c. is_full_for s c };
+
+    ghost adds = { λ before after c. Adds before after c };
+
+    fn file(
+        &mut self,
+        article: &Article<'_>,
+        groups: &[Text],
+        moment: u64,
+    ) -> Result<(), FileError> {
+        match self.add_article(article, groups, moment) {
+            Ok(_) => Ok(()),
+            Err(error) => Err(error),
+        }
+    }
+}

@@ -1,0 +1,407 @@
+//! The list of accepted changes, in files over the cached logical blocks, with an index and the places of the files in memory.
+#![tactic(auto)]
+
+ghost use Rattle.std.specs.Prelude.{◌≡◌, ◌⊎◌, ◌+◌, ◌-◌, ◌<◌, ◌≤◌, ◌||◌, ◌&&◌, nat_lt, ℕ, List, [], Some, false, None, length, replicate};
+ghost use Rattle.std.specs.Prelude.{slice_index_or, IsTrue, OnErr, OnOk};
+ghost use Rattle.std.specs.List.{All, flat_map, list_all};
+ghost use Rattle.model.specs.Calendar.{moment_limit};
+ghost use Rattle.model.specs.Lawful.{MayExpire, MayFile, MayMake, is_description_octet};
+ghost use Rattle.model.specs.Layout.{Holds};
+ghost use Rattle.model.specs.Names.{is_group_name, is_host};
+ghost use Rattle.model.specs.Room.{free_blocks_beside, free_inodes_beside};
+ghost use Rattle.model.specs.Files.{HasRoom, IsFileSystem, table};
+ghost use Rattle.model.specs.Spool.{Spool as Changes, groups, is_here};
+ghost use Rattle.model.specs.SpoolFiles.{files_of};
+ghost use Rattle.model.specs.Volume.{AreDistinct, blocks_from, laid_over};
+ghost use Rattle.model.specs.declared.change.Change.TheVariants as changed;
+ghost use Rattle.spool_opening.specs.Replayed.{AreHere};
+ghost use Rattle.volume.specs.Volume.{AgreeOutside};
+
+mod errors;
+mod files;
+mod look_ups;
+mod open;
+mod room;
+mod stored;
+
+use article::Article;
+use change_spool::FileError;
+pub use errors::{AddError, ExpireError};
+use filing::Free;
+use fs::free_block_count;
+use index::{Group, Index};
+use lookups::LookUps;
+use model::{Change, Text};
+use places::Places;
+use room::extends_large;
+use spool_growing::{grow_by_article, grow_by_expiry, grow_by_group};
+use std::alloc::{AllocError, Global};
+use std::marker::Model;
+use volume::{BatchBuf, Blocks, Volume};
+
+/// A change is refused as `Full` (E6) if fewer blocks than this are free.
+pub const BLOCKS_ASKED: u32 = 256;
+
+/// The most groups on a server.
+const GROUPS: usize = 4096;
+
+/// The files of a group: its record, its numbers, its overview.
+const GROUP_FILES: u32 = 3;
+
+/// The accepted changes of a host, in files, and the cache of the logical blocks that hold them.
+pub struct Spool {
+    alloc: Global,
+    host: Text,
+    inodes: u32,
+    free_inodes: u32,
+    free: Free,
+    volume: Volume,
+    index: Index,
+    places: Places,
+    ghost stands: { StandsIn host inodes volume.cache } by { one_stands host inodes volume.cache },
+}
+
+ghost use Rattle.spool.specs.Kept.{StandsIn, one_stands};
+
+// By hand: a caller that drops one would otherwise prove the derived one again, field by field.
+impl Drop for Spool {
+    fn drop(self) {
+        let Spool {
+            alloc: _,
+            host: _,
+            inodes: _,
+            free_inodes: _,
+            free: _,
+            volume: _,
+            index: _,
+            places: _,
+        } = self;
+    }
+}
+
+impl Model for Spool {
+    ghost use Rattle.filing.specs.Calls.{IsKnown};
+    ghost use Rattle.spool.specs.Kept.{AreFree};
+    ghost use Rattle.spool_growing.specs.Kept.{IsKept};
+    ghost use Rattle.spool.specs.View.{SpoolView};
+
+    ghost Value = { SpoolView };
+
+    ghost view = { λ s. record {
+      host = s.host;
+      inodes = s.inodes;
+      changes = s.stands.changes;
+      blocks = s.volume.cache;
+      dirty = s.volume.dirty;
+      sound = s.stands.held;
+    } };
+
+    ghost invariant = { λ s. IsKept s.host s.inodes s.volume s.index s.places s.stands.changes
+        × AreFree s.free_inodes s.inodes s.stands.changes × IsKnown s.inodes s.free s.volume.cache };
+}
+
+impl Spool {
+    ghost use Rattle.spool.specs.Kept.{CanStand};
+    ghost use Rattle.spool.specs.Refusals.{Tested, article_refusal, expiry_refusal, group_refusal, has_number, is_full_for};
+    ghost use Rattle.spool.specs.View.{Adds, IsSpool};
+
+    /// The spool in the blocks of a volume, with its index, the places of its files, and the number of free inodes.
+    pub fn of(
+        alloc: Global,
+        host: Text,
+        inodes: u32,
+        free_inodes: u32,
+        volume: Volume,
+        index: Index,
+        places: Places,
+    ) -> Spool
+        requires { CanStand host inodes free_inodes volume index places }
+        ensures host { result.host ≡ host }
+        ensures inodes { result.inodes ≡ inodes }
+        ensures changes { (S : Changes) → Holds host inodes volume.cache S → result.changes ≡ S }
+        ensures blocks { result.blocks ≡ volume.cache }
+        ensures dirty { result.dirty ≡ volume.dirty }
+    {
+        let blocks = free_block_count(&volume, inodes);
+        Spool {
+            alloc,
+            host,
+            inodes,
+            free_inodes,
+            free: Free {
+                inode: 0,
+                block: 0,
+                blocks,
+            },
+            volume,
+            index,
+            places,
+        }
+    }
+
+    /// The spool without changes, in an empty file system.
+    pub fn empty(alloc: Global, host: Text, inodes: u32, volume: Volume) -> Spool
+        requires named { IsTrue (is_host host) }
+        requires room { HasRoom inodes volume.cache }
+        requires rule { IsFileSystem inodes volume.cache }
+        requires none { table inodes volume.cache ≡ replicate inodes None }
+        requires seen { volume.seen ≡ volume.cache }
+        ensures host { result.host ≡ host }
+        ensures inodes { result.inodes ≡ inodes }
+        ensures changes { result.changes ≡ [] }
+        ensures blocks { result.blocks ≡ volume.cache }
+        ensures dirty { result.dirty ≡ volume.dirty }
+    {
+        Spool::of(
+            alloc,
+            host,
+            inodes,
+            inodes,
+            volume,
+            Index::new(alloc),
+            Places::new(alloc),
+        )
+    }
+
+    /// States what holds for every spool: its blocks hold its changes. It does nothing.
+    pub fn kept(&self)
+        ensures { IsSpool self.now }
+    {
+        let _ = &self.inodes;
+    }
+
+    /// The number of inodes in the volume's label.
+    pub fn inodes(&self) -> u32
+        ensures { result ≡ self.now.inodes }
+    {
+        self.inodes
+    }
+
+    /// The number of logical blocks.
+    pub fn blocks(&self) -> u32
+        ensures { result ≡ length self.now.blocks }
+    {
+        self.volume.len()
+    }
+
+    /// The number of dirty blocks.
+    pub fn dirty_len(&self) -> usize
+        ensures { result ≡ length self.now.dirty }
+    {
+        self.volume.dirty_len()
+    }
+
+    /// Copies the dirty blocks, at most 512, into the buffer in place of its content. Afterwards none is dirty.
+    pub fn copy_dirty(&mut self, into: &mut BatchBuf)
+        requires { length self.old.dirty ≤ 512 }
+        ensures clean { self.new ≡ record self.old { dirty = [] } }
+        ensures numbers { into.new.numbers ≡ self.old.dirty }
+        ensures images { into.new.images ≡ flat_map (λ n. slice_index_or self.old.blocks n []) self.old.dirty }
+        ensures distinct { AreDistinct into.new.numbers }
+        ensures below { All (λ n. n < length self.old.blocks) into.new.numbers }
+        ensures laid { (blocks : List (List ℕ)) → AgreeOutside into.new.numbers blocks self.old.blocks
+            → laid_over blocks into.new.numbers (blocks_from 0 (length into.new.numbers) into.new.images) ≡ self.old.blocks }
+    {
+        self.volume.copy_dirty(into);
+    }
+
+    /// Whether the group exists.
+    fn is_here(&self, name: &[u8]) -> bool
+        ensures { result ≡ is_here self.now.changes name.now }
+    {
+        self.index.group(name).is_some()
+    }
+
+    /// Whether too few blocks are free for a change.
+    fn lacks_blocks(&self) -> bool
+        ensures { result ≡ nat_lt (free_blocks_beside (length self.now.blocks) self.now.inodes (files_of self.now.changes)) 256 }
+    {
+        self.free.blocks < BLOCKS_ASKED
+    }
+
+    /// Whether too few blocks are free for a change, or too few inodes for its files.
+    fn lacks_room(&self, files: u32) -> bool
+        ensures { result ≡ (nat_lt (free_blocks_beside (length self.now.blocks) self.now.inodes (files_of self.now.changes)) 256
+            || nat_lt (free_inodes_beside self.now.inodes (files_of self.now.changes)) files) }
+    {
+        self.lacks_blocks() || self.free_inodes < files
+    }
+
+    /// Whether there is no room for a group.
+    fn is_full_for_group(&self) -> bool
+        ensures { result ≡ is_full_for self.now (changed.Group [] 0 [] 0) }
+    {
+        self.lacks_room(GROUP_FILES) || GROUPS <= self.index.groups().len()
+    }
+
+    /// Adds a group and answers its serial. Refused as `Exists`, `Full` or `Memory`, tested in that order. A refusal
+    /// changes nothing.
+    pub fn add_group(
+        &mut self,
+        name: &[u8],
+        status: u8,
+        description: &[u8],
+        moment: u64,
+    ) -> Result<u64, AddError>
+        requires name { IsTrue (is_group_name name.now) }
+        requires status { (status ≡ 121) ⊎ (status ≡ 110) }
+        requires short { length description.now ≤ 200 }
+        requires printable { IsTrue (list_all is_description_octet description.now) }
+        requires in_time { moment < moment_limit }
+        ensures { Tested AddError.Memory (group_refusal self.old name.now (changed.Group name.now status description.now moment)) self.old self.new result
+            (λ serial. (serial ≡ length self.old.changes + 1)
+            × Adds self.old self.new (changed.Group name.now status description.now moment)) }
+    {
+        if self.is_here(name) {
+            return Err(AddError::Exists);
+        }
+        if self.is_full_for_group() {
+            return Err(AddError::Full);
+        }
+        match self.push_group(name, status, description, moment) {
+            Ok(()) => Ok(self.len()),
+            Err(_) => Err(AddError::Memory),
+        }
+    }
+
+    /// Adds a group that may be made and for which there is room. Refused only for want of memory, and then nothing
+    /// changes.
+    fn push_group(
+        &mut self,
+        name: &[u8],
+        status: u8,
+        description: &[u8],
+        moment: u64,
+    ) -> Result<(), AllocError>
+        requires may { MayMake self.old.changes name.now status description.now moment }
+        requires room { is_full_for self.old (changed.Group name.now status description.now moment) ≡ false }
+        ensures ok { OnOk result (Adds self.old self.new (changed.Group name.now status description.now moment)) }
+        ensures err { OnErr result (self.new ≡ self.old) }
+    {
+        let free = grow_by_group(
+            self.alloc,
+            self.inodes,
+            self.free,
+            &mut self.volume,
+            &mut self.index,
+            &mut self.places,
+            name,
+            status,
+            description,
+            moment,
+        )?;
+        self.free = free;
+        self.free_inodes -= GROUP_FILES;
+        Ok(())
+    }
+
+    /// Whether there is no room for an article in these groups, which must exist.
+    fn is_full_for_article(&self, groups: &[Text]) -> bool
+        requires { AreHere self.now.changes groups.now }
+        ensures { result ≡ is_full_for self.now (changed.Article [] groups.now 0) }
+    {
+        self.lacks_room(1) || extends_large(&self.index, groups)
+    }
+
+    /// Files an article in these groups, and answers its serial. Its change must be one that may follow. Refused as
+    /// `Full` or `Memory`, tested in that order. A refusal changes nothing.
+    pub fn add_article(
+        &mut self,
+        article: &Article<'_>,
+        groups: &[Text],
+        moment: u64,
+    ) -> Result<u64, FileError>
+        requires { MayFile self.old.host self.old.changes article.now groups.now moment }
+        ensures { Tested FileError.Memory (article_refusal self.old (changed.Article article.now groups.now moment)) self.old self.new result
+            (λ serial. (serial ≡ length self.old.changes + 1) × Adds self.old self.new (changed.Article article.now groups.now moment)) }
+    {
+        if self.is_full_for_article(groups) {
+            return Err(FileError::Full);
+        }
+        match self.push_article(article, groups, moment) {
+            Ok(()) => Ok(self.len()),
+            Err(_) => Err(FileError::Memory),
+        }
+    }
+
+    /// Files an article that may be filed in these groups and for which there is room. Refused only for want of memory,
+    /// and then nothing changes.
+    fn push_article(
+        &mut self,
+        article: &Article<'_>,
+        groups: &[Text],
+        moment: u64,
+    ) -> Result<(), AllocError>
+        requires may { MayFile self.old.host self.old.changes article.now groups.now moment }
+        requires room { is_full_for self.old (changed.Article article.now groups.now moment) ≡ false }
+        ensures ok { OnOk result (Adds self.old self.new (changed.Article article.now groups.now moment)) }
+        ensures err { OnErr result (self.new ≡ self.old) }
+    {
+        let free = grow_by_article(
+            self.alloc,
+            self.inodes,
+            self.free,
+            &mut self.volume,
+            &mut self.index,
+            &mut self.places,
+            article,
+            groups,
+            moment,
+        )?;
+        self.free = free;
+        self.free_inodes -= 1;
+        Ok(())
+    }
+
+    /// Whether the group exists and the number is in it, from its lowest to its highest.
+    fn has_number(&self, name: &[u8], number: u32) -> bool
+        ensures { result ≡ has_number self.now.changes name.now number }
+    {
+        match self.index.group(name) {
+            Some(group) => group.low() <= number as u64 && number as u64 <= group.high(),
+            None => false,
+        }
+    }
+
+    /// Removes the articles of a group up to a number, and answers the serial of that change. Refused as `NotFound`
+    /// (the group does not exist, or the number is not in it), `Full` or `Memory`, tested in that order. A refusal
+    /// changes nothing.
+    pub fn expire(&mut self, name: &[u8], number: u32) -> Result<u64, ExpireError>
+        ensures { Tested ExpireError.Memory (expiry_refusal self.old name.now number) self.old self.new result
+            (λ serial. (serial ≡ length self.old.changes + 1) × Adds self.old self.new (changed.Expire name.now number)) }
+    {
+        if !self.has_number(name, number) {
+            return Err(ExpireError::NotFound);
+        }
+        if self.lacks_room(1) {
+            return Err(ExpireError::Full);
+        }
+        match self.push_expiry(name, number) {
+            Ok(()) => Ok(self.len()),
+            Err(_) => Err(ExpireError::Memory),
+        }
+    }
+
+    /// Adds an expiry that may follow and for which there is room. Refused only for want of memory, and then nothing
+    /// changes.
+    fn push_expiry(&mut self, name: &[u8], number: u32) -> Result<(), AllocError>
+        requires may { MayExpire self.old.changes name.now number }
+        requires room { is_full_for self.old (changed.Expire name.now number) ≡ false }
+        ensures ok { OnOk result (Adds self.old self.new (changed.Expire name.now number)) }
+        ensures err { OnErr result (self.new ≡ self.old) }
+    {
+        let free = grow_by_expiry(
+            self.alloc,
+            self.inodes,
+            self.free,
+            &mut self.volume,
+            &mut self.index,
+            &mut self.places,
+            name,
+            number,
+        )?;
+        self.free = free;
+        self.free_inodes -= 1;
+        Ok(())
+    }
+}

@@ -1,8 +1,0 @@
-use Rattle.model.specs.declared.change.Change.TheVariants.{Article}
-use Rattle.spool_files.proofs.Sound.{may_follow}
-use Rattle.spool_files.proofs.files.SpoolFiles.file.Goals as goal
-
-pub add_article-requires : goal.add_article-requires
-add_article-requires c =
-    let s = c.args.self.now in
-    may_follow s.host s.changes (Article c.args.article.now c.args.groups.now c.args.moment) c.requires

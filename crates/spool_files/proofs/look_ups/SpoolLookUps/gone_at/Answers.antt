@@ -1,5 +1,0 @@
-use Rattle.std.proofs.Common.{rules}
-use Rattle.spool_files.proofs.look_ups.SpoolLookUps.gone_at.Goals as goal
-
-pub returns : goal.returns
-returns c = search rules

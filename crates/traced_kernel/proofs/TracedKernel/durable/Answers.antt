@@ -1,0 +1,5 @@
+use Rattle.std.proofs.Common.{rules}
+use Rattle.traced_kernel.proofs.TracedKernel.durable.Goals as goal
+
+pub returns : goal.returns
+returns c = search rules

@@ -1,0 +1,5 @@
+pub mod Traced
+pub mod Events
+pub mod Input
+pub mod Fields
+pub mod Errors
