@@ -41,10 +41,9 @@ pub is_synchronous : (served : TracedView) → IsServed served → (p : ℕ) →
     → IsSynchronous served.kernel.host (first_spool served) (arrived_at served) served.trace (released_at served) p image
 is_synchronous served h p le image stands =
     record {
+      recovered = take p run;
       stands = subst (λ S. Stands host image (take p S)) (sym same) stands;
-      depends = all.depends;
-      same_spool = all.same_spool;
-      begins = all.begins;
+      synchronous = all;
     }
   where
     host : Octets

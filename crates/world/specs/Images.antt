@@ -1,32 +1,23 @@
 -- External synchrony of the images that a crash may leave.
-use Rattle.std.specs.Prelude.{◌≡◌, ◌⊎◌, ℕ, ◌≤◌, length, take, Some, IsTrue}
-use Rattle.std.specs.List.{concat}
-use mathlib.Core.List.{IsPrefix}
+use Rattle.std.specs.Prelude.{◌≡◌, ◌⊎◌, ℕ, ◌≤◌, Some, IsTrue}
 use Rattle.disk.specs.Device.{Device}
 use Rattle.model.specs.Stream.{Octets}
 use Rattle.model.specs.Spool.{Spool}
 use Rattle.model.specs.News.{Stands, service}
 use Rattle.kernel.specs.Kernel.{KernelView}
-use Rattle.synchrony.specs.Server.{sync}
-use Rattle.synchrony.specs.Dependency.{account_of, survivors}
-use Rattle.synchrony.specs.Synchrony.{ReleasedWithin}
+use Rattle.synchrony.specs.Synchrony.{IsExternallySynchronous}
 use Rattle.traced_kernel.specs.Traced.{Trace, arrived_at, first_spool, released_at}
 use Rattle.world.specs.World.{WorldView, kernel_of}
 
--- External synchrony of an image, with p changes left. It relates the image to the plain server's run of the trace,
--- from the spool S, where these octets arrived, and to the octets that each session was released.
-pub record IsSynchronous (host : Octets) (S : Spool) (inputs : ℕ → Octets) (trace : Trace) (released : ℕ
-    → Octets) (p : ℕ) (image : Octets) : Type 0 where
-  -- the image stands for the first p changes
-  pub stands : Stands host image (take p (sync (service host) S inputs trace).spool)
-  -- each reply of which an octet was released depends on at most p changes
-  pub depends : (session : ℕ) → ReleasedWithin p (length (released session)) ((account_of (service host) S inputs trace).outputs session)
-  -- the plain server, given the commands that depend on these changes alone, has this spool
-  pub same_spool : (sync (service host) S inputs (survivors (service host) S inputs trace p)).spool
-      ≡ take p (sync (service host) S inputs trace).spool
-  -- what was released is a prefix of the replies of that server
-  pub begins : (session : ℕ) → IsPrefix (released session)
-      (concat ((sync (service host) S inputs (survivors (service host) S inputs trace p)).connections session).replies)
+-- External synchrony of an image, with p changes left: it stands for a spool, and that spool and what each session was
+-- released are externally synchronous with the trace from the spool S, where these octets arrived.
+pub record IsSynchronous (host : Octets) (S : Spool) (inputs : ℕ → Octets) (trace : Trace) (released : ℕ → Octets) (p : ℕ) (image : Octets)
+    : Type 0 where
+  -- the changes that the disk opens to
+  pub recovered : Spool
+  pub stands : Stands host image recovered
+  -- they are the first p changes, and a plain server with these changes alone has sent what was released
+  pub synchronous : IsExternallySynchronous (service host) S inputs trace released p recovered
 
 -- how many changes a crash may leave: the durable ones, or those up to the last of the batch in flight; no other number
 abbrev pub MayBeLeft : KernelView → ℕ → Type 0
