@@ -6,34 +6,20 @@ ghost use Rattle.model.specs.Reads.{offer_reads};
 ghost use Rattle.model.specs.Replies.{send_posted};
 ghost use Rattle.model.specs.Spool.{by_id};
 ghost use Rattle.model.specs.declared.session.Awaits.TheVariants as waits;
-ghost use Rattle.replies.specs.Answered.{answered, replied};
-ghost use Rattle.replies.specs.Replies.{sent};
+ghost use Rattle.replies.specs.Answered.{answered};
 
 use lookups::{LookUps, find_id};
 use model::{Awaits, Session, Text};
 use names::is_of_host;
-use replies::{Answered, Reply, answer, awaiting, push_reply, says_line};
+use plain_commands::ends;
+use replies::{Answered, Reply, says_line};
 use std::alloc::{AllocError, Global};
-
-/// A reply that asks for an article.
-fn asks(
-    alloc: Global,
-    session: &Session,
-    which: Reply,
-    awaits: Awaits,
-) -> Result<Answered, AllocError>
-    ensures { IfOk result (λ said. said ≡ answered (replied (sent which) (answers.awaiting session.now awaits)) 0) }
-{
-    let mut reply = Vec::new(alloc);
-    push_reply(&mut reply, which)?;
-    Ok(answer(reply, awaiting(alloc, session, awaits)?, 0))
-}
 
 /// POST (RFC 3977, section 6.3.1).
 pub fn post(alloc: Global, session: &Session) -> Result<Answered, AllocError>
     ensures { IfOk result (λ said. said ≡ answered (answers.says (answers.awaiting session.now waits.PostBlock) send_posted) 0) }
 {
-    asks(alloc, session, Reply::SendPosted, Awaits::PostBlock)
+    ends(alloc, session, Reply::SendPosted, Awaits::PostBlock)
 }
 
 /// IHAVE (RFC 3977, section 6.3.2). An id of the host's own is never wanted, nor is the id of an article that was
@@ -55,7 +41,7 @@ pub fn ihave<L: LookUps>(
         Some(serial) => says_line(alloc, session, Reply::NotWanted, serial),
         None => {
             let id = Text::new(id.to_vec(alloc)?);
-            asks(
+            ends(
                 alloc,
                 session,
                 Reply::SendTransferred,
