@@ -1,5 +1,5 @@
-//! A device that counts the syncs that are asked of another one, where other threads may read the count. All else is
-//! the other device's.
+//! A device that counts the syncs that are asked of another one. Other threads may read the count. Every call is
+//! passed on to the other device.
 #![tactic(auto)]
 
 ghost use Rattle.std.specs.Prelude.{◌≡◌};
@@ -9,7 +9,7 @@ use std::alloc::Global;
 use std::sync::Arc;
 use std::sync::atomic::{AtomicU64, Ordering};
 
-/// A device, and the count of its syncs. The device's meaning is that of the one below.
+/// A device, and the count of its syncs. The contracts of its calls are about the device within.
 #[derive(Drop)]
 pub struct CountedDisk<D: Disk> {
     disk: D,
@@ -17,7 +17,7 @@ pub struct CountedDisk<D: Disk> {
 }
 
 impl<D: Disk> CountedDisk<D> {
-    /// A device that adds to this count for each sync that is asked of it, also for one that fails.
+    /// A device that adds to this count for each sync that is asked of it, even for one that fails.
     pub fn new(disk: D, syncs: Arc<AtomicU64, Global>) -> CountedDisk<D>
         ensures { result.disk ≡ disk }
     {

@@ -38,7 +38,7 @@ pub record MayGrow (inodes at more : ℕ) (blocks : List Octets) : Type 0 where
   pub there : IsFileAt (table inodes blocks) at name content
   pub small : length content + more ≤ 268435456
 
--- none of the first inodes is free, for this number of inodes
+-- none of the first n inodes is free
 abbrev pub AreUsed : ℕ → List (Option File) → Type 0
 AreUsed n inodes = (k : ℕ) → k < n → slice_index_or inodes k None ≢ None
 
@@ -73,7 +73,7 @@ pub record MakesAt (inodes at : ℕ) (name octets : Octets) (old new : List Octe
 
 -- ---- pieces
 
--- a piece has few octets
+-- the most octets that a piece may have
 abbrev pub most_octets : ℕ
 most_octets = 8_191
 
@@ -95,7 +95,7 @@ size_at inodes k = unwrap_or (option_map (λ (f : File). length f.content) (slic
 abbrev pub touched_by_pieces : List (Option File) → List Piece → ℕ
 touched_by_pieces inodes pieces = sum_by (λ p. touched_by_growth (size_at inodes p.at) (length p.octets.items)) pieces
 
--- the first of these pieces were appended to their files, for this number of pieces, and no other file changed
+-- the first n of these pieces were appended to their files, and no other file changed
 pub record AppendsFirst (inodes : ℕ) (pieces : List Piece) (n : ℕ) (old new : List Octets) : Type 0 where
   pub calls : Calls inodes (map (append_call (table inodes old)) (take n pieces)) old new
   pub others : (i : ℕ) → ((k : ℕ) (p : Piece) → k < n → slice_get pieces k ≡ Some p → i ≢ p.at)

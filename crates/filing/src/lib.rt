@@ -107,11 +107,12 @@ pub fn make_file<B: Blocks>(
     Ok(at)
 }
 
-/// Octets to append to a file, at most 8,191.
+/// Octets to append to a file.
 #[derive(Drop)]
 pub struct Piece {
-    /// the inode of the file
+    /// The inode of the file.
     pub at: u32,
+    /// The octets to append, at most 8,191.
     pub octets: Vec<u8>,
 }
 
@@ -130,7 +131,8 @@ pub fn append_all<B: Blocks>(
     requires known { IsKnown inodes free.old (B.blocks blocks.old) }
     ensures appended { OnOk result (AppendsFirst inodes pieces.now (length pieces.now) (B.blocks blocks.old) (B.blocks blocks.new)) }
     ensures known { OnOk result (IsKnown inodes free.new (B.blocks blocks.new)) }
-    ensures touches { OnOk result (Touches (touched_by_pieces (table inodes (B.blocks blocks.old)) pieces.now) (B.blocks blocks.old) (B.blocks blocks.new)) }
+    ensures touches { OnOk result (Touches (touched_by_pieces (table inodes (B.blocks blocks.old)) pieces.now)
+        (B.blocks blocks.old) (B.blocks blocks.new)) }
     ensures kept { B.applied blocks.new ≡ B.applied blocks.old }
 {
     for piece in pieces {

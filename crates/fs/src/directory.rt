@@ -52,9 +52,9 @@ pub fn create<B: Blocks>(blocks: &mut B, inodes: u32, name: &[u8]) -> Result<u32
     create_absent(blocks, inodes, name, 0)
 }
 
-/// Makes an empty file of a new name in the lowest free inode, and answers that inode. The caller knows that no file
-/// has the name and no inode below `from` is free: the search for a free inode starts at `from`, and none is made for
-/// the name. `Full` exactly if no inode is free; it changes nothing. After `Memory` the caller must drop the stage.
+/// Makes an empty file of a new name in the lowest free inode, and answers that inode. No file may have the name, and
+/// no inode below `from` may be free: the search for a free inode starts at `from`, and the name is not searched for.
+/// `Full` exactly if no inode is free; it changes nothing. After `Memory` the caller must drop the stage.
 pub fn create_absent<B: Blocks>(
     blocks: &mut B,
     inodes: u32,
@@ -106,7 +106,7 @@ pub fn unlink<B: Blocks>(blocks: &mut B, inodes: u32, name: &[u8]) -> Result<(),
     Ok(())
 }
 
-/// The names of all files, by rising inode.
+/// The names of all files, by rising inode. Refused only for want of memory.
 pub fn names<B: Blocks>(alloc: Global, blocks: &B, inodes: u32) -> Result<Vec<Vec<u8>>, AllocError>
     requires room { HasRoom inodes (B.blocks blocks.now) }
     requires rule { IsFileSystem inodes (B.blocks blocks.now) }

@@ -16,7 +16,8 @@ use fs_layout::slots::slot_for;
 use std::alloc::Global;
 use volume::Blocks;
 
-/// The octets of a file from a place up to its size, at most `count`. `NotFound` exactly if no file has the name.
+/// The octets of a file from a place up to its size, at most `count`. `NotFound` exactly if no file has the name. The
+/// only other refusal is `Memory`.
 pub fn read_at<B: Blocks>(
     alloc: Global,
     blocks: &B,

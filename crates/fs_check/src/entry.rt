@@ -72,7 +72,8 @@ fn is_slot(slot: &[u8]) -> bool
 fn has_pointers<B: Blocks>(blocks: &B, inodes: u32, format: u32, inode: &[u8]) -> bool
     requires room { HasRoom inodes (B.blocks blocks.now) }
     requires whole { length inode.now ≡ 64 }
-    ensures { IsTrue result ↔ HasPointers (most_octets format) (first_data inodes) (length (B.blocks blocks.now)) (entry_of (B.blocks blocks.now) inode.now []) }
+    ensures { IsTrue result ↔ HasPointers (most_octets format) (first_data inodes) (length (B.blocks blocks.now))
+        (entry_of (B.blocks blocks.now) inode.now []) }
 {
     let size = number64(inode, SIZE_AT);
     if size > most_octets(format) || number32(inode, SPARE_AT) > 0 {
@@ -129,7 +130,8 @@ fn has_tables<B: Blocks>(blocks: &B, inodes: u32, inode: &[u8], tables: u32) -> 
     requires whole { length inode.now ≡ 64 }
     requires few { tables ≤ 64 }
     requires double { HasNumber (first_data inodes) (length (B.blocks blocks.now)) 1 tables (number_at 56 4 inode.now) }
-    ensures { IsTrue result ↔ HasTables (first_data inodes) (length (B.blocks blocks.now)) tables (entry_of (B.blocks blocks.now) inode.now []) }
+    ensures { IsTrue result ↔ HasTables (first_data inodes) (length (B.blocks blocks.now)) tables
+        (entry_of (B.blocks blocks.now) inode.now []) }
 {
     for p in 0..table_places(tables) {
         if !has_table(blocks, inodes, inode, tables, p) {
@@ -145,7 +147,8 @@ fn has_table<B: Blocks>(blocks: &B, inodes: u32, inode: &[u8], tables: u32, p: u
     requires whole { length inode.now ≡ 64 }
     requires few { p < 1025 }
     requires double { 0 < p → IsThere (number_at 56 4 inode.now) (B.blocks blocks.now) }
-    ensures { IsTrue result ↔ HasNumber (first_data inodes) (length (B.blocks blocks.now)) p tables (indirect_pointer (entry_of (B.blocks blocks.now) inode.now []) p) }
+    ensures { IsTrue result ↔ HasNumber (first_data inodes) (length (B.blocks blocks.now)) p tables
+        (indirect_pointer (entry_of (B.blocks blocks.now) inode.now []) p) }
 {
     let number = indirect_at(blocks, inode, p);
     if p < tables {
@@ -160,7 +163,8 @@ fn ends_at<B: Blocks>(blocks: &B, inodes: u32, inode: &[u8], from: u32) -> bool
     requires whole { length inode.now ≡ 64 }
     requires few { from ≤ 65536 }
     requires double { HasNumber (first_data inodes) (length (B.blocks blocks.now)) 1 (indirect_for from) (number_at 56 4 inode.now) }
-    requires tables { HasTables (first_data inodes) (length (B.blocks blocks.now)) (indirect_for from) (entry_of (B.blocks blocks.now) inode.now []) }
+    requires tables { HasTables (first_data inodes) (length (B.blocks blocks.now)) (indirect_for from)
+        (entry_of (B.blocks blocks.now) inode.now []) }
     ensures { IsTrue result ↔ ((i : ℕ) → from ≤ i → pointer (entry_of (B.blocks blocks.now) inode.now []) i ≡ 0) }
 {
     let end = DIRECT_POINTERS + BLOCK_POINTERS * tables_for(from);

@@ -18,7 +18,7 @@ use volume::Blocks;
 mod entry;
 mod marks;
 
-/// The octets of the bitmap.
+/// The number of octets in the bitmap.
 const BITMAP_SIZE: usize = 8192;
 
 /// Checks the rule of blocks, whatever the blocks contain, and that no file is too large for the format. Changes

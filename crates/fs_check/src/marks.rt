@@ -22,7 +22,8 @@ pub fn mark_owners<B: Blocks>(blocks: &B, inodes: u32, marks: &mut [u8]) -> bool
     requires entries { (k : ℕ) → k < inodes → HasEntry inodes (B.blocks blocks.now) k }
     requires whole { length marks.old ≡ 8192 }
     requires front { IsFront (first_data inodes) marks.old }
-    ensures marked { OnTrue result (HasOwners inodes inodes (B.blocks blocks.now) × MarksUsed inodes inodes (B.blocks blocks.now) marks.new) }
+    ensures marked { OnTrue result (HasOwners inodes inodes (B.blocks blocks.now)
+        × MarksUsed inodes inodes (B.blocks blocks.now) marks.new) }
     ensures refused { OnFalse result (¬ (HasOwners inodes inodes (B.blocks blocks.now))) }
 {
     for at in 0..inodes {
@@ -39,8 +40,10 @@ fn mark_owned<B: Blocks>(blocks: &B, inodes: u32, at: u32, marks: &mut [u8]) -> 
     requires below { at < inodes }
     requires entry { HasEntry inodes (B.blocks blocks.now) at }
     requires whole { length marks.old ≡ 8192 }
-    ensures marked { OnTrue result (Marks (length (B.blocks blocks.now)) (owned (entry inodes (B.blocks blocks.now) at)) marks.old marks.new) }
-    ensures refused { OnFalse result (¬ (CanMark (length (B.blocks blocks.now)) (owned (entry inodes (B.blocks blocks.now) at)) marks.old)) }
+    ensures marked { OnTrue result
+        (Marks (length (B.blocks blocks.now)) (owned (entry inodes (B.blocks blocks.now) at)) marks.old marks.new) }
+    ensures refused { OnFalse result
+        (¬ (CanMark (length (B.blocks blocks.now)) (owned (entry inodes (B.blocks blocks.now) at)) marks.old)) }
 {
     let mut inode = [0; RECORD_SIZE];
     get_record(blocks, INODES_AT, at, &mut inode);

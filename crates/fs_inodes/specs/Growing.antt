@@ -77,7 +77,7 @@ pub record IsTaken (blocks : List Octets) (b : ℕ) : Type 0 where
   pub marked : is_marked_used blocks b ≡ true
 
 -- an inode names exactly this many blocks of pointers: they are taken, no two are the same, and none is the
--- double-indirect block, which the inode names exactly if they are more than one
+-- double-indirect block, which the inode names exactly if there is more than one of them
 pub record NamesBlocks (tables : ℕ) (e : Entry) (blocks : List Octets) : Type 0 where
   pub there : (p : ℕ) → p < tables → IsTaken blocks (indirect_pointer e p)
   pub none : (p : ℕ) → tables ≤ p → indirect_pointer e p ≡ 0

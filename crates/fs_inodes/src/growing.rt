@@ -188,7 +188,8 @@ fn add_piece<B: Blocks>(
     requires none { NoneFreeBelow from (B.blocks blocks.old) }
     ensures grown { OnOk result (GrowsBy inodes at piece.now (B.blocks blocks.old) (B.blocks blocks.new)) }
     ensures touches { OnOk result ((block : ℕ) × TouchesData at (block ∷ [])
-        (content_blocks (size (entry inodes (B.blocks blocks.old) at))) (content_blocks (size (entry inodes (B.blocks blocks.old) at) + length piece.now))
+        (content_blocks (size (entry inodes (B.blocks blocks.old) at)))
+        (content_blocks (size (entry inodes (B.blocks blocks.old) at) + length piece.now))
         (B.blocks blocks.old) (B.blocks blocks.new)) }
     ensures kept { B.applied blocks.new ≡ B.applied blocks.old }
 {
@@ -212,7 +213,8 @@ fn add_piece<B: Blocks>(
 }
 
 /// Appends octets to the file of an inode, which must have room for them, and answers how many blocks that took. The
-/// search for blocks starts at `from`; no block below it may be free.
+/// search for blocks starts at `from`; no block below it may be free. Refused only for want of memory; then the caller
+/// must drop the stage.
 pub fn extend<B: Blocks>(
     blocks: &mut B,
     inodes: u32,
@@ -243,7 +245,8 @@ pub fn extend<B: Blocks>(
     Ok(blocks_more(size as u64, (size + octets.len()) as u64))
 }
 
-/// Appends this many zeros to the file of an inode, which must have room for them.
+/// Appends `count` zeros to the file of an inode, which must have room for them. Refused only for want of memory; then
+/// the caller must drop the stage.
 pub fn extend_zeros<B: Blocks>(
     blocks: &mut B,
     inodes: u32,

@@ -58,7 +58,7 @@ pub fn read_into<B: Blocks>(
     Ok(())
 }
 
-/// The octets of the file of an inode from a place up to its size, at most `count`.
+/// The octets of the file of an inode from a place up to its size, at most `count`. Refused only for want of memory.
 pub fn read_entry<B: Blocks>(
     alloc: Global,
     blocks: &B,

@@ -19,7 +19,8 @@ use fs_layout::records::{RECORD_SIZE, get_record, put_record};
 use std::alloc::AllocError;
 use volume::{BLOCK_SIZE, Blocks};
 
-/// Cuts the file of an inode to `end` octets, which must not exceed its size.
+/// Cuts the file of an inode to `end` octets, which must not exceed its size. Refused only for want of memory; then the
+/// caller must drop the stage.
 pub fn shrink_to<B: Blocks>(
     blocks: &mut B,
     inodes: u32,
@@ -123,7 +124,8 @@ fn cut<B: Blocks>(blocks: &mut B, inodes: u32, at: u32, end: u64) -> Result<(), 
         (take end (content_of (B.blocks blocks.old) (entry inodes (B.blocks blocks.old) at)))
         (B.blocks blocks.old) (B.blocks blocks.new)) }
     ensures marks { OnOk result (SameMarks (B.blocks blocks.old) (B.blocks blocks.new)) }
-    ensures touches { OnOk result (TouchesInode at ((end + 4095) / 4096) ((end + 4095) / 4096) (B.blocks blocks.old) (B.blocks blocks.new)) }
+    ensures touches { OnOk result (TouchesInode at ((end + 4095) / 4096) ((end + 4095) / 4096)
+        (B.blocks blocks.old) (B.blocks blocks.new)) }
     ensures kept { B.applied blocks.new ≡ B.applied blocks.old }
 {
     let mut inode = [0; RECORD_SIZE];
@@ -132,7 +134,8 @@ fn cut<B: Blocks>(blocks: &mut B, inodes: u32, at: u32, end: u64) -> Result<(), 
     put_record(blocks, INODES_AT, at, &inode)
 }
 
-/// Removes the file of an inode. The file must be empty.
+/// Removes the file of an inode. The file must be empty. Refused only for want of memory; then the caller must drop the
+/// stage.
 pub fn remove_empty<B: Blocks>(blocks: &mut B, inodes: u32, at: u32) -> Result<(), AllocError>
     requires room { HasRoom inodes (B.blocks blocks.old) }
     requires rule { IsFileSystem inodes (B.blocks blocks.old) }

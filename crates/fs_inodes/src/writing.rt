@@ -11,7 +11,8 @@ use fs_layout::records::{RECORD_SIZE, get_record, put_part};
 use std::alloc::AllocError;
 use volume::{BLOCK_SIZE, Blocks};
 
-/// Overwrites octets of the file of an inode, from a place on and within its size.
+/// Overwrites octets of the file of an inode, from a place on and within its size. Refused only for want of memory;
+/// then the caller must drop the stage.
 pub fn overwrite<B: Blocks>(
     blocks: &mut B,
     inodes: u32,

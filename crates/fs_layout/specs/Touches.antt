@@ -56,7 +56,7 @@ abbrev pub touched_by_truncation : ℕ → ℕ → ℕ
 touched_by_truncation was size = if nat_lt was size then touched_by_growth was (size - was) else touched_by_cut was size
 
 -- the most blocks that change when this many octets are written at a place of a file of this size: those that the
--- octets touch, one of which may be counted twice, its inode's, and those that name the new blocks
+-- octets touch (one may be counted twice), its inode's, and those that name the new blocks
 abbrev pub touched_by_write : ℕ → ℕ → ℕ → ℕ
 touched_by_write size place count =
     2 + blocks_reached place count + pointers_put (content_blocks (place + count) - content_blocks size) (place + count)

@@ -38,16 +38,16 @@ pub const BLOCK_POINTERS: u32 = 1024;
 /// Where the pointer to the double-indirect block, which names the other blocks of pointers, is in an inode.
 pub const DOUBLE_AT: usize = 56;
 
-/// Where the octets that an inode leaves zero begin.
+/// Where the zeros at the end of an inode begin.
 pub const SPARE_AT: usize = 60;
 
 /// The number of blocks for the octets of the largest file.
 pub const MOST_BLOCKS: u32 = 65_536;
 
-/// The octets of the largest file.
+/// The number of octets in the largest file.
 pub const MOST_OCTETS: u64 = MOST_BLOCKS as u64 * BLOCK_SIZE as u64;
 
-/// The octets of the largest file in format 1: those of the blocks that an inode and one block of pointers name.
+/// The number of octets in the largest file of format 1, whose blocks an inode and one block of pointers name.
 pub const MOST_OCTETS_1: u64 = (DIRECT_POINTERS + BLOCK_POINTERS) as u64 * BLOCK_SIZE as u64;
 
 /// The number of records in a block.
@@ -95,7 +95,7 @@ pub fn indirect_at<B: Blocks>(blocks: &B, inode: &[u8], p: u32) -> u32
     number32(double, 4 * (p - 1) as usize)
 }
 
-/// The octets of the largest file in a volume of this format.
+/// The number of octets in the largest file of a volume of this format.
 pub fn most_octets(format: u32) -> u64
     ensures { result ≡ (if format == 1 then 4235264 else 268435456) }
 {

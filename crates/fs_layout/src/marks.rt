@@ -8,7 +8,7 @@ use crate::bits::{count_clear, lowest_clear, set, unset};
 use std::alloc::AllocError;
 use volume::{BLOCK_SIZE, Blocks};
 
-/// The bits of a block.
+/// The number of bits in a block.
 pub const BLOCK_BITS: usize = 8 * BLOCK_SIZE;
 
 /// The lowest free block. The search starts at `from`; no block below it may be free.
@@ -49,7 +49,8 @@ fn mark<B: Blocks>(blocks: &mut B, number: u32) -> Result<(), AllocError>
     blocks.put(table, &bitmap)
 }
 
-/// Marks the lowest free block, and answers it. No block below `from` may be free.
+/// Marks the lowest free block, and answers it. A block must be free, and none below `from` may be. Refused only for
+/// want of memory; then the caller must drop the stage.
 pub fn take_block<B: Blocks>(blocks: &mut B, from: u32) -> Result<u32, AllocError>
     requires some { 2 ≤ length (B.blocks blocks.old) }
     requires few { length (B.blocks blocks.old) ≤ 65536 }
@@ -65,7 +66,7 @@ pub fn take_block<B: Blocks>(blocks: &mut B, from: u32) -> Result<u32, AllocErro
     Ok(number)
 }
 
-/// Removes a block's mark.
+/// Removes a block's mark. Refused only for want of memory; then the caller must drop the stage.
 pub fn unmark<B: Blocks>(blocks: &mut B, number: u32) -> Result<(), AllocError>
     requires there { number < length (B.blocks blocks.old) }
     requires some { 2 ≤ length (B.blocks blocks.old) }

@@ -8,7 +8,7 @@ ghost use Rattle.fs_layout.specs.Blocks.{PutsRecord, IsFoundIn, IsFound};
 use std::alloc::AllocError;
 use volume::{BLOCK_SIZE, Blocks};
 
-/// The octets of a record.
+/// The number of octets in a record.
 pub const RECORD_SIZE: usize = 64;
 
 /// Copies a record of those that begin at block `first`.
@@ -23,7 +23,8 @@ pub fn get_record<B: Blocks>(blocks: &B, first: u32, at: u32, into: &mut [u8])
     into.copy_from_slice(&block[start..start + RECORD_SIZE]);
 }
 
-/// Replaces a record of those that begin at block `first`.
+/// Replaces a record of those that begin at block `first`. Refused only for want of memory; then the caller must drop
+/// the stage.
 pub fn put_record<B: Blocks>(
     blocks: &mut B,
     first: u32,

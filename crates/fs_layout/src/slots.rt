@@ -7,7 +7,7 @@ ghost use Rattle.fs_layout.specs.Table.{IsName};
 use crate::records::{RECORD_SIZE, put_part};
 use std::alloc::{AllocError, Global};
 
-/// The most octets of a name.
+/// The most octets that a name may have.
 pub const NAME_MAX: usize = 63;
 
 /// The slot of a name: its length, the name, and zeros.
@@ -21,7 +21,7 @@ pub fn slot_for(name: &[u8]) -> [u8; RECORD_SIZE]
     slot
 }
 
-/// The name in a slot.
+/// The name in a slot. Refused only for want of memory.
 pub fn name_of(alloc: Global, slot: &[u8]) -> Result<Vec<u8>, AllocError>
     requires whole { length slot.now ≡ 64 }
     requires few { slice_index slot.now 0 ≤ 63 }

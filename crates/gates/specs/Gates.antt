@@ -20,7 +20,7 @@ HasSegments device = IsSuperblock (block 0 device.content) device.size
 abbrev pub AreWithin : ℕ → ℕ → Type 0
 AreWithin n size = (i : ℕ) → i < n → gate_at i < size
 
--- the number of gates on a device: 0 where its superblock is not that of a volume
+-- the number of gates on a device: 0 if its superblock is not that of a volume
 abbrev pub IsCount : ℕ → Device → Type 0
 IsCount n device = (HasSegments device × (n ≡ segment_count device.content + 1)) ⊎ ((HasSegments device → ⊥) × (n ≡ 0))
 
@@ -41,12 +41,12 @@ pub record IsLook (old new : Device) : Type 0 where
   pub crash : IsTrue old.tells → LeavesNoMore old new
   pub since : IsTrue old.tells → LeftNoMore old new
 
--- and none of them failed
+-- reads that did not fail
 pub record IsSeen (old new : Device) : Type 0 where
   pub content : IsTrue old.tells → new.content ≡ old.content
   pub failures : new.failures ≡ old.failures
 
--- The octet of each gate was read, and then each was written to its place, in rising place, up to the first refusal.
+-- The octet of each gate was read, and then each was written to its place, in rising order, up to the first refusal.
 pub record WritesThem {D : Type 0} (device : D → Device) (result : Result (Unit {0}) DiskError) (old new : D) : Type 0 where
   pub octets : List ℕ
   pub few : length octets ≤ 9
@@ -57,7 +57,7 @@ pub record WritesThem {D : Type 0} (device : D → Device) (result : Result (Uni
   pub gates : IsTrue (device old).tells → AreGates octets (device old).content
   pub written : Makes device (writes_from 0 octets) result read new
 
--- or the call was refused before the first write
+-- the gates were written back up to the first refusal, or the call was refused before the first write
 abbrev pub WritesBack : {D : Type 0} → (D → Device) → Result (Unit {0}) DiskError → D → D → Type 0
 WritesBack device result old new = WritesThem device result old new ⊎ (IsErr result × IsLook (device old) (device new))
 

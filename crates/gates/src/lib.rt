@@ -1,6 +1,6 @@
-//! Writes the gates of a volume back as they were read, the gate of its format and those of its segments, so that the
-//! first sync of an opening makes them durable. `specs/Gates.antt` says which calls that makes. docs/DECISIONS.md says
-//! where it is needed: over a file.
+//! Writes the gates of a volume, that of its format and those of its segments, back as they were read. So the first
+//! sync of an opening makes them durable. `specs/Gates.antt` says which device calls are made. docs/DECISIONS.md says
+//! where this is needed: over a file.
 #![tactic(auto)]
 
 ghost use Rattle.std.specs.Prelude.{◌≡◌, ◌≢◌, ◌⊎◌, ◌+◌, ◌<◌, ◌≤◌, [], ◌∷◌, IfErr, IfOk, IsTrue, OnOk, length, slice_index};
@@ -18,7 +18,7 @@ use volume_format::{read_superblock, zeros};
 const MOST_GATES: usize = 9;
 
 /// Reads the octet of each gate of a volume, with one read each. Then it writes each octet back to its place,
-/// with one write each, in rising place. It never syncs. If the superblock is not that of a volume, it writes nothing
+/// with one write each, in rising order. It never syncs. If the superblock is not that of a volume, it writes nothing
 /// and answers `Ok`.
 ///
 /// `Fault` if the device failed in a call, `Memory` if a growth was refused, here or to the device. A refused read

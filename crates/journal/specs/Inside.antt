@@ -14,7 +14,7 @@ use Rattle.journal.specs.Flight.{Flight, all_of, flight_in, held_at, left_of, si
 use Rattle.journal.specs.declared.Next.{Next}
 use Rattle.journal.specs.declared.Next.TheVariants.{Idle, Descriptor, Image, Seal, OpenGate, Commit, Home, Settle, CloseGate, Finish}
 
--- the logical blocks of an image, without the batch in that segment while its commit is being asked
+-- the logical blocks of an image; while the commit is the next call, without the batch in that segment
 abbrev pub blocks_without : ℕ → Next → List ℕ → List (List ℕ)
 blocks_without place Commit image = logical_blocks (gate_closed place image)
 blocks_without place next image = logical_blocks image
@@ -124,7 +124,7 @@ pub record IsKept (device : Device) (blocks : ℕ) (superblock : List ℕ) (next
   pub format_is : IsTrue device.tells → halted ≡ false → format_number device.content ≡ format_in superblock
   pub formats : IsTrue device.tells → (c : List ℕ) → device.may_leave c → format_in superblock ≤ format_number c
 
--- or only a good sync was asked
+-- a good sync, which leaves the content as it was
 pub record IsSynced (old new : Device) : Type 0 where
   pub content : IsTrue old.tells → new.content ≡ old.content
   pub failures : new.failures ≡ old.failures
@@ -140,7 +140,8 @@ pub record IsFound (device : Device) (superblock : List ℕ) (blocks : ℕ) (roo
   pub count : length room ≡ number_at 16 4 superblock
   pub found : AreFound device blocks 0 room n
 
--- a crash since an earlier time might have left what it might have left before, or the volume with a label and blocks
+-- each image that a crash since an earlier time might have left is one that it might have left before, or the volume
+-- with a label and blocks
 abbrev pub LeftAs : Device → Device → ℕ → List ℕ → List (List ℕ) → Type 0
 LeftAs old new format its_label blocks =
     IsTrue old.tells → (t : ℕ) (c : List ℕ) → t ≤ old.clock → new.left_since t c → old.left_since t c ⊎ IsVolume format its_label blocks c

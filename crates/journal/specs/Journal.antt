@@ -84,8 +84,8 @@ calls journal = calls_made (length journal.numbers) (sizes journal) journal.next
 abbrev pub with_batch : {D : Type 0} → JournalView D → List (List ℕ)
 with_batch journal = laid_over journal.blocks journal.numbers journal.images
 
--- an image that a crash may leave. It stands for the blocks or, from the moment the gate's opening is asked until the
--- batch is committed, for the blocks with the batch. It has no lower format
+-- an image that a crash may leave. It stands for the blocks or, while the commit is the next call, for the blocks with
+-- the batch. It has no lower format
 abbrev pub Admits : {D : Type 0} → JournalView D → List ℕ → Type 0
 Admits journal image = IsAdmitted journal.next journal.label journal.blocks (with_batch journal) image
     × (journal.format ≤ format_number image)
@@ -94,17 +94,19 @@ Admits journal image = IsAdmitted journal.next journal.label journal.blocks (wit
 abbrev pub LeavesAdmitted : {D : Type 0} → (D → Device) → JournalView D → Type 0
 LeavesAdmitted device journal = IsTrue (device journal.disk).tells → (c : List ℕ) → (device journal.disk).may_leave c → Admits journal c
 
--- a crash since an earlier time might have left what it might have left before, or what the journal admits
+-- each image that a crash since an earlier time might have left is one that it might have left before, or one that the
+-- journal admits
 abbrev pub LeftAdmitted : {D : Type 0} → (D → Device) → JournalView D → JournalView D → Type 0
 LeftAdmitted device old new =
     IsTrue (device old.disk).tells → (t : ℕ) (c : List ℕ) → t ≤ (device old.disk).clock → (device new.disk).left_since t c
     → (device old.disk).left_since t c ⊎ Admits new c
 
--- the logical blocks of a device that tells its octets are as many as the journal says, of 4,096 octets each
+-- this number of blocks, each of 4,096 octets
 pub record AreWhole (size : ℕ) (blocks : List (List ℕ)) : Type 0 where
   pub count : length blocks ≡ size
   pub whole : All (λ block. length block ≡ 4096) blocks
 
+-- the logical blocks of a device that tells its octets are whole, and as many as the journal says
 abbrev pub HasWholeBlocks : {D : Type 0} → (D → Device) → JournalView D → Type 0
 HasWholeBlocks device journal = IsTrue (device journal.disk).tells → AreWhole journal.size journal.blocks
 
@@ -122,7 +124,7 @@ pub record IsSameBatch {D : Type 0} (old new : JournalView D) : Type 0 where
   pub images : new.images ≡ old.images
   pub is_last : new.is_last ≡ old.is_last
 
--- `Ok` leaves the device's count of failures, and a fault changes it
+-- `Ok` leaves the device's count of failures as it was, and a fault changes it
 pub record CountsFailures {T : Type 0} (result : Result T JournalError) (old new : Device) : Type 0 where
   pub ok : OnOk result (new.failures ≡ old.failures)
   pub fault : IfErr result (λ error. error ≡ Fault → new.failures ≢ old.failures)
@@ -131,7 +133,8 @@ pub record CountsFailures {T : Type 0} (result : Result T JournalError) (old new
 abbrev pub IsCaused : JournalError → Device → Device → Type 0
 IsCaused error old new = ((error ≡ Fault) × (new.failures ≢ old.failures)) ⊎ ((error ≡ Memory) × (new.failures ≡ old.failures))
 
--- from one moment to a later one the logical blocks stay, and so they do in each image that a crash between might have left
+-- from one moment to a later one the logical blocks stay the same, as they do in each image that a crash in between
+-- might have left
 pub record IsDuring {D : Type 0} (device : D → Device) (old new : JournalView D) : Type 0 where
   pub tells : (device new.disk).tells ≡ (device old.disk).tells
   pub size : (device new.disk).size ≡ (device old.disk).size

@@ -14,7 +14,8 @@ abbrev pub AreSameVolume : List ℕ → List ℕ → Type 0
 AreSameVolume old new = (its_label : List ℕ)
     × ((blocks : List (List ℕ)) × (StandsFor old its_label blocks × IsVolume (format_number old) its_label blocks new))
 
--- a crash since an earlier time might have left what it might have left before, or the same volume as was read
+-- each image that a crash since an earlier time might have left is one that it might have left before, or the same
+-- volume as was read
 abbrev pub LeftKept : Device → Device → Type 0
 LeftKept old new =
     IsTrue old.tells → (t : ℕ) (c : List ℕ) → t ≤ old.clock → new.left_since t c → old.left_since t c ⊎ AreSameVolume old.content c
@@ -60,7 +61,7 @@ pub record SyncsFirst {D : Type 0} (device : D → Device) (first last : D) : Ty
   pub after : IsTrue (device first).tells → (t : ℕ) (c : List ℕ) → t ≤ (device synced).clock → (device last).left_since t c
       → (device synced).left_since t c ⊎ AreSameVolume (device first).content c
 
--- or no sync was good, and nothing was written
+-- no sync was good, and nothing was written
 abbrev pub NeverSyncs : {D : Type 0} → (D → Device) → D → D → Type 0
 NeverSyncs device first last = ((device last).writes ≡ (device first).writes) × (IsTrue (device first).tells
     → LeftNoMore (device first) (device last))
@@ -75,7 +76,7 @@ abbrev pub home_syncs : List ℕ → ℕ
 home_syncs [] = 0
 home_syncs (s ∷ segments) = 2 + length segments
 
--- the writes and syncs asked since a device had that content, with this many syncs first
+-- the writes and syncs that were asked: `first` syncs, and those that carry this content's open segments home
 pub record Costs (first : ℕ) (content : List ℕ) (old new : Device) : Type 0 where
   pub writes : IsMore (home_writes content (open_segments content)) old.writes new.writes
   pub syncs : IsMore (first + home_syncs (open_segments content)) old.syncs new.syncs

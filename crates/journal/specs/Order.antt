@@ -30,7 +30,7 @@ is_sync Settle = true
 is_sync (Finish j) = true
 is_sync next = false
 
--- the next call after a fault: what a failed write should have put there may be there, a failed sync did nothing
+-- the next call after a fault: a failed write may have written its octets, and a failed sync did nothing
 abbrev pub at_fault : ℕ → List ℕ → Next → Next
 at_fault n sizes next = if is_sync next then next else following n sizes next
 
@@ -47,7 +47,7 @@ is_to_commit next = false
 abbrev pub all_calls : ℕ → List ℕ → ℕ
 all_calls n sizes = if length sizes == 0 then n + 4 else n + 5 + sum sizes + 2 * length sizes
 
--- how many of them were made
+-- the number of them that were made when this call is the next one
 abbrev pub calls_made : ℕ → List ℕ → Next → ℕ
 calls_made n sizes Idle = all_calls n sizes
 calls_made n sizes Descriptor = 0
@@ -85,7 +85,7 @@ syncs_made sizes Settle = 2
 syncs_made sizes (CloseGate j) = 3 + j
 syncs_made sizes (Finish j) = 3 + j
 
--- n more, as a u64 counts
+-- n more, in a counter that wraps around like a u64
 abbrev pub IsMore : ℕ → ℕ → ℕ → Type 0
 IsMore n old new = new % 2 ^ 64 ≡ (old + n) % 2 ^ 64
 

@@ -1,4 +1,4 @@
--- What it does to open the gate of the format: one write of an octet of the superblock, and one sync.
+-- What opening the gate of the format does: one write of an octet of the superblock, and one sync.
 use Rattle.std.specs.Prelude.{◌≡◌, ◌⊎◌, ℕ, ◌≤◌, false, true, IsTrue, List, Result, OnOk, IfErr}
 use Rattle.disk.specs.Device.{Device, Elapses, IsRefused, LeavesOnly, one_more}
 use Rattle.journal.specs.Journal.{Admits, CountsFailures, JournalView, LeavesAdmitted}

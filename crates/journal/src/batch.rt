@@ -15,8 +15,8 @@ impl<D: Disk> Journal<D> {
     ghost use Rattle.journal.specs.Journal.{IsIdle, LeavesAdmitted, still_open};
 
     /// Takes a batch into the room that `open` made: images of the logical blocks with these numbers, in this order.
-    /// Each later `step` makes one device call for it. `last` is what the step that commits will answer. A batch has 1
-    /// to 512 distinct numbers, and 4,096 octets for each image. The call takes no memory and makes no device call.
+    /// Each later `step` makes one device call for it. The step that commits answers `last`. A batch has 1 to 512
+    /// distinct numbers, and 4,096 octets for each image. The call takes no memory and makes no device call.
     ///
     /// The batch goes into the lowest closed segment. Its number is one more than the greatest of an open segment; it is
     /// 1 if none is open. The open segments are always the first ones, with the numbers from 1 on.

@@ -26,7 +26,7 @@ pub enum Next {
     Idle,
     Descriptor,
     Image(usize),
-    /// The sync after descriptor and images.
+    /// The sync after the descriptor and the images.
     Seal,
     OpenGate,
     /// The sync that commits. If a closed segment is left, the batch ends with it.
@@ -57,7 +57,7 @@ pub enum JournalError {
     /// The device failed in this call. This halts the journal for good.
     #[error("E1 Fault")]
     Fault,
-    /// A growth was refused in this call, and nothing changed.
+    /// A growth was refused in this call, of the journal or of the device. Each call says what that leaves.
     #[error("E2 Memory")]
     Memory,
     /// The length, the superblock or an open segment's descriptor is not valid, or two open segments share a batch
@@ -229,8 +229,8 @@ impl<D: Disk> Journal<D> {
 impl<D: Faults> Journal<D> {
     ghost use Rattle.disk.specs.Device.{IsUnchanged};
 
-    /// Makes the n-th call of the device from now on, counted from 1, answer `Fault`; 0 cancels an earlier plan. All
-    /// else stays as it was.
+    /// Makes the n-th call of the device from now on, counted from 1, answer `Fault`; 0 cancels an earlier plan.
+    /// Nothing else changes.
     pub fn fail_at(&mut self, n: u64)
         ensures view { self.new ≡ record self.old { disk = self.new.disk } }
         ensures device { IsUnchanged (D.device self.old.disk) (D.device self.new.disk) }

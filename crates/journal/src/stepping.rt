@@ -124,7 +124,10 @@ fn ask<D: Disk>(
     requires home { (j i : ℕ) → next ≡ Next.Home j i
         → 4096 * home_place (length room.now.items) (slice_index (staged_at room.now.items j).numbers i) + 4096 ≤ (D.device disk.old).size }
     requires gate { (j : ℕ) → next ≡ Next.CloseGate j → (j ≤ filled) × ((staged_at room.now.items j).place < length room.now.items) }
-    ensures asked { IsAsked (call_at next (length room.now.items) (all_of (flight_in room.now.items filled true)) (staged_at room.now.items filled).place (staged_at room.now.items filled).descriptor (staged_at room.now.items filled).images) result (D.device disk.old) (D.device disk.new) }
+    ensures asked { IsAsked
+        (call_at next (length room.now.items) (all_of (flight_in room.now.items filled true)) (staged_at room.now.items filled).place
+        (staged_at room.now.items filled).descriptor (staged_at room.now.items filled).images)
+        result (D.device disk.old) (D.device disk.new) }
     ensures memory { IfErr result (λ error. error ≡ DiskError.Memory → IsTrue (is_growing next D.write_grows D.sync_grows)) }
 {
     match next {
@@ -148,7 +151,9 @@ fn segment_at(room: &Vec<Segment>, i: usize) -> &Segment
 fn write_descriptor<D: Disk>(disk: &mut D, segment: &Segment) -> Result<(), DiskError>
     requires low { segment.now.place < 8 }
     requires size { 4096 * gate_place (segment.now.place + 1) ≤ (D.device disk.old).size }
-    ensures asked { IsAsked (Call.Write (4096 * descriptor_place segment.now.place) segment.now.descriptor) result (D.device disk.old) (D.device disk.new) }
+    ensures asked { IsAsked
+        (Call.Write (4096 * descriptor_place segment.now.place) segment.now.descriptor)
+        result (D.device disk.old) (D.device disk.new) }
     ensures memory { IfErr result (λ error. error ≡ DiskError.Memory → IsTrue D.write_grows) }
 {
     write(
@@ -162,7 +167,9 @@ fn write_image<D: Disk>(disk: &mut D, segment: &Segment, i: usize) -> Result<(),
     requires low { segment.now.place < 8 }
     requires size { 4096 * gate_place (segment.now.place + 1) ≤ (D.device disk.old).size }
     requires there { i < length segment.now.numbers }
-    ensures asked { IsAsked (Call.Write (4096 * image_place segment.now.place i) (slice_index_or segment.now.images i [])) result (D.device disk.old) (D.device disk.new) }
+    ensures asked { IsAsked
+        (Call.Write (4096 * image_place segment.now.place i) (slice_index_or segment.now.images i []))
+        result (D.device disk.old) (D.device disk.new) }
     ensures memory { IfErr result (λ error. error ≡ DiskError.Memory → IsTrue D.write_grows) }
 {
     prove!(i < segment.count());
@@ -188,7 +195,9 @@ fn write_home<D: Disk>(
     requires few { segments ≤ 8 }
     requires there { i < length segment.now.numbers }
     requires size { 4096 * home_place segments (slice_index segment.now.numbers i) + 4096 ≤ (D.device disk.old).size }
-    ensures asked { IsAsked (Call.Write (4096 * home_place segments (slice_index segment.now.numbers i)) (slice_index_or segment.now.images i [])) result (D.device disk.old) (D.device disk.new) }
+    ensures asked { IsAsked
+        (Call.Write (4096 * home_place segments (slice_index segment.now.numbers i)) (slice_index_or segment.now.images i []))
+        result (D.device disk.old) (D.device disk.new) }
     ensures memory { IfErr result (λ error. error ≡ DiskError.Memory → IsTrue D.write_grows) }
 {
     let home = home_block(segments, u64::from(segment.number(i)));
@@ -215,7 +224,8 @@ pub(crate) fn sync<D: Disk>(disk: &mut D) -> Result<(), DiskError>
 fn call_after(next: Next, room: &Vec<Segment>, filled: usize, is_last: bool) -> Next
     requires there { filled < length room.now.items }
     requires few { length room.now.items ≤ 8 }
-    requires within { IsWithin (length (staged_at room.now.items filled).numbers) (sizes_of (flight_in room.now.items filled is_last)) next }
+    requires within { IsWithin (length (staged_at room.now.items filled).numbers)
+        (sizes_of (flight_in room.now.items filled is_last)) next }
     ensures { result ≡ following (length (staged_at room.now.items filled).numbers) (sizes_of (flight_in room.now.items filled is_last))
         next }
 {
@@ -272,12 +282,14 @@ fn after_gate(j: usize, last: usize) -> Next
     }
 }
 
-// The next call after a fault. What a failed write should have put there may be there; a failed sync did nothing.
+// The next call after a fault. A failed write may have written its octets; a failed sync did nothing.
 fn call_at_fault(next: Next, room: &Vec<Segment>, filled: usize, is_last: bool) -> Next
     requires there { filled < length room.now.items }
     requires few { length room.now.items ≤ 8 }
-    requires within { IsWithin (length (staged_at room.now.items filled).numbers) (sizes_of (flight_in room.now.items filled is_last)) next }
-    ensures { result ≡ at_fault (length (staged_at room.now.items filled).numbers) (sizes_of (flight_in room.now.items filled is_last)) next }
+    requires within { IsWithin (length (staged_at room.now.items filled).numbers)
+        (sizes_of (flight_in room.now.items filled is_last)) next }
+    ensures { result ≡ at_fault (length (staged_at room.now.items filled).numbers) (sizes_of (flight_in room.now.items filled is_last))
+        next }
 {
     match next {
         Next::Seal | Next::Commit | Next::Settle | Next::Finish(_) => next,

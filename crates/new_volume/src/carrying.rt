@@ -15,7 +15,7 @@ const NO_SERIAL: u64 = 0;
 /// The first of the logical blocks.
 const FIRST: u32 = 0;
 
-/// Makes the device calls of the batch that has begun, to its end. An `Err` is a call that the device refused.
+/// Makes the device calls of the batch that has begun, to its end. An `Err` says that the device refused a call.
 fn carry<D: Disk>(journal: &mut Journal<D>) -> Result<(), JournalError>
     requires running { journal.old.halted ≡ false }
     requires next { journal.old.next ≡ Next.Descriptor }

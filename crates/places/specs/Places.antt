@@ -25,7 +25,7 @@ name_of inodes k = option_map (λ f. f.name) (slice_index_or inodes k None)
 abbrev pub names_of : List (Option File) → List ℕ → List (Option Octets)
 names_of inodes places = map (λ k. name_of inodes k) places
 
--- the files in these places have the names of the spool's files
+-- the files at these places have the names of the spool's files
 pub record AreNamed (inodes : List (Option File)) (S : Spool) (places : FilePlaces) : Type 0 where
   pub changes_are : names_of inodes places.changes ≡ map (λ e. Some (change_file e).name) (entries S)
   pub numbers_are : names_of inodes places.numbers ≡ map (λ g. Some (numbers_name g.name)) (groups S)

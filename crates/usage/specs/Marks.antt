@@ -5,11 +5,11 @@ use Rattle.model.specs.Volume.{block}
 use Rattle.usage.specs.Usage.{used_in}
 use Rattle.volume.specs.Volume.{BatchView}
 
--- a batch as the kernel hands it out: at most 512 blocks, and an image of each
+-- a batch as the kernel gives it: at most 512 blocks, and an image of each
 abbrev pub IsWhole : BatchView → Type 0
 IsWhole batch = (length batch.numbers ≤ 512) × (length batch.images ≡ 4096 * length batch.numbers)
 
--- how many bits of a logical block are set
+-- the number of bits that are set in a logical block
 abbrev pub marked : List Octets → ℕ → ℕ
 marked blocks number = used_in (slice_index_or blocks number [])
 
@@ -17,7 +17,7 @@ marked blocks number = used_in (slice_index_or blocks number [])
 abbrev pub image_of : BatchView → ℕ → Option Octets
 image_of batch number = option_map (λ place. block place batch.images) (position (λ n. n == number) batch.numbers)
 
--- how many bits of a block are set after a batch with this image of it, or with none
+-- the number of bits that are set in a block after a batch with this image of it, or with none
 abbrev pub marked_after : ℕ → Option Octets → ℕ
 marked_after before None = before
 marked_after before (Some image) = used_in image

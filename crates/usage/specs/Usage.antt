@@ -7,11 +7,11 @@ use Rattle.model.specs.Spool.{Spool, groups}
 use Rattle.model.specs.SpoolFiles.{files_of}
 use Rattle.model.specs.Stream.{Octets}
 
--- how many bits of octets are set
+-- the number of bits that are set in these octets
 abbrev pub used_in : Octets → ℕ
 used_in octets = count_by (λ bit. bit_of octets bit) (range_with_len 0 (8 * length octets))
 
--- Of a file system the bits that are set in blocks 0 and 1 are as many as the blocks that aren't free.
+-- In a file system as many bits are set in blocks 0 and 1 as there are blocks that aren't free.
 abbrev pub BitsAreUsedBlocks : Type 0
 BitsAreUsedBlocks = (inodes : ℕ) (blocks : List Octets) → HasRoom inodes blocks → IsFileSystem inodes blocks →
     used_in (slice_index_or blocks 0 []) + used_in (slice_index_or blocks 1 []) + free_blocks blocks ≡ length blocks

@@ -15,7 +15,7 @@ pub fn used_blocks(bitmap: &[u8]) -> u32
     bits as u32 - count_clear(bitmap, bits)
 }
 
-/// The set bits of blocks 0 and 1 are the blocks of a volume that are not free. It does nothing.
+/// As many bits are set in blocks 0 and 1 as there are blocks of a volume that are not free. It does nothing.
 pub fn bits_are_used_blocks()
     ensures { BitsAreUsedBlocks }
 {}

@@ -1,5 +1,5 @@
 //! How much of a volume is used: its blocks, by the bits of the bitmap and from batch to batch, and its inodes, by the
-//! changes and the groups. And what is counted while a volume is served.
+//! changes and the groups. Also what is counted while a volume is served.
 #![tactic(auto)]
 
 mod bitmap;

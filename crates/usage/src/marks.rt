@@ -17,8 +17,8 @@ pub struct Marks {
 }
 
 impl Marks {
-    /// The marks of a volume, by two reads of its device. The only refusal is `Fault`, exactly if the device failed; it
-    /// halts the journal for good.
+    /// Reads the marks of a volume, with two reads of its device. The only refusal is `Fault`, exactly if the device
+    /// failed; it halts the journal for good.
     pub fn read<D: Disk>(journal: &mut Journal<D>) -> Result<Marks, JournalError>
         requires { IsReady journal.old }
         ensures ready { OnOk result (IsReady journal.new) }
@@ -79,7 +79,7 @@ fn image(batch: &BatchBuf, block: u32) -> Option<&[u8]>
     Some(&images[start..start + BLOCK_SIZE])
 }
 
-/// The first place of a number.
+/// The first place of a number, or `None` if it does not occur.
 fn place_of(numbers: &[u32], number: u32) -> Option<usize>
     ensures first { result ≡ position (λ n. n == number) numbers.now }
     ensures within { IfSome result (λ place. place < length numbers.now) }
@@ -87,7 +87,7 @@ fn place_of(numbers: &[u32], number: u32) -> Option<usize>
     numbers.iter().position(|n| *n == number)
 }
 
-/// The set bits of a logical block, by a read of the device.
+/// The set bits of a logical block, by one read of the device.
 fn read_marks<D: Disk>(journal: &mut Journal<D>, block: u64) -> Result<u32, JournalError>
     requires ready { IsReady journal.old }
     requires below { block < journal.old.size }

@@ -17,8 +17,8 @@ pub struct VolumeFacts<'a> {
     pub inodes: u64,
 }
 
-/// What was counted since a server's start. Every thread may read it; `note_batch` counts the batches, the device the
-/// syncs.
+/// What was counted since a server's start. Every thread may read it. `note_batch` counts the batches, and the device
+/// counts the syncs.
 #[derive(Drop)]
 pub struct Tally {
     batches: AtomicU64,
@@ -47,7 +47,7 @@ impl Tally {
         }
     }
 
-    /// What it says now.
+    /// What the tally says now.
     pub fn read(&self) -> Tallied {
         Tallied {
             batches: self.batches.load(Ordering::SeqCst),
@@ -57,7 +57,7 @@ impl Tally {
     }
 
     /// Counts one more batch that was committed, and notes the used blocks as of that batch, which are the sum of these
-    /// marks. `read` tells both from then on. No clause says so, since other threads may change an atomic at any time.
+    /// marks. `read` gives both from then on. No clause says so, since other threads may change an atomic at any time.
     pub fn note_batch(&self, marks: Marks) {
         self.used_blocks.store(marks.all(), Ordering::SeqCst);
         self.batches.fetch_add(1, Ordering::SeqCst);

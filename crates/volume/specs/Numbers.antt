@@ -12,7 +12,7 @@ pub record IsNumbers (s : Numbers) : Type 0 where
   pub below : All (λ n. n < s.bound) s.members
   pub distinct : AreDistinct s.members
 
--- a number's place is 1 more than its index among the first `count`, or 0 where it is not among them
+-- a number's place is 1 more than its index among the first `count`, or 0 if it is not among them
 pub record IsIndex (numbers : List ℕ) (count : ℕ) (places : List ℕ) : Type 0 where
   pub size : length numbers ≡ length places
   pub few : length places < 2 ^ 32

@@ -7,7 +7,7 @@ ghost use Rattle.model.specs.Volume.{block};
 
 use std::alloc::AllocError;
 
-/// The octets of a block.
+/// The number of octets in a block.
 pub const BLOCK_SIZE: usize = 4096;
 
 /// Blocks of 4,096 octets, numbered from 0.

@@ -1,4 +1,4 @@
-//! Sets of block numbers. To clear a set costs time by its members, not by the bound of the numbers.
+//! Sets of block numbers. The time to clear a set grows with its members, not with the bound of the numbers.
 
 ghost use Rattle.std.specs.Prelude.{◌≡◌, ℕ, ◌+◌, ◌-◌, ◌<◌, ◌≤◌, [], ◌∷◌, ◌++◌, length, slice_index, take, IfOk, MatchOption};
 ghost use Rattle.std.specs.List.{Contains};

@@ -128,7 +128,7 @@ impl Volume {
         self.dirty.as_slice().len()
     }
 
-    /// Copies the dirty blocks out of the cache. Afterwards none is dirty.
+    /// Copies the dirty blocks out of the cache; there may be at most 512 of them. Afterwards none is dirty.
     pub fn copy_dirty(&mut self, into: &mut BatchBuf)
         requires { length self.old.dirty ≤ 512 }
         ensures clean { self.new ≡ record self.old { dirty = [] } }
@@ -157,7 +157,8 @@ fn load_all<D: Disk>(
     requires room { length octets.old ≡ 4096 * count }
     ensures loaded { IsTrue (D.device journal.old.disk).tells → OnOk result (blocks_from 0 count octets.new ≡ journal.old.blocks) }
     ensures loads { Loads D.device journal.old journal.new }
-    ensures ok { OnOk result ((journal.new.halted ≡ false) × ((D.device journal.new.disk).failures ≡ (D.device journal.old.disk).failures)) }
+    ensures ok { OnOk result ((journal.new.halted ≡ false)
+        × ((D.device journal.new.disk).failures ≡ (D.device journal.old.disk).failures)) }
     ensures fault { OnErr result ((journal.new.halted ≡ true)
         × ((D.device journal.new.disk).failures ≢ (D.device journal.old.disk).failures)) }
 {
@@ -179,7 +180,8 @@ fn load_block<D: Disk>(
     ensures octets { IsTrue (D.device journal.old.disk).tells
         → OnOk result (octets.new ≡ overwritten (4096 * number) (slice_index_or journal.old.blocks number []) octets.old) }
     ensures loads { Loads D.device journal.old journal.new }
-    ensures ok { OnOk result ((journal.new.halted ≡ false) × ((D.device journal.new.disk).failures ≡ (D.device journal.old.disk).failures)) }
+    ensures ok { OnOk result ((journal.new.halted ≡ false)
+        × ((D.device journal.new.disk).failures ≡ (D.device journal.old.disk).failures)) }
     ensures fault { OnErr result ((journal.new.halted ≡ true)
         × ((D.device journal.new.disk).failures ≢ (D.device journal.old.disk).failures)) }
 {
