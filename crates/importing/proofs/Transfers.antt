@@ -4,11 +4,10 @@ use Rattle.std.proofs.Common.{false}
 use Rattle.std.specs.Prelude.{◌==◌, ◌||◌, ◌++◌, find, filter, codes, if◌then◌else◌, Option, Some, None, option_map, option_and_then}
 use Rattle.std.specs.Prelude.{unwrap_or, bytes_eq}
 use Rattle.std.specs.List.{list_any}
-use Rattle.std.specs.Option.{option_or}
 use Rattle.std.proofs.lemmas.Bool.{true≢false}
 use Rattle.std.proofs.lemmas.Slice.Eq.{bytes_eq-Decides}
 use Rattle.model.specs.Answer.{accepted, groups_here, has_other_id, id_here, no_group_here, spool_outcome, transfer_outcome}
-use Rattle.model.specs.Article.{Carried, Cause, added_fields, cause, cause_but_long, field_count, fields, groups_of, id, id_in_field}
+use Rattle.model.specs.Article.{Carried, added_fields, cause, cause_but_long, field_count, fields, groups_of, id, id_in_field}
 use Rattle.model.specs.Article.{is_blank_field, is_named, lacks_field, long_cause, needed_fields, own_id, written_fields}
 use Rattle.model.specs.Calendar.{moment_limit}
 use Rattle.model.specs.Lawful.{MayFile}
@@ -18,13 +17,10 @@ use Rattle.model.specs.Stream.{Octets}
 use Rattle.model.proofs.Ids.{field_counted, no_cause}
 use Rattle.change_spool.specs.declared.FileError.{FileError}
 use Rattle.change_spool.specs.declared.FileError.TheVariants as file
+use Rattle.posting_commands.proofs.Saying.{no_but}
 use Rattle.posting_commands.proofs.Telling.{transfer_filed}
 
 -- ---- an article that was carried has a message-id
-
-none_first : (o p : Option Cause) → option_or o p ≡ None → o ≡ None
-none_first None p e = refl
-none_first (Some c) p e = absurd (cc)
 
 or_false : (a b : Bool) → (a || b) ≡ false → (a ≡ false) × (b ≡ false)
 or_false true b e = absurd (true≢false e)
@@ -41,7 +37,7 @@ pub has_id : (text : Octets) → cause Carried text ≡ None → own_id text ≡
 unfolding cause
 has_id text carried none =
     let counts : Octets → Bool = λ name. field_count name text == 0 in
-    let there = (no_cause Carried text (none_first (cause_but_long Carried text) (long_cause Carried text) carried)).there in
+    let there = (no_cause Carried text (no_but (cause_but_long Carried text) (long_cause Carried text) carried)).there in
     let needed =
     (or_false (list_any counts (needed_fields Carried)) (list_any (is_blank_field text) (written_fields ++ added_fields)) there).0 in
     let after_from = (any_false counts (codes "From") (codes "Newsgroups" ∷ codes "Subject" ∷ added_fields) needed).1 in

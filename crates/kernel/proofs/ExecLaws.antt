@@ -1,12 +1,13 @@
 -- What `exec` does, from its parts.
 use Rattle.std.proofs.Common.{◌≡◌, ◌≢◌, ◌⊎◌, inl, inr, ℕ, zero, suc, ◌≤◌, ◌<◌, Bool, true, false, List, [], ◌∷◌, length, refl, ap, sym, ◌∙◌}
-use Rattle.std.proofs.Common.{subst, arith, rules, set}
+use Rattle.std.proofs.Common.{subst, arith, set}
 use Rattle.std.specs.Prelude.{Option, Some, None, Result, Ok, Err, MatchResult, IsSome, is_none, is_some, not, ◌||◌, ◌&&◌, bytes_eq, nat_le}
 use Rattle.std.specs.Prelude.{nat_lt, slice_get, slice_index_or, if◌then◌else◌}
 use Rattle.std.proofs.Math.Bool.{or-false, or-true}
 use Rattle.std.proofs.lemmas.Bool.{le-leb, leb-true, ltb-false}
 use Rattle.model.specs.declared.session.Answer.{Answer}
 use Rattle.model.specs.declared.session.Session.{Session}
+use Rattle.model.proofs.Joined.{bytes_same}
 use Rattle.model.proofs.ServiceLaws.{news_stopped as stopped_answer}
 use Rattle.model.specs.Answer.{is_long}
 use Rattle.model.specs.Room.{is_full}
@@ -76,9 +77,6 @@ module _ (k : KernelView) (sid : ℕ) (m : Message) where
 
 -- ---- what is done
 
-bytes_eq-same : (xs : Octets) → bytes_eq xs xs ≡ true
-bytes_eq-same xs = search (rules, bytes_eq-Decides)
-
 -- no change dirties nothing
 same_dirties : (s : SpoolView) (d : ℕ) (f : Option ℕ) (h : Bool) (j : ℕ) (seats seats' : List Seat)
     → Dirties (kernel_of s d f h j seats) (kernel_of s d f h j seats')
@@ -86,7 +84,7 @@ same_dirties s d f h j seats seats' =
     record {
       size = refl;
       exactly = λ k inside. sym (ap (λ (b : Bool). is_dirty (kernel_of s d f h j seats) k || not b)
-          (bytes_eq-same (slice_index_or s.blocks k [])) ∙ or-false (is_dirty (kernel_of s d f h j seats) k));
+          (bytes_same (slice_index_or s.blocks k [])) ∙ or-false (is_dirty (kernel_of s d f h j seats) k));
       few = omega arith;
     }
 

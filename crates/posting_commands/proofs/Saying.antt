@@ -20,7 +20,7 @@ either : (a : Option Cause) (short : Bool) (c : Option Cause) → option_or a (c
 either None short c is none = is
 either (Some d) short c is none = absurd (cc)
 
-no_but : (a b : Option Cause) → option_or a b ≡ None → a ≡ None
+pub no_but : (a b : Option Cause) → option_or a b ≡ None → a ≡ None
 no_but None b is = refl
 no_but (Some c) b is = absurd (cc)
 

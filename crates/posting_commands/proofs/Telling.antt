@@ -20,10 +20,6 @@ pub told_id : (S : Spool) (o : Option NewsArticle) (here : List Octets) (closed 
 told_id S None here closed n is = absurd (cc)
 told_id S (Some a) here closed n is = let one : n ≡ a.serial = cc in ap outcome.Refused one
 
-pub no_id : (o : Option NewsArticle) → None ≡ option_map (λ (a : NewsArticle). a.serial) o → o ≡ None
-no_id None is = refl
-no_id (Some a) is = absurd (cc)
-
 pub told_groups : (S : Spool) (here : List Octets) (closed : Option Octets)
     → outcome_by here (option_map (last_naming S) closed) ≡ told S (spool_outcome None here closed)
 told_groups S [] closed = refl

@@ -1,11 +1,11 @@
 -- A release in its middle: some sessions have given, the others are still to give.
 use Rattle.std.proofs.Common.{◌≡◌, ℕ, suc, ◌+◌, ◌-◌, ◌≤◌, ◌<◌, Bool, true, false, List, [], ◌∷◌, ◌++◌, length, take, drop, refl, ap, sym}
-use Rattle.std.proofs.Common.{◌∙◌, arith, append_assoc, length-append, length-drop, drop-cons, get_or, set, zero-add}
+use Rattle.std.proofs.Common.{◌∙◌, arith, append_assoc, length-append, length-drop, drop-cons, get_or, set}
 use Rattle.std.specs.Prelude.{◌==◌, ◌&&◌, not, if◌then◌else◌}
-use Rattle.std.proofs.lemmas.Bool.{eqb-true}
 use Rattle.std.proofs.lemmas.List.{length-take-le, take_at, drop_at, drop-set-lt, length-set}
 use Rattle.std.proofs.lemmas.List.Sums.{sum_by-append}
 use Rattle.std.proofs.Math.Seq.{take-suc-set}
+use Rattle.outbox.proofs.BufferLaws.{octets_in-entry_of}
 use Rattle.outbox.proofs.GivingLaws.{give-room}
 use Rattle.outbox.specs.Queue.{Entry, Giving, entry_of, octets_in}
 use Rattle.seats.specs.Seats.{Seat, Ready, given_of, ready, seat_given}
@@ -20,16 +20,6 @@ pub record IsRest (p : ℕ) (all : List Seat) (entries : List Entry) (at : ℕ) 
 
 pub rest_at_first : (p : ℕ) (all : List Seat) → IsRest p all [] 0 all
 rest_at_first p all = record { within = omega arith; size = omega arith; entries_are = refl; seats_are = refl }
-
--- the octets of an entry are those that were given
-octets_in-entry : (number : ℕ) (g : Giving) → octets_in (entry_of number g) ≡ length g.octets
-octets_in-entry number g = go (length g.octets == 0) g.ended refl
-  where
-    go : (b ended : Bool) → (length g.octets == 0) ≡ b
-        → octets_in (if b && not ended then [] else (number, g.octets, g.ended) ∷ []) ≡ length g.octets
-    go true true is = zero-add (length g.octets)
-    go true false is = sym (eqb-true (length g.octets) 0 is)
-    go false ended is = zero-add (length g.octets)
 
 length-entry : (number : ℕ) (g : Giving) → length (entry_of number g) ≤ 1
 length-entry number g = go (length g.octets == 0 && not g.ended)
@@ -47,7 +37,7 @@ room_behind : (p : ℕ) (entries : List Entry) (seat : Seat)
 room_behind p entries seat =
     let g : Giving = given_of p entries seat in
     let sum = give-room p (65536 - octets_in entries) seat.given seat.held in
-    omega (arith, octets_in-append entries (entry_of seat.number g), octets_in-entry seat.number g, sum)
+    omega (arith, octets_in-append entries (entry_of seat.number g), octets_in-entry_of seat.number g, sum)
 
 module _ (p : ℕ) (all : List Seat) (entries : List Entry) (at : ℕ) (seats : List Seat) (seat : Seat) (lt : at < length seats)
     (is : get_or seats at seat ≡ seat) (h : IsRest p all entries at seats) where

@@ -3,24 +3,17 @@ use Rattle.std.proofs.Common.{◌≡◌, ℕ, List, [], ◌∷◌, ◌++◌, ref
 use Rattle.std.specs.Prelude.{Bool, true, false, not, max, Option, Some, None, is_none, is_some}
 use Rattle.model.specs.Stream.{Octets}
 use Rattle.model.specs.Spool.{Spool}
-use Rattle.model.specs.Answer.{answer, awaiting, says}
+use Rattle.model.specs.Answer.{answer}
 use Rattle.model.specs.Reads.{reads}
 use Rattle.model.specs.Service.{mode_of}
 use Rattle.model.specs.declared.message.Message.{Message}
 use Rattle.model.specs.declared.message.Mark.{Mark}
-use Rattle.model.specs.Replies.{service_ends}
 use Rattle.model.specs.declared.message.Mark.TheVariants.{Stopped}
-use Rattle.model.specs.declared.session.Awaits.TheVariants.{Nothing}
 use Rattle.model.specs.declared.session.Session.{Session}
-use Rattle.model.proofs.ServiceLaws.{news_stopped as stopped_answer}
 use Rattle.outbox.specs.Queue.{Held, last_dependency}
 use Rattle.seats.specs.Seats.{Seat, answered_by}
 
--- the answer where the kernel is halted, and what it reads
-pub stopped_is : (host : Octets) (S : Spool) (x : Session) (m : Message) (t : ℕ)
-    → answer host S x m t Stopped ≡ says (awaiting x Nothing) service_ends
-stopped_is host S x m t = stopped_answer host S x m t
-
+-- what the answer reads where the kernel is halted
 pub stopped_reads : (host : Octets) (S : Spool) (x : Session) (m : Message) (t : ℕ) → reads host S x m t Stopped ≡ 0
 unfolding reads
 stopped_reads host S x m t = refl

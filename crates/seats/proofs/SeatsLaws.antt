@@ -17,7 +17,7 @@ above n at [] seat rise is = absurd (cc is)
 above n zero (first ∷ seats) seat rise is = let same : first ≡ seat = cc is in omega (arith, rise.0, ap (λ (s : Seat). s.number) same)
 above n (suc at) (first ∷ seats) seat rise is = omega (arith, rise.0, above first.number at seats seat rise.1 is)
 
-eqb-same : (n : ℕ) → (n == n) ≡ true
+pub eqb-same : (n : ℕ) → (n == n) ≡ true
 eqb-same n = eq-eqb n n refl
 
 eqb-below : (m n : ℕ) → m < n → (m == n) ≡ false

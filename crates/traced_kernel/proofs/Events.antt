@@ -14,6 +14,7 @@ use Rattle.model.specs.declared.message.Mode.{Mode}
 use Rattle.model.specs.declared.session.Session.{Session}
 use Rattle.kernel.specs.Kernel.{KernelView, seat_of, joined, left, answered, Executed}
 use Rattle.seats.specs.Seats.{Ready, Seat, new_seat}
+use Rattle.seats.proofs.SeatsLaws.{eqb-same}
 use Rattle.synchrony.specs.Framing.{next_in}
 use Rattle.synchrony.specs.Server.{Entry, Command, Admin, Connection, opened, updated}
 use Rattle.synchrony.specs.Dependency.{Output, greatest, Account, account_of, account_step}
@@ -28,7 +29,7 @@ use Rattle.traced_kernel.specs.Events.{joins, arrives, leaves, with_kernel, with
 use Rattle.traced_kernel.specs.Fields.{AreKnown, given_in}
 use Rattle.model.proofs.NewsLaws.{lawful}
 use Rattle.traced_kernel.proofs.Seats.{seat_in, seat_in-number, seat_in-joined, seat_in-left, seat_in-answered, Given as GivenTo, by_number}
-use Rattle.traced_kernel.proofs.Seats.{updated-same, updated-other, eqb-other, eqb-same}
+use Rattle.traced_kernel.proofs.Seats.{updated-same, updated-other, eqb-other}
 use Rattle.traced_kernel.proofs.Sessions.{session_at-joined, session_at-with, session_at-past, length-with_sent, with_released-at}
 use Rattle.traced_kernel.proofs.Sessions.{length-with_released, sent_more}
 use Rattle.traced_kernel.proofs.Standing.{IsSession-along, IsSession-raise, IsSession-joins}

@@ -5,7 +5,7 @@ use Rattle.std.specs.Prelude.{◌||◌, nat_lt, if◌then◌else◌}
 use Rattle.std.proofs.lemmas.List.{append-nil}
 use Rattle.std.proofs.lemmas.Bool.{ltb-true}
 use Rattle.std.proofs.lemmas.Bool.Decides.{nat_tests}
-use Rattle.outbox.specs.Queue.{Held, Giving, nothing_more, cut_at, behind, give, last_dependency}
+use Rattle.outbox.specs.Queue.{Held, Giving, nothing_more, cut_at, behind, give}
 use Rattle.synchrony.specs.Dependency.{Output}
 use Rattle.synchrony.specs.Progress.{EachFilled, Gives}
 use Rattle.synchrony.proofs.Giving.{gives_go_on}
@@ -45,17 +45,6 @@ module _ (P : ℕ → ℕ → List Held → Giving → Type 0) (p : ℕ)
         go true cuts e f h = stop room given held rest
         go false true e f h = cut room given held rest (grind (arith, nat_tests)) (ltb-true room (length held.octets) f)
         go false false e f h = whole room given held rest (grind (arith, nat_tests)) (grind (arith, nat_tests)) h
-
--- the dependency of what a session was told last stays
-pub give_last : (p room given : ℕ) (held : List Held)
-    → last_dependency (give p room given held).given (give p room given held).held ≡ last_dependency given held
-give_last p room given held =
-    give_cases (λ room given held g. last_dependency g.given g.held ≡ last_dependency given held) p
-    (λ room given. refl)
-    (λ room given h rest. refl)
-    (λ room given h rest near short. refl)
-    (λ room given h rest near long later. later)
-    room given held
 
 -- no more is given than there is room for
 pub give_room : (p room given : ℕ) (held : List Held) → length (give p room given held).octets + (give p room given held).room ≤ room

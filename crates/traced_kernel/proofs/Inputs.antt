@@ -57,11 +57,11 @@ pub Waits-served : (held : Held) (message : Message) (m other : Mode) (stream : 
     (h : HoldsMessage (input_with held (Some message)) m stream message) → Waits (input_with held None) other h.0
 Waits-served held message m other stream h = (h.2, subst (λ o. IfSome o (λ awaited. awaited ≡ other)) (sym h.3) tt)
 
-none_some : {A : Type 0} (o : Option A) → is_some o ≡ false → o ≡ None
+pub none_some : {A : Type 0} (o : Option A) → is_some o ≡ false → o ≡ None
 none_some None is = refl
 none_some (Some a) is = absurd (cc is)
 
-some_some : {A : Type 0} (o : Option A) → is_some o ≡ true → (a : A) × (o ≡ Some a)
+pub some_some : {A : Type 0} (o : Option A) → is_some o ≡ true → (a : A) × (o ≡ Some a)
 some_some None is = absurd (cc is)
 some_some (Some a) is = (a, refl)
 

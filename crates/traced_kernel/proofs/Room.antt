@@ -7,7 +7,7 @@ use Rattle.std.proofs.lemmas.Bool.{cases_lt}
 use Rattle.seats.specs.Kept.{RiseFrom}
 use Rattle.std.specs.Option.{IsSome}
 use Rattle.seats.specs.Seats.{Ready, Seat, ready, ready_of}
-use Rattle.seats.proofs.SeatsLaws.{find_place}
+use Rattle.seats.proofs.SeatsLaws.{eqb-same, find_place}
 use Rattle.outbox.specs.Queue.{Entry}
 use Rattle.synchrony.specs.Server.{updated}
 use Rattle.traced_kernel.specs.Events.{with_released}
@@ -15,7 +15,7 @@ use Rattle.traced_kernel.specs.Fields.{AreKnown, HasRoom, HaveRoom, given_in, in
 use Rattle.traced_kernel.specs.Traced.{Sent, numbered, sent_at, with_numbered, with_sent}
 use Rattle.traced_kernel.specs.declared.peer.Peer.{Peer}
 use Rattle.traced_kernel.proofs.Peers.{AtPeer}
-use Rattle.traced_kernel.proofs.Seats.{Given, by_number, eqb-other, eqb-same, one_gives, one_short, ready_gives, ready_short, seat_in}
+use Rattle.traced_kernel.proofs.Seats.{Given, by_number, eqb-other, one_gives, one_short, ready_gives, ready_short, seat_in}
 use Rattle.traced_kernel.proofs.Seats.{seat_in-number, updated-other, updated-same}
 use Rattle.traced_kernel.proofs.Sessions.{AreKnown-given, numbered-within}
 use Rattle.traced_kernel.proofs.Sound.{numbered-with}

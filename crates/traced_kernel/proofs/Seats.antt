@@ -9,6 +9,7 @@ use Rattle.outbox.specs.Queue.{Giving, Entry, give, entry_of, nothing_more, octe
 use Rattle.outbox.proofs.GivingLaws.{give-full}
 use Rattle.seats.specs.Seats.{Seat, Ready, given_of, ready, ready_by, ready_of, seat_given, with_seat}
 use Rattle.seats.specs.Kept.{RiseFrom}
+use Rattle.seats.proofs.SeatsLaws.{eqb-same}
 use Rattle.traced_kernel.specs.Fields.{given_in}
 use Rattle.traced_kernel.proofs.Giving.{give_room}
 use Rattle.synchrony.specs.Server.{updated}
@@ -125,9 +126,6 @@ ready_gives n p room (seat ∷ seats) rise number =
         octets = entries ∙ ap (λ xs. xs ++ given_in number later.entries) (given_in-other number seat.number g is)
 
 -- ---- the small calls
-
-pub eqb-same : (n : ℕ) → (n == n) ≡ true
-eqb-same n = eq-eqb n n refl
 
 pub eqb-other : (a b : ℕ) → a ≢ b → (a == b) ≡ false
 eqb-other a b differs = grind (arith, nat_tests, differs)

@@ -9,14 +9,14 @@ use Rattle.std.proofs.lemmas.List.Elements.{All-head, All-tail}
 use Rattle.outbox.specs.Queue.{Entry, Giving, give, entry_of}
 use Rattle.seats.specs.Seats.{Seat, given_of, ready, ready_by, ready_of}
 use Rattle.seats.specs.Kept.{IsSeat}
-use Rattle.seats.proofs.SeatsLaws.{find_place}
+use Rattle.seats.proofs.SeatsLaws.{eqb-same, find_place}
 use Rattle.kernel.proofs.KernelLaws.{all_at}
 use Rattle.model.specs.declared.change.Change.{Change}
 use Rattle.synchrony.specs.Server.{updated}
 use Rattle.traced_kernel.specs.Traced.{Sent, nobody, numbered, session_at, sent_at, with_sent}
 use Rattle.traced_kernel.specs.Events.{with_released}
 use Rattle.traced_kernel.specs.Fields.{AreKnown, given_in}
-use Rattle.traced_kernel.proofs.Seats.{eqb-same, eqb-other, by_number, seat_in, updated-same, updated-other}
+use Rattle.traced_kernel.proofs.Seats.{eqb-other, by_number, seat_in, updated-same, updated-other}
 
 get-set_same : {A : Type 0} (xs : List A) (i : ℕ) (x old : A) → slice_get xs i ≡ Some old → slice_get (set xs i x) i ≡ Some x
 get-set_same [] i x old is = absurd (cc is)

@@ -7,6 +7,7 @@ use Rattle.std.proofs.lemmas.List.{append-nil, length-set, take_all}
 use Rattle.kernel.specs.Kernel.{FitsMode, KernelView, Refusal, Tested, answered, exec_refusal, halted_for_good, joined, made_durable}
 use Rattle.kernel.specs.Kernel.{mode_at, seat_of, taken}
 use Rattle.seats.specs.Seats.{Ready, Seat, new_seat, ready, ready_of}
+use Rattle.seats.proofs.SeatsLaws.{eqb-same}
 use Rattle.kernel.specs.Errors.{of_exec}
 use Rattle.kernel.specs.declared.errors.ExecError.{ExecError}
 use Rattle.kernel.specs.declared.errors.ExecError.TheVariants as exec
@@ -34,7 +35,7 @@ use Rattle.traced_kernel.proofs.Events.{account_in, IsServed-arrives, IsServed-j
 use Rattle.traced_kernel.proofs.Events.{IsServed-gives, IsServed-serves, gives, more_at}
 use Rattle.synchrony.specs.Framing.{next_in}
 use Rattle.traced_kernel.proofs.Inputs.{Found-waits, Waits-may, Waits-served, next_fits}
-use Rattle.traced_kernel.proofs.Seats.{Given, by_number, eqb-other, eqb-same, one_gives}
+use Rattle.traced_kernel.proofs.Seats.{Given, by_number, eqb-other, one_gives}
 use Rattle.traced_kernel.proofs.Seats.{ready_gives, seat_in, seat_in-answered, seat_in-number}
 use Rattle.traced_kernel.proofs.Seats.{seat_in-joined, seat_in-left, updated-other, updated-same}
 use Rattle.traced_kernel.proofs.Sessions.{length-with_released, length-with_sent, numbered-pushed, numbered-set, numbered-within, one_known}
@@ -596,14 +597,6 @@ pub leaves_there : (served : TracedView) (number : ℕ) (seat : Seat) → seat_o
 leaves_there served number seat is =
     ap (λ o. if is_some o then with_numbered served.sessions number (record (sent_at served.sessions number) { left = true }) else
     served.sessions) is
-
-pub no_seat : {A : Type 0} (o : Option A) → is_some o ≡ false → o ≡ None
-no_seat None is = refl
-no_seat (Some a) is = absurd (cc is)
-
-pub some_seat : {A : Type 0} (o : Option A) → is_some o ≡ true → (a : A) × (o ≡ Some a)
-some_seat None is = absurd (cc is)
-some_seat (Some a) is = (a, refl)
 
 -- ---- the kernel alone, by what became of it
 

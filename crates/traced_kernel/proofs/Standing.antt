@@ -9,6 +9,7 @@ use Rattle.model.specs.Stream.{Octets}
 use Rattle.model.specs.News.{greeting, mode_of}
 use Rattle.model.specs.declared.session.Session.{Session}
 use Rattle.outbox.specs.Queue.{Held, Giving, give, last_dependency}
+use Rattle.outbox.proofs.GivingLaws.{give-last_dependency}
 use Rattle.seats.specs.Seats.{Seat, new_seat}
 use Rattle.synchrony.specs.Server.{Connection}
 use Rattle.synchrony.specs.Dependency.{Output, greatest, octets_of}
@@ -21,7 +22,7 @@ use Rattle.synchrony.proofs.Released.{octets_of-unreleased}
 use Rattle.synchrony.proofs.Filled.{EachFilled-unreleased}
 use Rattle.synchrony.proofs.Giving.{gives_go_on}
 use Rattle.traced_kernel.specs.Traced.{Sent, nobody, without_ends, EndsLast, IsPresent, HasEnded, IsThere, IsUnknown, IsKnown, IsSession}
-use Rattle.traced_kernel.proofs.Giving.{give_gives, give_last, give_ends}
+use Rattle.traced_kernel.proofs.Giving.{give_gives, give_ends}
 use Rattle.traced_kernel.proofs.Seats.{Given, seat_after}
 use Rattle.traced_kernel.proofs.Sessions.{sent_more}
 
@@ -213,7 +214,7 @@ module _ (host : Octets) (durable room : ℕ) (sent : Sent) (seat : Seat) (conne
         stays = was.stays;
         session = was.session;
         held = now.1;
-        read = give_last durable room seat.given seat.held
+        read = give-last_dependency durable room seat.given seat.held
             ∙ was.read;
         ends = ends.1 is;
       }

@@ -3,15 +3,16 @@ use Rattle.std.specs.Prelude.{IfOk, Option}
 use Rattle.model.specs.Answer.{groups_here, spool_outcome}
 use Rattle.model.specs.Article.{groups_of}
 use Rattle.model.specs.Spool.{NewsArticle}
+use Rattle.lookups.proofs.Standing.{not_found}
 use Rattle.posting_commands.specs.Outcomes.{closed_among, told}
-use Rattle.posting_commands.proofs.Telling.{no_id, told_id}
+use Rattle.posting_commands.proofs.Telling.{told_id}
 use Rattle.posting_commands.proofs.filing.filing.Goals as goal
 
 pub returns-in-Some : goal.returns-in-Some
 returns-in-Some g c = told_id _ _ _ _ c.in-Some.serial c.in-Some.ensures
 
 pub by_groups-requires : goal.by_groups-requires
-by_groups-requires g c = no_id _ c.in-None.ensures
+by_groups-requires g c = not_found _ c.in-None.ensures
 
 pub returns-in-None : goal.returns-in-None
 returns-in-None g c =
@@ -19,4 +20,4 @@ returns-in-None g c =
     let text = c.args.article.now in
     subst (λ (o : Option NewsArticle). IfOk c.by_groups.result
     (λ outcome. outcome ≡ told S (spool_outcome o (groups_here S text) (closed_among c.args.closed S (groups_of text)))))
-    (sym (no_id _ c.in-None.ensures)) c.by_groups.ensures
+    (sym (not_found _ c.in-None.ensures)) c.by_groups.ensures

@@ -5,7 +5,7 @@ use Rattle.std.proofs.lemmas.Bool.{le-leb}
 use Rattle.std.proofs.lemmas.Iterator.{YieldsList-from_slice}
 use Rattle.std.proofs.lemmas.Iterator.Search.{all_from_yields_List}
 use Rattle.model.specs.Lawful.{is_description_octet}
-use Rattle.script.proofs.Runs.{and_second}
+use Rattle.names.proofs.Runs.{and_second}
 use Rattle.script.proofs.lines.is_description.Goals as goal
 
 pub returns-then-text-le-DESCRIPTION_LIMIT : goal.returns-then-text-le-DESCRIPTION_LIMIT

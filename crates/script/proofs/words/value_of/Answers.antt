@@ -1,5 +1,6 @@
 use Rattle.std.proofs.Common.{◌+◌, sym, arith}
-use Rattle.script.proofs.Digits.{digits_more, too_large, whole}
+use Rattle.names.proofs.Digits.{digits_more}
+use Rattle.script.proofs.Digits.{too_large, whole}
 use Rattle.script.proofs.words.value_of.Goals as goal
 
 pub returns-in_err-checked_mul : goal.returns-in_err-checked_mul

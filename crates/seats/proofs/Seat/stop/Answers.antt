@@ -5,9 +5,10 @@ use Rattle.model.specs.Reads.{reads}
 use Rattle.model.specs.Service.{mode_of}
 use Rattle.model.specs.declared.message.Mark.TheVariants.{Stopped}
 use Rattle.model.specs.declared.session.Answer.{Answer}
+use Rattle.model.proofs.ServiceLaws.{news_stopped}
 use Rattle.replies.specs.declared.sessions.Answered.{Answered}
 use Rattle.seats.specs.Seats.{Seat, answered_by}
-use Rattle.seats.proofs.SeatLaws.{answered_is, stopped_is, stopped_reads}
+use Rattle.seats.proofs.SeatLaws.{answered_is, stopped_reads}
 use Rattle.seats.proofs.Seat.stop.Goals as goal
 
 pub returns-clause-ok : goal.returns-clause-ok
@@ -25,7 +26,7 @@ returns-clause-ok c = λ host S m t.
       held = c.hold.new.queue.held;
     } in
     let told : c.in_ok-answer.field-0.answer ≡ _ = ap (λ (a : Answered). a.answer) c.in_ok-answer.ensures
-    ∙ sym (stopped_is host S before.session m t) in
+    ∙ sym (news_stopped host S before.session m t) in
     let depends : max (last_dependency c.reserve.new.self.given c.reserve.new.self.held) c.in_ok-answer.field-0.reads
     ≡ max (last_dependency before.given before.held) (reads host S before.session m t Stopped) =
     (λ i. max (last_dependency (c.reserve.ensures.given i) (c.reserve.ensures.held i))

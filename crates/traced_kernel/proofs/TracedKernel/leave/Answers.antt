@@ -3,8 +3,9 @@ use Rattle.kernel.specs.Kernel.{seat_of}
 use Rattle.traced_kernel.specs.Events.{leaves}
 use Rattle.traced_kernel.specs.Fields.{inputs, sents}
 use Rattle.traced_kernel.specs.Traced.{TracedView}
+use Rattle.traced_kernel.proofs.Inputs.{none_some, some_some}
 use Rattle.traced_kernel.proofs.Peers.{same-length}
-use Rattle.traced_kernel.proofs.Sound.{IsSound-along, leaves_none, leaves_there, no_seat, some_seat, sound_leaves, there_numbered}
+use Rattle.traced_kernel.proofs.Sound.{IsSound-along, leaves_none, leaves_there, sound_leaves, there_numbered}
 use Rattle.traced_kernel.proofs.TracedKernel.leave.Goals as goal
 
 pub returns-then-not-has : goal.returns-then-not-has
@@ -16,7 +17,7 @@ returns-then-not-has c =
       trace = c.self.inside.trace.items;
       ready = c.self.inside.ready;
     } in
-    let none : seat_of c.self.inside.kernel c.args.number ≡ None = no_seat _ (sym c.has.ensures ∙ c.if-not-has.true) in
+    let none : seat_of c.self.inside.kernel c.args.number ≡ None = none_some _ (sym c.has.ensures ∙ c.if-not-has.true) in
     subst (λ (s : TracedView). s ≡ leaves s c.args.number) c.self.view_is (sym (leaves_none old c.args.number none))
 
 pub leave-requires-clause-within : goal.leave-requires-clause-within
@@ -28,7 +29,7 @@ leave-requires-clause-within c =
       trace = c.self.inside.trace.items;
       ready = c.self.inside.ready;
     } in
-    let seat = some_seat (seat_of c.self.inside.kernel c.args.number) (sym c.has.ensures ∙ c.if-not-has.false) in
+    let seat = some_some (seat_of c.self.inside.kernel c.args.number) (sym c.has.ensures ∙ c.if-not-has.false) in
     let place = there_numbered old (inputs c.self.inside.peers.items) c.args.number seat.0 seat.1 c.self.invariant in
     omega (arith, place.1, same-length c.self.inside.peers.items)
 
@@ -41,7 +42,7 @@ invariant_of-self c =
       trace = c.self.inside.trace.items;
       ready = c.self.inside.ready;
     } in
-    let seat = some_seat (seat_of c.self.inside.kernel c.args.number) (sym c.has.ensures ∙ c.if-not-has.false) in
+    let seat = some_some (seat_of c.self.inside.kernel c.args.number) (sym c.has.ensures ∙ c.if-not-has.false) in
     IsSound-along {old = leaves old c.args.number}
     (λ i. record {
       kernel = c.leave-2.ensures i;
