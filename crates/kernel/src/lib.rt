@@ -175,7 +175,8 @@ impl Kernel {
     ) -> Result<(Option<Mode>, Mark), ExecError>
         requires kind { FitsMode (mode_at self.old sid) message.now }
         requires moment { moment < moment_limit }
-        ensures { Tested of_exec ExecError.Memory (exec_refusal self.old sid message.now) self.old self.new result (Execs self.old self.new sid message.now moment) }
+        ensures { Tested of_exec ExecError.Memory (exec_refusal self.old sid message.now) self.old self.new result
+            (Execs self.old self.new sid message.now moment) }
     {
         let Some(at) = position(&self.seats, sid) else {
             return Err(ExecError::NoSession);
@@ -233,7 +234,8 @@ impl Kernel {
         requires printable { IsTrue (list_all is_description_octet description.now) }
         requires moment { moment < moment_limit }
         ensures { let change = Group name.now status description.now moment in
-            TestedOrMemory of_admin AdminError.Memory (admin_refusal_of self.old change) (admin_refusal_of self.old change) self.old self.new result (Administers self.old self.new change) }
+            TestedOrMemory of_admin AdminError.Memory (admin_refusal_of self.old change) (admin_refusal_of self.old change)
+            self.old self.new result (Administers self.old self.new change) }
     {
         self.may_administer()?;
         let serial = match self
@@ -269,7 +271,8 @@ impl Kernel {
     /// or `Memory` (E2), tested in that order; a refusal changes nothing.
     pub fn expire(&mut self, name: &GroupName, number: u32) -> Result<u64, ExpireError>
         ensures { let change = Expire name.now number in
-            TestedOrMemory of_expire ExpireError.Memory (expire_refusal_of self.old change) (expire_refusal_of self.old change) self.old self.new result (Administers self.old self.new change) }
+            TestedOrMemory of_expire ExpireError.Memory (expire_refusal_of self.old change) (expire_refusal_of self.old change)
+            self.old self.new result (Administers self.old self.new change) }
     {
         self.may_expire()?;
         let serial = match self.spool.expire(name.as_slice(), number) {

@@ -203,7 +203,8 @@ impl TracedKernel {
         requires printable { IsTrue (list_all is_description_octet description.now) }
         requires moment { moment < moment_limit }
         ensures { let change = Group name.now status description.now moment in
-            TestedOrMemory of_admin AdminError.Memory (early_refusal self.old.kernel) (admin_refusal_of self.old.kernel change) self.old self.new result (Makes self.old self.new change) }
+            TestedOrMemory of_admin AdminError.Memory (early_refusal self.old.kernel) (admin_refusal_of self.old.kernel change)
+            self.old self.new result (Makes self.old self.new change) }
     {
         self.kernel.may_administer()?;
         let Ok(entry) = group_entry(alloc, name, status, description, moment) else {
@@ -227,7 +228,8 @@ impl TracedKernel {
         number: u32,
     ) -> Result<u64, ExpireError>
         ensures { let change = Expire name.now number in
-            TestedOrMemory of_expire ExpireError.Memory (early_refusal self.old.kernel) (expire_refusal_of self.old.kernel change) self.old self.new result (Makes self.old self.new change) }
+            TestedOrMemory of_expire ExpireError.Memory (early_refusal self.old.kernel) (expire_refusal_of self.old.kernel change)
+            self.old self.new result (Makes self.old self.new change) }
     {
         self.kernel.may_expire()?;
         let Ok(expiry) = expiry_entry(alloc, name, number) else {

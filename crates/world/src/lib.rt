@@ -348,7 +348,8 @@ impl<D: Disk> World<D> {
         requires short { length description.now ≤ 200 }
         requires printable { IsTrue (list_all is_description_octet description.now) }
         requires moment { moment < moment_limit }
-        ensures { TestedOrMemory of_kernel StepError.Memory (early_refusal (kernel_of self.old)) (admin_refusal_of (kernel_of self.old) (Group name.now status description.now moment)) self.old self.new result
+        ensures { TestedOrMemory of_kernel StepError.Memory (early_refusal (kernel_of self.old))
+            (admin_refusal_of (kernel_of self.old) (Group name.now status description.now moment)) self.old self.new result
             (λ a. (serial : ℕ) × (a ≡ Answer.Made serial)
             × Makes self.old.served self.new.served (Group name.now status description.now moment) serial
             × (self.new ≡ with_served self.old self.new.served)) }
@@ -361,7 +362,8 @@ impl<D: Disk> World<D> {
     }
 
     fn expire(&mut self, alloc: Global, name: &GroupName, number: u32) -> Result<Answer, StepError>
-        ensures { TestedOrMemory of_kernel StepError.Memory (early_refusal (kernel_of self.old)) (expire_refusal_of (kernel_of self.old) (Expire name.now number)) self.old self.new result
+        ensures { TestedOrMemory of_kernel StepError.Memory (early_refusal (kernel_of self.old))
+            (expire_refusal_of (kernel_of self.old) (Expire name.now number)) self.old self.new result
             (λ a. (serial : ℕ) × (a ≡ Answer.Made serial) × Makes self.old.served self.new.served (Expire name.now number) serial
             × (self.new ≡ with_served self.old self.new.served)) }
     {
