@@ -25,7 +25,8 @@ const ACCESS_DENIED: &[u8] = b"502 Access denied\r\n";
 /// How long an acceptor waits if the system gives it no socket, in milliseconds.
 const PAUSE_MILLIS: u64 = 10;
 
-/// The most callers of a listener that are told at the end that the service ends: more than wait at one that std made.
+/// The most callers of a listener that are told at the end that the service ends: more than can wait at a listener that
+/// std made.
 const WAITING: u32 = 256;
 
 /// The doors of a server: one for each of its listeners.
@@ -35,7 +36,7 @@ pub struct Doors<'a> {
     pub networks: &'a [Network],
     /// A second handle of each listener, as a stream, since std shuts only streams down.
     handles: Vec<TcpStream>,
-    /// No door lets anybody in any more.
+    /// The doors let nobody in any more.
     are_shut: AtomicBool,
 }
 
@@ -72,8 +73,8 @@ impl<'a> Doors<'a> {
     }
 
     /// Shuts the doors, once. The callers that wait are told that the service ends. After that the listeners take no
-    /// caller, and each acceptor ends: on Linux a call of `accept` fails once its listener was shut down, also one that
-    /// waits. So no address has to be called for it.
+    /// caller, and each acceptor ends: on Linux a call of `accept` fails once its listener was shut down, even a call
+    /// that is waiting. So nobody has to connect to a listener to end its acceptor.
     pub fn shut(&self) {
         if self.are_shut.swap(true, Ordering::SeqCst) {
             return;
@@ -86,7 +87,7 @@ impl<'a> Doors<'a> {
         }
     }
 
-    /// Whether no door lets anybody in any more.
+    /// Whether the doors let nobody in any more.
     pub fn are_shut(&self) -> bool {
         self.are_shut.load(Ordering::SeqCst)
     }
@@ -208,7 +209,7 @@ impl<
     }
 
     /// Joins a session for a caller that is let in, and hands the caller to a session's thread. A caller that gets no
-    /// session is refused. `Over` if there will be none any more.
+    /// session is refused. `Over` if there will be no more sessions.
     fn admit(&self, newcomer: Newcomer, entrance: &mut Entrance<'_>) -> Result<(), Over> {
         if !may_call(self.doors.networks, newcomer.peer.ip()) {
             self.note(newcomer.peer, Refusal::Access);
@@ -228,7 +229,7 @@ impl<
     }
 
     /// Hands a caller whose session was joined to a session's thread. If that is not possible, or if the operator stops
-    /// the server, the session is left and the caller refused. `Over` if there are no such threads any more.
+    /// the server, the session is left and the caller refused. `Over` if there are no more such threads.
     fn welcome(&self, newcomer: Newcomer, sid: u64, has_room: bool) -> Result<(), Over> {
         let Shared {
             rt,
@@ -268,7 +269,7 @@ impl<
     }
 }
 
-/// No caller gets a session any more.
+/// No more callers get a session.
 #[derive(Clone, Copy)]
 struct Over;
 
@@ -300,7 +301,7 @@ fn obstacle(
     }
 }
 
-/// Sets a caller's socket up: octets are sent at once, a write hardly waits, and a read of a silent caller ends.
+/// Sets up a caller's socket: octets are sent at once, a write hardly waits, and a read of a silent caller ends.
 fn set_up(stream: &TcpStream, silence: Duration) -> io::Result<()> {
     stream.set_nodelay(true)?;
     give_short_writes(stream)?;

@@ -1,5 +1,6 @@
-//! How callers come and go: acceptors let them in and join their sessions, or tell them why not; when a session is over,
-//! its socket is read to its end. All of it is made of calls of sockets and of the shared kernel, so it is only tested.
+//! How callers come and go: acceptors let them in and join their sessions, or tell them why not; when a session is
+//! over, its socket is read to its end. All of it consists of calls to sockets and to the shared kernel, so it is only
+//! tested.
 #![tactic(auto)]
 
 mod acceptor;

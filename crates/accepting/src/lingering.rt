@@ -58,8 +58,8 @@ pub fn linger_all<R: Wait + Clock>(rt: &R, linger: Duration, partings: &Receiver
     }
 }
 
-/// Ends the sending side of a caller's socket, and reads until the caller ends its own, for this long at most. It is for
-/// a thread to which no further caller comes. If the clock cannot be read, it waits for nothing.
+/// Ends the sending side of a caller's socket, and reads until the caller ends its own, for this long at most. It is
+/// for a thread that gets no more callers. If the clock cannot be read, it waits for nothing.
 pub fn see_off<R: Clock>(rt: &R, stream: Arc<TcpStream, Global>, linger: Duration) {
     let _ = stream.shutdown(Shutdown::Write);
     match Instant::now(rt) {
@@ -75,7 +75,7 @@ fn read_out<R: Clock>(rt: &R, farewell: &Farewell, linger: Duration) {
     }
 }
 
-/// Reads until the socket ends, for this long after the session was closed. It is false if that time was over first.
+/// Reads until the socket ends, for this long after the session was closed. Answers false if that time was over first.
 fn read_within<R: Clock>(rt: &R, farewell: &Farewell, linger: Duration) -> bool {
     let mut piece = [0; PIECE];
     let mut stream = &*farewell.stream;

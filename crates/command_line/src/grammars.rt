@@ -5,7 +5,7 @@ use networks::{Network, read_endpoint};
 use new_volume::are_sizes;
 use script::{DESCRIPTION_LIMIT, MOMENT_LIMIT, number};
 
-/// The least number of inodes and the largest number of blocks: with these, any permitted number of the other is right.
+/// The least number of inodes and the largest number of blocks: either goes with every permitted number of the other.
 const FEWEST_INODES: u64 = 64;
 
 const MOST_BLOCKS: u64 = 65_536;

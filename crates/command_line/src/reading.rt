@@ -42,7 +42,7 @@ pub enum Asked<'a> {
 #[derive(Drop)]
 pub struct Service<'a> {
     pub path: &'a str,
-    /// Where callers are awaited, at least one: first the port of 127.0.0.1, if one is given.
+    /// The endpoints to listen on, at least one: first the port of 127.0.0.1, if one is given.
     pub endpoints: Vec<SocketAddr>,
     /// The networks from which callers are let in, besides the loopback networks.
     pub networks: Vec<Network>,

@@ -39,7 +39,7 @@ pub(crate) const JSON: &str = "json";
 /// A word of a subcommand, as it is read and as help shows it.
 #[derive(Clone, Copy)]
 pub(crate) struct Word {
-    /// Its name among what was read. An option is written so, after two hyphens.
+    /// Its name among what was read. An option is written as two hyphens and this name.
     pub(crate) id: &'static str,
     /// What help shows in place of its value; empty for a flag.
     pub(crate) value: &'static str,
@@ -57,7 +57,7 @@ pub(crate) enum Kind {
     LastOperand,
     /// As an option that has to be given.
     Required,
-    /// As an option, with the value that it has where it isn't given.
+    /// As an option, with the value that it has if it isn't given.
     Default(&'static str),
     /// As an option that may be left out: a number from 1 to 65535.
     Port,
@@ -72,10 +72,10 @@ pub(crate) enum Kind {
 pub(crate) struct Subcommand {
     pub(crate) name: &'static str,
     pub(crate) about: &'static str,
-    /// What its help says at the end, if it says anything there.
+    /// What its help says at the end, if anything.
     pub(crate) after_help: Option<&'static str>,
     pub(crate) words: &'static [Word],
-    /// Of these words at least one has to be given; empty where none has to.
+    /// Of these words at least one has to be given; empty if none has to.
     pub(crate) one_of: &'static [&'static str],
 }
 

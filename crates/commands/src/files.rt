@@ -78,7 +78,7 @@ pub(crate) fn open_counted<R: Files<File = File>>(
     }
 }
 
-/// The refusal of a file that is not opened as a device, with the process that holds it, if the system tells.
+/// The refusal of a file that is not opened as a device, with the process that holds it, if the system names it.
 fn no_device<R: Files<File = File>>(
     rt: &R,
     alloc: Global,

@@ -18,20 +18,20 @@ use wcache::WCache;
 /// The seconds between two lines of progress.
 const PAUSE_SECS: u64 = 1;
 
-/// What is said of a clock that gives no time.
+/// The warning that the clock gives no time.
 const CLOCK: &str = "newsd: the clock gives no time from 1970 to 9999: the articles are dated 1970";
 
 /// Erases a line of a terminal.
 const ERASE: &str = "\r\x1b[K";
 
-/// Says what is refused, and on a terminal how far the import is.
+/// Reports what is refused and, on a terminal, how far the import is.
 #[derive(Drop)]
 struct Teller<'a, R, F> {
     rt: &'a R,
     faults: &'a mut F,
-    /// What is said goes to a terminal.
+    /// The reports go to a terminal.
     is_terminal: bool,
-    /// It was said that the clock gives no time.
+    /// The warning about the clock was given.
     is_clock_told: bool,
     start: Instant,
     /// The time since the start at which the next line of progress is due.
@@ -58,8 +58,8 @@ impl<'a, R: Clock, F: Write> Teller<'a, R, F> {
         self.faults.flush()
     }
 
-    /// Says once that the clock gives no time. If it can't be said, the import goes on: what is refused is said then,
-    /// or ends it.
+    /// Warns once that the clock gives no time. If the warning can't be written, the import continues: a later report
+    /// is written, or its failure ends the import.
     fn tell_of_clock(&mut self) {
         if self.is_clock_told {
             return;
@@ -82,7 +82,7 @@ impl<'a, R: Clock, F: Write> Teller<'a, R, F> {
 }
 
 impl<'a, R: Clock, F: Write> Watcher for Teller<'a, R, F> {
-    /// 1970 if the clock gives no time from 1970 to 9999, which is said once.
+    /// 1970 if the clock gives no time from 1970 to 9999, which is reported once.
     fn moment(&mut self) -> u64 {
         match moment(self.rt) {
             Some(moment) => moment,
@@ -111,8 +111,8 @@ impl<'a, R: Clock, F: Write> Watcher for Teller<'a, R, F> {
     }
 }
 
-/// Files the articles of a batch in a volume, as `importing::import` does. Each refused article is said on `faults`; if
-/// that is a terminal, it also shows the progress.
+/// Files the articles of a batch in a volume, as `importing::import` does. Each refused article is reported on
+/// `faults`; if that is a terminal, it also shows the progress.
 pub fn import<R: Files<File = File> + Clock, I: Read, F: Write>(
     rt: &R,
     alloc: Global,
@@ -128,7 +128,7 @@ pub fn import<R: Files<File = File> + Clock, I: Read, F: Write>(
     };
     let mut teller = Teller::new(rt, faults, is_terminal)?;
     let imported = importing::import(alloc, &mut store, input, &mut teller);
-    // a line of progress that can't be erased is no reason to keep the report back
+    // a line of progress that can't be erased is no reason to withhold the report
     let _ = teller.erase();
     match imported {
         Ok(report) => Ok(report),

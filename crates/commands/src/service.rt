@@ -28,7 +28,7 @@ use std::time::Clock;
 pub struct Offer<'a> {
     /// The file with the volume.
     pub path: &'a str,
-    /// Where callers are awaited, at least one.
+    /// The endpoints to listen on, at least one.
     pub endpoints: &'a [SocketAddr],
     /// The networks from which callers are let in, besides the loopback networks.
     pub networks: &'a [Network],
@@ -43,8 +43,8 @@ pub struct Streams<L: Drop, A: Drop, F: Drop> {
     pub faults: F,
 }
 
-/// Serves a volume on some endpoints, and answers the operator's lines, until the operator stops the server or its device
-/// fails. If one of the endpoints cannot be had, nothing is served.
+/// Serves a volume on some endpoints, and answers the operator's lines, until the operator stops the server or its
+/// device fails. If it cannot listen on one of the endpoints, nothing is served.
 pub fn serve<
     R: Files<File = File>
         + Net<Listener = TcpListener, Stream = TcpStream>
@@ -120,7 +120,7 @@ fn begin<
     Ok(Ready { listeners, log })
 }
 
-/// Listens on all endpoints. The first that cannot be had is named.
+/// Listens on all endpoints. The refusal names the first on which that fails.
 fn listen<R: Net<Listener = TcpListener, Stream = TcpStream>>(
     rt: &R,
     alloc: Global,

@@ -1,4 +1,4 @@
-//! Tells the state of a volume.
+//! Reports the state of a volume.
 
 use crate::files::find;
 use crate::refusals::refusal_of;

@@ -1,4 +1,4 @@
-//! Looks at the forms that the rule of blocks asks for: each inode, its slot, and its blocks of pointers.
+//! Checks the forms that the rule of blocks asks for: those of each inode, its slot, and its blocks of pointers.
 
 use disk::Disk;
 use fs_layout::inodes::{FREE_KIND, SPARE_AT, most_octets};
@@ -6,7 +6,7 @@ use fs_layout::slots::NAME_MAX;
 use std::alloc::Global;
 use volume_reading::{Entry, Grouped, Pointers, Stop, Volume, wrong, wrong_unless};
 
-/// Looks at all inodes.
+/// Checks all inodes.
 pub(crate) fn look<D: Disk>(volume: &mut Volume<D>) -> Result<(), Stop> {
     for number in 0..volume.sizes.inodes {
         let entry = volume.entry(number)?;
@@ -21,7 +21,7 @@ pub(crate) fn look<D: Disk>(volume: &mut Volume<D>) -> Result<(), Stop> {
     Ok(())
 }
 
-/// Looks at the octets of a free inode and its slot.
+/// Checks the octets of a free inode and its slot.
 fn look_at_free(alloc: Global, entry: &Entry) -> Result<(), Stop> {
     let number = entry.number;
     if let Some(at) = first_set(&entry.inode, 0) {
@@ -33,7 +33,7 @@ fn look_at_free(alloc: Global, entry: &Entry) -> Result<(), Stop> {
     Ok(())
 }
 
-/// Looks at the kind of an inode that isn't free, and at its name.
+/// Checks the kind of an inode that isn't free, and its name.
 fn look_at_slot(alloc: Global, entry: &Entry) -> Result<(), Stop> {
     let number = entry.number;
     wrong_unless!(alloc; entry.is_file(), "inode {number} is of kind {}, where 0 is free and 1 is a file", entry.kind());
@@ -46,7 +46,7 @@ fn look_at_slot(alloc: Global, entry: &Entry) -> Result<(), Stop> {
     Ok(())
 }
 
-/// Looks at the size of a file, which the format limits, and at the spare octets of its inode.
+/// Checks the size of a file, which the format limits, and the spare octets of its inode.
 fn look_at_inode<D: Disk>(volume: &Volume<D>, entry: &Entry) -> Result<(), Stop> {
     let alloc = volume.alloc;
     let format = volume.sizes.format;
@@ -60,7 +60,7 @@ fn look_at_inode<D: Disk>(volume: &Volume<D>, entry: &Entry) -> Result<(), Stop>
     Ok(())
 }
 
-/// Looks whether a file has the blocks of pointers that it needs, and no pointer after those that it needs.
+/// Checks that a file has the blocks of pointers that it needs, and no pointer after those that it needs.
 fn look_at_pointers<D: Disk>(volume: &mut Volume<D>, entry: &Entry) -> Result<(), Stop> {
     look_at_double(volume, entry)?;
     let mut pointers = Pointers::of(volume, entry)?;
@@ -68,7 +68,7 @@ fn look_at_pointers<D: Disk>(volume: &mut Volume<D>, entry: &Entry) -> Result<()
     look_at_rest(volume, entry, &mut pointers)
 }
 
-/// Looks whether a file has a double-indirect block exactly if it needs one.
+/// Checks that a file has a double-indirect block exactly if it needs one.
 fn look_at_double<D: Disk>(volume: &Volume<D>, entry: &Entry) -> Result<(), Stop> {
     let alloc = volume.alloc;
     let size = Grouped(entry.size());
@@ -82,7 +82,7 @@ fn look_at_double<D: Disk>(volume: &Volume<D>, entry: &Entry) -> Result<(), Stop
     Ok(())
 }
 
-/// Looks whether a file has exactly the blocks of pointers that it needs.
+/// Checks that a file has exactly the blocks of pointers that it needs.
 fn look_at_tables<D: Disk>(
     volume: &Volume<D>,
     entry: &Entry,
@@ -116,7 +116,7 @@ fn look_at_rest<D: Disk>(
     Ok(())
 }
 
-/// Looks at a pointer of a file, which has to lead into the data.
+/// Checks a pointer of a file, which must point into the data.
 pub(crate) fn look_at_pointer<D: Disk>(
     volume: &Volume<D>,
     entry: &Entry,
@@ -127,7 +127,7 @@ pub(crate) fn look_at_pointer<D: Disk>(
     Ok(())
 }
 
-/// The first of some octets, from a place on, that isn't zero.
+/// The first octet that isn't zero, from a place on.
 fn first_set(octets: &[u8], from: usize) -> Option<usize> {
     for at in from..octets.len() {
         if octets[at] != 0 {

@@ -1,4 +1,4 @@
-//! Looks at the rule of files, as far as a file's name, its size and its first octets tell. No article is read.
+//! Checks the rule of files, as far as a file's name, its size and its first octets show. No article is read.
 
 use crate::owners::{NOBODY, Names};
 use disk::Disk;
@@ -18,12 +18,13 @@ const ARTICLE_HEADER: usize = 21;
 
 const EXPIRY_HEADER: usize = 13;
 
-/// Where a group and an article have their moment, and a group its status.
+/// The offset of the moment of a group or an article, and that of a group's status.
 const MOMENT_AT: usize = 8;
 
 const STATUS_AT: usize = 16;
 
-/// Where an article has the size of its text and the count of its groups, and an expiry the size of the name.
+/// The offsets of the size of an article's text and of the count of its groups, and that of the size of the name in an
+/// expiry.
 const TEXT_SIZE_AT: usize = 16;
 
 const GROUP_COUNT_AT: usize = 20;
@@ -36,7 +37,7 @@ const MOMENT_LIMIT: u64 = 253_402_300_800;
 /// The octets of the longest description.
 const DESCRIPTION_LIMIT: u64 = 200;
 
-/// Looks at the rule of files, where the rule of blocks holds.
+/// Checks the rule of files, in a volume that follows the rule of blocks.
 pub(crate) fn look<D: Disk>(volume: &mut Volume<D>, names: &Names) -> Result<(), Stop> {
     let mut serials = vec![in volume.alloc; NOBODY; volume.sizes.inodes as usize]?;
     for number in 0..volume.sizes.inodes {
@@ -48,7 +49,7 @@ pub(crate) fn look<D: Disk>(volume: &mut Volume<D>, names: &Names) -> Result<(),
     look_for_gaps(volume.alloc, serials.as_slice())
 }
 
-/// Looks at a file by the kind that its name says.
+/// Checks a file of the kind that its name states.
 fn look_at_file<D: Disk>(
     volume: &mut Volume<D>,
     names: &Names,
@@ -76,7 +77,7 @@ fn no_known_name(alloc: Global, entry: &Entry) -> Result<(), Stop> {
     wrong!(alloc; "{entry} has a name of no known form")
 }
 
-/// Looks whether a group has all of its three files, of which this is one.
+/// Checks that a group has all of its three files, of which this is one.
 fn look_for_others(alloc: Global, names: &Names, entry: &Entry) -> Result<(), Stop> {
     for letter in *b"gno" {
         let mut other = *entry;
@@ -86,14 +87,14 @@ fn look_for_others(alloc: Global, names: &Names, entry: &Entry) -> Result<(), St
     Ok(())
 }
 
-/// Looks at the numbers of a group.
+/// Checks the numbers of a group.
 fn look_at_numbers(alloc: Global, entry: &Entry) -> Result<(), Stop> {
     let size = entry.size();
     wrong_unless!(alloc; size % NUMBER_SIZE == 0, "{entry} has {} octets, which is no multiple of {NUMBER_SIZE}", Grouped(size));
     Ok(())
 }
 
-/// Looks at the file of a group.
+/// Checks the file of a group.
 fn look_at_group<D: Disk>(
     volume: &mut Volume<D>,
     entry: &Entry,
@@ -106,7 +107,7 @@ fn look_at_group<D: Disk>(
     look_at_description(volume.alloc, entry, head.as_slice())
 }
 
-/// Looks at the file of an article or an expiry, whose name says its serial.
+/// Checks the file of an article or an expiry, whose name states its serial.
 fn look_at_numbered<D: Disk>(
     volume: &mut Volume<D>,
     entry: &Entry,
@@ -133,7 +134,7 @@ fn look_at_numbered<D: Disk>(
     }
 }
 
-/// The serial in the first octets of a change's file, which have to have room for its header.
+/// The serial in the first octets of a change's file, which must have room for its header.
 fn serial_in(alloc: Global, entry: &Entry, octets: &[u8], header: usize) -> Result<u64, Stop> {
     wrong_unless!(alloc; octets.len() >= header, "{entry} has {} octets, fewer than the {header} of its header", octets.len());
     number_in(octets, 0)
@@ -183,14 +184,14 @@ fn look_for_gaps(alloc: Global, serials: &[u32]) -> Result<(), Stop> {
     Ok(())
 }
 
-/// Looks at the moment of a group or an article.
+/// Checks the moment of a group or an article.
 fn look_at_moment(alloc: Global, entry: &Entry, octets: &[u8]) -> Result<(), Stop> {
     let moment = number_in(octets, MOMENT_AT)?;
     wrong_unless!(alloc; moment < MOMENT_LIMIT, "{entry} has the moment {moment}, which isn't before the year 10000");
     Ok(())
 }
 
-/// Looks at the status and the description of a group.
+/// Checks the status and the description of a group.
 fn look_at_description(alloc: Global, entry: &Entry, octets: &[u8]) -> Result<(), Stop> {
     let status = octets.get(STATUS_AT).copied();
     wrong_unless!(alloc; status == Some(b'y') || status == Some(b'n'), "{entry} has a status that is neither y nor n");
@@ -204,7 +205,7 @@ fn look_at_description(alloc: Global, entry: &Entry, octets: &[u8]) -> Result<()
     Ok(())
 }
 
-/// Looks whether a file has the size that its header asks for, which is `None` if the header doesn't end in its block.
+/// Checks that a file has the size that its header asks for, which is `None` if the header doesn't end in its block.
 fn look_at_size(alloc: Global, entry: &Entry, wanted: Option<u64>) -> Result<(), Stop> {
     let size = Grouped(entry.size());
     match wanted {

@@ -1,6 +1,7 @@
 //! Says in words, for a person alone, what is wrong with a volume whose opening was refused (docs/FORMATS.md). The
-//! device is read once more (`volume_reading`), and the first thing that breaks a rule is told. Nothing rests on what is
-//! said here: the journal and the kernel refuse an opening, by their contracts, and no function here promises anything.
+//! device is read once more (`volume_reading`), and the first thing that breaks a rule is reported. Nothing depends on
+//! what is said here: the journal and the kernel refuse an opening, by their contracts, and no function here promises
+//! anything.
 #![tactic(auto)]
 
 mod blocks;
@@ -32,7 +33,7 @@ pub fn damage<D: Disk + Drop>(alloc: Global, disk: D) -> Option<String> {
     }
 }
 
-/// Looks at the rule of blocks, and then at the rule of files.
+/// Checks the rule of blocks, and then the rule of files.
 fn look<D: Disk>(volume: &mut Volume<D>) -> Result<(), Stop> {
     blocks::look(volume)?;
     let names = owners::look(volume)?;

@@ -1,4 +1,4 @@
-//! Looks at the owners of the blocks, at the bitmap and at the names, if each inode has the form that it has to have.
+//! Checks the owners of the blocks, the bitmap and the names, once each inode is known to have its proper form.
 
 use crate::blocks::look_at_pointer;
 use disk::Disk;
@@ -16,7 +16,7 @@ pub(crate) const NOBODY: u32 = u32::MAX;
 /// The blocks of the bitmap.
 const BITMAP_BLOCKS: u32 = 2;
 
-/// Looks at the owners, the bitmap and the names, and answers the names.
+/// Checks the owners, the bitmap and the names, and answers the names.
 pub(crate) fn look<D: Disk>(volume: &mut Volume<D>) -> Result<Names, Stop> {
     let mut owners = vec![in volume.alloc; NOBODY; volume.sizes.blocks as usize]?;
     for number in 0..volume.sizes.inodes {
@@ -90,7 +90,7 @@ fn claim<D: Disk>(
     wrong!(alloc; "block {block} is owned by {earlier} and by {entry}")
 }
 
-/// Looks whether a block is marked as it has to be.
+/// Checks that a block is marked as it must be.
 fn look_at_mark<D: Disk>(
     volume: &mut Volume<D>,
     owners: &[u32],
@@ -114,7 +114,7 @@ fn look_at_mark<D: Disk>(
     wrong!(alloc; "the bitmap doesn't mark block {block}, which {entry} owns")
 }
 
-/// Looks for two files of one name, and answers the names.
+/// Looks for two files with the same name, and answers the names.
 fn look_at_names<D: Disk>(volume: &mut Volume<D>) -> Result<Names, Stop> {
     let mut names = BTreeMap::new(volume.alloc);
     for number in 0..volume.sizes.inodes {

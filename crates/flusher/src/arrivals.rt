@@ -21,13 +21,14 @@ pub struct Arrivals {
     blocks: AtomicU64,
     /// The blocks that were served before the last commit.
     before_commit: AtomicU64,
-    /// The flusher waits for this block, and needs no ring for an earlier one. 0 if it waits for none.
+    /// The flusher waits for this block, and need not be woken for an earlier one. 0 if it waits for none.
     awaited: AtomicU64,
     /// Some thread cannot continue before a batch is taken.
     is_hurried: AtomicBool,
 }
 
 impl Arrivals {
+    /// Counts before anything was served. No thread is in a hurry.
     pub fn new() -> Arrivals {
         Arrivals {
             served: AtomicU64::new(0),
@@ -65,8 +66,9 @@ impl Arrivals {
     }
 
     /// Waits until as many blocks were served after the last commit as that batch had changes, in pauses of the
-    /// flusher's bell. It ends early if no part of a post was served during a pause, if a thread is in a hurry, and
-    /// after the last pause. For a batch of one change it does not wait, since the next block wakes the flusher anyway.
+    /// flusher's bell. It ends early if no part of a post was served during a pause, if a thread is in a hurry, and in
+    /// any case after the last pause. For a batch of one change it does not wait, since the next block wakes the
+    /// flusher anyway.
     pub fn gather<R: Wait>(&self, rt: &R, flusher: &Parker, released: u64) {
         if released < 2 {
             return;

@@ -15,6 +15,7 @@ pub struct Bell {
 }
 
 impl Bell {
+    /// A bell that never rang, and on which nobody waits.
     pub fn new() -> Bell {
         Bell {
             rings: AtomicU64::new(0),
@@ -22,10 +23,12 @@ impl Bell {
         }
     }
 
+    /// The number of rings so far.
     pub fn count(&self) -> u64 {
         self.rings.load(Ordering::SeqCst)
     }
 
+    /// Rings, and wakes all threads that wait.
     pub fn ring(&self) {
         self.rings.fetch_add(1, Ordering::SeqCst);
         if self.sleepers.load(Ordering::SeqCst) != 0 {
@@ -33,6 +36,7 @@ impl Bell {
         }
     }
 
+    /// Waits as long as the number of rings is the noted one.
     pub fn wait_past<R: Wait>(&self, rt: &R, noted: u64) {
         self.sleepers.fetch_add(1, Ordering::SeqCst);
         for _ in rt.forever() {
@@ -45,7 +49,7 @@ impl Bell {
     }
 }
 
-/// The bells of the server's threads, and how far a stop of the server has come.
+/// The bells of the server's threads, and how far the server's stop has progressed.
 #[derive(Drop)]
 pub struct Bells {
     /// There may be something to flush.
@@ -54,7 +58,7 @@ pub struct Bells {
     pub releaser: Parker,
     /// The mark was raised, or the flusher has stopped.
     pub operator: Parker,
-    /// A batch was taken, so fewer blocks are dirty: a message that was refused for them may be asked again.
+    /// A batch was taken, so fewer blocks are dirty: a message that was refused because of them may be tried again.
     pub later: Bell,
     pub arrivals: Arrivals,
     /// The operator has asked for the server's end.
@@ -64,6 +68,7 @@ pub struct Bells {
 }
 
 impl Bells {
+    /// Bells that never rang, of a server whose end was not asked for.
     pub fn new() -> Bells {
         Bells {
             flusher: Parker::new(),
@@ -76,7 +81,7 @@ impl Bells {
         }
     }
 
-    /// Asks for the server's end: from now on no caller is read from any more, and the flusher stops once every
+    /// Asks for the server's end: from now on nothing more is read from any caller, and the flusher stops once every
     /// accepted change is durable.
     pub fn ask_to_stop(&self) {
         self.is_stopping.store(true, Ordering::SeqCst);

@@ -76,7 +76,7 @@ pub fn flush_turn<R: Wait, D: Disk, K: Kern, G: Gate>(
     }
 }
 
-// A turn without what follows a refusal.
+// A turn, except for what follows a refusal.
 fn take_and_carry<R: Wait, D: Disk, K: Kern, G: Gate>(
     rt: &R,
     shared: &Shared<'_, K, G>,
@@ -151,7 +151,7 @@ fn may_begin<D: Disk>(journal: &Journal<D>, batch: &BatchBuf) -> bool
         && are_distinct(numbers)
 }
 
-/// Makes the device calls of a batch up to the one that commits it. A call that is refused for memory is asked again.
+/// Makes the device calls of a batch up to the one that commits it. A call that is refused for memory is made again.
 fn commit<R: Wait, D: Disk>(rt: &R, journal: &mut Journal<D>) -> Result<(), FlushError>
     requires begun { HasBegun D.device journal.old }
     requires now { LeavesAdmitted D.device journal.old }
@@ -190,7 +190,7 @@ fn settle<R: Wait, D: Disk>(rt: &R, journal: &mut Journal<D>) -> Result<(), Flus
     unreachable!()
 }
 
-/// Whether a call failed. One that was refused for memory did not: it is asked again, after other threads had their
+/// Whether a call failed. One that was refused for memory did not: it is made again, after other threads have had their
 /// turn.
 fn has_failed(answer: Result<Progress, JournalError>) -> bool
     ensures { result ≡ has_failed answer }
@@ -245,7 +245,7 @@ struct Work<D: Disk> {
     marks: Marks,
 }
 
-/// What the flusher tells others.
+/// How the flusher informs others.
 #[derive(Clone, Copy)]
 struct Around<'a, K: Kern, G: Gate> {
     kern: &'a K,
@@ -288,7 +288,7 @@ pub fn flush_all<R: Wait, D: Disk + Drop, K: Kern, G: Gate>(
     flush_to_end(rt, &around, &mut work)
 }
 
-/// Flushes until the end that `flush_all` says. `Fault` (E1) exactly if the device failed in the last turn.
+/// Flushes until the end that `flush_all` describes. `Fault` (E1) exactly if the device failed in the last turn.
 fn flush_to_end<R: Wait, D: Disk, K: Kern, G: Gate>(
     rt: &R,
     around: &Around<'_, K, G>,

@@ -24,7 +24,7 @@ has_own_id s text = is_of_host s.host (id text) ≡ true
 abbrev pub IsOffered : SpoolView → Octets → Type 0
 IsOffered s text = is_of_host s.host (id text) ≡ false
 
--- each outcome, when it comes, and the spool afterwards
+-- when each outcome occurs, and the spool afterwards
 abbrev pub Becomes : SpoolView → SpoolView → Octets → ℕ → Outcome → Type 0
 Becomes old new text moment (Filed serial) =
     IsOffered old text × (serial ≡ length old.changes + 1)

@@ -12,6 +12,6 @@ free_blocks_of s = free_blocks_beside (length s.blocks) s.inodes (files_of s.cha
 abbrev pub free_inodes_of : SpoolView → ℕ
 free_inodes_of s = free_inodes_beside s.inodes (files_of s.changes)
 
--- fewer than 256 blocks are free, or else no inode
+-- fewer than 256 blocks are free, or otherwise no inode is
 abbrev pub lack_of : SpoolView → Option Lack
 lack_of s = if nat_lt (free_blocks_of s) blocks_asked then Some Blocks else if nat_lt (free_inodes_of s) 1 then Some Inodes else None

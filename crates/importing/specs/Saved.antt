@@ -20,7 +20,7 @@ pub record IsBehind (blocks : List Octets) (spool : SpoolView) (durable : ℕ) :
   pub agrees : AgreeOutside spool.dirty blocks spool.blocks
   pub holds : Holds spool.host spool.inodes blocks (take durable spool.changes)
 
--- what a store keeps. Once a call of the device has failed, nothing is said of the journal's blocks
+-- the invariant of a store. Once a call of the device has failed, nothing is stated about the journal's blocks
 pub record IsTied {D : Type 0} (device : D → Device) (journal : JournalView D) (spool : SpoolView) (durable : ℕ) : Type 0 where
   pub format : journal.format ≡ 2
   pub few : length spool.dirty ≤ 512

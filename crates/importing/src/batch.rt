@@ -17,7 +17,7 @@ use thiserror::Error;
 /// The most octets that are read at once.
 const PIECE: usize = 65_536;
 
-/// Where a text stands in its batch.
+/// The place of a text in its batch.
 #[derive(Clone, Copy, Debug, PartialEq, Eq, Error)]
 #[error("article {number} at octet {octet}")]
 pub struct Place {
@@ -27,7 +27,7 @@ pub struct Place {
     pub octet: u64,
 }
 
-/// How many texts became what.
+/// The number of texts with each outcome.
 #[derive(Clone, Copy, Debug, PartialEq, Eq)]
 pub struct Counts {
     pub filed: u64,
@@ -35,7 +35,7 @@ pub struct Counts {
     pub here: u64,
     pub no_group: u64,
     pub refused: u64,
-    /// The refused ones by their causes.
+    /// The refused texts, by cause.
     by_cause: [u64; CAUSES],
 }
 
@@ -78,7 +78,7 @@ impl Counts {
 }
 
 impl Display for Counts {
-    /// Four lines, and one more for each cause for which a text was refused. The last is without its end.
+    /// Four lines, and one more for each cause for which a text was refused. The last line has no line end.
     fn fmt<W: fmt::Write>(&self, f: &mut Formatter<W>) -> fmt::Result {
         writeln!(f, "filed {}", self.filed)?;
         writeln!(f, "here {}", self.here)?;
@@ -99,10 +99,10 @@ pub enum Stop {
     /// The volume has no room for the text here, nor for any other.
     #[error("E6 Full: {0}: {1}")]
     Full(Place, Lack),
-    /// The octets are no batch from here on.
+    /// From here on the octets are not a batch.
     #[error("E14 Bad: {0}")]
     NotABatch(Refusal),
-    /// At this octet the batch could not be read, or the watcher could not take what was said of it.
+    /// At this octet the batch could not be read, or the watcher could not take a report about it.
     #[error("octet {0}: {1}")]
     Stream(u64, io::Error),
 }
@@ -162,7 +162,7 @@ struct Batch {
 }
 
 impl Batch {
-    /// Where the next text stands, if octets are left. The reader says it where it is asked to end there.
+    /// The place of the next text, if octets are left: the reader names it in its refusal to end there.
     fn place(&self) -> Place {
         let octet = match self.reader.end() {
             Ok(()) => 0,
@@ -174,7 +174,7 @@ impl Batch {
         }
     }
 
-    /// Why the import stops where no octet follows, if octets are left.
+    /// Why the import stops at the end of its input, if the reader still has octets.
     fn end(&self) -> Option<Stop> {
         match self.reader.end() {
             Ok(()) => None,
@@ -184,9 +184,9 @@ impl Batch {
 }
 
 /// Files the texts of a batch, in order, each at the moment at which its last octet was read. It ends with a report at
-/// the end of the batch, and also where the batch stops being one, where a stream fails, or where the volume has no room
-/// for a text; what it filed is durable then. Where only one of a text's groups is full, the text is refused.
-/// A failure leaves the first texts: a crash at any moment would leave the same.
+/// the end of the batch, and also if the octets stop being a batch, a stream fails, or the volume has no room for a
+/// text; what it filed is durable then. If only one of a text's groups is full, the text is refused. A failure leaves
+/// the first texts: a crash at any moment would leave the same.
 pub fn import<D: Disk, I: Read, W: Watcher>(
     alloc: Global,
     store: &mut Store<D>,
@@ -238,8 +238,8 @@ fn file_all<D: Disk, I: Read, W: Watcher>(
     Ok(batch.end())
 }
 
-/// Why the import stops where a stream failed at this octet. What failed for want of memory counts as any other refusal
-/// of memory.
+/// Why the import stops if a stream failed at this octet. What failed for want of memory counts as any other refusal of
+/// memory.
 fn stream_stop(octet: u64, error: io::Error) -> Result<Option<Stop>, ImportError> {
     match error.kind() {
         ErrorKind::OutOfMemory => Err(ImportError::Memory),

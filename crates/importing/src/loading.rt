@@ -1,4 +1,4 @@
-//! Loads the spool of a journal's blocks.
+//! Loads the spool from a journal's blocks.
 
 ghost use Rattle.std.specs.Prelude.{◌≡◌, ◌⊎◌, [], IfErr, IfOk, IsTrue, OnOk};
 ghost use Rattle.journal.specs.Journal.{IsReady};

@@ -5,18 +5,18 @@ ghost use Rattle.std.specs.Prelude.{◌<◌};
 use article::Cause;
 use thiserror::Error;
 
-/// What became of a text that was to be filed.
+/// What became of a text that an import tried to file.
 #[derive(Clone, Copy, Debug, PartialEq, Eq)]
 pub enum Outcome {
     /// It is filed, and its change has this serial.
     Filed(u64),
-    /// An article with its message-id was filed before. One that is gone counts.
+    /// An article with its message-id was filed before. One that has been removed counts, too.
     Here,
     /// None of its groups exists.
     NoGroup,
     /// It is refused.
     Refused(Refused),
-    /// There is no room for it, in the volume or in a file of one of its groups. `Store::lack` tells which.
+    /// There is no room for it, in the volume or in a file of one of its groups. `Store::lack` says which.
     Full,
 }
 
@@ -41,7 +41,7 @@ pub enum Refused {
 }
 
 impl Refused {
-    /// Its place among all causes for which an import refuses a text.
+    /// The cause's place among all causes for which an import refuses a text.
     pub(crate) fn place(self) -> usize
         ensures { result < 10 }
     {
@@ -59,7 +59,7 @@ impl Refused {
     }
 }
 
-/// The number of the causes for which an import refuses a text.
+/// The number of causes for which an import refuses a text.
 pub(crate) const CAUSES: usize = 10;
 
 /// The last of these causes: the volume has room for the text, and one of its groups has none.

@@ -17,7 +17,7 @@ use volume::BLOCK_SIZE;
 /// A change is made only if this many blocks are free.
 const BLOCKS_ASKED: u64 = spool::BLOCKS_ASKED as u64;
 
-/// What the volume has too little of for any text, where this many of its blocks are used. `None` if it has enough.
+/// What the volume has too little of for any text, if this many of its blocks are used. `None` if it has enough.
 pub(crate) fn lack_by(spool: &Spool, used: u64) -> Option<Lack>
     ensures { used + free_blocks spool.now.blocks ≡ length spool.now.blocks → result ≡ lack_of spool.now }
 {

@@ -156,8 +156,8 @@ impl<D: Disk> Store<D> {
     }
 
     /// What the volume has too little of for any text: fewer than 256 blocks are free, or no inode. `None` if there is
-    /// enough of both; then a text for which there is no room has a group whose files are full. All changes must be
-    /// durable, since the free blocks are counted by the bitmap on the device. The only refusal is `Fault` (E1).
+    /// enough of both; then a text that finds no room names a group whose files are full. All changes must be durable,
+    /// since the free blocks are counted by the bitmap on the device. The only refusal is `Fault` (E1).
     pub fn lack(&mut self) -> Result<Option<Lack>, JournalError>
         requires { IsSaved D.device self.old }
         ensures value { IsTrue (D.device self.new.journal.disk).tells → IfOk result (λ lack. lack ≡ lack_of self.new.spool) }

@@ -39,7 +39,7 @@ pub(crate) fn write<D: Disk>(
     write_batch(journal, spool.len(), batch)
 }
 
-/// Writes a batch, if it has blocks.
+/// Writes a batch, unless it is empty.
 fn write_batch<D: Disk>(
     journal: &mut Journal<D>,
     last: u64,

@@ -1,4 +1,4 @@
--- What the lock keeps, whichever threads took it.
+-- The invariant that the lock keeps, whichever threads took it.
 use Rattle.std.specs.Prelude.{◌≤◌, ◌<◌, length, IfSome, All}
 use Rattle.model.specs.Layout.{Holds}
 use Rattle.model.specs.Volume.{AreDistinct}

@@ -1,4 +1,4 @@
--- What opening a kernel answers, and what it leaves of the journal.
+-- What opening a kernel answers, and what it does to the journal.
 use Rattle.std.specs.Prelude.{◌≡◌, ◌≢◌, ◌⊎◌, ◌≤◌, ◌==◌, if◌then◌else◌, ℕ, None, [], List, false, true, length, IsTrue}
 use Rattle.disk.specs.Device.{Device, Elapses}
 use Rattle.journal.specs.Journal.{Admits, HasWholeBlocks, IsIdle, IsSameBatch, JournalView, LeavesAdmitted, LeftAdmitted}

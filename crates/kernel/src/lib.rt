@@ -1,6 +1,6 @@
 //! The kernel: the value under the lock. It answers each command at once in memory, and holds each reply until what it
 //! depends on is durable. `specs/Kernel.antt` says what callers see of it and what each call does, `specs/Kept.antt`
-//! what it keeps.
+//! what its invariant is.
 #![tactic(auto)]
 
 ghost use Rattle.std.specs.Prelude.{[], None, ◌++◌, ◌&&◌, nat_lt, ◌≡◌, ◌≢◌, ◌⊎◌, ◌↔◌, ◌+◌, ◌*◌, ◌<◌, ◌≤◌, Some, IsSome, IsNone, IsTrue};
@@ -111,7 +111,7 @@ impl Kernel {
         }
     }
 
-    /// States what the kernel keeps, whichever thread took the lock, and does nothing. Each held output is the plain
+    /// States the kernel's invariant, whichever thread took the lock, and does nothing. Each held output is the plain
     /// server's reply on a prefix of the spool, with its dependency, and the cached blocks hold the spool.
     pub fn kept(&self)
         ensures { IsKept self.now }
@@ -163,9 +163,9 @@ impl Kernel {
     }
 
     /// Answers a message at once: its reply is held with its dependency, and its change is accepted. The result is what
-    /// the session sends next, `None` if nothing more, and the mark of the message. `moment` is in seconds since 1970.
-    /// Refused as `NoSession` (E10), `LaterOut` (E9), `LaterDirty` (E8, only while the kernel is not halted) or
-    /// `Memory` (E2), tested in that order; a refusal changes nothing.
+    /// the session sends next, which is `None` if it sends nothing more, and the mark of the message. `moment` is in
+    /// seconds since 1970. Refused as `NoSession` (E10), `LaterOut` (E9), `LaterDirty` (E8, only while the kernel is
+    /// not halted) or `Memory` (E2), tested in that order; a refusal changes nothing.
     pub fn exec(
         &mut self,
         alloc: Global,

@@ -22,15 +22,15 @@ pub fn moment<R: Clock>(rt: &R) -> Option<u64>
     }
 }
 
-/// The clock that a server reads, and what the log tells of it. Several threads may read it.
+/// The clock that a server reads, and what the log says of it. Several threads may read it.
 #[derive(Drop)]
 pub struct Moments {
-    /// The log has told that the clock gives no time.
+    /// The log has said that the clock gives no time.
     is_told: AtomicBool,
 }
 
 impl Moments {
-    /// A clock of which the log has told nothing.
+    /// A clock of which the log has said nothing.
     pub fn new() -> Moments {
         Moments {
             is_told: AtomicBool::new(false),

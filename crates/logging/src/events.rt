@@ -1,4 +1,4 @@
-//! What the log tells.
+//! What the log reports.
 
 ghost use Rattle.std.specs.Prelude.{◌≡◌, ◌≤◌, ◌*◌, ◌↔◌, IsTrue, Some};
 ghost use Rattle.logging.specs.Counting.{counted, no_counts};
@@ -45,9 +45,9 @@ impl Display for Ending {
 /// Why a caller got no session.
 #[derive(Clone, Copy)]
 pub enum Refusal {
-    /// It calls from an address that is not let in.
+    /// Its address is not one from which callers are let in.
     Access,
-    /// As many sessions as can be are served.
+    /// There are as many sessions as the server can have.
     Sessions,
     /// The system has no descriptor left for a further caller.
     Descriptors,
@@ -192,7 +192,7 @@ impl Display for Part {
     }
 }
 
-/// What a line of the log tells.
+/// What a line of the log reports.
 #[derive(Clone, Copy)]
 pub enum Event {
     /// A session has ended.

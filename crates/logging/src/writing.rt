@@ -1,6 +1,6 @@
 //! The log, and the thread that writes it.
 //!
-//! That thread may wait for the reader of the log for ever, so it is not joined. No other thread waits for it: a line
+//! That thread may wait forever for the reader of the log, so it is not joined. No other thread waits for it: a line
 //! that finds no room is counted, as is one that cannot be written, and the count is written before the next line.
 
 ghost use Rattle.std.specs.Prelude.{◌<◌, IfSome};
@@ -15,7 +15,7 @@ use std::sync::{Arc, Wait};
 use std::thread::{self, Threads};
 use std::time::{Clock, Duration};
 
-/// The most lines that are noted and not written yet.
+/// The most lines that are noted but not yet written.
 const LINES: usize = 1024;
 
 /// At the end the reader of the log has this many seconds to take the lines that are due.
@@ -34,7 +34,7 @@ pub enum Verbosity {
 pub struct Log {
     verbosity: Verbosity,
     entries: Sender<Entry>,
-    /// The lines that found no room or could not be written, and of which the log has not told.
+    /// The lines that found no room or could not be written, and which the log has not yet reported.
     lost: Arc<AtomicU64, Global>,
     /// It is disconnected once the last line is written.
     written: Receiver<()>,
@@ -75,8 +75,8 @@ impl Log {
         })
     }
 
-    /// Notes an event, now. It waits for no thread that writes: where the reader of the log has left no room for a
-    /// further line, the line is counted as lost.
+    /// Notes an event, now. It does not wait for the thread that writes: if the reader of the log has left no room for
+    /// another line, the line is counted as lost.
     pub fn note<R: Wait + Clock>(&self, rt: &R, event: Event) {
         if self.verbosity == Verbosity::Quiet && matches!(event, Event::End(_)) {
             return;
@@ -100,7 +100,7 @@ impl Log {
     }
 }
 
-/// An event and the time. Without one it is the beginning of 1970.
+/// An event and the time. Without a time it is the beginning of 1970.
 fn entry(moment: Option<u64>, event: Event) -> Entry
     requires { IfSome moment (λ moment. moment < moment_limit) }
 {
@@ -119,7 +119,7 @@ struct Output<F> {
 }
 
 impl Writing {
-    /// Writes the lines until there is no further one. A line that cannot be written is lost.
+    /// Writes the lines until there are no more. A line that cannot be written is lost.
     fn write_all<R: Wait + Clock, F: Write + Drop>(self, rt: &R, faults: F) {
         let mut output = Output {
             faults,
@@ -160,7 +160,8 @@ impl Writing {
 }
 
 impl<F: Write + Drop> Output<F> {
-    /// Writes a line. It is false if not all of it could be written. Where a part was, the next line begins with an LF.
+    /// Writes a line. Answers false if not all of it could be written. If a part was written, the next line begins with
+    /// an LF.
     fn write_line(&mut self, line: &[u8]) -> bool {
         if self.is_cut && !self.rest_of(b"\n").is_empty() {
             return false;

@@ -1,11 +1,11 @@
-//! Standard streams that are closed as the program starts.
+//! Standard streams that are closed when the program starts.
 
 use std::fs::File;
 use std::io;
 use std::os::fd::{AsRawFd, RawFd};
 use std::rt::Files;
 
-/// What is opened in the place of a closed stream.
+/// What is opened in place of a closed stream.
 pub(crate) const NULL_DEVICE: &str = "/dev/null";
 
 /// The descriptor of standard input.
@@ -24,9 +24,9 @@ pub(crate) struct ClosedStreams {
 }
 
 impl ClosedStreams {
-    /// Opens the null device in the place of each standard stream that is closed, so it is called before anything else is
-    /// opened. It is opened for writing as standard input, and for reading as the others: a use of a closed stream fails
-    /// still. Refused if the null device can't be opened; then nothing is held.
+    /// Opens the null device in the place of each standard stream that is closed, so it is called before anything else
+    /// is opened. It is opened for writing as standard input, and for reading as the others: using a closed stream
+    /// still fails. Refused if the null device can't be opened; then nothing is held.
     pub(crate) fn hold<R: Files<File = File>>(rt: &R) -> io::Result<ClosedStreams> {
         Ok(ClosedStreams {
             _input: if_at_most(INPUT, File::options().write(true).open(rt, NULL_DEVICE)?),

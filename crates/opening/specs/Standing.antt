@@ -1,4 +1,4 @@
--- What a disk holds whose opening is refused.
+-- What a disk holds if its opening is refused.
 use Rattle.std.specs.Prelude.{ℕ, List, length}
 use Rattle.model.specs.Stream.{Octets}
 use Rattle.model.specs.Spool.{Spool}

@@ -88,7 +88,7 @@ pub fn open<D: Disk>(alloc: Global, disk: D) -> Result<Opened<D>, Refused<D>>
     Ok(Opened { journal, kernel })
 }
 
-/// Why the journal was not opened, as the opening tells it. A journal that is opened is not halted.
+/// Why the journal was not opened, as the opening reports it. A journal that is opened is not halted.
 fn journal_error(error: JournalError) -> OpenError
     ensures { result ≡ open_error error }
 {

@@ -120,7 +120,7 @@ fn expire<R: Wait, K: Kern>(
     unreachable!()
 }
 
-/// Waits until a batch was taken, or something was released, after the count was noted.
+/// Waits until a batch has been taken, or something released, since the count was noted.
 fn put_off<R: Wait>(rt: &R, bells: &Bells, noted: u64) {
     bells.flush_now();
     bells.later.wait_past(rt, noted);

@@ -42,12 +42,12 @@ enum Order {
 #[derive(Drop)]
 enum Reply {
     Answer(Answer),
-    /// There is no further answer.
+    /// There are no more answers.
     Ends,
 }
 
 /// What the lines are carried out with: the kernel, the mark that says what is durable, the bells of the server's
-/// threads, and what is known and counted of the volume.
+/// threads, and what is known and counted about the volume.
 #[derive(Drop)]
 pub struct Service<'a, R, K> {
     pub rt: &'a R,

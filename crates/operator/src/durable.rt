@@ -7,8 +7,8 @@ use flusher::Bells;
 use mark::{Mark, Seat};
 use std::sync::Wait;
 
-/// Waits until this many changes are durable. It is false if the flusher stopped before that: the number read after the
-/// stop was seen is less.
+/// Waits until this many changes are durable. Answers false if the flusher stopped before that: the number read after
+/// the stop was seen is less.
 pub(crate) fn is_durable<R: Wait>(
     rt: &R,
     mark: &Mark,

@@ -16,9 +16,9 @@ pub(crate) const LINE_OCTETS: usize = 1024;
 pub(crate) enum Next {
     /// A line, which ends with an LF or at the end of the stream.
     Line,
-    /// A line of more than `LINE_OCTETS` octets. It is read and not kept.
+    /// A line of more than `LINE_OCTETS` octets. It is read but not kept.
     TooLong,
-    /// There is no further line.
+    /// There are no more lines.
     End,
 }
 

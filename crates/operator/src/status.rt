@@ -39,7 +39,7 @@ impl Status {
     }
 }
 
-/// The text of a host, whose octets are all of ASCII.
+/// The text of a host, whose octets are all ASCII.
 fn host_of(alloc: Global, octets: &[u8]) -> Result<String, AllocError> {
     let mut host = String::new(alloc);
     for octet in octets {
@@ -48,7 +48,7 @@ fn host_of(alloc: Global, octets: &[u8]) -> Result<String, AllocError> {
     Ok(host)
 }
 
-/// A line of names, each before its number (docs/OPERATING.md).
+/// A line of names, each followed by its number (docs/OPERATING.md).
 impl Display for Status {
     fn fmt<W: fmt::Write>(&self, f: &mut Formatter<W>) -> fmt::Result {
         let Counts {

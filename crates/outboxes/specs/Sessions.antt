@@ -1,4 +1,4 @@
--- The outputs of all sessions, and what a release hands out of them. All of this is this project's rule.
+-- The outputs of all sessions, and what a release hands out of them. All of these rules are this project's own.
 use Rattle.std.specs.Prelude.{ℕ, suc, ◌+◌, ◌≤◌, Bool, true, false, ◌==◌, nat_le, if◌then◌else◌, List, [], ◌∷◌, ◌++◌, length, filter}
 use Rattle.outbox.specs.Queue.{Held, Giving, Entry, entry_of, give}
 

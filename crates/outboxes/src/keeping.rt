@@ -116,9 +116,9 @@ impl Outbox {
         }
     }
 
-    /// Fills the buffer anew. In rising number, each session's first outputs that depend on at most `durable` changes
-    /// are moved out in order, until the octets of the buffer are used up. The last output may be cut; then its rest
-    /// stays first, and the session's end stays with it. It takes no memory.
+    /// Replaces the content of the buffer. In rising number, each session's first outputs that depend on at most
+    /// `durable` changes are moved out in order, until the octets of the buffer are used up. The last output may be
+    /// cut; then its rest stays first, and the session's end stays with it. It takes no memory.
     pub fn ready(&mut self, durable: u64, into: &mut ReadyBuf)
         ensures entries { into.new ≡ (release durable 65_536 (sessions self.old)).entries }
         ensures kept { sessions self.new ≡ (release durable 65_536 (sessions self.old)).sessions }

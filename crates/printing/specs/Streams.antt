@@ -1,4 +1,4 @@
--- What the error of a stream is to the program.
+-- What an error of a stream means to the program.
 use Rattle.std.specs.Prelude.{Bool, true, false, if◌then◌else◌}
 use Rattle.std.specs.IoError.{error_kind}
 use Rattle.std.specs.declared.io.Error.{Error}

@@ -54,7 +54,7 @@ pub enum CommandError {
     /// The group exists, and the number is below its lowest or above its highest.
     #[error("E12 NotFound: the group has no article of this number")]
     NoArticle,
-    /// An endpoint cannot be had.
+    /// It is not possible to listen on an endpoint.
     #[error("can't listen on {0}: {1}")]
     NotBound(SocketAddr, io::Error),
     /// A socket or a stream failed.

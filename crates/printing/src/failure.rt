@@ -1,4 +1,4 @@
-//! Why the program ends before its input does, and its status then.
+//! Why the program ends before its input does, and the status with which it then ends.
 
 ghost use Rattle.std.specs.Prelude.{◌≡◌};
 ghost use Rattle.printing.specs.declared.failure.Failure.TheVariants.{Memory};

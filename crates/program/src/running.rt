@@ -19,7 +19,7 @@ use std::sync::Wait;
 use std::thread::Threads;
 use std::time::Clock;
 
-/// How the program continues after `run`.
+/// What the program does after `run`.
 #[derive(Drop)]
 pub enum Outcome<'a> {
     /// It ends with this status.
@@ -101,8 +101,8 @@ pub fn serve<
     }
 }
 
-/// Files a batch in a volume, and prints what became of its articles. Answers `DONE` if each was filed, was there or has
-/// no group there, otherwise `REFUSED`. Why it stopped before its batch ended goes to `faults`.
+/// Files a batch in a volume, and prints what became of its articles. Answers `DONE` if each was filed, was there
+/// already or has no group there, otherwise `REFUSED`. Why it stopped before its batch ended goes to `faults`.
 pub fn import<R: Files<File = File> + Clock, I: BufRead, W: Write, F: Write>(
     rt: &R,
     alloc: Global,

@@ -2,12 +2,12 @@
 
 use std::time::Duration;
 
-/// A caller that sends nothing for this many seconds is dropped. RFC 3977, section 3.1, asks for at least three
+/// A caller that sends nothing for this many seconds is disconnected. RFC 3977, section 3.1, asks for at least three
 /// minutes.
 const SILENCE_SECS: u64 = 600;
 
-/// A caller that takes none of its replies for this many seconds is dropped. RFC 3977, section 3.1, asks for at least
-/// as much.
+/// A caller that takes none of its replies for this many seconds is disconnected. RFC 3977, section 3.1, asks for at
+/// least as much.
 const STALL_SECS: u64 = 180;
 
 /// A caller whose session is closed is read from for this many seconds.

@@ -16,7 +16,8 @@ use std::time::Duration;
 const SHORT_MILLIS: u64 = 1;
 
 /// The time for which a socket may take nothing is split into this many writes. Linux wakes a waiting write only once a
-/// third of the socket's buffer is free, which may take a slow caller longer; the next write finds whatever is free.
+/// third of the socket's buffer is free, which may take longer with a slow caller; the next write finds whatever is
+/// free.
 const WAITS: u32 = 12;
 
 /// Whether a write may wait until its socket takes more.
@@ -111,7 +112,7 @@ impl Outgoing {
         self.written = 0;
     }
 
-    /// Writes what was taken and discards it, unless the socket takes no more and the patience ends. If the socket
+    /// Writes what was taken and discards it, unless the socket takes no more and the patience runs out. If the socket
     /// fails, the session ends. After the last reply of a session nothing more is written to its socket.
     pub(crate) fn write<R: Wait, K: Kern, G: Gate>(
         &mut self,
@@ -186,7 +187,7 @@ impl Outgoing {
     }
 }
 
-/// Sets a socket so that a write hardly waits.
+/// Sets up a socket so that a write hardly waits.
 pub fn give_short_writes(stream: &TcpStream) -> io::Result<()> {
     stream.set_write_timeout(Some(Duration::from_millis(SHORT_MILLIS)))
 }

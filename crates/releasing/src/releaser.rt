@@ -1,5 +1,5 @@
-//! The releaser: after each commit it has the replies that waited for it released. At the server's end it ends the
-//! callers.
+//! The releaser: after each commit it has the replies that waited for it released. At the server's end it disconnects
+//! the callers.
 
 use crate::Shared;
 use flusher::{Gate, Kern};
@@ -7,13 +7,14 @@ use std::net::Shutdown;
 use std::sync::Wait;
 use std::time::Duration;
 
-/// At the server's end callers get this many pauses to take what is ready of their sessions; then the milliseconds of a
-/// pause.
+/// The number of pauses that callers get at the server's end to take what is ready of their sessions, and the length of
+/// a pause in milliseconds.
 const PAUSES: u32 = 200;
 
 const PAUSE_MILLIS: u64 = 10;
 
-/// After each commit, releases the replies that waited for it, until the server's end begins. Then it ends the callers.
+/// After each commit, releases the replies that waited for it, until the server's end begins. Then it disconnects the
+/// callers.
 pub fn release_all<R: Wait, K: Kern, G: Gate>(shared: &Shared<'_, R, K, G>) {
     for _ in shared.rt.forever() {
         let is_last = shared.closing.has_begun();

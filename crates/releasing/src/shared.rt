@@ -5,19 +5,21 @@ use flusher::Bells;
 use std::alloc::Global;
 use std::sync::atomic::{AtomicBool, Ordering};
 
-/// Whether the server's end has begun. It begins when no caller is accepted and nothing is flushed any more.
+/// Whether the server's end has begun. It begins once no more callers are accepted and nothing more is flushed.
 #[derive(Drop)]
 pub struct Closing {
     has_begun: AtomicBool,
 }
 
 impl Closing {
+    /// The server's end has not begun.
     pub fn new() -> Closing {
         Closing {
             has_begun: AtomicBool::new(false),
         }
     }
 
+    /// Whether the server's end has begun.
     pub fn has_begun(&self) -> bool {
         self.has_begun.load(Ordering::SeqCst)
     }
@@ -56,8 +58,8 @@ impl<'a, R, K, G> Drop for Shared<'a, R, K, G> {
 }
 
 impl<'a, R, K, G> Shared<'a, R, K, G> {
-    /// Begins the server's end, and wakes every thread that waits for something that will not happen any more. The
-    /// releaser then ends the callers, and their threads end with them.
+    /// Begins the server's end, and wakes every thread that waits for something that will no longer happen. The
+    /// releaser then disconnects the callers, and their threads end.
     pub fn close(&self) {
         self.closing.begin();
         self.bells.later.ring();

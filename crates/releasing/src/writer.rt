@@ -29,7 +29,7 @@ pub struct ReplyWriter {
     rest: Parker,
     /// Wakes the session's thread when it waits for a release.
     session: Parker,
-    /// For ending the socket while any thread writes. `None` if there is no caller.
+    /// For shutting down the socket while any thread writes. `None` if there is no caller.
     socket: Mutex<Option<Arc<TcpStream, Global>>>,
 }
 
@@ -67,7 +67,7 @@ impl ReplyWriter {
         self.outgoing.lock(rt).begin(sid, writing);
     }
 
-    /// Ends the caller, drops what is left of its session, and answers what was written to it.
+    /// Lets the caller go, drops what is left of its session, and answers what was written to it.
     pub fn end<R: Wait, K: Kern>(&self, rt: &R, kern: &K) -> Sent {
         let mut outgoing = self.outgoing.lock(rt);
         kern.leave(rt, outgoing.sid);
@@ -177,7 +177,7 @@ impl ReplyWriter {
         self.socket.lock(rt).is_none()
     }
 
-    /// Ends the caller's socket, whichever thread writes.
+    /// Shuts down the caller's socket, whichever thread writes.
     pub(crate) fn shut_down<R: Wait>(&self, rt: &R, how: Shutdown) {
         if let Some(socket) = &*self.socket.lock(rt) {
             let _ = socket.shutdown(how);
@@ -241,7 +241,7 @@ impl ReplyWriter {
         unreachable!()
     }
 
-    /// Notes that the holder is about to take all that is ready. A commit from here on learns that it may be missed.
+    /// Notes that the holder is about to take all that is ready. From here on a commit learns that it may be missed.
     fn note_taking(&self) {
         self.is_missed.store(false, Ordering::SeqCst);
         self.is_waiting.store(true, Ordering::SeqCst);

@@ -1,5 +1,5 @@
-//! The script language of `newsd sim`: one event a line, and the printed form of octets.
-//! `specs/Script.antt` says what each line means, `specs/Printed.antt` how octets are printed.
+//! The script language of `newsd sim`: one event per line, and the printed form of octets. `specs/Script.antt` says
+//! what each line means, `specs/Printed.antt` how octets are printed.
 #![tactic(auto)]
 
 mod lines;

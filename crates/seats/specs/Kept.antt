@@ -1,4 +1,4 @@
--- What is kept of the sessions: each held output is the plain server's reply on a prefix of the spool.
+-- The invariant of the sessions: each held output is the plain server's reply on a prefix of the spool.
 use Rattle.std.specs.Prelude.{◌≡◌, ◌⊎◌, ℕ, ◌+◌, ◌≤◌, ◌<◌, max, false, List, [], ◌∷◌, ◌++◌, length, drop, IsSome, is_none}
 use Rattle.std.specs.Option.{option_to_list}
 use Rattle.model.specs.Stream.{Octets}
@@ -24,7 +24,7 @@ pub record Origin : Type 0 where
   pub session : Session
   pub position : ℕ
 
--- the plain server's answer there
+-- the plain server's answer at that point
 abbrev pub answer_at : Octets → Spool → Origin → Answer
 answer_at host S o = answer host (first S o.position) o.session o.message o.moment o.mark
 
@@ -73,7 +73,7 @@ abbrev pub StillAwaits : List Held → Session → Type 0
 StillAwaits [] session = IsSome (mode_of session.awaits)
 StillAwaits (held ∷ rest) session = Unit {0}
 
--- what is kept of one session
+-- the invariant of one session
 pub record IsSeat (host : Octets) (S : Spool) (joined : ℕ) (seat : Seat) : Type 0 where
   pub outputs : SeatIsKept host S seat.given seat.held seat.session
   pub awaits : StillAwaits seat.held seat.session

@@ -1,5 +1,5 @@
-//! The sessions and their outputs. `specs/Seats.antt` says what callers see of a session and what each call does
-//! to it, `specs/Kept.antt` what is kept of it.
+//! The sessions and their outputs. `specs/Seats.antt` says what callers see of a session and what each call does to it,
+//! `specs/Kept.antt` what the invariant of the sessions is.
 #![tactic(auto)]
 
 ghost use Rattle.std.specs.Prelude.{Some, IfSome, IsNone, None, ℕ, find, not, slice_get, ◌==◌, ◌≡◌, ◌<◌, ◌≤◌, ◌+◌, ◌^◌, ◌++◌, ◌∷◌, [], max};

@@ -14,8 +14,9 @@ use std::alloc::AllocError;
 use std::net::TcpListener;
 use thiserror::Error;
 
-/// An opened volume and its kernel, the mark of what is durable with two of its seats, what is known and counted of the
-/// volume, the listeners for the callers and the log. `gate` is called before and after each flush and each write of replies.
+/// An opened volume and its kernel, the mark of what is durable with two of its seats, what is known and counted about
+/// the volume, the listeners for the callers and the log. `gate` is called before and after each flush and each write
+/// of replies.
 #[derive(Drop)]
 pub struct Server<'a, D: Disk, K, G> {
     /// At least one. All callers have the same sessions.

@@ -249,7 +249,7 @@ fn run<
     )
 }
 
-/// Starts the threads of all sessions. It is false if the system cannot start all.
+/// Starts the threads of all sessions. Answers false if the system cannot start all.
 fn start_sessions<'s, E, R: Wait + Clock + Sync, K: Kern + Sync, G: Gate + Sync>(
     scope: &Scope<'s, E>,
     hall: &'s Hall<'s, R, K, G>,
@@ -261,7 +261,7 @@ fn start_sessions<'s, E, R: Wait + Clock + Sync, K: Kern + Sync, G: Gate + Sync>
     is_started
 }
 
-/// Starts the releaser, the thread that lingers and the operator's. It is false if the system cannot start all.
+/// Starts the releaser, the thread that lingers and the operator's. Answers false if the system cannot start all.
 fn start_others<'s, E, R: Wait + Clock + Sync, K: Kern + Sync, G: Gate + Sync>(
     scope: &Scope<'s, E>,
     hall: &'s Hall<'s, R, K, G>,
@@ -273,7 +273,7 @@ fn start_others<'s, E, R: Wait + Clock + Sync, K: Kern + Sync, G: Gate + Sync>(
     releaser.is_ok() && lingerer.is_ok() && operator.is_ok()
 }
 
-/// Starts an acceptor for each listener. It is false if the system cannot start all.
+/// Starts an acceptor for each listener. Answers false if the system cannot start all.
 fn start_accepting<
     's,
     E,
@@ -312,7 +312,7 @@ fn linger<R: Wait + Clock, K, G>(hall: &Hall<'_, R, K, G>) {
     linger_all(*rt, limits.linger, &hall.channels.partings)
 }
 
-/// Starts a session's thread and the one that finishes its writes. It is false if the system cannot start both.
+/// Starts a session's thread and the one that finishes its writes. Answers false if the system cannot start both.
 fn start_session<'s, E, R: Wait + Clock + Sync, K: Kern + Sync, G: Gate + Sync>(
     scope: &Scope<'s, E>,
     hall: &'s Hall<'s, R, K, G>,
@@ -359,7 +359,7 @@ fn answer_lines<R: Wait + Clock, K: Kern, G>(hall: &Hall<'_, R, K, G>, looker: L
     hall.channels.operator.answer_all(&service, seat)
 }
 
-/// Flushes until a turn is refused or a stop is done. The log tells of a refusal.
+/// Flushes until a turn is refused or a stop is done. The log reports a refusal.
 fn flush<R: Wait + Clock, D: Disk + Drop, K: Kern, G: Gate>(
     hall: &Hall<'_, R, K, G>,
     flusher: Flusher<'_, D>,
@@ -386,7 +386,7 @@ fn flush<R: Wait + Clock, D: Disk + Drop, K: Kern, G: Gate>(
     }
 }
 
-/// What the log tells of a refused turn.
+/// What the log reports of a refused turn.
 fn event_of(error: FlushError) -> Event {
     match error {
         FlushError::Fault => Event::Fault,
@@ -394,7 +394,7 @@ fn event_of(error: FlushError) -> Event {
     }
 }
 
-/// Gives up because there are no threads for callers: nothing is flushed any more.
+/// Gives up because there are no threads for callers: nothing more is flushed.
 fn give_up<R: Wait, D: Disk + Drop, K: Kern, G>(
     shared: &Shared<'_, R, K, G>,
     flusher: Flusher<'_, D>,
@@ -424,7 +424,7 @@ fn wait_for_caller_or_stop<R: Wait, K, G>(hall: &Hall<'_, R, K, G>) {
     }
 }
 
-/// Ends the callers and all threads, after the last caller was accepted.
+/// Disconnects the callers and ends all threads, after the last caller was accepted.
 fn end<R: Wait, K, G>(hall: &Hall<'_, R, K, G>) {
     let Shared { rt, .. } = hall.shared;
     hall.channels.operator.end(*rt);

@@ -81,7 +81,7 @@ fn has_few_left(blocks: Part) -> bool
     blocks.is_nearly_full() || blocks.all.saturating_sub(blocks.used) < u64::from(BLOCKS_ASKED)
 }
 
-/// Whether it is so, the first time that it is.
+/// True only the first time that the condition holds.
 fn is_first(is_so: bool, has_told: &AtomicBool) -> bool {
     is_so && !has_told.swap(true, Ordering::SeqCst)
 }

@@ -24,10 +24,10 @@ use world::{Answer, Event, StepError};
 /// images.
 const MOST_CALLS: u32 = 9 * 512 + 5 + 2 * 8;
 
-/// Plays the script that `input` holds, one event a line, and prints what it does. A refused event prints its refusal,
-/// and the script continues. It ends early with `Memory` (the simulation itself gets no memory), `NotOpened` (the new
-/// volume was not made), `BadEvent` (a line is not an event), or `Stream` (a stream failed); what was done until then
-/// is printed.
+/// Plays the script that `input` holds, one event per line, and prints what it does. A refused event prints its
+/// refusal, and the script continues. It ends early with `Memory` (the simulation itself gets no memory), `NotOpened`
+/// (the new volume was not made), `BadEvent` (a line is not an event), or `Stream` (a stream failed); what was done
+/// until then is printed.
 pub fn simulate<R: BufRead, W: Write>(
     alloc: Global,
     plan: &Plan<'_>,

@@ -11,7 +11,7 @@ const HOST: &[u8] = b"news.example";
 
 const NOW: u64 = 1_000_000_000;
 
-/// A client of the host, which would give it this serial.
+/// A client of the host, which would give the text this serial.
 const POSTED: Origin<'static> = Origin::Posted {
     host: HOST,
     serial: 2,
@@ -462,7 +462,7 @@ const ANSWERS: &[(
     ),
 ];
 
-/// The index of the first question that an article answers in another way.
+/// The index of the first question to which an article gives another answer.
 fn first_wrong(
     alloc: Global,
     text: &[u8],

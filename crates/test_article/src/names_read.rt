@@ -1,4 +1,4 @@
-//! Names, patterns and dates that are read.
+//! Reading names, patterns and dates.
 
 use names::{
     GroupName, MessageId, NameError, Wildmat, is_group_name, is_host, is_message_id, is_of_host,
@@ -113,7 +113,7 @@ fn is_of_kind(kind: Kind, text: &[u8]) -> bool {
     }
 }
 
-/// The index of the first text that is not read, or is read as another.
+/// The index of the first text that is not read, or is read as something else.
 fn first_refused(alloc: Global, kind: Kind, texts: &[Text]) -> Result<Option<usize>, AllocError> {
     for (place, (front, count, end)) in texts.iter().enumerate() {
         let text = Octets::Long(front, b'a', *count, end).in_memory(alloc)?;

@@ -41,8 +41,8 @@ const MORE_SLOTS: &[Octets] = &[(HOME + 3, 512, 768, WAYS), (HOME + 3, 768, 2048
 
 const REST_OF_SLOTS: &[Octets] = &[(HOME + 3, 2048, 4096, 1)];
 
-/// Another octet, in one of the ways: one more; its highest bit flipped; zero or 255; or a bit flipped if it is that
-/// already.
+/// Another octet, in one of the ways: one more; its highest bit flipped; zero or 255; or, if it is that already, a bit
+/// flipped.
 fn changed(octet: u8, way: u64) -> u8 {
     match (way % WAYS, octet) {
         (0, _) => octet.wrapping_add(1),
@@ -54,7 +54,7 @@ fn changed(octet: u8, way: u64) -> u8 {
 }
 
 /// Changes an octet of a device in this many ways, the first of which depends on its place, and changes it back. It
-/// answers whether the device was each time refused as no volume or as damaged, or opened as a spool that answers.
+/// answers whether the device was refused each time as no volume or as damaged, or opened as a spool that answers.
 fn is_right(alloc: Global, device: Device, at: u64, ways: u64) -> Result<(Device, bool), SimError> {
     let mut device = device;
     for k in 0..ways {

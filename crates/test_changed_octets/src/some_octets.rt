@@ -169,7 +169,7 @@ fn is_told(error: OpenError, wanted: Wanted) -> bool {
     }
 }
 
-/// The bits that are changed, in turn, in one octet after the other.
+/// The bits that are changed, in turn, in one octet after another.
 const BITS: [u8; 8] = [1, 2, 4, 8, 16, 32, 64, 128];
 
 /// Changes each of the octets in turn in a device that otherwise equals another one. It answers the first place in the

@@ -1,4 +1,4 @@
-//! What a device answers, one call after the other.
+//! What a device answers, one call after another.
 
 ghost use Rattle.std.specs.Prelude.{◌≤◌, ◌<◌, ◌^◌};
 
@@ -227,7 +227,7 @@ fn devices_answer_as_the_tables_say(rt: HostRuntime) -> Result<(), Fail> {
     Ok(())
 }
 
-/// Writes at both ends of a device, with a sync after each two.
+/// Writes at both ends of a device, with a sync after every two.
 fn write_both_ends(alloc: Global, len: u64, rounds: u64) -> Result<Said, Fail>
     requires long { 4 ≤ len }
     requires few { rounds < 2 ^ 32 }

@@ -1,4 +1,4 @@
-//! Octets that are written over a device, and what is said of it then.
+//! Octets that are written over a device, and what is then reported of it.
 
 use disk::Disk;
 use memdisk::MemDisk;
@@ -7,7 +7,7 @@ use std::test::Fail;
 /// Octets that are written over a device: the block, the place in it, and the octets.
 pub(crate) type Change = (u64, u64, &'static [u8]);
 
-/// What is said of a device with these changes.
+/// What is reported of a device with these changes.
 pub(crate) type Row = (&'static str, &'static [Change], Option<&'static str>);
 
 /// Writes octets over a device from a place in a block on.
@@ -22,7 +22,7 @@ pub(crate) fn put(disk: &mut MemDisk, block: u64, place: u64, octets: &[u8]) -> 
     }
 }
 
-/// Makes changes of a device, one after the other.
+/// Makes changes to a device, one after another.
 pub(crate) fn put_all(disk: &mut MemDisk, changes: &[Change]) -> Result<(), Fail> {
     for change in changes {
         let (block, place, octets) = *change;

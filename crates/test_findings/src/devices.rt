@@ -1,5 +1,5 @@
-//! Devices with an empty volume of 1,024 blocks. Its one batch stands in segment 0, which is open: block 1 of the device
-//! is its gate, block 2 its descriptor, block 3 its image of block 0. Segment 1 begins at block 515, and block 0 has its
+//! Devices with an empty volume of 1,024 blocks. Its one batch is in segment 0, which is open: block 1 of the device is
+//! its gate, block 2 its descriptor, block 3 its image of block 0. Segment 1 begins at block 515, and block 0 has its
 //! home at block 4113.
 
 use crate::changes::{Change, Row, is_said, put_all};
@@ -12,7 +12,7 @@ use std::test::Fail;
 
 const UNMARKED: Option<&str> = Some("the bitmap doesn't mark block 0, which is before the data");
 
-/// Images lie over homes, in rising batch number.
+/// Images lie over homes, by rising batch number.
 const DAMAGES: &[Row] = &[
     ("nothing", &[], None),
     ("a closed segment", &[(1, 0, &[0])], UNMARKED),
@@ -35,7 +35,7 @@ const DAMAGES: &[Row] = &[
     ("no volume", &[(0, 0, &[0])], None),
 ];
 
-/// The same for what is no volume.
+/// The same for devices that hold no volume.
 const NO_VOLUMES: &[Row] = &[
     ("nothing", &[], None),
     ("an octet of the image", &[(3, 125, &[1])], None),
@@ -120,7 +120,7 @@ fn descriptors_of_open_segments(rt: HostRuntime) -> Result<(), Fail> {
     Ok(())
 }
 
-// Whichever read fails, nothing is said.
+// Whichever read fails, nothing is reported.
 #[test]
 fn a_read_that_fails(rt: HostRuntime) -> Result<(), Fail> {
     for call in [1, 2, 9, 12, 100] {

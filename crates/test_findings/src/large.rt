@@ -35,7 +35,7 @@ const SUPERBLOCK: &[Change] = &[
     (0, 148, &[2]),
 ];
 
-/// The file, but for its pointers: its kind, its size and its name, and what names the blocks of pointers.
+/// The file, except for its pointers: its kind, its size and its name, and what names the blocks of pointers.
 const FILE: &[Change] = &[
     (INODES, 0, &[1]),
     (INODES, 4, &[0x00, 0xb0, 0x40]),
@@ -45,7 +45,7 @@ const FILE: &[Change] = &[
     (DOUBLE, 0, &[6]),
 ];
 
-/// What is said of the file if the rule of blocks holds.
+/// What is reported of the file if the rule of blocks holds.
 const NO_NAME: Option<&str> = Some("file z has a name of no known form");
 
 /// The sizes, and the blocks of pointers.
@@ -257,7 +257,7 @@ fn written(alloc: Global) -> Result<MemDisk, Fail> {
     Ok(disk)
 }
 
-/// The name of the first row of which something else is said, and what.
+/// The name of the first row for which something else is reported, and what that is.
 fn first_other(
     alloc: Global,
     rows: &[Row],

@@ -1,4 +1,4 @@
-//! Tests of what is said of a device, by octets that are written over it. The built program has more of them, in
+//! Tests of what is reported of a device after octets were written over it. The built program has more of them, in
 //! tests/findings.py: there the segments are closed before the blocks are looked at.
 #![tactic(auto)]
 

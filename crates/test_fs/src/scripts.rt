@@ -1,4 +1,4 @@
-//! What calls of one volume answer, one after the other.
+//! What calls of one volume answer, one after another.
 
 use crate::volumes::{Call, answer, empty, large};
 use fs::FsError;

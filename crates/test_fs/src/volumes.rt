@@ -19,7 +19,7 @@ const FEW: u32 = 1024;
 
 const MANY: u32 = 4096;
 
-/// A call on the file of a name, or on the volume.
+/// A call on the file with a name, or on the volume.
 #[derive(Clone, Copy)]
 pub enum Call {
     /// Creates a file, and answers its inode.
@@ -59,7 +59,7 @@ pub fn large(alloc: Global) -> Result<Volume, FsError> {
     empty_of(alloc, MANY)
 }
 
-// The number of blocks is a variable: the prover would count a literal out.
+// The number of blocks is a variable: the prover would expand a literal.
 fn empty_of(alloc: Global, count: u32) -> Result<Volume, FsError>
     requires some { 1024 ≤ count }
     requires few { count ≤ 65536 }
@@ -182,7 +182,7 @@ fn count_names(alloc: Global, volume: &Volume, first: &[u8]) -> Result<u64, FsEr
     }
 }
 
-// How many files with names of one octet are made before the first that is refused.
+// How many files with names of one octet are made before the first one is refused.
 fn create_many(alloc: Global, volume: &mut Volume, format: u32) -> Result<u64, FsError> {
     for octet in 128..u8::MAX {
         if !is_sound(alloc, volume, format)? {

@@ -52,7 +52,7 @@ pub enum Said {
     Other,
     /// The call's preconditions do not hold, so it was not made.
     NotAsked,
-    /// A growth of the test's own was refused.
+    /// Memory for the test itself was refused.
     NoMemory,
 }
 

@@ -1,4 +1,4 @@
-//! What writing gates back answers and leaves, one call after the other.
+//! What writing gates back answers and leaves, one call after another.
 
 use crate::store::{Ask, New, Said, Store, answered, new_store};
 use disk::{DiskCall, DiskError};

@@ -1,4 +1,4 @@
-//! Batches, and all that their imports say.
+//! Batches, and all that their imports report.
 
 use crate::volumes::{articles, batch, store};
 use crate::watching::said;
@@ -6,7 +6,7 @@ use std::rt::HostRuntime;
 use std::test::Fail;
 use test_support_rows::Octets;
 
-/// The name of a row, texts, the octets of the batch after them, and what the import says.
+/// The name of a row, texts, the octets of the batch after them, and what the import reports.
 type Row<'a> = (&'a str, &'a [Octets<'a>], &'a [u8], &'a str);
 
 const GOOD: Octets<'static> = Octets::Are(
@@ -19,7 +19,7 @@ const OTHER: Octets<'static> = Octets::Are(
       Date: Sun, 09 Sep 2001 01:46:40 +0000\nMessage-ID: <7@far.example>\n\nhi\n",
 );
 
-/// The batches, one after the other into one volume.
+/// The batches, one after another into one volume.
 const ROWS: &[Row<'static>] = &[
     (
         "nothing",

@@ -12,12 +12,12 @@ use std::test::Fail;
 /// The moment of all texts, in seconds since 1970.
 const MOMENT: u64 = 1_000_000_000;
 
-/// What an import said.
+/// What an import reported.
 #[derive(Drop)]
 pub(crate) struct Log {
     alloc: Global,
     text: String,
-    /// It can't be told of a refusal.
+    /// It can't take the report of a refusal.
     is_deaf: bool,
 }
 
@@ -30,7 +30,7 @@ impl Log {
         }
     }
 
-    /// A log that can't be told of a refusal.
+    /// A log that can't take the report of a refusal.
     pub(crate) fn deaf(alloc: Global) -> Log {
         Log {
             alloc,
@@ -39,7 +39,7 @@ impl Log {
         }
     }
 
-    /// What was said, and the report after it.
+    /// What was reported, and the final report.
     pub(crate) fn with_report(self, report: &Report) -> Result<String, Fail> {
         let Log {
             alloc,
@@ -75,7 +75,7 @@ impl Watcher for Log {
     }
 }
 
-/// Imports a batch and answers all that it said.
+/// Imports a batch and answers all that the import reported.
 pub(crate) fn said<D: Disk>(
     alloc: Global,
     store: &mut Store<D>,
@@ -85,7 +85,7 @@ pub(crate) fn said<D: Disk>(
     said_to(alloc, store, &mut input, Log::new(alloc))
 }
 
-/// Imports a batch from a reader and answers all that it said to the log.
+/// Imports a batch from a reader and answers all that the import reported to the log.
 pub(crate) fn said_to<D: Disk, I: Read>(
     alloc: Global,
     store: &mut Store<D>,

@@ -1,4 +1,4 @@
-//! What calls of one index answer, one after the other.
+//! What calls of one index answer, one after another.
 
 use crate::calls::{Call, answer};
 use index::Index;

@@ -61,9 +61,9 @@ fn are_filled(alloc: Global, store: Store, octet: u8) -> (Store, bool) {
     (store, are)
 }
 
-/// Commits `before` batches of one octet. Then it begins a batch of another octet, of which this device call fails, and
-/// opens the device again. The old octet may be left up to the sync that commits, call 10. The new one may be there from
-/// the gate's write, call 9, on.
+/// Commits `before` batches of one octet. Then it begins a batch of another octet, in which this device call fails, and
+/// opens the device again. The old octet may be left up to the sync that commits, call 10. The new one may be there
+/// from the gate's write, call 9, on.
 fn survived(alloc: Global, store: Store, before: u8, call: u64, again: Ask<'_>) -> Option<Store> {
     let store = with_batches(alloc, store, before, 1)?;
     let rows = [
@@ -81,7 +81,8 @@ fn survived(alloc: Global, store: Store, before: u8, call: u64, again: Ask<'_>) 
     None
 }
 
-/// Fails each of the first `calls` calls of a batch after `before` others, and answers the first that was not survived.
+/// Fails each of the first `calls` calls of a batch after `before` others, and answers the first call whose failure was
+/// not survived.
 fn first_lost(alloc: Global, segments: u32, before: u8, calls: u64) -> Result<Option<u64>, Fail> {
     let Some(store) = new_store(alloc, segments) else {
         return Err("no room")?;

@@ -1,4 +1,4 @@
-//! What a journal answers, one call after the other.
+//! What a journal answers, one call after another.
 
 use crate::store::{Ask, Said, Store, answered, new_store};
 use disk::DiskCall;

@@ -15,7 +15,7 @@ pub(crate) const ARTICLES: u64 = 100;
 /// The moment of all articles, in seconds since 1970.
 const MOMENT: u64 = 1_000_000_000;
 
-/// How often a message is offered while its answer is to ask again later.
+/// How often a message is offered while the answer is to try again later.
 const TRIES: u32 = 1_000_000;
 
 /// A line of a body. Each article takes three blocks, so a batch has to be taken along the way.
@@ -102,7 +102,7 @@ impl<'a> Poster<'a> {
         Some(poster.taken)
     }
 
-    /// Whether a message was served. It is offered until the answer is no longer to ask again later.
+    /// Whether a message was served. It is offered until the answer is no longer to try again later.
     fn sends<R: Wait>(&mut self, rt: &R, alloc: Global, message: &Message) -> bool {
         for _ in 0..TRIES {
             match self.exec(rt, alloc, message) {

@@ -113,7 +113,7 @@ pub(crate) const ROWS: &[Row] = &[
     },
 ];
 
-/// The words of all ends and refusals.
+/// The words for all ends and refusals.
 pub(crate) const ENDINGS: &[(Ending, &str)] = &[
     (Ending::Quit, "quit"),
     (Ending::Closed, "closed"),

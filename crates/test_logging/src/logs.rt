@@ -9,13 +9,13 @@ use std::sync::{Arc, Mutex, Wait};
 use std::thread::{self, Threads};
 use std::time::{Clock, Duration, Instant};
 
-/// The lines that are noted and not written, at most.
+/// The most lines that are noted but not yet written.
 const LINES: u32 = 1024;
 
-/// So many more are noted.
+/// The number of lines that are noted beyond these.
 const MORE: u32 = 10;
 
-/// What is taken of a line that is written in part.
+/// The number of octets that are taken of a line that is written in part.
 const FEW: usize = 10;
 
 /// A wait of a test takes at most this many milliseconds.
@@ -82,7 +82,7 @@ fn start<R: Threads + Wait + Clock + Copy + Send + 'static>(
     Some(Play { log, shared })
 }
 
-/// Waits until a flag is set. It is false at the limit.
+/// Waits until a flag is set. Answers false at the limit.
 fn wait_for<R: Clock>(rt: &R, flag: &AtomicBool) -> bool {
     for _ in 0..WAIT_MILLIS {
         if flag.load(Ordering::SeqCst) {
@@ -93,7 +93,7 @@ fn wait_for<R: Clock>(rt: &R, flag: &AtomicBool) -> bool {
     false
 }
 
-/// Whether a log has all lines that found room, and tells of the others before its second line, for a reader that comes
+/// Whether a log has all lines that found room, and reports the others before its second line, for a reader that comes
 /// once ten lines have found no room.
 pub(crate) fn read_late<R: Threads + Wait + Clock + Copy + Send + 'static>(
     rt: &R,
@@ -118,7 +118,7 @@ pub(crate) fn read_late<R: Threads + Wait + Clock + Copy + Send + 'static>(
     Some(has_all && is_first && is_second && is_third)
 }
 
-/// Waits until this many lines are written, and no more. It is false at the limit.
+/// Waits until this many lines are written, and no more. Answers false at the limit.
 fn has_lines<R: Wait + Clock>(rt: &R, shared: &Shared, lines: usize) -> bool {
     for _ in 0..WAIT_MILLIS {
         let text = shared.text.lock(rt);
@@ -159,7 +159,7 @@ impl<R: Wait> Write for Failing<R> {
     }
 }
 
-/// Whether a log tells of a line that could not be written, and ends one that was written in part.
+/// Whether a log reports a line that could not be written, and ends one that was written in part.
 pub(crate) fn written_in_part<R: Threads + Wait + Clock + Copy + Drop + Send + 'static>(
     rt: &R,
     alloc: Global,

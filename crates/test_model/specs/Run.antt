@@ -1,4 +1,4 @@
--- Messages of several sessions and changes of the operator, one after the other.
+-- Messages of several sessions and changes by the operator, one after another.
 use Rattle.std.specs.Prelude.{ℕ, max, List, [], ◌∷◌, ◌++◌, get_or, set, map, codes, option_to_list, if◌then◌else◌, ◌==◌}
 use Rattle.model.specs.Stream.{Octets, crlf, line}
 use Rattle.model.specs.Spool.{Spool}

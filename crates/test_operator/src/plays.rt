@@ -74,7 +74,7 @@ pub(crate) struct Outcome {
     pub(crate) text: Vec<u8>,
 }
 
-/// Looks at a count each millisecond until it is reached. It is false if the time ends first.
+/// Looks at a count every millisecond until it is reached. Answers false if the time ends first.
 fn reaches<R: Clock>(rt: &R, count: &AtomicU64, least: u64) -> bool {
     for _ in 0..WAIT_MILLIS {
         if count.load(Ordering::SeqCst) >= least {
@@ -85,7 +85,7 @@ fn reaches<R: Clock>(rt: &R, count: &AtomicU64, least: u64) -> bool {
     false
 }
 
-/// Looks each millisecond until the operator has asked for the end. It is false if the time ends first.
+/// Looks every millisecond until the operator has asked for the end. Answers false if the time ends first.
 fn is_asked<R: Clock>(rt: &R, bells: &Bells) -> bool {
     for _ in 0..WAIT_MILLIS {
         if bells.is_stopping() {

@@ -1,4 +1,4 @@
-//! The outputs of all sessions, by their numbers, one step after the other.
+//! The outputs of all sessions, by their numbers, one step after another.
 
 use crate::runs::{Entry, Runs, has, octets_of};
 use outbox::ReadyBuf;
@@ -13,7 +13,7 @@ enum Step<'a> {
     Reserve(u64, usize),
     /// An output of this session: its octets, the change on which it depends, and whether the session ends after it.
     Push(u64, Runs<'a>, u64, bool),
-    /// Whatever depends at most on this change is handed out.
+    /// Whatever depends on this change at most is handed out.
     Ready(u64, &'a [Entry<'a>]),
     Buffered(u64, u64),
     LastDependency(u64, u64),

@@ -1,4 +1,4 @@
-//! The queues of two sessions, one step after the other.
+//! The queues of two sessions, one step after another.
 
 use crate::runs::{Entry, Runs, has, octets_of};
 use outbox::{Queue, ReadyBuf};
@@ -10,7 +10,7 @@ use std::test::Fail;
 enum Step<'a> {
     /// An output: its octets, the change on which it depends, and whether the session ends after it.
     Push(u64, Runs<'a>, u64, bool),
-    /// Whatever depends at most on this change is handed out of both queues: whether each session ends, and what the
+    /// Whatever depends on this change at most is handed out of both queues: whether each session ends, and what the
     /// buffer holds.
     Release(u64, (bool, bool), &'a [Entry<'a>]),
     Buffered(u64, u64),

@@ -13,8 +13,8 @@ const FILLING: [u8; 4096] = [b'x'; 4096];
 
 const FILLINGS: u32 = 100_000;
 
-/// This many writes in a row of which a socket took nothing show that it is full. After fewer its two buffers may still
-/// be settling.
+/// If a socket takes nothing of this many writes in a row, it is full. After fewer its two buffers may still be
+/// settling.
 const REFUSALS: u32 = 30;
 
 /// A caller.
@@ -68,8 +68,8 @@ impl Caller {
     }
 }
 
-/// Fills a socket, whose writes hardly wait, until it takes no more. It answers the number of octets; `None` if it
-/// never was full.
+/// Fills a socket, whose writes hardly wait, until it takes no more. It answers the number of octets; `None` if it was
+/// never full.
 pub(crate) fn fill(stream: &TcpStream) -> Option<u64> {
     let mut stream = stream;
     let (mut filled, mut refusals) = (0u64, 0u32);

@@ -1,4 +1,4 @@
-//! The plays of two threads, the session's and the one that commits and releases, in chosen orders and in any order.
+//! Plays of two threads, the session's and the one that commits and releases, in chosen orders and in any order.
 
 use crate::callers::{Caller, fill};
 use crate::sides::Side;

@@ -46,7 +46,7 @@ fn limits(stall: u64) -> Limits {
     }
 }
 
-/// Whether a caller that takes nothing is dropped, and not before its limit.
+/// Whether a caller that takes nothing is disconnected, and not before its limit.
 pub(crate) fn lets_go<R: Net<Listener = TcpListener, Stream = TcpStream> + Wait + Clock>(
     rt: &R,
     alloc: Global,

@@ -17,10 +17,10 @@ use test_support_server::{
     Hooked, Hooks, Lines, Operator, Setting, Stage, listen, new_device, open,
 };
 
-/// What is said of the volume's blocks: so few that a volume is nearly full at once.
+/// The number of blocks that the server takes the volume to have: so few that the volume is nearly full at once.
 const FEW_BLOCKS: u64 = 1;
 
-/// The limits where a play is about them, in milliseconds.
+/// The limits in a play that is about them, in milliseconds.
 const SHORT_MILLIS: u64 = 500;
 
 /// The hooks of a kernel that finds no memory for the line `DATE`.
@@ -39,17 +39,17 @@ impl Hooks for Forgetful {
 /// What a play came to.
 #[derive(Clone, Copy, Debug, PartialEq, Eq)]
 pub(crate) struct Outcome {
-    /// The callers read, and the log told, what they had to.
+    /// The callers read, and the log reported, what they had to.
     pub(crate) is_good: bool,
     /// How the server ended.
     pub(crate) ended: Result<(), ServeError>,
-    /// How often the log told that the volume is nearly full.
+    /// How often the log reported that the volume is nearly full.
     pub(crate) full: usize,
     /// How many sessions ended because the server did.
     pub(crate) stopped: usize,
 }
 
-/// The limits of a play. They are short where it is about a caller that waits too long.
+/// The limits of a play. They are short if the play is about a caller that waits too long.
 fn limits(scene: Scene) -> Limits {
     let short = Duration::from_millis(SHORT_MILLIS);
     let standard = Limits::standard();

@@ -1,4 +1,4 @@
-//! What callers do, and what the log tells of them.
+//! What callers do, and what the log reports of them.
 
 use flusher::SESSIONS;
 use std::alloc::Global;
@@ -33,7 +33,7 @@ enum Leaves {
     Breaks,
 }
 
-/// What a caller sends, what it reads after the greeting, how it leaves, and what the log then tells of its session.
+/// What a caller sends, what it reads after the greeting, how it leaves, and what the log then reports of its session.
 #[derive(Clone, Copy)]
 struct Row {
     sends: &'static str,
@@ -42,7 +42,7 @@ struct Row {
     tells: &'static str,
 }
 
-/// The calls, one after the other. They come to the two listeners in turn.
+/// The calls, one after another. They come to the two listeners in turn.
 const ROWS: &[Row] = &[
     Row {
         sends: "QUIT\r\n",
@@ -111,7 +111,7 @@ impl<'a, R> Drop for Visit<'a, R> {
 }
 
 impl<'a, R: Net<Listener = TcpListener, Stream = TcpStream> + Wait + Clock> Visit<'a, R> {
-    /// Whether the callers of a scene read, and the log tells, what they have to.
+    /// Whether the callers of a scene read, and the log reports, what they have to.
     pub(crate) fn is_as_it_must(&self, scene: Scene) -> bool {
         match scene {
             Scene::Ends => self.answers.have(self.rt, "1") && self.all_end(),
@@ -154,7 +154,7 @@ impl<'a, R: Net<Listener = TcpListener, Stream = TcpStream> + Wait + Clock> Visi
         }
     }
 
-    /// Whether the callers of all rows read, and the log tells, what they have to.
+    /// Whether the callers of all rows read, and the log reports, what they have to.
     fn all_end(&self) -> bool {
         for (place, row) in ROWS.iter().enumerate() {
             if !self.ends(place, row) || !self.tells(row.tells) {

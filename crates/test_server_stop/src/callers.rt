@@ -9,7 +9,7 @@ use std::thread::{Threads, join};
 use std::time::Clock;
 use test_support_server::{Caller, GREETING, SERVICE_ENDS, sleep_until};
 
-/// The most articles of a caller that posts until the server ends. Those of four callers find room.
+/// The most articles of a caller that posts until the server ends. The volume has room for those of four callers.
 const ARTICLES: u64 = 12;
 
 /// The operator stops the server once this many were acknowledged.
@@ -45,7 +45,7 @@ impl<'a, R: Net<Listener = TcpListener, Stream = TcpStream> + Threads + Wait + C
     'a,
     R,
 > {
-    /// Does what the callers of a play do. It is false if one of them read what it must not.
+    /// Does what the callers of a play do. Answers false if one of them read what it must not.
     pub(crate) fn call(&self, callers: Callers) -> bool {
         match callers {
             Callers::None => self.makes_due(),
@@ -61,7 +61,7 @@ impl<'a, R: Net<Listener = TcpListener, Stream = TcpStream> + Threads + Wait + C
         true
     }
 
-    /// Four callers post until the server ends. It is false if one of them read what it must not.
+    /// Four callers post until the server ends. Answers false if one of them read what it must not.
     fn post_all(&self) -> bool {
         let (front, back) = join(self.rt, || self.post_two(1), || self.post_two(3));
         front && back
@@ -78,7 +78,7 @@ impl<'a, R: Net<Listener = TcpListener, Stream = TcpStream> + Threads + Wait + C
     }
 
     /// A caller posts one article after another until the server ends, and then reads the end. It counts those that are
-    /// acknowledged. It is false if it reads another reply.
+    /// acknowledged. Answers false if the caller reads another reply.
     fn post_until_end(&self, name: u64) -> bool {
         let Some(mut caller) = Caller::connect(self.rt, self.alloc, self.address) else {
             return false;
@@ -123,7 +123,8 @@ fn number_of(caller: u64, number: u64) -> u64 {
     caller.wrapping_mul(ARTICLES).wrapping_add(number)
 }
 
-/// Posts an article. It is `Some` of whether it is acknowledged, or the server ended; `None` if another reply came.
+/// Posts an article. Answers whether it was acknowledged, which is false if the server ended; `None` if another reply
+/// came.
 fn post(caller: &mut Caller, alloc: Global, number: u64) -> Option<bool> {
     caller.sends("POST\r\n");
     if !goes_on(caller, "340 Send article")? {

@@ -30,7 +30,7 @@ pub(crate) struct Play {
     pub(crate) first: &'static [u8],
     pub(crate) last: &'static [u8],
     pub(crate) callers: Callers,
-    /// The device fails at this sync, counted from 1; 0: it does not fail.
+    /// The device fails at this sync, counted from 1; it does not fail if this is 0.
     pub(crate) failing_sync: u64,
     /// The operator's last answer.
     pub(crate) told: &'static str,
@@ -43,7 +43,7 @@ pub(crate) struct Left {
     pub(crate) is_good: bool,
     /// The operator's last answer was that of the play.
     pub(crate) is_told: bool,
-    /// The callers read nothing but what they may read, and no change was accepted beside their acknowledged articles.
+    /// The callers read nothing but what they may read, and no change was accepted besides their acknowledged articles.
     pub(crate) is_acknowledged: bool,
     /// Every accepted change is on the device, and known to be.
     pub(crate) is_durable: bool,

@@ -101,7 +101,7 @@ impl<'a> TestGate<'a> {
         self.flags.failed.store(true, Ordering::SeqCst);
     }
 
-    /// Whether the seat sees that the first post is durable. It is false while another thread has the seat.
+    /// Whether the seat sees that the first post is durable. False while another thread has the seat.
     fn sees_post(&self) -> bool {
         match self.watch.try_lock() {
             Some(mut watch) => watch.durable() >= FIRST_POST,

@@ -1,5 +1,5 @@
-//! What calls of one spool answer, one after the other. There are 64 inodes and 1,024 blocks, of which 1,020 are free
-//! at first.
+//! What calls of one spool answer, one after another. There are 64 inodes and 1,024 blocks, of which 1,020 are free at
+//! first.
 
 use spool::{AddError, ExpireError};
 use std::alloc::Global;

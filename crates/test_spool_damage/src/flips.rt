@@ -57,7 +57,7 @@ fn rows() -> &'static [Row] {
     ROWS
 }
 
-/// The bits that are changed, in turn, in one octet after the other.
+/// The bits that are changed, in turn, in one octet after another.
 const BITS: [u8; 8] = [1, 2, 4, 8, 16, 32, 64, 128];
 
 /// What each spool that is opened must find.

@@ -10,7 +10,7 @@ const READ_SECS: u64 = 30;
 
 pub const GREETING: &str = "200 news.example ready, posting permitted";
 
-/// What a caller is told that gets no session.
+/// The reply to a caller that gets no session.
 pub const SERVICE_ENDS: &str = "400 Service ends";
 
 /// `POST` and an article whose message-id is <1@a.example>.
@@ -18,7 +18,7 @@ pub const POST: &str =
     "POST\r\nPath: p!not-for-mail\r\nDate: Sun, 09 Sep 2001 01:46:40 +0000\r\nMessage-ID: <1@a.example>\r\n\
     From: a@example.org\r\nNewsgroups: x.a\r\nSubject: one\r\n\r\nhi\r\n.\r\n";
 
-/// A listener on a port of the loopback interface that is free.
+/// A listener on a free port of the loopback interface.
 pub fn listen<R: Net<Listener = TcpListener, Stream = TcpStream>>(rt: &R) -> Option<TcpListener> {
     TcpListener::bind(rt, SocketAddr::from((Ipv4Addr::LOCALHOST, 0))).ok()
 }

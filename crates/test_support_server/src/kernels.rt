@@ -1,4 +1,4 @@
-//! A kernel in two of whose calls a test has a say.
+//! A kernel two of whose calls a test can refuse.
 
 use flusher::{
     AdminError, Answered, BatchBuf, Counts, ExecError, ExpireError, JoinError, Kern, Kernel,

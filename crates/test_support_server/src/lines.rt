@@ -1,4 +1,4 @@
-//! The lines that a server writes, where the test reads them.
+//! The lines that a server writes, for the test to read.
 
 use std::alloc::{AllocError, Global};
 use std::io::{self, Write};

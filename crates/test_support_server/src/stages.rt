@@ -103,7 +103,7 @@ impl<'a, D: Disk + Drop, K: Kern + Sync + Drop> Stage<'a, D, K> {
         }
     }
 
-    /// Makes the groups `x.a` and `x.b`, and has them durable.
+    /// Makes the groups `x.a` and `x.b`, and makes them durable.
     pub fn with_groups<R: Wait>(self, rt: &R, alloc: Global) -> Option<Stage<'a, D, K>> {
         let Stage {
             mut journal,

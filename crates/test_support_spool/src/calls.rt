@@ -27,7 +27,7 @@ pub enum Call {
     Find(Asked),
     /// Whether a text that is asked for is this one.
     Is(Sought, &'static [u8]),
-    /// Whether nothing is found in the place of a text.
+    /// Whether nothing is found in place of a text.
     IsNone(Sought),
     DirtyLen,
     /// Takes the dirty blocks as a batch, and counts them.

@@ -57,7 +57,7 @@ impl Device {
         disk
     }
 
-    /// The numbers of writes and syncs that it was asked for since it was made.
+    /// The numbers of writes and syncs that were asked of it since it was made.
     pub fn counts(&self) -> (u64, u64) {
         self.disk.counts()
     }

@@ -1,4 +1,4 @@
-//! A volume of format 1 becomes one of format 2 as it is opened, whichever call of that fails.
+//! A volume of format 1 becomes one of format 2 when it is opened, whichever call of the opening fails.
 #![tactic(auto)]
 
 #[cfg(test)]

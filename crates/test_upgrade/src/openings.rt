@@ -6,7 +6,7 @@ use test_support_batches::{
     Device, DiskCall, NotOpened, OpenError, Part, Pick, Sim, SimError, shows, with_open_segments,
 };
 
-/// The place of the gate of the format, and what is there in a volume of format 2. Any other octet says format 1.
+/// The place of the gate of the format, and what is there in a volume of format 2. Any other octet means format 1.
 const GATE: u64 = 148;
 
 const FORMAT_2: u8 = 2;
@@ -43,7 +43,7 @@ fn gate(device: &mut Device) -> Result<u8, SimError> {
 /// A call of an opening that fails, counted among those of its kind.
 type Failing = (DiskCall, u64);
 
-/// The write of the gate, and the sync after it. The opening's first sync makes the octet durable that was put there.
+/// The write of the gate, and the sync after it. The opening's first sync makes durable the octet that was put there.
 const WRITE: Failing = (DiskCall::Write, 1);
 
 const SYNC: Failing = (DiskCall::Sync, 2);

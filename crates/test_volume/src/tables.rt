@@ -60,7 +60,7 @@ const STEPS: &[(&str, &[Step<'static>])] = &[
     ),
 ];
 
-/// The index of the first step that a volume answers in another way.
+/// The index of the first step to which a volume gives another answer.
 fn first_wrong(
     alloc: Global,
     volume: &mut Volume,

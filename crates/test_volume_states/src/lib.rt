@@ -1,4 +1,4 @@
-//! Tables of spools, and what is told of the volumes that hold them.
+//! Tables of spools, and what is reported of the volumes that hold them.
 #![tactic(auto)]
 
 #[cfg(test)]

@@ -1,4 +1,4 @@
-//! What is told of the volume of a spool.
+//! What is reported of the volume of a spool.
 
 use crate::volumes::{octets_after, state_of};
 use reporting::{GroupStatus, VolumeStatus};
@@ -124,7 +124,7 @@ fn is_state(state: &VolumeStatus, row: &Row, format: u32) -> bool {
             .all(|(group, row)| is_group(group, row))
 }
 
-/// The first row whose state is another in a volume of this format.
+/// The first row with another state in a volume of this format.
 fn first_other<'a>(alloc: Global, rows: &'a [Row], format: u32) -> Result<Option<&'a str>, Fail> {
     for row in rows {
         let octets = octets_after(alloc, row.1)?;

@@ -14,8 +14,8 @@ fn answer_of<'a>(left: u64, good: &'a str) -> &'a str {
     }
 }
 
-/// Plays rows in which the device call fails that is `left` from their start on, and answers how many remain after
-/// them. Only that call must be answered `E1`, and each later one `E4`.
+/// Plays rows in which the device call with the number `left`, counted from their start, fails, and answers how many
+/// remain after them. Only that call must be answered `E1`, and each later one `E4`.
 fn play_faulted(alloc: Global, sim: &mut Sim, rows: &[Row], mut left: u64) -> Result<u64, Fail> {
     for (line, want) in rows {
         let answer = sim.tell(alloc, line)?;

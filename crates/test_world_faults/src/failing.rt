@@ -23,7 +23,7 @@ pub(crate) fn way(k: u64) -> Again {
     WAYS[(k % 5) as usize]
 }
 
-/// From where on calls are counted, up to the opening at the end.
+/// Where the count of calls begins; it goes up to the opening at the end.
 #[derive(Clone, Copy)]
 enum Counted {
     /// From the first batch on. All images are carried home.

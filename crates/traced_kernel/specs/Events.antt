@@ -70,7 +70,7 @@ releases_of served number =
 abbrev pub with_kernel : TracedView → KernelView → TracedView
 with_kernel served kernel = record served { kernel = kernel }
 
--- a session's message is served, and is an entry of the trace
+-- a session's message is served, and becomes an entry of the trace
 pub record Serves (old new : TracedView) (number moment : ℕ) (message : Message) (answered : Option Mode × Mark) : Type 0 where
   pub kernel : Execs old.kernel new.kernel number message moment answered
   pub trace : new.trace ≡ old.trace ++ Command number moment answered.1 ∷ []
@@ -78,7 +78,7 @@ pub record Serves (old new : TracedView) (number moment : ℕ) (message : Messag
   pub sessions : new.sessions ≡ old.sessions
   pub ready : new.ready ≡ old.ready
 
--- the operator's change is made, and is an entry of the trace
+-- the operator's change is made, and becomes an entry of the trace
 pub record Makes (old new : TracedView) (change : Change) (serial : ℕ) : Type 0 where
   pub kernel : Administers old.kernel new.kernel change serial
   pub trace : new.trace ≡ old.trace ++ Admin change ∷ []

@@ -135,7 +135,7 @@ pub record IsServed (served : TracedView) : Type 0 where
   pub each : (number : ℕ) → IsSession served.kernel.host served.kernel.durable (session_at served.sessions number)
       (seat_of served.kernel number) ((account served).server.connections number) ((account served).outputs number)
 
--- ---- the same in terms of the plain server
+-- ---- the same, in terms of the plain server
 
 -- the plain server after the trace
 abbrev pub plain : TracedView → Server Session Change

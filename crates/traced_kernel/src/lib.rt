@@ -86,8 +86,8 @@ impl Model for TracedKernel {
 }
 
 impl TracedKernel {
-    /// Takes a kernel that was just opened: all its changes are durable, and no session joined. Refused only for want
-    /// of memory.
+    /// Takes a kernel that was just opened: all its changes are durable, and no session has joined. Refused only for
+    /// want of memory.
     pub fn new(alloc: Global, kernel: Kernel) -> Result<TracedKernel, AllocError>
         requires durable { kernel.durable ≡ length kernel.spool }
         requires joined { kernel.joined ≡ 0 }
@@ -104,7 +104,7 @@ impl TracedKernel {
         })
     }
 
-    /// States what is kept, and does nothing: the kernel agrees with the plain server, and keeps what its lock keeps.
+    /// States the invariant, and does nothing: the kernel agrees with the plain server, and keeps what its lock keeps.
     #[tactic(auto, using(crate::proofs::Plain::follows_plain))]
     pub fn kept(&self)
         ensures served { IsServed self.now }

@@ -1,4 +1,4 @@
-//! Looks at the open segments of a volume, and says where each logical block stands.
+//! Looks at the open segments of a volume, and finds out where each logical block is.
 
 use crate::device::{Block, Stop, read, read_block};
 use crate::grouped::Grouped;
@@ -11,12 +11,12 @@ use volume_format::layout::{
     number32, number64,
 };
 
-/// Where a descriptor has the count of its images, and its zeros.
+/// The offsets in a descriptor of the count of its images, and of its zeros.
 const COUNT_AT: usize = 16;
 
 const ZEROS_AT: usize = 20;
 
-/// Where a logical block stands.
+/// Where a logical block is.
 #[derive(Clone, Copy)]
 pub(crate) struct Place {
     /// The block of the device.

@@ -7,10 +7,10 @@ use volume_format::layout::BLOCK;
 /// The octets of a block.
 pub type Block = [u8; BLOCK];
 
-/// Why a look ends before all was seen.
+/// Why a look ends early.
 #[derive(Drop)]
 pub enum Stop {
-    /// This is wrong.
+    /// What is wrong, as a text.
     Wrong(String),
     /// A read failed, or memory was refused.
     Unseen,

@@ -1,8 +1,8 @@
-//! Large numbers as a person reads them.
+//! Large numbers in a form that is easy to read.
 
 use std::fmt::{self, Display, Formatter};
 
-/// The values of the groups of three digits but the last, the highest first.
+/// The place values of the groups of three digits except the last, the highest first.
 const GROUPS: [u64; 6] = [
     1_000_000_000_000_000_000,
     1_000_000_000_000_000,
@@ -12,7 +12,7 @@ const GROUPS: [u64; 6] = [
     1_000,
 ];
 
-/// A number with a comma before each three digits, as in 4,096,000.
+/// A number with commas between its groups of three digits, as in 4,096,000.
 #[derive(Clone, Copy)]
 pub struct Grouped(pub u64);
 

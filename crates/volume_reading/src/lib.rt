@@ -1,10 +1,10 @@
-//! A volume as a person is told of it: its superblock, its open segments, its logical blocks and its inodes, read from
-//! the device beside the journal and the file system. A look ends with words for the first thing that is wrong
-//! (docs/FORMATS.md). Nothing rests on what is read or said here: the journal and the kernel refuse an opening, by their
-//! contracts, and no function here promises anything.
+//! A volume as it is described to a person: its superblock, its open segments, its logical blocks and its inodes, read
+//! straight from the device, without the journal and the file system. A look ends with a text about the first thing
+//! that is wrong (docs/FORMATS.md). Nothing depends on what is read or said here: the journal and the kernel refuse an
+//! opening, by their contracts, and no function here promises anything.
 #![tactic(auto)]
 
-/// Ends a look: this is wrong.
+/// Ends a look with a text that says what is wrong.
 #[macro_export]
 macro_rules! wrong {
     ($alloc:expr; $($text:tt)+) => {

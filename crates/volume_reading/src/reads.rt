@@ -41,7 +41,7 @@ impl Entry {
         number32(&self.inode, 0)
     }
 
-    /// Whether the inode is a file's.
+    /// Whether the inode is that of a file.
     pub fn is_file(&self) -> bool {
         self.kind() == u32::from(FILE_KIND)
     }
@@ -159,8 +159,8 @@ pub struct Volume<D> {
 }
 
 impl<D: Disk + Drop> Volume<D> {
-    /// Looks at the superblock and at the open segments. `Wrong` says what isn't as a volume has it, `Unseen` that a read
-    /// failed or memory was refused.
+    /// Looks at the superblock and at the open segments. `Wrong` says what isn't as it must be in a volume, `Unseen`
+    /// that a read failed or memory was refused.
     pub fn open(alloc: Global, mut disk: D) -> Result<Volume<D>, Stop> {
         let sizes = superblock::look(alloc, &mut disk)?;
         let places = batches::look(alloc, &mut disk, sizes)?;

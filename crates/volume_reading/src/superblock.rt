@@ -1,4 +1,4 @@
-//! Looks at the length of a device and at its superblock.
+//! Checks the length of a device and its superblock.
 
 use crate::device::{Block, Stop, read_block};
 use crate::grouped::Grouped;
@@ -12,7 +12,7 @@ use volume_format::layout::{
 };
 use volume_format::read_format;
 
-/// Where the label has the length of its host, and the host.
+/// The offsets of the length of the label's host, and of the host.
 const HOST_SIZE_AT: usize = LABEL_AT + 4;
 
 const HOST_AT: usize = LABEL_AT + 5;
@@ -23,7 +23,7 @@ const MOST_INODES: u32 = 32_768;
 
 const INODES_IN_A_BLOCK: u32 = 64;
 
-/// The blocks of a bitmap, and the blocks of data that a volume has at least.
+/// The blocks of a bitmap, and the least number of blocks of data in a volume.
 const FEWEST_OTHERS: u32 = 2 + 256;
 
 /// What a superblock says: the numbers of logical blocks, segments and inodes, and the format, which is 1 or 2.
@@ -35,7 +35,7 @@ pub struct Sizes {
     pub format: u32,
 }
 
-/// Looks at the superblock and the length of a device, and answers the sizes of its volume.
+/// Checks the superblock and the length of a device, and answers the sizes of its volume.
 pub(crate) fn look<D: Disk>(alloc: Global, disk: &mut D) -> Result<Sizes, Stop> {
     let octets = Grouped(disk.len());
     wrong_unless!(alloc; disk.len() >= BLOCK as u64, "the file has {octets} octets, fewer than the 4,096 of a superblock");
@@ -48,7 +48,7 @@ pub(crate) fn look<D: Disk>(alloc: Global, disk: &mut D) -> Result<Sizes, Stop> 
     Ok(sizes)
 }
 
-/// Looks at what stands before the label.
+/// Checks what precedes the label.
 fn look_at_front(alloc: Global, superblock: &Block) -> Result<Sizes, Stop> {
     wrong_unless!(alloc; superblock[..8] == MAGIC[..], "the superblock doesn't begin with XNNTPFS1");
     let version = number32(superblock, 8);
@@ -68,7 +68,7 @@ fn look_at_front(alloc: Global, superblock: &Block) -> Result<Sizes, Stop> {
     })
 }
 
-/// Looks at the label, and at the octets after its host.
+/// Checks the label, and the octets after its host.
 fn look_at_label(alloc: Global, superblock: &Block, sizes: Sizes) -> Result<(), Stop> {
     let inodes = sizes.inodes;
     wrong_unless!(alloc; FEWEST_INODES <= inodes && inodes <= MOST_INODES && inodes % INODES_IN_A_BLOCK == 0,
@@ -84,7 +84,7 @@ fn look_at_label(alloc: Global, superblock: &Block, sizes: Sizes) -> Result<(), 
     look_at_rest(alloc, superblock, host_end)
 }
 
-/// Looks at the octets after the host, which are zero. Only the gate of the format may be any octet.
+/// Checks the octets after the host, which must be zero, except that the gate of the format may be any octet.
 fn look_at_rest(alloc: Global, superblock: &Block, from: usize) -> Result<(), Stop> {
     for at in from..BLOCK {
         wrong_unless!(alloc; at == FORMAT_AT || superblock[at] == 0, "octet {at} of the superblock isn't zero");

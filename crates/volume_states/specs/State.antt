@@ -49,9 +49,9 @@ pub record IsStatusOf (format : ℕ) (host : Octets) (inodes : ℕ) (blocks : Li
   pub changes_are : s.changes ≡ length changes
   pub groups_are : s.groups.items ≡ map (group_status changes) (groups changes)
 
--- ---- the same by the index
+-- ---- the same in terms of the index
 
--- the state of a group that the index keeps so
+-- the state of a group, from what the index keeps of it
 abbrev pub of_index : GroupIndex → GroupStatus
 of_index i = record {
   name = i.group.name;

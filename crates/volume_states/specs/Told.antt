@@ -6,7 +6,7 @@ use Rattle.model.specs.Volume.{StandsFor, format_number}
 use Rattle.reporting.specs.declared.state.VolumeStatus.{VolumeStatus}
 use Rattle.volume_states.specs.State.{IsStatusOf}
 
--- the state of a volume of this format with this label and these blocks, this many
+-- the state of a volume of this format with this label and this number of blocks, which are these
 pub record IsStateIn (format : ℕ) (label : Octets) (size : ℕ) (blocks : List Octets) (s : VolumeStatus) : Type 0 where
   pub inodes : ℕ
   pub host : Octets

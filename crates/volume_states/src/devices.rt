@@ -89,7 +89,7 @@ fn state_over<B: Blocks>(
     }
 }
 
-/// Why the journal was not opened, as an opening tells it.
+/// Why the journal was not opened, as an opening reports it.
 fn journal_error(error: JournalError) -> OpenError
     ensures { result ≡ open_error error }
 {

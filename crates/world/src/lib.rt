@@ -1,6 +1,6 @@
 //! The whole system under any list of events. At each moment, even within a device call, a crash leaves a disk that is
 //! externally synchronous with what was released. `specs/Images.antt` says what that is, `specs/Events.antt` what each
-//! event does, `specs/Tied.antt` what the system keeps.
+//! event does, `specs/Tied.antt` what the system's invariant is.
 #![tactic(auto)]
 
 ghost use Rattle.std.specs.Prelude.{◌≢◌, IfOk, IfErr, ◌≡◌, ◌⊎◌, ◌≤◌, ◌<◌, ℕ, Some, Ok, Err, true, [], take, slice_get, MatchOption, ◌||◌};
@@ -85,7 +85,7 @@ impl<D: Disk> Model for World<D> {
 }
 
 impl<D: Disk> World<D> {
-    /// States what the whole system keeps, and does nothing.
+    /// States the invariant of the whole system, and does nothing.
     pub fn kept(&self)
         ensures { IsWorld D.device self.now }
     {
@@ -168,7 +168,7 @@ impl<D: Disk> World<D> {
     /// Makes one event happen. A crash at any moment of the event, even within a device call, leaves a disk that is
     /// externally synchronous with the trace and the released octets at its start. A crash afterwards leaves one that
     /// is synchronous with those at its end. `did` says what the event does by its answer (`Did` in
-    /// `specs/Events.antt`). `keeps` says that the whole system again keeps what it keeps (`IsWorld` in
+    /// `specs/Events.antt`). `keeps` says that the system's invariant holds again afterwards (`IsWorld` in
     /// `specs/Tied.antt`).
     pub fn step(&mut self, alloc: Global, event: &Event) -> Result<Answer, StepError>
         requires { MayHappen event.now }
@@ -184,10 +184,10 @@ impl<D: Disk> World<D> {
         result
     }
 
-    /// Makes the events happen one after another. Events that are refused are skipped; only at a refusal for memory it
-    /// stops before that event. Answers the number of events that it went through. A crash at any moment leaves a disk
-    /// that is externally synchronous with the state after some of them. A crash after the last one leaves one that is
-    /// synchronous with the state at the end.
+    /// Makes the events happen one after another. Events that are refused are skipped; only if one is refused for
+    /// memory does it stop, before that event. Answers the number of events that it went through. A crash at any moment
+    /// leaves a disk that is externally synchronous with the state after some of them. A crash after the last one
+    /// leaves one that is synchronous with the state at the end.
     pub fn run(&mut self, alloc: Global, events: &[Event]) -> u64
         requires { (k : ℕ) (event : ItsEvent) → slice_get events.now k ≡ Some event → MayHappen event }
         ensures count { result ≤ length events.now }
@@ -441,8 +441,8 @@ impl<D: Disk> World<D> {
 impl<D: Faults> World<D> {
     ghost use Rattle.disk.specs.Device.{IsUnchanged};
 
-    /// Makes the n-th call of the device from now on, counted from 1, answer `Fault`; 0 cancels an earlier plan. All
-    /// else stays as it was.
+    /// Makes the n-th call of the device from now on, counted from 1, answer `Fault`; 0 cancels an earlier plan.
+    /// Everything else stays as it was.
     pub fn fail_at(&mut self, n: u64)
         ensures view { self.new ≡ record self.old { journal = record self.old.journal { disk = self.new.journal.disk } } }
         ensures device { IsUnchanged (D.device self.old.journal.disk) (D.device self.new.journal.disk) }
