@@ -17,7 +17,7 @@ use model::Text;
 use names::is_of_host;
 use std::alloc::{AllocError, Global};
 
-/// The octets of a made message-id beside its serial and its host: `<`, `@` and `>`.
+/// The number of octets of a made message-id besides its serial and its host: `<`, `@` and `>`.
 const ID_MARKS: usize = 3;
 
 /// The message-id of an article, empty if it has none.
@@ -80,8 +80,8 @@ fn are_same(names: &[Text], others: &[&[u8]]) -> bool
     true
 }
 
-/// Whether a carried article without a cause may be filed in these groups; `here` are those of its own groups that
-/// exist.
+/// Whether a carried article that has no cause for refusal may be filed in these groups; `here` are those of its own
+/// groups that exist. Refused only for want of memory.
 pub fn may_file(
     alloc: Global,
     index: &Index,

@@ -1,5 +1,5 @@
 //! A spool that takes changes: the questions of `lookups`, and the filing of an article. The commands and the spool in
-//! files both stand on it, and neither on the other.
+//! files both depend on it, and not on each other.
 #![tactic(auto)]
 
 ghost use Rattle.std.specs.Prelude.{◌≡◌, ◌⊎◌, ◌++◌, ◌∷◌, [], MatchResult, true, false};
@@ -15,7 +15,7 @@ use model::Text;
 pub enum FileError {
     /// There is no room for it.
     Full,
-    /// A growth was refused.
+    /// An allocation was refused.
     Memory,
 }
 
@@ -31,7 +31,7 @@ pub trait ChangeSpool: LookUps {
     ghost adds: { Self → Self → ChangeView → Type 0 };
 
     /// Files an article in these groups, at a moment in seconds since 1970. Its change must be one that may follow.
-    /// `Full` comes exactly if there is no room, otherwise only `Memory`; a refusal changes nothing.
+    /// Refused as `Full` exactly if there is no room, and otherwise only as `Memory`; a refusal changes nothing.
     fn file(&mut self, article: &Article<'_>, groups: &[Text], moment: u64) -> Result<(), FileError>
         requires { IsLawful (Self.host_of self.old)
             (Self.changes self.old ++ change.Article article.now groups.now moment ∷ []) }

@@ -4,7 +4,7 @@ use Rattle.framing.specs.declared.Reader.TheInside.{Inside}
 use Rattle.framing.specs.Held.{Held, NoneEnds}
 use Rattle.model.specs.declared.message.Mode.{Mode}
 
--- the octets that are held and not handed out
+-- the octets that are held and were not handed out
 abbrev pub unread : Inside → List ℕ
 unread r = drop r.start r.octets.items
 
@@ -16,13 +16,13 @@ held_of r = record {
   size = vec_len r.octets;
 }
 
--- a message was asked for, and no prefix of what was searched ends it
+-- no prefix of what was searched ends the message that was asked for; if none was, nothing was searched or dropped
 abbrev pub IsSearched : Option Mode → Inside → Type 0
 IsSearched None r = (r.searched ≡ 0) × (r.dropped ≡ 0)
 IsSearched (Some mode) r =
     NoneEnds mode (replicate r.dropped 0 ++ unread r) 0 (r.dropped + r.searched)
 
--- octets are dropped only if the message is too long, and more octets follow them than an end takes
+-- octets are dropped only if the message is too long, and at least four octets that were searched follow them
 pub record IsSound (r : Inside) : Type 0 where
   pub start : r.start + r.searched ≤ vec_len r.octets
   pub half : 2 * r.start ≤ vec_len r.octets

@@ -33,7 +33,7 @@ pub struct Reader {
     start: usize,
     /// The number of octets after `start` that were searched in vain for the end of a message.
     searched: usize,
-    /// The number of octets before these that belong to the next message and were dropped because it is too long.
+    /// How many octets stand for those of the next message that were dropped because it is too long; 0 if none were.
     dropped: usize,
     awaits: Option<Mode>,
 }
@@ -124,7 +124,8 @@ impl Reader {
     }
 }
 
-/// What a reader holds stands for the stream, whatever is fed and asked, by the clauses of `feed` and `next`.
+/// What a reader holds stands for the stream, whatever is fed to it and asked of it. This follows from the clauses of
+/// `feed` and `next`.
 pub fn stands_for_the_stream()
     ensures fed { StandsWhenFed }
     ensures found { StandsWhenFound }
@@ -189,7 +190,7 @@ fn push_stuffed(block: &mut Vec<u8>, line: &[u8]) -> Result<(), AllocError>
     block.extend_from_slice(line)
 }
 
-/// The text that the lines of a block mean.
+/// The text that a block sends: its lines without their stuffing.
 fn unstuff(alloc: Global, block: &[u8]) -> Result<Vec<u8>, AllocError>
     ensures { IfOk result (λ text. text.items ≡ unstuffed block.now) }
 {
@@ -227,7 +228,7 @@ fn copied(alloc: Global, octets: &[u8]) -> Result<Vec<u8>, AllocError>
     Ok(copy)
 }
 
-/// The message that the octets up to its end are.
+/// The message that these octets make up.
 fn read_message(alloc: Global, mode: Mode, front: &[u8]) -> Result<Message, AllocError>
     requires { ends_message mode front.now ≡ true }
     ensures { IfOk result (λ message. message ≡ message_of mode front.now) }
@@ -261,7 +262,7 @@ fn block_message(alloc: Global, front: &[u8]) -> Result<Message, AllocError>
 }
 
 /// Removes the octets that were handed out once they are more than half of all, so that each octet is moved at most
-/// once on average. It answers how many of the octets handed out are still there.
+/// once on average. It answers how many of the octets handed out are still in memory.
 fn forget_read(octets: &mut Vec<u8>, read: usize) -> usize
     requires { read ≤ vec_len octets.old }
     ensures rest { drop result octets.new.items ≡ drop read octets.old.items }
@@ -300,7 +301,7 @@ fn shed(octets: &mut Vec<u8>, dropped: usize) -> usize
     max(dropped, excess)
 }
 
-/// The message whose octets end here. Some of them were dropped if it is too long.
+/// The message that ends with these octets. It is too long if any of its octets were dropped.
 fn found_message(
     alloc: Global,
     mode: Mode,

@@ -13,7 +13,7 @@ abbrev pub IsSelector : Selector → Type 0
 IsSelector (selector.Id id) = IsTrue (is_message_id id)
 IsSelector other = Unit {0}
 
--- a listing has no wildmat, or one
+-- a listing has no wildmat, or a valid one
 abbrev pub IsListing : Option (List ℕ) → Type 0
 IsListing wildmat = IfSome wildmat (λ w. IsTrue (is_wildmat w))
 

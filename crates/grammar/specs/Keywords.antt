@@ -1,4 +1,4 @@
--- The keywords of the code, as those of the definitions.
+-- The keywords in the code, and the keywords of the definitions that they are.
 use Rattle.std.specs.Prelude.{ℕ, List, codes}
 use Rattle.model.specs.Commands as commands
 use Rattle.grammar.specs.declared.keywords.Keyword.{Keyword}

@@ -80,14 +80,14 @@ impl Keyword {
     }
 }
 
-/// Whether a word is this text, in any case.
+/// Whether a word is this text, regardless of case.
 pub fn is_word(text: &[u8], word: &[u8]) -> bool
     ensures { result ≡ str_eq_ignore_ascii_case text.now word.now }
 {
     text.eq_ignore_ascii_case(word)
 }
 
-/// The keyword that a word is, in any case.
+/// The keyword that a word is, regardless of case.
 pub fn keyword_of(word: &[u8]) -> Option<Keyword>
     ensures { option_map meant result ≡ commands.keyword_of word.now }
 {

@@ -17,8 +17,9 @@ use std::alloc::{AllocError, Global};
 
 /// Reads a command line without its CRLF: a command, `Unknown` if its keyword is not one, or `Bad` if the rest of the
 /// line does not follow the keyword's grammar. An empty line and one that begins with a blank are `Unknown`. A line
-/// with an octet other than SP, TAB and 33 to 126 is `Bad` if its keyword is known (both this project's rule). Dates
-/// and times are read as digits; the calendar is not asked. Refused only for want of memory.
+/// with an octet other than SP, TAB and 33 to 126 is `Bad` if its keyword is known (both are this project's own rules).
+/// A date or a time must consist of digits; whether the calendar has it is not checked. Refused only for want of
+/// memory.
 pub fn read(alloc: Global, line: &[u8]) -> Result<Parsed, AllocError>
     ensures { IfOk result (λ parsed. parsed ≡ parsed_line line.now) }
 {

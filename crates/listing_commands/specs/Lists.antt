@@ -38,7 +38,7 @@ rest_of show.Newsgroups l = 9 ∷ l.group.description ++ crlf
 abbrev pub line_of : Pick → Show → Known → Octets
 line_of pick show k = if is_picked pick k.listed.group then stuffed_line (line (shown_as show k.listed)) else []
 
--- the last serial so far, also of this group if it is in a list
+-- the last serial so far, with that of this group if the group is in a list
 abbrev pub later_of : Pick → ℕ → Known → ℕ
 later_of pick last k = if is_picked pick k.listed.group then max last k.last else last
 

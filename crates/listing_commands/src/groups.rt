@@ -32,7 +32,7 @@ pub enum Show {
     Newsgroups,
 }
 
-/// The groups whose names the wildmat matches, or all without a wildmat.
+/// The groups whose names the wildmat matches, or all groups if there is no wildmat.
 pub fn pick_of(wildmat: &Option<Text>) -> Pick<'_>
     requires { IfSome wildmat.now (λ w. IsTrue (is_wildmat w)) }
     ensures same { (g : NewsGroup) → is_picked result g ≡ is_listed wildmat.now g.name }
@@ -123,8 +123,8 @@ fn push_picked(
     Ok(last.max(group.last))
 }
 
-/// Appends a line for each picked group, in rising serial. It answers the last serial that names one of them, or 0
-/// without any.
+/// Appends a line for each picked group, in rising serial. It answers the last serial that names one of them, or 0 if
+/// no group is picked.
 pub fn push_groups<L: LookUps>(
     spool: &L,
     pick: &Pick<'_>,

@@ -61,7 +61,7 @@ pub fn list_newsgroups<L: LookUps>(
     list(alloc, spool, session, wildmat, Show::Newsgroups)
 }
 
-/// A list of groups, which reads the last serial that names one of them.
+/// A list of groups. It reads the last serial that names one of them.
 fn list<L: LookUps>(
     alloc: Global,
     spool: &L,
@@ -81,9 +81,9 @@ fn list<L: LookUps>(
     says(alloc, session, reply, last)
 }
 
-/// NEWGROUPS (RFC 3977, section 7.3): the groups that were made since a date (`yymmdd` or `yyyymmdd`) and a time (`hhmmss`) in
-/// UTC. A date that the calendar does not have is a syntax error. The moment of the command is in seconds since 1970, below
-/// 253,402,300,800.
+/// NEWGROUPS (RFC 3977, section 7.3): the groups that were made since a date (`yymmdd` or `yyyymmdd`) and a time
+/// (`hhmmss`) in UTC. A date that the calendar does not have is a syntax error. The moment of the command is in seconds
+/// since 1970, below 253,402,300,800.
 pub fn newgroups<L: LookUps>(
     alloc: Global,
     spool: &L,
@@ -111,7 +111,8 @@ fn groups_since<L: LookUps>(
     from: i64,
 ) -> Result<Answered, AllocError>
     ensures { IfOk result (λ r. r ≡ answered
-        (answers.newgroups_answer session.now (listed (L.changes spool.now) (answers.is_listed None)) from) (length (L.changes spool.now))) }
+        (answers.newgroups_answer session.now (listed (L.changes spool.now) (answers.is_listed None)) from)
+        (length (L.changes spool.now))) }
 {
     let mut reply = Vec::new(alloc);
     push_heading(&mut reply, Heading::Groups)?;

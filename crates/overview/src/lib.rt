@@ -12,8 +12,8 @@ use std::marker::Model;
 
 const TAB: u8 = b'\t';
 
-/// The octets that a line may have after its number and beside the contents of fields: 7 TABs, and 2 numbers of up to
-/// 20 digits.
+/// The most octets that a line has after its number, besides the contents of fields: 7 TABs, and 2 numbers of up to 20
+/// digits.
 const TABS_AND_SIZES: usize = 47;
 
 /// An article, with the part of its overview lines that is the same in all groups. Contracts see its text.
@@ -52,8 +52,8 @@ impl<'t> Overview<'t> {
         Ok(Overview { text, rest })
     }
 
-    /// The line of the article under this number of a group, or 0 if it was asked for by its message-id. It has no
-    /// CRLF. Refused only for want of memory.
+    /// The line of the article with this number: its number in a group, or 0 if it was asked for by its message-id. The
+    /// line has no CRLF. Refused only for want of memory.
     pub fn line(&self, alloc: Global, number: u64) -> Result<Vec<u8>, AllocError>
         ensures { IfOk result (λ line. line.items ≡ overview_line number self.now) }
     {
@@ -66,8 +66,8 @@ impl<'t> Overview<'t> {
     }
 }
 
-/// The line of an article that has this number in its group, or 0 if it was asked for by its message-id. It has no
-/// CRLF. Refused only for want of memory.
+/// The line of an article with this number: its number in a group, or 0 if it was asked for by its message-id. The line
+/// has no CRLF. Refused only for want of memory.
 pub fn line(alloc: Global, number: u64, article: &Article<'_>) -> Result<Vec<u8>, AllocError>
     ensures { IfOk result (λ line. line.items ≡ overview_line number article.now) }
 {
@@ -117,7 +117,7 @@ fn push_field(line: &mut Vec<u8>, article: &Article<'_>, name: &[u8]) -> Result<
     Ok(())
 }
 
-/// Puts SP in place of each TAB.
+/// Replaces each TAB with SP.
 fn replace_tabs(octets: &mut [u8])
     ensures { octets.new ≡ map (λ octet. if octet == 9 then 32 else octet) octets.old }
 {
@@ -128,7 +128,7 @@ fn replace_tabs(octets: &mut [u8])
     }
 }
 
-/// Appends the numbers of octets and of lines of the body, each after a TAB.
+/// Appends the number of octets of a text and the number of lines of its body, each after a TAB.
 fn push_sizes(line: &mut Vec<u8>, octets: usize, lines: usize) -> Result<(), AllocError>
     ensures { OnOk result (line.new.items ≡ line.old.items ++ codes "\t" ++ decimal octets ++ codes "\t" ++ decimal lines) }
 {

@@ -20,7 +20,7 @@ pub enum Outcome {
     Accepted(Names),
 }
 
-/// Which closed groups prevent the filing.
+/// Whether a closed group prevents the filing.
 #[derive(Clone, Copy, PartialEq, Eq)]
 pub enum Closed {
     Refuse,

@@ -27,7 +27,7 @@ abbrev pub current_of : Option ℕ → ℕ → Option ℕ
 current_of None low = None
 current_of (Some n) low = if nat_lt n low then None else Some n
 
--- the numbers of a range that are in a group: the first one, and how many
+-- the numbers of a range that are in a group: the first one, the last one, and how many there are
 abbrev pub first_in : Range → ℕ → ℕ
 first_in r low = max r.first low
 

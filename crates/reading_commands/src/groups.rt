@@ -15,7 +15,7 @@ use model::{Range, Session, Text};
 use replies::{Answered, Reply, answer, push_end, push_line, push_number, says_line, selecting};
 use std::alloc::{AllocError, Global};
 
-/// The octets that a reply has at most besides the group's name and the lines of numbers: `211`, three numbers, ` list
+/// The most octets that a reply has besides the group's name and the lines of numbers: `211`, three numbers, ` list
 /// follows`, CRLF, and the line that ends a block.
 const WORDS: usize = 86;
 
@@ -45,7 +45,7 @@ fn push_spaced(reply: &mut Vec<u8>, number: u64) -> Result<(), AllocError>
     push_number(reply, number)
 }
 
-/// Appends count, lowest and highest number, and name.
+/// Appends `211`, the count, the lowest and the highest number, and the name.
 fn push_counted(reply: &mut Vec<u8>, counts: Counts, group: &[u8]) -> Result<(), AllocError>
     requires { 1 ≤ counts.low }
     ensures { OnOk result (reply.new.items ≡ reply.old.items ++ counted counts.low counts.high group.now) }

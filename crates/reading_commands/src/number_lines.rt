@@ -43,7 +43,7 @@ fn push_some(reply: &mut Vec<u8>, first: u64, count: u64) -> Result<(), AllocErr
     reply.extend_from_slice(&octets[start..])
 }
 
-/// Appends a line for each of consecutive numbers.
+/// Appends a line for each of `count` consecutive numbers, from `first` on.
 pub fn push_number_lines(reply: &mut Vec<u8>, first: u64, count: u64) -> Result<(), AllocError>
     requires { first + count ≤ 2 ^ 64 }
     ensures { OnOk result (reply.new.items ≡ reply.old.items ++ number_lines first count) }

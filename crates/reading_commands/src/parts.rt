@@ -11,8 +11,8 @@ use model::Part;
 use replies::push_number;
 use std::alloc::AllocError;
 
-/// The octets of the first line of a reply with an article, if its message-id has at most 80: code, number, message-id,
-/// blanks and CRLF. A longer line is allocated anew.
+/// The most octets of the first line of a reply with an article whose message-id has at most 80 octets: code, number,
+/// message-id, blanks and CRLF. For a longer line the reply is allocated anew.
 pub const FOUND_ROOM: usize = 107;
 
 /// The code of a reply with this part.
@@ -27,7 +27,7 @@ fn code(part: &Part) -> &'static [u8]
     }
 }
 
-/// Appends code, number and message-id.
+/// Appends a line with the code, the number and the message-id.
 pub fn push_found<L: LookUps>(
     spool: &L,
     part: &Part,

@@ -9,7 +9,7 @@ use lookups::Counts;
 use model::Range;
 use std::alloc::AllocError;
 
-/// The octets that end a line.
+/// The number of octets that end a line.
 const CRLF: usize = 2;
 
 /// Consecutive numbers; there are none if the last is below the first.
@@ -45,7 +45,7 @@ fn count(numbers: Numbers) -> u64
     numbers.last - numbers.first + 1
 }
 
-/// The octets that their lines have at most: as many for each number as for the last one.
+/// The most octets that the lines of these numbers have: for each number as many as for the last one.
 pub fn lines_bound(numbers: Numbers) -> usize
     requires { 1 ≤ numbers.first }
     ensures { result ≡ min ((numbers.last + 1 - numbers.first) * (length (decimal numbers.last) + 2)) (2 ^ 64 - 1) }

@@ -1,4 +1,4 @@
--- What the replies of the code are.
+-- The texts of the replies in the code.
 use Rattle.std.specs.Prelude.{[], ◌∷◌, map}
 use Rattle.model.specs.Stream.{Octets}
 use Rattle.model.specs.Answer.{capability_lines, overview_format, spaced}

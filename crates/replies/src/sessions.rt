@@ -17,7 +17,7 @@ pub struct Answered {
     pub reads: u64,
 }
 
-/// The answer of a reply and the session afterwards, without a change.
+/// The answer with this reply and this session afterwards, without a change.
 pub fn answer(reply: Vec<u8>, next: Session, reads: u64) -> Answered
     ensures { result ≡ answered (replied reply.items next) reads }
 {
@@ -58,7 +58,7 @@ pub fn copy(alloc: Global, session: &Session) -> Result<Session, AllocError>
     awaiting(alloc, session, awaits)
 }
 
-/// The session, but awaiting this next.
+/// The session, except that it awaits this next.
 pub fn awaiting(alloc: Global, session: &Session, awaits: Awaits) -> Result<Session, AllocError>
     ensures { IfOk result (λ next. next ≡ answers.awaiting session.now awaits) }
 {
@@ -69,7 +69,7 @@ pub fn awaiting(alloc: Global, session: &Session, awaits: Awaits) -> Result<Sess
     })
 }
 
-/// The session with this current number.
+/// The session with this number as the current one.
 pub fn at_number(alloc: Global, session: &Session, number: u64) -> Result<Session, AllocError>
     ensures { IfOk result (λ next. next ≡ answers.at_number session.now number) }
 {
@@ -80,7 +80,8 @@ pub fn at_number(alloc: Global, session: &Session, number: u64) -> Result<Sessio
     })
 }
 
-/// The session with this group selected, whose name it takes, and with the group's lowest number if it has an article.
+/// The session with this group selected and, if the group has an article, with its lowest number as the current one.
+/// The session takes the name.
 pub fn selecting(
     alloc: Global,
     session: &Session,

@@ -5,7 +5,7 @@ ghost use Rattle.replies.specs.Pieces.{PiecesFollow, PiecesMakeTheText};
 
 use std::alloc::AllocError;
 
-/// The state of a text after the pieces so far.
+/// The state of the stuffing after the pieces so far.
 #[derive(Clone, Copy)]
 pub struct Stuffing {
     /// the next octet begins a line

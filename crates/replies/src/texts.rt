@@ -29,7 +29,7 @@ pub enum Reply {
 }
 
 impl Reply {
-    /// Its text, without CRLF.
+    /// The text of the reply, without CRLF.
     #[tactic(auto, unfolding(model::specs::Replies::bye, model::specs::Replies::transferred, model::specs::Replies::received, model::specs::Replies::send_transferred, model::specs::Replies::send_posted, model::specs::Replies::service_ends, model::specs::Replies::no_such_group, model::specs::Replies::no_group_selected, model::specs::Replies::no_current_article, model::specs::Replies::no_next_article, model::specs::Replies::no_previous_article, model::specs::Replies::no_such_number, model::specs::Replies::no_such_article, model::specs::Replies::not_wanted, model::specs::Replies::try_later, model::specs::Replies::rejected, model::specs::Replies::not_accepted, model::specs::Replies::unknown_command, model::specs::Replies::syntax_error))]
     pub fn text(self) -> &'static [u8]
         ensures { line result.now ≡ sent self }
@@ -70,7 +70,7 @@ pub enum Heading {
 }
 
 impl Heading {
-    /// Its text, without CRLF.
+    /// The text of the line, without CRLF.
     pub fn text(self) -> &'static [u8]
         ensures { result.now ≡ headed self }
     {

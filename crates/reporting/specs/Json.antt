@@ -12,7 +12,7 @@ use Rattle.reporting.specs.declared.state.VolumeStatus.{VolumeStatus}
 abbrev pub natural : ℕ → Data
 natural n = number (unsigned n)
 
--- octets as text, which are ASCII in every spool
+-- octets as text; in every spool they are ASCII
 abbrev pub words : Octets → Data
 words octets = string (utf8_lossy octets)
 
@@ -23,7 +23,7 @@ share_data s =
     (member (codes "used") (natural s.used)
     no_members)))
 
--- the octets of an overview, and those up to which its group takes articles
+-- the size of an overview, and the size up to which its group takes articles
 abbrev pub overview_data : ℕ → Data
 overview_data size = object (member (codes "room") (natural (largest_file - octets_asked))
     (member (codes "used") (natural size) no_members))

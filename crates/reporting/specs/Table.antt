@@ -18,13 +18,13 @@ left width cell = cell ++ replicate (width - length cell) 32
 abbrev pub right : ℕ → Octets → Octets
 right width cell = replicate (width - length cell) 32 ++ cell
 
--- rounded down
+-- the used part in per cent, rounded down
 abbrev pub in_per_cent : ℕ → ℕ → Octets
 in_per_cent used all = decimal (100 * used / all) ++ codes " %"
 
 -- ---- the facts
 
--- a line with a name and what is known under it
+-- a line with the name of a fact and its value
 abbrev pub fact : Octets → Octets → Octets
 fact name known = left 10 name ++ known ++ 10 ∷ []
 
@@ -50,7 +50,7 @@ heading = record {
   overview = codes "overview";
 }
 
--- the overview in per cent of the octets up to which its group takes articles
+-- the overview in per cent of the size up to which its group takes articles
 abbrev pub row_of : GroupStatus → Row
 row_of g = record {
   name = g.name;

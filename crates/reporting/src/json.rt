@@ -27,7 +27,7 @@ fn status_value(alloc: Global, status: &VolumeStatus) -> Result<Value, AllocErro
     let blocks = share_value(alloc, &status.blocks)?;
     let inodes = share_value(alloc, &status.inodes)?;
     let groups = groups_value(alloc, &status.groups)?;
-    // the keys fall, so that each member is put before the others
+    // the keys are in falling order, so that each member is put before the others
     json!(in alloc; {
         "inodes": inodes,
         "host": &host,

@@ -4,8 +4,8 @@ ghost use Rattle.std.specs.Prelude.{◌≡◌, ◌-◌, ◌<◌, ◌≤◌};
 
 use model::Text;
 
-/// The octets of an overview up to which its group takes articles: 12,288 less than the largest file of format 2 has. Each
-/// volume that is served has this format.
+/// The size of an overview, in octets, up to which its group takes articles: 12,288 less than that of the largest file
+/// of format 2. Each volume that is served has this format.
 pub const OVERVIEW_ROOM: u32 = 268_423_168;
 
 /// How much there is of something, and how much of it is used.
@@ -38,7 +38,7 @@ pub struct GroupStatus {
     pub count: u64,
     /// `y`, or `n` if it takes no posts.
     pub status: u8,
-    /// The octets of its overview.
+    /// The size of its overview in octets.
     pub overview: u32,
 }
 

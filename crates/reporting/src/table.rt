@@ -9,7 +9,7 @@ use itoa::Buffer;
 use model::Text;
 use std::alloc::{AllocError, Global};
 
-/// The columns of the names of facts, with the gap after them.
+/// The width of the names of facts, with the gap after them.
 const NAME_COLUMNS: usize = 10;
 
 /// The state of a volume in lines: its facts, and a table of its groups if there are any. Each column is as wide as its
@@ -46,7 +46,7 @@ fn push_facts(alloc: Global, status: &VolumeStatus, text: &mut Vec<u8>) -> Resul
     push_fact(text, b"changes", number(alloc, status.changes)?.as_slice())
 }
 
-/// Appends a line with a name and what is known under it.
+/// Appends a line with the name of a fact and its value.
 fn push_fact(text: &mut Vec<u8>, name: &[u8], known: &[u8]) -> Result<(), AllocError>
     ensures { OnOk result (text.new.items ≡ text.old.items ++ table.fact name.now known.now) }
 {
@@ -74,7 +74,7 @@ fn share_text(alloc: Global, share: &Share) -> Result<Text, AllocError>
 
 // ---- the table of groups
 
-/// A line of the table, in cells.
+/// A line of the table, as cells.
 #[derive(Drop)]
 struct Row {
     name: Text,
@@ -202,7 +202,7 @@ fn push_row(text: &mut Vec<u8>, row: &Row, widths: Widths) -> Result<(), AllocEr
     push_ending(text, row, widths)
 }
 
-/// Appends the cells of numbers.
+/// Appends the cells that hold numbers.
 fn push_numbers(text: &mut Vec<u8>, row: &Row, widths: Widths) -> Result<(), AllocError>
     ensures { OnOk result (text.new.items ≡ text.old.items ++ table.numbers widths row.now) }
 {
@@ -247,7 +247,7 @@ fn push_number(text: &mut Vec<u8>, n: u64) -> Result<(), AllocError>
     text.extend_from_slice(buffer.format(n).as_bytes())
 }
 
-/// Appends a part in per cent, rounded down.
+/// Appends what part is used, in per cent, rounded down.
 fn push_per_cent(text: &mut Vec<u8>, used: u32, all: u32) -> Result<(), AllocError>
     requires { 0 < all }
     ensures { OnOk result (text.new.items ≡ text.old.items ++ table.in_per_cent used all) }

@@ -1,7 +1,7 @@
 -- What a reader holds of the octets of a batch.
 use Rattle.std.specs.Prelude.{ℕ, ◌+◌, ◌-◌, ◌^◌, List, min}
 
--- the octets that arrived and are not handed out, and the number of octets handed out before them, up to 2^64 - 1
+-- the octets that have arrived and were not handed out, and the number of octets handed out before them, up to 2^64 - 1
 pub record Held : Type 0 where
   pub rest : List ℕ
   pub place : ℕ

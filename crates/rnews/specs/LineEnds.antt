@@ -21,11 +21,11 @@ with_crlf_after before (x ∷ rest) = with_cr before x ++ with_crlf_after x rest
 abbrev pub with_crlf : Octets → Octets
 with_crlf text = with_crlf_after 0 text
 
--- a line without a line end in it
+-- the text of a line, without CR or LF
 abbrev pub IsLine : Octets → Type 0
 IsLine text = list_all (λ x. not (x == 10) && not (x == 13)) text ≡ true
 
--- the line with only an LF
+-- the line that ends in LF only
 abbrev pub lf_line : Octets → Octets
 lf_line text = text ++ 10 ∷ []
 
@@ -33,10 +33,10 @@ lf_line text = text ++ 10 ∷ []
 abbrev pub LinesGetLf : Type 0
 LinesGetLf = (lines : List Octets) → All IsLine lines → with_lf (flat_map line lines) ≡ flat_map lf_line lines
 
--- and those become the lines that end in CRLF again
+-- and these become the lines that end in CRLF again
 abbrev pub LinesGetCrlf : Type 0
 LinesGetCrlf = (lines : List Octets) → All IsLine lines → with_crlf (flat_map lf_line lines) ≡ flat_map line lines
 
--- lines that end in CRLF stay
+-- lines that already end in CRLF stay as they are
 abbrev pub CrlfStays : Type 0
 CrlfStays = (lines : List Octets) → All IsLine lines → with_crlf (flat_map line lines) ≡ flat_map line lines

@@ -66,7 +66,7 @@ pub fn find_text(octets: &[u8]) -> Result<Option<(usize, usize)>, Cause>
     Ok(Some((start, start + size)))
 }
 
-/// The number of octets before the first LF, among those that decide whether they are a header line.
+/// The number of octets before the first LF, or of all octets if they have no LF; at most 26.
 fn line_length(octets: &[u8]) -> usize
     ensures { result ≡ batch.line_length octets.now }
 {

@@ -11,7 +11,8 @@ pub fn batches_are_read_back()
     ensures cause { CauseStays }
 {}
 
-/// Lines that end in CRLF become lines that end in LF, and become the same lines again; lines that end in CRLF stay.
+/// Lines that end in CRLF become lines that end in LF, and these become the same lines again. Lines that already end in
+/// CRLF stay as they are.
 pub fn line_ends_are_kept()
     ensures lf { LinesGetLf }
     ensures crlf { LinesGetCrlf }

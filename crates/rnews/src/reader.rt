@@ -24,7 +24,7 @@ pub struct Refusal {
 /// Why no text is handed out.
 #[derive(Clone, Copy, Debug, PartialEq, Eq, Error)]
 pub enum ReadError {
-    /// A growth was refused.
+    /// An allocation was refused.
     #[error("E2 Memory")]
     Memory,
     /// No batch continues with these octets.
@@ -45,9 +45,9 @@ impl From<AllocError> for ReadError {
 pub struct Reader {
     octets: Vec<u8>,
     alloc: Global,
-    /// The number of octets that were handed out.
+    /// The number of octets in `octets` that were handed out.
     start: usize,
-    /// The number of octets of the batch before those that are not handed out, up to 2^64 - 1.
+    /// The number of octets of the batch before those that were not handed out, up to 2^64 - 1.
     place: u64,
 }
 
@@ -88,8 +88,8 @@ impl Reader {
         Ok(())
     }
 
-    /// The next text, or `None` if more octets are needed. At `None` at most the octets of a header line and of the
-    /// longest text are held. A refusal changes nothing.
+    /// The next text, or `None` if more octets are needed. With `None`, the reader holds at most the octets of a header
+    /// line and of the longest text. A refusal changes nothing.
     pub fn next(&mut self) -> Result<Option<Vec<u8>>, ReadError>
         ensures text { IfOk result (λ found. IfSome found (λ text. next self.old.rest ≡ Ok (Some (text.items, self.new.rest)))) }
         ensures place { IfOk result (λ found. OnSome found

@@ -31,7 +31,7 @@ taken s = record {
   reads = s.reads;
 }
 
--- an article that would be too long as it is stored is refused, and marked so; everything else is served
+-- an article that would be too long as it is stored is refused and marked `Long`; everything else is served
 abbrev pub step_of : Octets → Spool → Session → ℕ → Awaits → Message → Taken
 step_of host S x t what m =
     if is_long_by host S what m then record { answer = says (awaiting x awaits.Line) not_accepted; mark = mark.Long; reads = 0 }

@@ -100,7 +100,7 @@ fn list_whole<L: LookUps>(
     list_group(alloc, spool, session, name, &all)
 }
 
-/// ARTICLE, HEAD, BODY and STAT, by which article they ask for.
+/// ARTICLE, HEAD, BODY and STAT, by the article that they ask for.
 #[tactic(auto, unfolding(model::specs::Answer::command_answer, model::specs::Reads::command_reads))]
 fn fetch<L: LookUps>(
     alloc: Global,

@@ -72,8 +72,8 @@ pub fn serve<S: ChangeSpool>(
     }
 }
 
-/// Files an article that was accepted, by what was read of it. `Full` comes only if there is no room; a refusal
-/// changes nothing.
+/// Files an article that was accepted, as it was read. Refused as `Full` only if there is no room, or as `Memory`; a
+/// refusal changes nothing.
 fn file<S: ChangeSpool>(
     alloc: Global,
     spool: &mut S,

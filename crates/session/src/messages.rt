@@ -109,7 +109,8 @@ pub(crate) fn at_line<'m, L: LookUps>(
     moment: u64,
 ) -> Result<Step<'m>, AllocError>
     requires { moment < moment_limit }
-    ensures { IfOk result (λ step. taken step ≡ step_of (L.host_of spool.now) (L.changes spool.now) session.now moment waits.Line message.now) }
+    ensures { IfOk result (λ step. taken step
+        ≡ step_of (L.host_of spool.now) (L.changes spool.now) session.now moment waits.Line message.now) }
 {
     match message {
         Message::Line(text) => {
@@ -183,7 +184,8 @@ pub(crate) fn at_nothing<'m, L: LookUps>(
     message: &'m Message,
     moment: u64,
 ) -> Result<Step<'m>, AllocError>
-    ensures { IfOk result (λ step. taken step ≡ step_of (L.host_of spool.now) (L.changes spool.now) session.now moment waits.Nothing message.now) }
+    ensures { IfOk result (λ step. taken step
+        ≡ step_of (L.host_of spool.now) (L.changes spool.now) session.now moment waits.Nothing message.now) }
 {
     bad(alloc, session)
 }

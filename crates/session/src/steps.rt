@@ -16,7 +16,7 @@ use std::alloc::{AllocError, Global};
 /// Answers a message at a moment in seconds since 1970, below 253,402,300,800. A line is a command (RFC 3977, section
 /// 3.1), and a block is the article that POST or IHAVE asked for; a message of another kind than the session awaits is
 /// a bad line. The answer is that of `specs/Answer.antt` for this mark. It does not check for room and changes nothing:
-/// the caller files the article that it accepts, which has been read.
+/// the caller files the article that it accepts, which has already been read.
 pub(crate) fn step<'m, L: LookUps>(
     alloc: Global,
     spool: &L,

@@ -21,7 +21,7 @@ pub record StandsIn (host : Octets) (inodes : ℕ) (blocks : List Octets) : Type
 pub spool_set : (S R : Spool) → IsProp (S ≡ R)
 spool_set = Prim.hlevel props
 
--- there is at most one list of changes
+-- there is at most one list of changes that the blocks hold
 pub one_stands : (host : Octets) (inodes : ℕ) (blocks : List Octets) → IsProp (StandsIn host inodes blocks)
 one_stands host inodes blocks p q = λ i. record { changes = same i; held = along i } where
   same : p.changes ≡ q.changes

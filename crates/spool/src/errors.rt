@@ -11,7 +11,7 @@ pub enum AddError {
     /// There is no room for the group.
     #[error("E6 Full")]
     Full,
-    /// A growth was refused.
+    /// An allocation was refused.
     #[error("E2 Memory")]
     Memory,
 }
@@ -25,7 +25,7 @@ pub enum ExpireError {
     /// There is no room for the expiry.
     #[error("E6 Full")]
     Full,
-    /// A growth was refused.
+    /// An allocation was refused.
     #[error("E2 Memory")]
     Memory,
 }

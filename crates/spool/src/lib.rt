@@ -1,4 +1,5 @@
-//! The list of accepted changes, in files over the cached logical blocks, with an index and the places of the files in memory.
+//! The list of accepted changes, in files over the cached logical blocks, with an index and the places of the files in
+//! memory.
 #![tactic(auto)]
 
 ghost use Rattle.std.specs.Prelude.{◌≡◌, ◌⊎◌, ◌+◌, ◌-◌, ◌<◌, ◌≤◌, ◌||◌, ◌&&◌, nat_lt, ℕ, List, [], Some, false, None, length, replicate};
@@ -63,7 +64,7 @@ pub struct Spool {
 
 ghost use Rattle.spool.specs.Kept.{StandsIn, one_stands};
 
-// By hand: a caller that drops one would otherwise prove the derived one again, field by field.
+// Written by hand: a caller that drops a spool would otherwise prove the derived drop again, field by field.
 impl Drop for Spool {
     fn drop(self) {
         let Spool {
@@ -248,7 +249,8 @@ impl Spool {
         requires short { length description.now ≤ 200 }
         requires printable { IsTrue (list_all is_description_octet description.now) }
         requires in_time { moment < moment_limit }
-        ensures { Tested AddError.Memory (group_refusal self.old name.now (changed.Group name.now status description.now moment)) self.old self.new result
+        ensures { Tested AddError.Memory (group_refusal self.old name.now (changed.Group name.now status description.now moment))
+            self.old self.new result
             (λ serial. (serial ≡ length self.old.changes + 1)
             × Adds self.old self.new (changed.Group name.now status description.now moment)) }
     {
@@ -312,7 +314,8 @@ impl Spool {
         moment: u64,
     ) -> Result<u64, FileError>
         requires { MayFile self.old.host self.old.changes article.now groups.now moment }
-        ensures { Tested FileError.Memory (article_refusal self.old (changed.Article article.now groups.now moment)) self.old self.new result
+        ensures { Tested FileError.Memory (article_refusal self.old (changed.Article article.now groups.now moment))
+            self.old self.new result
             (λ serial. (serial ≡ length self.old.changes + 1) × Adds self.old self.new (changed.Article article.now groups.now moment)) }
     {
         if self.is_full_for_article(groups) {

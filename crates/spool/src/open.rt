@@ -16,7 +16,7 @@ use volume::Volume;
 
 impl Spool {
     /// Opens the spool of a host in the blocks of a volume of this format, whatever they contain. `Damaged` exactly if
-    /// they hold no spool of the host (docs/FORMATS.md), `Memory` if a growth was refused. No block changes.
+    /// they hold no spool of the host (docs/FORMATS.md), `Memory` if an allocation was refused. No block changes.
     pub fn open(
         alloc: Global,
         host: Text,

@@ -1,4 +1,4 @@
--- One change more, in all that a spool keeps.
+-- One more change, in all that a spool keeps.
 use Rattle.std.specs.Prelude.{◌≡◌, ◌⊎◌, ◌↔◌, ℕ, ◌+◌, ◌≤◌, false, List, [], ◌∷◌, ◌++◌, length, map, Some}
 use Rattle.std.specs.List.{Contains}
 use Rattle.model.specs.Files.{files_in, free_blocks, table}
@@ -61,7 +61,7 @@ pub record IsReady (inodes : ℕ) (volume : VolumeView) (index : IndexView) (pla
   pub may : MayFollow host changes c
   pub room : is_full (length volume.cache) inodes changes (Some c) ≡ false
 
--- if they held some changes, they now hold this change after them
+-- if the blocks held changes that this one may follow, they now hold those and then this one
 pub record IsGrown (inodes : ℕ) (v w : VolumeView) (i j : IndexView) (p q : FilePlaces) (c : Change) : Type 0 where
   pub kept : (host : Octets) (S : Spool) → IsKept host inodes v i p S → MayFollow host S c → IsKept host inodes w j q (S ++ c ∷ [])
   pub dirties : Dirties v.cache w.cache v.dirty w.dirty

@@ -21,7 +21,7 @@ use records::{expiry_record, group_record};
 use std::alloc::{AllocError, Global};
 use volume::{Blocks, Volume};
 
-/// The same, after a search for the lowest free block.
+/// What is free, after a search for the lowest free block.
 fn seek_block(volume: &Volume, inodes: u32, free: Free) -> Free
     requires room { HasRoom inodes volume.now.seen }
     requires known { IsKnown inodes free volume.now.seen }
@@ -50,7 +50,8 @@ pub fn grow_by_group(
 ) -> Result<Free, AllocError>
     requires ready { IsReady inodes volume.old index.old places.old (Change.Group name.now status description.now moment) }
     requires known { IsKnown inodes free volume.old.cache }
-    ensures grown { OnOk result (IsGrown inodes volume.old volume.new index.old index.new places.old places.new (Change.Group name.now status description.now moment)) }
+    ensures grown { OnOk result (IsGrown inodes volume.old volume.new index.old index.new places.old places.new
+        (Change.Group name.now status description.now moment)) }
     ensures known { IfOk result (λ next. IsKnown inodes next volume.new.cache) }
     ensures volume { OnErr result (volume.new ≡ volume.old) }
     ensures index { OnErr result (index.new ≡ index.old) }
@@ -90,7 +91,8 @@ pub fn grow_by_expiry(
 ) -> Result<Free, AllocError>
     requires ready { IsReady inodes volume.old index.old places.old (Change.Expire name.now number) }
     requires known { IsKnown inodes free volume.old.cache }
-    ensures grown { OnOk result (IsGrown inodes volume.old volume.new index.old index.new places.old places.new (Change.Expire name.now number)) }
+    ensures grown { OnOk result (IsGrown inodes volume.old volume.new index.old index.new places.old places.new
+        (Change.Expire name.now number)) }
     ensures known { IfOk result (λ next. IsKnown inodes next volume.new.cache) }
     ensures volume { OnErr result (volume.new ≡ volume.old) }
     ensures index { OnErr result (index.new ≡ index.old) }
@@ -131,7 +133,8 @@ pub fn grow_by_article(
 ) -> Result<Free, AllocError>
     requires ready { IsReady inodes volume.old index.old places.old (Change.Article article.now groups.now moment) }
     requires known { IsKnown inodes free volume.old.cache }
-    ensures grown { OnOk result (IsGrown inodes volume.old volume.new index.old index.new places.old places.new (Change.Article article.now groups.now moment)) }
+    ensures grown { OnOk result (IsGrown inodes volume.old volume.new index.old index.new places.old places.new
+        (Change.Article article.now groups.now moment)) }
     ensures known { IfOk result (λ next. IsKnown inodes next volume.new.cache) }
     ensures volume { OnErr result (volume.new ≡ volume.old) }
     ensures index { OnErr result (index.new ≡ index.old) }

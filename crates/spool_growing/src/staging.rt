@@ -104,7 +104,8 @@ pub(crate) fn file_article<B: Blocks>(
     requires known { IsKnown inodes free.old (B.blocks blocks.old) }
     ensures filed { IfOk result (λ at. FilesArticle inodes at (article_name serial) octets.now pieces.now (B.blocks blocks.old)
         (B.blocks blocks.new)) }
-    ensures touches { OnOk result (Touches (2 + touched_by_growth 0 (length octets.now) + touched_by_pieces (table inodes (B.blocks blocks.old)) pieces.now)
+    ensures touches { OnOk result (Touches
+        (2 + touched_by_growth 0 (length octets.now) + touched_by_pieces (table inodes (B.blocks blocks.old)) pieces.now)
         (B.blocks blocks.old) (B.blocks blocks.new)) }
     ensures known { OnOk result (IsKnown inodes free.new (B.blocks blocks.new)) }
     ensures kept { B.applied blocks.new ≡ B.applied blocks.old }

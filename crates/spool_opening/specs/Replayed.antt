@@ -17,7 +17,7 @@ pub record IsReplayed (host : Octets) (inodes : ℕ) (blocks : List Octets) (ind
   pub indexed : Indexes R index
   pub placed : AreNamed (table inodes blocks) R places
 
--- of some blocks
+-- changes of some blocks were replayed
 pub record AreReplayed (index : IndexView) (places : FilePlaces) : Type 0 where
   pub host : Octets
   pub inodes : ℕ
@@ -25,13 +25,13 @@ pub record AreReplayed (index : IndexView) (places : FilePlaces) : Type 0 where
   pub changes : Spool
   pub replayed : IsReplayed host inodes blocks index places changes
 
--- of these blocks, with room for one more serial
+-- changes of these blocks were replayed, and there is room for one more serial
 pub record CanReplay (host : Octets) (inodes : ℕ) (blocks : List Octets) (index : IndexView) (places : FilePlaces) : Type 0 where
   pub changes : Spool
   pub replayed : IsReplayed host inodes blocks index places changes
   pub few : length changes < 32768
 
--- this many changes
+-- this many changes of these blocks were replayed
 pub record AreReplayedTo (host : Octets) (inodes : ℕ) (blocks : List Octets) (index : IndexView) (places : FilePlaces)
     (count : ℕ) : Type 0 where
   pub changes : Spool

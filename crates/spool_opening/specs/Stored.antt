@@ -24,7 +24,7 @@ abbrev pub file_for : Which → Spool → Octets → Octets
 file_for Numbers S g = numbers_file S g
 file_for Overview S g = overview_file S g
 
--- what an article adds to it
+-- what an article adds to this file
 abbrev pub piece_for : Which → Spool → Octets → Octets → Octets
 piece_for Numbers S text g = next_record S text g
 piece_for Overview S text g = next_line S text g

@@ -27,7 +27,8 @@ pub fn replay_all<B: Blocks>(
 ) -> Result<Replay, OpenError>
     requires room { HasRoom inodes (B.blocks blocks.now) }
     requires rule { IsFileSystem inodes (B.blocks blocks.now) }
-    requires sorted { AreSorted (table inodes (B.blocks blocks.now)) (length (table inodes (B.blocks blocks.now))) files.now.slots.items files.now.named }
+    requires sorted { AreSorted (table inodes (B.blocks blocks.now)) (length (table inodes (B.blocks blocks.now)))
+        files.now.slots.items files.now.named }
     requires first { AreFirst count files.now.slots.items }
     ensures ok { IfOk result (λ replay. AreReplayedTo host.now inodes (B.blocks blocks.now) replay.index replay.places count) }
     ensures damaged { IfErr result (λ e. e ≡ OpenError.Damaged → (S : Spool) → Holds host.now inodes (B.blocks blocks.now) S → ⊥) }

@@ -1,6 +1,6 @@
-//! Opens a spool in the files of a volume (docs/FORMATS.md). In rising serial each change is read from its file and
-//! checked against the changes before it, and the numbers and overviews of its groups must continue with it. At the end
-//! no other file may exist. Each part says exactly when the blocks can hold no spool.
+//! Opens a spool in the files of a volume (docs/FORMATS.md). In the order of serials, each change is read from its file
+//! and checked against the changes before it, and the numbers and overviews of its groups must continue with it. At the
+//! end no other file may exist. Each part says exactly when the blocks can hold no spool.
 #![tactic(auto)]
 
 mod all;

@@ -24,7 +24,7 @@ use spool_reading::{Files, read_file};
 use std::alloc::{AllocError, Global};
 use volume::Blocks;
 
-/// The number of octets for an article in the numbers of a group.
+/// The number of octets that an article takes in the numbers of a group.
 pub(crate) const NUMBER_SIZE: u64 = 16;
 
 /// Whether a file of this name has these octets at a place. Refused only for want of memory.
@@ -39,7 +39,8 @@ fn stands<B: Blocks>(
 ) -> Result<bool, AllocError>
     requires room { HasRoom inodes (B.blocks blocks.now) }
     requires rule { IsFileSystem inodes (B.blocks blocks.now) }
-    requires sorted { AreSorted (table inodes (B.blocks blocks.now)) (length (table inodes (B.blocks blocks.now))) files.now.slots.items files.now.named }
+    requires sorted { AreSorted (table inodes (B.blocks blocks.now)) (length (table inodes (B.blocks blocks.now)))
+        files.now.slots.items files.now.named }
     requires index { (content : List ℕ) → is_of_change (record { name = name.now; content = content }) ≡ false }
     ensures stands { IfOk result (λ stands. IsTrue stands ↔ HasPiece (table inodes (B.blocks blocks.now)) name.now after piece.now) }
     ensures short { IfOk result (λ stands. IsTrue stands → length piece.now ≤ 268435456) }
@@ -64,7 +65,8 @@ pub fn goes_on<B: Blocks>(
 ) -> Result<Option<u64>, AllocError>
     requires room { HasRoom inodes (B.blocks blocks.now) }
     requires rule { IsFileSystem inodes (B.blocks blocks.now) }
-    requires sorted { AreSorted (table inodes (B.blocks blocks.now)) (length (table inodes (B.blocks blocks.now))) files.now.slots.items files.now.named }
+    requires sorted { AreSorted (table inodes (B.blocks blocks.now)) (length (table inodes (B.blocks blocks.now)))
+        files.now.slots.items files.now.named }
     requires few { length (shown group.now).filed ≤ 32768 }
     requires short { end_of (shown group.now) < 2 ^ 32 }
     ensures { IfOk result (λ size. MatchOption size
@@ -95,8 +97,8 @@ pub fn goes_on<B: Blocks>(
     Ok(Some(line.len() as u64))
 }
 
-/// The numbers of octets of an article's lines in the overviews of these groups; `None` if the numbers or the overview
-/// of one do not continue with the article. Refused only for want of memory.
+/// The sizes in octets of an article's lines in the overviews of these groups; `None` if the numbers or the overview of
+/// one of them do not continue with the article. Refused only for want of memory.
 pub fn line_sizes<B: Blocks>(
     alloc: Global,
     blocks: &B,
@@ -109,7 +111,8 @@ pub fn line_sizes<B: Blocks>(
 ) -> Result<Option<Vec<u64>>, AllocError>
     requires room { HasRoom inodes (B.blocks blocks.now) }
     requires rule { IsFileSystem inodes (B.blocks blocks.now) }
-    requires sorted { AreSorted (table inodes (B.blocks blocks.now)) (length (table inodes (B.blocks blocks.now))) files.now.slots.items files.now.named }
+    requires sorted { AreSorted (table inodes (B.blocks blocks.now)) (length (table inodes (B.blocks blocks.now)))
+        files.now.slots.items files.now.named }
     requires bounded { IsBounded index.now }
     ensures lines { IfOk result (λ sizes. (S : Spool) → Indexes S index.now → serial ≡ length S + 1 → AreHere S here.now → MatchOption sizes
         (AllGoOn (table inodes (B.blocks blocks.now)) S article.now here.now → ⊥)

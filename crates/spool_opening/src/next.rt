@@ -33,7 +33,8 @@ fn replay_named(
         → AreSorted (table inodes blocks) (length (table inodes blocks)) files.now.slots.items files.now.named
         → IsReplayed host inodes blocks replay.old.index replay.old.places R
         → IsItsFile inodes blocks at (length R + 1) (Change.Group name.now status description.now moment)
-        → IsReplayed host inodes blocks replay.new.index replay.new.places (R ++ Change.Group name.now status description.now moment ∷ [])) }
+        → IsReplayed host inodes blocks replay.new.index replay.new.places
+        (R ++ Change.Group name.now status description.now moment ∷ [])) }
     ensures damaged { IfErr result (λ e. e ≡ OpenError.Damaged → (host : List ℕ) (inodes : ℕ) (blocks : List (List ℕ)) (R S : Spool)
         → AreSorted (table inodes blocks) (length (table inodes blocks)) files.now.slots.items files.now.named
         → IsReplayed host inodes blocks replay.old.index replay.old.places R → Holds host inodes blocks S
@@ -64,7 +65,8 @@ fn replay_said<B: Blocks>(
 ) -> Result<(), OpenError>
     requires room { HasRoom inodes (B.blocks blocks.now) }
     requires rule { IsFileSystem inodes (B.blocks blocks.now) }
-    requires sorted { AreSorted (table inodes (B.blocks blocks.now)) (length (table inodes (B.blocks blocks.now))) files.now.slots.items files.now.named }
+    requires sorted { AreSorted (table inodes (B.blocks blocks.now)) (length (table inodes (B.blocks blocks.now)))
+        files.now.slots.items files.now.named }
     requires replayed { CanReplay host.now inodes (B.blocks blocks.now) replay.old.index replay.old.places }
     ensures ok { OnOk result ((R : Spool) → IsReplayed host.now inodes (B.blocks blocks.now) replay.old.index replay.old.places R
         → IsItsFile inodes (B.blocks blocks.now) at (length R + 1) (change_of said.entry)
@@ -113,7 +115,8 @@ pub fn replay_next<B: Blocks>(
 ) -> Result<(), OpenError>
     requires room { HasRoom inodes (B.blocks blocks.now) }
     requires rule { IsFileSystem inodes (B.blocks blocks.now) }
-    requires sorted { AreSorted (table inodes (B.blocks blocks.now)) (length (table inodes (B.blocks blocks.now))) files.now.slots.items files.now.named }
+    requires sorted { AreSorted (table inodes (B.blocks blocks.now)) (length (table inodes (B.blocks blocks.now)))
+        files.now.slots.items files.now.named }
     requires below { done < length files.now.slots.items }
     requires taken { slice_index files.now.slots.items done ≢ free }
     requires replayed { AreReplayedTo host.now inodes (B.blocks blocks.now) replay.old.index replay.old.places done }

@@ -18,8 +18,8 @@ use volume::Blocks;
 
 /// Opens the spool of a host in the blocks of a volume of this format, whatever they contain: its index, and the places
 /// of its files. `Damaged` exactly if the blocks hold no spool of the host, because the rule of blocks or the rule of
-/// files is broken, or because a file is larger than the format allows (docs/FORMATS.md); `Memory` if a growth was
-/// refused. Each file is read once, and the work is n log n in what is stored.
+/// files is broken, or because a file is larger than the format allows (docs/FORMATS.md); `Memory` if an allocation
+/// was refused. Each file is read once, and the work is n log n in what is stored.
 pub fn open<B: Blocks>(
     alloc: Global,
     blocks: &B,

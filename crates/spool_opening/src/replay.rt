@@ -67,7 +67,8 @@ pub fn replay_group(
         → IsItsFile inodes blocks at (length R + 1) (Change.Group name.now status description.now moment)
         → ((content : List ℕ) × IsFileAt (table inodes blocks) numbers (numbers_name name.now) content)
         → ((content : List ℕ) × IsFileAt (table inodes blocks) overview (overview_name name.now) content)
-        → IsReplayed host inodes blocks replay.new.index replay.new.places (R ++ Change.Group name.now status description.now moment ∷ [])) }
+        → IsReplayed host inodes blocks replay.new.index replay.new.places
+        (R ++ Change.Group name.now status description.now moment ∷ [])) }
     ensures damaged { IfErr result (λ e. e ≡ OpenError.Damaged → (S : Spool) → Indexes S replay.old.index
         → MayMake S name.now status description.now moment → ⊥) }
 {
@@ -95,7 +96,8 @@ pub fn replay_article<B: Blocks>(
 ) -> Result<(), OpenError>
     requires room { HasRoom inodes (B.blocks blocks.now) }
     requires rule { IsFileSystem inodes (B.blocks blocks.now) }
-    requires sorted { AreSorted (table inodes (B.blocks blocks.now)) (length (table inodes (B.blocks blocks.now))) files.now.slots.items files.now.named }
+    requires sorted { AreSorted (table inodes (B.blocks blocks.now)) (length (table inodes (B.blocks blocks.now)))
+        files.now.slots.items files.now.named }
     requires replayed { CanReplay host.now inodes (B.blocks blocks.now) replay.old.index replay.old.places }
     ensures ok { OnOk result ((R : Spool) → IsReplayed host.now inodes (B.blocks blocks.now) replay.old.index replay.old.places R
         → IsItsFile inodes (B.blocks blocks.now) at (length R + 1) (Change.Article text.now (map (λ g. g.now) groups.now) moment)

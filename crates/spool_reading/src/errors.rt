@@ -9,7 +9,7 @@ use thiserror::Error;
 /// Why no spool was opened. Nothing has changed.
 #[derive(Clone, Copy, Debug, PartialEq, Eq, Error)]
 pub enum OpenError {
-    /// A growth was refused.
+    /// An allocation was refused.
     #[error("E2 Memory")]
     Memory,
     /// The blocks hold no spool of this host.

@@ -10,7 +10,7 @@ use fs_layout::slots::name_of;
 use std::alloc::{AllocError, Global};
 use volume::Blocks;
 
-/// The name of the file of an inode, if it has one.
+/// The name of the file of an inode, if it has one. Refused only for want of memory.
 pub fn file_name_at<B: Blocks>(
     alloc: Global,
     blocks: &B,
@@ -32,7 +32,7 @@ pub fn file_name_at<B: Blocks>(
     Ok(Some(name))
 }
 
-/// The octets of the file of an inode from a place on, at most this many.
+/// At most `count` octets of the file of an inode that has one, from a place on. Refused only for want of memory.
 pub fn read_file<B: Blocks>(
     alloc: Global,
     blocks: &B,
@@ -51,7 +51,7 @@ pub fn read_file<B: Blocks>(
     Ok(octets)
 }
 
-/// A file.
+/// The name and the content of a file.
 #[derive(Drop)]
 pub struct NamedFile {
     pub name: Vec<u8>,
@@ -80,7 +80,7 @@ pub fn file_at<B: Blocks>(
     Ok(NamedFile { name, content })
 }
 
-/// The number of octets in the file of an inode, if it has one.
+/// The number of octets in the file of an inode. If the inode has no file, the number means nothing.
 pub fn file_size_at<B: Blocks>(blocks: &B, inodes: u32, at: u32) -> u64
     requires room { HasRoom inodes (B.blocks blocks.now) }
     requires rule { IsFileSystem inodes (B.blocks blocks.now) }

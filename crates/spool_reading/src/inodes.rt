@@ -23,6 +23,7 @@ impl Model for Inodes {
 }
 
 impl Inodes {
+    /// No inode under any name.
     pub fn new(alloc: Global) -> Inodes
         ensures { result ≡ [] }
     {
@@ -32,13 +33,14 @@ impl Inodes {
         }
     }
 
+    /// The inode under this name, if there is one.
     pub fn get(&self, name: &[u8]) -> Option<u32>
         ensures { result ≡ value_of self.now name.now }
     {
         self.numbers.get(name).copied()
     }
 
-    /// Gives a name its inode.
+    /// Puts an inode under a name, in place of any that was there. Refused only for want of memory.
     pub fn insert(&mut self, name: &[u8], at: u32) -> Result<(), AllocError>
         ensures { OnOk result ((q : List ℕ) → value_of self.new q ≡ (if bytes_eq q name.now then Some at else value_of self.old q)) }
     {

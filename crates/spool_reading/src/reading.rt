@@ -72,7 +72,7 @@ fn group_said<'a>(group: &'a [u8], content: &'a [u8], serial: u64) -> Option<Sai
     })
 }
 
-/// The contents of the file of an article with these digits.
+/// The contents of the file of an article whose name has these digits.
 fn article_said<'a>(
     alloc: Global,
     digits: &'a [u8],
@@ -100,7 +100,7 @@ fn article_said<'a>(
     }))
 }
 
-/// The contents of the file of an expiry with these digits.
+/// The contents of the file of an expiry whose name has these digits.
 fn expiry_said<'a>(digits: &'a [u8], content: &'a [u8], serial: u64) -> Option<Said<'a>>
     ensures { MatchOption result
         ((c : Change) → IsFileOf serial c (codes "x." ++ digits.now) content.now → ⊥)

@@ -14,9 +14,9 @@ use volume::Blocks;
 pub(crate) const END_SIZE: u64 = 3;
 
 /// Appends the octets of the file of an inode from a place up to its size, at most `count`, dot-stuffed and with the
-/// line that ends them (RFC 3977, section 3.1.1). Each octet is copied once, to a reply that grows once for all of them,
-/// and again only for added dots. Refused only for want of memory; then the reply may hold any octets, and the caller
-/// discards it.
+/// line that ends them (RFC 3977, section 3.1.1). Each octet is copied once, to a reply that grows once for all of
+/// them, and again only for added dots. Refused only for want of memory; then the reply may hold any octets, and the
+/// caller discards it.
 pub fn push_stuffed<B: Blocks>(
     blocks: &B,
     inodes: u32,
