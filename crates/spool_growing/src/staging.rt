@@ -36,11 +36,11 @@ pub(crate) fn make_group<B: Blocks>(
     requires room { HasRoom inodes (B.blocks blocks.old) }
     requires rule { IsFileSystem inodes (B.blocks blocks.old) }
     requires name { length name.now ≤ 40 }
-    requires short { length record.now ≤ 262821 }
+    requires short { length «record».now ≤ 262821 }
     requires lacks { LacksGroup inodes (B.blocks blocks.old) name.now }
     requires free { HasFree inodes 3 (B.blocks blocks.old) }
     requires known { IsKnown inodes free.old (B.blocks blocks.old) }
-    ensures made { IfOk result (λ p. MakesGroup inodes p.at p.numbers p.overview name.now record.now (B.blocks blocks.old)
+    ensures made { IfOk result (λ p. MakesGroup inodes p.at p.numbers p.overview name.now «record».now (B.blocks blocks.old)
         (B.blocks blocks.new)) }
     ensures touches { OnOk result (Touches 254 (B.blocks blocks.old) (B.blocks blocks.new)) }
     ensures known { OnOk result (IsKnown inodes free.new (B.blocks blocks.new)) }
@@ -70,11 +70,11 @@ pub(crate) fn make_expiry<B: Blocks>(
 ) -> Result<u32, AllocError>
     requires room { HasRoom inodes (B.blocks blocks.old) }
     requires rule { IsFileSystem inodes (B.blocks blocks.old) }
-    requires short { length record.now ≤ 262821 }
+    requires short { length «record».now ≤ 262821 }
     requires lacks { ¬ (IsThere (table inodes (B.blocks blocks.old)) (expiry_name serial)) }
     requires free { HasFree inodes 1 (B.blocks blocks.old) }
     requires known { IsKnown inodes free.old (B.blocks blocks.old) }
-    ensures made { IfOk result (λ at. MakesAt inodes at (expiry_name serial) record.now (B.blocks blocks.old) (B.blocks blocks.new)) }
+    ensures made { IfOk result (λ at. MakesAt inodes at (expiry_name serial) «record».now (B.blocks blocks.old) (B.blocks blocks.new)) }
     ensures touches { OnOk result (Touches 254 (B.blocks blocks.old) (B.blocks blocks.new)) }
     ensures known { OnOk result (IsKnown inodes free.new (B.blocks blocks.new)) }
     ensures kept { B.applied blocks.new ≡ B.applied blocks.old }
