@@ -11,11 +11,11 @@ use Rattle.model.specs.Room.{blocks_taken}
 use Rattle.model.specs.SpoolFiles.{FileCall, Create, Append, after_call, after_calls}
 use Rattle.model.proofs.Asking.{files_grow_by_blocks}
 use Rattle.model.proofs.Inodes.{appends_to_one, creates_one}
+use Rattle.model.proofs.Owning.{content_size}
 use Rattle.fs.specs.Calls.{Creates, HasNoFreeInode, IsFileAt}
 use Rattle.fs.specs.Changes.{SameMarks}
 use Rattle.fs.specs.Growing.{GrowsBy, HasRoomFor}
 use Rattle.fs_inodes.proofs.Grown.{file_after, one_content, one_name}
-use Rattle.fs_layout.proofs.Entries.{length-content}
 use Rattle.fs_layout.proofs.Marking.{same_free}
 use Rattle.fs_layout.specs.Marks.{NoneFreeBelow}
 use Rattle.fs_layout.proofs.Tables.{length-table, named_from_there}
@@ -146,7 +146,7 @@ module _ (inodes at : ℕ) (blocks : List Octets) (room : HasRoom inodes blocks)
   pub its_size : size (entry inodes blocks at) ≡ length content
   its_size =
       let its = named_from_there inodes blocks rule at name content there in
-      sym (length-content blocks (entry inodes blocks at) room.blocks_whole (λ b owns. (rule.within at b its.below owns).1))
+      sym (content_size blocks (entry inodes blocks at) room.blocks_whole (λ b owns. (rule.within at b its.below owns).1))
       ∙ ap (λ (o : Octets). length o) (sym its.content_is)
 
   pub has_room : (more : ℕ) → length content + more ≤ 268435456 → blocks_for_more more ≤ free_blocks blocks

@@ -6,11 +6,11 @@ use Rattle.disk.specs.Image.{overwritten}
 use Rattle.disk.proofs.Images.{length-overwritten}
 use Rattle.model.specs.Stream.{Octets}
 use Rattle.model.specs.Files.{File, HasRoom, IsFile, IsFileSystem, entry, size, content_of, table, free_blocks}
+use Rattle.model.proofs.Owning.{content_size}
 use Rattle.fs_layout.specs.Table.{IsFileAt}
 use Rattle.fs_inodes.specs.Growing.{blocks_for}
 use Rattle.fs_inodes.specs.Changes.{ReplacesContent, SameMarks, TakesNone}
 use Rattle.fs_inodes.specs.Growing.{TakesLowest, GrowsBy, HasRoomFor}
-use Rattle.fs_layout.proofs.Entries.{length-content}
 use Rattle.fs_layout.proofs.Marking.{same_free}
 use Rattle.fs_inodes.proofs.Replacing.{replaces_same, replaces_then, there_now, named_now, size_now}
 use Rattle.fs_inodes.proofs.Spans.{overwritten_past}
@@ -52,7 +52,7 @@ module _ (inodes at place : ℕ) (octets name : Octets) (old mid : List Octets) 
   content = content_of old (entry inodes old at)
 
   long : length content ≡ size (entry inodes old at)
-  long = length-content old (entry inodes old at) room.blocks_whole (λ b owns. (fs.within at b low owns).1)
+  long = content_size old (entry inodes old at) room.blocks_whole (λ b owns. (fs.within at b low owns).1)
 
   front : length (take within octets) ≡ within
   front = length-take-le within octets (omega arith)

@@ -11,10 +11,11 @@ use Rattle.model.specs.Volume.{number_at}
 use Rattle.model.specs.Files.{Entry, HasRoom, IsFile, IsFree, size, block_count, entry_of, indirect_count, indirect_for, indirect_number}
 use Rattle.model.specs.Files.{indirect_pointer, pointer, owned, name_in, slot_octets, content_of, entry, inode_of, slot_of, indirect_of}
 use Rattle.model.specs.Files.{IsFileSystem, file_at}
+use Rattle.model.proofs.Owning.{zero_number, free_owns}
 use Rattle.fs_layout.specs.Blocks.{PutsRecord, IsFound}
 use Rattle.fs_layout.specs.Table.{IsName}
 use Rattle.fs.specs.Calls.{Creates, HasNoFreeInode}
-use Rattle.fs_layout.proofs.Entries.{zero_number, free_owns, name_in-slot_octets}
+use Rattle.fs_layout.proofs.Entries.{name_in-slot_octets}
 use Rattle.fs_layout.proofs.Tables.{get_or-table, file_at_free, file_at_file, table_set, no_slot}
 use Rattle.fs_layout.proofs.Keeps.{PutsEntry, puts_inode, puts_slot, inode_keeps_marks, slot_keeps_marks, entry_other, file_other}
 use Rattle.fs_layout.proofs.Keeps.{keeps_rule, keeps_room}

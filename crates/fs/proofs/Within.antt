@@ -4,8 +4,8 @@ use Rattle.std.proofs.lemmas.Bool.{cases_eq}
 use Rattle.std.proofs.lemmas.List.{get_or-set_other, get_or-set_same}
 use Rattle.model.specs.Stream.{Octets}
 use Rattle.model.specs.Files.{AreWithin, File, IsFile, IsFileSystem, HasRoom, content_of, entry, name_in, size, slot_of, table}
+use Rattle.model.proofs.Owning.{content_size, zero_number}
 use Rattle.fs_layout.specs.Table.{IsFileAt, Makes}
-use Rattle.fs_layout.proofs.Entries.{length-content, zero_number}
 use Rattle.fs_layout.proofs.Tables.{file_at_file, get_or-table, length-table, named_from_there}
 use Rattle.fs_inodes.proofs.Grown.{one_content}
 
@@ -13,7 +13,7 @@ module _ (most inodes k : ℕ) (name content : Octets) (old new : List Octets) (
     (low : k < inodes) (makes : Makes inodes (set (table inodes old) k (Some (record { name = name; content = content }))) new)
     (few : length content ≤ most) where
   long : (l : ℕ) → l < inodes → length (content_of new (entry inodes new l)) ≡ size (entry inodes new l)
-  long l below = length-content new (entry inodes new l) makes.room.blocks_whole (λ b owns. (makes.rule.within l b below owns).1)
+  long l below = content_size new (entry inodes new l) makes.room.blocks_whole (λ b owns. (makes.rule.within l b below owns).1)
 
   there : (l : ℕ) → l < inodes → IsFile (entry inodes new l)
       → IsFileAt (set (table inodes old) k (Some (record { name = name; content = content }))) l (name_in (slot_of inodes new l))
@@ -40,7 +40,7 @@ module _ (most inodes k : ℕ) (name content : Octets) (old new : List Octets) (
           sym (get_or-set_other (table inodes old) k l (Some (record { name = name; content = content })) None other)
           ∙ there l below file in
           let named = named_from_there inodes old fs l (name_in (slot_of inodes new l)) (content_of new (entry inodes new l)) was in
-          let old_long = length-content old (entry inodes old l) room.blocks_whole (λ b owns. (fs.within l b below owns).1) in
+          let old_long = content_size old (entry inodes old l) room.blocks_whole (λ b owns. (fs.within l b below owns).1) in
           let same = ap (λ (o : Octets). length o) named.content_is in
           omega (arith, same, old_long, long l below, all l below)
     ]

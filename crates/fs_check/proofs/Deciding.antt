@@ -3,8 +3,8 @@ use Rattle.std.proofs.Common.{◌≡◌, ◌≢◌, ◌⊎◌, ◌↔◌, inl, i
 use Rattle.std.proofs.Common.{sym, ◌∙◌, ap, arith}
 use Rattle.std.proofs.lemmas.Bool.{cases_eq, cases_lt, eq-eqb, ne_eqb}
 use Rattle.model.specs.Files.{Entry, IsFile, IsFree, double_pointer, indirect_count, indirect_pointer, kind, size}
+use Rattle.model.proofs.Owning.{zero_number, free_kind}
 use Rattle.fs_check.specs.Checking.{CanRead, HasNumber, IsSlot, HasPointers, IsEntry, most_octets}
-use Rattle.fs_layout.proofs.Entries.{free_kind, zero_number}
 
 module _ (first count : ℕ) (e : Entry) where
   pub entry_from_file : (most : ℕ) → most ≤ 268435456 → first ≢ 0 → kind e ≡ 1 → IsSlot e.slot → HasPointers most first count e

@@ -1,5 +1,5 @@
 -- Blocks that are marked one after the other.
-use Rattle.std.proofs.Common.{◌≡◌, ◌⊎◌, inl, inr, ◌<◌, ℕ, zero, suc, ◌+◌, IsTrue, true, false, List, [], ◌∷◌, ◌++◌, length, get_or, map}
+use Rattle.std.proofs.Common.{◌≡◌, ◌⊎◌, inl, inr, ◌<◌, ℕ, ◌+◌, IsTrue, true, false, List, [], ◌∷◌, ◌++◌, length, get_or, map}
 use Rattle.std.proofs.Common.{refl, sym, ◌∙◌, ap, subst, arith}
 use Rattle.std.specs.List.{Contains, range_with_len}
 use Rattle.std.proofs.lemmas.List.{get_or_default}
@@ -11,11 +11,8 @@ use Rattle.model.specs.Volume.{AreDistinct}
 use Rattle.volume.proofs.Index.{distinct_push}
 use Rattle.fs_layout.specs.Bits.{bit_of, SetsBit}
 use Rattle.fs_layout.proofs.Distinct.{distinct_apart, distinct_append, distinct_left, distinct_right}
+use Rattle.fs_layout.proofs.Touching.{one_number}
 use Rattle.fs_check.specs.Checking.{CanMark, Marks}
-
-one_is : (x b : ℕ) → Contains (x ∷ []) b → b ≡ x
-one_is x b (zero, low, is) = sym is
-one_is x b (suc i, low, is) = absurd (omega arith)
 
 contains_one : (x : ℕ) → Contains (x ∷ []) x
 contains_one x = (0, omega arith, refl)
@@ -63,11 +60,11 @@ module _ (count : ℕ) (numbers : List ℕ) (x : ℕ) (old mid new : Octets) (ma
       distinct = distinct_push numbers x marks.can.distinct not_before;
       within = λ b has. elim (Contains-append_cases numbers (x ∷ []) b has) [
         | inl earlier ↦ marks.can.within b earlier
-        | inr last ↦ subst (λ (n : ℕ). n < count) (sym (one_is x b last)) exists
+        | inr last ↦ subst (λ (n : ℕ). n < count) (sym (one_number x b last)) exists
       ];
       clear = λ b has. elim (Contains-append_cases numbers (x ∷ []) b has) [
         | inl earlier ↦ marks.can.clear b earlier
-        | inr last ↦ ap (λ (n : ℕ). bit_of old n) (one_is x b last) ∙ was_clear
+        | inr last ↦ ap (λ (n : ℕ). bit_of old n) (one_number x b last) ∙ was_clear
       ];
     };
     marked = λ b. (
@@ -76,7 +73,7 @@ module _ (count : ℕ) (numbers : List ℕ) (x : ℕ) (old mid new : Octets) (ma
         | inl was ↦ before b (inl was)
         | inr has ↦ elim (Contains-append_cases numbers (x ∷ []) b has) [
           | inl earlier ↦ before b (inr earlier)
-          | inr last ↦ ap (λ (n : ℕ). bit_of new n) (one_is x b last) ∙ sets.here
+          | inr last ↦ ap (λ (n : ℕ). bit_of new n) (one_number x b last) ∙ sets.here
         ]
       ]),
     );

@@ -6,9 +6,9 @@ use Rattle.std.proofs.lemmas.Bool.{cases_lt, false≢true, false_from_ne_true, n
 use Rattle.model.specs.Stream.{Octets}
 use Rattle.model.specs.Volume.{number_at, AreDistinct}
 use Rattle.model.specs.Files.{Entry, size, double_pointer, indirect_count, indirect_pointer, owned, entry, first_data}
+use Rattle.model.proofs.Owning.{zero_number}
 use Rattle.fs_layout.specs.Bits.{bit_of, SetsBit}
 use Rattle.fs_check.specs.Checking.{IsEntry, CanMark, HasNumber, Marks, HasOwners, IsUsedBelow, MarksUsed}
-use Rattle.fs_layout.proofs.Entries.{zero_number}
 
 pub entry_small : (first count : ℕ) (e : Entry) → IsEntry first count e → size e ≤ 268435456
 entry_small first count e (inl free) = omega (arith, zero_number 4 8 e.inode free.inode_zeros)

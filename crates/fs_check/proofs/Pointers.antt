@@ -3,11 +3,12 @@ use Rattle.std.proofs.Common.{◌≡◌, ◌≢◌, ◌⊎◌, inl, inr, ◌<◌
 use Rattle.std.proofs.Common.{get_or, drop, refl, sym, ◌∙◌, ap, arith}
 use Rattle.std.specs.List.{All}
 use Rattle.std.proofs.lemmas.List.{get_or-drop, get_or_past}
-use Rattle.std.proofs.lemmas.Bool.{eq-eqb, le-ltb, ne_eqb}
+use Rattle.std.proofs.lemmas.Bool.{le-ltb, ne_eqb}
 use Rattle.byteorder.specs.Endian.{little_from}
 use Rattle.model.specs.Stream.{Octets}
 use Rattle.model.specs.Volume.{number_at}
 use Rattle.model.specs.Files.{Entry, entry_of, indirect_of, indirect_pointer, pointer}
+use Rattle.fs_layout.proofs.Keeps.{no_block}
 use Rattle.fs_check.specs.Checking.{HasNumber, HasTables}
 
 -- a number after the octets is 0
@@ -21,9 +22,6 @@ past_number at n octets past = from 0 n
         let first : get_or (drop at octets) i 0 ≡ 0 = get_or-drop at octets i 0 ∙ get_or_past octets (at + i) 0 (omega (arith, past)) in
         let rest = from (suc i) n in
         omega (arith, first, rest)
-
-no_block : (blocks : List Octets) (n : ℕ) → n ≡ 0 → indirect_of blocks n ≡ []
-no_block blocks n none = ap (λ (t : Bool). cond t [] (get_or blocks n [])) (eq-eqb n 0 none)
 
 module _ (first tables : ℕ) (blocks : List Octets) (inode : Octets) (whole : All (λ b. length b ≡ 4096) blocks) (some : 0 < first) where
   abbrev e : Entry

@@ -1,8 +1,9 @@
 -- Parts of a file's content.
 use Rattle.std.proofs.Common.{◌≡◌, ◌⊎◌, inl, inr, ◌<◌, ◌≤◌, ℕ, ◌+◌, ◌-◌, ◌*◌, ◌/◌, ◌%◌, List, [], ◌++◌, length, get_or, take, drop, sym}
 use Rattle.std.proofs.Common.{◌∙◌, ap, arith, length-drop}
+use Rattle.std.specs.Prelude.{min}
 use Rattle.std.specs.List.{All, Contains, range_with_len, flat_map}
-use Rattle.std.proofs.lemmas.List.{drop-take, take-take, drop-drop, take_all}
+use Rattle.std.proofs.lemmas.List.{drop-take, take-take, drop-drop, length-take, take_all}
 use Rattle.std.proofs.Math.Seq.{take-add}
 use Rattle.std.proofs.lemmas.List.FromFn.{get_or-range_with_len, get_or-map-range_with_len}
 use Rattle.model.specs.Stream.{Octets}
@@ -76,3 +77,13 @@ taken_all octets place count from end ended low which what fits asked = elim wha
   | inl whole ↦ take_all (from - place) (drop place octets) (omega (arith, length-drop place octets))
       ∙ sym (take_all count (drop place octets) (omega (arith, length-drop place octets)))
 ]
+
+-- how many octets a piece has
+pub piece_size : (content octets : List ℕ) (from end few : ℕ) → octets ≡ take (min (end - from) few) (drop from content)
+    → end ≤ length content → from ≤ end → length octets ≡ min (end - from) few
+piece_size content octets from end few is fits order =
+    ap (λ (l : List ℕ). length l) is ∙ length-take (min (end - from) few) (drop from content)
+    ∙ shorter (end - from) few (length (drop from content)) (omega (arith, length-drop from content))
+  where
+    shorter : (a b c : ℕ) → a ≤ c → min (min a b) c ≡ min a b
+    shorter a b c low = omega arith

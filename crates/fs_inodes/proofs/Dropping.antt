@@ -1,5 +1,5 @@
 -- A file that loses its last block.
-use Rattle.std.proofs.Common.{◌≡◌, ◌≢◌, ◌⊎◌, inl, inr, ◌<◌, ◌≤◌, ℕ, zero, suc, ◌+◌, ◌-◌, ◌*◌, ◌/◌, ◌%◌, cond, eqb, ltb, false, true, List}
+use Rattle.std.proofs.Common.{◌≡◌, ◌≢◌, ◌⊎◌, inl, inr, ◌<◌, ◌≤◌, ℕ, ◌+◌, ◌-◌, ◌*◌, ◌/◌, ◌%◌, cond, eqb, ltb, false, true, List}
 use Rattle.std.proofs.Common.{[], ◌∷◌, ◌++◌, length, get_or, map, take, refl, sym, ◌∙◌, ap, subst, arith}
 use Rattle.std.specs.List.{All, Contains, range_with_len}
 use Rattle.std.proofs.lemmas.List.Elements.{Contains-append_cases, Contains-append_left, Contains-append_right}
@@ -22,16 +22,13 @@ use Rattle.fs_inodes.specs.Changes.{ReplacesContent, TakesNone}
 use Rattle.fs_inodes.specs.Growing.{NamesBlocks, inode_entry, tables_to}
 use Rattle.fs_inodes.specs.Shrinking.{DropsPointer, GivesUp}
 use Rattle.fs_layout.proofs.Distinct.{three_cases, three_new, three_split, three_were}
+use Rattle.fs_layout.proofs.Touching.{one_number}
 use Rattle.fs_inodes.proofs.Fields.{content_front, length-inode}
 use Rattle.fs_inodes.proofs.Named.{file_names, owned_marked}
 use Rattle.fs_inodes.proofs.Owned.{double_not_pointer, owned_to, table_not_pointer}
 use Rattle.fs_inodes.proofs.Owners.{Reowns, contained, names_kept, reowned_rule}
 use Rattle.fs_inodes.proofs.Replacing.{replaces}
 use Rattle.fs_inodes.proofs.Tables.{map_same_below}
-
-is_one : (n b : ℕ) → Contains (n ∷ []) b → b ≡ n
-is_one n b (zero, low, is) = sym is
-is_one n b (suc k, low, is) = absurd (omega arith)
 
 module _ (inodes k last number : ℕ) (inode1 : Octets) (old mid later new : List Octets) (room : HasRoom inodes old)
     (fs : IsFileSystem inodes old) (low : k < inodes) (file : IsFile (entry inodes old k))
@@ -286,7 +283,7 @@ module _ (inodes k last number : ℕ) (inode1 : Octets) (old mid later new : Lis
           | inl double ↦ later_free b few (Contains-append_left drop.doubles drop.tables b double)
           | inr rest ↦ elim (Contains-append_cases drop.tables (number ∷ []) b rest) [
             | inl table ↦ later_free b few (Contains-append_right drop.doubles drop.tables b table)
-            | inr one ↦ absurd (other (is_one number b one))
+            | inr one ↦ absurd (other (one_number number b one))
           ]
         ]
       ]

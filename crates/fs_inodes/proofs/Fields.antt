@@ -6,7 +6,7 @@ use Rattle.std.proofs.lemmas.List.FromFn.{length-map-range_with_len, get_or-map-
 use Rattle.disk.proofs.Images.{length-part}
 use Rattle.model.specs.Stream.{Octets}
 use Rattle.model.specs.Files.{Entry, HasRoom, size, block_count, pointer, owned, content_of, inode_of}
-use Rattle.fs_layout.proofs.Entries.{length-content}
+use Rattle.model.proofs.Owning.{content_size}
 use Rattle.fs_inodes.proofs.Places.{get_or-content}
 
 pub length-inode : (inodes k : ℕ) (blocks : List Octets) → HasRoom inodes blocks → k < inodes → length (inode_of blocks k) ≡ 64
@@ -29,7 +29,7 @@ pub content_front : (old new : List Octets) (e f : Entry) → All (λ b. length 
     → size f ≤ size e → ((i : ℕ) → i < block_count f → get_or new (pointer f i) [] ≡ get_or old (pointer e i) [])
     → take (size f) (content_of old e) ≡ content_of new f
 content_front old new e f whole within whole' within' less same =
-    ext_get_or 0 (take (size f) (content_of old e)) (content_of new f) (front ∙ sym (length-content new f whole' within')) (λ j low.
+    ext_get_or 0 (take (size f) (content_of old e)) (content_of new f) (front ∙ sym (content_size new f whole' within')) (λ j low.
     let small : j < size f = omega (arith, front) in
     get_or-take (size f) (content_of old e) j 0 small
     ∙ get_or-content old e whole within j (omega arith)
@@ -37,4 +37,4 @@ content_front old new e f whole within whole' within' less same =
     ∙ sym (get_or-content new f whole' within' j small))
   where
     front : length (take (size f) (content_of old e)) ≡ size f
-    front = length-take-le (size f) (content_of old e) (omega (arith, length-content old e whole within))
+    front = length-take-le (size f) (content_of old e) (omega (arith, content_size old e whole within))

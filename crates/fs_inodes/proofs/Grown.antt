@@ -10,9 +10,9 @@ use Rattle.fs_layout.specs.Table.{IsFileAt}
 use Rattle.fs_inodes.specs.Growing.{blocks_for}
 use Rattle.fs_inodes.specs.Growing.{GrowsBy, HasRoomFor}
 use Rattle.model.specs.Room.{content_blocks}
+use Rattle.model.proofs.Owning.{content_size}
 use Rattle.fs_layout.specs.Touches.{TouchesData, double_of, table_of}
 use Rattle.fs_inodes.proofs.Named.{file_names}
-use Rattle.fs_layout.proofs.Entries.{length-content}
 use Rattle.fs_inodes.proofs.Sizes.{blocks_for_le}
 use Rattle.fs_layout.proofs.Tables.{get_or-table, file_at_file, named_from_there}
 
@@ -95,7 +95,7 @@ module _ (inodes k : ℕ) (a : List Octets) (room : HasRoom inodes a) (fs : IsFi
   was_there = get_or-table inodes a k low ∙ file_at_file inodes a k file
 
   size_is : length (content_of a (entry inodes a k)) ≡ size (entry inodes a k)
-  size_is = length-content a (entry inodes a k) room.blocks_whole (λ b owns. (fs.within k b low owns).1)
+  size_is = content_size a (entry inodes a k) room.blocks_whole (λ b owns. (fs.within k b low owns).1)
 
   -- nothing is put after
   pub grows_none : GrowsBy inodes k [] a a
@@ -131,7 +131,7 @@ module _ (inodes k : ℕ) (a : List Octets) (room : HasRoom inodes a) (fs : IsFi
     pub size_now : size (entry inodes b k) ≡ size (entry inodes a k) + length octets
     size_now =
         let named = named_from_there inodes b grown.makes.rule k grown.name (grown.was ++ octets) (file_after inodes k octets a b grown) in
-        let long = length-content b (entry inodes b k) grown.makes.room.blocks_whole (λ c owns. (grown.makes.rule.within k c low owns).1) in
+        let long = content_size b (entry inodes b k) grown.makes.room.blocks_whole (λ c owns. (grown.makes.rule.within k c low owns).1) in
         sym long ∙ ap (λ (w : Octets). length w) (sym named.content_is) ∙ length-append grown.was octets
         ∙ ap (λ (n : ℕ). n + length octets) was_size
 

@@ -17,6 +17,7 @@ use Rattle.model.specs.Files.{Entry, HasRoom, IsFile, kind, size, block_count, d
 use Rattle.model.specs.Files.{indirect_for, indirect_pointer, pointer, owned, name_in, content_of, entry, inode_of, slot_of, indirect_of}
 use Rattle.model.specs.Files.{first_data, is_marked_used, free_blocks, IsFileSystem, file_at}
 use Rattle.model.specs.Room.{content_blocks}
+use Rattle.model.proofs.Owning.{content_size}
 use Rattle.fs_layout.specs.Blocks.{PutsRecord}
 use Rattle.fs_layout.specs.Touches.{TouchesData, double_of, table_of}
 use Rattle.fs_layout.proofs.Touching.{is_first}
@@ -24,7 +25,7 @@ use Rattle.fs_inodes.specs.Growing.{blocks_for}
 use Rattle.fs_inodes.specs.Growing.{NamesBlocks, inode_entry, tables_to, with_indirect, TakesLowest, KeepsMarks, GrowsBy}
 use Rattle.fs_inodes.proofs.Owned.{owned_to, has_pointer, has_table, has_double, pointers_differ, table_not_pointer, double_not_pointer}
 use Rattle.fs_inodes.proofs.Tables.{map_same_below}
-use Rattle.fs_layout.proofs.Entries.{owns_pointer, flat_map_same, length-content}
+use Rattle.fs_layout.proofs.Entries.{owns_pointer, flat_map_same}
 use Rattle.fs_inodes.proofs.Extending.{blocks_octets, content_front, take_overwritten}
 use Rattle.fs_layout.proofs.Keeps.{PutsEntry, indirect_same, same_entry, marks_same}
 use Rattle.fs_layout.proofs.Marking.{same_free}
@@ -389,8 +390,8 @@ module _ (inodes k n r number : ℕ) (piece block inode : Octets) (old mid new :
       ∙ ap (λ (m : ℕ). free_blocks mid + with_indirect m) count
       ∙ ext.free
 
-  content_size : length (content_of old (entry inodes old k)) ≡ size (entry inodes old k)
-  content_size = length-content old (entry inodes old k) room.blocks_whole (λ b owns. (fs.within k b low owns).1)
+  size_was : length (content_of old (entry inodes old k)) ≡ size (entry inodes old k)
+  size_was = content_size old (entry inodes old k) room.blocks_whole (λ b owns. (fs.within k b low owns).1)
 
   pub grows : GrowsBy inodes k piece old new
   grows = record {
@@ -407,8 +408,8 @@ module _ (inodes k n r number : ℕ) (piece block inode : Octets) (old mid new :
         (sym (mark_new b (omega (arith, count_is, room.count_few))) ∙ now) (sym (mark_new c (omega (arith, count_is, room.count_few)))
         ∙ free);
     kept = marks_kept;
-    free = ap (λ (m : ℕ). free_blocks new + blocks_for (m + length piece)) content_size ∙ free_is
-        ∙ ap (λ (m : ℕ). free_blocks old + blocks_for m) (sym content_size);
+    free = ap (λ (m : ℕ). free_blocks new + blocks_for (m + length piece)) size_was ∙ free_is
+        ∙ ap (λ (m : ℕ). free_blocks old + blocks_for m) (sym size_was);
   }
 
   -- ---- the blocks that it touches

@@ -11,8 +11,9 @@ use Rattle.model.specs.Stream.{Octets}
 use Rattle.model.specs.Volume.{number_at}
 use Rattle.model.specs.Files.{Entry, HasRoom, IsFile, size, block_count, double_pointer, indirect_count, indirect_pointer, pointer, owned}
 use Rattle.model.specs.Files.{content_of, entry, inode_of, slot_of, indirect_of, first_data, IsFileSystem}
+use Rattle.model.proofs.Owning.{content_size}
 use Rattle.fs_inodes.specs.Changes.{ReplacesContent, SameMarks}
-use Rattle.fs_layout.proofs.Entries.{owns_pointer, length-content}
+use Rattle.fs_layout.proofs.Entries.{owns_pointer}
 use Rattle.fs_layout.proofs.Keeps.{indirect_same, PutsEntry, same_entry, marks_same}
 use Rattle.fs_inodes.proofs.Named.{file_names}
 use Rattle.fs_inodes.proofs.Owned.{double_not_pointer, pointers_differ, table_not_pointer}
@@ -121,7 +122,7 @@ module _ (inodes k : ℕ) (place : ℕ) (octets : Octets) (old : List Octets) (r
   here = get_or-set_same old number written [] (inside number owns)
 
   long : length (content_of old e) ≡ size e
-  long = length-content old e room.blocks_whole inside
+  long = content_size old e room.blocks_whole inside
 
   fits_content : place + length octets ≤ length (content_of old e)
   fits_content = omega (arith, long)
@@ -174,7 +175,7 @@ module _ (inodes k : ℕ) (place : ℕ) (octets : Octets) (old : List Octets) (r
   content_is : overwritten place octets (content_of old e) ≡ content_of new (entry inodes new k)
   content_is =
       ext_get_or 0 (overwritten place octets (content_of old e)) (content_of new e)
-      (length-overwritten place octets (content_of old e) fits_content ∙ long ∙ sym (length-content new e whole inside_new))
+      (length-overwritten place octets (content_of old e) fits_content ∙ long ∙ sym (content_size new e whole inside_new))
       (λ j below.
       let small : j < size e = omega (arith, length-overwritten place octets (content_of old e) fits_content, long) in
       elim (cases_eq (j / 4096) (place / 4096)) [

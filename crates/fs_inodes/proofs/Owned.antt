@@ -2,23 +2,18 @@
 use Rattle.std.proofs.Common.{◌≡◌, ◌≢◌, ◌⊎◌, inl, inr, ◌<◌, ◌≤◌, ℕ, zero, suc, ◌+◌, ◌-◌, ◌*◌, ◌/◌, ◌%◌, cond, Bool, List, [], ◌∷◌, ◌++◌}
 use Rattle.std.proofs.Common.{length, get_or, map, refl, sym, ◌∙◌, ap, subst, arith}
 use Rattle.std.specs.List.{Contains, range_with_len}
-use Rattle.std.proofs.lemmas.List.Elements.{Contains-append_cases, Contains-append_left, Contains-append_right, Contains-get_or}
+use Rattle.std.proofs.lemmas.List.Elements.{Contains-append_cases, Contains-append_left, Contains-append_right}
 use Rattle.std.proofs.lemmas.List.FromFn.{length-map-range_with_len, get_or-map-range_with_len}
 use Rattle.std.proofs.lemmas.Bool.{cases_eq, eq-eqb, ne_eqb, lt-ltb, le-ltb}
 use Rattle.model.specs.Volume.{number_at, AreDistinct}
 use Rattle.model.specs.Files.{Entry, block_count, double_blocks, double_pointer, indirect_for, indirect_pointer, pointer, owned}
 use Rattle.fs_inodes.specs.Growing.{tables_to}
 use Rattle.fs_layout.proofs.Distinct.{distinct_append, distinct_apart, distinct_left, distinct_none, distinct_one, distinct_right}
+use Rattle.fs_layout.proofs.Entries.{in_range}
 
 -- ---- numbers of a range
 
 module _ (f : ℕ → ℕ) (n : ℕ) where
-  pub in_range : (i : ℕ) → i < n → Contains (map f (range_with_len 0 n)) (f i)
-  in_range i low =
-      subst (λ (m : ℕ). Contains (map f (range_with_len 0 n)) m)
-      (get_or-map-range_with_len f 0 n i i 0 low (omega arith))
-      (Contains-get_or (map f (range_with_len 0 n)) i 0 (omega (arith, low, length-map-range_with_len f 0 n)))
-
   pub from_range : (b : ℕ) → Contains (map f (range_with_len 0 n)) b → (i : ℕ) × (i < n) × (f i ≡ b)
   from_range b has =
       let low : has.0 < n = omega (arith, has.1, length-map-range_with_len f 0 n) in

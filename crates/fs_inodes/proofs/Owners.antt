@@ -7,8 +7,8 @@ use Rattle.model.specs.Stream.{Octets}
 use Rattle.model.specs.Volume.{AreDistinct}
 use Rattle.model.specs.Files.{Entry, File, HasRoom, IsFile, IsFree, owned, name_in, entry, slot_of, first_data, is_marked_used, IsUsed}
 use Rattle.model.specs.Files.{IsFileSystem, file_at, table}
+use Rattle.model.proofs.Owning.{free_kind}
 use Rattle.fs_layout.specs.Table.{Makes}
-use Rattle.fs_layout.proofs.Entries.{free_kind}
 use Rattle.fs_layout.proofs.Tables.{table_set}
 use Rattle.fs_layout.proofs.Keeps.{PutsEntry, entry_other, file_other, keeps_room}
 

@@ -6,9 +6,9 @@ use Rattle.std.proofs.lemmas.List.Elements.{All-replicate}
 use Rattle.std.proofs.lemmas.Bool.{cases_eq}
 use Rattle.model.specs.Stream.{Octets}
 use Rattle.model.specs.Files.{Entry, HasRoom, IsFile, IsFree, size, block_count, owned, double_pointer, entry, IsFileSystem, table}
+use Rattle.model.proofs.Owning.{free_owns}
 use Rattle.fs_layout.specs.Blocks.{PutsRecord}
 use Rattle.fs_layout.specs.Table.{Makes}
-use Rattle.fs_layout.proofs.Entries.{free_owns}
 use Rattle.fs_layout.proofs.Tables.{file_at_free}
 use Rattle.fs_layout.proofs.Keeps.{PutsEntry, puts_inode, puts_slot, inode_keeps_marks, slot_keeps_marks}
 use Rattle.fs_inodes.proofs.Owned.{owned_to}

@@ -6,9 +6,9 @@ use Rattle.std.proofs.lemmas.List.{set-set, get_or-set_same}
 use Rattle.std.proofs.lemmas.Bool.{cases_eq}
 use Rattle.model.specs.Stream.{Octets}
 use Rattle.model.specs.Files.{Entry, File, HasRoom, IsFile, IsFree, size, owned, name_in, content_of, entry, slot_of, IsFileSystem, table}
+use Rattle.model.proofs.Owning.{content_size}
 use Rattle.fs_layout.specs.Table.{IsFileAt}
 use Rattle.fs_inodes.specs.Changes.{ReplacesContent, SameMarks}
-use Rattle.fs_layout.proofs.Entries.{length-content}
 use Rattle.fs_layout.proofs.Tables.{file_or, length-table, get_or-table, file_at_file, IsNamed, named_from_there, table_set}
 use Rattle.fs_layout.proofs.Keeps.{PutsEntry, entry_other, file_other, keeps_rule, keeps_room}
 
@@ -108,7 +108,7 @@ module _ (inodes k : ℕ) (content : Octets) (old new : List Octets) (low : k < 
 
   pub size_now : size (entry inodes new k) ≡ length content
   size_now =
-      sym (length-content new (entry inodes new k) r.makes.room.blocks_whole (λ b owns. (r.makes.rule.within k b low owns).1))
+      sym (content_size new (entry inodes new k) r.makes.room.blocks_whole (λ b owns. (r.makes.rule.within k b low owns).1))
       ∙ ap (λ (o : Octets). length o) (sym named_now.content_is)
 
   -- one change after the other

@@ -15,10 +15,10 @@ use Rattle.model.specs.Stream.{Octets}
 use Rattle.model.specs.Volume.{number_at}
 use Rattle.model.specs.Files.{Entry, double_blocks, double_pointer, indirect_for, indirect_of, indirect_pointer, pointer, is_marked_used}
 use Rattle.model.specs.Files.{free_blocks}
+use Rattle.model.proofs.Owning.{zero_number}
 use Rattle.fs_inodes.specs.Growing.{AddsDouble, AddsTable, IsApart, IsTaken, NamesBlocks, PutsIndirect, TakesBlocks, TakesZeros}
 use Rattle.fs_inodes.specs.Growing.{inode_entry, tables_to, with_double}
-use Rattle.fs_layout.proofs.Entries.{zero_number}
-use Rattle.fs_layout.proofs.Keeps.{indirect_same, marks_same, same_entry}
+use Rattle.fs_layout.proofs.Keeps.{indirect_same, marks_same, same_entry, no_block}
 use Rattle.fs_inodes.proofs.Putting.{in_inode, in_block}
 use Rattle.fs_inodes.proofs.Taking.{fresh_apart, fresh_taken, taken_still, takes_both, takes_none, takes_then}
 
@@ -36,9 +36,6 @@ none_number at = zero_number at 4 [] (All-nil (λ (o : ℕ). o ≡ 0))
 
 block_of : (blocks : List Octets) (n : ℕ) → n ≢ 0 → indirect_of blocks n ≡ get_or blocks n []
 block_of blocks n some = ap (λ (t : Bool). cond t [] (get_or blocks n [])) (ne_eqb n 0 some)
-
-pub no_block : (blocks : List Octets) (n : ℕ) → n ≡ 0 → indirect_of blocks n ≡ []
-no_block blocks n none = ap (λ (t : Bool). cond t [] (get_or blocks n [])) (eq-eqb n 0 none)
 
 -- ---- what is named
 

@@ -1,5 +1,5 @@
 -- Blocks that are taken, one after the other.
-use Rattle.std.proofs.Common.{◌≡◌, ◌≢◌, ◌⊎◌, inl, inr, ◌<◌, ◌≤◌, ℕ, zero, suc, ◌+◌, Bool, true, false, List, [], ◌∷◌, ◌++◌, length, get_or}
+use Rattle.std.proofs.Common.{◌≡◌, ◌≢◌, ◌⊎◌, inl, inr, ◌<◌, ◌≤◌, ℕ, ◌+◌, Bool, true, false, List, [], ◌∷◌, ◌++◌, length, get_or}
 use Rattle.std.proofs.Common.{set, replicate, refl, sym, ◌∙◌, ap, arith, length-append, length-set}
 use Rattle.std.specs.List.{All, Contains}
 use Rattle.std.proofs.lemmas.List.{length-replicate, get_or-set_same, get_or-set_other}
@@ -12,11 +12,8 @@ use Rattle.fs_layout.specs.Marks.{NoneFreeBelow, TakesBlock}
 use Rattle.fs_layout.proofs.Keeps.{marks_same}
 use Rattle.fs_layout.proofs.Marking.{one_less_free, same_free}
 use Rattle.fs_layout.proofs.Distinct.{distinct_append, distinct_none, distinct_one}
+use Rattle.fs_layout.proofs.Touching.{one_number}
 use Rattle.fs_inodes.proofs.Owners.{contained}
-
-one_number : (n b : ℕ) → Contains (n ∷ []) b → b ≡ n
-one_number n b (zero, low, is) = sym is
-one_number n b (suc k, low, is) = absurd (omega arith)
 
 pub takes_one : (number : ℕ) (old mid : List Octets) → length old ≤ 65536 → TakesBlock number old mid → TakesBlocks (number ∷ []) old mid
 takes_one number old mid few first = record {

@@ -1,7 +1,7 @@
 -- An inode loses its last pointer, and the blocks of pointers that only that pointer needed.
-use Rattle.std.proofs.Common.{◌≡◌, ◌≢◌, ◌⊎◌, inl, inr, ◌<◌, ◌≤◌, ℕ, zero, suc, ◌+◌, ◌-◌, ◌*◌, ◌/◌, ◌%◌, cond, eqb, Bool, false, List, []}
+use Rattle.std.proofs.Common.{◌≡◌, ◌≢◌, ◌⊎◌, inl, inr, ◌<◌, ◌≤◌, ℕ, ◌+◌, ◌-◌, ◌*◌, ◌/◌, ◌%◌, cond, eqb, Bool, false, List, []}
 use Rattle.std.proofs.Common.{◌∷◌, ◌++◌, length, map, refl, sym, ◌∙◌, ap, subst, arith}
-use Rattle.std.specs.List.{Contains, range_with_len}
+use Rattle.std.specs.List.{range_with_len}
 use Rattle.std.proofs.lemmas.List.{append-nil}
 use Rattle.std.proofs.lemmas.List.Elements.{Contains-append_cases, Contains-append_left, Contains-append_right}
 use Rattle.std.proofs.lemmas.List.FromFn.{map-range_with_len_more}
@@ -17,13 +17,10 @@ use Rattle.fs_inodes.specs.Growing.{IsTaken, NamesBlocks, PutsIndirect, PutsPoin
 use Rattle.fs_inodes.specs.Shrinking.{DropsPointer, DropsTable, GivesUp}
 use Rattle.fs_layout.specs.Blocks.{IsThere}
 use Rattle.fs_layout.specs.Marks.{SetsMark}
-use Rattle.fs_layout.proofs.Keeps.{indirect_same, marks_same}
+use Rattle.fs_layout.proofs.Keeps.{indirect_same, marks_same, no_block}
+use Rattle.fs_layout.proofs.Touching.{one_number}
 use Rattle.fs_inodes.proofs.Putting.{in_block, in_double, in_inode}
-use Rattle.fs_inodes.proofs.Tables.{entry_stays, map_same_below, no_block, none_number, table_taken}
-
-one_number : (n b : ℕ) → Contains (n ∷ []) b → b ≡ n
-one_number n b (zero, low, is) = sym is
-one_number n b (suc k, low, is) = absurd (omega arith)
+use Rattle.fs_inodes.proofs.Tables.{entry_stays, map_same_below, none_number, table_taken}
 
 -- ---- a block of pointers is dropped
 

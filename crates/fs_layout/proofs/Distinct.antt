@@ -4,9 +4,7 @@ use Rattle.std.specs.List.{Contains}
 use Rattle.std.proofs.lemmas.List.{get_or_default}
 use Rattle.std.proofs.lemmas.List.Elements.{Contains-append_left, Contains-append_right, Contains-append_cases}
 use Rattle.model.specs.Volume.{AreDistinct}
-
-pub distinct_tail : (x : ℕ) (xs : List ℕ) → AreDistinct (x ∷ xs) → AreDistinct xs
-distinct_tail x xs distinct i j less low = distinct (suc i) (suc j) (omega arith) (omega arith)
+use Rattle.volume.proofs.Laid.{distinct_tail}
 
 pub distinct_head : (x : ℕ) (xs : List ℕ) → AreDistinct (x ∷ xs) → ¬ (Contains xs x)
 distinct_head x xs distinct (k, low, is) = distinct 0 (suc k) (omega arith) (omega arith) (sym is ∙ get_or_default xs k x 0 low)

@@ -1,17 +1,14 @@
 -- Entries: inodes, slots, and what they own.
-use Rattle.std.proofs.Common.{◌≡◌, ◌≢◌, inl, inr, ◌<◌, ◌≤◌, ℕ, zero, suc, ◌+◌, ◌-◌, ◌*◌, ◌/◌, cond, eqb, Bool, List, [], ◌∷◌, ◌++◌, length}
-use Rattle.std.proofs.Common.{get_or, map, drop, replicate, refl, sym, ◌∙◌, ap, subst, arith}
+use Rattle.std.proofs.Common.{◌≡◌, ◌≢◌, inl, inr, ◌<◌, ◌≤◌, ℕ, zero, suc, ◌+◌, ◌-◌, cond, Bool, [], ◌∷◌, ◌++◌, length}
+use Rattle.std.proofs.Common.{get_or, map, replicate, refl, sym, ◌∙◌, ap, subst, arith}
 use Rattle.std.specs.List.{All, Contains, range_with_len, flat_map}
-use Rattle.std.proofs.lemmas.List.{get_or_past, get_or-drop, take_at, length-take-le}
+use Rattle.std.proofs.lemmas.List.{get_or_past, take_at}
 use Rattle.std.proofs.lemmas.List.Elements.{Contains-append_left, Contains-append_right, Contains-get_or}
-use Rattle.std.proofs.lemmas.List.FromFn.{length-map-range_with_len, get_or-map-range_with_len, get_or-range_with_len}
+use Rattle.std.proofs.lemmas.List.FromFn.{length-map-range_with_len, get_or-map-range_with_len}
 use Rattle.std.proofs.lemmas.Bool.{cases_lt, ne_eqb}
-use Rattle.byteorder.specs.Endian.{little_from}
 use Rattle.model.specs.Stream.{Octets}
-use Rattle.model.specs.Volume.{number_at}
-use Rattle.model.specs.Files.{Entry, IsFree, kind, size, block_count, double_blocks, double_pointer, indirect_blocks, indirect_count}
-use Rattle.model.specs.Files.{indirect_for, indirect_pointer, pointer, owned, name_in, slot_octets, content_of}
-use Rattle.volume.proofs.Octets.{blocks_from-flat_map}
+use Rattle.model.specs.Files.{Entry, IsFree, block_count, double_blocks, double_pointer, indirect_blocks, indirect_count}
+use Rattle.model.specs.Files.{indirect_pointer, pointer, owned, name_in, slot_octets}
 
 pub zero_at : (octets : Octets) (i : ℕ) → All (λ o. o ≡ 0) octets → get_or octets i 0 ≡ 0
 zero_at octets i zeros = elim (cases_lt i (length octets)) [
@@ -19,32 +16,9 @@ zero_at octets i zeros = elim (cases_lt i (length octets)) [
   | inr past ↦ get_or_past octets i 0 past
 ]
 
-pub zero_number : (at n : ℕ) (octets : Octets) → All (λ o. o ≡ 0) octets → number_at at n octets ≡ 0
-unfolding number_at
-zero_number at n octets zeros = from 0 n
-  where
-    from : (i n : ℕ) → little_from i n (drop at octets) ≡ 0
-    from i zero = refl
-    from i (suc n) =
-        let first : get_or (drop at octets) i 0 ≡ 0 = get_or-drop at octets i 0 ∙ zero_at octets (at + i) zeros in
-        let rest = from (suc i) n in
-        omega arith
-
 -- ---- a free entry
 
 module _ (e : Entry) (free : IsFree e) where
-  pub free_kind : kind e ≡ 0
-  free_kind = zero_number 0 4 e.inode free.inode_zeros
-
-  pub free_owns : owned e ≡ []
-  free_owns =
-      let no_double = zero_number 56 4 e.inode free.inode_zeros in
-      let no_size = zero_number 4 8 e.inode free.inode_zeros in
-      ap (λ (n : ℕ). cond (eqb n 0) [] (n ∷ []) ++ (indirect_blocks e ++ map (λ i. pointer e i) (range_with_len 0 (block_count e))))
-      no_double
-      ∙ ap (λ (n : ℕ). map (λ p. indirect_pointer e p) (range_with_len 0 (indirect_for ((n + 4095) / 4096))) ++ map (λ i. pointer e i)
-      (range_with_len 0 ((n + 4095) / 4096))) no_size
-
   pub free_slot : (name : Octets) → 1 ≤ length name → e.slot ≢ slot_octets name
   free_slot name some same =
       let none = zero_at e.slot 0 free.slot_zeros in
@@ -58,7 +32,7 @@ name_in-slot_octets name = take_at name (replicate (63 - length name) 0) (length
 
 -- ---- what an entry owns
 
-in_range : (f : ℕ → ℕ) (n i : ℕ) → i < n → Contains (map f (range_with_len 0 n)) (f i)
+pub in_range : (f : ℕ → ℕ) (n i : ℕ) → i < n → Contains (map f (range_with_len 0 n)) (f i)
 in_range f n i low =
     subst (λ (m : ℕ). Contains (map f (range_with_len 0 n)) m)
     (get_or-map-range_with_len f 0 n i i 0 low (omega arith))
@@ -99,19 +73,3 @@ flat_map_same f g a (suc n) same =
 pub length-range : (a n : ℕ) → length (range_with_len a n) ≡ n
 length-range a zero = refl
 length-range a (suc n) = ap suc (length-range (a + 1) n)
-
-pub length-content : (blocks : List Octets) (e : Entry) → All (λ b. length b ≡ 4096) blocks
-    → ((b : ℕ) → Contains (owned e) b → b < length blocks) → length (content_of blocks e) ≡ size e
-length-content blocks e whole within =
-    let octets = flat_map (λ i. get_or blocks (pointer e i) []) (range_with_len 0 (block_count e)) in
-    let many : length octets ≡ 4096 * block_count e =
-    (blocks_from-flat_map (λ i. get_or blocks (pointer e i) []) (range_with_len 0 (block_count e)) each).0
-    ∙ ap (λ (n : ℕ). 4096 * n) (length-range 0 (block_count e)) in
-    length-take-le (size e) octets (omega arith)
-  where
-    each : All (λ i. length (get_or blocks (pointer e i) []) ≡ 4096) (range_with_len 0 (block_count e))
-    each k d low =
-        let inside : k < block_count e = omega (arith, length-range 0 (block_count e)) in
-        let is : get_or (range_with_len 0 (block_count e)) k d ≡ k = get_or-range_with_len 0 (block_count e) k d inside
-        ∙ (let z : 0 + k ≡ k = omega arith in z) in
-        ap (λ (i : ℕ). length (get_or blocks (pointer e i) [])) is ∙ whole (pointer e k) [] (within (pointer e k) (owns_pointer e k inside))

@@ -10,8 +10,9 @@ use Rattle.model.specs.Volume.{number_at, AreDistinct}
 use Rattle.model.specs.Files.{Entry, HasRoom, IsFile, IsFree, kind, size, block_count, double_pointer, entry_of, indirect_count}
 use Rattle.model.specs.Files.{indirect_number, indirect_pointer, pointer, owned, name_in, content_of, entry, inode_of, slot_of, indirect_of}
 use Rattle.model.specs.Files.{first_data, is_marked_used, IsUsed, IsFileSystem, file_at}
+use Rattle.model.proofs.Owning.{zero_number}
 use Rattle.fs_layout.specs.Blocks.{PutsRecord, record_at}
-use Rattle.fs_layout.proofs.Entries.{owns_double, owns_pointer, owns_indirect, flat_map_same, zero_number}
+use Rattle.fs_layout.proofs.Entries.{owns_double, owns_pointer, owns_indirect, flat_map_same}
 
 -- no inode or slot changes but those of inode k, and no block changes but these
 pub record PutsEntry (inodes k : ℕ) (inode slot : Octets) (touched : ℕ → Type 0) (old new : List Octets) : Type 0 where
@@ -93,8 +94,8 @@ indirect_same old new n same = elim (cases_eq n 0) [
   | inr some ↦ ap (λ (o : Octets). cond (eqb n 0) [] o) (same some)
 ]
 
-none_there : (blocks : List Octets) (n : ℕ) → n ≡ 0 → indirect_of blocks n ≡ []
-none_there blocks n is = ap (λ (b : Bool). cond b [] (get_or blocks n [])) (eq-eqb n 0 is)
+pub no_block : (blocks : List Octets) (n : ℕ) → n ≡ 0 → indirect_of blocks n ≡ []
+no_block blocks n is = ap (λ (b : Bool). cond b [] (get_or blocks n [])) (eq-eqb n 0 is)
 
 -- a free entry names no block of pointers
 free_points : (blocks : List Octets) (inode slot : Octets) → IsFree (entry_of blocks inode slot) → (p : ℕ)
@@ -102,7 +103,7 @@ free_points : (blocks : List Octets) (inode slot : Octets) → IsFree (entry_of 
 free_points blocks inode slot free p = by_test (eqb p 0) where
   by_test : (b : Bool) → cond b (number_at 52 4 inode) (number_at (4 * (p - 1)) 4 (indirect_of blocks (number_at 56 4 inode))) ≡ 0
   by_test true = zero_number 52 4 inode free.inode_zeros
-  by_test false = ap (number_at (4 * (p - 1)) 4) (none_there blocks (number_at 56 4 inode) (zero_number 56 4 inode free.inode_zeros))
+  by_test false = ap (number_at (4 * (p - 1)) 4) (no_block blocks (number_at 56 4 inode) (zero_number 56 4 inode free.inode_zeros))
       ∙ zero_number (4 * (p - 1)) 4 [] (All-nil (λ o. o ≡ 0))
 
 -- an entry owns each block of pointers that it names

@@ -51,7 +51,7 @@ set_bits (suc d) n small =
         ap (has_bit n) next ∙ ap (λ (k : ℕ). eqb (n / k % 2) 1) (pow-succ' 2 i)
         ∙ ap (λ (k : ℕ). eqb (k % 2) 1) (sym (div-div-eq-div-mul n 2 (2 ^ i))) ∙ ap (has_bit (n / 2)) (sym same)
 
-count_not : (p : ℕ → Bool) (xs : List ℕ) → count_by p xs + count_by (λ x. not (p x)) xs ≡ length xs
+pub count_not : (p : ℕ → Bool) (xs : List ℕ) → count_by p xs + count_by (λ x. not (p x)) xs ≡ length xs
 count_not p [] = refl
 count_not p (x ∷ xs) =
     either (p x) (count_cons p x xs) (count_cons (λ y. not (p y)) x xs) (count_not p xs)

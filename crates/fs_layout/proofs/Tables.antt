@@ -6,8 +6,9 @@ use Rattle.std.proofs.lemmas.List.FromFn.{length-map-range_with_len, get_or-map-
 use Rattle.std.proofs.lemmas.Bool.{cases_lt, cases_eq}
 use Rattle.model.specs.Stream.{Octets}
 use Rattle.model.specs.Files.{File, IsFile, IsFree, name_in, slot_octets, content_of, entry, slot_of, IsFileSystem, file_at, table}
+use Rattle.model.proofs.Owning.{free_kind}
 use Rattle.fs_layout.specs.Table.{IsFileAt, IsThere}
-use Rattle.fs_layout.proofs.Entries.{free_kind, free_slot, name_in-slot_octets}
+use Rattle.fs_layout.proofs.Entries.{free_slot, name_in-slot_octets}
 
 abbrev pub file_or : Option File → File
 file_or None = record { name = []; content = [] }

@@ -20,12 +20,12 @@ is_first x xs b is = (0, omega arith, sym is)
 pub is_later : (x : ℕ) (xs : List ℕ) (b : ℕ) → Contains xs b → Contains (x ∷ xs) b
 is_later x xs b has = Contains-append_right (x ∷ []) xs b has
 
-only : (x b : ℕ) → Contains (x ∷ []) b → b ≡ x
-only x b has = elim (Contains-push_cases [] x b has) [ inl none ↦ absurd (omega (arith, none.1)) | inr is ↦ sym is ]
+pub one_number : (x b : ℕ) → Contains (x ∷ []) b → b ≡ x
+one_number x b has = elim (Contains-push_cases [] x b has) [ inl none ↦ absurd (omega (arith, none.1)) | inr is ↦ sym is ]
 
 pub not_two : (x y b : ℕ) → b ≢ x → b ≢ y → ¬ (Contains (x ∷ y ∷ []) b)
 not_two x y b other another has =
-    elim (Contains-push_cases (x ∷ []) y b has) [ inl first ↦ other (only x b first) | inr is ↦ another (sym is) ]
+    elim (Contains-push_cases (x ∷ []) y b has) [ inl first ↦ other (one_number x b first) | inr is ↦ another (sym is) ]
 
 -- ---- the law
 

@@ -5,7 +5,7 @@ use Rattle.std.specs.List.{sum}
 use Rattle.std.proofs.lemmas.Bool.{cond_both}
 use Rattle.disk.specs.Device.{Device}
 use Rattle.journal.specs.Flight.{counts_of}
-use Rattle.journal.specs.Inside.{IsAdmitted, IsVolume}
+use Rattle.journal.specs.Inside.{IsVolume}
 use Rattle.journal.specs.Calls.{IsRetried, MakesCall, OnMade, OnRetried, blocks_after}
 use Rattle.journal.specs.Journal.{Admits, JournalView, IsCaused, IsDuring, IsSameBatch, LeavesAdmitted, all_held, calls, sizes, with_batch}
 use Rattle.journal.specs.Opening.{IsMore}
@@ -20,6 +20,7 @@ use Rattle.journal.specs.declared.JournalError.TheVariants.{Fault, Memory}
 use Rattle.journal.proofs.Counting.{Asks, asks_by, one_count, same_count}
 use Rattle.journal.proofs.Flights.{after_commit, after_gate, after_home}
 use Rattle.journal.proofs.Order.{one_more_call, one_more_sync, one_more_write, syncs_where}
+use Rattle.journal.proofs.Transitions.{only_left}
 
 -- the calls after the commit
 abbrev pub IsCheckpoint : Next → Type 0
@@ -66,11 +67,6 @@ after_checkpoint journal last sizes Settle c = refl
 after_checkpoint journal last sizes (CloseGate j) c = refl
 after_checkpoint journal last sizes (Finish j) c =
     cond_both (eqb (j + 1) (length sizes)) Ended Working (λ p. blocks_after journal p ≡ journal.blocks) (λ e. refl) (λ e. refl)
-
-stands : (next : Next) (label : List ℕ) (blocks after : List (List ℕ)) (c : List ℕ) → next ≢ Commit → IsAdmitted next label blocks after c
-    → StandsFor c label blocks
-stands next label blocks after c other (inl s) = s
-stands next label blocks after c other (inr commits) = absurd (other commits.0)
 
 -- each stays after the commit, also at a fault
 following_checkpoint : (n : ℕ) (sizes : List ℕ) (next : Next) → IsCheckpoint next
@@ -200,7 +196,8 @@ during_then device old mid new result so_far checkpoint call = record {
 
     admitted : IsTrue (device old.disk).tells → (c : List ℕ) → Admits new c → IsVolume old.format old.label old.blocks c
     admitted t c left =
-        let s = stands new.next new.label new.blocks (with_batch new) c (next_not_commit device mid new result checkpoint call) left.0 in (
+        let s = only_left new.next new.label new.blocks (with_batch new) c
+        (next_not_commit device mid new result checkpoint call) left.0 in (
           subst (λ (bs : List (List ℕ)). StandsFor c old.label bs) (same_blocks t)
               (subst (λ (l : List ℕ). StandsFor c l new.blocks) (call.same.label ∙ so_far.same.label) s),
           omega (arith, left.1, call.same.format, so_far.same.format),
@@ -366,7 +363,7 @@ pub at_start : {D : Type 0} (device : D → Device) (journal : JournalView D) �
     → journal.halted ≡ false → LeavesAdmitted device journal → IsOnTheWay device journal journal
 at_start device journal left other writes syncs running now = record {
   during = during_start device journal (λ t c still. let admits = now t c still in
-      (stands journal.next journal.label journal.blocks (with_batch journal) c other admits.0, admits.1));
+      (only_left journal.next journal.label journal.blocks (with_batch journal) c other admits.0, admits.1));
   left = left;
   running = running;
   failures = refl;

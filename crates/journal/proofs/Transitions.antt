@@ -38,7 +38,7 @@ stands_itself next label blocks after c (inl stands) = subst (λ (bs : List (Lis
 stands_itself next label blocks after c (inr commits) =
     subst (λ (bs : List (List ℕ)). StandsFor c label bs) (sym commits.1.has_blocks) commits.1
 
-only_left : (next : Next) (label : List ℕ) (blocks after : List (List ℕ)) (c : List ℕ) → next ≢ Commit
+pub only_left : (next : Next) (label : List ℕ) (blocks after : List (List ℕ)) (c : List ℕ) → next ≢ Commit
     → IsAdmitted next label blocks after c → StandsFor c label blocks
 only_left next label blocks after c other (inl stands) = stands
 only_left next label blocks after c other (inr commits) = absurd (other commits.0)

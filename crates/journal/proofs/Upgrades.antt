@@ -26,7 +26,7 @@ use Rattle.model.specs.Volume.{StandsFor, block, format_in, format_number, home_
 use Rattle.model.specs.Volume.{segment_count}
 use Rattle.journal.specs.declared.Next.TheVariants.{Commit, Descriptor, Idle}
 
-at_rest : (label : List ℕ) (bs after : List (List ℕ)) (c : List ℕ) → IsAdmitted Idle label bs after c → StandsFor c label bs
+pub at_rest : (label : List ℕ) (bs after : List (List ℕ)) (c : List ℕ) → IsAdmitted Idle label bs after c → StandsFor c label bs
 at_rest label bs after c (inl stands) = stands
 at_rest label bs after c (inr commits) = let wrong = commits.0 in absurd (cc)
 

@@ -18,6 +18,7 @@ use Rattle.journal.specs.declared.JournalError.{JournalError}
 use Rattle.journal.specs.declared.JournalError.TheVariants.{Fault, Memory}
 use Rattle.journal.proofs.During.{same_itself, same_sizes, same_then}
 use Rattle.journal.proofs.Flights.{after_commit, after_gate, after_home, after_image}
+use Rattle.journal.proofs.Upgrades.{at_rest}
 use Rattle.model.specs.Volume.{StandsFor, block, blocks_from, descriptor_of, format_number, laid_over}
 use Rattle.new_volume.specs.Formatting.{HasCarried, HasLaid, IsLeft, Spoils}
 
@@ -176,11 +177,6 @@ module _ {D : Type 0} (device : D → Device) (old now new : JournalView D) (so_
 
 -- ---- at the end
 
-stands_idle : (label : List ℕ) (blocks after : List (List ℕ)) (image : List ℕ) → IsAdmitted Idle label blocks after image
-    → StandsFor image label blocks
-stands_idle label blocks after image (inl stands) = stands
-stands_idle label blocks after image (inr commits) = absurd (let wrong = commits.0 in cc)
-
 pub carried : {D : Type 0} (device : D → Device) (old now : JournalView D) → IsOnTheWay device old now → now.next ≡ Idle
     → LeavesAdmitted device now → (IsTrue (device now.disk).tells → (device now.disk).may_leave (device now.disk).content)
     → HasCarried device old now
@@ -189,7 +185,7 @@ carried device old now so_far is admitted content = record {
       let told : IsTrue (device now.disk).tells = subst (λ (b : Bool). IsTrue b) (sym so_far.time.tells) t in
       let image = (device now.disk).content in
       let here : StandsFor image now.label now.blocks =
-      stands_idle now.label now.blocks (with_batch now) image
+      at_rest now.label now.blocks (with_batch now) image
       (subst (λ (g : Next). IsAdmitted g now.label now.blocks (with_batch now) image) is (admitted told image (content told)).0) in
       let blocks : now.blocks ≡ with_batch old = so_far.blocks t
       ∙ ap (λ (g : Next). if is_to_commit g then old.blocks else with_batch old) is in

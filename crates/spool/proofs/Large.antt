@@ -1,14 +1,14 @@
 -- Whether the files of groups are too large for another article.
 use Rattle.std.proofs.Common.{◌≡◌, inl, inr, ◌<◌, ℕ, zero, suc, ◌*◌, Bool, true, false, List, [], ◌∷◌, length, get_or, refl, sym, ◌∙◌, ap}
 use Rattle.std.proofs.Common.{subst, arith}
-use Rattle.std.specs.Prelude.{Option, Some, None, nat_lt, option_map, is_some, ◌||◌, if◌then◌else◌}
+use Rattle.std.specs.Prelude.{Some, None, nat_lt, option_map, ◌||◌, if◌then◌else◌}
 use Rattle.std.specs.List.{list_any}
-use Rattle.std.proofs.lemmas.Bool.{cases_lt, le-ltb, lt-ltb, true≢false}
+use Rattle.std.proofs.lemmas.Bool.{cases_lt, le-ltb, lt-ltb}
 use Rattle.std.proofs.lemmas.List.{length-map}
 use Rattle.model.specs.Stream.{Octets}
 use Rattle.model.specs.Indexed.{GroupIndex, group_index}
 use Rattle.model.specs.Room.{is_full_for, is_large}
-use Rattle.model.specs.Spool.{Spool, NewsArticle, NewsGroup, filed_in, group_named, high, is_here}
+use Rattle.model.specs.Spool.{Spool, NewsArticle, filed_in, group_named, high}
 use Rattle.model.specs.SpoolFiles.{files_of, numbers_file, overview_file}
 use Rattle.model.specs.Article.{groups_of}
 use Rattle.model.specs.Lawful.{MayFile}
@@ -22,7 +22,7 @@ use Rattle.spool.specs.View.{SpoolView}
 use Rattle.model.proofs.Indexing.{numbers_size}
 use Rattle.index.specs.Filing.{end_of}
 use Rattle.index.proofs.Growing.{overview_size}
-use Rattle.index.proofs.LookUps.{group_is, not_here}
+use Rattle.index.proofs.LookUps.{group_is}
 use Rattle.spool.proofs.Full.{lacks}
 
 pub any_at : (p : Octets → Bool) (xs : List Octets) (k : ℕ) (d : Octets) → k < length xs → p (get_or xs k d) ≡ true → list_any p xs ≡ true
@@ -55,9 +55,6 @@ large_group S name i is =
     let overview : end_of i ≡ length (overview_file S name) = ap end_of its.its_index ∙ overview_size S its.group
     ∙ ap (λ (g : Octets). length (overview_file S g)) its.its_name in
     λ k. nat_lt 268423168 (numbers k) || nat_lt 268423168 (overview k)
-
-pub never_here : (S : Spool) (name : Octets) → None ≡ option_map (group_index S) (group_named S name) → is_here S name ≡ true → ⊥
-never_here S name is here = true≢false (sym here ∙ ap (λ (o : Option NewsGroup). is_some o) (not_here S name is))
 
 -- ---- an article
 

@@ -1,7 +1,7 @@
 -- What an article adds to the files of its groups.
 use Rattle.std.proofs.Common.{◌≡◌, ◌≢◌, inl, inr, ◌<◌, ◌≤◌, ℕ, zero, suc, ◌+◌, ◌*◌, Bool, true, false, cond, List, [], ◌∷◌, ◌++◌, length}
 use Rattle.std.proofs.Common.{get_or, map, refl, sym, ◌∙◌, ap, subst, arith, length-append}
-use Rattle.std.specs.Prelude.{Option, Some, None, bytes_eq, filter, filter_map, flat_map, is_some, not, option_map, slice_get, unwrap_or}
+use Rattle.std.specs.Prelude.{Option, Some, None, bytes_eq, filter, flat_map, is_some, not, option_map, slice_get, unwrap_or}
 use Rattle.std.specs.List.{Contains, list_any}
 use Rattle.std.specs.Option.{option_and_then}
 use Rattle.std.proofs.lemmas.Bool.{and_parts, not-true, or_parts, true≢false}
@@ -14,11 +14,11 @@ use Rattle.model.specs.Indexed.{ArePlaces, FilePlaces, GroupIndex, group_index}
 use Rattle.model.specs.Lawful.{MayFile}
 use Rattle.model.specs.Room.{is_full}
 use Rattle.model.specs.Laws.Room.{HasRoomForChange}
-use Rattle.model.specs.Spool.{Spool, NewsArticle, NewsGroup, entries, entries_from, filed_in, group_made, group_named, groups, high}
+use Rattle.model.specs.Spool.{Spool, NewsArticle, NewsGroup, group_named, groups}
 use Rattle.model.specs.Spool.{is_here}
 use Rattle.model.specs.SpoolFiles.{Append, filing_calls, next_line, next_record, number_record, numbers_file, numbers_name, overview_file}
 use Rattle.model.specs.SpoolFiles.{overview_name}
-use Rattle.model.specs.declared.change.Change.TheVariants.{Group, Article, Expire}
+use Rattle.model.specs.declared.change.Change.TheVariants.{Article}
 use Rattle.model.proofs.Asking.{changes_ask_few, not_full_room, records_size}
 use Rattle.model.proofs.HoldsOne.{high_few}
 use Rattle.model.proofs.Joined.{bytes_same}
@@ -29,7 +29,9 @@ use Rattle.index.specs.Filing.{end_of}
 use Rattle.index.specs.View.{IndexView, Indexes}
 use Rattle.index.proofs.Callers.{overview_small}
 use Rattle.index.proofs.Growing.{filed_distinct, overview_size}
+use Rattle.index.proofs.Known.{count_is}
 use Rattle.index.proofs.LookUps.{group_is}
+use Rattle.spool_opening.proofs.Going.{high_is}
 use Rattle.spool_growing.specs.Articles.{ArePieces, ArePiecesOf, CanFile}
 use Rattle.spool_growing.specs.Kept.{IsHeld}
 use Rattle.spool_growing.proofs.Absent.{LacksNames, group_files_lack, not_first}
@@ -58,9 +60,6 @@ pub record IsAt (S : Spool) (name : Octets) (k : ℕ) : Type 0 where
   pub group : NewsGroup
   pub its_name : group.name ≡ name
   pub at : slice_get (groups S) k ≡ Some group
-
-pub group_count : (S : Spool) (x : IndexView) → Indexes S x → length x.groups ≡ length (groups S)
-group_count S x is = ap (λ (gs : List GroupIndex). length gs) is.groups_are ∙ length-map (groups S) (group_index S)
 
 named : (S : Spool) (name : Octets) (g : NewsGroup) → group_named S name ≡ Some g → g.name ≡ name
 named S name g is =
@@ -92,18 +91,8 @@ both_at {X} {Y} {Z} f h xs ys k x y same first second =
     same_Some (f x) (h y) (sym (ap (option_map f) first) ∙ sym (slice_get-map f xs k) ∙ ap (λ (l : List Z). slice_get l k) same
     ∙ slice_get-map h ys k ∙ ap (option_map h) second)
 
-few_made : (n : ℕ) (R : Spool) → length (filter_map group_made (entries_from n R)) ≤ length R
-few_made n [] = omega arith
-few_made n (Group name status description moment ∷ R) = omega (arith, few_made (suc n) R)
-few_made n (Article text filed moment ∷ R) = omega (arith, few_made (suc n) R)
-few_made n (Expire group number ∷ R) = omega (arith, few_made (suc n) R)
-
-pub groups_few : (S : Spool) → length (groups S) ≤ length S
-unfolding groups entries
-groups_few S = few_made 1 S
-
 pub same_count : (S R : Spool) (x : IndexView) → Indexes S x → Indexes R x → length (groups S) ≡ length (groups R)
-same_count S R x is also = sym (group_count S x is) ∙ group_count R x also
+same_count S R x is also = sym (count_is S x is) ∙ count_is R x also
 
 -- what is kept of it
 pub kept_at : {X : Type 0} (sh : X → GroupIndex) (gs : List X) (S : Spool) (name : Octets) (k : ℕ) (x : X) (its : IsAt S name k)
@@ -144,9 +133,6 @@ overview_at inodes blocks S p name k its are =
     (groups S) p.overviews k its.group are.overviews_are its.at
 
 -- ---- one group
-
-high_is : (S : Spool) (g : NewsGroup) → length (group_index S g).filed ≡ high S g.name
-high_is S g = length-map (filed_in S g.name) (λ (a : NewsArticle). a.serial)
 
 pub few_filed : (S : Spool) (name : Octets) (k : ℕ) (its : IsAt S name k) (i : GroupIndex) → i ≡ group_index S its.group → length S ≤ 32768
     → length i.filed ≤ 32768

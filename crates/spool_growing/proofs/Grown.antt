@@ -1,27 +1,24 @@
 -- What is kept of a spool with one change more.
-use Rattle.std.proofs.Common.{◌≡◌, ◌≢◌, ◌⊎◌, inl, inr, ◌↔◌, cond, ℕ, ◌+◌, Bool, true, false, List, [], ◌∷◌, ◌++◌, length, map, refl, sym}
+use Rattle.std.proofs.Common.{◌≡◌, ◌≢◌, ◌⊎◌, inl, inr, ◌↔◌, ℕ, ◌+◌, List, [], ◌∷◌, ◌++◌, length, refl, sym}
 use Rattle.std.proofs.Common.{◌∙◌, ap, subst, arith, length-append}
-use Rattle.std.specs.Prelude.{Some, None, option_map, find, bytes_eq}
-use Rattle.std.specs.List.{list_any}
-use Rattle.std.proofs.lemmas.Bool.{cases_eq, or_from}
+use Rattle.std.specs.Prelude.{Some, None, option_map}
+use Rattle.std.proofs.lemmas.Bool.{cases_eq}
 use Rattle.std.proofs.lemmas.List.{length-map}
 use Rattle.std.proofs.lemmas.List.Sorted.{IsPermutation-refl, length_permutation}
 use Rattle.model.specs.Stream.{Octets}
 use Rattle.model.specs.Files.{File, files_in, table}
-use Rattle.model.specs.Indexed.{FilePlaces, GroupIndex, group_index}
+use Rattle.model.specs.Indexed.{FilePlaces}
 use Rattle.model.specs.Lawful.{MayMake, MayExpire}
 use Rattle.model.specs.Records.{expiry_record, group_record}
-use Rattle.model.specs.Spool.{Spool, NewsGroup, group_named, groups, is_name}
+use Rattle.model.specs.Spool.{Spool, group_named}
 use Rattle.model.specs.SpoolFiles.{Create, FileCall, after_calls, appended, change_calls, expiry_name, group_name, making_calls}
 use Rattle.model.specs.SpoolFiles.{numbers_name, overview_name}
 use Rattle.model.specs.declared.change.Change.{Change}
 use Rattle.model.specs.declared.change.Change.TheVariants.{Group, Expire}
-use Rattle.model.proofs.Joined.{bytes_swap, map_twice}
 use Rattle.fs.specs.Calls.{IsFileAt, IsThere}
 use Rattle.filing.specs.Calls.{Calls, CreatesAt, MakesAt, SameFilesBut}
 use Rattle.filing.proofs.Calling.{calls_then}
 use Rattle.fs_inodes.proofs.Grown.{one_name}
-use Rattle.index.specs.Naming.{heads}
 use Rattle.index.specs.View.{IndexView, Indexes}
 use Rattle.places.specs.Places.{AreNamed, name_of, with_change, with_group}
 use Rattle.places.proofs.Named.{are_by_name, grow_by_change, grow_by_group, have_names}
@@ -63,26 +60,6 @@ still_absent inodes at name content q old new others there other none (k, c, her
   by_place (inl same) = other (one_name (table inodes new) at name q content c there
       (subst (λ (j : ℕ). IsFileAt (table inodes new) j q c) same here))
   by_place (inr apart) = none (k, c, sym (others k apart) ∙ here)
-
--- the index has no group of this name
-none_named : (name : Octets) (gs : List NewsGroup) → find (λ (g : NewsGroup). is_name name g.name) gs ≡ None
-    → list_any (bytes_eq name) (map (λ (g : NewsGroup). g.name) gs) ≡ false
-none_named name [] none = refl
-none_named name (g ∷ gs) none = by_name (bytes_eq g.name name) refl none (none_named name gs) where
-  by_name : (b : Bool) → bytes_eq g.name name ≡ b → cond b (Some g) (find (λ (h : NewsGroup). is_name name h.name) gs) ≡ None
-      → (find (λ (h : NewsGroup). is_name name h.name) gs ≡ None → list_any (bytes_eq name) (map (λ (h : NewsGroup). h.name) gs) ≡ false)
-      → list_any (bytes_eq name) (g.name ∷ map (λ (h : NewsGroup). h.name) gs) ≡ false
-  by_name true is found later = absurd (cc)
-  by_name false is found later = or_from (bytes_eq name g.name) (list_any (bytes_eq name) (map (λ (h : NewsGroup). h.name) gs))
-      (bytes_swap g.name name is) (later found)
-
-pub heads_lack : (S : Spool) (x : IndexView) (name : Octets) → Indexes S x → group_named S name ≡ None
-    → list_any (bytes_eq name) (heads x.groups) ≡ false
-unfolding group_named
-heads_lack S x name is none =
-    ap (λ (gs : List GroupIndex). list_any (bytes_eq name) (heads gs)) is.groups_are
-    ∙ ap (list_any (bytes_eq name)) (map_twice (λ (i : GroupIndex). i.group.name) (group_index S) (groups S))
-    ∙ none_named name (groups S) none
 
 -- ---- the files of a group
 

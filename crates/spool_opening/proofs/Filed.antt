@@ -1,31 +1,27 @@
 -- An article is replayed.
 use Rattle.std.proofs.Common.{◌≡◌, ◌<◌, ◌≤◌, ℕ, zero, suc, ◌+◌, ◌^◌, Bool, true, false, cond, List, [], ◌∷◌, ◌++◌, length, get_or, refl}
 use Rattle.std.proofs.Common.{sym, ◌∙◌, ap, subst, arith, Option, Some, None}
-use Rattle.std.specs.Prelude.{bytes_eq, filter, find, is_some, nat_le, option_map, slice_get, ◌&&◌, ◌||◌}
-use Rattle.std.specs.List.{list_all, list_any}
-use Rattle.std.proofs.lemmas.Bool.{and_parts, leb-true}
+use Rattle.std.specs.Prelude.{bytes_eq, filter, find, is_some, option_map, slice_get, ◌||◌}
+use Rattle.std.specs.List.{list_any}
 use Rattle.std.proofs.lemmas.List.{length-take}
 use Rattle.std.proofs.lemmas.Option.{slice_get-map}
 use Rattle.std.proofs.lemmas.Slice.Eq.{bytes_eq-Decides}
 use Rattle.model.specs.Stream.{Octets}
-use Rattle.model.specs.Article.{Carried, Cause, are_distinct, groups_of}
+use Rattle.model.specs.Article.{Cause, groups_of}
 use Rattle.model.specs.Files.{File, HasRoom, IsFileSystem, table}
 use Rattle.model.specs.Indexed.{FilePlaces, GroupIndex, group_index}
 use Rattle.model.specs.Lawful.{MayFile}
-use Rattle.model.specs.Names.{is_group_name}
 use Rattle.model.specs.Spool.{Spool, NewsGroup, group_named, groups, is_here, is_name}
 use Rattle.model.specs.SpoolFiles.{overview_file, overview_name}
 use Rattle.model.specs.declared.change.Change.TheVariants.{Article}
-use Rattle.model.proofs.HoldsOne.{carried_cause}
-use Rattle.model.proofs.Ids.{no_cause}
 use Rattle.index.specs.Filing.{AreLineSizes, EndBelow, end_of}
 use Rattle.index.specs.View.{IndexView, Indexes}
+use Rattle.index.proofs.Growing.{overview_size}
 use Rattle.places.specs.Places.{AreNamed, with_change}
 use Rattle.places.proofs.Named.{grow_by_change}
 use Rattle.spool_opening.specs.Replayed.{AllGoOn, AreHere, IsBounded, IsItsFile, IsReplayed}
 use Rattle.spool_opening.specs.Stored.{HasPiece, Overview, Which, file_for, name_for, piece_for}
 use Rattle.spool_reading.proofs.Contents.{content_fits}
-use Rattle.spool_opening.proofs.Going.{overview_size}
 use Rattle.spool_opening.proofs.Growing.{article_is_read}
 use Rattle.spool_opening.proofs.Replaying.{its_file_there, its_name}
 
@@ -40,27 +36,6 @@ bounded host inodes blocks x p R room rule replayed few = record {
       let fits = content_fits inodes blocks has.place (record { name = overview_name g; content = has.content }) room rule has.there in
       omega (arith, fits, ap (λ (o : Octets). length o) has.front, length-take (length (overview_file R g)) has.content);
 }
-
-filter_short : (p : Octets → Bool) (xs : List Octets) → length (filter p xs) ≤ length xs
-filter_short p [] = omega arith
-filter_short p (x ∷ xs) = elim (p x) as (λ b. length (cond b (x ∷ filter p xs) (filter p xs)) ≤ length (x ∷ xs)) [
-  | true ↦
-      omega (arith, filter_short p xs)
-  | false ↦ omega (arith, filter_short p xs)
-]
-
-pub few_groups : (host : Octets) (S : Spool) (text : Octets) (gs : List Octets) (moment : ℕ) → MayFile host S text gs moment
-    → length gs ≤ 16
-few_groups host S text gs moment may =
-    let good = and_parts (nat_le (length (groups_of text)) 16 && list_all is_group_name (groups_of text)) (are_distinct (groups_of text))
-    (no_cause Carried text (carried_cause text may.carried)).good_groups in
-    let count = and_parts (nat_le (length (groups_of text)) 16) (list_all is_group_name (groups_of text)) good.0 in
-    omega (
-      arith,
-      ap (λ (l : List Octets). length l) may.filed,
-      filter_short (is_here S) (groups_of text),
-      leb-true (length (groups_of text)) 16 count.0,
-    )
 
 pub are_here : (S : Spool) (names : List Octets) → AreHere S (filter (is_here S) names)
 are_here S [] = λ k low. absurd (omega arith)

@@ -10,8 +10,8 @@ use Rattle.model.specs.Layout.{AreOfFormat, Holds, HoldsIn}
 use Rattle.model.specs.Spool.{Spool}
 use Rattle.model.specs.SpoolFiles.{files_of}
 use Rattle.model.proofs.Sizes.{sizes_bound}
+use Rattle.model.proofs.Owning.{zero_number}
 use Rattle.fs_check.specs.Checking.{most_octets}
-use Rattle.fs_layout.proofs.Entries.{zero_number}
 
 most_of_one : (format : ℕ) → format ≡ 1 → most_octets format ≡ 4235264
 most_of_one format one = ap (λ (b : Bool). cond {A = ℕ} b 4235264 268435456) (eq-eqb format 1 one)

@@ -1,19 +1,20 @@
 -- What is asked of an article's lines by the index is what the definitions say.
-use Rattle.std.proofs.Common.{◌≡◌, ◌<◌, ◌≤◌, ◌↔◌, ℕ, ◌+◌, ◌*◌, Bool, false, List, [], ◌∷◌, length, get_or, take, drop, refl, sym, ◌∙◌, ap}
-use Rattle.std.proofs.Common.{subst, arith, Option, None, inl, inr, length-append, zero-add}
-use Rattle.std.specs.Prelude.{bytes_eq, flat_map, IsTrue}
+use Rattle.std.proofs.Common.{◌≡◌, ◌<◌, ◌≤◌, ◌↔◌, ℕ, ◌+◌, ◌*◌, Bool, false, List, length, take, drop, sym, ◌∙◌, ap}
+use Rattle.std.proofs.Common.{subst, arith, Option, None, inl, inr}
+use Rattle.std.specs.Prelude.{bytes_eq, IsTrue}
 use Rattle.std.proofs.lemmas.Bool.{cases_lt}
 use Rattle.std.proofs.lemmas.List.{get_or_past, length-take, length-drop, length-map}
 use Rattle.std.proofs.lemmas.Slice.Eq.{bytes_eq-Decides}
 use Rattle.model.specs.Stream.{Octets}
 use Rattle.model.specs.Article.{overview_line}
 use Rattle.model.specs.Files.{File, HasRoom, IsFileSystem, table}
-use Rattle.model.specs.Indexed.{ends_from, group_index, line_start, value_of}
+use Rattle.model.specs.Indexed.{group_index, value_of}
 use Rattle.model.specs.Spool.{Spool, NewsArticle, NewsGroup, filed_in, high}
 use Rattle.model.specs.SpoolFiles.{is_of_change, next_line, next_record, number_record, numbers_file, numbers_name, overview_file}
-use Rattle.model.specs.SpoolFiles.{overview_lines, overview_name, overview_of}
+use Rattle.model.specs.SpoolFiles.{overview_name}
 use Rattle.model.proofs.Indexing.{numbers_size}
 use Rattle.index.specs.Filing.{end_of}
+use Rattle.index.proofs.Growing.{overview_size}
 use Rattle.spool_reading.specs.Sorted.{AreSorted}
 use Rattle.spool_opening.specs.Stored.{HasPiece, IsFileAt, Numbers, Overview, Which, file_for, name_for, piece_for}
 use Rattle.spool_opening.specs.Going.{GoesOn}
@@ -57,32 +58,6 @@ piece_fits inodes blocks name piece after room rule has =
     )
 
 -- ---- by the index
-
--- where the last line ends
-last_from : ℕ → List ℕ → ℕ
-last_from start [] = start
-last_from start (n ∷ ns) = last_from n ns
-
-last_is : (n : ℕ) (ns : List ℕ) → get_or (n ∷ ns) (length ns) 0 ≡ last_from n ns
-unfolding last_from
-last_is n [] = refl
-last_is n (m ∷ ns) = last_is m ns
-
-end_is : (ends : List ℕ) → line_start ends (length ends) ≡ last_from 0 ends
-unfolding last_from
-end_is [] = refl
-end_is (n ∷ ns) = last_is n ns
-
-ends_total : (start : ℕ) (ls : List Octets) → last_from start (ends_from start ls) ≡ start + length (flat_map (λ l. l) ls)
-unfolding last_from
-ends_total start [] = omega arith
-ends_total start (l ∷ ls) = ends_total (start + length l) ls ∙ omega (arith, length-append l (flat_map (λ x. x) ls))
-
-pub overview_size : (S : Spool) (g : NewsGroup) → end_of (group_index S g) ≡ length (overview_file S g.name)
-unfolding overview_of
-overview_size S g =
-    let ls : List Octets = overview_lines (filed_in S g.name) in
-    end_is (ends_from 0 ls) ∙ ends_total 0 ls ∙ zero-add (length (flat_map (λ l. l) ls))
 
 pub high_is : (S : Spool) (g : NewsGroup) → length (group_index S g).filed ≡ high S g.name
 high_is S g = length-map (filed_in S g.name) (λ (a : NewsArticle). a.serial)

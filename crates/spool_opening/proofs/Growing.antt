@@ -6,18 +6,18 @@ use Rattle.std.specs.List.{Contains, list_any}
 use Rattle.std.specs.Option.{option_or}
 use Rattle.std.proofs.lemmas.Bool.{true≢false}
 use Rattle.std.proofs.lemmas.List.{append_assoc, append-nil}
-use Rattle.std.proofs.lemmas.List.Elements.{filter_map-append}
 use Rattle.std.proofs.lemmas.List.Folds.{find-append}
 use Rattle.std.proofs.lemmas.Option.{slice_get_past}
 use Rattle.std.proofs.lemmas.Slice.Eq.{bytes_eq-Decides}
 use Rattle.model.specs.Stream.{Octets}
 use Rattle.model.specs.Files.{IsFileSystem, files_in, table}
 use Rattle.model.specs.Lawful.{IsLawful, IsLawfulAfter, MayFollow}
-use Rattle.model.specs.Spool.{Spool, NewsGroup, entries, entries_from, group_made, group_named, groups, is_here, is_name}
+use Rattle.model.specs.Spool.{Spool, NewsGroup, entries, group_made, group_named, groups, is_here, is_name}
 use Rattle.model.specs.SpoolFiles.{HasRoomInFile, change_file, numbers_of, overview_of}
 use Rattle.model.specs.declared.change.Change.{Change}
 use Rattle.model.specs.declared.change.Change.TheVariants.{Group, Article, Expire}
-use Rattle.model.proofs.Filing.{entries_push, new_has_nothing}
+use Rattle.model.proofs.Filing.{new_has_nothing}
+use Rattle.places.proofs.Named.{groups_more}
 use Rattle.spool_opening.specs.Stored.{AreRead, HasFront, HasPiece, IsFileAt, Numbers, Overview, Which, file_for, name_for, piece_for}
 use Rattle.spool_opening.proofs.Fronts.{article_grows, front_grows, other_grows}
 
@@ -38,12 +38,6 @@ changes_more P (e ∷ R) c old new zero d is = old 0 d is
 changes_more P (e ∷ R) c old new (suc n) d is = changes_more (λ m. P (suc m)) R c (λ m f at. old (suc m) f at) new n d is
 
 -- ---- groups that are here
-
-groups_more : (S : Spool) (c : Change)
-    → groups (S ++ c ∷ []) ≡ groups S ++ filter_map group_made (record { serial = length S + 1; change = c } ∷ [])
-unfolding groups entries
-groups_more S c = ap (filter_map group_made) (entries_push 1 S c)
-    ∙ filter_map-append group_made (entries_from 1 S) (record { serial = length S + 1; change = c } ∷ [])
 
 pub here_more : (S : Spool) (c : Change) (g : Octets)
     → group_named (S ++ c ∷ []) g ≡ option_or (group_named S g)

@@ -1,18 +1,15 @@
 -- One change more is replayed.
-use Rattle.std.proofs.Common.{◌≡◌, ℕ, ◌+◌, Bool, true, false, cond, List, [], ◌∷◌, ◌++◌, length, map, refl, sym, ◌∙◌, ap, subst, Some, None}
-use Rattle.std.specs.Prelude.{bytes_eq, find, option_map}
-use Rattle.std.specs.List.{Contains, list_any}
-use Rattle.std.proofs.lemmas.Bool.{or_from}
+use Rattle.std.proofs.Common.{◌≡◌, ℕ, ◌+◌, List, [], ◌∷◌, ◌++◌, length, refl, sym, ◌∙◌, ap, subst, Some}
+use Rattle.std.specs.Prelude.{option_map}
+use Rattle.std.specs.List.{Contains}
 use Rattle.model.specs.Stream.{Octets}
 use Rattle.model.specs.Files.{File, files_in, table}
-use Rattle.model.specs.Indexed.{FilePlaces, GroupIndex, group_index}
+use Rattle.model.specs.Indexed.{FilePlaces}
 use Rattle.model.specs.Lawful.{MayExpire, MayMake}
-use Rattle.model.specs.Spool.{Spool, NewsGroup, group_named, groups, is_name}
+use Rattle.model.specs.Spool.{Spool}
 use Rattle.model.specs.SpoolFiles.{change_file, numbers_name, overview_name}
 use Rattle.model.specs.declared.change.Change.{Change}
 use Rattle.model.specs.declared.change.Change.TheVariants.{Group, Expire}
-use Rattle.model.proofs.Joined.{bytes_swap}
-use Rattle.index.specs.Naming.{heads}
 use Rattle.index.specs.View.{IndexView, Indexes}
 use Rattle.places.specs.Places.{AreNamed, name_of, with_change, with_group}
 use Rattle.places.proofs.Named.{grow_by_change, grow_by_group}
@@ -74,22 +71,3 @@ group_replayed host inodes blocks R x y p q at numbers overview name status desc
       files : (w : Which) → (k : ℕ) × ((content : Octets) × IsFileAt (table inodes blocks) k (name_for w name) content)
       files Numbers = (numbers, numbered)
       files Overview = (overview, shown)
-
--- ---- a new group's name is on no head
-
-none_headed : (R : Spool) (name : Octets) (gs : List NewsGroup) → find (λ (g : NewsGroup). is_name name g.name) gs ≡ None
-    → list_any (bytes_eq name) (heads (map (group_index R) gs)) ≡ false
-none_headed R name [] none = refl
-none_headed R name (g ∷ gs) none = by_test (bytes_eq g.name name) refl none (λ later. none_headed R name gs later) where
-  by_test : (b : Bool) → bytes_eq g.name name ≡ b → cond b (Some g) (find (λ (h : NewsGroup). is_name name h.name) gs) ≡ None
-      → (find (λ (h : NewsGroup). is_name name h.name) gs ≡ None → list_any (bytes_eq name) (heads (map (group_index R) gs)) ≡ false)
-      → list_any (bytes_eq name) (heads (map (group_index R) (g ∷ gs))) ≡ false
-  by_test true at found rest = absurd (cc)
-  by_test false at found rest = or_from (bytes_eq name g.name) (list_any (bytes_eq name) (heads (map (group_index R) gs)))
-      (bytes_swap g.name name at) (rest found)
-
-pub not_headed : (R : Spool) (x : IndexView) (name : Octets) → Indexes R x → group_named R name ≡ None
-    → list_any (bytes_eq name) (heads x.groups) ≡ false
-unfolding group_named
-not_headed R x name is none = ap (λ (gs : List GroupIndex). list_any (bytes_eq name) (heads gs)) is.groups_are
-    ∙ none_headed R name (groups R) none

@@ -14,10 +14,11 @@ use Rattle.model.proofs.HoldsOne.{high_few}
 use Rattle.index.specs.Filing.{end_of}
 use Rattle.index.specs.View.{IndexView}
 use Rattle.index.proofs.LookUps.{group_is, not_here}
+use Rattle.index.proofs.Growing.{overview_size}
 use Rattle.spool_opening.specs.Replayed.{IsBounded}
 use Rattle.spool_opening.specs.Stored.{HasPiece, Which, file_for, name_for, piece_for}
 use Rattle.spool_opening.specs.Going.{GoesOn}
-use Rattle.spool_opening.proofs.Going.{goes_on_is, high_is, overview_size}
+use Rattle.spool_opening.proofs.Going.{goes_on_is, high_is}
 
 mapped : {Y : Type 0} (f : NewsGroup → Y) (o : Option NewsGroup) → is_some (option_map f o) ≡ is_some o
 mapped f None = refl

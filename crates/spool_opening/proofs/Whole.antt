@@ -18,6 +18,7 @@ use Rattle.fs_layout.proofs.Tables.{length-table}
 use Rattle.index.specs.Filing.{end_of}
 use Rattle.index.specs.View.{IndexView, Indexes}
 use Rattle.index.proofs.LookUps.{group_is}
+use Rattle.index.proofs.Growing.{overview_size}
 use Rattle.places.specs.Places.{AreNamed}
 use Rattle.records.specs.Kinds.{front_of}
 use Rattle.records.specs.declared.names.FileKind.{FileKind}
@@ -28,7 +29,7 @@ use Rattle.spool_opening.specs.Ended.{IsNameOf, IsWholeAt}
 use Rattle.spool_opening.specs.Replayed.{AreReplayedTo}
 use Rattle.spool_opening.specs.Stored.{AreRead, Numbers, Overview, Which, file_for, name_for}
 use Rattle.spool_opening.proofs.Fronts.{is_front}
-use Rattle.spool_opening.proofs.Going.{high_is, overview_size}
+use Rattle.spool_opening.proofs.Going.{high_is}
 use Rattle.spool_opening.proofs.Growing.{none_is_read}
 use Rattle.spool_opening.proofs.Sizes.{here_is}
 

@@ -2,7 +2,8 @@
 use Rattle.std.proofs.Common.{◌≡◌, inl, inr, ◌<◌, ◌≤◌, ℕ, Some, None, List, get_or, length, sym, ◌∙◌, ap, arith}
 use Rattle.model.specs.Stream.{Octets}
 use Rattle.model.specs.Files.{File, HasRoom, IsFileSystem, content_of, entry, name_in, slot_of, table}
-use Rattle.fs_layout.proofs.Entries.{length-content, zero_at}
+use Rattle.model.proofs.Owning.{content_size}
+use Rattle.fs_layout.proofs.Entries.{zero_at}
 use Rattle.fs_layout.proofs.Tables.{IsNamed, file_at_file, file_at_free, get_or-table, named_from_there}
 
 module _ (inodes : ℕ) (blocks : List Octets) (fs : IsFileSystem inodes blocks) (at : ℕ) (low : at < inodes) (slot : Octets)
@@ -35,5 +36,5 @@ pub content_fits : (inodes : ℕ) (blocks : List Octets) (k : ℕ) (f : File) �
     → get_or (table inodes blocks) k None ≡ Some f → length f.content ≤ 268435456
 content_fits inodes blocks k f room fs there =
     let named = named_file inodes blocks k f fs there in
-    let long = length-content blocks (entry inodes blocks k) room.blocks_whole (λ b owns. (fs.within k b named.below owns).1) in
+    let long = content_size blocks (entry inodes blocks k) room.blocks_whole (λ b owns. (fs.within k b named.below owns).1) in
     omega (arith, long, named.file.small, ap (λ (o : Octets). length o) named.content_is)

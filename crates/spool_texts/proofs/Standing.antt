@@ -15,8 +15,8 @@ use Rattle.model.specs.Spool.{Spool, Entry, NewsArticle, article_filed, entries}
 use Rattle.model.specs.SpoolFiles.{article_file, article_name, change_file}
 use Rattle.model.specs.declared.change.Change.{Change}
 use Rattle.model.specs.declared.change.Change.TheVariants.{Group, Article, Expire}
+use Rattle.model.proofs.Owning.{content_size}
 use Rattle.lookups.specs.Held.{article_with, text_of}
-use Rattle.fs_layout.proofs.Entries.{length-content}
 use Rattle.fs_layout.proofs.Tables.{named_from_there}
 
 -- ---- the last octets
@@ -147,7 +147,7 @@ text_stands inodes blocks room fs S p places serial n same are is =
     let at = get_or p.changes (serial - 1) 0 in
     let e = entry inodes blocks at in
     let long : length (content_of blocks e) ≡ size e =
-    length-content blocks e room.blocks_whole (λ b owns. (fs.within at b there.below owns).1) in
+    content_size blocks e room.blocks_whole (λ b owns. (fs.within at b there.below owns).1) in
     let record_size : size e ≡ length (article_record one.article) = sym long ∙ ap (λ (o : Octets). length o) there.content_is in
     let is : take n (drop (size e - n) (content_of blocks e)) ≡ one.article.text =
     ap (λ (o : Octets). take n (drop (size e - n) o)) there.content_is

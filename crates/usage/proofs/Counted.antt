@@ -1,26 +1,16 @@
 -- The bits of octets, set and clear.
-use Rattle.std.proofs.Common.{◌≡◌, ◌<◌, ◌≤◌, inl, inr, ℕ, zero, suc, ◌+◌, ◌-◌, ◌*◌, cond, not, Bool, true, false}
-use Rattle.std.proofs.Common.{count_by, List, [], ◌∷◌, get_or, length, refl, sym, ◌∙◌, ap, arith}
+use Rattle.std.proofs.Common.{◌≡◌, ◌<◌, ◌≤◌, inl, inr, ℕ, ◌+◌, ◌-◌, ◌*◌, not, Bool, true, false}
+use Rattle.std.proofs.Common.{count_by, List, [], get_or, length, refl, sym, ◌∙◌, ap, arith}
 use Rattle.std.specs.List.{range_with_len}
 use Rattle.std.proofs.lemmas.List.Elements.{All-get_or}
 use Rattle.std.proofs.lemmas.List.FromFn.{length-range_with_len}
 use Rattle.model.specs.Files.{HasRoom, IsFileSystem, free_blocks, is_marked_used}
 use Rattle.model.specs.Stream.{Octets}
 use Rattle.fs_layout.specs.Bits.{bit_of}
-use Rattle.fs_layout.proofs.Counts.{count_cons, count_same, count_split, mark_is_bit}
+use Rattle.fs_layout.proofs.Counts.{count_same, count_split, mark_is_bit}
+use Rattle.fs_layout.proofs.OctetBits.{count_not}
+use Rattle.fs_layout.proofs.Marking.{count_none}
 use Rattle.usage.specs.Usage.{BitsAreUsedBlocks, used_in}
-
-count_not : (p : ℕ → Bool) (xs : List ℕ) → count_by p xs + count_by (λ x. not (p x)) xs ≡ length xs
-count_not p [] = refl
-count_not p (x ∷ xs) =
-    either (p x) (count_cons p x xs) (count_cons (λ y. not (p y)) x xs) (count_not p xs)
-  where
-    either : (t : Bool) → count_by p (x ∷ xs) ≡ cond t 1 0 + count_by p xs
-        → count_by (λ y. not (p y)) (x ∷ xs) ≡ cond (not t) 1 0 + count_by (λ y. not (p y)) xs
-        → count_by p xs + count_by (λ y. not (p y)) xs ≡ length xs
-        → count_by p (x ∷ xs) + count_by (λ y. not (p y)) (x ∷ xs) ≡ suc (length xs)
-    either true set clear rest = omega arith
-    either false set clear rest = omega arith
 
 -- the bits that aren't clear are set
 pub set_rest : (octets : Octets) (clear : ℕ) → clear ≡ count_by (λ bit. not (bit_of octets bit)) (range_with_len 0 (8 * length octets))
@@ -44,19 +34,6 @@ bits_of_block blocks n whole =
     at : (i : ℕ) → 0 + i ≡ i
     at i = omega arith
 
-none_in : (p : ℕ → Bool) (a n : ℕ) → ((i : ℕ) → i < n → p (a + i) ≡ false) → count_by p (range_with_len a n) ≡ 0
-none_in p a zero none = refl
-none_in p a (suc n) none =
-    count_cons p a (range_with_len (a + 1) n)
-    ∙ ap (λ (t : Bool). cond t 1 0 + count_by p (range_with_len (a + 1) n)) (here (none 0 (omega arith)))
-    ∙ ap (λ (m : ℕ). 0 + m) (none_in p (a + 1) n (λ i low. moved i (none (suc i) (omega arith))))
-  where
-    here : p (a + 0) ≡ false → p a ≡ false
-    here e = let x : a ≡ a + 0 = omega arith in ap p x ∙ e
-
-    moved : (i : ℕ) → p (a + suc i) ≡ false → p (a + 1 + i) ≡ false
-    moved i e = let x : a + 1 + i ≡ a + suc i = omega arith in ap p x ∙ e
-
 sums : (n u v c d all up past free : ℕ) → u ≡ c → v ≡ d → all ≡ c + d → all ≡ up + past → past ≡ 0 → up + free ≡ n → u + v + free ≡ n
 sums n u v c d all up past free first second whole split none marked = omega (arith, first, second, whole, split, none, marked)
 
@@ -73,7 +50,7 @@ module _ (inodes : ℕ) (blocks : List Octets) (room : HasRoom inodes blocks) (f
 
   past_last : (k : ℕ) → length blocks + k ≡ 65536 → count_by (is_marked_used blocks) (range_with_len (0 + length blocks) k) ≡ 0
   past_last k size =
-      none_in (is_marked_used blocks) (0 + length blocks) k
+      count_none (is_marked_used blocks) (0 + length blocks) k
       (λ i low. unmarked (0 + length blocks + i) (omega (arith, low, size)) (omega arith))
 
   whole_block : (k : ℕ) → k < 258 → length (get_or blocks k []) ≡ 4096

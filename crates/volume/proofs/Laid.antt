@@ -57,7 +57,7 @@ laid_over_other xs (n ∷ ns) (image ∷ images) k other =
     laid_over_other (set xs n image) ns images k (λ i h. other (suc i) (omega arith))
     ∙ get_or-set_other xs n k image [] (other 0 (omega arith))
 
-distinct_tail : (n : ℕ) (ns : List ℕ) → AreDistinct (n ∷ ns) → AreDistinct ns
+pub distinct_tail : (n : ℕ) (ns : List ℕ) → AreDistinct (n ∷ ns) → AreDistinct ns
 distinct_tail n ns distinct i j less low = distinct (suc i) (suc j) (omega arith) (omega arith)
 
 distinct_head : (n : ℕ) (ns : List ℕ) → AreDistinct (n ∷ ns) → (i : ℕ) → i < length ns → n ≢ get_or ns i 0

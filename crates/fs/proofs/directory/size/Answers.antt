@@ -1,6 +1,6 @@
 use Rattle.std.proofs.Common.{refl, sym, ◌∙◌}
 use Rattle.model.specs.Files.{entry, content_of}
-use Rattle.fs_layout.proofs.Entries.{length-content}
+use Rattle.model.proofs.Owning.{content_size}
 use Rattle.fs_layout.proofs.Tables.{no_slot, there_from_slot}
 use Rattle.fs.proofs.directory.size.Goals as goal
 
@@ -20,6 +20,6 @@ returns-clause-found g c =
       at,
       content_of blocks (entry c.args.inodes blocks at),
       there_from_slot c.args.inodes blocks c.requires.rule at c.args.name.now found.below c.requires.name.0 (found.is ∙ c.slot_for.ensures),
-      c.size_of.ensures ∙ sym (length-content blocks (entry c.args.inodes blocks at) c.requires.room.blocks_whole
+      c.size_of.ensures ∙ sym (content_size blocks (entry c.args.inodes blocks at) c.requires.room.blocks_whole
           (λ b owns. (c.requires.rule.within at b found.below owns).1)),
     )

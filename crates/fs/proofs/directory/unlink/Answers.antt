@@ -7,10 +7,10 @@ use Rattle.fs_inodes.specs.Changes.{ReplacesContent}
 use Rattle.fs_layout.proofs.Tables.{no_slot, there_from_slot, there_once, file_from_slot}
 use Rattle.fs_inodes.proofs.Replacing.{named_now, size_now}
 use Rattle.fs_layout.specs.Touches.{TouchesInode}
-use Rattle.fs_layout.proofs.Entries.{length-content}
 use Rattle.fs_layout.proofs.Touching.{inode_and_slot}
 use Rattle.fs_inodes.proofs.Named.{file_names}
 use Rattle.model.specs.Room.{content_blocks}
+use Rattle.model.proofs.Owning.{content_size}
 use Rattle.fs.proofs.directory.unlink.Goals as goal
 
 module _ (inodes at : ℕ) (name : List ℕ) (old mid : List (List ℕ)) (low : at < inodes)
@@ -73,7 +73,7 @@ returns-clause-touches g c k content is =
     let file = file_from_slot c.args.inodes old c.requires.rule at c.args.name.now found.below c.requires.name.0 (found.is
     ∙ c.slot_for.ensures) in
     let names = file_names c.args.inodes at old c.requires.room c.requires.rule found.below file in
-    let long = length-content old (entry c.args.inodes old at) c.requires.room.blocks_whole
+    let long = content_size old (entry c.args.inodes old at) c.requires.room.blocks_whole
     (λ b owns. (c.requires.rule.within at b found.below owns).1) in
     let sized : size (entry c.args.inodes old at) ≡ length content =
     sym long ∙ ap (λ (o : List ℕ). length o)

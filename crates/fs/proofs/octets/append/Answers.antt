@@ -1,10 +1,10 @@
 use Rattle.std.proofs.Common.{◌≡◌, ℕ, ◌+◌, ◌++◌, length, refl, sym, ◌∙◌, subst, List, ap, arith, length-append}
 use Rattle.model.specs.Files.{entry, content_of}
+use Rattle.model.proofs.Owning.{content_size}
 use Rattle.fs_inodes.specs.Growing.{HasNoRoomFor, most_octets}
 use Rattle.fs_inodes.proofs.Grown.{was_size}
 use Rattle.fs.proofs.Within.{within_kept}
 use Rattle.std.proofs.lemmas.Bool.{OnFalse_at, OnTrue_at}
-use Rattle.fs_layout.proofs.Entries.{length-content}
 use Rattle.fs_layout.proofs.Tables.{no_slot, there_from_slot, file_from_slot, there_once}
 use Rattle.fs_layout.specs.Touches.{Touches, touched_by_growth}
 use Rattle.fs.proofs.octets.append.Goals as goal
@@ -30,7 +30,7 @@ returns-then-not-has_room_for-clause-full g c =
     let found = c.in-Some.ensures in
     let at = c.in-Some.at in
     let is : c.size_of-size.result ≡ length (content_of blocks (entry c.args.inodes blocks at)) =
-    c.size_of-size.ensures ∙ sym (length-content blocks (entry c.args.inodes blocks at) c.requires.room.blocks_whole
+    c.size_of-size.ensures ∙ sym (content_size blocks (entry c.args.inodes blocks at) c.requires.room.blocks_whole
     (λ b owns. (c.requires.rule.within at b found.below owns).1)) in
     λ e. (
       (
@@ -65,7 +65,7 @@ returns-clause-touches g c k content there =
     there_once c.args.inodes old c.requires.rule at k c.args.name.now (content_of old (entry c.args.inodes old at)) content
     (there_from_slot c.args.inodes old c.requires.rule at c.args.name.now found.below c.requires.name.0 (found.is ∙ c.slot_for.ensures))
     there in
-    let long = length-content old (entry c.args.inodes old at) c.requires.room.blocks_whole
+    let long = content_size old (entry c.args.inodes old at) c.requires.room.blocks_whole
     (λ b owns. (c.requires.rule.within at b found.below owns).1) in
     subst (λ (n : ℕ). Touches (touched_by_growth n (length c.args.octets.now)) old new) (sym long
     ∙ ap (λ (o : List ℕ). length o) same) c.in_ok-extend.ensures.touches

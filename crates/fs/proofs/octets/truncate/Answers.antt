@@ -9,10 +9,10 @@ use Rattle.fs_inodes.proofs.Grown.{was_size}
 use Rattle.fs_inodes.proofs.Named.{file_names}
 use Rattle.fs.proofs.Within.{within_kept}
 use Rattle.model.specs.Room.{content_blocks}
+use Rattle.model.proofs.Owning.{content_size}
 use Rattle.fs_inodes.specs.Changes.{ReplacesContent, TakesNone, Rewrites}
 use Rattle.fs_inodes.specs.Growing.{GrowsBy}
 use Rattle.fs.proofs.Composing.{grown, lowest_none}
-use Rattle.fs_layout.proofs.Entries.{length-content}
 use Rattle.fs_inodes.proofs.Replacing.{replaces_same}
 use Rattle.fs_layout.proofs.Tables.{file_from_slot, no_slot, there_from_slot, there_once}
 use Rattle.fs_layout.specs.Touches.{Touches, TouchesInode, touched_by_cut, touched_by_growth, touched_by_truncation}
@@ -28,7 +28,7 @@ module _ (inodes at end was : ℕ) (name : List ℕ) (old new : List (List ℕ))
   long : was ≡ length content
   long =
       read
-      ∙ sym (length-content old (entry inodes old at) room.blocks_whole (λ b owns. (fs.within at b low owns).1))
+      ∙ sym (content_size old (entry inodes old at) room.blocks_whole (λ b owns. (fs.within at b low owns).1))
 
   shorter : end ≤ was → ReplacesContent inodes at (take end content) old new → TakesNone old new
       → Rewrites inodes name (λ content. take end content ++ replicate (end - length content) 0) old new

@@ -12,8 +12,8 @@ use Rattle.fs_inodes.specs.Growing.{HasNoRoomFor, most_octets}
 use Rattle.fs_inodes.proofs.Grown.{was_size}
 use Rattle.fs.proofs.Within.{within_kept}
 use Rattle.model.specs.Room.{content_blocks, pointers_put}
+use Rattle.model.proofs.Owning.{content_size}
 use Rattle.fs.proofs.Composing.{lowest_after, lowest_same, still_file, still_room, written_past}
-use Rattle.fs_layout.proofs.Entries.{length-content}
 use Rattle.fs_layout.proofs.Tables.{no_slot, there_from_slot, there_once, file_from_slot}
 use Rattle.fs_layout.specs.Touches.{Touches, blocks_reached, touched_by_growth, touched_by_write}
 use Rattle.fs_layout.proofs.Touching.{touches_then, touches_more}
@@ -22,7 +22,7 @@ use Rattle.fs.proofs.octets.write_at.Goals as goal
 module _ (inodes at place : ℕ) (name : List ℕ) (old : List (List ℕ)) (room : HasRoom inodes old) (fs : IsFileSystem inodes old)
     (low : at < inodes) where
   long : length (content_of old (entry inodes old at)) ≡ size (entry inodes old at)
-  long = length-content old (entry inodes old at) room.blocks_whole (λ b owns. (fs.within at b low owns).1)
+  long = content_size old (entry inodes old at) room.blocks_whole (λ b owns. (fs.within at b low owns).1)
 
   inside : IsFileAt (table inodes old) at name (content_of old (entry inodes old at))
       → ((k : ℕ) (content : List ℕ) → IsFileAt (table inodes old) k name content → place ≤ length content)

@@ -5,8 +5,9 @@ use Rattle.std.proofs.lemmas.Bool.{cases_lt}
 use Rattle.std.proofs.lemmas.List.{take_all}
 use Rattle.model.specs.Volume.{number_at}
 use Rattle.model.specs.Files.{Entry, entry, entry_of, size, pointer, content_of, indirect_pointer, block_count}
+use Rattle.model.proofs.Owning.{content_size}
 use Rattle.fs_layout.specs.Blocks.{IsThere}
-use Rattle.fs_layout.proofs.Entries.{owns_pointer, length-content}
+use Rattle.fs_layout.proofs.Entries.{owns_pointer}
 use Rattle.fs_inodes.proofs.Contents.{content_part}
 use Rattle.fs_inodes.proofs.Named.{double_is_there, table_is_there}
 use Rattle.fs_inodes.proofs.reading.piece.Goals as goal
@@ -39,7 +40,7 @@ returns-then-size-place g c =
     let blocks = g.B.Blocks.blocks c.args.blocks.now in
     let e : Entry = entry c.args.inodes blocks c.args.at in
     let sized : c.number64-size.result ≡ size e = c.number64-size.ensures ∙ ap (λ (o : List ℕ). number_at 4 8 o) c.get_record.ensures in
-    let long = length-content blocks e c.requires.room.blocks_whole (λ b owns. (c.requires.rule.within c.args.at b c.requires.below owns).1)
+    let long = content_size blocks e c.requires.room.blocks_whole (λ b owns. (c.requires.rule.within c.args.at b c.requires.below owns).1)
     in
     nothing (drop c.args.place (content_of blocks e)) (min c.args.count (4096 - c.args.place % 4096))
     (omega (arith, long, sized, length-drop c.args.place (content_of blocks e)))
@@ -84,7 +85,7 @@ returns g c =
     let sized : c.number64-size.result ≡ size e = c.number64-size.ensures ∙ ap (λ (o : List ℕ). number_at 4 8 o) c.get_record.ensures in
     let is : c.pointer_at-number.result ≡ pointer e (place / 4096) = c.pointer_at-number.ensures
     ∙ ap (λ (o : List ℕ). pointer (entry_of blocks o []) (place / 4096)) c.get_record.ensures in
-    let long = length-content blocks e c.requires.room.blocks_whole (λ b owns. (c.requires.rule.within c.args.at b c.requires.below owns).1)
+    let long = content_size blocks e c.requires.room.blocks_whole (λ b owns. (c.requires.rule.within c.args.at b c.requires.below owns).1)
     in
     let width : place % 4096 + some - place % 4096 ≡ some = omega arith in
     let few : some ≡ min (min c.args.count (4096 - place % 4096)) (length (drop place (content_of blocks e))) =

@@ -2,8 +2,8 @@ use Rattle.std.proofs.Common.{◌≡◌, ◌≤◌, ◌<◌, ℕ, ◌+◌, ◌-�
 use Rattle.std.proofs.lemmas.List.{length-take, length-take-le, take_all, take-take}
 use Rattle.model.specs.Volume.{number_at}
 use Rattle.model.specs.Files.{Entry, HasRoom, IsFile, IsFileSystem, block_count, entry, size, content_of}
+use Rattle.model.proofs.Owning.{content_size}
 use Rattle.fs_inodes.specs.Changes.{ReplacesContent, SameMarks, TakesNone}
-use Rattle.fs_layout.proofs.Entries.{length-content}
 use Rattle.fs_layout.proofs.Puts.{on_ok}
 use Rattle.fs_inodes.proofs.Replacing.{replaces_none, replaces_same, replaces_then, named_now, size_now}
 use Rattle.fs_layout.specs.Touches.{TouchesInode}
@@ -17,7 +17,7 @@ module _ (inodes at end keep : ℕ) (old : List (List ℕ)) (room : HasRoom inod
   content = content_of old (entry inodes old at)
 
   long : length content ≡ size (entry inodes old at)
-  long = length-content old (entry inodes old at) room.blocks_whole (λ b owns. (fs.within at b low owns).1)
+  long = content_size old (entry inodes old at) room.blocks_whole (λ b owns. (fs.within at b low owns).1)
 
   none : (left : ℕ) → left ≡ block_count (entry inodes old at) → Shrunk inodes at keep left old old
   none left is = record {

@@ -4,8 +4,8 @@ use Rattle.std.proofs.Math.Seq.{take-add}
 use Rattle.disk.specs.Image.{overwritten}
 use Rattle.disk.proofs.Images.{length-overwritten}
 use Rattle.model.specs.Files.{HasRoom, IsFile, IsFileSystem, entry, size, content_of}
+use Rattle.model.proofs.Owning.{content_size}
 use Rattle.fs_inodes.specs.Changes.{ReplacesContent, SameMarks}
-use Rattle.fs_layout.proofs.Entries.{length-content}
 use Rattle.fs_inodes.proofs.Replacing.{replaces_none, replaces_same, replaces_then, named_now, size_now}
 use Rattle.fs_inodes.proofs.Spans.{overwritten_none, overwritten_more}
 use Rattle.fs_layout.specs.Touches.{SameBut}
@@ -16,7 +16,7 @@ use Rattle.fs_inodes.proofs.writing.overwrite.Goals as goal
 module _ (inodes at place done : ℕ) (octets : List ℕ) (old new : List (List ℕ)) (room : HasRoom inodes old) (fs : IsFileSystem inodes old)
     (low : at < inodes) (file : IsFile (entry inodes old at)) (fits : place + length octets ≤ size (entry inodes old at)) where
   long : length (content_of old (entry inodes old at)) ≡ size (entry inodes old at)
-  long = length-content old (entry inodes old at) room.blocks_whole (λ b owns. (fs.within at b low owns).1)
+  long = content_size old (entry inodes old at) room.blocks_whole (λ b owns. (fs.within at b low owns).1)
 
   none : Wrote inodes at place 0 octets old old
   none = record {

@@ -4,9 +4,10 @@ use Rattle.model.specs.Stream.{Octets}
 use Rattle.model.specs.Records.{group_record}
 use Rattle.model.specs.declared.change.Change.TheVariants.{Group}
 use Rattle.model.proofs.Asking.{changes_ask_few}
+use Rattle.index.proofs.Callers.{no_head}
 use Rattle.filing.specs.Calls.{IsKnown}
 use Rattle.spool_growing.specs.Growing.{HasFree, LacksGroup}
-use Rattle.spool_growing.proofs.Grown.{applied_dirties, group_grown, heads_lack, lacks_group}
+use Rattle.spool_growing.proofs.Grown.{applied_dirties, group_grown, lacks_group}
 use Rattle.spool_growing.proofs.Held.{changes_are_few, enough}
 use Rattle.spool_growing.proofs.growing.grow_by_group.Goals as goal
 
@@ -58,7 +59,7 @@ make_group-requires-clause-free c =
 pub push_group-requires-2 : goal.push_group-requires-2
 push_group-requires-2 c =
     let ready = c.requires.ready in
-    heads_lack ready.changes c.args.index.now c.args.name.now ready.kept.indexed ready.may.new
+    no_head ready.changes c.args.index.now c.args.name.now ready.kept.indexed ready.may.new
 
 pub returns-clause-grown : goal.returns-clause-grown
 returns-clause-grown c =

@@ -4,7 +4,8 @@ use Rattle.model.specs.Files.{table}
 use Rattle.model.specs.Lawful.{MayFile}
 use Rattle.model.specs.declared.change.Change.TheVariants.{Article}
 use Rattle.index.specs.View.{Indexes}
-use Rattle.spool_opening.proofs.Filed.{all_of_text, article_replayed, bounded, ends_below, few_groups, filed_are, filed_here, may_of_text}
+use Rattle.index.proofs.Callers.{few_groups}
+use Rattle.spool_opening.proofs.Filed.{all_of_text, article_replayed, bounded, ends_below, filed_are, filed_here, may_of_text}
 use Rattle.spool_opening.proofs.Filed.{no_cause_there, same_groups, sizes_of_text}
 use Rattle.spool_opening.proofs.replay.replay_article.Goals as goal
 

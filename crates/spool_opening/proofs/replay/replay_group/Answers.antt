@@ -1,11 +1,12 @@
 use Rattle.model.specs.Lawful.{MayMake}
-use Rattle.spool_opening.proofs.Replaying.{group_replayed, not_headed}
+use Rattle.index.proofs.Callers.{no_head}
+use Rattle.spool_opening.proofs.Replaying.{group_replayed}
 use Rattle.spool_opening.proofs.replay.replay_group.Goals as goal
 
 pub push_group-requires : goal.push_group-requires
 push_group-requires c =
     let its = c.requires.replayed in
-    not_headed c.requires.changes _ c.args.name.now its.indexed
+    no_head c.requires.changes _ c.args.name.now its.indexed
     ((c.may_make.ensures c.requires.changes its.indexed).0 c.if-not-may_make.false).new
 
 pub returns-clause-ok : goal.returns-clause-ok

@@ -1,28 +1,17 @@
 use Rattle.std.proofs.Common.{◌≡◌, inl, inr, ℕ, ◌+◌, ◌-◌, ◌%◌, ◌≤◌, List, ◌++◌, length, take, drop, refl, sym, ◌∙◌, ap, arith, append_assoc}
-use Rattle.std.proofs.Common.{length-drop}
 use Rattle.std.specs.Prelude.{min}
 use Rattle.std.proofs.lemmas.Bool.{cases_lt}
-use Rattle.std.proofs.lemmas.List.{append-nil, length-take}
+use Rattle.std.proofs.lemmas.List.{append-nil}
 use Rattle.std.proofs.lemmas.Result.{on_ok_weaker}
 use Rattle.model.specs.Files.{Entry, entry, size, content_of}
 use Rattle.model.specs.Stream.{dot_line}
-use Rattle.fs_layout.proofs.Entries.{length-content}
-use Rattle.fs_inodes.proofs.Contents.{take_then, taken_all}
+use Rattle.model.proofs.Owning.{content_size}
+use Rattle.fs_inodes.proofs.Contents.{piece_size, take_then, taken_all}
 use Rattle.replies.specs.Stuffing.{after, stuffed_from}
 use Rattle.replies.specs.declared.stuffing.Stuffing.{Stuffing}
 use Rattle.replies.proofs.Pieced.{pieces_follow, pieces_make}
 use Rattle.spool_texts.proofs.sending.push_stuffed.Invariants.{fresh}
 use Rattle.spool_texts.proofs.sending.push_stuffed.Goals as goal
-
--- how many octets a piece has
-piece_size : (content octets : List ℕ) (from end few : ℕ) → octets ≡ take (min (end - from) few) (drop from content) → end ≤ length content
-    → from ≤ end → length octets ≡ min (end - from) few
-piece_size content octets from end few is fits order =
-    ap (λ (l : List ℕ). length l) is ∙ length-take (min (end - from) few) (drop from content)
-    ∙ shorter (end - from) few (length (drop from content)) (omega (arith, length-drop from content))
-  where
-    shorter : (a b c : ℕ) → a ≤ c → min (min a b) c ≡ min a b
-    shorter a b c low = omega arith
 
 -- what is sent with one piece more
 one_more : (content octets : List ℕ) (place from few : ℕ) → octets ≡ take few (drop from content) → few ≡ length octets → place ≤ from →
@@ -51,7 +40,7 @@ overflow_add-from g c =
     let e : Entry = entry c.args.inodes blocks c.args.at in
     let content = content_of blocks e in
     let from = c.loop-from.from in
-    let long = length-content blocks e c.requires.room.blocks_whole (λ b owns. (c.requires.rule.within c.args.at b c.requires.below owns).1)
+    let long = content_size blocks e c.requires.room.blocks_whole (λ b owns. (c.requires.rule.within c.args.at b c.requires.below owns).1)
     in
     let sized = c.size_of.ensures in
     let fits : c.min-end.result ≤ length content = omega arith in
@@ -66,7 +55,7 @@ loop-from-preserved g c =
     let content = content_of blocks e in
     let from = c.loop-from.from in
     let octets = c.piece-octets.result.now in
-    let long = length-content blocks e c.requires.room.blocks_whole (λ b owns. (c.requires.rule.within c.args.at b c.requires.below owns).1)
+    let long = content_size blocks e c.requires.room.blocks_whole (λ b owns. (c.requires.rule.within c.args.at b c.requires.below owns).1)
     in
     let sized = c.size_of.ensures in
     let fits : c.min-end.result ≤ length content = omega arith in
@@ -98,7 +87,7 @@ loop-from-smaller g c =
     let e : Entry = entry c.args.inodes blocks c.args.at in
     let content = content_of blocks e in
     let from = c.loop-from.from in
-    let long = length-content blocks e c.requires.room.blocks_whole (λ b owns. (c.requires.rule.within c.args.at b c.requires.below owns).1)
+    let long = content_size blocks e c.requires.room.blocks_whole (λ b owns. (c.requires.rule.within c.args.at b c.requires.below owns).1)
     in
     let sized = c.size_of.ensures in
     let fits : c.min-end.result ≤ length content = omega arith in
@@ -110,7 +99,7 @@ pub returns : goal.returns
 returns g c =
     let blocks = g.B.Blocks.blocks c.args.blocks.now in
     let e : Entry = entry c.args.inodes blocks c.args.at in
-    let long = length-content blocks e c.requires.room.blocks_whole (λ b owns. (c.requires.rule.within c.args.at b c.requires.below owns).1)
+    let long = content_size blocks e c.requires.room.blocks_whole (λ b owns. (c.requires.rule.within c.args.at b c.requires.below owns).1)
     in
     let sized = c.size_of.ensures in
     let small = c.requires.file.small in
