@@ -21,7 +21,7 @@ const MOST_GATES: usize = 9;
 /// with one write each, in rising order. It never syncs. If the superblock is not that of a volume, it writes nothing
 /// and answers `Ok`.
 ///
-/// `Fault` if the device failed in a call, `Memory` if a growth was refused, here or to the device. A refused read
+/// `Fault` if the device failed in a call, `Memory` if an allocation was refused, here or to the device. A refused read
 /// leaves nothing written. No write follows a refused one.
 ///
 /// What a read gives stays as it was. Until a sync a crash may leave any octets at the gates, as after each write.

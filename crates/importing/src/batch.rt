@@ -118,7 +118,7 @@ pub struct Report {
 /// Why an import failed. The first texts that it filed may be durable.
 #[derive(Debug, Drop, Error)]
 pub enum ImportError {
-    /// A growth was refused.
+    /// An allocation was refused.
     #[error("E2 Memory")]
     Memory,
     /// The device failed, or had failed before.

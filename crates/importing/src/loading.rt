@@ -21,9 +21,10 @@ use volume::{Blocks, Volume};
 use volume_label::read_label;
 
 /// The spool in the logical blocks of a journal. A volume of format 1 is checked as one, and then made one of format 2.
-/// Apart from that and from reads of the device the journal stays as it was. `NotAVolume` (E3) if the label is not valid,
-/// `Fault` (E1) if the device fails, `Damaged` (E5) if the blocks hold no lawful spool of the label's host in the files
-/// of the volume's format, and `Memory` (E2) if a growth was refused. Nothing is written if the answer is E3 or E5.
+/// Apart from that and from reads of the device the journal stays as it was. `NotAVolume` (E3) if the label is not
+/// valid, `Fault` (E1) if the device fails, `Damaged` (E5) if the blocks hold no lawful spool of the label's host in
+/// the files of the volume's format, and `Memory` (E2) if an allocation was refused. Nothing is written if the answer
+/// is E3 or E5.
 pub(crate) fn load<D: Disk>(alloc: Global, journal: &mut Journal<D>) -> Result<Spool, OpenError>
     requires { IsReady journal.old }
     ensures ok { IfOk result (IsLoaded D.device journal.old) }

@@ -57,7 +57,7 @@ pub enum JournalError {
     /// The device failed in this call. This halts the journal for good.
     #[error("E1 Fault")]
     Fault,
-    /// A growth was refused in this call, of the journal or of the device. Each call says what that leaves.
+    /// An allocation was refused in this call, of the journal or of the device. Each call says what that leaves.
     #[error("E2 Memory")]
     Memory,
     /// The length, the superblock or an open segment's descriptor is not valid, or two open segments share a batch

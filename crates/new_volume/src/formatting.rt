@@ -15,9 +15,9 @@ use std::alloc::Global;
 /// the empty file system as a batch of one block, carried to its end. Afterwards the device is synced, and its image
 /// stands for the spool without changes, in the format of the plan.
 ///
-/// `Fault` if the device failed, `Memory` if a growth was refused, here or to the device. `NotAVolume` if the device
-/// reads back other octets than were written; a device that tells its octets never does. A refusal returns the device,
-/// with whatever it then holds.
+/// `Fault` if the device failed, `Memory` if an allocation was refused, here or to the device. `NotAVolume` if the
+/// device reads back other octets than were written; a device that tells its octets never does. A refusal returns the
+/// device, with whatever it then holds.
 pub fn format<D: Disk>(alloc: Global, disk: D, plan: &Plan<'_>) -> Result<D, Refused<D>>
     requires { (D.device disk).size ≡ device_size plan.now.blocks }
     ensures ok { IfOk result (λ made. Formats plan.now.host.now plan.now.inodes plan.now.format (D.device disk) (D.device made)) }

@@ -37,9 +37,9 @@ pub struct Refused<D> {
 /// of format 1 is checked as one and then made one of format 2, and a crash during that leaves it in one of the two.
 ///
 /// A refusal keeps to this too, so it overwrites no disk, and it returns the device. `Fault` (E1) if the device failed.
-/// `Memory` (E2) if it did not, and a growth was refused; then a read gives what it gave before, or the same volume.
-/// `NotAVolume` (E3) if the device holds no volume with a label of its size. `Damaged` (E5) if it holds one, but no
-/// lawful spool of the label's host in the files of its format.
+/// `Memory` (E2) if it did not, and an allocation was refused; then a read gives what it gave before, or the same
+/// volume. `NotAVolume` (E3) if the device holds no volume with a label of its size. `Damaged` (E5) if it holds one,
+/// but no lawful spool of the label's host in the files of its format.
 pub fn open<D: Disk>(alloc: Global, disk: D) -> Result<Opened<D>, Refused<D>>
     ensures opened { IfOk result (λ o. IsOpened D.device o.journal o.kernel) }
     ensures format { IfOk result (λ o. o.journal.format ≡ 2) }

@@ -22,7 +22,7 @@ pub(crate) enum Refused {
     /// The change was made, but the flusher stopped before it was durable.
     #[error("E1 Fault")]
     Fault,
-    /// A growth was refused.
+    /// An allocation was refused.
     #[error("E2 Memory")]
     Memory,
     /// The line is not one of the operator's.

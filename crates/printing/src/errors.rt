@@ -24,7 +24,7 @@ pub enum CommandError {
     /// This process holds the volume.
     #[error("E1 Fault: the volume is in use by process {0}")]
     HeldBy(u32),
-    /// A growth was refused.
+    /// An allocation was refused.
     #[error("E2 Memory")]
     Memory,
     /// The file does not hold a volume.

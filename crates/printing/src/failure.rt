@@ -15,7 +15,7 @@ use thiserror::Error;
 /// Why the program ends before its input does.
 #[derive(Debug, Drop, Error)]
 pub enum Failure {
-    /// A growth was refused.
+    /// An allocation was refused.
     #[error("E2 Memory")]
     Memory,
     /// A word is outside its grammar or range.
@@ -40,7 +40,7 @@ pub enum Failure {
 
 impl Failure {
     /// The refusal of a word that is outside its grammar: `NAME 'WORD' FAULT`, with the word in its printed form.
-    /// `Memory` if a growth was refused.
+    /// `Memory` if an allocation was refused.
     pub fn bad_word(alloc: Global, name: &str, word: &str, fault: &str) -> Failure
         ensures { status_of result ≡ 1 }
     {

@@ -78,7 +78,7 @@ pub enum ParseError {
     /// The line does not follow the grammar.
     #[error("bad event")]
     Bad,
-    /// A growth was refused.
+    /// An allocation was refused.
     #[error("E2 Memory")]
     Memory,
 }
@@ -100,7 +100,7 @@ impl From<AllocError> for ParseError {
 }
 
 /// Reads a line, without the LF that ends it. Words are separated by one space; the text of `group` and of `line` may
-/// hold any octets except LF. `Bad` if the line does not follow the grammar, `Memory` if a growth was refused.
+/// hold any octets except LF. `Bad` if the line does not follow the grammar, `Memory` if an allocation was refused.
 #[tactic(auto, unfolding(crate::specs::Script::meaning))]
 pub fn parse(alloc: Global, line: &[u8]) -> Result<Line, ParseError>
     ensures ok { IfOk result (λ read. meaning line.now ≡ Some (said read)) }

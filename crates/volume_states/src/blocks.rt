@@ -19,7 +19,8 @@ use std::alloc::{AllocError, Global};
 use volume::Blocks;
 
 /// The state of the volume of a host in the blocks of a volume of this format, whatever they contain. `Damaged` exactly
-/// if they hold no spool of the host in the files of the format (docs/FORMATS.md), `Memory` if a growth was refused.
+/// if they hold no spool of the host in the files of the format (docs/FORMATS.md), `Memory` if an allocation was
+/// refused.
 pub fn volume_status<B: Blocks>(
     alloc: Global,
     blocks: &B,

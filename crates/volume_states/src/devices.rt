@@ -20,9 +20,9 @@ use std::alloc::Global;
 use volume::{Blocks, Volume};
 use volume_label::read_label;
 
-/// The state of the volume on a device, whose format stays as it is. `Fault` (E1) if the device failed, `Memory` (E2) if
-/// a growth was refused, `NotAVolume` (E3) if the device holds no volume with a label of its size, and `Damaged` (E5) if
-/// it holds one, but no lawful spool of the label's host in the files of its format.
+/// The state of the volume on a device, whose format stays as it is. `Fault` (E1) if the device failed, `Memory` (E2)
+/// if an allocation was refused, `NotAVolume` (E3) if the device holds no volume with a label of its size, and
+/// `Damaged` (E5) if it holds one, but no lawful spool of the label's host in the files of its format.
 pub fn state_on<D: Disk + Drop>(alloc: Global, disk: D) -> Result<VolumeStatus, OpenError>
     ensures told { IsTrue (D.device disk).tells → IfOk result (IsStateOf (D.device disk).content) }
     ensures no_volume { IsTrue (D.device disk).tells

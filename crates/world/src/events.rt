@@ -63,7 +63,7 @@ pub enum StepError {
     /// The device failed in this call. This halts the journal for good.
     #[error("E1 Fault")]
     Fault,
-    /// A growth was refused in this call, and nothing changed.
+    /// An allocation was refused in this call, and nothing changed.
     #[error("E2 Memory")]
     Memory,
     /// An earlier device fault has halted the journal or the kernel.

@@ -100,9 +100,9 @@ impl<D: Disk> World<D> {
     /// leaves it in one of the two.
     ///
     /// A refusal keeps to this too, so it overwrites no disk, and it returns the device. `Fault` (E1) if the device
-    /// failed. `Memory` (E2) if it did not, and a growth was refused; then a read gives what it gave before, or the same
-    /// volume. `NotAVolume` (E3) if the device holds no volume with a label of its size. `Damaged` (E5) if it holds one,
-    /// but no lawful spool of the label's host in the files of its format.
+    /// failed. `Memory` (E2) if it did not, and an allocation was refused; then a read gives what it gave before, or
+    /// the same volume. `NotAVolume` (E3) if the device holds no volume with a label of its size. `Damaged` (E5) if it
+    /// holds one, but no lawful spool of the label's host in the files of its format.
     pub fn open(alloc: Global, disk: D) -> Result<World<D>, Refused<D>>
         ensures new { IfOk result (λ w. IsNew w) }
         ensures spool { IsTrue (D.device disk).tells
