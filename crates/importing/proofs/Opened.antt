@@ -5,12 +5,12 @@ use Rattle.std.proofs.Math.Seq.{take-length}
 use Rattle.disk.specs.Device.{Device}
 use Rattle.journal.specs.Journal.{IsReady, JournalView, LeavesAdmitted}
 use Rattle.journal.specs.Opening.{Opens}
-use Rattle.kernel.specs.Opening.{ReadsAndUpgrades}
+use Rattle.kernel.specs.Opening.{IsLoaded, ReadsAndUpgrades}
 use Rattle.model.specs.Layout.{Holds, HoldsIn, IsLabel}
 use Rattle.model.specs.Stream.{Octets}
 use Rattle.model.specs.Volume.{StandsFor}
 use Rattle.spool.specs.View.{SpoolView}
-use Rattle.importing.specs.Opening.{IsLoaded, IsOpened}
+use Rattle.importing.specs.Opening.{IsOpened}
 use Rattle.importing.specs.Saved.{IsSaved, IsTied}
 use Rattle.importing.proofs.Carried.{stands}
 use Rattle.importing.proofs.Tied.{held_in}

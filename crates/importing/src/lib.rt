@@ -5,7 +5,6 @@
 
 mod batch;
 mod carrying;
-mod loading;
 mod outcome;
 mod room;
 mod store;

@@ -11,13 +11,13 @@ ghost use Rattle.importing.specs.Filing.{Becomes};
 ghost use Rattle.importing.specs.Opening.{IsOpened};
 ghost use Rattle.importing.specs.Room.{lack_of};
 
-use crate::loading::load;
 use crate::outcome::{Lack, Outcome};
 use crate::room::{blocks_used, lack_by};
 use crate::transfer::file_text;
 use crate::writing::write;
 use disk::Disk;
 use journal::{Journal, JournalError};
+use kernel::open_spool;
 use lookups::LookUps;
 use opening::OpenError;
 use rnews::with_crlf;
@@ -77,7 +77,7 @@ impl<D: Disk + Drop> Store<D> {
             Ok(journal) => journal,
             Err(refused) => return Err(open_error(refused.error)),
         };
-        match load(alloc, &mut journal) {
+        match open_spool(alloc, &mut journal) {
             Ok(spool) => {
                 // its clauses state what a crash leaves
                 let _idle = journal.is_idle();

@@ -8,7 +8,26 @@ use Rattle.model.specs.Stream.{Octets}
 use Rattle.model.specs.Layout.{AreOfFormat, Holds, HoldsIn, IsLabel}
 use Rattle.model.specs.Spool.{Spool}
 use Rattle.model.specs.SpoolFiles.{files_of}
+use Rattle.spool.specs.View.{SpoolView}
 use Rattle.kernel.specs.Kernel.{KernelView}
+
+-- ---- the spool
+
+-- a spool of this host that these blocks of a volume of this format hold, with no change since
+pub record IsSpoolOf (format : ℕ) (host : Octets) (inodes : ℕ) (blocks : List Octets) (spool : SpoolView) : Type 0 where
+  pub host_is : spool.host ≡ host
+  pub inodes_are : spool.inodes ≡ inodes
+  pub blocks_are : spool.blocks ≡ blocks
+  pub clean : spool.dirty ≡ []
+  pub holds : HoldsIn format spool.host spool.inodes spool.blocks spool.changes
+
+-- the spool in the logical blocks of a journal, under its label, in files of its format
+pub record IsLoaded {D : Type 0} (device : D → Device) (journal : JournalView D) (spool : SpoolView) : Type 0 where
+  pub labelled : IsLabel journal.label journal.size spool.inodes spool.host
+  pub size : length spool.blocks ≡ journal.size
+  pub blocks : IsTrue (device journal.disk).tells → spool.blocks ≡ journal.blocks
+  pub clean : spool.dirty ≡ []
+  pub holds : HoldsIn journal.format spool.host spool.inodes spool.blocks spool.changes
 
 -- ---- the kernel
 
@@ -20,15 +39,6 @@ pub record IsFresh (kernel : KernelView) : Type 0 where
   pub dirty : kernel.dirty ≡ []
   pub joined : kernel.joined ≡ 0
   pub seats : kernel.seats ≡ []
-
--- a kernel that was just opened over these logical blocks of a volume of this format, which hold its spool
-pub record OpensOver (format : ℕ) (host : Octets) (inodes : ℕ) (blocks : List Octets) (kernel : KernelView) : Type 0 where
-  pub fresh : IsFresh kernel
-  pub host_is : kernel.host ≡ host
-  pub inodes_are : kernel.inodes ≡ inodes
-  pub blocks_are : kernel.blocks ≡ blocks
-  pub holds : Holds kernel.host kernel.inodes kernel.blocks kernel.spool
-  pub of_format : AreOfFormat format (files_of kernel.spool)
 
 -- the kernel in the logical blocks of a journal, under its label; its files are those of the journal's format
 pub record IsOpened {D : Type 0} (device : D → Device) (journal : JournalView D) (kernel : KernelView) : Type 0 where

@@ -25,7 +25,7 @@ pub use errors::{AdminError, ExecError, ExpireError, JoinError, Stale};
 use lookups::LookUps;
 use model::{Mark, Message, Mode};
 use names::GroupName;
-pub use opening::{OpenError, upgrade};
+pub use opening::{OpenError, open_spool};
 use outbox::ReadyBuf;
 use seats::{Seat, position, release, release_of};
 use spool::AddError;

@@ -1,4 +1,4 @@
-//! Opens the kernel in the logical blocks of a journal.
+//! Opens the kernel, or the spool alone, in the logical blocks of a journal.
 
 ghost use Rattle.std.specs.Prelude.{◌≡◌, ◌≢◌, ◌⊎◌, [], false, IfErr, IfOk, IsTrue, MatchResult, OnOk};
 ghost use Rattle.journal.specs.Journal.{IsIdle, IsReady};
@@ -7,8 +7,8 @@ ghost use Rattle.model.specs.Layout.{HoldsIn};
 ghost use Rattle.model.specs.Names.{is_host};
 ghost use Rattle.model.specs.Spool.{Spool as Changes};
 ghost use Rattle.volume_label.specs.Label.{IsNoLabel};
-ghost use Rattle.kernel.specs.Opening.{CostsUpgrade, HasFailed, IsDamaged, IsOpened, IsStill, IsUnsynced, OnlyReads, OpensOver};
-ghost use Rattle.kernel.specs.Opening.{ReadsAndUpgrades};
+ghost use Rattle.kernel.specs.Opening.{CostsUpgrade, HasFailed, IsDamaged, IsLoaded, IsOpened, IsSpoolOf, IsStill, IsUnsynced};
+ghost use Rattle.kernel.specs.Opening.{OnlyReads, ReadsAndUpgrades};
 
 use crate::Kernel;
 use disk::Disk;
@@ -62,21 +62,45 @@ impl Kernel {
         ensures no_label { IfErr result (λ error. error ≡ OpenError.NotAVolume → IsNoLabel journal.old.label journal.old.size) }
         ensures damaged { IfErr result (λ error. error ≡ OpenError.Damaged → IsDamaged D.device journal.old) }
     {
-        let kernel = load(alloc, journal)?;
-        let format = journal.format_number();
-        if format == 1 {
-            upgrade(journal)?;
-        }
-        Ok(kernel)
+        let spool = open_spool(alloc, journal)?;
+        Ok(Kernel::new(alloc, spool))
     }
 }
 
-// The kernel in the logical blocks. The device is only read.
-fn load<D: Disk>(alloc: Global, journal: &mut Journal<D>) -> Result<Kernel, OpenError>
+/// Opens the spool in the logical blocks, as `Kernel::open` does for a kernel: it does the same to the journal, and is
+/// refused for the same causes.
+pub fn open_spool<D: Disk>(alloc: Global, journal: &mut Journal<D>) -> Result<Spool, OpenError>
+    requires ready { IsReady journal.old }
+    ensures ok { IfOk result (IsLoaded D.device journal.old) }
+    ensures ready { OnOk result (IsReady journal.new) }
+    ensures format { OnOk result (journal.new.format ≡ 2) }
+    ensures reads { ReadsAndUpgrades D.device journal.old journal.new }
+    ensures cost { OnOk result (CostsUpgrade journal.old.format (D.device journal.old.disk) (D.device journal.new.disk)) }
+    ensures judged { IfErr result (λ error. (error ≡ OpenError.NotAVolume) ⊎ (error ≡ OpenError.Damaged)
+        → OnlyReads D.device journal.old journal.new) }
+    ensures still { MatchResult result (λ spool. IsStill D.device journal.old journal.new)
+        (λ error. error ≢ OpenError.Fault
+        → IsStill D.device journal.old journal.new
+        ⊎ ((error ≡ OpenError.Memory) × IsTrue D.sync_grows × IsUnsynced D.device journal.old journal.new)) }
+    ensures fault { IfErr result (λ error. error ≡ OpenError.Fault → HasFailed D.device journal.old journal.new) }
+    ensures no_label { IfErr result (λ error. error ≡ OpenError.NotAVolume → IsNoLabel journal.old.label journal.old.size) }
+    ensures damaged { IfErr result (λ error. error ≡ OpenError.Damaged → IsDamaged D.device journal.old) }
+{
+    let spool = read(alloc, journal)?;
+    let format = journal.format_number();
+    if format == 1 {
+        upgrade(journal)?;
+    }
+    Ok(spool)
+}
+
+// The spool in the logical blocks. The device is only read.
+fn read<D: Disk>(alloc: Global, journal: &mut Journal<D>) -> Result<Spool, OpenError>
     requires { IsReady journal.old }
-    ensures ok { IfOk result (IsOpened D.device journal.old) }
+    ensures ok { IfOk result (IsLoaded D.device journal.old) }
+    ensures ready { OnOk result (IsReady journal.new) }
     ensures reads { OnlyReads D.device journal.old journal.new }
-    ensures still { MatchResult result (λ kernel. IsStill D.device journal.old journal.new) (λ error. error ≢ OpenError.Fault
+    ensures still { MatchResult result (λ spool. IsStill D.device journal.old journal.new) (λ error. error ≢ OpenError.Fault
         → IsStill D.device journal.old journal.new) }
     ensures fault { IfErr result (λ error. error ≡ OpenError.Fault → HasFailed D.device journal.old journal.new) }
     ensures no_label { IfErr result (λ error. error ≡ OpenError.NotAVolume → IsNoLabel journal.old.label journal.old.size) }
@@ -99,7 +123,7 @@ fn load<D: Disk>(alloc: Global, journal: &mut Journal<D>) -> Result<Kernel, Open
         Ok(volume) => {
             // its clauses state that each block is whole
             let _count = volume.len();
-            open_over(alloc, Text::new(host), inodes, format, volume)
+            spool_in(alloc, Text::new(host), inodes, format, volume)
         }
         Err(volume::OpenError::Fault) => Err(OpenError::Fault),
         Err(volume::OpenError::Memory) => Err(OpenError::Memory),
@@ -109,7 +133,7 @@ fn load<D: Disk>(alloc: Global, journal: &mut Journal<D>) -> Result<Kernel, Open
 /// Makes the volume of a journal one of format 2. It is one of format 1, and no batch is in flight. `Fault` (E1) if the
 /// device failed, and `Memory` (E2) if it refused a call for want of memory. A crash at any moment leaves the label and
 /// the logical blocks, in one of the two formats.
-pub fn upgrade<D: Disk>(journal: &mut Journal<D>) -> Result<(), OpenError>
+fn upgrade<D: Disk>(journal: &mut Journal<D>) -> Result<(), OpenError>
     requires ready { IsReady journal.old }
     requires first { journal.old.format ≡ 1 }
     ensures format { OnOk result (journal.new.format ≡ 2) }
@@ -131,24 +155,24 @@ pub fn upgrade<D: Disk>(journal: &mut Journal<D>) -> Result<(), OpenError>
     }
 }
 
-// The kernel of this host over these logical blocks of a volume of this format.
-fn open_over(
+// The spool of this host in these logical blocks of a volume of this format.
+fn spool_in(
     alloc: Global,
     host: Text,
     inodes: u32,
     format: u32,
     volume: Volume,
-) -> Result<Kernel, OpenError>
+) -> Result<Spool, OpenError>
     requires host { IsTrue (is_host host) }
     requires room { HasRoom inodes volume.cache }
     requires seen { volume.seen ≡ volume.cache }
     requires clean { volume.dirty ≡ [] }
-    ensures ok { IfOk result (OpensOver format host inodes volume.cache) }
+    ensures ok { IfOk result (IsSpoolOf format host inodes volume.cache) }
     ensures damaged { IfErr result (λ error. error ≡ OpenError.Damaged → (S : Changes) → HoldsIn format host inodes volume.cache S → ⊥) }
     ensures no_other { IfErr result (λ error. (error ≡ OpenError.Memory) ⊎ (error ≡ OpenError.Damaged)) }
 {
     match Spool::open(alloc, host, inodes, format, volume) {
-        Ok(spool) => Ok(Kernel::new(alloc, spool)),
+        Ok(spool) => Ok(spool),
         Err(spool_reading::OpenError::Memory) => Err(OpenError::Memory),
         Err(spool_reading::OpenError::Damaged) => Err(OpenError::Damaged),
     }

@@ -2,7 +2,7 @@ use Rattle.std.proofs.Common.{◌≡◌, ℕ, List, length, sym, subst, arith, r
 use Rattle.std.specs.List.{All}
 use Rattle.std.proofs.lemmas.Result.{IfErr-weaker}
 use Rattle.model.specs.Layout.{HoldsIn, IsLabel}
-use Rattle.importing.proofs.loading.read.Goals as goal
+use Rattle.kernel.proofs.opening.read.Goals as goal
 
 pub spool_in-requires-clause-room : goal.spool_in-requires-clause-room
 spool_in-requires-clause-room g c =
