@@ -4,7 +4,7 @@ use crate::Call;
 use crate::lingering::read_at_once;
 use crossbeam_channel::Sender;
 use flusher::{JoinError, Kern};
-use logging::{Event, Log, Refusal};
+use logging::{Log, LogEvent, SessionRefusal};
 use networks::{Network, may_call};
 use releasing::{Shared, give_short_writes};
 use std::alloc::Global;
@@ -212,7 +212,7 @@ impl<
     /// session is refused. `Over` if there will be no more sessions.
     fn admit(&self, newcomer: Newcomer, entrance: &mut Entrance<'_>) -> Result<(), Over> {
         if !may_call(self.doors.networks, newcomer.peer.ip()) {
-            self.note(newcomer.peer, Refusal::Access);
+            self.note(newcomer.peer, SessionRefusal::Access);
             turn_away(&newcomer.stream, ACCESS_DENIED);
             return Ok(());
         }
@@ -252,20 +252,20 @@ impl<
             },
             Err(refused) => {
                 kern.leave(*rt, sid);
-                self.refuse(&refused.value, peer, Refusal::Memory);
+                self.refuse(&refused.value, peer, SessionRefusal::Memory);
                 Ok(())
             }
         }
     }
 
     /// Tells a caller that the service ends, and notes why it got no session.
-    fn refuse(&self, stream: &TcpStream, peer: SocketAddr, why: Refusal) {
+    fn refuse(&self, stream: &TcpStream, peer: SocketAddr, why: SessionRefusal) {
         self.note(peer, why);
         turn_away(stream, SERVICE_ENDS);
     }
 
-    fn note(&self, peer: SocketAddr, why: Refusal) {
-        self.log.note(self.shared.rt, Event::Refused(peer, why));
+    fn note(&self, peer: SocketAddr, why: SessionRefusal) {
+        self.log.note(self.shared.rt, LogEvent::Refused(peer, why));
     }
 }
 
@@ -274,11 +274,11 @@ impl<
 struct Over;
 
 /// Why a caller got no session of the kernel.
-fn refusal_of(error: JoinError) -> Refusal {
+fn refusal_of(error: JoinError) -> SessionRefusal {
     match error {
-        JoinError::Halted => Refusal::Halted,
-        JoinError::TooManySessions => Refusal::Sessions,
-        JoinError::Memory => Refusal::Memory,
+        JoinError::Halted => SessionRefusal::Halted,
+        JoinError::TooManySessions => SessionRefusal::Sessions,
+        JoinError::Memory => SessionRefusal::Memory,
     }
 }
 
@@ -288,16 +288,16 @@ fn obstacle(
     silence: Duration,
     has_room: bool,
     is_stopping: bool,
-) -> Option<Refusal> {
+) -> Option<SessionRefusal> {
     if is_stopping {
-        return Some(Refusal::Halted);
+        return Some(SessionRefusal::Halted);
     }
     if !has_room {
-        return Some(Refusal::Descriptors);
+        return Some(SessionRefusal::Descriptors);
     }
     match set_up(stream, silence) {
         Ok(()) => None,
-        Err(_) => Some(Refusal::Failed),
+        Err(_) => Some(SessionRefusal::Failed),
     }
 }
 

@@ -12,7 +12,7 @@ use model::Text;
 
 /// Why an article was not filed.
 #[derive(Clone, Copy, Debug, Drop, PartialEq, Eq)]
-pub enum FileError {
+pub enum FilingError {
     /// There is no room for it.
     Full,
     /// An allocation was refused.
@@ -32,11 +32,16 @@ pub trait ChangeSpool: LookUps {
 
     /// Files an article in these groups, at a moment in seconds since 1970. Its change must be one that may follow.
     /// Refused as `Full` exactly if there is no room, and otherwise only as `Memory`; a refusal changes nothing.
-    fn file(&mut self, article: &Article<'_>, groups: &[Text], moment: u64) -> Result<(), FileError>
+    fn file(
+        &mut self,
+        article: &Article<'_>,
+        groups: &[Text],
+        moment: u64,
+    ) -> Result<(), FilingError>
         requires { IsLawful (Self.host_of self.old)
             (Self.changes self.old ++ change.Article article.now groups.now moment ∷ []) }
         ensures { let its = change.Article article.now groups.now moment in MatchResult result
             (λ done. (lacks_room self.old its ≡ false) × adds self.old self.new its)
-            (λ error. (((error ≡ FileError.Memory) × (lacks_room self.old its ≡ false))
-            ⊎ ((error ≡ FileError.Full) × (lacks_room self.old its ≡ true))) × (self.new ≡ self.old)) };
+            (λ error. (((error ≡ FilingError.Memory) × (lacks_room self.old its ≡ false))
+            ⊎ ((error ≡ FilingError.Full) × (lacks_room self.old its ≡ true))) × (self.new ≡ self.old)) };
 }

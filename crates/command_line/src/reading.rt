@@ -11,7 +11,7 @@ use clap::ArgMatches;
 use clap::error::{Error, ErrorKind};
 use names::is_host;
 use networks::{Network, read_endpoint};
-use new_volume::{FORMAT_1, FORMAT_2, Plan, are_sizes};
+use new_volume::{FORMAT_1, FORMAT_2, VolumePlan, are_sizes};
 use printing::{DONE, Failure, NOT_UNDERSTOOD};
 use script::number;
 use std::alloc::{AllocError, Global};
@@ -25,8 +25,8 @@ pub enum Asked<'a> {
     /// Nothing more: help or the version was printed, or words were not understood.
     Nothing(u8),
     /// A simulation over a device in memory, with or without a cache that collects writes until a sync.
-    Simulation(Plan<'a>, bool),
-    Format(&'a str, Plan<'a>),
+    Simulation(VolumePlan<'a>, bool),
+    Format(&'a str, VolumePlan<'a>),
     /// The line of a change, as an operator would write it.
     Change(&'a str, Vec<u8>),
     Serve(Service<'a>),
@@ -149,12 +149,15 @@ fn word<'a>(words: &ArgMatches<'a>, name: &str) -> Result<&'a str, Failure> {
 }
 
 /// The volume in memory that the words describe.
-fn read_plan_of_memory<'a>(alloc: Global, words: &ArgMatches<'a>) -> Result<Plan<'a>, Failure> {
+fn read_plan_of_memory<'a>(
+    alloc: Global,
+    words: &ArgMatches<'a>,
+) -> Result<VolumePlan<'a>, Failure> {
     read_plan(alloc, words, FORMAT_2)
 }
 
 /// The volume in a file that the words describe.
-fn read_plan_of_file<'a>(alloc: Global, words: &ArgMatches<'a>) -> Result<Plan<'a>, Failure> {
+fn read_plan_of_file<'a>(alloc: Global, words: &ArgMatches<'a>) -> Result<VolumePlan<'a>, Failure> {
     let format = read_format(words)?;
     read_plan(alloc, words, format)
 }
@@ -171,7 +174,11 @@ fn read_format(words: &ArgMatches<'_>) -> Result<u32, Failure>
 }
 
 /// The volume of this format that the words describe.
-fn read_plan<'a>(alloc: Global, words: &ArgMatches<'a>, format: u32) -> Result<Plan<'a>, Failure>
+fn read_plan<'a>(
+    alloc: Global,
+    words: &ArgMatches<'a>,
+    format: u32,
+) -> Result<VolumePlan<'a>, Failure>
     requires { (1 ≤ format) × (format ≤ 2) }
 {
     let host = word(words, HOST)?;
@@ -189,7 +196,7 @@ fn read_plan<'a>(alloc: Global, words: &ArgMatches<'a>, format: u32) -> Result<P
 }
 
 /// The plan of a volume, if these words follow their grammars and the blocks have room for this many inodes.
-fn plan_of<'a>(host: &'a [u8], blocks: &[u8], inodes: &[u8], format: u32) -> Option<Plan<'a>>
+fn plan_of<'a>(host: &'a [u8], blocks: &[u8], inodes: &[u8], format: u32) -> Option<VolumePlan<'a>>
     requires { (1 ≤ format) × (format ≤ 2) }
 {
     let blocks = number(blocks)?;
@@ -197,7 +204,7 @@ fn plan_of<'a>(host: &'a [u8], blocks: &[u8], inodes: &[u8], format: u32) -> Opt
     if !is_host(host) || !are_sizes(blocks, inodes) {
         return None;
     }
-    Some(Plan {
+    Some(VolumePlan {
         host,
         blocks,
         inodes,

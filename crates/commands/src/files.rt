@@ -11,7 +11,7 @@ use counting::CountedDisk;
 use disk::DiskError;
 use filedisk::{FileDisk, FileError, holder};
 use gates::write_gates_back;
-use new_volume::{Plan, device_octets, format as format_device};
+use new_volume::{VolumePlan, device_octets, format as format_device};
 use opening::{Opened, Refused};
 use printing::CommandError;
 use std::alloc::{AllocError, Global};
@@ -29,7 +29,7 @@ pub fn format<R: Files<File = File>>(
     rt: &R,
     alloc: Global,
     path: &str,
-    plan: &Plan<'_>,
+    plan: &VolumePlan<'_>,
 ) -> Result<(), CommandError> {
     let disk = match FileDisk::open(rt, path, device_octets(plan.blocks)) {
         Ok(disk) => disk,

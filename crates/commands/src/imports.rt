@@ -5,7 +5,7 @@ ghost use Rattle.model.specs.Calendar.{moment_limit};
 
 use crate::files::find;
 use crate::refusals::refusal_of;
-use importing::{Counts, ImportError, Place, Report, Store, Watcher};
+use importing::{ImportCounts, ImportError, Place, Report, Store, Watcher};
 use logging::moment;
 use printing::CommandError;
 use std::alloc::Global;
@@ -70,7 +70,7 @@ impl<'a, R: Clock, F: Write> Teller<'a, R, F> {
     }
 
     /// Writes the line of progress.
-    fn show(&mut self, elapsed: Duration, octets: u64, counts: &Counts) -> io::Result<()> {
+    fn show(&mut self, elapsed: Duration, octets: u64, counts: &ImportCounts) -> io::Result<()> {
         let articles = counts.all();
         let rate = articles / elapsed.as_secs().max(1);
         write!(
@@ -98,7 +98,7 @@ impl<'a, R: Clock, F: Write> Watcher for Teller<'a, R, F> {
         writeln!(self.faults, "newsd: {place}: {cause}")
     }
 
-    fn progress(&mut self, octets: u64, counts: &Counts) -> io::Result<()> {
+    fn progress(&mut self, octets: u64, counts: &ImportCounts) -> io::Result<()> {
         if !self.is_terminal {
             return Ok(());
         }

@@ -4,7 +4,7 @@ ghost use Rattle.std.specs.Prelude.{◌≡◌};
 ghost use Rattle.journal.specs.Journal.{IsIdle, IsReady};
 
 use crate::files::{VolumeDisk, new_count, open_counted};
-use flusher::{Kernel, Locked, Marks, NoGate, Tally, VolumeFacts};
+use flusher::{BitmapMarks, Kernel, Locked, NoGate, Tally, VolumeFacts};
 use journal::Journal;
 use logging::{Log, Verbosity};
 use lookups::LookUps;
@@ -162,7 +162,7 @@ struct Parts<'a> {
     host: &'a [u8],
     blocks: u64,
     inodes: u64,
-    marks: Marks,
+    marks: BitmapMarks,
     tally: &'a Tally,
     ghost idle: { IsIdle journal },
     ghost flushes: { flush_seat.mark ≡ mark.now },
@@ -200,7 +200,7 @@ fn run<
     mark.raise(&mut flush_seat, kernel.durable());
     let host = host_of(alloc, &kernel)?;
     let (blocks, inodes) = (journal.blocks(), u64::from(kernel.spool().inodes()));
-    let Ok(marks) = Marks::read(&mut journal) else {
+    let Ok(marks) = BitmapMarks::read(&mut journal) else {
         return Err(CommandError::Fault);
     };
     let tally = Tally::new(marks, syncs);

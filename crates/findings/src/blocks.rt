@@ -4,10 +4,12 @@ use disk::Disk;
 use fs_layout::inodes::{FREE_KIND, SPARE_AT, most_octets};
 use fs_layout::slots::NAME_MAX;
 use std::alloc::Global;
-use volume_reading::{Entry, Grouped, Pointers, Stop, Volume, wrong, wrong_unless};
+use volume_reading::{
+    DirectoryEntry, Grouped, Pointers, ReadStop, ReadVolume, wrong, wrong_unless,
+};
 
 /// Checks all inodes.
-pub(crate) fn look<D: Disk>(volume: &mut Volume<D>) -> Result<(), Stop> {
+pub(crate) fn look<D: Disk>(volume: &mut ReadVolume<D>) -> Result<(), ReadStop> {
     for number in 0..volume.sizes.inodes {
         let entry = volume.entry(number)?;
         if entry.kind() == u32::from(FREE_KIND) {
@@ -22,7 +24,7 @@ pub(crate) fn look<D: Disk>(volume: &mut Volume<D>) -> Result<(), Stop> {
 }
 
 /// Checks the octets of a free inode and its slot.
-fn look_at_free(alloc: Global, entry: &Entry) -> Result<(), Stop> {
+fn look_at_free(alloc: Global, entry: &DirectoryEntry) -> Result<(), ReadStop> {
     let number = entry.number;
     if let Some(at) = first_set(&entry.inode, 0) {
         wrong!(alloc; "inode {number} is free, and octet {at} of it isn't zero");
@@ -34,7 +36,7 @@ fn look_at_free(alloc: Global, entry: &Entry) -> Result<(), Stop> {
 }
 
 /// Checks the kind of an inode that isn't free, and its name.
-fn look_at_slot(alloc: Global, entry: &Entry) -> Result<(), Stop> {
+fn look_at_slot(alloc: Global, entry: &DirectoryEntry) -> Result<(), ReadStop> {
     let number = entry.number;
     wrong_unless!(alloc; entry.is_file(), "inode {number} is of kind {}, where 0 is free and 1 is a file", entry.kind());
     let size = entry.slot[0] as usize;
@@ -47,7 +49,7 @@ fn look_at_slot(alloc: Global, entry: &Entry) -> Result<(), Stop> {
 }
 
 /// Checks the size of a file, which the format limits, and the spare octets of its inode.
-fn look_at_inode<D: Disk>(volume: &Volume<D>, entry: &Entry) -> Result<(), Stop> {
+fn look_at_inode<D: Disk>(volume: &ReadVolume<D>, entry: &DirectoryEntry) -> Result<(), ReadStop> {
     let alloc = volume.alloc;
     let format = volume.sizes.format;
     let size = entry.size();
@@ -61,7 +63,10 @@ fn look_at_inode<D: Disk>(volume: &Volume<D>, entry: &Entry) -> Result<(), Stop>
 }
 
 /// Checks that a file has the blocks of pointers that it needs, and no pointer after those that it needs.
-fn look_at_pointers<D: Disk>(volume: &mut Volume<D>, entry: &Entry) -> Result<(), Stop> {
+fn look_at_pointers<D: Disk>(
+    volume: &mut ReadVolume<D>,
+    entry: &DirectoryEntry,
+) -> Result<(), ReadStop> {
     look_at_double(volume, entry)?;
     let mut pointers = Pointers::of(volume, entry)?;
     look_at_tables(volume, entry, &pointers)?;
@@ -69,7 +74,7 @@ fn look_at_pointers<D: Disk>(volume: &mut Volume<D>, entry: &Entry) -> Result<()
 }
 
 /// Checks that a file has a double-indirect block exactly if it needs one.
-fn look_at_double<D: Disk>(volume: &Volume<D>, entry: &Entry) -> Result<(), Stop> {
+fn look_at_double<D: Disk>(volume: &ReadVolume<D>, entry: &DirectoryEntry) -> Result<(), ReadStop> {
     let alloc = volume.alloc;
     let size = Grouped(entry.size());
     let double = entry.double();
@@ -84,10 +89,10 @@ fn look_at_double<D: Disk>(volume: &Volume<D>, entry: &Entry) -> Result<(), Stop
 
 /// Checks that a file has exactly the blocks of pointers that it needs.
 fn look_at_tables<D: Disk>(
-    volume: &Volume<D>,
-    entry: &Entry,
+    volume: &ReadVolume<D>,
+    entry: &DirectoryEntry,
     pointers: &Pointers,
-) -> Result<(), Stop> {
+) -> Result<(), ReadStop> {
     let alloc = volume.alloc;
     let size = Grouped(entry.size());
     for place in 0..entry.table_places() {
@@ -104,10 +109,10 @@ fn look_at_tables<D: Disk>(
 
 /// Looks for pointers after those that a file needs.
 fn look_at_rest<D: Disk>(
-    volume: &mut Volume<D>,
-    entry: &Entry,
+    volume: &mut ReadVolume<D>,
+    entry: &DirectoryEntry,
     pointers: &mut Pointers,
-) -> Result<(), Stop> {
+) -> Result<(), ReadStop> {
     let size = Grouped(entry.size());
     for index in entry.block_count()..entry.pointer_places() {
         let block = pointers.get(volume, index)?;
@@ -118,10 +123,10 @@ fn look_at_rest<D: Disk>(
 
 /// Checks a pointer of a file, which must point into the data.
 pub(crate) fn look_at_pointer<D: Disk>(
-    volume: &Volume<D>,
-    entry: &Entry,
+    volume: &ReadVolume<D>,
+    entry: &DirectoryEntry,
     block: u32,
-) -> Result<(), Stop> {
+) -> Result<(), ReadStop> {
     wrong_unless!(volume.alloc; volume.data_start() <= block && block < volume.sizes.blocks,
         "{entry} points to block {block}, which is none of the data");
     Ok(())

@@ -6,7 +6,7 @@ use names::is_group_name;
 use records::{FileKind, kind_of, serial_of};
 use std::alloc::Global;
 use volume_format::layout::{number32, number64};
-use volume_reading::{Entry, Grouped, Stop, Volume, wrong, wrong_unless};
+use volume_reading::{DirectoryEntry, Grouped, ReadStop, ReadVolume, wrong, wrong_unless};
 
 /// The octets of an article in the numbers of a group.
 const NUMBER_SIZE: u64 = 16;
@@ -38,7 +38,7 @@ const MOMENT_LIMIT: u64 = 253_402_300_800;
 const DESCRIPTION_LIMIT: u64 = 200;
 
 /// Checks the rule of files, in a volume that follows the rule of blocks.
-pub(crate) fn look<D: Disk>(volume: &mut Volume<D>, names: &Names) -> Result<(), Stop> {
+pub(crate) fn look<D: Disk>(volume: &mut ReadVolume<D>, names: &Names) -> Result<(), ReadStop> {
     let mut serials = vec![in volume.alloc; NOBODY; volume.sizes.inodes as usize]?;
     for number in 0..volume.sizes.inodes {
         let entry = volume.entry(number)?;
@@ -51,11 +51,11 @@ pub(crate) fn look<D: Disk>(volume: &mut Volume<D>, names: &Names) -> Result<(),
 
 /// Checks a file of the kind that its name states.
 fn look_at_file<D: Disk>(
-    volume: &mut Volume<D>,
+    volume: &mut ReadVolume<D>,
     names: &Names,
-    entry: &Entry,
+    entry: &DirectoryEntry,
     serials: &mut [u32],
-) -> Result<(), Stop> {
+) -> Result<(), ReadStop> {
     match kind_of(entry.name()) {
         Some((kind @ (FileKind::Article | FileKind::Expiry), digits)) => match serial_of(digits) {
             Some(serial) => look_at_numbered(volume, entry, kind, serial, serials),
@@ -73,12 +73,12 @@ fn look_at_file<D: Disk>(
     }
 }
 
-fn no_known_name(alloc: Global, entry: &Entry) -> Result<(), Stop> {
+fn no_known_name(alloc: Global, entry: &DirectoryEntry) -> Result<(), ReadStop> {
     wrong!(alloc; "{entry} has a name of no known form")
 }
 
 /// Checks that a group has all of its three files, of which this is one.
-fn look_for_others(alloc: Global, names: &Names, entry: &Entry) -> Result<(), Stop> {
+fn look_for_others(alloc: Global, names: &Names, entry: &DirectoryEntry) -> Result<(), ReadStop> {
     for letter in *b"gno" {
         let mut other = *entry;
         other.slot[1] = letter;
@@ -88,7 +88,7 @@ fn look_for_others(alloc: Global, names: &Names, entry: &Entry) -> Result<(), St
 }
 
 /// Checks the numbers of a group.
-fn look_at_numbers(alloc: Global, entry: &Entry) -> Result<(), Stop> {
+fn look_at_numbers(alloc: Global, entry: &DirectoryEntry) -> Result<(), ReadStop> {
     let size = entry.size();
     wrong_unless!(alloc; size % NUMBER_SIZE == 0, "{entry} has {} octets, which is no multiple of {NUMBER_SIZE}", Grouped(size));
     Ok(())
@@ -96,10 +96,10 @@ fn look_at_numbers(alloc: Global, entry: &Entry) -> Result<(), Stop> {
 
 /// Checks the file of a group.
 fn look_at_group<D: Disk>(
-    volume: &mut Volume<D>,
-    entry: &Entry,
+    volume: &mut ReadVolume<D>,
+    entry: &DirectoryEntry,
     serials: &mut [u32],
-) -> Result<(), Stop> {
+) -> Result<(), ReadStop> {
     let head = volume.head(entry)?;
     let serial = serial_in(volume.alloc, entry, head.as_slice(), GROUP_HEADER)?;
     note_serial(volume, entry, serial, serials)?;
@@ -109,12 +109,12 @@ fn look_at_group<D: Disk>(
 
 /// Checks the file of an article or an expiry, whose name states its serial.
 fn look_at_numbered<D: Disk>(
-    volume: &mut Volume<D>,
-    entry: &Entry,
+    volume: &mut ReadVolume<D>,
+    entry: &DirectoryEntry,
     kind: FileKind,
     named: u64,
     serials: &mut [u32],
-) -> Result<(), Stop> {
+) -> Result<(), ReadStop> {
     let alloc = volume.alloc;
     let is_article = kind == FileKind::Article;
     let header = if is_article {
@@ -135,26 +135,31 @@ fn look_at_numbered<D: Disk>(
 }
 
 /// The serial in the first octets of a change's file, which must have room for its header.
-fn serial_in(alloc: Global, entry: &Entry, octets: &[u8], header: usize) -> Result<u64, Stop> {
+fn serial_in(
+    alloc: Global,
+    entry: &DirectoryEntry,
+    octets: &[u8],
+    header: usize,
+) -> Result<u64, ReadStop> {
     wrong_unless!(alloc; octets.len() >= header, "{entry} has {} octets, fewer than the {header} of its header", octets.len());
     number_in(octets, 0)
 }
 
 /// The number in the eight octets from a place on.
-fn number_in(octets: &[u8], at: usize) -> Result<u64, Stop> {
+fn number_in(octets: &[u8], at: usize) -> Result<u64, ReadStop> {
     if octets.len() < 8 || octets.len() - 8 < at {
-        return Err(Stop::Unseen);
+        return Err(ReadStop::Unseen);
     }
     Ok(number64(octets, at))
 }
 
 /// Notes the serial of a change, which no other may have.
 fn note_serial<D: Disk>(
-    volume: &mut Volume<D>,
-    entry: &Entry,
+    volume: &mut ReadVolume<D>,
+    entry: &DirectoryEntry,
     serial: u64,
     serials: &mut [u32],
-) -> Result<(), Stop> {
+) -> Result<(), ReadStop> {
     let alloc = volume.alloc;
     let inodes = serials.len();
     wrong_unless!(alloc; 1 <= serial && serial <= inodes as u64, "{entry} has serial {serial}, which is none of 1 to {inodes}");
@@ -169,7 +174,7 @@ fn note_serial<D: Disk>(
 }
 
 /// Looks for a serial that no change has, though one has a greater serial.
-fn look_for_gaps(alloc: Global, serials: &[u32]) -> Result<(), Stop> {
+fn look_for_gaps(alloc: Global, serials: &[u32]) -> Result<(), ReadStop> {
     let mut missing = None;
     for at in 0..serials.len() {
         let serial = at.saturating_add(1);
@@ -185,14 +190,18 @@ fn look_for_gaps(alloc: Global, serials: &[u32]) -> Result<(), Stop> {
 }
 
 /// Checks the moment of a group or an article.
-fn look_at_moment(alloc: Global, entry: &Entry, octets: &[u8]) -> Result<(), Stop> {
+fn look_at_moment(alloc: Global, entry: &DirectoryEntry, octets: &[u8]) -> Result<(), ReadStop> {
     let moment = number_in(octets, MOMENT_AT)?;
     wrong_unless!(alloc; moment < MOMENT_LIMIT, "{entry} has the moment {moment}, which isn't before the year 10000");
     Ok(())
 }
 
 /// Checks the status and the description of a group.
-fn look_at_description(alloc: Global, entry: &Entry, octets: &[u8]) -> Result<(), Stop> {
+fn look_at_description(
+    alloc: Global,
+    entry: &DirectoryEntry,
+    octets: &[u8],
+) -> Result<(), ReadStop> {
     let status = octets.get(STATUS_AT).copied();
     wrong_unless!(alloc; status == Some(b'y') || status == Some(b'n'), "{entry} has a status that is neither y nor n");
     let size = entry.size().saturating_sub(GROUP_HEADER as u64);
@@ -206,7 +215,11 @@ fn look_at_description(alloc: Global, entry: &Entry, octets: &[u8]) -> Result<()
 }
 
 /// Checks that a file has the size that its header asks for, which is `None` if the header doesn't end in its block.
-fn look_at_size(alloc: Global, entry: &Entry, wanted: Option<u64>) -> Result<(), Stop> {
+fn look_at_size(
+    alloc: Global,
+    entry: &DirectoryEntry,
+    wanted: Option<u64>,
+) -> Result<(), ReadStop> {
     let size = Grouped(entry.size());
     match wanted {
         Some(wanted) if wanted == entry.size() => Ok(()),

@@ -10,31 +10,31 @@ mod owners;
 
 use disk::Disk;
 use std::alloc::Global;
-use volume_reading::{Stop, Volume};
+use volume_reading::{ReadStop, ReadVolume};
 
 /// Why a device holds no volume, if an opening said `NotAVolume` (E3): its length, its superblock with the label, or the
 /// descriptor of an open segment. `None` if nothing is found, a read fails or memory is refused.
 pub fn no_volume<D: Disk + Drop>(alloc: Global, disk: D) -> Option<String> {
-    match Volume::open(alloc, disk) {
-        Err(Stop::Wrong(text)) => Some(text),
-        Ok(_) | Err(Stop::Unseen) => None,
+    match ReadVolume::open(alloc, disk) {
+        Err(ReadStop::Wrong(text)) => Some(text),
+        Ok(_) | Err(ReadStop::Unseen) => None,
     }
 }
 
 /// What breaks the rule of blocks or the rule of files, if an opening said `Damaged` (E5). `None` if nothing is found, a
 /// read fails or memory is refused. No article is read, so not every break of the rule of files is found.
 pub fn damage<D: Disk + Drop>(alloc: Global, disk: D) -> Option<String> {
-    let Ok(mut volume) = Volume::open(alloc, disk) else {
+    let Ok(mut volume) = ReadVolume::open(alloc, disk) else {
         return None;
     };
     match look(&mut volume) {
-        Err(Stop::Wrong(text)) => Some(text),
-        Ok(()) | Err(Stop::Unseen) => None,
+        Err(ReadStop::Wrong(text)) => Some(text),
+        Ok(()) | Err(ReadStop::Unseen) => None,
     }
 }
 
 /// Checks the rule of blocks, and then the rule of files.
-fn look<D: Disk>(volume: &mut Volume<D>) -> Result<(), Stop> {
+fn look<D: Disk>(volume: &mut ReadVolume<D>) -> Result<(), ReadStop> {
     blocks::look(volume)?;
     let names = owners::look(volume)?;
     files::look(volume, &names)

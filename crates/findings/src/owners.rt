@@ -5,7 +5,9 @@ use disk::Disk;
 use fs_layout::bits::is_set;
 use fs_layout::marks::BLOCK_BITS;
 use std::collections::BTreeMap;
-use volume_reading::{Entry, Grouped, Pointers, Record, Stop, Volume, wrong, wrong_unless};
+use volume_reading::{
+    DirectoryEntry, Grouped, Pointers, ReadStop, ReadVolume, Record, wrong, wrong_unless,
+};
 
 /// The slots of all files, with the numbers of their inodes.
 pub(crate) type Names = BTreeMap<Record, u32>;
@@ -17,7 +19,7 @@ pub(crate) const NOBODY: u32 = u32::MAX;
 const BITMAP_BLOCKS: u32 = 2;
 
 /// Checks the owners, the bitmap and the names, and answers the names.
-pub(crate) fn look<D: Disk>(volume: &mut Volume<D>) -> Result<Names, Stop> {
+pub(crate) fn look<D: Disk>(volume: &mut ReadVolume<D>) -> Result<Names, ReadStop> {
     let mut owners = vec![in volume.alloc; NOBODY; volume.sizes.blocks as usize]?;
     for number in 0..volume.sizes.inodes {
         let entry = volume.entry(number)?;
@@ -37,10 +39,10 @@ pub(crate) fn look<D: Disk>(volume: &mut Volume<D>) -> Result<Names, Stop> {
 
 /// Notes the owner of a file's blocks: its double-indirect block, its blocks of pointers, and those of its content.
 fn claim_all<D: Disk>(
-    volume: &mut Volume<D>,
+    volume: &mut ReadVolume<D>,
     owners: &mut [u32],
-    entry: &Entry,
-) -> Result<(), Stop> {
+    entry: &DirectoryEntry,
+) -> Result<(), ReadStop> {
     if entry.double() != 0 {
         claim(volume, owners, entry, entry.double())?;
     }
@@ -53,11 +55,11 @@ fn claim_all<D: Disk>(
 
 /// Notes the owner of the blocks of a file's content, for each of which it has a pointer into the data.
 fn claim_content<D: Disk>(
-    volume: &mut Volume<D>,
+    volume: &mut ReadVolume<D>,
     owners: &mut [u32],
-    entry: &Entry,
+    entry: &DirectoryEntry,
     pointers: &mut Pointers,
-) -> Result<(), Stop> {
+) -> Result<(), ReadStop> {
     let size = Grouped(entry.size());
     for index in 0..entry.block_count() {
         let block = pointers.get(volume, index)?;
@@ -70,15 +72,15 @@ fn claim_content<D: Disk>(
 
 /// Notes the owner of a block, which may have none yet.
 fn claim<D: Disk>(
-    volume: &mut Volume<D>,
+    volume: &mut ReadVolume<D>,
     owners: &mut [u32],
-    entry: &Entry,
+    entry: &DirectoryEntry,
     block: u32,
-) -> Result<(), Stop> {
+) -> Result<(), ReadStop> {
     let alloc = volume.alloc;
     let at = block as usize;
     if at >= owners.len() {
-        return Err(Stop::Unseen);
+        return Err(ReadStop::Unseen);
     }
     let owner = owners[at];
     if owner == NOBODY {
@@ -92,11 +94,11 @@ fn claim<D: Disk>(
 
 /// Checks that a block is marked as it must be.
 fn look_at_mark<D: Disk>(
-    volume: &mut Volume<D>,
+    volume: &mut ReadVolume<D>,
     owners: &[u32],
     block: u32,
     is_marked: bool,
-) -> Result<(), Stop> {
+) -> Result<(), ReadStop> {
     let alloc = volume.alloc;
     let blocks = Grouped(u64::from(volume.sizes.blocks));
     let is_front = block < volume.data_start();
@@ -115,13 +117,13 @@ fn look_at_mark<D: Disk>(
 }
 
 /// Looks for two files with the same name, and answers the names.
-fn look_at_names<D: Disk>(volume: &mut Volume<D>) -> Result<Names, Stop> {
+fn look_at_names<D: Disk>(volume: &mut ReadVolume<D>) -> Result<Names, ReadStop> {
     let mut names = BTreeMap::new(volume.alloc);
     for number in 0..volume.sizes.inodes {
         let entry = volume.entry(number)?;
         if entry.is_file() {
             let Ok(before) = names.insert(entry.slot, number) else {
-                return Err(Stop::Unseen);
+                return Err(ReadStop::Unseen);
             };
             if let Some(other) = before {
                 wrong!(volume.alloc; "inodes {other} and {number} both have the name of {entry}");

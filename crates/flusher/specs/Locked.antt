@@ -1,7 +1,7 @@
 -- What a call does to the kernel under the lock, and to the caller's buffer.
 use Rattle.std.specs.Prelude.{◌≡◌, ◌<◌, ◌↔◌, ℕ, Bool, IsTrue, List, ◌++◌, length}
 use Rattle.flusher.specs.declared.kern.Answered.{Answered}
-use Rattle.flusher.specs.declared.kern.Counts.{Counts}
+use Rattle.flusher.specs.declared.kern.KernelCounts.{KernelCounts}
 use Rattle.kernel.specs.Kernel.{Execs, KernelView, released_of, seat_of}
 use Rattle.model.specs.SpoolFiles.{files_of}
 use Rattle.model.specs.declared.message.Message.{Message}
@@ -23,7 +23,7 @@ pub record Answers (old new : KernelView) (number : ℕ) (m : Message) (t : ℕ)
   pub given : Gives served new number before after answered.is_held
 
 -- what a kernel holds
-pub record IsCounted (kernel : KernelView) (counts : Counts) : Type 0 where
+pub record IsCounted (kernel : KernelView) (counts : KernelCounts) : Type 0 where
   pub sessions : counts.sessions ≡ length kernel.seats
   pub inodes : counts.inodes ≡ length (files_of kernel.spool)
   pub accepted : counts.accepted ≡ length kernel.spool

@@ -16,7 +16,7 @@ use mark::{FlushSeat, Mark};
 use std::sync::Wait;
 use std::thread;
 use thiserror::Error;
-use usage::{Marks, Tally};
+use usage::{BitmapMarks, Tally};
 use volume::{BATCH_BLOCKS, BLOCK_SIZE, BatchBuf};
 use volume_format::{are_below, are_distinct};
 
@@ -221,7 +221,7 @@ pub struct Flusher<'a, D: Disk> {
     pub seat: FlushSeat,
     pub batch: BatchBuf,
     /// The marks of used blocks on the device.
-    pub marks: Marks,
+    pub marks: BitmapMarks,
     pub tally: &'a Tally,
     ghost idle: { IsIdle journal },
     ghost flushes: { seat.mark ≡ mark.now },
@@ -229,7 +229,7 @@ pub struct Flusher<'a, D: Disk> {
 
 /// How the flusher ended.
 #[derive(Clone, Copy, Debug, Drop, PartialEq, Eq)]
-pub enum Ended {
+pub enum FlusherEnd {
     /// It was asked to stop: every accepted change is durable, and the kernel is halted.
     Stopped,
     /// A turn was refused.
@@ -242,7 +242,7 @@ struct Work<D: Disk> {
     journal: Journal<D>,
     seat: FlushSeat,
     batch: BatchBuf,
-    marks: Marks,
+    marks: BitmapMarks,
 }
 
 /// How the flusher informs others.
@@ -263,7 +263,7 @@ pub fn flush_all<R: Wait, D: Disk + Drop, K: Kern, G: Gate>(
     kern: &K,
     gate: &G,
     bells: &Bells,
-) -> Ended {
+) -> FlusherEnd {
     let Flusher {
         journal,
         mark,
@@ -293,13 +293,13 @@ fn flush_to_end<R: Wait, D: Disk, K: Kern, G: Gate>(
     rt: &R,
     around: &Around<'_, K, G>,
     work: &mut Work<D>,
-) -> Ended
+) -> FlusherEnd
     requires idle { IsIdle work.old.journal }
     requires seat { work.old.seat.mark ≡ around.now.mark.now }
     ensures stopped { work.new.seat.stopped ≡ true }
-    ensures in_order { result ≡ Ended.Stopped → IsIdle work.new.journal × HasNotFailed D.device work.old.journal work.new.journal }
-    ensures fault { result ≡ Ended.Failed FlushError.Fault → Failed D.device work.old.journal work.new.journal }
-    ensures halted { result ≡ Ended.Failed FlushError.Halted → HasNotFailed D.device work.old.journal work.new.journal }
+    ensures in_order { result ≡ FlusherEnd.Stopped → IsIdle work.new.journal × HasNotFailed D.device work.old.journal work.new.journal }
+    ensures fault { result ≡ FlusherEnd.Failed FlushError.Fault → Failed D.device work.old.journal work.new.journal }
+    ensures halted { result ≡ FlusherEnd.Failed FlushError.Halted → HasNotFailed D.device work.old.journal work.new.journal }
 {
     let Around {
         kern,
@@ -327,10 +327,10 @@ fn flush_to_end<R: Wait, D: Disk, K: Kern, G: Gate>(
             }
             Ok(None) if ends(rt, around) => {
                 mark.stop(&mut work.seat);
-                return Ended::Stopped;
+                return FlusherEnd::Stopped;
             }
             Ok(None) => bells.flusher.park(rt),
-            Err(error) => return Ended::Failed(error),
+            Err(error) => return FlusherEnd::Failed(error),
         }
     }
     unreachable!()
@@ -340,7 +340,7 @@ fn flush_to_end<R: Wait, D: Disk, K: Kern, G: Gate>(
 fn follow<R: Wait, K: Kern, G: Gate>(
     rt: &R,
     around: &Around<'_, K, G>,
-    marks: Marks,
+    marks: BitmapMarks,
     released: u64,
 ) {
     let Around {

@@ -12,11 +12,11 @@ mod locked;
 
 pub use arrivals::Arrivals;
 pub use bells::{Bell, Bells, Ringing};
-pub use flushing::{Ended, FlushError, Flusher, flush_all, flush_turn};
+pub use flushing::{FlushError, Flusher, FlusherEnd, flush_all, flush_turn};
 pub use gate::{Gate, NoGate};
-pub use kern::{Answered, Counts, Kern};
+pub use kern::{Answered, Kern, KernelCounts};
 pub use kernel::{
     AdminError, BatchBuf, ExecError, ExpireError, JoinError, Kernel, SESSIONS, Stale, Ticket,
 };
 pub use locked::Locked;
-pub use usage::{Marks, Tallied, Tally, VolumeFacts};
+pub use usage::{BitmapMarks, Tallied, Tally, VolumeFacts};

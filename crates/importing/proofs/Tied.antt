@@ -20,9 +20,9 @@ use Rattle.spool.specs.View.{Adds, Dirties, IsSpool, SpoolView}
 use Rattle.volume.specs.Volume.{AgreeOutside}
 use Rattle.importing.specs.Filing.{Becomes}
 use Rattle.importing.specs.Saved.{Carries, IsBehind, IsSameVolume, IsSaved, IsTied, LeavesOneOf, LeavesPrefix, StoreView}
-use Rattle.importing.specs.declared.outcome.Outcome.{Outcome}
-use Rattle.importing.specs.declared.outcome.Outcome.TheVariants.{Filed, Here, NoGroup, Refused, Full}
-use Rattle.importing.specs.declared.outcome.Refused.TheVariants.{NotAnArticle, OwnId}
+use Rattle.importing.specs.declared.outcome.TextOutcome.{TextOutcome}
+use Rattle.importing.specs.declared.outcome.TextOutcome.TheVariants.{Filed, Here, NoGroup, Refused, Full}
+use Rattle.importing.specs.declared.outcome.TextRefusal.TheVariants.{NotAnArticle, OwnId}
 
 -- ---- an image of format 2
 
@@ -72,7 +72,7 @@ module _ {D : Type 0} (device : D → Device) (journal : JournalView D) (old new
   stays : new ≡ old → IsTied device journal new durable
   stays same = subst (λ (s : SpoolView). IsTied device journal s durable) (sym same) tied
 
-  becomes : (text : Octets) (moment : ℕ) (outcome : Outcome) → Becomes old new text moment outcome → IsTied device journal new durable
+  becomes : (text : Octets) (moment : ℕ) (outcome : TextOutcome) → Becomes old new text moment outcome → IsTied device journal new durable
   becomes text moment (Filed serial) is = adds (Article text is.2.0 moment) is.2.3
   becomes text moment Full is = stays is.2
   becomes text moment Here is = stays is.2
@@ -81,7 +81,7 @@ module _ {D : Type 0} (device : D → Device) (journal : JournalView D) (old new
   becomes text moment (Refused (NotAnArticle c)) is = stays is.1
 
   -- whatever is answered
-  pub files : {E : Type 0} (text : Octets) (moment : ℕ) (result : Result Outcome E)
+  pub files : {E : Type 0} (text : Octets) (moment : ℕ) (result : Result TextOutcome E)
       → IfOk result (λ outcome. Becomes old new text moment outcome) → OnErr result (new ≡ old) → IsTied device journal new durable
   files text moment (Ok outcome) ok err = becomes text moment outcome ok
   files text moment (Err error) ok err = stays err

@@ -15,8 +15,8 @@ use Rattle.model.specs.Names.{is_of_host}
 use Rattle.model.specs.Spool.{NewsArticle, Spool, by_id, is_here}
 use Rattle.model.specs.Stream.{Octets}
 use Rattle.model.proofs.Ids.{field_counted, no_cause}
-use Rattle.change_spool.specs.declared.FileError.{FileError}
-use Rattle.change_spool.specs.declared.FileError.TheVariants as file
+use Rattle.change_spool.specs.declared.FilingError.{FilingError}
+use Rattle.change_spool.specs.declared.FilingError.TheVariants as file
 use Rattle.posting_commands.proofs.Saying.{no_but}
 use Rattle.posting_commands.proofs.Telling.{transfer_filed}
 
@@ -118,7 +118,7 @@ pub has_room : (full : Bool) → (if full then Some file.Full else None) ≡ Non
 has_room true none = absurd (cc)
 has_room false none = refl
 
-pub lacks_room : (full : Bool) (e : FileError) → e ≡ file.Full
+pub lacks_room : (full : Bool) (e : FilingError) → e ≡ file.Full
     → ((e ≡ file.Memory) × ((if full then Some file.Full else None) ≡ None)) ⊎ ((if full then Some file.Full else None) ≡ Some e)
     → full ≡ true
 lacks_room true e is either = refl

@@ -9,9 +9,9 @@ use Rattle.model.specs.Stream.{Octets}
 use Rattle.model.specs.declared.change.Change.TheVariants.{Article}
 use Rattle.spool.specs.Refusals.{is_full_for}
 use Rattle.spool.specs.View.{Adds, SpoolView}
-use Rattle.importing.specs.declared.outcome.Outcome.{Outcome}
-use Rattle.importing.specs.declared.outcome.Outcome.TheVariants.{Filed, Here, NoGroup, Refused, Full}
-use Rattle.importing.specs.declared.outcome.Refused.TheVariants.{NotAnArticle, OwnId}
+use Rattle.importing.specs.declared.outcome.TextOutcome.{TextOutcome}
+use Rattle.importing.specs.declared.outcome.TextOutcome.TheVariants.{Filed, Here, NoGroup, Refused, Full}
+use Rattle.importing.specs.declared.outcome.TextRefusal.TheVariants.{NotAnArticle, OwnId}
 
 -- the outcome of the transfer in which a peer offers a text by its own message-id and then sends it
 abbrev pub transferred : SpoolView → Octets → answers.Outcome
@@ -25,7 +25,7 @@ abbrev pub IsOffered : SpoolView → Octets → Type 0
 IsOffered s text = is_of_host s.host (id text) ≡ false
 
 -- when each outcome occurs, and the spool afterwards
-abbrev pub Becomes : SpoolView → SpoolView → Octets → ℕ → Outcome → Type 0
+abbrev pub Becomes : SpoolView → SpoolView → Octets → ℕ → TextOutcome → Type 0
 Becomes old new text moment (Filed serial) =
     IsOffered old text × (serial ≡ length old.changes + 1)
     × ((groups : List Octets) × (transferred old text ≡ answers.accepted groups)

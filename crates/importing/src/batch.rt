@@ -4,11 +4,11 @@ ghost use Rattle.std.specs.Prelude.{◌<◌, OnOk};
 ghost use Rattle.model.specs.Calendar.{moment_limit};
 ghost use Rattle.importing.specs.Saved.{IsSaved};
 
-use crate::outcome::{CAUSES, FULL_GROUP, Lack, Outcome, words_at};
+use crate::outcome::{CAUSES, FULL_GROUP, Lack, TextOutcome, words_at};
 use crate::store::Store;
 use disk::Disk;
 use journal::JournalError;
-use rnews::{ReadError, Reader, Refusal};
+use rnews::{BatchError, BatchReader, BatchRefusal};
 use std::alloc::{AllocError, Global};
 use std::fmt::{self, Display, Formatter};
 use std::io::{self, ErrorKind, Read};
@@ -29,7 +29,7 @@ pub struct Place {
 
 /// The number of texts with each outcome.
 #[derive(Clone, Copy, Debug, PartialEq, Eq)]
-pub struct Counts {
+pub struct ImportCounts {
     pub filed: u64,
     /// An article with the message-id was filed before.
     pub here: u64,
@@ -39,9 +39,9 @@ pub struct Counts {
     by_cause: [u64; CAUSES],
 }
 
-impl Counts {
+impl ImportCounts {
     /// No text yet.
-    const NONE: Counts = Counts {
+    const NONE: ImportCounts = ImportCounts {
         filed: 0,
         here: 0,
         no_group: 0,
@@ -58,12 +58,12 @@ impl Counts {
     }
 
     /// Counts a text that was not refused.
-    fn add(&mut self, outcome: Outcome) {
+    fn add(&mut self, outcome: TextOutcome) {
         let count = match outcome {
-            Outcome::Filed(_) => &mut self.filed,
-            Outcome::Here => &mut self.here,
-            Outcome::NoGroup => &mut self.no_group,
-            Outcome::Refused(_) | Outcome::Full => return,
+            TextOutcome::Filed(_) => &mut self.filed,
+            TextOutcome::Here => &mut self.here,
+            TextOutcome::NoGroup => &mut self.no_group,
+            TextOutcome::Refused(_) | TextOutcome::Full => return,
         };
         *count = count.saturating_add(1);
     }
@@ -77,7 +77,7 @@ impl Counts {
     }
 }
 
-impl Display for Counts {
+impl Display for ImportCounts {
     /// Four lines, and one more for each cause for which a text was refused. The last line has no line end.
     fn fmt<W: fmt::Write>(&self, f: &mut Formatter<W>) -> fmt::Result {
         writeln!(f, "filed {}", self.filed)?;
@@ -95,13 +95,13 @@ impl Display for Counts {
 
 /// Why an import stopped before the end of its batch.
 #[derive(Debug, Drop, Error)]
-pub enum Stop {
+pub enum ImportStop {
     /// The volume has no room for the text here, nor for any other.
     #[error("E6 Full: {0}: {1}")]
     Full(Place, Lack),
     /// From here on the octets are not a batch.
     #[error("E14 Bad: {0}")]
-    NotABatch(Refusal),
+    NotABatch(BatchRefusal),
     /// At this octet the batch could not be read, or the watcher could not take a report about it.
     #[error("octet {0}: {1}")]
     Stream(u64, io::Error),
@@ -110,9 +110,9 @@ pub enum Stop {
 /// What an import did. All that it filed is durable.
 #[derive(Debug, Drop)]
 pub struct Report {
-    pub counts: Counts,
+    pub counts: ImportCounts,
     /// `None` if it came to the end of its batch.
-    pub stop: Option<Stop>,
+    pub stop: Option<ImportStop>,
 }
 
 /// Why an import failed. The first texts that it filed may be durable.
@@ -151,14 +151,14 @@ pub trait Watcher {
     fn refused(&mut self, place: Place, cause: &'static str) -> io::Result<()>;
 
     /// This many octets of the batch were read, and the texts in them were filed.
-    fn progress(&mut self, octets: u64, counts: &Counts) -> io::Result<()>;
+    fn progress(&mut self, octets: u64, counts: &ImportCounts) -> io::Result<()>;
 }
 
 /// A batch on its way into a store.
 #[derive(Drop)]
 struct Batch {
-    reader: Reader,
-    counts: Counts,
+    reader: BatchReader,
+    counts: ImportCounts,
 }
 
 impl Batch {
@@ -175,10 +175,10 @@ impl Batch {
     }
 
     /// Why the import stops at the end of its input, if the reader still has octets.
-    fn end(&self) -> Option<Stop> {
+    fn end(&self) -> Option<ImportStop> {
         match self.reader.end() {
             Ok(()) => None,
-            Err(refusal) => Some(Stop::NotABatch(refusal)),
+            Err(refusal) => Some(ImportStop::NotABatch(refusal)),
         }
     }
 }
@@ -196,8 +196,8 @@ pub fn import<D: Disk, I: Read, W: Watcher>(
     ensures { OnOk result (IsSaved D.device store.new) }
 {
     let mut batch = Batch {
-        reader: Reader::new(alloc),
-        counts: Counts::NONE,
+        reader: BatchReader::new(alloc),
+        counts: ImportCounts::NONE,
     };
     let stop = file_all(alloc, store, &mut batch, input, watcher)?;
     store.commit()?;
@@ -214,7 +214,7 @@ fn file_all<D: Disk, I: Read, W: Watcher>(
     batch: &mut Batch,
     input: &mut I,
     watcher: &mut W,
-) -> Result<Option<Stop>, ImportError> {
+) -> Result<Option<ImportStop>, ImportError> {
     let mut piece = vec![in alloc; 0; PIECE]?;
     let mut octets: u64 = 0;
     for _ in 0..u64::MAX {
@@ -240,10 +240,10 @@ fn file_all<D: Disk, I: Read, W: Watcher>(
 
 /// Why the import stops if a stream failed at this octet. What failed for want of memory counts as any other refusal of
 /// memory.
-fn stream_stop(octet: u64, error: io::Error) -> Result<Option<Stop>, ImportError> {
+fn stream_stop(octet: u64, error: io::Error) -> Result<Option<ImportStop>, ImportError> {
     match error.kind() {
         ErrorKind::OutOfMemory => Err(ImportError::Memory),
-        _ => Ok(Some(Stop::Stream(octet, error))),
+        _ => Ok(Some(ImportStop::Stream(octet, error))),
     }
 }
 
@@ -253,15 +253,15 @@ fn file_ready<D: Disk, W: Watcher>(
     store: &mut Store<D>,
     batch: &mut Batch,
     watcher: &mut W,
-) -> Result<Option<Stop>, ImportError> {
+) -> Result<Option<ImportStop>, ImportError> {
     let moment = watcher.moment();
     for _ in 0..u64::MAX {
         let place = batch.place();
         let text = match batch.reader.next() {
             Ok(Some(text)) => text,
             Ok(None) => break,
-            Err(ReadError::Refused(refusal)) => return Ok(Some(Stop::NotABatch(refusal))),
-            Err(ReadError::Memory) => return Err(ImportError::Memory),
+            Err(BatchError::Refused(refusal)) => return Ok(Some(ImportStop::NotABatch(refusal))),
+            Err(BatchError::Memory) => return Err(ImportError::Memory),
         };
         store.make_room()?;
         let outcome = store.file(alloc, &text, moment)?;
@@ -276,18 +276,18 @@ fn file_ready<D: Disk, W: Watcher>(
 /// Counts what became of a text, and tells the watcher if it was refused. Answers why the import stops, if it does.
 fn note<D: Disk, W: Watcher>(
     store: &mut Store<D>,
-    counts: &mut Counts,
+    counts: &mut ImportCounts,
     watcher: &mut W,
     place: Place,
-    outcome: Outcome,
-) -> Result<Option<Stop>, ImportError> {
+    outcome: TextOutcome,
+) -> Result<Option<ImportStop>, ImportError> {
     let cause = match outcome {
-        Outcome::Refused(why) => why.place(),
-        Outcome::Full => match lack(store)? {
-            Some(lack) => return Ok(Some(Stop::Full(place, lack))),
+        TextOutcome::Refused(why) => why.place(),
+        TextOutcome::Full => match lack(store)? {
+            Some(lack) => return Ok(Some(ImportStop::Full(place, lack))),
             None => FULL_GROUP,
         },
-        Outcome::Filed(_) | Outcome::Here | Outcome::NoGroup => {
+        TextOutcome::Filed(_) | TextOutcome::Here | TextOutcome::NoGroup => {
             counts.add(outcome);
             return Ok(None);
         }

@@ -11,7 +11,7 @@ mod store;
 mod transfer;
 mod writing;
 
-pub use batch::{Counts, ImportError, Place, Report, Stop, Watcher, import};
-pub use outcome::{Lack, Outcome, Refused};
+pub use batch::{ImportCounts, ImportError, ImportStop, Place, Report, Watcher, import};
+pub use outcome::{Lack, TextOutcome, TextRefusal};
 pub use store::Store;
 pub use transfer::file_text;

@@ -7,7 +7,7 @@ use thiserror::Error;
 
 /// What became of a text that an import tried to file.
 #[derive(Clone, Copy, Debug, PartialEq, Eq)]
-pub enum Outcome {
+pub enum TextOutcome {
     /// It is filed, and its change has this serial.
     Filed(u64),
     /// An article with its message-id was filed before. One that has been removed counts, too.
@@ -15,7 +15,7 @@ pub enum Outcome {
     /// None of its groups exists.
     NoGroup,
     /// It is refused.
-    Refused(Refused),
+    Refused(TextRefusal),
     /// There is no room for it, in the volume or in a file of one of its groups. `Store::lack` says which.
     Full,
 }
@@ -33,28 +33,28 @@ pub enum Lack {
 
 /// Why a text is refused.
 #[derive(Clone, Copy, Debug, PartialEq, Eq)]
-pub enum Refused {
+pub enum TextRefusal {
     /// It is not an article; this is the first cause.
     NotAnArticle(Cause),
     /// Its message-id is one of those that this host makes. A transfer of it is not wanted (435).
     OwnId,
 }
 
-impl Refused {
+impl TextRefusal {
     /// The cause's place among all causes for which an import refuses a text.
     pub(crate) fn place(self) -> usize
         ensures { result < 10 }
     {
         match self {
-            Refused::NotAnArticle(Cause::Octets) => 0,
-            Refused::NotAnArticle(Cause::NoEnd) => 1,
-            Refused::NotAnArticle(Cause::Field) => 2,
-            Refused::NotAnArticle(Cause::Twice) => 3,
-            Refused::NotAnArticle(Cause::Missing) => 4,
-            Refused::NotAnArticle(Cause::Id) => 5,
-            Refused::NotAnArticle(Cause::Groups) => 6,
-            Refused::NotAnArticle(Cause::Long) => 7,
-            Refused::OwnId => 8,
+            TextRefusal::NotAnArticle(Cause::Octets) => 0,
+            TextRefusal::NotAnArticle(Cause::NoEnd) => 1,
+            TextRefusal::NotAnArticle(Cause::Field) => 2,
+            TextRefusal::NotAnArticle(Cause::Twice) => 3,
+            TextRefusal::NotAnArticle(Cause::Missing) => 4,
+            TextRefusal::NotAnArticle(Cause::Id) => 5,
+            TextRefusal::NotAnArticle(Cause::Groups) => 6,
+            TextRefusal::NotAnArticle(Cause::Long) => 7,
+            TextRefusal::OwnId => 8,
         }
     }
 }

@@ -11,7 +11,7 @@ ghost use Rattle.importing.specs.Filing.{Becomes};
 ghost use Rattle.importing.specs.Opening.{IsOpened};
 ghost use Rattle.importing.specs.Room.{lack_of};
 
-use crate::outcome::{Lack, Outcome};
+use crate::outcome::{Lack, TextOutcome};
 use crate::room::{blocks_used, lack_by};
 use crate::transfer::file_text;
 use crate::writing::write;
@@ -120,7 +120,12 @@ impl<D: Disk> Store<D> {
 
     /// Files a text, whose lines end in LF or CRLF, at a moment in seconds since 1970, as `file_text` does. It is not
     /// durable yet. Refused only for want of memory, and then nothing changes.
-    pub fn file(&mut self, alloc: Global, text: &[u8], moment: u64) -> Result<Outcome, AllocError>
+    pub fn file(
+        &mut self,
+        alloc: Global,
+        text: &[u8],
+        moment: u64,
+    ) -> Result<TextOutcome, AllocError>
         requires room { length self.old.spool.dirty ≤ 256 }
         requires moment { moment < moment_limit }
         ensures ok { IfOk result (Becomes self.old.spool self.new.spool (ends.with_crlf text.now) moment) }

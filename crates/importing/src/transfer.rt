@@ -6,9 +6,9 @@ ghost use Rattle.model.specs.Calendar.{moment_limit};
 ghost use Rattle.model.specs.Spool.{by_id, is_here};
 ghost use Rattle.importing.specs.Filing.{Becomes, IsOffered};
 
-use crate::{Outcome, Refused};
+use crate::{TextOutcome, TextRefusal};
 use article::{Article, Origin, ReadError};
-use change_spool::FileError;
+use change_spool::FilingError;
 use lookups::{LookUps, find_group, find_id};
 use model::Text;
 use names::is_of_host;
@@ -23,14 +23,16 @@ pub fn file_text(
     spool: &mut Spool,
     text: &[u8],
     moment: u64,
-) -> Result<Outcome, AllocError>
+) -> Result<TextOutcome, AllocError>
     requires { moment < moment_limit }
     ensures ok { IfOk result (Becomes spool.old spool.new text.now moment) }
     ensures err { OnErr result (spool.new ≡ spool.old) }
 {
     let article = match Article::read(alloc, text, Origin::Carried) {
         Ok(article) => article,
-        Err(ReadError::Bad(cause)) => return Ok(Outcome::Refused(Refused::NotAnArticle(cause))),
+        Err(ReadError::Bad(cause)) => return Ok(TextOutcome::Refused(TextRefusal::NotAnArticle(
+            cause,
+        ))),
         Err(ReadError::Memory) => return Err(AllocError),
     };
     file_article(alloc, spool, &article, moment)
@@ -42,7 +44,7 @@ fn file_article(
     spool: &mut Spool,
     article: &Article<'_>,
     moment: u64,
-) -> Result<Outcome, AllocError>
+) -> Result<TextOutcome, AllocError>
     requires carried { cause Carried article.now ≡ None }
     requires moment { moment < moment_limit }
     ensures ok { IfOk result (Becomes spool.old spool.new article.now moment) }
@@ -50,10 +52,10 @@ fn file_article(
 {
     let id = id_of(article);
     if is_of_host(spool.host(), id) {
-        return Ok(Outcome::Refused(Refused::OwnId));
+        return Ok(TextOutcome::Refused(TextRefusal::OwnId));
     }
     match find_id(spool, id) {
-        Some(_) => Ok(Outcome::Here),
+        Some(_) => Ok(TextOutcome::Here),
         None => file_new(alloc, spool, article, moment),
     }
 }
@@ -75,7 +77,7 @@ fn file_new(
     spool: &mut Spool,
     article: &Article<'_>,
     moment: u64,
-) -> Result<Outcome, AllocError>
+) -> Result<TextOutcome, AllocError>
     requires carried { cause Carried article.now ≡ None }
     requires offered { IsOffered spool.old article.now }
     requires new { by_id spool.old.changes (id article.now) ≡ None }
@@ -86,12 +88,12 @@ fn file_new(
     let names = article.groups(alloc)?;
     let groups = groups_here(alloc, spool, &names)?;
     if groups.is_empty() {
-        return Ok(Outcome::NoGroup);
+        return Ok(TextOutcome::NoGroup);
     }
     match spool.add_article(article, &groups, moment) {
-        Ok(serial) => Ok(Outcome::Filed(serial)),
-        Err(FileError::Full) => Ok(Outcome::Full),
-        Err(FileError::Memory) => Err(AllocError),
+        Ok(serial) => Ok(TextOutcome::Filed(serial)),
+        Err(FilingError::Full) => Ok(TextOutcome::Full),
+        Err(FilingError::Memory) => Err(AllocError),
     }
 }
 

@@ -125,8 +125,8 @@ fn read<D: Disk>(alloc: Global, journal: &mut Journal<D>) -> Result<Spool, OpenE
             let _count = volume.len();
             spool_in(alloc, Text::new(host), inodes, format, volume)
         }
-        Err(volume::OpenError::Fault) => Err(OpenError::Fault),
-        Err(volume::OpenError::Memory) => Err(OpenError::Memory),
+        Err(volume::LoadError::Fault) => Err(OpenError::Fault),
+        Err(volume::LoadError::Memory) => Err(OpenError::Memory),
     }
 }
 
@@ -173,7 +173,7 @@ fn spool_in(
 {
     match Spool::open(alloc, host, inodes, format, volume) {
         Ok(spool) => Ok(spool),
-        Err(spool_reading::OpenError::Memory) => Err(OpenError::Memory),
-        Err(spool_reading::OpenError::Damaged) => Err(OpenError::Damaged),
+        Err(spool_reading::ReadSpoolError::Memory) => Err(OpenError::Memory),
+        Err(spool_reading::ReadSpoolError::Damaged) => Err(OpenError::Damaged),
     }
 }

@@ -3,15 +3,15 @@ use Rattle.std.specs.Prelude.{◌≡◌, ℕ, ◌≤◌, ◌&&◌, nat_le, if◌
 use Rattle.std.specs.Net.Text.{socket_text}
 use Rattle.model.specs.Stream.{Octets}
 use Rattle.model.specs.Calendar.{date_reply}
-use Rattle.logging.specs.declared.events.Counts.{Counts}
-use Rattle.logging.specs.declared.events.Ended.{Ended}
+use Rattle.logging.specs.declared.events.SessionCounts.{SessionCounts}
+use Rattle.logging.specs.declared.events.EndedSession.{EndedSession}
 use Rattle.logging.specs.declared.events.Ending.{Ending}
 use Rattle.logging.specs.declared.events.Ending.TheVariants as ending
-use Rattle.logging.specs.declared.events.Event.{Event}
-use Rattle.logging.specs.declared.events.Event.TheVariants as event
-use Rattle.logging.specs.declared.events.Part.{Part}
-use Rattle.logging.specs.declared.events.Refusal.{Refusal}
-use Rattle.logging.specs.declared.events.Refusal.TheVariants as refusal
+use Rattle.logging.specs.declared.events.LogEvent.{LogEvent}
+use Rattle.logging.specs.declared.events.LogEvent.TheVariants as event
+use Rattle.logging.specs.declared.events.UsedPart.{UsedPart}
+use Rattle.logging.specs.declared.events.SessionRefusal.{SessionRefusal}
+use Rattle.logging.specs.declared.events.SessionRefusal.TheVariants as refusal
 
 -- the fourteen digits yyyymmddhhmmss as yyyy-mm-ddThh:mm:ssZ (RFC 3339, section 5.6)
 abbrev pub marked : Octets → Octets
@@ -32,7 +32,7 @@ ending_text ending.Failed = codes "failed"
 ending_text ending.Memory = codes "memory"
 ending_text ending.Stopped = codes "stopped"
 
-abbrev pub refusal_text : Refusal → Octets
+abbrev pub refusal_text : SessionRefusal → Octets
 refusal_text refusal.Access = codes "access"
 refusal_text refusal.Sessions = codes "sessions"
 refusal_text refusal.Descriptors = codes "descriptors"
@@ -40,22 +40,22 @@ refusal_text refusal.Memory = codes "memory"
 refusal_text refusal.Failed = codes "failed"
 refusal_text refusal.Halted = codes "halted"
 
-abbrev pub counts_text : Counts → Octets
+abbrev pub counts_text : SessionCounts → Octets
 counts_text counts =
     codes "messages=" ++ decimal counts.messages ++ codes " taken=" ++ decimal counts.taken ++ codes " refused="
     ++ decimal counts.refused ++ codes " in=" ++ decimal counts.octets_in ++ codes " out=" ++ decimal counts.octets_out
 
-abbrev pub ended_text : Ended → Octets
+abbrev pub ended_text : EndedSession → Octets
 ended_text ended =
     codes "peer=" ++ socket_text ended.peer ++ codes " session=" ++ decimal ended.session ++ codes " "
     ++ counts_text ended.counts ++ codes " why=" ++ ending_text ended.why
 
 -- used/all
-abbrev pub part_text : Part → Octets
+abbrev pub part_text : UsedPart → Octets
 part_text part = decimal part.used ++ codes "/" ++ decimal part.all
 
 -- the event and its fields
-abbrev pub event_text : Event → Octets
+abbrev pub event_text : LogEvent → Octets
 event_text (event.End ended) = codes "event=end " ++ ended_text ended
 event_text (event.Refused peer why) = codes "event=refused peer=" ++ socket_text peer ++ codes " why=" ++ refusal_text why
 event_text event.Fault = codes "event=fault"
@@ -65,7 +65,7 @@ event_text (event.Full blocks inodes) = codes "event=full blocks=" ++ part_text 
 event_text (event.Lost lines) = codes "event=lost lines=" ++ decimal lines
 
 -- the text of a line
-abbrev pub text_of : ℕ → Event → Octets
+abbrev pub text_of : ℕ → LogEvent → Octets
 text_of moment event = codes "time=" ++ time_text moment ++ codes " " ++ event_text event
 
 -- an octet from 32 to 126 as it is, any other as a question mark
@@ -73,7 +73,7 @@ abbrev pub shown : ℕ → ℕ
 shown octet = if nat_le 32 octet && nat_le octet 126 then octet else 63
 
 -- the line of an event, with its LF
-abbrev pub line_of : ℕ → Event → Octets
+abbrev pub line_of : ℕ → LogEvent → Octets
 line_of moment event = map shown (text_of moment event) ++ 10 ∷ []
 
 -- an octet that every terminal shows as it is

@@ -3,7 +3,7 @@
 ghost use Rattle.std.specs.Prelude.{◌<◌, IfSome};
 ghost use Rattle.model.specs.Calendar.{moment_limit};
 
-use crate::events::Event;
+use crate::events::LogEvent;
 use crate::writing::Log;
 use std::sync::Wait;
 use std::sync::atomic::{AtomicBool, Ordering};
@@ -46,7 +46,7 @@ impl Moments {
             Some(moment) => moment,
             None => {
                 if !self.is_told.swap(true, Ordering::SeqCst) {
-                    log.note(rt, Event::Clock);
+                    log.note(rt, LogEvent::Clock);
                 }
                 0
             }

@@ -44,7 +44,7 @@ impl Display for Ending {
 
 /// Why a caller got no session.
 #[derive(Clone, Copy)]
-pub enum Refusal {
+pub enum SessionRefusal {
     /// Its address is not one from which callers are let in.
     Access,
     /// There are as many sessions as the server can have.
@@ -59,24 +59,24 @@ pub enum Refusal {
     Halted,
 }
 
-impl Display for Refusal {
+impl Display for SessionRefusal {
     ghost output = { λ refusal. Some (refusal_text refusal) };
 
     fn fmt<W: fmt::Write>(&self, f: &mut fmt::Formatter<W>) -> fmt::Result {
         f.write_str(match self {
-            Refusal::Access => "access",
-            Refusal::Sessions => "sessions",
-            Refusal::Descriptors => "descriptors",
-            Refusal::Memory => "memory",
-            Refusal::Failed => "failed",
-            Refusal::Halted => "halted",
+            SessionRefusal::Access => "access",
+            SessionRefusal::Sessions => "sessions",
+            SessionRefusal::Descriptors => "descriptors",
+            SessionRefusal::Memory => "memory",
+            SessionRefusal::Failed => "failed",
+            SessionRefusal::Halted => "halted",
         })
     }
 }
 
 /// What a session was served.
 #[derive(Clone, Copy)]
-pub struct Counts {
+pub struct SessionCounts {
     /// The messages that were answered: lines, and the blocks of posts and transfers.
     pub messages: u64,
     /// The blocks that were accepted.
@@ -91,7 +91,7 @@ pub struct Counts {
 
 /// What was answered, as a session counts it.
 #[derive(Clone, Copy)]
-pub enum Served {
+pub enum CountedMessage {
     Line,
     /// A block that was accepted.
     Taken,
@@ -99,12 +99,12 @@ pub enum Served {
     Refused,
 }
 
-impl Counts {
+impl SessionCounts {
     /// Nothing was served yet.
-    pub fn new() -> Counts
+    pub fn new() -> SessionCounts
         ensures { result ≡ no_counts }
     {
-        Counts {
+        SessionCounts {
             messages: 0,
             taken: 0,
             refused: 0,
@@ -114,23 +114,23 @@ impl Counts {
     }
 
     /// Counts a message that was answered. A count stops at the greatest `u64`.
-    pub fn note(&mut self, served: Served)
+    pub fn note(&mut self, served: CountedMessage)
         ensures { self.new ≡ counted self.old served }
     {
         self.messages = self.messages.saturating_add(1);
         match served {
-            Served::Line => {}
-            Served::Taken => self.taken = self.taken.saturating_add(1),
-            Served::Refused => self.refused = self.refused.saturating_add(1),
+            CountedMessage::Line => {}
+            CountedMessage::Taken => self.taken = self.taken.saturating_add(1),
+            CountedMessage::Refused => self.refused = self.refused.saturating_add(1),
         }
     }
 }
 
-impl Display for Counts {
+impl Display for SessionCounts {
     ghost output = { λ counts. Some (counts_text counts) };
 
     fn fmt<W: fmt::Write>(&self, f: &mut fmt::Formatter<W>) -> fmt::Result {
-        let Counts {
+        let SessionCounts {
             messages,
             taken,
             refused,
@@ -144,20 +144,20 @@ impl Display for Counts {
 
 /// A session that has ended.
 #[derive(Clone, Copy)]
-pub struct Ended {
+pub struct EndedSession {
     /// The caller's address.
     pub peer: SocketAddr,
     /// The number of the session.
     pub session: u64,
-    pub counts: Counts,
+    pub counts: SessionCounts,
     pub why: Ending,
 }
 
-impl Display for Ended {
+impl Display for EndedSession {
     ghost output = { λ ended. Some (ended_text ended) };
 
     fn fmt<W: fmt::Write>(&self, f: &mut fmt::Formatter<W>) -> fmt::Result {
-        let Ended {
+        let EndedSession {
             peer,
             session,
             counts,
@@ -169,12 +169,12 @@ impl Display for Ended {
 
 /// How many of some things are used.
 #[derive(Clone, Copy)]
-pub struct Part {
+pub struct UsedPart {
     pub used: u64,
     pub all: u64,
 }
 
-impl Part {
+impl UsedPart {
     /// Whether at least nine tenths are used.
     pub fn is_nearly_full(&self) -> bool
         ensures { IsTrue result ↔ (9 * self.now.all ≤ 10 * self.now.used) }
@@ -183,22 +183,22 @@ impl Part {
     }
 }
 
-impl Display for Part {
+impl Display for UsedPart {
     ghost output = { λ part. Some (part_text part) };
 
     fn fmt<W: fmt::Write>(&self, f: &mut fmt::Formatter<W>) -> fmt::Result {
-        let Part { used, all } = *self;
+        let UsedPart { used, all } = *self;
         write!(f, "{used}/{all}")
     }
 }
 
 /// What a line of the log reports.
 #[derive(Clone, Copy)]
-pub enum Event {
+pub enum LogEvent {
     /// A session has ended.
-    End(Ended),
+    End(EndedSession),
     /// A caller at this address got no session.
-    Refused(SocketAddr, Refusal),
+    Refused(SocketAddr, SessionRefusal),
     /// The device failed: nothing is written any more, and the server ends.
     Fault,
     /// The kernel or the journal was halted, though the device didn't fail, and the server ends.
@@ -207,25 +207,25 @@ pub enum Event {
     /// beginning of 1970.
     Clock,
     /// Nine tenths of the blocks or of the inodes are used.
-    Full { blocks: Part, inodes: Part },
+    Full { blocks: UsedPart, inodes: UsedPart },
     /// This many lines found no room, because the log was not read, or could not be written.
     Lost(u64),
 }
 
-impl Display for Event {
+impl Display for LogEvent {
     ghost output = { λ event. Some (event_text event) };
 
     fn fmt<W: fmt::Write>(&self, f: &mut fmt::Formatter<W>) -> fmt::Result {
         match *self {
-            Event::End(ended) => write!(f, "event=end {ended}"),
-            Event::Refused(peer, why) => write!(f, "event=refused peer={peer} why={why}"),
-            Event::Fault => write!(f, "event=fault"),
-            Event::Halted => write!(f, "event=halted"),
-            Event::Clock => write!(f, "event=clock"),
-            Event::Full { blocks, inodes } => {
+            LogEvent::End(ended) => write!(f, "event=end {ended}"),
+            LogEvent::Refused(peer, why) => write!(f, "event=refused peer={peer} why={why}"),
+            LogEvent::Fault => write!(f, "event=fault"),
+            LogEvent::Halted => write!(f, "event=halted"),
+            LogEvent::Clock => write!(f, "event=clock"),
+            LogEvent::Full { blocks, inodes } => {
                 write!(f, "event=full blocks={blocks} inodes={inodes}")
             }
-            Event::Lost(lines) => write!(f, "event=lost lines={lines}"),
+            LogEvent::Lost(lines) => write!(f, "event=lost lines={lines}"),
         }
     }
 }

@@ -8,6 +8,8 @@ mod lines;
 mod writing;
 
 pub use clock::{Moments, moment};
-pub use events::{Counts, Ended, Ending, Event, Part, Refusal, Served};
-pub use lines::{Entry, line};
+pub use events::{
+    CountedMessage, EndedSession, Ending, LogEvent, SessionCounts, SessionRefusal, UsedPart,
+};
+pub use lines::{LogEntry, line};
 pub use writing::{Log, Verbosity};

@@ -4,22 +4,22 @@ ghost use Rattle.std.specs.Prelude.{◌≡◌, ◌<◌, ◌++◌, ◌∷◌, [],
 ghost use Rattle.model.specs.Calendar.{moment_limit};
 ghost use Rattle.logging.specs.Line.{IsPlainLine, line_of, marked, shown, text_of, time_text};
 
-use crate::Event;
+use crate::LogEvent;
 use stamp::date_reply;
 use std::alloc::{AllocError, Global};
 
 /// An event, and when it was noted.
 #[derive(Clone, Copy)]
-pub struct Entry {
+pub struct LogEntry {
     /// In whole seconds since 1970.
     pub moment: u64,
-    pub event: Event,
+    pub event: LogEvent,
     ghost dated: { moment < moment_limit },
 }
 
 /// The line of an entry, with its LF: the time, the event and its fields, as docs/newsd.1 has them. A line holds octets
 /// from 32 to 126 and one LF, at its end, whatever the event. Refused only for want of memory.
-pub fn line(alloc: Global, entry: &Entry) -> Result<Vec<u8>, AllocError>
+pub fn line(alloc: Global, entry: &LogEntry) -> Result<Vec<u8>, AllocError>
     ensures exact { IfOk result (λ line. line.items ≡ line_of entry.now.moment entry.now.event) }
     ensures plain { IfOk result (λ line. IsPlainLine line.items) }
 {
@@ -28,7 +28,7 @@ pub fn line(alloc: Global, entry: &Entry) -> Result<Vec<u8>, AllocError>
 }
 
 /// The text of an entry's line.
-fn text(alloc: Global, entry: &Entry) -> Result<Vec<u8>, AllocError>
+fn text(alloc: Global, entry: &LogEntry) -> Result<Vec<u8>, AllocError>
     ensures { IfOk result (λ text. text.items ≡ text_of entry.now.moment entry.now.event) }
 {
     let mut text = Vec::new(alloc);

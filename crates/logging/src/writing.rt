@@ -6,7 +6,7 @@
 ghost use Rattle.std.specs.Prelude.{◌<◌, IfSome};
 ghost use Rattle.model.specs.Calendar.{moment_limit};
 
-use crate::{Entry, Event, line, moment};
+use crate::{LogEntry, LogEvent, line, moment};
 use crossbeam_channel::{Receiver, Sender, bounded};
 use std::alloc::{AllocError, Global};
 use std::io::Write;
@@ -33,7 +33,7 @@ pub enum Verbosity {
 #[derive(Drop)]
 pub struct Log {
     verbosity: Verbosity,
-    entries: Sender<Entry>,
+    entries: Sender<LogEntry>,
     /// The lines that found no room or could not be written, and which the log has not yet reported.
     lost: Arc<AtomicU64, Global>,
     /// It is disconnected once the last line is written.
@@ -44,7 +44,7 @@ pub struct Log {
 #[derive(Drop)]
 struct Writing {
     alloc: Global,
-    entries: Receiver<Entry>,
+    entries: Receiver<LogEntry>,
     lost: Arc<AtomicU64, Global>,
     /// It sends no message. It is dropped with the thread.
     _written: Sender<()>,
@@ -77,8 +77,8 @@ impl Log {
 
     /// Notes an event, now. It does not wait for the thread that writes: if the reader of the log has left no room for
     /// another line, the line is counted as lost.
-    pub fn note<R: Wait + Clock>(&self, rt: &R, event: Event) {
-        if self.verbosity == Verbosity::Quiet && matches!(event, Event::End(_)) {
+    pub fn note<R: Wait + Clock>(&self, rt: &R, event: LogEvent) {
+        if self.verbosity == Verbosity::Quiet && matches!(event, LogEvent::End(_)) {
             return;
         }
         let entry = entry(moment(rt), event);
@@ -101,10 +101,10 @@ impl Log {
 }
 
 /// An event and the time. Without a time it is the beginning of 1970.
-fn entry(moment: Option<u64>, event: Event) -> Entry
+fn entry(moment: Option<u64>, event: LogEvent) -> LogEntry
     requires { IfSome moment (λ moment. moment < moment_limit) }
 {
-    Entry {
+    LogEntry {
         moment: moment.unwrap_or(0),
         event,
     }
@@ -132,23 +132,23 @@ impl Writing {
             self.write_lost(&mut output, &entry);
             self.write(&mut output, &entry, 1);
         }
-        self.write_lost(&mut output, &entry(moment(rt), Event::Lost(0)));
+        self.write_lost(&mut output, &entry(moment(rt), LogEvent::Lost(0)));
     }
 
     /// Says how many lines were lost, if any were. The line has the time of this entry.
-    fn write_lost<F: Write + Drop>(&self, output: &mut Output<F>, entry: &Entry) {
+    fn write_lost<F: Write + Drop>(&self, output: &mut Output<F>, entry: &LogEntry) {
         let lost = self.lost.swap(0, Ordering::SeqCst);
         if lost > 0 {
-            let told = Entry {
+            let told = LogEntry {
                 moment: entry.moment,
-                event: Event::Lost(lost),
+                event: LogEvent::Lost(lost),
             };
             self.write(output, &told, lost);
         }
     }
 
     /// Writes the line of an entry. If it is not written whole, or memory for it is refused, this many lines count as lost.
-    fn write<F: Write + Drop>(&self, output: &mut Output<F>, entry: &Entry, lines: u64) {
+    fn write<F: Write + Drop>(&self, output: &mut Output<F>, entry: &LogEntry, lines: u64) {
         let is_written = match line(self.alloc, entry) {
             Ok(line) => output.write_line(line.as_slice()),
             Err(AllocError) => false,

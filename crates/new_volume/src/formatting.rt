@@ -6,7 +6,7 @@ ghost use Rattle.new_volume.specs.Sizes.{device_size};
 
 use crate::carrying::lay;
 use crate::emptying::first_block;
-use crate::{Plan, label};
+use crate::{VolumePlan, label};
 use disk::Disk;
 use journal::{FormatError, Journal, JournalError, Refused, format as format_journal};
 use std::alloc::Global;
@@ -18,7 +18,7 @@ use std::alloc::Global;
 /// `Fault` if the device failed, `Memory` if an allocation was refused, here or to the device. `NotAVolume` if the
 /// device reads back other octets than were written; a device that tells its octets never does. A refusal returns the
 /// device, with whatever it then holds.
-pub fn format<D: Disk>(alloc: Global, disk: D, plan: &Plan<'_>) -> Result<D, Refused<D>>
+pub fn format<D: Disk>(alloc: Global, disk: D, plan: &VolumePlan<'_>) -> Result<D, Refused<D>>
     requires { (D.device disk).size ≡ device_size plan.now.blocks }
     ensures ok { IfOk result (λ made. Formats plan.now.host.now plan.now.inodes plan.now.format (D.device disk) (D.device made)) }
     ensures err { IfErr result (λ refused. Spoils refused.error (D.device disk) (D.device refused.disk)) }

@@ -27,7 +27,7 @@ pub const FORMAT_2: u32 = 2;
 
 /// The plan of a new volume. Its words follow their grammars and its numbers are within their ranges.
 #[derive(Drop)]
-pub struct Plan<'a> {
+pub struct VolumePlan<'a> {
     pub host: &'a [u8],
     pub blocks: u64,
     pub inodes: u64,

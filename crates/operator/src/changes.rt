@@ -4,7 +4,7 @@ ghost use Rattle.std.specs.Prelude.{◌≡◌, ◌≢◌, ◌⊎◌, IfOk, IfErr
 ghost use Rattle.script.specs.Script.{meaning};
 ghost use Rattle.operator.specs.Changes.{IsNone, asked};
 
-use crate::desk::Service;
+use crate::desk::OperatorService;
 use crate::group::NewGroup;
 use crate::writing::Refused;
 use flusher::{AdminError, Bells, ExpireError, Kern};
@@ -59,7 +59,7 @@ pub(crate) fn change_of(alloc: Global, line: &[u8]) -> Result<Change, Refused>
 
 /// Makes a change, and answers its serial. If the kernel cannot take it now, it is asked again after the next batch.
 pub(crate) fn make<R: Wait, K: Kern>(
-    service: &Service<'_, R, K>,
+    service: &OperatorService<'_, R, K>,
     change: &Change,
 ) -> Result<u64, Refused>
     ensures { IfErr result (λ error. error ≢ Refused.Fault) }
@@ -71,10 +71,10 @@ pub(crate) fn make<R: Wait, K: Kern>(
 }
 
 fn make_group<R: Wait, K: Kern>(
-    service: &Service<'_, R, K>,
+    service: &OperatorService<'_, R, K>,
     group: &NewGroup,
 ) -> Result<u64, AdminError> {
-    let Service {
+    let OperatorService {
         rt,
         alloc,
         kern,
@@ -100,11 +100,11 @@ fn make_group<R: Wait, K: Kern>(
 }
 
 fn expire<R: Wait, K: Kern>(
-    service: &Service<'_, R, K>,
+    service: &OperatorService<'_, R, K>,
     name: &GroupName,
     number: u32,
 ) -> Result<u64, ExpireError> {
-    let Service {
+    let OperatorService {
         rt,
         kern,
         bells,

@@ -49,7 +49,7 @@ enum Reply {
 /// What the lines are carried out with: the kernel, the mark that says what is durable, the bells of the server's
 /// threads, and what is known and counted about the volume.
 #[derive(Drop)]
-pub struct Service<'a, R, K> {
+pub struct OperatorService<'a, R, K> {
     pub rt: &'a R,
     pub alloc: Global,
     pub kern: &'a K,
@@ -126,7 +126,11 @@ impl Operator {
     /// Does what the lines ask for and answers each line, until `end` is called. Lines that were handed on
     /// before that are still answered, and the operator has a second to read the answers. Then it returns, whether they
     /// are read or not.
-    pub fn answer_all<R: Wait + Clock, K: Kern>(&self, service: &Service<'_, R, K>, seat: Seat)
+    pub fn answer_all<R: Wait + Clock, K: Kern>(
+        &self,
+        service: &OperatorService<'_, R, K>,
+        seat: Seat,
+    )
         requires { seat.mark ≡ service.now.mark.now }
     {
         let mut seat = seat;
@@ -153,7 +157,7 @@ impl Operator {
 /// are answered only if the flusher was seen to have stopped and the mark was read after that, and `stopped` only if
 /// that mark reached the number of accepted changes.
 fn answer<R: Wait, K: Kern>(
-    service: &Service<'_, R, K>,
+    service: &OperatorService<'_, R, K>,
     seat: &mut Seat,
     line: Result<Vec<u8>, Refused>,
 ) -> Answer
@@ -172,7 +176,7 @@ fn answer<R: Wait, K: Kern>(
 
 /// Makes a change, and waits until it is durable.
 fn carry_out<R: Wait, K: Kern>(
-    service: &Service<'_, R, K>,
+    service: &OperatorService<'_, R, K>,
     seat: &mut Seat,
     change: &Change,
 ) -> Answer
@@ -181,7 +185,7 @@ fn carry_out<R: Wait, K: Kern>(
     ensures gone { IfErr result (λ error. error ≡ Refused.Fault → HasSeenStop seat.new) }
     ensures mark { seat.new.mark ≡ seat.old.mark }
 {
-    let Service {
+    let OperatorService {
         rt,
         mark,
         bells,
@@ -198,13 +202,13 @@ fn carry_out<R: Wait, K: Kern>(
 
 /// Asks the flusher to stop, and waits until it has stopped. `Fault` if it stopped for another reason, or if a change
 /// was accepted that is not durable.
-fn stop<R: Wait, K: Kern>(service: &Service<'_, R, K>, seat: &mut Seat) -> Answer
+fn stop<R: Wait, K: Kern>(service: &OperatorService<'_, R, K>, seat: &mut Seat) -> Answer
     requires { seat.old.mark ≡ service.now.mark.now }
     ensures told { IfOk result (IsSeen seat.new) }
     ensures gone { IfErr result (λ error. error ≡ Refused.Fault → HasSeenStop seat.new) }
     ensures mark { seat.new.mark ≡ seat.old.mark }
 {
-    let Service {
+    let OperatorService {
         rt,
         kern,
         mark,

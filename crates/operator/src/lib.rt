@@ -11,4 +11,4 @@ mod requests;
 mod status;
 mod writing;
 
-pub use desk::{Operator, Service};
+pub use desk::{Operator, OperatorService};

@@ -1,7 +1,7 @@
 //! What the operator is told of a running server.
 
-use crate::desk::Service;
-use flusher::{Counts, Kern, Tallied};
+use crate::desk::OperatorService;
+use flusher::{Kern, KernelCounts, Tallied};
 use std::alloc::{AllocError, Global};
 use std::fmt::{self, Display, Formatter};
 use std::sync::Wait;
@@ -13,14 +13,16 @@ pub(crate) struct Status {
     format: u32,
     blocks: u64,
     inodes: u64,
-    counts: Counts,
+    counts: KernelCounts,
     tallied: Tallied,
 }
 
 impl Status {
     /// Reads the counts. Refused only for want of memory.
-    pub(crate) fn of<R: Wait, K: Kern>(service: &Service<'_, R, K>) -> Result<Status, AllocError> {
-        let Service {
+    pub(crate) fn of<R: Wait, K: Kern>(
+        service: &OperatorService<'_, R, K>,
+    ) -> Result<Status, AllocError> {
+        let OperatorService {
             rt,
             alloc,
             kern,
@@ -51,7 +53,7 @@ fn host_of(alloc: Global, octets: &[u8]) -> Result<String, AllocError> {
 /// A line of names, each followed by its number (docs/OPERATING.md).
 impl Display for Status {
     fn fmt<W: fmt::Write>(&self, f: &mut Formatter<W>) -> fmt::Result {
-        let Counts {
+        let KernelCounts {
             sessions,
             inodes,
             accepted,

@@ -4,7 +4,7 @@ ghost use Rattle.std.specs.Prelude.{◌≡◌};
 ghost use Rattle.printing.specs.Status.{status_of};
 
 use command_line::{Asked, Export, Service, read_words};
-use commands::{Counts, LineEnds, Offer, Streams, Verbosity};
+use commands::{ImportCounts, LineEnds, Offer, Streams, Verbosity};
 use names::GroupName;
 use printing::{DONE, Failure, REFUSED};
 use script::{Line, ParseError, parse};
@@ -131,7 +131,7 @@ pub fn import<R: Files<File = File> + Clock, I: BufRead, W: Write, F: Write>(
 }
 
 /// Prints what became of the articles of a batch.
-fn print_counts<W: Write>(counts: &Counts, output: &mut W) -> io::Result<()> {
+fn print_counts<W: Write>(counts: &ImportCounts, output: &mut W) -> io::Result<()> {
     writeln!(output, "{counts}")?;
     output.flush()
 }

@@ -10,9 +10,9 @@ use Rattle.std.proofs.lemmas.List.Sums.{prefix_len-le-length}
 use Rattle.std.proofs.Math.Seq.{take-append_seam, take-append-add, drop-append-add}
 use Rattle.model.specs.Stream.{Octets, block_limit}
 use Rattle.rnews.specs.Batch.{Found, keyword, line_length, next, size_in_limit, size_of, split}
-use Rattle.rnews.specs.declared.batches.Cause.TheVariants.{NoHeader, NoNumber, TooLong}
+use Rattle.rnews.specs.declared.batches.BatchCause.TheVariants.{NoHeader, NoNumber, TooLong}
 use Rattle.model.specs.Names.{number_of}
-use Rattle.rnews.specs.declared.batches.Cause.{Cause}
+use Rattle.rnews.specs.declared.batches.BatchCause.{BatchCause}
 
 abbrev pub is_no_lf : ℕ → Bool
 is_no_lf x = not (x == 10)
@@ -110,7 +110,7 @@ pub split-wanted : (octets : Octets) (size : ℕ) → length octets < size → s
 split-wanted octets size short = cond-false (nat_le size (length octets)) _ _ (lt-leb _ _ short)
 
 -- a text that is there stays
-split-more : (octets more text rest : Octets) (size : Result ℕ Cause) → split octets size ≡ Ok (Some (text, rest)) →
+split-more : (octets more text rest : Octets) (size : Result ℕ BatchCause) → split octets size ≡ Ok (Some (text, rest)) →
     split (octets ++ more) size ≡ Ok (Some (text, rest ++ more))
 split-more octets more text rest (Err cause) is = cc
 split-more octets more text rest (Ok size) is =
@@ -139,7 +139,7 @@ text_stays octets more text rest is =
     apart : next octets ≡ Ok None → next octets ≡ Ok (Some (text, rest)) → ⊥
     apart none some = cc
 
-split-cause : (octets more : Octets) (cause : Cause) (size : Result ℕ Cause) → split octets size ≡ Err cause →
+split-cause : (octets more : Octets) (cause : BatchCause) (size : Result ℕ BatchCause) → split octets size ≡ Err cause →
     split (octets ++ more) size ≡ Err cause
 split-cause octets more cause (Err other) is = is
 split-cause octets more cause (Ok size) is =
@@ -154,7 +154,7 @@ split-cause octets more cause (Ok size) is =
     found : (r : Found) (text rest : Octets) → r ≡ Ok (Some (text, rest)) → r ≡ Err cause → ⊥
     found r text rest one other = cc
 
-pub cause_stays : (octets more : Octets) (cause : Cause) → next octets ≡ Err cause → next (octets ++ more) ≡ Err cause
+pub cause_stays : (octets more : Octets) (cause : BatchCause) → next octets ≡ Err cause → next (octets ++ more) ≡ Err cause
 cause_stays octets more cause is =
     elim (cases_lt (line_length octets) (length octets)) [
       | inl within ↦ next-more octets more within ∙ split-cause (drop (line_length octets + 1) octets) more cause
@@ -169,7 +169,7 @@ cause_stays octets more cause is =
 size-limit : (number : Option ℕ) (size : ℕ) → size_in_limit number ≡ Ok size → size ≤ block_limit
 size-limit None size is = absurd (refused (size_in_limit None) refl is)
   where
-    refused : (r : Result ℕ Cause) → r ≡ Err NoNumber → r ≡ Ok size → ⊥
+    refused : (r : Result ℕ BatchCause) → r ≡ Err NoNumber → r ≡ Ok size → ⊥
     refused r denied ok = cc
 size-limit (Some n) size is =
     elim (cases_lt block_limit n) [
@@ -178,10 +178,10 @@ size-limit (Some n) size is =
           (cond-true (nat_le n block_limit) (Ok n) (Err TooLong) (le-leb _ _ within)) is in omega arith
     ]
   where
-    refused : (r : Result ℕ Cause) → r ≡ Err TooLong → r ≡ Ok size → ⊥
+    refused : (r : Result ℕ BatchCause) → r ≡ Err TooLong → r ≡ Ok size → ⊥
     refused r denied ok = cc
 
-    one : (r : Result ℕ Cause) → r ≡ Ok n → r ≡ Ok size → n ≡ size
+    one : (r : Result ℕ BatchCause) → r ≡ Ok n → r ≡ Ok size → n ≡ size
     one r this that = cc
 
 size_of-limit : (line : Octets) (size : ℕ) → size_of line ≡ Ok size → size ≤ block_limit
@@ -193,10 +193,10 @@ size_of-limit line size is =
           (size_in_limit (number_of (drop 9 line))) (Err NoHeader) none) is)
     ]
   where
-    refused : (r : Result ℕ Cause) → r ≡ Err NoHeader → r ≡ Ok size → ⊥
+    refused : (r : Result ℕ BatchCause) → r ≡ Err NoHeader → r ≡ Ok size → ⊥
     refused r denied ok = cc
 
-split-bound : (octets : Octets) (size : Result ℕ Cause) → ((n : ℕ) → size ≡ Ok n → n ≤ block_limit) → split octets size ≡ Ok None →
+split-bound : (octets : Octets) (size : Result ℕ BatchCause) → ((n : ℕ) → size ≡ Ok n → n ≤ block_limit) → split octets size ≡ Ok None →
     length octets < block_limit
 split-bound octets (Err cause) limit is = cc
 split-bound octets (Ok size) limit is =

@@ -4,8 +4,8 @@ use Rattle.std.specs.Prelude.{flat_map, codes, decimal, Option, Some, None, Resu
 use Rattle.std.specs.List.{position_or_len, starts_with}
 use Rattle.model.specs.Stream.{Octets, block_limit}
 use Rattle.model.specs.Names.{number_of}
-use Rattle.rnews.specs.declared.batches.Cause.{Cause}
-use Rattle.rnews.specs.declared.batches.Cause.TheVariants.{NoHeader, NoNumber, TooLong}
+use Rattle.rnews.specs.declared.batches.BatchCause.{BatchCause}
+use Rattle.rnews.specs.declared.batches.BatchCause.TheVariants.{NoHeader, NoNumber, TooLong}
 
 -- what each header line begins with
 abbrev pub keyword : Octets
@@ -24,21 +24,21 @@ abbrev pub batch : List Octets → Octets
 batch texts = flat_map entry texts
 
 -- the size that a number names, up to the limit of an article
-abbrev pub size_in_limit : Option ℕ → Result ℕ Cause
+abbrev pub size_in_limit : Option ℕ → Result ℕ BatchCause
 size_in_limit None = Err NoNumber
 size_in_limit (Some size) = if nat_le size block_limit then Ok size else Err TooLong
 
 -- the size that a header line names, without its LF: the number of 1 to 16 digits that follows the keyword
-abbrev pub size_of : Octets → Result ℕ Cause
+abbrev pub size_of : Octets → Result ℕ BatchCause
 size_of line = if starts_with nat_eq line keyword then size_in_limit (number_of (drop 9 line)) else Err NoHeader
 
 -- what a batch begins with: a text and what follows it; `None` if more octets are needed; or why no batch begins with
 -- these octets
 abbrev pub Found : Type 0
-Found = Result (Option (Octets × Octets)) Cause
+Found = Result (Option (Octets × Octets)) BatchCause
 
 -- a text of this size and what follows it, if all of it has arrived
-abbrev pub split : Octets → Result ℕ Cause → Found
+abbrev pub split : Octets → Result ℕ BatchCause → Found
 split octets (Ok size) = if nat_le size (length octets) then Ok (Some (take size octets, drop size octets)) else Ok None
 split octets (Err cause) = Err cause
 

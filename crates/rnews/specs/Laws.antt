@@ -2,7 +2,7 @@
 use Rattle.std.specs.Prelude.{◌≡◌, ◌≤◌, ◌++◌, All, List, length, Some, Ok, Err}
 use Rattle.model.specs.Stream.{Octets, block_limit}
 use Rattle.rnews.specs.Batch.{batch, next, IsReadAs}
-use Rattle.rnews.specs.declared.batches.Cause.{Cause}
+use Rattle.rnews.specs.declared.batches.BatchCause.{BatchCause}
 
 -- a text that an article may have
 abbrev pub IsShort : Octets → Type 0
@@ -22,4 +22,4 @@ TextStays = (octets more text rest : Octets) → next octets ≡ Ok (Some (text,
 
 -- and so is the cause of a refusal
 abbrev pub CauseStays : Type 0
-CauseStays = (octets more : Octets) (cause : Cause) → next octets ≡ Err cause → next (octets ++ more) ≡ Err cause
+CauseStays = (octets more : Octets) (cause : BatchCause) → next octets ≡ Err cause → next (octets ++ more) ≡ Err cause

@@ -2,10 +2,10 @@
 use Rattle.std.specs.Prelude.{◌≡◌, Err}
 use Rattle.rnews.specs.Batch.{next}
 use Rattle.rnews.specs.Held.{Held}
-use Rattle.rnews.specs.declared.reader.ReadError.{ReadError}
-use Rattle.rnews.specs.declared.reader.ReadError.TheVariants.{Memory, Refused}
+use Rattle.rnews.specs.declared.reader.BatchError.{BatchError}
+use Rattle.rnews.specs.declared.reader.BatchError.TheVariants.{Memory, Refused}
 
 -- memory was refused, or no batch continues with what is held, and the place is where that begins
-abbrev pub IsDue : Held → ReadError → Type 0
+abbrev pub IsDue : Held → BatchError → Type 0
 IsDue held Memory = Unit {0}
 IsDue held (Refused refusal) = (next held.rest ≡ Err refusal.cause) × (refusal.place ≡ held.place)

@@ -20,7 +20,7 @@ const LINE_LIMIT: usize = 26;
 
 /// Why no text is read.
 #[derive(Clone, Copy, Debug, PartialEq, Eq, Error)]
-pub enum Cause {
+pub enum BatchCause {
     /// The text does not follow a header line.
     #[error("no line `#! rnews LENGTH`")]
     NoHeader,
@@ -50,7 +50,7 @@ pub fn entry(alloc: Global, text: &[u8]) -> Result<Vec<u8>, AllocError>
 /// Where the first text of a batch begins and ends, or `None` if more octets are needed. `Err` if no batch begins with
 /// these octets, or its first text is too long.
 #[tactic(auto, unfolding(crate::specs::Batch::next))]
-pub fn find_text(octets: &[u8]) -> Result<Option<(usize, usize)>, Cause>
+pub fn find_text(octets: &[u8]) -> Result<Option<(usize, usize)>, BatchCause>
     ensures found { IfOk result (λ found. MatchOption found (batch.next octets.now ≡ Ok None) (batch.IsFirstText octets.now)) }
     ensures err { IfErr result (λ cause. batch.next octets.now ≡ Err cause) }
 {
@@ -89,15 +89,15 @@ fn first_octets(octets: &[u8]) -> &[u8]
 }
 
 /// The size that a header line names.
-fn size_of(line: &[u8]) -> Result<usize, Cause>
+fn size_of(line: &[u8]) -> Result<usize, BatchCause>
     ensures { result ≡ batch.size_of line.now }
 {
     if !line.starts_with(KEYWORD) {
-        return Err(Cause::NoHeader);
+        return Err(BatchCause::NoHeader);
     }
     match number_of(&line[KEYWORD.len()..]) {
-        None => Err(Cause::NoNumber),
-        Some(size) if size > TEXT_LIMIT as u64 => Err(Cause::TooLong),
+        None => Err(BatchCause::NoNumber),
+        Some(size) if size > TEXT_LIMIT as u64 => Err(BatchCause::TooLong),
         Some(size) => Ok(size as usize),
     }
 }

@@ -7,7 +7,7 @@ mod laws;
 mod line_ends;
 mod reader;
 
-pub use batches::{Cause, TEXT_LIMIT, entry, find_text};
+pub use batches::{BatchCause, TEXT_LIMIT, entry, find_text};
 pub use laws::{batches_are_read_back, line_ends_are_kept};
 pub use line_ends::{with_crlf, with_lf};
-pub use reader::{ReadError, Reader, Refusal};
+pub use reader::{BatchError, BatchReader, BatchRefusal};

@@ -5,10 +5,10 @@ ghost use Rattle.std.specs.Prelude.{Some, None, Ok, Err, IfOk, IfErr, IfSome, If
 ghost use Rattle.rnews.specs.Batch.{next};
 ghost use Rattle.rnews.specs.Held.{counted};
 ghost use Rattle.rnews.specs.Refusals.{IsDue};
-ghost use Rattle.rnews.specs.declared.batches.Cause.TheVariants.{CutShort};
-ghost use Rattle.rnews.specs.declared.reader.ReadError.TheVariants.{Memory};
+ghost use Rattle.rnews.specs.declared.batches.BatchCause.TheVariants.{CutShort};
+ghost use Rattle.rnews.specs.declared.reader.BatchError.TheVariants.{Memory};
 
-use crate::batches::{Cause, find_text};
+use crate::batches::{BatchCause, find_text};
 use std::alloc::{AllocError, Global};
 use std::marker::Model;
 use thiserror::Error;
@@ -16,33 +16,33 @@ use thiserror::Error;
 /// Why the octets are not a batch, and how many octets come before the header line at which they stop being one.
 #[derive(Clone, Copy, Debug, PartialEq, Eq, Error)]
 #[error("octet {place}: {cause}")]
-pub struct Refusal {
-    pub cause: Cause,
+pub struct BatchRefusal {
+    pub cause: BatchCause,
     pub place: u64,
 }
 
 /// Why no text is handed out.
 #[derive(Clone, Copy, Debug, PartialEq, Eq, Error)]
-pub enum ReadError {
+pub enum BatchError {
     /// An allocation was refused.
     #[error("E2 Memory")]
     Memory,
     /// No batch continues with these octets.
     #[error("{0}")]
-    Refused(Refusal),
+    Refused(BatchRefusal),
 }
 
-impl From<AllocError> for ReadError {
+impl From<AllocError> for BatchError {
     ghost from_gives = { λ _ error. error ≡ Memory };
 
-    fn from(_error: AllocError) -> ReadError {
-        ReadError::Memory
+    fn from(_error: AllocError) -> BatchError {
+        BatchError::Memory
     }
 }
 
 /// A batch that arrives in pieces.
 #[derive(Drop)]
-pub struct Reader {
+pub struct BatchReader {
     octets: Vec<u8>,
     alloc: Global,
     /// The number of octets in `octets` that were handed out.
@@ -51,7 +51,7 @@ pub struct Reader {
     place: u64,
 }
 
-impl Model for Reader {
+impl Model for BatchReader {
     ghost use Rattle.std.specs.Prelude.{◌≤◌, drop, vec_len};
     ghost use Rattle.rnews.specs.Held.{Held};
 
@@ -62,13 +62,13 @@ impl Model for Reader {
     ghost invariant = { λ r. r.start ≤ vec_len r.octets };
 }
 
-impl Reader {
+impl BatchReader {
     /// A reader of an empty batch.
-    pub fn new(alloc: Global) -> Reader
+    pub fn new(alloc: Global) -> BatchReader
         ensures rest { result.rest ≡ [] }
         ensures place { result.place ≡ 0 }
     {
-        Reader {
+        BatchReader {
             octets: Vec::new(alloc),
             alloc,
             start: 0,
@@ -90,7 +90,7 @@ impl Reader {
 
     /// The next text, or `None` if more octets are needed. With `None`, the reader holds at most the octets of a header
     /// line and of the longest text. A refusal changes nothing.
-    pub fn next(&mut self) -> Result<Option<Vec<u8>>, ReadError>
+    pub fn next(&mut self) -> Result<Option<Vec<u8>>, BatchError>
         ensures text { IfOk result (λ found. IfSome found (λ text. next self.old.rest ≡ Ok (Some (text.items, self.new.rest)))) }
         ensures place { IfOk result (λ found. OnSome found
             (self.new.place ≡ counted self.old.place (length self.old.rest - length self.new.rest))) }
@@ -109,26 +109,26 @@ impl Reader {
                 self.place = self.place.saturating_add(end as u64);
                 Ok(Some(text))
             }
-            Err(cause) => Err(ReadError::Refused(self.refusal(cause))),
+            Err(cause) => Err(BatchError::Refused(self.refusal(cause))),
         }
     }
 
     /// Ends the batch here. It is refused as cut short if octets are left.
-    pub fn end(&self) -> Result<(), Refusal>
+    pub fn end(&self) -> Result<(), BatchRefusal>
         ensures ok { IsOk result ↔ (self.now.rest ≡ []) }
         ensures err { IfErr result (λ refusal. (refusal.cause ≡ CutShort) × (refusal.place ≡ self.now.place)) }
     {
         if self.start < self.octets.len() {
-            return Err(self.refusal(Cause::CutShort));
+            return Err(self.refusal(BatchCause::CutShort));
         }
         Ok(())
     }
 
     /// A refusal at the octets that come next.
-    fn refusal(&self, cause: Cause) -> Refusal
+    fn refusal(&self, cause: BatchCause) -> BatchRefusal
         ensures { result ≡ record { cause = cause; place = self.now.place } }
     {
-        Refusal {
+        BatchRefusal {
             cause,
             place: self.place,
         }

@@ -4,7 +4,7 @@ ghost use Rattle.std.specs.Prelude.{◌≡◌};
 ghost use Rattle.journal.specs.Journal.{IsIdle};
 
 use disk::Disk;
-use flusher::{FlushError, Marks, Tally, VolumeFacts};
+use flusher::{BitmapMarks, FlushError, Tally, VolumeFacts};
 use journal::Journal;
 use logging::Log;
 use mark::{FlushSeat, Mark, Seat};
@@ -31,7 +31,7 @@ pub struct Server<'a, D: Disk, K, G> {
     pub seat: Seat,
     pub facts: VolumeFacts<'a>,
     /// The marks of used blocks on the device.
-    pub marks: Marks,
+    pub marks: BitmapMarks,
     pub tally: &'a Tally,
     pub gate: &'a G,
     pub limits: Limits,

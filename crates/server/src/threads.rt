@@ -10,10 +10,10 @@ use accepting::{Acceptor, Call, Doors, FAREWELLS, Parting, linger_all};
 use crossbeam_channel::{Receiver, Sender, bounded};
 use disk::Disk;
 use flusher::{
-    BatchBuf, Bells, Ended, FlushError, Flusher, Gate, Kern, Ringing, SESSIONS, Tally, VolumeFacts,
-    flush_all,
+    BatchBuf, Bells, FlushError, Flusher, FlusherEnd, Gate, Kern, Ringing, SESSIONS, Tally,
+    VolumeFacts, flush_all,
 };
-use logging::{Event, Log, Moments};
+use logging::{Log, LogEvent, Moments};
 use mark::{Mark, Seat};
 use operator::Operator;
 use releasing::{Closing, ReplyWriter, Shared, release_all};
@@ -347,7 +347,7 @@ fn answer_lines<R: Wait + Clock, K: Kern, G>(hall: &Hall<'_, R, K, G>, looker: L
         tally,
         facts,
     } = looker;
-    let service = operator::Service {
+    let service = operator::OperatorService {
         rt: *rt,
         alloc: *alloc,
         kern: *kern,
@@ -378,8 +378,8 @@ fn flush<R: Wait + Clock, D: Disk + Drop, K: Kern, G: Gate>(
         gate: &watching,
     };
     match flush_all(*rt, flusher, *kern, &ringing, *bells) {
-        Ended::Stopped => Ok(()),
-        Ended::Failed(error) => {
+        FlusherEnd::Stopped => Ok(()),
+        FlusherEnd::Failed(error) => {
             hall.log.note(*rt, event_of(error));
             Err(ServeError::from(error))
         }
@@ -387,10 +387,10 @@ fn flush<R: Wait + Clock, D: Disk + Drop, K: Kern, G: Gate>(
 }
 
 /// What the log reports of a refused turn.
-fn event_of(error: FlushError) -> Event {
+fn event_of(error: FlushError) -> LogEvent {
     match error {
-        FlushError::Fault => Event::Fault,
-        FlushError::Halted => Event::Halted,
+        FlushError::Fault => LogEvent::Fault,
+        FlushError::Halted => LogEvent::Halted,
     }
 }
 

@@ -4,7 +4,7 @@ ghost use Rattle.std.specs.Prelude.{◌≤◌, ◌<◌, ◌*◌, ◌+◌, ◌⊎
 ghost use Rattle.model.specs.Room.{blocks_asked};
 
 use flusher::{Gate, Kern, Tally, VolumeFacts};
-use logging::{Event, Log, Part};
+use logging::{Log, LogEvent, UsedPart};
 use releasing::Shared;
 use spool::BLOCKS_ASKED;
 use std::sync::Wait;
@@ -59,23 +59,23 @@ impl<'a, R: Wait + Clock, K: Kern, G> Watching<'a, R, K, G> {
     pub(crate) fn look(&self) {
         let Shared { rt, kern, .. } = self.shared;
         let counts = kern.counts(*rt);
-        let blocks = Part {
+        let blocks = UsedPart {
             used: self.tally.read().used_blocks,
             all: self.facts.blocks,
         };
-        let inodes = Part {
+        let inodes = UsedPart {
             used: counts.inodes,
             all: self.facts.inodes,
         };
         let is_new = is_first(has_few_left(blocks), &self.has_told_blocks);
         if is_first(inodes.is_nearly_full(), &self.has_told_inodes) || is_new {
-            self.log.note(*rt, Event::Full { blocks, inodes });
+            self.log.note(*rt, LogEvent::Full { blocks, inodes });
         }
     }
 }
 
 /// Whether nine tenths of these blocks are used, or fewer are left than a change asks for.
-fn has_few_left(blocks: Part) -> bool
+fn has_few_left(blocks: UsedPart) -> bool
     ensures { IsTrue result ↔ ((9 * blocks.all ≤ 10 * blocks.used) ⊎ (blocks.all < blocks.used + blocks_asked)) }
 {
     blocks.is_nearly_full() || blocks.all.saturating_sub(blocks.used) < u64::from(BLOCKS_ASKED)

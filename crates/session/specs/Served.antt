@@ -9,8 +9,8 @@ use Rattle.model.specs.declared.message.Message.{Message}
 use Rattle.model.specs.declared.message.Mark.{Mark}
 use Rattle.model.specs.declared.message.Mark.TheVariants as mark
 use Rattle.model.specs.declared.session.Session.{Session}
-use Rattle.change_spool.specs.declared.FileError.{FileError}
-use Rattle.change_spool.specs.declared.FileError.TheVariants as error
+use Rattle.change_spool.specs.declared.FilingError.{FilingError}
+use Rattle.change_spool.specs.declared.FilingError.TheVariants as error
 use Rattle.session.specs.declared.Served.{Served}
 
 -- whether there is no room for the change of an answer, if it makes one
@@ -31,7 +31,7 @@ Grows adds stays None = stays
 Grows adds stays (Some c) = adds c
 
 -- a change was filed, or there is no room for it, or memory was refused; a refusal leaves the spool as it was
-abbrev pub IsFiled : (Change → Bool) → (Change → Type 0) → Type 0 → Change → Result (Unit {0}) FileError → Type 0
+abbrev pub IsFiled : (Change → Bool) → (Change → Type 0) → Type 0 → Change → Result (Unit {0}) FilingError → Type 0
 IsFiled lacks adds stays c result = MatchResult result (λ done. (lacks c ≡ false) × adds c)
     (λ e. (e ≡ error.Full → lacks c ≡ true) × stays)
 

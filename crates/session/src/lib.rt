@@ -12,7 +12,7 @@ mod commands;
 mod messages;
 mod steps;
 
-use change_spool::{ChangeSpool, FileError};
+use change_spool::{ChangeSpool, FilingError};
 use messages::Step;
 use model::{Answer, Mark, Message, Session, Text, lawful_stays};
 use plain_commands::full;
@@ -67,8 +67,8 @@ pub fn serve<S: ChangeSpool>(
     };
     match file(alloc, spool, &accepted) {
         Ok(()) => Ok(served),
-        Err(FileError::Full) => Ok(turned_away(full(alloc, session)?)),
-        Err(FileError::Memory) => Err(AllocError),
+        Err(FilingError::Full) => Ok(turned_away(full(alloc, session)?)),
+        Err(FilingError::Memory) => Err(AllocError),
     }
 }
 
@@ -78,7 +78,7 @@ fn file<S: ChangeSpool>(
     alloc: Global,
     spool: &mut S,
     accepted: &Accepted<'_>,
-) -> Result<(), FileError>
+) -> Result<(), FilingError>
     requires { IsLawful (S.host_of spool.old) (S.changes spool.old ++ change_of accepted.now ∷ []) }
     ensures { IsFiled (S.lacks_room spool.old) (S.adds spool.old spool.new) (spool.new ≡ spool.old) (change_of accepted.now) result }
 {
@@ -87,7 +87,7 @@ fn file<S: ChangeSpool>(
         Stored::Carried(article) => spool.file(article, groups, accepted.moment),
         Stored::Posted(stored) => match stored.article(alloc) {
             Ok(article) => spool.file(&article, groups, accepted.moment),
-            Err(_) => Err(FileError::Memory),
+            Err(_) => Err(FilingError::Memory),
         },
     }
 }

@@ -1,12 +1,12 @@
 //! The new device of a simulation.
 
 use memdisk::MemDisk;
-use new_volume::{Plan, device_octets, format};
+use new_volume::{VolumePlan, device_octets, format};
 use printing::{CommandError, Failure};
 use std::alloc::Global;
 
 /// A new device in memory with an empty volume.
-pub(crate) fn formatted(alloc: Global, plan: &Plan<'_>) -> Result<MemDisk, Failure> {
+pub(crate) fn formatted(alloc: Global, plan: &VolumePlan<'_>) -> Result<MemDisk, Failure> {
     let disk = MemDisk::new(alloc, device_octets(plan.blocks))?;
     match format(alloc, disk, plan) {
         Ok(disk) => Ok(disk),

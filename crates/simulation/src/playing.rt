@@ -11,7 +11,7 @@ use crate::stage::Stage;
 use journal::Progress;
 use memdisk::{MemDisk, Pick};
 use names::GroupName;
-use new_volume::Plan;
+use new_volume::VolumePlan;
 use printing::{Failure, print_refusal, print_released, print_spool};
 use script::{Line, ParseError, parse};
 use std::alloc::Global;
@@ -30,7 +30,7 @@ const MOST_CALLS: u32 = 9 * 512 + 5 + 2 * 8;
 /// until then is printed.
 pub fn simulate<R: BufRead, W: Write>(
     alloc: Global,
-    plan: &Plan<'_>,
+    plan: &VolumePlan<'_>,
     is_cached: bool,
     input: &mut R,
     output: &mut W,
@@ -45,7 +45,7 @@ pub fn simulate<R: BufRead, W: Write>(
 /// The same for one kind of device.
 fn play_lines<D: Device, R: BufRead, W: Write>(
     alloc: Global,
-    plan: &Plan<'_>,
+    plan: &VolumePlan<'_>,
     input: &mut R,
     output: &mut W,
 ) -> Result<(), Failure> {

@@ -14,7 +14,7 @@ use Rattle.model.specs.Article.{groups_of}
 use Rattle.model.specs.Lawful.{MayFile}
 use Rattle.model.specs.declared.change.Change.{Change}
 use Rattle.model.specs.declared.change.Change.TheVariants.{Article}
-use Rattle.change_spool.specs.declared.FileError.TheVariants as file
+use Rattle.change_spool.specs.declared.FilingError.TheVariants as file
 use Rattle.spool_opening.specs.Replayed.{AreHere}
 use Rattle.spool_opening.proofs.Filed.{are_here}
 use Rattle.spool.specs.Refusals.{article_refusal}

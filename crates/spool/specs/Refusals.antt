@@ -5,8 +5,8 @@ use Rattle.model.specs.Spool.{Spool, high, is_here, low}
 use Rattle.model.specs.Room.{is_full}
 use Rattle.model.specs.declared.change.Change.{Change}
 use Rattle.model.specs.declared.change.Change.TheVariants.{Expire}
-use Rattle.change_spool.specs.declared.FileError.{FileError}
-use Rattle.change_spool.specs.declared.FileError.TheVariants as file
+use Rattle.change_spool.specs.declared.FilingError.{FilingError}
+use Rattle.change_spool.specs.declared.FilingError.TheVariants as file
 use Rattle.spool.specs.View.{SpoolView}
 use Rattle.spool.specs.declared.errors.AddError.{AddError}
 use Rattle.spool.specs.declared.errors.AddError.TheVariants as add
@@ -36,5 +36,5 @@ expiry_refusal s g n = if has_number s.changes g n then (if is_full_for s (Expir
     expire.NotFound
 
 -- an article that may follow: there is no room
-abbrev pub article_refusal : SpoolView → Change → Option FileError
+abbrev pub article_refusal : SpoolView → Change → Option FilingError
 article_refusal s c = if is_full_for s c then Some file.Full else None

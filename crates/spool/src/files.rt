@@ -2,7 +2,7 @@
 
 use crate::Spool;
 use article::Article;
-use change_spool::{ChangeSpool, FileError};
+use change_spool::{ChangeSpool, FilingError};
 use model::Text;
 
 impl ChangeSpool for Spool {
@@ -18,7 +18,7 @@ impl ChangeSpool for Spool {
         article: &Article<'_>,
         groups: &[Text],
         moment: u64,
-    ) -> Result<(), FileError> {
+    ) -> Result<(), FilingError> {
         match self.add_article(article, groups, moment) {
             Ok(_) => Ok(()),
             Err(error) => Err(error),

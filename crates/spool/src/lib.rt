@@ -26,7 +26,7 @@ mod room;
 mod stored;
 
 use article::Article;
-use change_spool::FileError;
+use change_spool::FilingError;
 pub use errors::{AddError, ExpireError};
 use filing::Free;
 use fs::free_block_count;
@@ -312,18 +312,18 @@ impl Spool {
         article: &Article<'_>,
         groups: &[Text],
         moment: u64,
-    ) -> Result<u64, FileError>
+    ) -> Result<u64, FilingError>
         requires { MayFile self.old.host self.old.changes article.now groups.now moment }
-        ensures { Tested FileError.Memory (article_refusal self.old (changed.Article article.now groups.now moment))
+        ensures { Tested FilingError.Memory (article_refusal self.old (changed.Article article.now groups.now moment))
             self.old self.new result
             (λ serial. (serial ≡ length self.old.changes + 1) × Adds self.old self.new (changed.Article article.now groups.now moment)) }
     {
         if self.is_full_for_article(groups) {
-            return Err(FileError::Full);
+            return Err(FilingError::Full);
         }
         match self.push_article(article, groups, moment) {
             Ok(()) => Ok(self.len()),
-            Err(_) => Err(FileError::Memory),
+            Err(_) => Err(FilingError::Memory),
         }
     }
 

@@ -10,7 +10,7 @@ use crate::Spool;
 use fs_layout::inodes::free_inode_count;
 use model::Text;
 use spool_opening::open;
-use spool_reading::OpenError;
+use spool_reading::ReadSpoolError;
 use std::alloc::Global;
 use volume::Volume;
 
@@ -23,7 +23,7 @@ impl Spool {
         inodes: u32,
         format: u32,
         volume: Volume,
-    ) -> Result<Spool, OpenError>
+    ) -> Result<Spool, ReadSpoolError>
         requires named { IsTrue (is_host host) }
         requires room { HasRoom inodes volume.cache }
         requires seen { volume.seen ≡ volume.cache }
@@ -32,7 +32,8 @@ impl Spool {
         ensures held { IfOk result (λ s. HoldsIn format host inodes volume.cache s.changes) }
         ensures blocks { IfOk result (λ s. s.blocks ≡ volume.cache) }
         ensures dirty { IfOk result (λ s. s.dirty ≡ volume.dirty) }
-        ensures damaged { IfErr result (λ e. e ≡ OpenError.Damaged → (S : List Change) → HoldsIn format host inodes volume.cache S → ⊥) }
+        ensures damaged { IfErr result (λ e. e ≡ ReadSpoolError.Damaged → (S : List Change)
+            → HoldsIn format host inodes volume.cache S → ⊥) }
     {
         let opened = match open(alloc, &volume, inodes, format, host.as_slice()) {
             Ok(opened) => opened,

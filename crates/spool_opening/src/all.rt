@@ -11,7 +11,7 @@ use crate::next::replay_next;
 use crate::replay::Replay;
 use index::Index;
 use places::Places;
-use spool_reading::{Files, OpenError};
+use spool_reading::{Files, ReadSpoolError};
 use std::alloc::Global;
 use volume::Blocks;
 
@@ -24,14 +24,14 @@ pub fn replay_all<B: Blocks>(
     host: &[u8],
     files: &Files,
     count: usize,
-) -> Result<Replay, OpenError>
+) -> Result<Replay, ReadSpoolError>
     requires room { HasRoom inodes (B.blocks blocks.now) }
     requires rule { IsFileSystem inodes (B.blocks blocks.now) }
     requires sorted { AreSorted (table inodes (B.blocks blocks.now)) (length (table inodes (B.blocks blocks.now)))
         files.now.slots.items files.now.named }
     requires first { AreFirst count files.now.slots.items }
     ensures ok { IfOk result (λ replay. AreReplayedTo host.now inodes (B.blocks blocks.now) replay.index replay.places count) }
-    ensures damaged { IfErr result (λ e. e ≡ OpenError.Damaged → (S : Spool) → Holds host.now inodes (B.blocks blocks.now) S → ⊥) }
+    ensures damaged { IfErr result (λ e. e ≡ ReadSpoolError.Damaged → (S : Spool) → Holds host.now inodes (B.blocks blocks.now) S → ⊥) }
 {
     let mut replay = Replay {
         index: Index::new(alloc),

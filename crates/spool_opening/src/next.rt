@@ -12,7 +12,7 @@ ghost use Rattle.spool_reading.specs.Sorted.{AreSorted, free};
 
 use crate::replay::{Replay, replay_article, replay_expiry, replay_group};
 use records::{FileKind, file_name};
-use spool_reading::{Files, OpenError, Said, file_at, read_change};
+use spool_reading::{Files, ReadSpoolError, Said, file_at, read_change};
 use std::alloc::Global;
 use volume::Blocks;
 
@@ -27,7 +27,7 @@ fn replay_named(
     status: u8,
     description: &[u8],
     moment: u64,
-) -> Result<(), OpenError>
+) -> Result<(), ReadSpoolError>
     requires { AreReplayed replay.old.index replay.old.places }
     ensures ok { OnOk result ((host : List ℕ) (inodes : ℕ) (blocks : List (List ℕ)) (R : Spool)
         → AreSorted (table inodes blocks) (length (table inodes blocks)) files.now.slots.items files.now.named
@@ -35,7 +35,7 @@ fn replay_named(
         → IsItsFile inodes blocks at (length R + 1) (Change.Group name.now status description.now moment)
         → IsReplayed host inodes blocks replay.new.index replay.new.places
         (R ++ Change.Group name.now status description.now moment ∷ [])) }
-    ensures damaged { IfErr result (λ e. e ≡ OpenError.Damaged → (host : List ℕ) (inodes : ℕ) (blocks : List (List ℕ)) (R S : Spool)
+    ensures damaged { IfErr result (λ e. e ≡ ReadSpoolError.Damaged → (host : List ℕ) (inodes : ℕ) (blocks : List (List ℕ)) (R S : Spool)
         → AreSorted (table inodes blocks) (length (table inodes blocks)) files.now.slots.items files.now.named
         → IsReplayed host inodes blocks replay.old.index replay.old.places R → Holds host inodes blocks S
         → IsNext host R S (Change.Group name.now status description.now moment) → ⊥) }
@@ -43,10 +43,10 @@ fn replay_named(
     let numbers = file_name(alloc, FileKind::Numbers, name)?;
     let overview = file_name(alloc, FileKind::Overview, name)?;
     let Some(first) = files.named.get(&numbers) else {
-        return Err(OpenError::Damaged);
+        return Err(ReadSpoolError::Damaged);
     };
     let Some(second) = files.named.get(&overview) else {
-        return Err(OpenError::Damaged);
+        return Err(ReadSpoolError::Damaged);
     };
     replay_group(replay, at, first, second, name, status, description, moment)
 }
@@ -62,7 +62,7 @@ fn replay_said<B: Blocks>(
     replay: &mut Replay,
     at: u32,
     said: Said<'_>,
-) -> Result<(), OpenError>
+) -> Result<(), ReadSpoolError>
     requires room { HasRoom inodes (B.blocks blocks.now) }
     requires rule { IsFileSystem inodes (B.blocks blocks.now) }
     requires sorted { AreSorted (table inodes (B.blocks blocks.now)) (length (table inodes (B.blocks blocks.now)))
@@ -71,7 +71,7 @@ fn replay_said<B: Blocks>(
     ensures ok { OnOk result ((R : Spool) → IsReplayed host.now inodes (B.blocks blocks.now) replay.old.index replay.old.places R
         → IsItsFile inodes (B.blocks blocks.now) at (length R + 1) (change_of said.entry)
         → IsReplayed host.now inodes (B.blocks blocks.now) replay.new.index replay.new.places (R ++ change_of said.entry ∷ [])) }
-    ensures damaged { IfErr result (λ e. e ≡ OpenError.Damaged → (R S : Spool)
+    ensures damaged { IfErr result (λ e. e ≡ ReadSpoolError.Damaged → (R S : Spool)
         → IsReplayed host.now inodes (B.blocks blocks.now) replay.old.index replay.old.places R
         → Holds host.now inodes (B.blocks blocks.now) S → IsNext host.now R S (change_of said.entry) → ⊥) }
 {
@@ -112,7 +112,7 @@ pub fn replay_next<B: Blocks>(
     files: &Files,
     replay: &mut Replay,
     done: usize,
-) -> Result<(), OpenError>
+) -> Result<(), ReadSpoolError>
     requires room { HasRoom inodes (B.blocks blocks.now) }
     requires rule { IsFileSystem inodes (B.blocks blocks.now) }
     requires sorted { AreSorted (table inodes (B.blocks blocks.now)) (length (table inodes (B.blocks blocks.now)))
@@ -121,14 +121,14 @@ pub fn replay_next<B: Blocks>(
     requires taken { slice_index files.now.slots.items done ≢ free }
     requires replayed { AreReplayedTo host.now inodes (B.blocks blocks.now) replay.old.index replay.old.places done }
     ensures ok { OnOk result (AreReplayedTo host.now inodes (B.blocks blocks.now) replay.new.index replay.new.places (done + 1)) }
-    ensures damaged { IfErr result (λ e. e ≡ OpenError.Damaged → (S : Spool) → Holds host.now inodes (B.blocks blocks.now) S
+    ensures damaged { IfErr result (λ e. e ≡ ReadSpoolError.Damaged → (S : Spool) → Holds host.now inodes (B.blocks blocks.now) S
         → done < length S → ⊥) }
 {
     let at = files.slots[done];
     let file = file_at(alloc, blocks, inodes, at)?;
     let serial = done as u64 + 1;
     let Some(said) = read_change(alloc, &file.name, &file.content, serial)? else {
-        return Err(OpenError::Damaged);
+        return Err(ReadSpoolError::Damaged);
     };
     replay_said(alloc, blocks, inodes, host, files, replay, at, said)
 }

@@ -12,7 +12,7 @@ use crate::ending::{are_as_many, are_whole};
 use crate::replay::Replay;
 use fs_check::check;
 use fs_layout::FsError;
-use spool_reading::{OpenError, sort};
+use spool_reading::{ReadSpoolError, sort};
 use std::alloc::Global;
 use volume::Blocks;
 
@@ -26,16 +26,17 @@ pub fn open<B: Blocks>(
     inodes: u32,
     format: u32,
     host: &[u8],
-) -> Result<Replay, OpenError>
+) -> Result<Replay, ReadSpoolError>
     requires { HasRoom inodes (B.blocks blocks.now) }
     ensures ok { IfOk result (λ opened. IsOpened host.now inodes (B.blocks blocks.now) opened.index opened.places) }
     ensures format { IfOk result (λ _. (S : Spool) → Holds host.now inodes (B.blocks blocks.now) S → AreOfFormat format (files_of S)) }
-    ensures damaged { IfErr result (λ e. e ≡ OpenError.Damaged → (S : Spool) → HoldsIn format host.now inodes (B.blocks blocks.now) S → ⊥) }
+    ensures damaged { IfErr result (λ e. e ≡ ReadSpoolError.Damaged → (S : Spool)
+        → HoldsIn format host.now inodes (B.blocks blocks.now) S → ⊥) }
 {
     match check(alloc, blocks, inodes, format) {
         Ok(()) => open_checked(alloc, blocks, inodes, host),
-        Err(FsError::Damaged) => Err(OpenError::Damaged),
-        Err(_) => Err(OpenError::Memory),
+        Err(FsError::Damaged) => Err(ReadSpoolError::Damaged),
+        Err(_) => Err(ReadSpoolError::Memory),
     }
 }
 
@@ -45,28 +46,28 @@ fn open_checked<B: Blocks>(
     blocks: &B,
     inodes: u32,
     host: &[u8],
-) -> Result<Replay, OpenError>
+) -> Result<Replay, ReadSpoolError>
     requires room { HasRoom inodes (B.blocks blocks.now) }
     requires rule { IsFileSystem inodes (B.blocks blocks.now) }
     ensures ok { IfOk result (λ opened. IsOpened host.now inodes (B.blocks blocks.now) opened.index opened.places) }
-    ensures damaged { IfErr result (λ e. e ≡ OpenError.Damaged → (S : Spool) → Holds host.now inodes (B.blocks blocks.now) S → ⊥) }
+    ensures damaged { IfErr result (λ e. e ≡ ReadSpoolError.Damaged → (S : Spool) → Holds host.now inodes (B.blocks blocks.now) S → ⊥) }
 {
     let files = match sort(alloc, blocks, inodes) {
         Ok(files) => files,
         Err(error) => return Err(error),
     };
     let Some(count) = files.change_count() else {
-        return Err(OpenError::Damaged);
+        return Err(ReadSpoolError::Damaged);
     };
     let replay = match replay_all(alloc, blocks, inodes, host, &files, count) {
         Ok(replay) => replay,
         Err(error) => return Err(error),
     };
     if !are_as_many(blocks, inodes, &replay.index) {
-        return Err(OpenError::Damaged);
+        return Err(ReadSpoolError::Damaged);
     }
     if !are_whole(alloc, blocks, inodes, &replay.index)? {
-        return Err(OpenError::Damaged);
+        return Err(ReadSpoolError::Damaged);
     }
     Ok(replay)
 }

@@ -17,7 +17,7 @@ use article::{Article, Origin, ReadError};
 use index::Index;
 use model::Names;
 use places::Places;
-use spool_reading::{Files, OpenError};
+use spool_reading::{Files, ReadSpoolError};
 use std::alloc::Global;
 use volume::Blocks;
 
@@ -34,16 +34,16 @@ pub fn replay_expiry(
     at: u32,
     group: &[u8],
     number: u32,
-) -> Result<(), OpenError>
+) -> Result<(), ReadSpoolError>
     ensures ok { OnOk result ((host : List ℕ) (inodes : ℕ) (blocks : List (List ℕ)) (R : Spool)
         → IsReplayed host inodes blocks replay.old.index replay.old.places R
         → IsItsFile inodes blocks at (length R + 1) (Change.Expire group.now number)
         → IsReplayed host inodes blocks replay.new.index replay.new.places (R ++ Change.Expire group.now number ∷ [])) }
-    ensures damaged { IfErr result (λ e. e ≡ OpenError.Damaged → (S : Spool) → Indexes S replay.old.index → MayExpire S group.now number
-        → ⊥) }
+    ensures damaged { IfErr result (λ e. e ≡ ReadSpoolError.Damaged → (S : Spool) → Indexes S replay.old.index
+        → MayExpire S group.now number → ⊥) }
 {
     if !may_expire(&replay.index, group, number as u64) {
-        return Err(OpenError::Damaged);
+        return Err(ReadSpoolError::Damaged);
     }
     replay.index.push_expiry(group, number as u64)?;
     replay.places.push_change(at)?;
@@ -60,7 +60,7 @@ pub fn replay_group(
     status: u8,
     description: &[u8],
     moment: u64,
-) -> Result<(), OpenError>
+) -> Result<(), ReadSpoolError>
     requires { AreReplayed replay.old.index replay.old.places }
     ensures ok { OnOk result ((host : List ℕ) (inodes : ℕ) (blocks : List (List ℕ)) (R : Spool)
         → IsReplayed host inodes blocks replay.old.index replay.old.places R
@@ -69,11 +69,11 @@ pub fn replay_group(
         → ((content : List ℕ) × IsFileAt (table inodes blocks) overview (overview_name name.now) content)
         → IsReplayed host inodes blocks replay.new.index replay.new.places
         (R ++ Change.Group name.now status description.now moment ∷ [])) }
-    ensures damaged { IfErr result (λ e. e ≡ OpenError.Damaged → (S : Spool) → Indexes S replay.old.index
+    ensures damaged { IfErr result (λ e. e ≡ ReadSpoolError.Damaged → (S : Spool) → Indexes S replay.old.index
         → MayMake S name.now status description.now moment → ⊥) }
 {
     if !may_make(&replay.index, name, status, description, moment) {
-        return Err(OpenError::Damaged);
+        return Err(ReadSpoolError::Damaged);
     }
     replay.index.push_group(name, status, description, moment)?;
     replay.places.push_group(at, numbers, overview)?;
@@ -93,7 +93,7 @@ pub fn replay_article<B: Blocks>(
     text: &[u8],
     groups: &[&[u8]],
     moment: u64,
-) -> Result<(), OpenError>
+) -> Result<(), ReadSpoolError>
     requires room { HasRoom inodes (B.blocks blocks.now) }
     requires rule { IsFileSystem inodes (B.blocks blocks.now) }
     requires sorted { AreSorted (table inodes (B.blocks blocks.now)) (length (table inodes (B.blocks blocks.now)))
@@ -103,14 +103,14 @@ pub fn replay_article<B: Blocks>(
         → IsItsFile inodes (B.blocks blocks.now) at (length R + 1) (Change.Article text.now (map (λ g. g.now) groups.now) moment)
         → IsReplayed host.now inodes (B.blocks blocks.now) replay.new.index replay.new.places
         (R ++ Change.Article text.now (map (λ g. g.now) groups.now) moment ∷ [])) }
-    ensures damaged { IfErr result (λ e. e ≡ OpenError.Damaged → (S : Spool) → Indexes S replay.old.index
+    ensures damaged { IfErr result (λ e. e ≡ ReadSpoolError.Damaged → (S : Spool) → Indexes S replay.old.index
         → MayFile host.now S text.now (map (λ g. g.now) groups.now) moment
         → AllGoOn (table inodes (B.blocks blocks.now)) S text.now (map (λ g. g.now) groups.now) → ⊥) }
 {
     let article = match Article::read(alloc, text, Origin::Carried) {
         Ok(article) => article,
-        Err(ReadError::Bad(_)) => return Err(OpenError::Damaged),
-        Err(ReadError::Memory) => return Err(OpenError::Memory),
+        Err(ReadError::Bad(_)) => return Err(ReadSpoolError::Damaged),
+        Err(ReadError::Memory) => return Err(ReadSpoolError::Memory),
     };
     let names = article.groups(alloc)?;
     let listed = names.as_slice();
@@ -129,7 +129,7 @@ pub fn replay_article<B: Blocks>(
         moment,
     )?;
     if !may {
-        return Err(OpenError::Damaged);
+        return Err(ReadSpoolError::Damaged);
     }
     let Some(sizes) = line_sizes(
         alloc,
@@ -142,7 +142,7 @@ pub fn replay_article<B: Blocks>(
         filed,
     )?
     else {
-        return Err(OpenError::Damaged);
+        return Err(ReadSpoolError::Damaged);
     };
     let id = id_of(&article);
     let size = text.len() as u64;

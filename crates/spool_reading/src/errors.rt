@@ -1,14 +1,14 @@
 //! The refusals of an opening.
 
 ghost use Rattle.std.specs.Prelude.{◌≡◌};
-ghost use Rattle.spool_reading.specs.declared.errors.OpenError.TheVariants.{Memory};
+ghost use Rattle.spool_reading.specs.declared.errors.ReadSpoolError.TheVariants.{Memory};
 
 use std::alloc::AllocError;
 use thiserror::Error;
 
 /// Why no spool was opened. Nothing has changed.
 #[derive(Clone, Copy, Debug, PartialEq, Eq, Error)]
-pub enum OpenError {
+pub enum ReadSpoolError {
     /// An allocation was refused.
     #[error("E2 Memory")]
     Memory,
@@ -17,10 +17,10 @@ pub enum OpenError {
     Damaged,
 }
 
-impl From<AllocError> for OpenError {
+impl From<AllocError> for ReadSpoolError {
     ghost from_gives = { λ _ e. e ≡ Memory };
 
-    fn from(_error: AllocError) -> OpenError {
-        OpenError::Memory
+    fn from(_error: AllocError) -> ReadSpoolError {
+        ReadSpoolError::Memory
     }
 }

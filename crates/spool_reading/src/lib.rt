@@ -10,7 +10,7 @@ mod pass;
 mod reading;
 mod sorting;
 
-pub use errors::OpenError;
+pub use errors::ReadSpoolError;
 pub use files::{NamedFile, file_at, file_name_at, file_size_at, read_file};
 pub use inodes::Inodes;
 pub use laws::files_are_sorted_by_serial;

@@ -6,7 +6,7 @@ use crate::changes::{Change, Row, is_said, put_all};
 use disk::{DiskCall, Faults};
 use memdisk::MemDisk;
 use names::is_host;
-use new_volume::{FORMAT_2, Plan, are_sizes, device_octets, format};
+use new_volume::{FORMAT_2, VolumePlan, are_sizes, device_octets, format};
 use std::alloc::Global;
 use std::test::Fail;
 
@@ -70,12 +70,12 @@ fn no_volumes() -> &'static [Row] {
     NO_VOLUMES
 }
 
-fn plan() -> Option<Plan<'static>> {
+fn plan() -> Option<VolumePlan<'static>> {
     let host: &'static [u8] = b"news.example";
     if !is_host(host) || host.len() > 64 || !are_sizes(1024, 64) {
         return None;
     }
-    Some(Plan {
+    Some(VolumePlan {
         host,
         blocks: 1024,
         inodes: 64,

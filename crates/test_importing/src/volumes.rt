@@ -5,7 +5,7 @@ use importing::Store;
 use mark::Mark;
 use memdisk::MemDisk;
 use names::{GroupName, is_host};
-use new_volume::{FORMAT_1, FORMAT_2, Plan, are_sizes, device_octets};
+use new_volume::{FORMAT_1, FORMAT_2, VolumePlan, are_sizes, device_octets};
 use opening::Opened;
 use rnews::entry;
 use std::alloc::{AllocError, Global};
@@ -23,11 +23,11 @@ const CLOSED: &[u8] = b"x.closed";
 const MOMENT: u64 = 1_000_000_000;
 
 /// The plan of the volume. The sizes are not constants here, because a proof would count with them.
-fn plan(blocks: u64, inodes: u64, format: u32) -> Option<Plan<'static>> {
+fn plan(blocks: u64, inodes: u64, format: u32) -> Option<VolumePlan<'static>> {
     if !is_host(HOST) || !are_sizes(blocks, inodes) || format < FORMAT_1 || FORMAT_2 < format {
         return None;
     }
-    Some(Plan {
+    Some(VolumePlan {
         host: HOST,
         blocks,
         inodes,

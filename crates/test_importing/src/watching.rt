@@ -4,7 +4,7 @@ ghost use Rattle.std.specs.Prelude.{◌<◌};
 ghost use Rattle.model.specs.Calendar.{moment_limit};
 
 use disk::Disk;
-use importing::{Counts, ImportError, Place, Report, Store, Watcher, import};
+use importing::{ImportCounts, ImportError, Place, Report, Store, Watcher, import};
 use std::alloc::Global;
 use std::io::{self, ErrorKind, Read};
 use std::test::Fail;
@@ -70,7 +70,7 @@ impl Watcher for Log {
         Ok(())
     }
 
-    fn progress(&mut self, _octets: u64, _counts: &Counts) -> io::Result<()> {
+    fn progress(&mut self, _octets: u64, _counts: &ImportCounts) -> io::Result<()> {
         Ok(())
     }
 }

@@ -7,7 +7,7 @@ use kernel::{BatchBuf, Kernel};
 use lookups::LookUps;
 use memdisk::MemDisk;
 use names::{GroupName, is_host};
-use new_volume::{FORMAT_2, Plan, are_sizes, device_octets, format};
+use new_volume::{FORMAT_2, VolumePlan, are_sizes, device_octets, format};
 use std::alloc::Global;
 use std::sync::{Mutex, Wait};
 use std::thread::{Threads, join};
@@ -32,11 +32,11 @@ pub(crate) struct Outcome {
 }
 
 /// The plan of the volume. The sizes are not constants here, because a proof would count with them.
-fn plan(blocks: u64, inodes: u64) -> Option<Plan<'static>> {
+fn plan(blocks: u64, inodes: u64) -> Option<VolumePlan<'static>> {
     if !is_host(HOST) || !are_sizes(blocks, inodes) {
         return None;
     }
-    Some(Plan {
+    Some(VolumePlan {
         host: HOST,
         blocks,
         inodes,

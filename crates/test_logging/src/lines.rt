@@ -1,6 +1,8 @@
 //! The events of the tests, and their lines.
 
-use logging::{Counts, Ended, Ending, Entry, Event, Part, Refusal, line};
+use logging::{
+    EndedSession, Ending, LogEntry, LogEvent, SessionCounts, SessionRefusal, UsedPart, line,
+};
 use std::alloc::Global;
 use std::net::SocketAddr;
 
@@ -10,9 +12,9 @@ const MOMENT_LIMIT: u64 = 253_402_300_800;
 /// An event of a caller at some address, or another event.
 #[derive(Clone, Copy)]
 pub(crate) enum What {
-    End(u64, Counts, Ending),
-    Refused(Refusal),
-    Other(Event),
+    End(u64, SessionCounts, Ending),
+    Refused(SessionRefusal),
+    Other(LogEvent),
 }
 
 /// An event, when it is noted, and its line.
@@ -27,7 +29,7 @@ pub(crate) struct Row {
 /// A moment of 26 November 2026.
 const NOON: u64 = 1_795_694_400;
 
-const COUNTS: Counts = Counts {
+const COUNTS: SessionCounts = SessionCounts {
     messages: 14,
     taken: 2,
     refused: 1,
@@ -35,7 +37,7 @@ const COUNTS: Counts = Counts {
     octets_out: 20480,
 };
 
-const MOST: Counts = Counts {
+const MOST: SessionCounts = SessionCounts {
     messages: u64::MAX,
     taken: u64::MAX,
     refused: 0,
@@ -63,42 +65,42 @@ pub(crate) const ROWS: &[Row] = &[
     Row {
         moment: 0,
         peer: "[::ffff:192.0.2.7]:1",
-        what: What::Refused(Refusal::Access),
+        what: What::Refused(SessionRefusal::Access),
         line: "time=1970-01-01T00:00:00Z event=refused peer=[::ffff:192.0.2.7]:1 why=access\n",
     },
     Row {
         moment: 951_782_399,
         peer: "[fe80::1%3]:119",
-        what: What::Refused(Refusal::Sessions),
+        what: What::Refused(SessionRefusal::Sessions),
         line: "time=2000-02-28T23:59:59Z event=refused peer=[fe80::1%3]:119 why=sessions\n",
     },
     Row {
         moment: NOON,
         peer: LOCAL,
-        what: What::Other(Event::Fault),
+        what: What::Other(LogEvent::Fault),
         line: "time=2026-11-26T12:00:00Z event=fault\n",
     },
     Row {
         moment: NOON,
         peer: LOCAL,
-        what: What::Other(Event::Halted),
+        what: What::Other(LogEvent::Halted),
         line: "time=2026-11-26T12:00:00Z event=halted\n",
     },
     Row {
         moment: 0,
         peer: LOCAL,
-        what: What::Other(Event::Clock),
+        what: What::Other(LogEvent::Clock),
         line: "time=1970-01-01T00:00:00Z event=clock\n",
     },
     Row {
         moment: NOON,
         peer: LOCAL,
-        what: What::Other(Event::Full {
-            blocks: Part {
+        what: What::Other(LogEvent::Full {
+            blocks: UsedPart {
                 used: 14746,
                 all: 16384,
             },
-            inodes: Part {
+            inodes: UsedPart {
                 used: 310,
                 all: 8192,
             },
@@ -108,7 +110,7 @@ pub(crate) const ROWS: &[Row] = &[
     Row {
         moment: NOON,
         peer: LOCAL,
-        what: What::Other(Event::Lost(12)),
+        what: What::Other(LogEvent::Lost(12)),
         line: "time=2026-11-26T12:00:00Z event=lost lines=12\n",
     },
 ];
@@ -124,13 +126,13 @@ pub(crate) const ENDINGS: &[(Ending, &str)] = &[
     (Ending::Stopped, "stopped"),
 ];
 
-pub(crate) const REFUSALS: &[(Refusal, &str)] = &[
-    (Refusal::Access, "access"),
-    (Refusal::Sessions, "sessions"),
-    (Refusal::Descriptors, "descriptors"),
-    (Refusal::Memory, "memory"),
-    (Refusal::Failed, "failed"),
-    (Refusal::Halted, "halted"),
+pub(crate) const REFUSALS: &[(SessionRefusal, &str)] = &[
+    (SessionRefusal::Access, "access"),
+    (SessionRefusal::Sessions, "sessions"),
+    (SessionRefusal::Descriptors, "descriptors"),
+    (SessionRefusal::Memory, "memory"),
+    (SessionRefusal::Failed, "failed"),
+    (SessionRefusal::Halted, "halted"),
 ];
 
 /// What of 100 is nearly full, and what is not.
@@ -144,16 +146,16 @@ pub(crate) const PARTS: &[(u64, u64, bool)] = &[
 ];
 
 /// The event of a row.
-fn event_of(row: &Row) -> Option<Event> {
+fn event_of(row: &Row) -> Option<LogEvent> {
     let peer: SocketAddr = row.peer.parse().ok()?;
     match row.what {
-        What::End(session, counts, why) => Some(Event::End(Ended {
+        What::End(session, counts, why) => Some(LogEvent::End(EndedSession {
             peer,
             session,
             counts,
             why,
         })),
-        What::Refused(why) => Some(Event::Refused(peer, why)),
+        What::Refused(why) => Some(LogEvent::Refused(peer, why)),
         What::Other(event) => Some(event),
     }
 }
@@ -170,9 +172,9 @@ pub(crate) fn has_its_line(alloc: Global, row: &Row) -> bool {
 }
 
 /// The line of an event, if it is noted at a moment that a line can have.
-fn line_of(alloc: Global, moment: u64, event: Event) -> Option<Vec<u8>> {
+fn line_of(alloc: Global, moment: u64, event: LogEvent) -> Option<Vec<u8>> {
     if moment >= MOMENT_LIMIT {
         return None;
     }
-    line(alloc, &Entry { moment, event }).ok()
+    line(alloc, &LogEntry { moment, event }).ok()
 }

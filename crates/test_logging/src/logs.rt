@@ -1,6 +1,6 @@
 //! Logs that are read late, or never.
 
-use logging::{Counts, Ended, Ending, Event, Log, Verbosity};
+use logging::{EndedSession, Ending, Log, LogEvent, SessionCounts, Verbosity};
 use std::alloc::Global;
 use std::io::{self, Write};
 use std::net::{Ipv4Addr, SocketAddr};
@@ -100,12 +100,12 @@ pub(crate) fn read_late<R: Threads + Wait + Clock + Copy + Send + 'static>(
     alloc: Global,
 ) -> Option<bool> {
     let Play { log, shared } = start(rt, alloc, Verbosity::All, false)?;
-    log.note(rt, Event::Fault);
+    log.note(rt, LogEvent::Fault);
     if !wait_for(rt, &shared.is_awaited) {
         return None;
     }
     for _ in 0..LINES + MORE {
-        log.note(rt, Event::Halted);
+        log.note(rt, LogEvent::Halted);
     }
     shared.is_reading.store(true, Ordering::SeqCst);
     log.end(rt);
@@ -171,7 +171,7 @@ pub(crate) fn written_in_part<R: Threads + Wait + Clock + Copy + Drop + Send + '
         text: Arc::try_clone(&text).ok()?,
     };
     let log = Log::start(rt, alloc, failing, Verbosity::All).ok()?;
-    for event in [Event::Fault, Event::Halted, Event::Clock] {
+    for event in [LogEvent::Fault, LogEvent::Halted, LogEvent::Clock] {
         log.note(rt, event);
     }
     log.end(rt);
@@ -197,8 +197,8 @@ pub(crate) fn never_read<R: Threads + Wait + Clock + Copy + Send + 'static>(
     alloc: Global,
 ) -> Option<bool> {
     let Play { log, .. } = start(rt, alloc, Verbosity::All, false)?;
-    log.note(rt, Event::Fault);
-    log.note(rt, Event::Fault);
+    log.note(rt, LogEvent::Fault);
+    log.note(rt, LogEvent::Fault);
     let since = Instant::now(rt).ok()?;
     log.end(rt);
     Some(since.elapsed(rt).ok()? < Duration::from_secs(10))
@@ -211,14 +211,14 @@ pub(crate) fn lines_of<R: Threads + Wait + Clock + Copy + Send + 'static>(
     verbosity: Verbosity,
 ) -> Option<usize> {
     let Play { log, shared } = start(rt, alloc, verbosity, true)?;
-    let ended = Ended {
+    let ended = EndedSession {
         peer: SocketAddr::from((Ipv4Addr::LOCALHOST, 1)),
         session: 1,
-        counts: Counts::new(),
+        counts: SessionCounts::new(),
         why: Ending::Quit,
     };
-    log.note(rt, Event::End(ended));
-    log.note(rt, Event::Fault);
+    log.note(rt, LogEvent::End(ended));
+    log.note(rt, LogEvent::Fault);
     log.end(rt);
     let text = shared.text.lock(rt);
     Some(text.iter().filter(|octet| **octet == b'\n').count())

@@ -2,7 +2,7 @@
 
 use crate::lines::{ENDINGS, PARTS, REFUSALS, ROWS, has_its_line};
 use crate::logs::{lines_of, never_read, read_late, written_in_part};
-use logging::{Part, Verbosity};
+use logging::{UsedPart, Verbosity};
 
 #[test]
 fn an_event_has_its_line(rt: HostRuntime) {
@@ -25,7 +25,7 @@ fn each_cause_has_its_word(rt: HostRuntime) -> Result<(), std::alloc::AllocError
 #[test]
 fn nine_tenths_are_nearly_full(rt: HostRuntime) {
     for (used, all, is_full) in PARTS {
-        let part = Part {
+        let part = UsedPart {
             used: *used,
             all: *all,
         };

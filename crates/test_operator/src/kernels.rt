@@ -1,7 +1,8 @@
 //! A kernel that counts the groups that it is asked for, and makes none.
 
 use flusher::{
-    AdminError, Answered, BatchBuf, Counts, ExecError, ExpireError, JoinError, Kern, Stale, Ticket,
+    AdminError, Answered, BatchBuf, ExecError, ExpireError, JoinError, Kern, KernelCounts, Stale,
+    Ticket,
 };
 use model::{Message, Mode};
 use names::GroupName;
@@ -98,9 +99,9 @@ impl Kern for Counting {
         true
     }
 
-    fn counts<R: Wait>(&self, _rt: &R) -> Counts {
+    fn counts<R: Wait>(&self, _rt: &R) -> KernelCounts {
         let groups = self.groups.load(Ordering::SeqCst);
-        Counts {
+        KernelCounts {
             sessions: 3,
             inodes: 310,
             accepted: groups.wrapping_add(self.posts),

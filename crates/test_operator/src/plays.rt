@@ -4,9 +4,9 @@ ghost use Rattle.std.specs.Prelude.{◌≡◌};
 
 use crate::kernels::Counting;
 use crate::streams::{Answers, Lines};
-use flusher::{Bells, Kern, Marks, Tally, VolumeFacts};
+use flusher::{Bells, BitmapMarks, Kern, Tally, VolumeFacts};
 use mark::{FlushSeat, Mark, Seat};
-use operator::{Operator, Service};
+use operator::{Operator, OperatorService};
 use std::alloc::Global;
 use std::sync::atomic::{AtomicU64, Ordering};
 use std::sync::{Arc, Mutex, Wait};
@@ -29,7 +29,7 @@ const BLOCKS: u64 = 16_384;
 
 const INODES: u64 = 8_192;
 
-const MARKS: Marks = Marks {
+const MARKS: BitmapMarks = BitmapMarks {
     first: 1_100,
     second: 100,
 };
@@ -137,7 +137,7 @@ fn answer_all<R: Wait + Clock>(operator: &Operator, alloc: Global, means: Means<
         blocks: BLOCKS,
         inodes: INODES,
     };
-    let service = Service {
+    let service = OperatorService {
         rt,
         alloc,
         kern,

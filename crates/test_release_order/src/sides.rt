@@ -2,8 +2,8 @@
 
 use crate::stops::{Point, Stop};
 use flusher::{
-    AdminError, Answered, BatchBuf, Counts, ExecError, ExpireError, JoinError, Kern, Locked, Stale,
-    Ticket,
+    AdminError, Answered, BatchBuf, ExecError, ExpireError, JoinError, Kern, KernelCounts, Locked,
+    Stale, Ticket,
 };
 use model::{Message, Mode};
 use names::GroupName;
@@ -85,7 +85,7 @@ impl<'a> Kern for Side<'a> {
         self.inner.halt_if_clean(rt)
     }
 
-    fn counts<R: Wait>(&self, rt: &R) -> Counts {
+    fn counts<R: Wait>(&self, rt: &R) -> KernelCounts {
         self.inner.counts(rt)
     }
 }

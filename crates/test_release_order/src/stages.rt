@@ -6,7 +6,7 @@ use journal::Journal;
 use memdisk::MemDisk;
 use model::{Message, Text};
 use names::{GroupName, is_host};
-use new_volume::{FORMAT_2, Plan, are_sizes, device_octets, format};
+use new_volume::{FORMAT_2, VolumePlan, are_sizes, device_octets, format};
 use releasing::{Closing, Limits, ReplyWriter, Shared, give_short_writes};
 use std::alloc::{AllocError, Global};
 use std::net::{Net, TcpListener, TcpStream};
@@ -88,7 +88,7 @@ fn new_kernel(alloc: Global, blocks: u64, inodes: u64) -> Option<Kernel> {
     if !is_host(HOST) || !are_sizes(blocks, inodes) {
         return None;
     }
-    let plan = Plan {
+    let plan = VolumePlan {
         host: HOST,
         blocks,
         inodes,

@@ -1,12 +1,17 @@
 //! What is read from a batch, however it is cut into pieces.
 
-use rnews::{Cause, ReadError, Reader, Refusal, TEXT_LIMIT, entry};
+use rnews::{BatchCause, BatchError, BatchReader, BatchRefusal, TEXT_LIMIT, entry};
 use std::alloc::Global;
 use std::test::Fail;
 use test_support_rows::Octets;
 
 /// The name of a row, the octets of a batch, the texts that are read from it, and the refusal, if one ends it.
-type Row<'a> = (&'a str, Octets<'a>, &'a [Octets<'a>], Option<(Cause, u64)>);
+type Row<'a> = (
+    &'a str,
+    Octets<'a>,
+    &'a [Octets<'a>],
+    Option<(BatchCause, u64)>,
+);
 
 const ROWS: &[Row<'static>] = &[
     ("nothing", Octets::Are(b""), &[], None),
@@ -44,49 +49,49 @@ const ROWS: &[Row<'static>] = &[
         "a text that is too long",
         Octets::Long(b"#! rnews 262145\n", b'x', 262_145, b""),
         &[],
-        Some((Cause::TooLong, 0)),
+        Some((BatchCause::TooLong, 0)),
     ),
     (
         "a length of 17 digits",
         Octets::Are(b"#! rnews 00000000000000003\nabc"),
         &[],
-        Some((Cause::NoNumber, 0)),
+        Some((BatchCause::NoNumber, 0)),
     ),
     (
         "no length",
         Octets::Are(b"#! rnews \n"),
         &[],
-        Some((Cause::NoNumber, 0)),
+        Some((BatchCause::NoNumber, 0)),
     ),
     (
         "a length with a CR",
         Octets::Are(b"#! rnews 3\r\nabc"),
         &[],
-        Some((Cause::NoNumber, 0)),
+        Some((BatchCause::NoNumber, 0)),
     ),
     (
         "a text without a header line",
         Octets::Are(b"Path: p!not-for-mail\nFrom: a@example.org\n"),
         &[],
-        Some((Cause::NoHeader, 0)),
+        Some((BatchCause::NoHeader, 0)),
     ),
     (
         "a length below that of the text",
         Octets::Are(b"#! rnews 2\nabc\n#! rnews 1\nd"),
         &[Octets::Are(b"ab")],
-        Some((Cause::NoHeader, 13)),
+        Some((BatchCause::NoHeader, 13)),
     ),
     (
         "a text that is cut short",
         Octets::Are(b"#! rnews 1\na#! rnews 3\nxy"),
         &[Octets::Are(b"a")],
-        Some((Cause::CutShort, 12)),
+        Some((BatchCause::CutShort, 12)),
     ),
     (
         "a header line that is cut short",
         Octets::Are(b"#! rnews 1\na#! rn"),
         &[Octets::Are(b"a")],
-        Some((Cause::CutShort, 12)),
+        Some((BatchCause::CutShort, 12)),
     ),
 ];
 
@@ -99,7 +104,7 @@ fn rows() -> &'static [Row<'static>] {
 #[derive(Drop)]
 struct Found {
     texts: Vec<Vec<u8>>,
-    refusal: Option<Refusal>,
+    refusal: Option<BatchRefusal>,
 }
 
 /// What is read when the octets arrive in pieces of this size.
@@ -107,7 +112,7 @@ fn read(alloc: Global, octets: &[u8], size: usize) -> Result<Found, Fail> {
     if size == 0 {
         return Err("empty pieces")?;
     }
-    let mut reader = Reader::new(alloc);
+    let mut reader = BatchReader::new(alloc);
     let mut texts = Vec::new(alloc);
     for piece in octets.chunks(size) {
         reader.feed(piece)?;
@@ -123,13 +128,16 @@ fn read(alloc: Global, octets: &[u8], size: usize) -> Result<Found, Fail> {
 }
 
 /// Takes the complete texts, and answers the refusal, if one ends them.
-fn take_texts(reader: &mut Reader, texts: &mut Vec<Vec<u8>>) -> Result<Option<Refusal>, Fail> {
+fn take_texts(
+    reader: &mut BatchReader,
+    texts: &mut Vec<Vec<u8>>,
+) -> Result<Option<BatchRefusal>, Fail> {
     for _ in 0..u64::MAX {
         match reader.next() {
             Ok(Some(text)) => texts.push(text)?,
             Ok(None) => return Ok(None),
-            Err(ReadError::Refused(refusal)) => return Ok(Some(refusal)),
-            Err(ReadError::Memory) => return Err("memory")?,
+            Err(BatchError::Refused(refusal)) => return Ok(Some(refusal)),
+            Err(BatchError::Memory) => return Err("memory")?,
         }
     }
     Ok(None)
@@ -138,7 +146,7 @@ fn take_texts(reader: &mut Reader, texts: &mut Vec<Vec<u8>>) -> Result<Option<Re
 /// Whether this is what the row expects.
 fn is_wanted(alloc: Global, found: &Found, row: &Row<'_>) -> Result<bool, Fail> {
     let (_, _, texts, refusal) = row;
-    let wanted = refusal.map(|(cause, place)| Refusal { cause, place });
+    let wanted = refusal.map(|(cause, place)| BatchRefusal { cause, place });
     if found.refusal != wanted || found.texts.len() != texts.len() {
         return Ok(false);
     }

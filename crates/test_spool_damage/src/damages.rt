@@ -18,7 +18,7 @@
 //!
 //! The overview lines in block 8 begin at 0, 72 and 147.
 
-use spool_reading::OpenError;
+use spool_reading::ReadSpoolError;
 use std::alloc::Global;
 use std::test::Fail;
 use test_support_spool::{Answer, Call, Filed, Octet, Sent, Stored, make};
@@ -265,7 +265,7 @@ fn damage_is_told(rt: HostRuntime) -> Result<(), Fail> {
         let want = if *is_opened {
             None
         } else {
-            Some(OpenError::Damaged)
+            Some(ReadSpoolError::Damaged)
         };
         assert_eq!(rt; stored.refusal(rt.alloc(), octets), want, "{shows}");
     }

@@ -3,7 +3,7 @@
 
 use crate::damages::changed;
 use spool::Spool;
-use spool_reading::OpenError;
+use spool_reading::ReadSpoolError;
 use std::alloc::{AllocError, Global};
 use std::test::Fail;
 use test_support_spool::{Asked, Sought, Stored, find, text_of};
@@ -117,8 +117,8 @@ fn becomes(
     let bits = BITS[place % 8];
     match stored.flipped(alloc, block, place, bits) {
         Ok(spool) => Ok(wanted != Wanted::Damaged && answers(alloc, &spool)?),
-        Err(OpenError::Damaged) => Ok(wanted != Wanted::Opened),
-        Err(OpenError::Memory) => Ok(false),
+        Err(ReadSpoolError::Damaged) => Ok(wanted != Wanted::Opened),
+        Err(ReadSpoolError::Memory) => Ok(false),
     }
 }
 

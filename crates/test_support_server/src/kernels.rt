@@ -1,7 +1,7 @@
 //! A kernel two of whose calls a test can refuse.
 
 use flusher::{
-    AdminError, Answered, BatchBuf, Counts, ExecError, ExpireError, JoinError, Kern, Kernel,
+    AdminError, Answered, BatchBuf, ExecError, ExpireError, JoinError, Kern, Kernel, KernelCounts,
     Locked, Stale, Ticket,
 };
 use model::{Message, Mode};
@@ -107,7 +107,7 @@ impl<H: Hooks> Kern for Hooked<H> {
         self.inner.halt_if_clean(rt)
     }
 
-    fn counts<R: Wait>(&self, rt: &R) -> Counts {
+    fn counts<R: Wait>(&self, rt: &R) -> KernelCounts {
         self.inner.counts(rt)
     }
 }

@@ -5,7 +5,9 @@ ghost use Rattle.journal.specs.Journal.{IsIdle};
 
 use crate::volumes::{HOST, INODES, add_group};
 use disk::{Disk, DiskCall, Faults};
-use flusher::{BatchBuf, Counts, Gate, Kern, Marks, NoGate, Tally, VolumeFacts, flush_turn};
+use flusher::{
+    BatchBuf, BitmapMarks, Gate, Kern, KernelCounts, NoGate, Tally, VolumeFacts, flush_turn,
+};
 use journal::Journal;
 use logging::{Log, Verbosity};
 use mark::{FlushSeat, Mark, Seat};
@@ -20,7 +22,7 @@ use std::thread::Threads;
 use std::time::Clock;
 
 /// The marks of used blocks that the servers begin with.
-const MARKS: Marks = Marks {
+const MARKS: BitmapMarks = BitmapMarks {
     first: 0,
     second: 0,
 };
@@ -64,7 +66,7 @@ impl<'a, G> Drop for Setting<'a, G> {
 #[derive(Clone, Copy)]
 pub struct Served {
     pub ended: Result<(), ServeError>,
-    pub counts: Counts,
+    pub counts: KernelCounts,
 }
 
 /// A log that nobody reads.

@@ -8,7 +8,7 @@ use flusher::{Kern, Kernel};
 use journal::Journal;
 use memdisk::MemDisk;
 use names::{GroupName, is_host};
-use new_volume::{FORMAT_2, Plan, are_sizes, device_octets, format};
+use new_volume::{FORMAT_2, VolumePlan, are_sizes, device_octets, format};
 use std::alloc::Global;
 use std::sync::Wait;
 
@@ -23,11 +23,11 @@ pub(crate) const INODES: u64 = 64;
 const MOMENT: u64 = 1_000_000_000;
 
 /// The plan of the volumes.
-fn plan() -> Option<Plan<'static>> {
+fn plan() -> Option<VolumePlan<'static>> {
     if !is_host(HOST) || !are_sizes(BLOCKS, INODES) {
         return None;
     }
-    Some(Plan {
+    Some(VolumePlan {
         host: HOST,
         blocks: BLOCKS,
         inodes: INODES,

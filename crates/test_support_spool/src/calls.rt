@@ -5,7 +5,7 @@ use crate::changing::{Filed, add, expire, post, take};
 use crate::finding::{Asked, Sought, find, text_of};
 use crate::sent::Sent;
 use crate::stored::Stored;
-use spool_reading::OpenError;
+use spool_reading::ReadSpoolError;
 use std::alloc::Global;
 
 /// A call.
@@ -48,7 +48,7 @@ pub enum Answer {
     /// More blocks are dirty than a batch may have.
     TooMany,
     Opened,
-    NotOpened(OpenError),
+    NotOpened(ReadSpoolError),
     Memory,
 }
 

@@ -6,7 +6,7 @@ ghost use Rattle.model.specs.Files.{HasRoom};
 use model::Text;
 use names::is_host;
 use spool::Spool;
-use spool_reading::OpenError;
+use spool_reading::ReadSpoolError;
 use std::alloc::{AllocError, Global};
 use volume::{BATCH_BLOCKS, BLOCK_SIZE, BatchBuf, Blocks, Volume};
 
@@ -32,10 +32,10 @@ pub struct Stored {
 
 impl Stored {
     /// The spool without changes, in the empty file system.
-    pub fn new(alloc: Global) -> Result<Stored, OpenError> {
+    pub fn new(alloc: Global) -> Result<Stored, ReadSpoolError> {
         let octets = empty(alloc, COUNT)?;
         let Ok(batch) = BatchBuf::new(alloc) else {
-            return Err(OpenError::Memory);
+            return Err(ReadSpoolError::Memory);
         };
         Ok(Stored {
             spool: opened(alloc, &octets, &[])?,
@@ -56,13 +56,13 @@ impl Stored {
     }
 
     /// Opens what the batches have written, in place of the spool. A refusal changes nothing.
-    pub fn reopen(&mut self, alloc: Global) -> Result<(), OpenError> {
+    pub fn reopen(&mut self, alloc: Global) -> Result<(), ReadSpoolError> {
         self.spool = opened(alloc, &self.octets, &[])?;
         Ok(())
     }
 
     /// Why what the batches have written is not opened after octets in it are replaced; `None` if it is opened.
-    pub fn refusal(&self, alloc: Global, changed: &[Octet]) -> Option<OpenError> {
+    pub fn refusal(&self, alloc: Global, changed: &[Octet]) -> Option<ReadSpoolError> {
         opened(alloc, &self.octets, changed).err()
     }
 
@@ -74,13 +74,13 @@ impl Stored {
         number: u32,
         place: usize,
         bits: u8,
-    ) -> Result<Spool, OpenError> {
+    ) -> Result<Spool, ReadSpoolError> {
         match self
             .octets
             .get(number as usize * BLOCK_SIZE + place % BLOCK_SIZE)
         {
             Some(was) => opened(alloc, &self.octets, &[(number, place, *was ^ bits)]),
-            None => Err(OpenError::Memory),
+            None => Err(ReadSpoolError::Memory),
         }
     }
 }
@@ -90,7 +90,7 @@ pub type Octet = (u32, usize, u8);
 
 // The octets of the empty file system: the bitmap marks its own two blocks, the block of the inodes and that of the
 // slots.
-fn empty(alloc: Global, count: u32) -> Result<Vec<u8>, OpenError> {
+fn empty(alloc: Global, count: u32) -> Result<Vec<u8>, ReadSpoolError> {
     let mut octets = vec![in alloc; 0; count as usize * BLOCK_SIZE]?;
     if let Some(marks) = octets.first_mut() {
         *marks = 0x0f;
@@ -127,25 +127,25 @@ fn lay(octets: &mut [u8], batch: &BatchBuf) {
 }
 
 // The spool in these octets, after some are replaced.
-fn opened(alloc: Global, octets: &[u8], changed: &[Octet]) -> Result<Spool, OpenError> {
+fn opened(alloc: Global, octets: &[u8], changed: &[Octet]) -> Result<Spool, ReadSpoolError> {
     let mut octets = octets.to_vec(alloc)?;
     for (number, place, octet) in changed {
         match octets.get_mut(*number as usize * BLOCK_SIZE + *place % BLOCK_SIZE) {
             Some(replaced) => *replaced = *octet,
-            None => return Err(OpenError::Memory),
+            None => return Err(ReadSpoolError::Memory),
         }
     }
     open(alloc, octets, COUNT)
 }
 
-fn open(alloc: Global, octets: Vec<u8>, count: u32) -> Result<Spool, OpenError> {
+fn open(alloc: Global, octets: Vec<u8>, count: u32) -> Result<Spool, ReadSpoolError> {
     let host = host(alloc)?;
     if !is_host(host.as_slice()) || octets.len() != count as usize * BLOCK_SIZE {
-        return Err(OpenError::Memory);
+        return Err(ReadSpoolError::Memory);
     }
     let volume = Volume::of(alloc, octets, count)?;
     if !has_room(&volume) {
-        return Err(OpenError::Memory);
+        return Err(ReadSpoolError::Memory);
     }
     Spool::open(alloc, host, INODES, FORMAT, volume)
 }

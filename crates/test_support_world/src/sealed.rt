@@ -12,7 +12,7 @@ use lookups::LookUps;
 use memdisk::{MemDisk, Pick};
 use model::Part;
 use names::is_host;
-use new_volume::{FORMAT_2, Plan, are_sizes, device_octets, format};
+use new_volume::{FORMAT_2, VolumePlan, are_sizes, device_octets, format};
 use std::alloc::Global;
 use std::marker::Model;
 use volume_format::layout::BLOCK;
@@ -100,11 +100,11 @@ impl Device {
 }
 
 /// The plan of a volume with this many blocks. The number is not a constant here, because a proof would count with it.
-fn plan(blocks: u64) -> Option<Plan<'static>> {
+fn plan(blocks: u64) -> Option<VolumePlan<'static>> {
     if !is_host(HOST) || !are_sizes(blocks, INODES) {
         return None;
     }
-    Some(Plan {
+    Some(VolumePlan {
         host: HOST,
         blocks,
         inodes: INODES,
@@ -113,7 +113,7 @@ fn plan(blocks: u64) -> Option<Plan<'static>> {
 }
 
 /// A device with a new volume.
-fn formatted(alloc: Global, plan: &Plan<'_>) -> Result<Device, SimError> {
+fn formatted(alloc: Global, plan: &VolumePlan<'_>) -> Result<Device, SimError> {
     let disk = MemDisk::new(alloc, device_octets(plan.blocks))?;
     match format(alloc, disk, plan) {
         Ok(disk) => Ok(Device { disk }),

@@ -4,7 +4,7 @@ use disk::{Disk, DiskCall, Faults};
 use journal::{Journal, JournalError, Refused};
 use memdisk::MemDisk;
 use names::is_host;
-use new_volume::{FORMAT_1, FORMAT_2, Plan, are_sizes, device_octets, format};
+use new_volume::{FORMAT_1, FORMAT_2, VolumePlan, are_sizes, device_octets, format};
 use std::alloc::Global;
 use std::test::Fail;
 use volume::BLOCK_SIZE;
@@ -43,7 +43,7 @@ const BATCH: &[Row] = &[
 ];
 
 /// A volume of 1,024 blocks and 64 inodes, of this format.
-fn plan(format: u32) -> Option<Plan<'static>> {
+fn plan(format: u32) -> Option<VolumePlan<'static>> {
     let host: &'static [u8] = b"news.example";
     if !is_host(host) || host.len() > 64 || !are_sizes(1024, 64) {
         return None;
@@ -51,7 +51,7 @@ fn plan(format: u32) -> Option<Plan<'static>> {
     if format < 1 || format > 2 {
         return None;
     }
-    Some(Plan {
+    Some(VolumePlan {
         host,
         blocks: 1024,
         inodes: 64,

@@ -6,7 +6,7 @@ use journal::{FormatError, Journal};
 use memdisk::MemDisk;
 use std::alloc::{AllocError, Global};
 use std::test::Fail;
-use volume::{BATCH_BLOCKS, BLOCK_SIZE, BatchBuf, Blocks, OpenError, Volume};
+use volume::{BATCH_BLOCKS, BLOCK_SIZE, BatchBuf, Blocks, LoadError, Volume};
 
 /// A call, or what a read must give.
 #[derive(Clone, Copy)]
@@ -47,7 +47,7 @@ fn formatted(alloc: Global, blocks: u64) -> Result<MemDisk, FormatError>
 }
 
 /// The volume of a newly formatted device, whose n-th call from the loading on fails; 0 fails none.
-pub fn loaded(alloc: Global, fail_at: u64) -> Result<Result<Volume, OpenError>, Fail> {
+pub fn loaded(alloc: Global, fail_at: u64) -> Result<Result<Volume, LoadError>, Fail> {
     let disk = formatted(alloc, 1024)?;
     let Ok(mut journal) = Journal::open(alloc, disk) else {
         return Err("the journal did not open")?;

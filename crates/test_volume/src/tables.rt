@@ -3,7 +3,7 @@
 use crate::steps::{Step, answers, loaded, zeros};
 use std::alloc::{AllocError, Global};
 use std::test::Fail;
-use volume::{BatchBuf, OpenError, Volume};
+use volume::{BatchBuf, LoadError, Volume};
 
 /// The steps of a volume of 8 zeroed blocks.
 const STEPS: &[(&str, &[Step<'static>])] = &[
@@ -101,7 +101,7 @@ fn a_formatted_device_loads_as_zeros(rt: HostRuntime) -> Result<(), Fail> {
 fn a_fault_at_a_read_refuses(rt: HostRuntime) -> Result<(), Fail> {
     for call in [1, 1024] {
         let refused = loaded(rt.alloc(), call)?.err();
-        assert_eq!(rt; refused, Some(OpenError::Fault), "{call}");
+        assert_eq!(rt; refused, Some(LoadError::Fault), "{call}");
     }
     Ok(())
 }

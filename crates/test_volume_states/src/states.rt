@@ -2,7 +2,7 @@
 
 use crate::volumes::{octets_after, state_of};
 use reporting::{GroupStatus, VolumeStatus};
-use spool_reading::OpenError;
+use spool_reading::ReadSpoolError;
 use std::alloc::Global;
 use std::test::Fail;
 use test_support_spool::{Call, Sent};
@@ -159,7 +159,7 @@ fn a_damaged_volume(rt: HostRuntime) -> Result<(), Fail> {
     }
     assert_eq!(rt;
         state_of(alloc, octets, 2, HOST).err(),
-        Some(OpenError::Damaged)
+        Some(ReadSpoolError::Damaged)
     );
     Ok(())
 }

@@ -4,7 +4,7 @@ ghost use Rattle.std.specs.Prelude.{IsTrue};
 ghost use Rattle.model.specs.Files.{HasRoom};
 
 use reporting::VolumeStatus;
-use spool_reading::OpenError;
+use spool_reading::ReadSpoolError;
 use std::alloc::Global;
 use std::test::Fail;
 use test_support_spool::{Answer, Call, Stored, make};
@@ -76,13 +76,13 @@ pub(crate) fn state_of(
     octets: Vec<u8>,
     format: u32,
     host: &[u8],
-) -> Result<VolumeStatus, OpenError> {
+) -> Result<VolumeStatus, ReadSpoolError> {
     if octets.len() != COUNT as usize * BLOCK_SIZE {
-        return Err(OpenError::Memory);
+        return Err(ReadSpoolError::Memory);
     }
     let volume = Volume::of(alloc, octets, COUNT)?;
     if !has_room(&volume) {
-        return Err(OpenError::Memory);
+        return Err(ReadSpoolError::Memory);
     }
     volume_status(alloc, &volume, INODES, format, host)
 }

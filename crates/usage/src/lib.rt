@@ -9,5 +9,5 @@ mod tally;
 
 pub use bitmap::{bits_are_used_blocks, used_blocks};
 pub use inodes::inodes_used;
-pub use marks::Marks;
+pub use marks::BitmapMarks;
 pub use tally::{Tallied, Tally, VolumeFacts};

@@ -11,15 +11,15 @@ use volume::{BATCH_BLOCKS, BLOCK_SIZE, BatchBuf};
 
 /// The set bits of each of the bitmap's two blocks, which are the logical blocks 0 and 1 (docs/FORMATS.md).
 #[derive(Clone, Copy, Debug, PartialEq, Eq)]
-pub struct Marks {
+pub struct BitmapMarks {
     pub first: u32,
     pub second: u32,
 }
 
-impl Marks {
+impl BitmapMarks {
     /// Reads the marks of a volume, with two reads of its device. The only refusal is `Fault`, exactly if the device
     /// failed; it halts the journal for good.
-    pub fn read<D: Disk>(journal: &mut Journal<D>) -> Result<Marks, JournalError>
+    pub fn read<D: Disk>(journal: &mut Journal<D>) -> Result<BitmapMarks, JournalError>
         requires { IsReady journal.old }
         ensures ready { OnOk result (IsReady journal.new) }
         ensures first { IsTrue (D.device journal.old.disk).tells → IfOk result (λ marks. marks.first ≡ marked journal.old.blocks 0) }
@@ -32,7 +32,7 @@ impl Marks {
         let _ = journal.is_idle();
         let first = read_marks(journal, 0)?;
         let second = read_marks(journal, 1)?;
-        Ok(Marks { first, second })
+        Ok(BitmapMarks { first, second })
     }
 
     /// The number of used blocks of the volume: the set bits of both blocks.
@@ -44,11 +44,11 @@ impl Marks {
 
     /// The marks after a batch: for each block of the bitmap the set bits of its image in the batch, or those before it
     /// if the batch does not have that block.
-    pub fn after(self, batch: &BatchBuf) -> Marks
+    pub fn after(self, batch: &BatchBuf) -> BitmapMarks
         ensures first { IsWhole batch.now → result.first ≡ marked_after self.first (image_of batch.now 0) }
         ensures second { IsWhole batch.now → result.second ≡ marked_after self.second (image_of batch.now 1) }
     {
-        Marks {
+        BitmapMarks {
             first: marks_after(self.first, batch, 0),
             second: marks_after(self.second, batch, 1),
         }

@@ -1,6 +1,6 @@
 //! What is counted while a server runs, for its operator.
 
-use crate::marks::Marks;
+use crate::marks::BitmapMarks;
 use std::alloc::Global;
 use std::sync::Arc;
 use std::sync::atomic::{AtomicU64, Ordering};
@@ -39,7 +39,7 @@ pub struct Tallied {
 
 impl Tally {
     /// A tally of a volume with these marks of used blocks. Its device counts the syncs.
-    pub fn new(marks: Marks, syncs: Arc<AtomicU64, Global>) -> Tally {
+    pub fn new(marks: BitmapMarks, syncs: Arc<AtomicU64, Global>) -> Tally {
         Tally {
             batches: AtomicU64::new(0),
             used_blocks: AtomicU64::new(marks.all()),
@@ -58,7 +58,7 @@ impl Tally {
 
     /// Counts one more batch that was committed, and notes the used blocks as of that batch, which are the sum of these
     /// marks. `read` gives both from then on. No clause says so, since other threads may change an atomic at any time.
-    pub fn note_batch(&self, marks: Marks) {
+    pub fn note_batch(&self, marks: BitmapMarks) {
         self.used_blocks.store(marks.all(), Ordering::SeqCst);
         self.batches.fetch_add(1, Ordering::SeqCst);
     }

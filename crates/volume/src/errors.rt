@@ -1,14 +1,14 @@
 //! The refusals of a load.
 
 ghost use Rattle.std.specs.Prelude.{◌≡◌};
-ghost use Rattle.volume.specs.declared.errors.OpenError.TheVariants.{Memory};
+ghost use Rattle.volume.specs.declared.errors.LoadError.TheVariants.{Memory};
 
 use std::alloc::AllocError;
 use thiserror::Error;
 
 /// Why a volume cannot be loaded.
 #[derive(Clone, Copy, Debug, Drop, PartialEq, Eq, Error)]
-pub enum OpenError {
+pub enum LoadError {
     /// The device failed in this call. This halts the journal for good.
     #[error("E1 Fault")]
     Fault,
@@ -17,10 +17,10 @@ pub enum OpenError {
     Memory,
 }
 
-impl From<AllocError> for OpenError {
+impl From<AllocError> for LoadError {
     ghost from_gives = { λ _ e. e ≡ Memory };
 
-    fn from(_error: AllocError) -> OpenError {
-        OpenError::Memory
+    fn from(_error: AllocError) -> LoadError {
+        LoadError::Memory
     }
 }

@@ -9,7 +9,7 @@ mod volume;
 
 pub use batch::BatchBuf;
 pub use blocks::{BLOCK_SIZE, Blocks};
-pub use errors::OpenError;
+pub use errors::LoadError;
 pub use volume::Volume;
 
 /// The most blocks that a batch has.

@@ -12,7 +12,7 @@ ghost use Rattle.volume.specs.Volume.{VolumeView, Differs, AgreeOutside, IsVolum
 
 use crate::batch::BatchBuf;
 use crate::blocks::{BLOCK_SIZE, Blocks, block_of, put_block};
-use crate::errors::OpenError;
+use crate::errors::LoadError;
 use crate::numbers::NumberSet;
 use disk::Disk;
 use journal::{Journal, JournalError};
@@ -60,7 +60,7 @@ impl Volume {
     /// Loads all logical blocks of a journal after its opening and before its first batch. Nothing is staged, and
     /// nothing is dirty. `Fault` halts the journal. `Memory` comes before the first read and leaves the journal as it
     /// was.
-    pub fn open<D: Disk>(alloc: Global, journal: &mut Journal<D>) -> Result<Volume, OpenError>
+    pub fn open<D: Disk>(alloc: Global, journal: &mut Journal<D>) -> Result<Volume, LoadError>
         requires { IsReady journal.old }
         ensures blocks { IsTrue (D.device journal.old.disk).tells → IfOk result (λ v. v.cache ≡ journal.old.blocks) }
         ensures count { IfOk result (λ v. length v.cache ≡ journal.old.size) }
@@ -69,8 +69,8 @@ impl Volume {
         ensures loads { Loads D.device journal.old journal.new }
         ensures ok { OnOk result (IsReady journal.new) }
         ensures ok_failures { OnOk result ((D.device journal.new.disk).failures ≡ (D.device journal.old.disk).failures) }
-        ensures memory { IfErr result (λ e. e ≡ OpenError.Memory → journal.new ≡ journal.old) }
-        ensures fault { IfErr result (λ e. e ≡ OpenError.Fault
+        ensures memory { IfErr result (λ e. e ≡ LoadError.Memory → journal.new ≡ journal.old) }
+        ensures fault { IfErr result (λ e. e ≡ LoadError.Fault
             → (journal.new.halted ≡ true) × ((D.device journal.new.disk).failures ≢ (D.device journal.old.disk).failures)) }
     {
         // its clauses state what the journal keeps
@@ -80,7 +80,7 @@ impl Volume {
         let staged = NumberSet::new(alloc, count)?;
         let dirty = NumberSet::new(alloc, count)?;
         match load_all(journal, &mut octets, count) {
-            Err(_) => Err(OpenError::Fault),
+            Err(_) => Err(LoadError::Fault),
             Ok(()) => Ok(Volume {
                 cache: octets,
                 staged,

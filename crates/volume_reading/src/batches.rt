@@ -1,8 +1,8 @@
 //! Looks at the open segments of a volume, and finds out where each logical block is.
 
-use crate::device::{Block, Stop, read, read_block};
+use crate::device::{Block, ReadStop, read, read_block};
 use crate::grouped::Grouped;
-use crate::superblock::Sizes;
+use crate::superblock::ReadSizes;
 use crate::wrong_unless;
 use disk::Disk;
 use std::alloc::{AllocError, Global};
@@ -34,7 +34,11 @@ struct Batch {
 
 /// Looks at the open segments, and answers the place of each logical block: its home, or the image of it in the highest
 /// batch that has one.
-pub(crate) fn look<D: Disk>(alloc: Global, disk: &mut D, sizes: Sizes) -> Result<Vec<Place>, Stop> {
+pub(crate) fn look<D: Disk>(
+    alloc: Global,
+    disk: &mut D,
+    sizes: ReadSizes,
+) -> Result<Vec<Place>, ReadStop> {
     let mut places = homes(alloc, sizes)?;
     let mut batches = Vec::new(alloc);
     for segment in 0..sizes.segments {
@@ -52,7 +56,7 @@ pub(crate) fn look<D: Disk>(alloc: Global, disk: &mut D, sizes: Sizes) -> Result
 }
 
 /// The homes of all logical blocks.
-fn homes(alloc: Global, sizes: Sizes) -> Result<Vec<Place>, AllocError> {
+fn homes(alloc: Global, sizes: ReadSizes) -> Result<Vec<Place>, AllocError> {
     let mut places = Vec::new(alloc);
     for number in 0..sizes.blocks {
         let block = home_block(sizes.segments, u64::from(number));
@@ -67,7 +71,7 @@ fn look_at_descriptor(
     segment: u32,
     descriptor: &Block,
     blocks: u32,
-) -> Result<(), Stop> {
+) -> Result<(), ReadStop> {
     let count = number32(descriptor, COUNT_AT) as usize;
     wrong_unless!(alloc; 1 <= count && count <= SEGMENT_IMAGES,
         "open segment {segment} counts {count} images, where a batch has 1 to {SEGMENT_IMAGES}");
@@ -95,7 +99,7 @@ fn set_mark(marks: &mut [bool], number: usize) -> bool {
 }
 
 /// Adds an open segment to those before it, none of which may have a batch of the same number.
-fn note_batch(alloc: Global, batch: Batch, batches: &mut Vec<Batch>) -> Result<(), Stop> {
+fn note_batch(alloc: Global, batch: Batch, batches: &mut Vec<Batch>) -> Result<(), ReadStop> {
     let Batch { segment, number } = batch;
     for earlier in batches.iter() {
         wrong_unless!(alloc; earlier.number != number,
@@ -103,7 +107,7 @@ fn note_batch(alloc: Global, batch: Batch, batches: &mut Vec<Batch>) -> Result<(
     }
     match batches.push(batch) {
         Ok(()) => Ok(()),
-        Err(_) => Err(Stop::Unseen),
+        Err(_) => Err(ReadStop::Unseen),
     }
 }
 

@@ -9,16 +9,16 @@ pub type Block = [u8; BLOCK];
 
 /// Why a look ends early.
 #[derive(Drop)]
-pub enum Stop {
+pub enum ReadStop {
     /// What is wrong, as a text.
     Wrong(String),
     /// A read failed, or memory was refused.
     Unseen,
 }
 
-impl From<AllocError> for Stop {
-    fn from(_error: AllocError) -> Stop {
-        Stop::Unseen
+impl From<AllocError> for ReadStop {
+    fn from(_error: AllocError) -> ReadStop {
+        ReadStop::Unseen
     }
 }
 
@@ -28,22 +28,22 @@ pub(crate) fn read<D: Disk>(
     block: u64,
     at: usize,
     into: &mut [u8],
-) -> Result<(), Stop> {
+) -> Result<(), ReadStop> {
     let start = block.saturating_mul(BLOCK as u64).saturating_add(at as u64);
     let Some(end) = start.checked_add(into.len() as u64) else {
-        return Err(Stop::Unseen);
+        return Err(ReadStop::Unseen);
     };
     if end > disk.len() {
-        return Err(Stop::Unseen);
+        return Err(ReadStop::Unseen);
     }
     match disk.read(start, into) {
         Ok(()) => Ok(()),
-        Err(_) => Err(Stop::Unseen),
+        Err(_) => Err(ReadStop::Unseen),
     }
 }
 
 /// The octets of a block of the device.
-pub(crate) fn read_block<D: Disk>(disk: &mut D, block: u64) -> Result<Block, Stop> {
+pub(crate) fn read_block<D: Disk>(disk: &mut D, block: u64) -> Result<Block, ReadStop> {
     let mut octets = [0; BLOCK];
     read(disk, block, 0, &mut octets)?;
     Ok(octets)

@@ -8,7 +8,7 @@
 #[macro_export]
 macro_rules! wrong {
     ($alloc:expr; $($text:tt)+) => {
-        return Err($crate::Stop::Wrong(format!(in $alloc; $($text)+)?))
+        return Err($crate::ReadStop::Wrong(format!(in $alloc; $($text)+)?))
     };
 }
 
@@ -28,7 +28,7 @@ mod grouped;
 mod reads;
 mod superblock;
 
-pub use device::{Block, Stop};
+pub use device::{Block, ReadStop};
 pub use grouped::Grouped;
-pub use reads::{Entry, Pointers, Record, Volume};
-pub use superblock::Sizes;
+pub use reads::{DirectoryEntry, Pointers, ReadVolume, Record};
+pub use superblock::ReadSizes;

@@ -1,8 +1,8 @@
 //! Reads of a volume whose superblock and open segments are right.
 
 use crate::batches::{self, Place};
-use crate::device::{Block, Stop, read};
-use crate::superblock::{self, Sizes};
+use crate::device::{Block, ReadStop, read};
+use crate::superblock::{self, ReadSizes};
 use disk::Disk;
 use fs_layout::inodes::{
     BLOCK_POINTERS, DIRECT_POINTERS, DOUBLE_AT, FILE_KIND, INDIRECT_AT, INODES_AT, MOST_OCTETS,
@@ -22,20 +22,20 @@ const IN_A_BLOCK: u32 = 64;
 
 /// An inode and its slot in the directory.
 #[derive(Clone, Copy)]
-pub struct Entry {
+pub struct DirectoryEntry {
     pub number: u32,
     pub inode: Record,
     pub slot: Record,
 }
 
-impl Display for Entry {
+impl Display for DirectoryEntry {
     /// The file by its name.
     fn fmt<W: fmt::Write>(&self, f: &mut Formatter<W>) -> fmt::Result {
         write!(f, "file {}", self.name().escape_ascii())
     }
 }
 
-impl Entry {
+impl DirectoryEntry {
     /// The kind: 0 is free, 1 a file.
     pub fn kind(&self) -> u32 {
         number32(&self.inode, 0)
@@ -104,7 +104,10 @@ pub struct Pointers {
 
 impl Pointers {
     /// The pointers of a file, whose double-indirect block is one of the volume's.
-    pub fn of<D: Disk>(volume: &mut Volume<D>, entry: &Entry) -> Result<Pointers, Stop> {
+    pub fn of<D: Disk>(
+        volume: &mut ReadVolume<D>,
+        entry: &DirectoryEntry,
+    ) -> Result<Pointers, ReadStop> {
         let mut double = [0; BLOCK];
         if entry.double() != 0 {
             volume.read(entry.double(), 0, &mut double)?;
@@ -130,7 +133,11 @@ impl Pointers {
     }
 
     /// The pointer of this index, counted from 0, whose block of pointers is one of the volume's.
-    pub fn get<D: Disk>(&mut self, volume: &mut Volume<D>, index: u32) -> Result<u32, Stop> {
+    pub fn get<D: Disk>(
+        &mut self,
+        volume: &mut ReadVolume<D>,
+        index: u32,
+    ) -> Result<u32, ReadStop> {
         if index < DIRECT_POINTERS {
             return Ok(number32(&self.inode, POINTERS_AT + 4 * index as usize));
         }
@@ -140,7 +147,7 @@ impl Pointers {
     }
 
     /// Reads a block of pointers, unless it was read last.
-    fn keep<D: Disk>(&mut self, volume: &mut Volume<D>, number: u32) -> Result<(), Stop> {
+    fn keep<D: Disk>(&mut self, volume: &mut ReadVolume<D>, number: u32) -> Result<(), ReadStop> {
         if number != self.number {
             volume.read(number, 0, &mut self.table)?;
             self.number = number;
@@ -151,20 +158,20 @@ impl Pointers {
 
 /// A volume whose superblock and open segments are right.
 #[derive(Drop)]
-pub struct Volume<D> {
+pub struct ReadVolume<D> {
     pub alloc: Global,
-    pub sizes: Sizes,
+    pub sizes: ReadSizes,
     disk: D,
     places: Vec<Place>,
 }
 
-impl<D: Disk + Drop> Volume<D> {
+impl<D: Disk + Drop> ReadVolume<D> {
     /// Looks at the superblock and at the open segments. `Wrong` says what isn't as it must be in a volume, `Unseen`
     /// that a read failed or memory was refused.
-    pub fn open(alloc: Global, mut disk: D) -> Result<Volume<D>, Stop> {
+    pub fn open(alloc: Global, mut disk: D) -> Result<ReadVolume<D>, ReadStop> {
         let sizes = superblock::look(alloc, &mut disk)?;
         let places = batches::look(alloc, &mut disk, sizes)?;
-        Ok(Volume {
+        Ok(ReadVolume {
             alloc,
             sizes,
             disk,
@@ -173,36 +180,36 @@ impl<D: Disk + Drop> Volume<D> {
     }
 }
 
-impl<D: Disk> Volume<D> {
+impl<D: Disk> ReadVolume<D> {
     /// The first block of the data.
     pub fn data_start(&self) -> u32 {
         INODES_AT + 2 * (self.sizes.inodes / IN_A_BLOCK)
     }
 
     /// Fills `into` with the octets of a logical block from a place in it on.
-    fn read(&mut self, block: u32, at: usize, into: &mut [u8]) -> Result<(), Stop> {
+    fn read(&mut self, block: u32, at: usize, into: &mut [u8]) -> Result<(), ReadStop> {
         match self.places.get(block as usize).copied() {
             Some(place) => read(&mut self.disk, place.block, at, into),
-            None => Err(Stop::Unseen),
+            None => Err(ReadStop::Unseen),
         }
     }
 
     /// The octets of a logical block.
-    pub fn block(&mut self, block: u32) -> Result<Block, Stop> {
+    pub fn block(&mut self, block: u32) -> Result<Block, ReadStop> {
         let mut octets = [0; BLOCK];
         self.read(block, 0, &mut octets)?;
         Ok(octets)
     }
 
     /// The inode of this number, and its slot.
-    pub fn entry(&mut self, number: u32) -> Result<Entry, Stop> {
+    pub fn entry(&mut self, number: u32) -> Result<DirectoryEntry, ReadStop> {
         let table = INODES_AT + number / IN_A_BLOCK;
         let at = RECORD_SIZE * (number % IN_A_BLOCK) as usize;
         let mut inode = [0; RECORD_SIZE];
         self.read(table, at, &mut inode)?;
         let mut slot = [0; RECORD_SIZE];
         self.read(table + self.sizes.inodes / IN_A_BLOCK, at, &mut slot)?;
-        Ok(Entry {
+        Ok(DirectoryEntry {
             number,
             inode,
             slot,
@@ -210,7 +217,7 @@ impl<D: Disk> Volume<D> {
     }
 
     /// The first octets of a file: those in its first block.
-    pub fn head(&mut self, entry: &Entry) -> Result<Vec<u8>, Stop> {
+    pub fn head(&mut self, entry: &DirectoryEntry) -> Result<Vec<u8>, ReadStop> {
         let size = entry.size().min(BLOCK as u64) as usize;
         let mut head = vec![in self.alloc; 0; size]?;
         if size > 0 {

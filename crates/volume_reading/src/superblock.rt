@@ -1,6 +1,6 @@
 //! Checks the length of a device and its superblock.
 
-use crate::device::{Block, Stop, read_block};
+use crate::device::{Block, ReadStop, read_block};
 use crate::grouped::Grouped;
 use crate::wrong_unless;
 use disk::Disk;
@@ -28,7 +28,7 @@ const FEWEST_OTHERS: u32 = 2 + 256;
 
 /// What a superblock says: the numbers of logical blocks, segments and inodes, and the format, which is 1 or 2.
 #[derive(Clone, Copy)]
-pub struct Sizes {
+pub struct ReadSizes {
     pub blocks: u32,
     pub segments: u32,
     pub inodes: u32,
@@ -36,7 +36,7 @@ pub struct Sizes {
 }
 
 /// Checks the superblock and the length of a device, and answers the sizes of its volume.
-pub(crate) fn look<D: Disk>(alloc: Global, disk: &mut D) -> Result<Sizes, Stop> {
+pub(crate) fn look<D: Disk>(alloc: Global, disk: &mut D) -> Result<ReadSizes, ReadStop> {
     let octets = Grouped(disk.len());
     wrong_unless!(alloc; disk.len() >= BLOCK as u64, "the file has {octets} octets, fewer than the 4,096 of a superblock");
     let superblock = read_block(disk, 0)?;
@@ -49,7 +49,7 @@ pub(crate) fn look<D: Disk>(alloc: Global, disk: &mut D) -> Result<Sizes, Stop> 
 }
 
 /// Checks what precedes the label.
-fn look_at_front(alloc: Global, superblock: &Block) -> Result<Sizes, Stop> {
+fn look_at_front(alloc: Global, superblock: &Block) -> Result<ReadSizes, ReadStop> {
     wrong_unless!(alloc; superblock[..8] == MAGIC[..], "the superblock doesn't begin with XNNTPFS1");
     let version = number32(superblock, 8);
     wrong_unless!(alloc; version == VERSION, "the superblock is of version {version}, where this program reads version {VERSION}");
@@ -60,7 +60,7 @@ fn look_at_front(alloc: Global, superblock: &Block) -> Result<Sizes, Stop> {
     let segments = number32(superblock, 16);
     wrong_unless!(alloc; segments == ONE_SEGMENT || segments == SEGMENTS,
         "the superblock says {segments} segments, where a volume has {ONE_SEGMENT} or {SEGMENTS}");
-    Ok(Sizes {
+    Ok(ReadSizes {
         blocks,
         segments,
         inodes: number32(superblock, LABEL_AT),
@@ -69,7 +69,7 @@ fn look_at_front(alloc: Global, superblock: &Block) -> Result<Sizes, Stop> {
 }
 
 /// Checks the label, and the octets after its host.
-fn look_at_label(alloc: Global, superblock: &Block, sizes: Sizes) -> Result<(), Stop> {
+fn look_at_label(alloc: Global, superblock: &Block, sizes: ReadSizes) -> Result<(), ReadStop> {
     let inodes = sizes.inodes;
     wrong_unless!(alloc; FEWEST_INODES <= inodes && inodes <= MOST_INODES && inodes % INODES_IN_A_BLOCK == 0,
         "the label says {} inodes, where a volume has a multiple of 64 from 64 to 32,768", Grouped(u64::from(inodes)));
@@ -85,7 +85,7 @@ fn look_at_label(alloc: Global, superblock: &Block, sizes: Sizes) -> Result<(), 
 }
 
 /// Checks the octets after the host, which must be zero, except that the gate of the format may be any octet.
-fn look_at_rest(alloc: Global, superblock: &Block, from: usize) -> Result<(), Stop> {
+fn look_at_rest(alloc: Global, superblock: &Block, from: usize) -> Result<(), ReadStop> {
     for at in from..BLOCK {
         wrong_unless!(alloc; at == FORMAT_AT || superblock[at] == 0, "octet {at} of the superblock isn't zero");
     }

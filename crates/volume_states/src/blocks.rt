@@ -14,7 +14,7 @@ use index::Group;
 use model::Text;
 use reporting::{GroupStatus, Share, VolumeStatus};
 use spool_opening::open;
-use spool_reading::OpenError;
+use spool_reading::ReadSpoolError;
 use std::alloc::{AllocError, Global};
 use volume::Blocks;
 
@@ -27,10 +27,11 @@ pub fn volume_status<B: Blocks>(
     inodes: u32,
     format: u32,
     host: &[u8],
-) -> Result<VolumeStatus, OpenError>
+) -> Result<VolumeStatus, ReadSpoolError>
     requires { HasRoom inodes (B.blocks blocks.now) }
     ensures ok { IfOk result (IsStatusOf format host.now inodes (B.blocks blocks.now)) }
-    ensures damaged { IfErr result (λ e. e ≡ OpenError.Damaged → (S : Spool) → HoldsIn format host.now inodes (B.blocks blocks.now) S → ⊥) }
+    ensures damaged { IfErr result (λ e. e ≡ ReadSpoolError.Damaged → (S : Spool)
+        → HoldsIn format host.now inodes (B.blocks blocks.now) S → ⊥) }
 {
     let index = match open(alloc, blocks, inodes, format, host) {
         Ok(opened) => opened.index,

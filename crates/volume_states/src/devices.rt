@@ -64,8 +64,8 @@ fn state_in<D: Disk>(alloc: Global, journal: &mut Journal<D>) -> Result<VolumeSt
             let _count = volume.len();
             state_over(alloc, &volume, inodes, format, &host)
         }
-        Err(volume::OpenError::Fault) => Err(OpenError::Fault),
-        Err(volume::OpenError::Memory) => Err(OpenError::Memory),
+        Err(volume::LoadError::Fault) => Err(OpenError::Fault),
+        Err(volume::LoadError::Memory) => Err(OpenError::Memory),
     }
 }
 
@@ -84,8 +84,8 @@ fn state_over<B: Blocks>(
 {
     match volume_status(alloc, blocks, inodes, format, host) {
         Ok(status) => Ok(status),
-        Err(spool_reading::OpenError::Memory) => Err(OpenError::Memory),
-        Err(spool_reading::OpenError::Damaged) => Err(OpenError::Damaged),
+        Err(spool_reading::ReadSpoolError::Memory) => Err(OpenError::Memory),
+        Err(spool_reading::ReadSpoolError::Damaged) => Err(OpenError::Damaged),
     }
 }
 

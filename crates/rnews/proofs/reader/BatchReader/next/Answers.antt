@@ -2,7 +2,7 @@ use Rattle.std.proofs.Common.{sym, ◌∙◌, ap, drop}
 use Rattle.std.proofs.lemmas.List.{take_rest}
 use Rattle.rnews.specs.Batch.{next}
 use Rattle.rnews.proofs.Fronts.{next-bound}
-use Rattle.rnews.proofs.reader.Reader.next.Goals as goal
+use Rattle.rnews.proofs.reader.BatchReader.next.Goals as goal
 
 pub returns-in-Ok-None-clause-bound : goal.returns-in-Ok-None-clause-bound
 returns-in-Ok-None-clause-bound c =

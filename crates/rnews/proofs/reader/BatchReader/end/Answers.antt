@@ -1,5 +1,5 @@
 use Rattle.std.proofs.Common.{length, ◌∙◌, ap, arith, length-drop}
-use Rattle.rnews.proofs.reader.Reader.end.Goals as goal
+use Rattle.rnews.proofs.reader.BatchReader.end.Goals as goal
 
 pub returns-then-self-len-clause-ok : goal.returns-then-self-len-clause-ok
 returns-then-self-len-clause-ok c = (
