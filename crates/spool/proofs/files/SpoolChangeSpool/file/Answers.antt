@@ -1,6 +1,6 @@
 use Rattle.model.specs.declared.change.Change.TheVariants.{Article}
 use Rattle.spool.proofs.Sound.{may_follow}
-use Rattle.spool.proofs.files.SpoolFiles.file.Goals as goal
+use Rattle.spool.proofs.files.SpoolChangeSpool.file.Goals as goal
 
 pub add_article-requires : goal.add_article-requires
 add_article-requires c =
