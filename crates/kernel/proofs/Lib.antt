@@ -2,4 +2,3 @@ pub mod KernelLaws
 pub mod TakingLaws
 pub mod ExecLaws
 pub mod AdminLaws
-pub mod Opened
