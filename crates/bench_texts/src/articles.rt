@@ -1,12 +1,9 @@
-//! Measures how the time to read an article grows with its text. `bench_article measure` prints nanoseconds and their
-//! ratios; without a word it does nothing.
-#![tactic(auto)]
+//! How the time to read an article grows with its text.
 
 use anyhow::Result;
 use article::{Article, Origin};
 use std::alloc::{AllocError, Global};
 use std::cmp::min;
-use std::env;
 use std::io::Print;
 use std::time::{Clock, Instant};
 
@@ -20,25 +17,23 @@ const TEXT: usize = 262_144;
 const FIELDS: &[u8] = b"Path: p!not-for-mail\r\nDate: Sun, 09 Sep 2001 01:46:40 +0000\r\n\
       Message-ID: <1@a.example>\r\nFrom: a@example.org\r\nNewsgroups: x.a\r\nSubject: one\r\n";
 
-fn main(rt: HostRuntime) -> Result<()> {
-    if env::args(&rt)?.nth(1).is_some() {
-        measure(
-            &rt,
-            rt.alloc(),
-            "short header lines",
-            (4_096, TEXT),
-            (8_192, TEXT),
-        )?;
-        measure(&rt, rt.alloc(), "long body", (0, TEXT / 2), (0, TEXT))?;
-        measure(
-            &rt,
-            rt.alloc(),
-            "header that is too long",
-            (TEXT / 2, TEXT),
-            (TEXT, TEXT),
-        )?;
-    }
-    Ok(())
+/// Prints the times of three pairs of texts. The second text of each has twice as much of what the pair is named after.
+pub(crate) fn measure<R: Clock + Print>(rt: &R, alloc: Global) -> Result<()> {
+    compare(
+        rt,
+        alloc,
+        "short header lines",
+        (4_096, TEXT),
+        (8_192, TEXT),
+    )?;
+    compare(rt, alloc, "long body", (0, TEXT / 2), (0, TEXT))?;
+    compare(
+        rt,
+        alloc,
+        "header that is too long",
+        (TEXT / 2, TEXT),
+        (TEXT, TEXT),
+    )
 }
 
 /// A text of about `size` octets, about `header` of them in its header, in lines of 6 octets.
@@ -67,8 +62,9 @@ fn reading_time(rt: &impl Clock, alloc: Global, text: &[u8]) -> Result<u128> {
     Ok(fastest)
 }
 
-/// Prints the times of two texts, each with the octets of its header and of the whole text, and their ratio.
-fn measure<R: Clock + Print>(
+/// Prints the nanoseconds that two texts take, each with the octets of its header and of the whole text, and their
+/// ratio.
+fn compare<R: Clock + Print>(
     rt: &R,
     alloc: Global,
     name: &str,

@@ -1,6 +1,6 @@
 use Rattle.std.proofs.Common.{◌≡◌, IfSome}
 use Rattle.model.specs.declared.message.Mode.TheVariants as mode
-use Rattle.bench_text.proofs.read.Given as goal
+use Rattle.bench_texts.proofs.messages.read.Given as goal
 
 -- the reader awaits no message, or a block
 abbrev pub invariant-loop-piece : goal.invariant-loop-piece
