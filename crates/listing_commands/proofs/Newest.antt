@@ -69,8 +69,8 @@ sent S w from (a ∷ filed) plain =
 
       by_new : (b : Bool) → is_plain a
           → flat_map stuffed_line (map line (map id_of now)) ≡ flat_map (λ (a : NewsArticle). line (id a.text)) later
-          → flat_map stuffed_line (map line (map id_of (cond b (as_it_is S a ∷ now) now))) ≡ flat_map (λ (a : NewsArticle). line (id a.text))
-          (cond b (a ∷ later) later)
+          → flat_map stuffed_line (map line (map id_of (cond b (as_it_is S a ∷ now) now)))
+          ≡ flat_map (λ (a : NewsArticle). line (id a.text)) (cond b (a ∷ later) later)
       by_new true one rest = λ i. one i ++ rest i
       by_new false one rest = rest
 

@@ -124,6 +124,7 @@ here_located S o serial is there here =
     rw is (by_gone (is_gone S (article_of S serial)) (here
     ∙ ap (option_and_then (λ a. cond (is_gone S a) (Some (gone_at S a)) None)) there)) where
       by_gone : (b : Bool) → None ≡ cond b (Some (gone_at S (article_of S serial))) None
-          → (cond b None (Some (article_of S serial)) ≡ Some (article_of S serial)) × (serial ≡ cond b (gone_at S (article_of S serial)) serial)
+          → (cond b None (Some (article_of S serial)) ≡ Some (article_of S serial))
+          × (serial ≡ cond b (gone_at S (article_of S serial)) serial)
       by_gone true same = absurd (cc)
       by_gone false same = (refl, refl)

@@ -120,7 +120,8 @@ filter_all : (q p : Octets → Bool) (names : List Octets) → list_all q names 
 filter_all q p [] good = refl
 filter_all q p (x ∷ names) good =
     by_test (p x) (and_parts (q x) (list_all q names) good).0 (filter_all q p names (and_parts (q x) (list_all q names) good).1) where
-      by_test : (b : Bool) → q x ≡ true → list_all q (filter p names) ≡ true → list_all q (cond b (x ∷ filter p names) (filter p names)) ≡ true
+      by_test : (b : Bool) → q x ≡ true → list_all q (filter p names) ≡ true
+          → list_all q (cond b (x ∷ filter p names) (filter p names)) ≡ true
       by_test true first rest = ap (λ (t : Bool). t && list_all q (filter p names)) first ∙ rest
       by_test false first rest = rest
 
@@ -159,7 +160,8 @@ here_from host before (Group h status description moment ∷ cs) n g lawful here
       rest = find (λ (group : NewsGroup). is_name g group.name) (filter_map group_made (entries_from (suc n) cs))
 
       by_name : (b : Bool) → bytes_eq h g ≡ b
-          → is_some (cond b (Some (record { serial = n; name = h; status = status; description = description; moment = moment })) rest) ≡ true
+          → is_some (cond b (Some (record { serial = n; name = h; status = status; description = description; moment = moment })) rest)
+          ≡ true
           → (is_some rest ≡ true → is_group_name g ≡ true) → is_group_name g ≡ true
       by_name true is found later = ap is_group_name (sym ((bytes_eq-Decides h g).0 is)) ∙ lawful.0.is_name
       by_name false is found later = later found

@@ -191,7 +191,8 @@ fn give_front(
 ) -> bool
     requires few { vec_len octets.old ≤ 65_536 }
     requires room { 65_536 ≤ vec_capacity octets.old }
-    ensures gives { IsGiven (give durable (65_536 - length octets.old.items) given.old outputs.old.items) result given.new outputs.new.items octets.old.items octets.new.items }
+    ensures gives { IsGiven (give durable (65_536 - length octets.old.items) given.old outputs.old.items) result given.new
+        outputs.new.items octets.old.items octets.new.items }
     ensures bound { vec_len octets.new ≤ 65_536 }
     ensures room { 65_536 ≤ vec_capacity octets.new }
     ensures capacity { deque_capacity outputs.new ≡ deque_capacity outputs.old }

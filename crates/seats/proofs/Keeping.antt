@@ -85,7 +85,8 @@ module _ (host : Octets) where
   AreReplies-more S more session before from [] last h = h
   AreReplies-more S more session before from (held ∷ rest) last h =
       let o : Origin = h.0 in
-      let later = AreReplies-more S more (answer_at host S o).next held.dependency (o.position + length (made_at host S o)) rest last h.4 in (
+      let later =
+      AreReplies-more S more (answer_at host S o).next held.dependency (o.position + length (made_at host S o)) rest last h.4 in (
         o,
         IsReply-more S more before 0 o held h.1,
         h.2,

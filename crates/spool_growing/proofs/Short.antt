@@ -22,7 +22,8 @@ here_from host before (Group h status description moment ∷ cs) n g lawful here
       rest = find (λ (group : NewsGroup). is_name g group.name) (filter_map group_made (entries_from (suc n) cs))
 
       by_name : (b : Bool) → bytes_eq h g ≡ b
-          → is_some (cond b (Some (record { serial = n; name = h; status = status; description = description; moment = moment })) rest) ≡ true
+          → is_some (cond b (Some (record { serial = n; name = h; status = status; description = description; moment = moment })) rest)
+          ≡ true
           → (is_some rest ≡ true → is_group_name g ≡ true) → is_group_name g ≡ true
       by_name true is found later = ap is_group_name (sym ((bytes_eq-Decides h g).0 is)) ∙ lawful.0.is_name
       by_name false is found later = later found

@@ -71,7 +71,8 @@ fn give_block<D: Disk>(
     requires below { start + 4096 ≤ 2 ^ 64 }
     requires fits { (i : ℕ) → i < 4096 → slice_index flags.now i ≡ 1 → start + i < (D.device disk.old).size }
     ensures size { (D.device disk.new).size ≡ (D.device disk.old).size }
-    ensures makes { Makes D.device (writes_of (runs_from start (places (cell flags.now octets.now) (length flags.now)))) result disk.old disk.new }
+    ensures makes { Makes D.device (writes_of (runs_from start (places (cell flags.now octets.now) (length flags.now)))) result
+        disk.old disk.new }
     ensures memory { IfErr result (λ error. error ≡ DiskError.Memory → IsTrue D.write_grows) }
 {
     let mut from = 0;

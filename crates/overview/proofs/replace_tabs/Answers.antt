@@ -1,4 +1,5 @@
-use Rattle.std.proofs.Common.{add-one, ◌≡◌, ◌==◌, ◌++◌, ◌∷◌, ◌+◌, ◌<◌, ◌∙◌, if◌then◌else◌, ℕ, zero, suc, List, [], length, map, take, drop, get_or, ap, refl, sym, arith}
+use Rattle.std.proofs.Common.{add-one, ◌≡◌, ◌==◌, ◌++◌, ◌∷◌, ◌+◌, ◌<◌, ◌∙◌, if◌then◌else◌, ap, refl, sym, arith}
+use Rattle.std.proofs.Common.{ℕ, zero, suc, List, [], length, map, take, drop, get_or}
 use Rattle.std.proofs.Math.ListN.{set}
 use Rattle.std.proofs.lemmas.Bool.{cond-false, eqb-true, false_from_ne_true}
 use Rattle.overview.proofs.replace_tabs.Goals as goal

@@ -16,8 +16,10 @@ returns c =
     let first = c.in_ok-push_two.ensures in
     let second = c.in_ok-push_two-2.ensures ∙ ap (λ l. l ++ two_digits date.year) first
     ∙ append_assoc before (two_digits (date.year / 100)) (two_digits date.year) in
-    let third = c.in_ok-push_two-3.ensures ∙ ap (λ l. l ++ two_digits date.month) second ∙ append_assoc before to_year (two_digits date.month) in
-    let fourth = c.in_ok-push_two-4.ensures ∙ ap (λ l. l ++ two_digits date.day) third ∙ append_assoc before to_month (two_digits date.day) in
+    let third = c.in_ok-push_two-3.ensures ∙ ap (λ l. l ++ two_digits date.month) second
+    ∙ append_assoc before to_year (two_digits date.month) in
+    let fourth = c.in_ok-push_two-4.ensures ∙ ap (λ l. l ++ two_digits date.day) third
+    ∙ append_assoc before to_month (two_digits date.day) in
     let fifth = c.in_ok-push_two-5.ensures ∙ ap (λ l. l ++ two_digits (hour_at moment)) fourth
     ∙ append_assoc before to_day (two_digits (hour_at moment)) in
     let sixth = c.in_ok-push_two-6.ensures ∙ ap (λ l. l ++ two_digits (minute_at moment)) fifth

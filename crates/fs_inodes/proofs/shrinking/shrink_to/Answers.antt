@@ -84,7 +84,8 @@ loop-left-init g c =
     let old = g.B.Blocks.blocks c.args.blocks.now in
     let e : Entry = entry c.args.inodes old c.args.at in
     let sized : c.number64.result ≡ size e = c.number64.ensures ∙ ap (λ (o : List ℕ). number_at 4 8 o) c.get_record.ensures in
-    let counted : c.content_blocks-left.result ≡ block_count e = c.content_blocks-left.ensures ∙ ap (λ (n : ℕ). (n + 4095) / 4096) sized in (
+    let counted : c.content_blocks-left.result ≡ block_count e =
+    c.content_blocks-left.ensures ∙ ap (λ (n : ℕ). (n + 4095) / 4096) sized in (
       none c.args.inodes c.args.at c.args.end c.content_blocks-keep.result old c.requires.room c.requires.rule c.requires.below
           c.requires.file c.requires.shorter c.content_blocks-keep.ensures c.content_blocks-left.result counted,
       refl,

@@ -29,5 +29,5 @@ returns-in_ok-refusal-in-Err-Bad g c =
 
 pub taken-requires-clause-cause : goal.taken-requires-clause-cause
 taken-requires-clause-cause g c =
-    subst (λ (p : List ℕ × List ℕ). cause (Posted p.0 (c.len-serial.result + 1)) p.1 ≡ None) (λ i. (c.host-host.ensures i, sym c.in-Ok.ensures.ok i))
-    c.in-Ok.ensures.no_cause
+    subst (λ (p : List ℕ × List ℕ). cause (Posted p.0 (c.len-serial.result + 1)) p.1 ≡ None)
+    (λ i. (c.host-host.ensures i, sym c.in-Ok.ensures.ok i)) c.in-Ok.ensures.no_cause

@@ -42,4 +42,5 @@ injected-requires-clause-cause g c =
     subst (λ (h : List ℕ). cause (Posted h c.args.serial) c.args.article ≡ None) (sym c.host.ensures) c.requires.cause
 
 pub injected-requires-clause-host : goal.injected-requires-clause-host
-injected-requires-clause-host g c = subst (λ (h : List ℕ). IsTrue (is_host h)) (sym c.host.ensures) (g.met.L.LookUps.good_host c.args.spool.now)
+injected-requires-clause-host g c =
+    subst (λ (h : List ℕ). IsTrue (is_host h)) (sym c.host.ensures) (g.met.L.LookUps.good_host c.args.spool.now)

@@ -16,7 +16,8 @@ returns g c =
     let some : 1 ≤ low = omega (arith, c.requires.low) in
     let sent = number_lines c.numbers_in-numbers.result.first (c.numbers_in-numbers.result.last + 1 - c.numbers_in-numbers.result.first) in
     let same : sent ≡ number_lines (first_in range low) (last_in range.last high + 1 - first_in range low) =
-    (λ i. number_lines (c.numbers_in-numbers.ensures.first i) (c.numbers_in-numbers.ensures.last i + 1 - c.numbers_in-numbers.ensures.first i)) in
+    (λ i. number_lines (c.numbers_in-numbers.ensures.first i)
+    (c.numbers_in-numbers.ensures.last i + 1 - c.numbers_in-numbers.ensures.first i)) in
     let items = c.in_ok-push_end.ensures
     ∙ ap (λ os. os ++ dot_line) (c.in_ok-push_numbers.ensures
     ∙ ap (λ os. os ++ sent) (c.in_ok-push_line.ensures

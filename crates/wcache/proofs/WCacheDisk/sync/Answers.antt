@@ -94,8 +94,9 @@ pub invariant_of-self-in-Err-Fault : goal.invariant_of-self-in-Err-Fault
 invariant_of-self-in-Err-Fault g c =
     record {
       size = (sync_given g.row.D.Denot g.D.Disk.device
-          (sized g.row.D.Denot g.D.Disk.device g.met.D.Disk.image_size g.met.D.Disk.counts_content) c.self.inside.disk c.give_and_sync.new.disk
-          (places (taken c.self.inside.collected) c.self.inside.len) (let n = length-places (taken c.self.inside.collected) c.self.inside.len in
+          (sized g.row.D.Denot g.D.Disk.device g.met.D.Disk.image_size g.met.D.Disk.counts_content) c.self.inside.disk
+          c.give_and_sync.new.disk (places (taken c.self.inside.collected) c.self.inside.len)
+          (let n = length-places (taken c.self.inside.collected) c.self.inside.len in
           omega (arith, n, c.self.invariant.size)) (Err c.in-Err-Fault.field-0)
           (c.in-Err-Fault.ensures.makes c.self.inside.len c.self.invariant.past)).time.size ∙ c.self.invariant.size;
       past = c.self.invariant.past;
@@ -132,8 +133,9 @@ pub invariant_of-self-in-Err-Memory : goal.invariant_of-self-in-Err-Memory
 invariant_of-self-in-Err-Memory g c =
     record {
       size = (sync_given g.row.D.Denot g.D.Disk.device
-          (sized g.row.D.Denot g.D.Disk.device g.met.D.Disk.image_size g.met.D.Disk.counts_content) c.self.inside.disk c.give_and_sync.new.disk
-          (places (taken c.self.inside.collected) c.self.inside.len) (let n = length-places (taken c.self.inside.collected) c.self.inside.len in
+          (sized g.row.D.Denot g.D.Disk.device g.met.D.Disk.image_size g.met.D.Disk.counts_content) c.self.inside.disk
+          c.give_and_sync.new.disk (places (taken c.self.inside.collected) c.self.inside.len)
+          (let n = length-places (taken c.self.inside.collected) c.self.inside.len in
           omega (arith, n, c.self.invariant.size)) (Err c.in-Err-Memory.field-0)
           (c.in-Err-Memory.ensures.makes c.self.inside.len c.self.invariant.past)).time.size ∙ c.self.invariant.size;
       past = c.self.invariant.past;

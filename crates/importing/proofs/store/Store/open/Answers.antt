@@ -21,13 +21,13 @@ returns-in-Err-open_spool-clause-damaged g c damaged tells =
 pub invariant_of-result : goal.invariant_of-result
 invariant_of-result g c =
     subst (λ (n : ℕ). IsTied g.D.Disk.device c.open_spool.new.journal c.in-Ok-open_spool.spool n) (sym c.len.ensures)
-    (tied_opened g.D.Disk.device c.in-Ok-open.journal c.open_spool.new.journal c.in-Ok-open_spool.spool c.in-Ok-open_spool.ensures.ok c.open_spool.ensures.reads
-    c.in-Ok-open_spool.ensures.format)
+    (tied_opened g.D.Disk.device c.in-Ok-open.journal c.open_spool.new.journal c.in-Ok-open_spool.spool c.in-Ok-open_spool.ensures.ok
+    c.open_spool.ensures.reads c.in-Ok-open_spool.ensures.format)
 
 pub returns-in-Ok-open_spool-clause-ok : goal.returns-in-Ok-open_spool-clause-ok
 returns-in-Ok-open_spool-clause-ok g c =
     subst (λ (n : ℕ). IsOpened g.D.Disk.device c.args.disk
     (record { journal = c.open_spool.new.journal; spool = c.in-Ok-open_spool.spool; durable = n })) (sym c.len.ensures)
-    (opened g.D.Disk.device c.in-Ok-open.journal c.open_spool.new.journal c.in-Ok-open_spool.spool c.in-Ok-open_spool.ensures.ok c.open_spool.ensures.reads
-    c.in-Ok-open_spool.ensures.format c.args.disk c.in-Ok-open.ensures.ok c.in-Ok-open_spool.ensures.ready c.is_idle-idle.ensures.now
-    c.in-Ok-open_spool.ensures.still.failures)
+    (opened g.D.Disk.device c.in-Ok-open.journal c.open_spool.new.journal c.in-Ok-open_spool.spool c.in-Ok-open_spool.ensures.ok
+    c.open_spool.ensures.reads c.in-Ok-open_spool.ensures.format c.args.disk c.in-Ok-open.ensures.ok c.in-Ok-open_spool.ensures.ready
+    c.is_idle-idle.ensures.now c.in-Ok-open_spool.ensures.still.failures)
