@@ -59,8 +59,8 @@ pub struct Export<'a> {
 }
 
 /// Reads the words, the first of which is the program's name. If they are not understood, the parser's text goes to
-/// `faults`; help and the version go to `output`. `Bad` if a word is outside its grammar or range, `Memory` if a growth
-/// was refused.
+/// `faults`; help and the version go to `output`. `Bad` if a word is outside its grammar or range, `Memory` if an
+/// allocation was refused.
 pub fn read_words<'a, S: AsStr, W: Write, F: Write>(
     alloc: Global,
     words: &'a [S],

@@ -24,7 +24,7 @@ pub record Device : Type 1 where
   pub syncs : ℕ
   pub failures : ℕ
 
--- one more, as a u64 counts
+-- one more, as a u64 that wraps
 abbrev pub one_more : ℕ → ℕ
 one_more n = (n + 1) % 2 ^ 64
 
@@ -54,11 +54,12 @@ pub record Elapses (old new : Device) : Type 0 where
 abbrev pub LeftNoMore : Device → Device → Type 0
 LeftNoMore old new = (t : ℕ) (c : List ℕ) → t ≤ old.clock → new.left_since t c → old.left_since t c
 
--- or, during or after a write, an image torn where the write went
+-- a crash since an earlier time might have left only what it might have left before or, during or after a write, an
+-- image torn where the write went
 abbrev pub LeftTornAt : ℕ → ℕ → Device → Device → Type 0
 LeftTornAt at n old new = (t : ℕ) (c : List ℕ) → t ≤ old.clock → new.left_since t c → old.left_since t c ⊎ IsTornImage at n old c
 
--- the count of failures stays at `Ok` and changes at a fault
+-- `Ok` leaves the count of failures as it was, and a fault changes it
 pub record HasCause {T : Type 0} (result : Result T DiskError) (old new : Device) : Type 0 where
   pub ok : OnOk result (new.failures ≡ old.failures)
   pub fault : IfErr result (λ error. error ≡ Fault → new.failures ≢ old.failures)

@@ -12,7 +12,7 @@ ghost use Rattle.disk.specs.Image.{part, overwritten};
 pub enum DiskError {
     /// The device failed in this call.
     Fault,
-    /// A growth was refused in this call, and the call had no effect.
+    /// An allocation was refused in this call, and the call had no effect.
     Memory,
 }
 
@@ -55,7 +55,8 @@ pub trait Disk {
         ensures no_memory { IfErr result (λ error. error ≡ DiskError.Fault) };
 
     /// Writes the octets from `at` on. The range must lie within the device. Until a good sync, a crash may leave any
-    /// octets there, even after a fault. `Memory` comes only from a device whose writes grow, and has no effect.
+    /// octets there, even after a fault. `Memory` comes only from a device whose writes take memory; then the call had
+    /// no effect.
     fn write(&mut self, at: u64, from: &[u8]) -> Result<(), DiskError>
         requires { at + length from.now ≤ (device self.old).size }
         ensures content { IsTrue (device self.old).tells
@@ -69,7 +70,7 @@ pub trait Disk {
         ensures memory { IfErr result (λ error. error ≡ DiskError.Memory → IsTrue write_grows) };
 
     /// Makes the content durable: after `Ok` a crash leaves exactly what a read gives. `Fault` makes nothing durable.
-    /// `Memory` comes only from a device whose syncs grow, and has no effect.
+    /// `Memory` comes only from a device whose syncs take memory; then the call had no effect.
     fn sync(&mut self) -> Result<(), DiskError>
         ensures durable { IsTrue (device self.old).tells → OnOk result (LeavesOnly (device self.new) (device self.old).content) }
         ensures content { IsTrue (device self.old).tells → OnOk result ((device self.new).content ≡ (device self.old).content) }

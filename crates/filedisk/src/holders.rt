@@ -39,7 +39,8 @@ impl Node {
     }
 }
 
-/// The process that holds the lock of the file at `path`, if the system tells.
+/// The number of the process that holds the lock of the file at `path`. `None` if there is none, or the system doesn't
+/// tell.
 pub fn holder<R: Files<File = File>>(rt: &R, alloc: Global, path: &str) -> Option<u32> {
     let metadata = fs::metadata(rt, path).ok()?;
     let mut locks = String::new(alloc);
@@ -47,13 +48,13 @@ pub fn holder<R: Files<File = File>>(rt: &R, alloc: Global, path: &str) -> Optio
     holder_in(locks.as_str(), Node::new(metadata.dev(), metadata.ino()))
 }
 
-/// The process that holds the lock of this file, by a list of locks.
+/// The process that holds the lock of this file, according to a list of locks.
 pub(crate) fn holder_in(locks: &str, node: Node) -> Option<u32> {
     locks.lines().find_map(|line| holder_by(line, node))
 }
 
-/// The process of a line, if it holds the lock of this file. A process that waits for a lock has an arrow behind the
-/// line's number, and one that isn't seen from here has the number 0.
+/// The process of a line, if it holds the lock of this file. A waiting process has an arrow after the line's number. A
+/// process that isn't visible from here has the number 0.
 fn holder_by(line: &str, node: Node) -> Option<u32> {
     let mut words = line.split_ascii_whitespace();
     if words.nth(1)? != "FLOCK" {

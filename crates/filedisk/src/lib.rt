@@ -34,8 +34,9 @@ impl FileDisk {
 
     /// Opens the file at `path` as a device of `len` octets, and makes the file if there is none. Sets its length to
     /// `len`, and makes the file and its directory entry durable. The file is locked as in `open_existing`. `Missing`
-    /// if its directory isn't there, `Refused` if the system doesn't open it, `Held` if it is locked; then a file there
-    /// is as it was. `Failed` if a later call fails.
+    /// if its directory isn't there, `Refused` if the system doesn't open the file, `Held` if the file is locked. Each
+    /// of these leaves an existing file as it was. `Failed` if a later call fails; then the file may be new, or have
+    /// the new length.
     pub fn open<R: Files<File = File>>(rt: &R, path: &str, len: u64) -> Result<FileDisk, FileError>
         ensures size { IfOk result (λ f. (file_device f).size ≡ len) }
         ensures calls { IfOk result (λ f. ((file_device f).reads ≡ 0) × ((file_device f).writes ≡ 0) × ((file_device f).syncs ≡ 0)) }
@@ -47,9 +48,10 @@ impl FileDisk {
         }
     }
 
-    /// Opens the existing file at `path` as a device of the file's own length. It is locked until the device is
-    /// dropped, so that two servers never share it. `Missing` if there is none, `Refused` if it cannot be opened for
-    /// reading and writing, `Held` if it is locked, `Failed` if a later call fails; then it is as it was.
+    /// Opens the existing file at `path` as a device of the file's own length. The file is locked until the device is
+    /// dropped, so that two servers never share it. `Missing` if there is no such file, `Refused` if the file cannot be
+    /// opened for reading and writing, `Held` if it is locked, `Failed` if a later call fails. Each refusal leaves the
+    /// file as it was.
     pub fn open_existing<R: Files<File = File>>(rt: &R, path: &str) -> Result<FileDisk, FileError>
         ensures calls { IfOk result (λ f. ((file_device f).reads ≡ 0) × ((file_device f).writes ≡ 0) × ((file_device f).syncs ≡ 0)) }
         ensures failures { IfOk result (λ f. (file_device f).failures ≡ 0) }
@@ -103,7 +105,7 @@ fn make_durable<R: Files<File = File>>(
     sync_directory(rt, path)
 }
 
-// Its length is read under the lock: from then on no other process changes it.
+// The length is read under the lock, after which no other server changes the file.
 fn find_file<R: Files<File = File>>(rt: &R, path: &str) -> Result<(File, u64), FileError> {
     let mut options = OpenOptions::new();
     let file = match options.read(true).write(true).open(rt, path) {

@@ -87,8 +87,8 @@ impl Reader {
         Ok(())
     }
 
-    /// The next message, if its end has arrived. After `None` the next call must be in the same mode. It is refused
-    /// only for want of memory; then nothing changes.
+    /// The next message, if its end has arrived. After `None` the next call must be in the same mode. Refused only for
+    /// want of memory; then nothing changes.
     pub fn next(&mut self, mode: Mode) -> Result<Option<Message>, AllocError>
         requires { IfSome self.old.awaits (λ awaited. awaited ≡ mode) }
         ensures message { IfOk result (λ found. IfSome found (λ message. next mode self.old.rest ≡ Some (message, self.new.rest))) }
@@ -262,7 +262,7 @@ fn block_message(alloc: Global, front: &[u8]) -> Result<Message, AllocError>
 }
 
 /// Removes the octets that were handed out once they are more than half of all, so that each octet is moved at most
-/// once on average. It answers how many of the octets handed out are still in memory.
+/// once on average. Answers how many of the octets handed out are still in memory.
 fn forget_read(octets: &mut Vec<u8>, read: usize) -> usize
     requires { read ≤ vec_len octets.old }
     ensures rest { drop result octets.new.items ≡ drop read octets.old.items }

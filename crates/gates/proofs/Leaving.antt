@@ -38,7 +38,7 @@ same_octet at octet image low is =
 torn_nowhere : (device : Device) (c : List ℕ) → IsTornAtGates device c c
 torn_nowhere device c = record { size = refl; others = λ k other. refl; octets = λ k. inl refl }
 
--- one gate more
+-- one more gate
 torn_once_more : (device : Device) (at : ℕ) (a b c : List ℕ) → IsGate device at → IsTornAtGates device a b → Torn at 1 b c
     → IsTornAtGates device a c
 torn_once_more device at a b c gate so_far torn = record {

@@ -12,7 +12,7 @@ use Rattle.grammar.specs.declared.lines.Arguments.{Arguments}
 use Rattle.grammar.specs.declared.lines.Arguments.TheVariants as arguments
 use Rattle.grammar.specs.Words.{Says, words_of}
 
--- too many words are as good as five
+-- too many words count as five
 five_words : (keyword : commands.Keyword) (a b c d e : List ℕ) (more : List (List ℕ)) → command_of keyword (a ∷ b ∷ c ∷ d ∷ e ∷ more) ≡ None
 five_words commands.article a b c d e more = refl
 five_words commands.body a b c d e more = refl
@@ -51,7 +51,7 @@ module _ (line : List ℕ) where
   abbrev clean : Bool
   clean = list_all (λ c. is_blank c || is_visible c) line
 
-  -- a line with a blank in front is unknown
+  -- a line that begins with a blank is unknown
   pub line-blank : true ≡ begins is_blank line → parsed.Unknown ≡ parsed_line line
   unfolding parsed_line
   line-blank blank = sym (cond-true (begins is_blank line) parsed.Unknown (parsed_words clean (words line)) (sym blank))

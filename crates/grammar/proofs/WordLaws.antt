@@ -1,4 +1,4 @@
--- The words of a line, from its front.
+-- The words of a line, from its start.
 use Rattle.std.specs.Prelude.{◌≡◌, ℕ, zero, suc, ◌<◌, true, false, nat_lt, List, [], ◌∷◌, length, take, drop, get_or, filter, Option, Some}
 use Rattle.std.specs.Prelude.{None, unwrap_or}
 use Rattle.std.specs.List.{slice_split}
@@ -17,11 +17,11 @@ use Rattle.names.proofs.PartLaws.{cut_at, uncut}
 abbrev filled : List (List ℕ) → List (List ℕ)
 filled parts = filter (λ word. nat_lt 0 (length word)) parts
 
--- a blank in front changes nothing
+-- a blank at the start changes nothing
 pub words-blank : (x : ℕ) (line : List ℕ) → is_blank x ≡ true → words (x ∷ line) ≡ words line
 words-blank x line is = ap filled (slice_split-cons_yes is_blank x line is)
 
--- nor do the blanks in front of the first octet that is none
+-- nor do the blanks before the first octet that is not blank
 pub words-skipped : (line : List ℕ) (at : ℕ) → at < length line → Nowhere (Passes (not_in blanks) line) 0 at
     → words (drop at line) ≡ words line
 words-skipped [] at within before = absurd (omega arith)

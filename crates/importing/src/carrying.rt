@@ -8,8 +8,8 @@ ghost use Rattle.importing.specs.Saved.{Carries, IsSameVolume, LeavesOneOf};
 use disk::Disk;
 use journal::{Journal, JournalError};
 
-/// Makes the device calls of the batch that has begun, to its end. `Fault` if the device failed, `Memory` if a growth of
-/// it was refused. A crash at any moment leaves the blocks without the batch or those with it.
+/// Makes the device calls of the batch that has begun, to its end. `Fault` if the device failed, `Memory` if an
+/// allocation was refused to it. A crash at any moment leaves the blocks without the batch or those with it.
 pub(crate) fn carry<D: Disk>(journal: &mut Journal<D>) -> Result<(), JournalError>
     requires running { journal.old.halted ≡ false }
     requires next { journal.old.next ≡ Next.Descriptor }

@@ -137,9 +137,9 @@ impl<D: Disk> Store<D> {
         file_text(alloc, &mut self.spool, &text, moment)
     }
 
-    /// Makes all changes durable, by one batch. `Fault` (E1) if the device fails, and `Memory` (E2) if a growth of it is
-    /// refused; then the changes may be durable or not, and later calls answer `Halted` (E4). A crash at any moment
-    /// leaves the changes that were durable, or all.
+    /// Makes all changes durable, by one batch. `Fault` (E1) if the device fails, and `Memory` (E2) if an allocation is
+    /// refused to it; then the changes may be durable or not, and later calls answer `Halted` (E4). A crash at any
+    /// moment leaves the changes that were durable, or all.
     pub fn commit(&mut self) -> Result<(), JournalError>
         ensures ok { OnOk result (IsSaved D.device self.new) }
         ensures spool { self.new.spool ≡ record self.old.spool { dirty = self.new.spool.dirty } }

@@ -15,7 +15,7 @@ use spool::Spool;
 use volume::BatchBuf;
 
 /// Makes the dirty blocks of a spool durable, as one batch; then none is dirty. `Fault` if the device failed, `Memory`
-/// if a growth of it was refused; after either the journal can begin no batch. A crash at any moment leaves the
+/// if an allocation was refused to it; after either the journal can begin no batch. A crash at any moment leaves the
 /// journal's blocks or the spool's.
 pub(crate) fn write<D: Disk>(
     journal: &mut Journal<D>,

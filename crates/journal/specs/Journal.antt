@@ -129,7 +129,7 @@ pub record CountsFailures {T : Type 0} (result : Result T JournalError) (old new
   pub ok : OnOk result (new.failures ≡ old.failures)
   pub fault : IfErr result (λ error. error ≡ Fault → new.failures ≢ old.failures)
 
--- why a run of calls stopped: the device failed, or a growth of it was refused
+-- why a run of calls stopped: the device failed, or an allocation was refused to it
 abbrev pub IsCaused : JournalError → Device → Device → Type 0
 IsCaused error old new = ((error ≡ Fault) × (new.failures ≢ old.failures)) ⊎ ((error ≡ Memory) × (new.failures ≡ old.failures))
 

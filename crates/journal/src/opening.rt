@@ -23,7 +23,7 @@ impl<D: Disk> Journal<D> {
     /// rising batch number and their gates are closed, as in the second half of a batch. All the memory that the
     /// journal needs is taken here, before the first call.
     ///
-    /// `Fault` if the device failed in this call; `Memory` if this memory or a growth of the device was refused.
+    /// `Fault` if the device failed in this call; `Memory` if an allocation was refused, here or to the device.
     /// `NotAVolume` if the length, the superblock or an open segment's descriptor is not valid, or two open segments
     /// share a batch number. Each refusal returns the device, which may be opened again as it is. A crash at any moment
     /// leaves the logical blocks of an image that a crash at the start might have left. From the first good sync on

@@ -7,7 +7,7 @@ use Rattle.segment_laws.proofs.Carrying.{laid_next}
 use Rattle.segment_laws.proofs.Laying.{all_append, length-all}
 use Rattle.journal_segments.specs.Staged.{Staged, held_as, none_staged, staged_at}
 
--- one image more, of this block or of another
+-- one more image, of this block or of another
 module _ (numbers : List ℕ) (images blocks : List (List ℕ)) (i k : ℕ) (within : i < length numbers)
     (full : length images ≡ length numbers) where
   laid_here : get_or numbers i 0 ≡ k → k < length blocks
@@ -47,7 +47,7 @@ images_put numbers images blocks i is full =
     ap (λ (l : List ℕ). laid_over blocks l (take i images)) (take_all i numbers (omega (arith, is)))
     ∙ ap (λ (l : List (List ℕ)). laid_over blocks numbers l) (take_all i images (omega (arith, is, full)))
 
--- one batch more
+-- one more batch
 pub batch_put : (room : List Staged) (j : ℕ) → j < length room → (blocks : List (List ℕ))
     → all_laid_over blocks (batches_of (map held_as (take (j + 1) room)))
     ≡ laid_over (all_laid_over blocks (batches_of (map held_as (take j room)))) (staged_at room j).numbers (staged_at room j).images

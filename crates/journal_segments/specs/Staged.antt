@@ -11,14 +11,14 @@ pub record Staged : Type 0 where
   pub numbers : List ℕ
   pub images : List (List ℕ)
 
--- the batch that it holds
+-- the batch that a segment in memory holds, with the segment's place
 abbrev pub held_as : Staged → Held
 held_as s = record {
   place = s.place;
   batch = record { number = number_at 0 8 s.descriptor; last = number_at 8 8 s.descriptor; numbers = s.numbers; images = s.images };
 }
 
--- the number of that batch
+-- the number of the batch of a segment in memory
 abbrev pub number_of : Staged → ℕ
 number_of s = number_at 0 8 s.descriptor
 
@@ -27,7 +27,7 @@ abbrev pub put_staged : Staged → List Staged → List Staged
 put_staged s [] = s ∷ []
 put_staged s (other ∷ others) = if nat_lt (number_of s) (number_of other) then s ∷ put_staged other others else other ∷ put_staged s others
 
--- one in a list of them, by its index
+-- a segment in a list, by its index
 abbrev pub none_staged : Staged
 none_staged = record { place = 0; descriptor = []; numbers = []; images = [] }
 
@@ -42,7 +42,7 @@ pub record IsSound (blocks : ℕ) (batch : Batch) : Type 0 where
   pub images : length batch.images ≡ length batch.numbers
   pub whole : (i : ℕ) → i < length batch.images → length (slice_index_or batch.images i []) ≡ 4096
 
--- and its descriptor block describes it
+-- a segment in memory holds a sound batch, and its descriptor block describes the batch
 pub record IsStaged (blocks : ℕ) (s : Staged) : Type 0 where
   pub size : length s.descriptor ≡ 4096
   pub count : number_at 16 4 s.descriptor ≡ length s.numbers
@@ -51,6 +51,6 @@ pub record IsStaged (blocks : ℕ) (s : Staged) : Type 0 where
   pub distinct : AreDistinct s.numbers
   pub sound : IsSound blocks (held_as s).batch
 
--- the first i of them, followed by the one after the first n inserted among the rest of these n
+-- the first i segments, followed by the rest of the first n with the next segment inserted
 abbrev pub put_from : List Staged → ℕ → ℕ → List Staged
 put_from room n i = take i room ++ put_staged (staged_at room n) (drop i (take n room))

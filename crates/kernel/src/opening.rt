@@ -43,8 +43,8 @@ impl Kernel {
     /// the upgrade's sync was refused.
     ///
     /// `NotAVolume` (E3) if the label is not valid, `Fault` (E1) if the device fails, `Damaged` (E5) if the blocks hold
-    /// no lawful spool of the label's host in the files of the volume's format, and `Memory` (E2) if a growth was
-    /// refused. Nothing is written if the answer is E3 or E5.
+    /// no lawful spool of the label's host in the files of the volume's format, and `Memory` (E2) if an
+    /// allocation was refused. Nothing is written if the answer is E3 or E5.
     pub fn open<D: Disk>(alloc: Global, journal: &mut Journal<D>) -> Result<Kernel, OpenError>
         requires idle { IsIdle journal.old }
         requires running { journal.old.halted ≡ false }

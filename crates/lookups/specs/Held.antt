@@ -46,11 +46,11 @@ article_with S (suc k) = option_and_then article_filed (slice_get (entries S) k)
 abbrev pub text_of : Spool → ℕ → Octets
 text_of S n = unwrap_or (option_map (λ a. a.text) (article_with S n)) []
 
--- the groups that it is in
+-- the groups that the article with this serial is in
 abbrev pub groups_now : Spool → ℕ → List Octets
 groups_now S n = unwrap_or (option_map (λ a. (as_it_is S a).groups) (article_with S n)) []
 
--- the serial of the expiry that removed it from its last group, if it is gone
+-- the serial of the expiry that removed the article with this serial from its last group, if it is gone
 abbrev pub gone_with : Spool → ℕ → Option ℕ
 gone_with S n = option_and_then (λ a. if is_gone S a then Some (gone_at S a) else None) (article_with S n)
 
@@ -65,7 +65,7 @@ sent_part part.Nothing text = []
 abbrev pub filed_between : Spool → Octets → ℕ → ℕ → List (ℕ × NewsArticle)
 filed_between S g from to = enumerate_from from (take (to + 1 - from) (drop (from - 1) (filed_in S g)))
 
--- their overview lines, each with its CRLF
+-- the overview lines of these articles, each with its CRLF
 abbrev pub overviews_between : Spool → Octets → ℕ → ℕ → Octets
 overviews_between S g from to = flat_map (λ p. line (overview_line p.0 p.1.text)) (filed_between S g from to)
 

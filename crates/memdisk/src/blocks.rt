@@ -90,7 +90,7 @@ fn block_end(start: usize, len: usize) -> usize
     start + BLOCK.min(len - start)
 }
 
-/// Makes the octets of each marked block synced.
+/// Makes the present octets of each marked block the synced ones, with none touched.
 pub fn sync_marked(synced: &mut Vec<u8>, touched: &mut Vec<bool>, present: &[u8], marks: &Marks)
     requires { IsSound synced.old.items present.now touched.old.items marks.now.blocks.items }
     ensures synced { synced.new.items ≡ present.now }

@@ -144,9 +144,9 @@ impl MemDisk {
         (self.writes, self.syncs)
     }
 
-    /// Crashes the device. The k-th touched octet, counted from 0 in rising place, becomes what `picks[k %
-    /// picks.len()]` says, or `Old` if there are no picks. The result counts as synced. A pending failure stays
-    /// pending.
+    /// Crashes the device. The touched octets are counted from 0, in the order of their places. The k-th becomes what
+    /// `picks[k % picks.len()]` says, or `Old` if there are no picks. The result counts as synced. A pending failure
+    /// stays pending.
     pub fn crash(&mut self, picks: &[Pick])
         ensures memory { view self.new ≡ all_synced (picked picks.now (view self.old)) (view self.old) }
         ensures lawful { (memory_device self.old).may_leave (view self.new).present }

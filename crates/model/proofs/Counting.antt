@@ -139,7 +139,7 @@ from_among (n ∷ ns) b is = by_first (eqb n b) refl is (from_among ns b) where
   by_first true here there rest = (0, omega arith, eqb-true n b here)
   by_first false here there rest = let found = rest there in (suc found.0, omega (arith, found.1), found.2)
 
--- so many numbers below the limit
+-- this many numbers below the limit
 count_among : (limit : ℕ) (ns : List ℕ) → Once ns → ((b : ℕ) → Contains ns b → b < limit)
     → count_by (among ns) (range_with_len 0 limit) ≡ length ns
 count_among limit [] distinct below = none 0 limit where

@@ -1,4 +1,4 @@
--- The files of a spool with one change more.
+-- The files of a spool with one more change.
 use Rattle.std.proofs.Common.{◌≡◌, ◌<◌, ◌≤◌, ◌^◌, ℕ, zero, suc, ◌+◌, ◌/◌, ◌%◌, List, [], ◌∷◌, ◌++◌, length, map, refl, sym, ◌∙◌, ap, subst}
 use Rattle.std.proofs.Common.{arith, Bool, true, false, cond, length-append}
 use Rattle.std.specs.Prelude.{flat_map, filter, filter_map, find, zip, bytes_eq, is_some, nat_le, Option, Some, None, IsPermutation, not}
@@ -299,7 +299,7 @@ index_same R S same n (Group g status description moment) =
 index_same R S same n (Article text gs moment) = refl
 index_same R S same n (Expire g number) = refl
 
--- the files of a spool with one change more, by change
+-- the files of a spool with one more change, by change
 with_change : (S : Spool) (c : Change)
     → files_of (S ++ c ∷ []) ≡ flat_map (entry_files (S ++ c ∷ [])) (entries S) ++ entry_files (S ++ c ∷ [])
     (record { serial = length S + 1; change = c })

@@ -1,4 +1,4 @@
--- The index of a spool with one change more.
+-- The index of a spool with one more change.
 use Rattle.std.proofs.Common.{◌≡◌, ◌≤◌, ℕ, zero, suc, ◌+◌, ◌-◌, List, [], ◌∷◌, ◌++◌, length, get_or, map, take, drop, refl, sym, ◌∙◌, ap}
 use Rattle.std.proofs.Common.{arith, Bool, true, false, cond, length-append}
 use Rattle.std.specs.Prelude.{filter, filter_map, flat_map, bytes_eq, is_some, slice_get, zip, Option, Some, None}
@@ -38,7 +38,7 @@ numbers_size S g =
     let filed = filed_in S g in
     omega (arith, records_size 0 (zip filed (overview_lines filed)), zip_size filed (overview_lines filed) (lines_size filed))
 
--- where lines stand that begin after so many octets
+-- where lines stand that begin after this many octets
 abbrev start_from : ℕ → List ℕ → ℕ → ℕ
 start_from start ends zero = start
 start_from start ends (suc k) = get_or ends k 0

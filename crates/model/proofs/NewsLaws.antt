@@ -1,5 +1,5 @@
--- The laws of the service that the program serves. Who builds on the service takes them from here, as it takes the
--- definitions from specs/News.antt.
+-- The laws of the service that the program serves. A crate that builds on the service imports them from here, as it
+-- imports the definitions from specs/News.antt.
 use Rattle.std.proofs.Common.{◌≡◌, ◌≢◌, ℕ}
 use Rattle.std.specs.Prelude.{None}
 use Rattle.model.specs.Answer.{awaiting, says}

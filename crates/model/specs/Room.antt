@@ -31,7 +31,7 @@ blocks_for size = content_blocks size + pointer_blocks (content_blocks size)
 abbrev pub blocks_of_files : List File → ℕ
 blocks_of_files files = sum_by (λ f. blocks_for (length f.content)) files
 
--- of a volume with these numbers of blocks and inodes that holds these files
+-- what is free in a volume with these numbers of blocks and inodes that holds these files
 abbrev pub free_blocks_beside : ℕ → ℕ → List File → ℕ
 free_blocks_beside blocks inodes files = blocks - (first_data inodes + blocks_of_files files)
 
@@ -44,11 +44,11 @@ free_inodes_beside inodes files = inodes - length files
 abbrev pub blocks_asked : ℕ
 blocks_asked = 256
 
--- and only if each file that it extends has room for this many more octets
+-- a change is made only if each file that it extends has room for this many more octets
 abbrev pub octets_asked : ℕ
 octets_asked = 12_288
 
--- and a group is made only if there are fewer groups than this
+-- a group is made only if there are fewer groups than this
 abbrev pub most_groups : ℕ
 most_groups = 4_096
 
@@ -101,7 +101,7 @@ blocks_taken (Append name octets) = blocks_for_more (length octets)
 abbrev pub blocks_spanned : ℕ → ℕ → ℕ
 blocks_spanned size more = (size % 4096 + more + 4095) / 4096
 
--- the number of blocks that the file gets
+-- the number of new blocks that the file gets
 abbrev pub blocks_fresh : ℕ → ℕ → ℕ
 blocks_fresh size more = content_blocks (size + more) - content_blocks size
 

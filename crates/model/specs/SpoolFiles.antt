@@ -37,7 +37,7 @@ expiry_name serial = codes "x." ++ last_digits 10 serial
 abbrev pub number_record : ℕ → ℕ → Octets → Octets
 number_record serial offset line = little_bytes 8 serial ++ little_bytes 4 offset ++ little_bytes 4 (length line)
 
--- for each article its serial, and where its line is after the first octets of the overview, this many
+-- for each article its serial, and where its line is; the first line follows this many octets of the overview
 abbrev pub number_records : ℕ → List (NewsArticle × Octets) → Octets
 number_records offset [] = []
 number_records offset (p ∷ rest) = number_record p.0.serial offset p.1 ++ number_records (offset + length p.1) rest
@@ -140,7 +140,7 @@ abbrev pub after_calls : List File → List FileCall → List File
 after_calls files [] = files
 after_calls files (call ∷ calls) = after_calls (after_call files call) calls
 
--- the line of an article that is filed in a group, which gets the next number, and its place
+-- the overview line of an article that gets the next number of a group, and the record of that number
 abbrev pub next_line : Spool → Octets → Octets → Octets
 next_line S text g = overview_line (high S g + 1) text
 
@@ -150,7 +150,7 @@ next_record S text g = number_record (length S + 1) (length (overview_file S g))
 abbrev pub filing_calls : Spool → Octets → Octets → List FileCall
 filing_calls S text g = Append (numbers_name g) (next_record S text g) ∷ Append (overview_name g) (next_line S text g) ∷ []
 
--- a file with these octets is made
+-- the calls that make a file with these octets
 abbrev pub making_calls : Octets → Octets → List FileCall
 making_calls name octets = Create name ∷ Append name octets ∷ []
 

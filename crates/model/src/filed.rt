@@ -36,12 +36,13 @@ pub fn appends_reach_one_file()
     ensures { AppendsToOne }
 {}
 
-/// What is free in the blocks is what their files leave.
+/// The blocks and inodes that are free are those that the files leave.
 pub fn free_is_beside_the_files()
     ensures { FreeIsBeside }
 {}
 
-/// A change asks for few blocks and changes few, and it finds them where the spool is not full.
+/// A change asks for few blocks and changes few. If the spool is not full, the change finds all the room that it asks
+/// for.
 pub fn changes_ask_for_few_blocks()
     ensures grow { FilesGrowByBlocks }
     ensures few { ChangesAskFew }

@@ -25,7 +25,7 @@ all_digits (c ∷ ds) all =
     (omega (arith, digit_value_digit c range), all_digits ds parts.1)
 
 module _ (ds : List ℕ) (all : list_all is_ascii_digit ds ≡ true) where
-  -- one digit more
+  -- one more digit
   pub digits_more : (i : ℕ) → i < length ds → digits_value 10 (take i ds) * 10 + (get_or ds i 0 - 48) ≡ digits_value 10 (take (i + 1) ds)
   digits_more i within =
       let range = digit_range (get_or ds i 0) (and_at (list_all is_ascii_digit) is_ascii_digit refl (λ _ _. refl) ds i 0 within all) in

@@ -59,7 +59,7 @@ pub fn wildmat_matches(wildmat: &[u8], name: &[u8]) -> bool
     })
 }
 
-/// What a pattern decides about a name, if it matches it.
+/// What a pattern decides about a name. `None` if the pattern does not match the name.
 fn verdict(pattern: &[u8], name: &[u8]) -> Option<bool>
     ensures { result ≡ verdict_of name.now pattern.now }
 {

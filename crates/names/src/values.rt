@@ -12,7 +12,7 @@ use thiserror::Error;
 /// Why a text was not read.
 #[derive(Clone, Copy, Debug, PartialEq, Eq, Error)]
 pub enum NameError {
-    /// A growth was refused.
+    /// An allocation was refused.
     #[error("E2 Memory")]
     Memory,
     /// The text does not follow its grammar.

@@ -11,7 +11,7 @@ use std::net::IpAddr;
 /// How many bits stand before the IPv4 address in an IPv4-mapped address `::ffff:a.b.c.d` (RFC 4291, 2.5.5.2).
 const MAPPED_BITS: u32 = 96;
 
-/// A network: the addresses of a family that have the same first bits (RFC 4632, 3.1; RFC 4291, 2.3). The bits behind
+/// A network: the addresses of a family that have the same first bits (RFC 4632, 3.1; RFC 4291, 2.3). The bits after
 /// these are ignored.
 #[derive(Clone, Copy)]
 pub struct Network {

@@ -30,7 +30,7 @@ fn carry<D: Disk>(journal: &mut Journal<D>) -> Result<(), JournalError>
 }
 
 /// Replaces the first of a journal's blocks, as a batch, and returns the journal's device. `Fault` if the device
-/// failed, `Memory` if a growth of it was refused; after either the batch may be durable or not.
+/// failed, `Memory` if an allocation was refused to it; after either the batch may be durable or not.
 pub(crate) fn lay<D: Disk>(mut journal: Journal<D>, first: &[u8]) -> Result<D, Refused<D>>
     requires ready { IsReady journal }
     requires whole { length first.now ≡ 4096 }

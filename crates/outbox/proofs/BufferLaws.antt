@@ -1,4 +1,4 @@
--- An entry more after those of a buffer.
+-- One more entry after those of a buffer.
 use Rattle.std.proofs.Common.{◌≡◌, ℕ, zero, suc, ◌+◌, ◌-◌, ◌≤◌, Bool, true, false, not, ◌&&◌, List, [], ◌∷◌, ◌++◌, length, take, drop, refl}
 use Rattle.std.proofs.Common.{sym, ◌∙◌, ap, subst, arith, length-append, length-drop}
 use Rattle.std.specs.List.{concat}
@@ -51,7 +51,7 @@ made octets more number start end ends false from to =
     ap (λ given. (number, given, ends) ∷ [])
     (ap (λ n. slice_range (octets ++ more) n end) from ∙ slice_range-end octets more end to)
 
--- the entry more
+-- the new entry
 pub entries_in-more : (octets : List ℕ) (slots : List Slot) (number start end : ℕ) (g : Giving) → All (LiesWithin (length octets)) slots
     → start ≡ length octets → end ≡ length octets + length g.octets
     → entries_in (octets ++ g.octets) (slots ++ slots_of number start end g.ended) ≡ entries_in octets slots ++ entry_of number g

@@ -20,7 +20,7 @@ cut_off room given front rest = record {
   held = cut_at room front ∷ rest;
 }
 
--- the front output depends on more than p changes
+-- the first output depends on more than p changes
 pub give-late : (p room given : ℕ) (front : Held) (rest : List Held) → p < front.dependency
     → give p room given (front ∷ rest) ≡ nothing_more room given (front ∷ rest)
 give-late p room given front rest late = rw (lt-ltb p front.dependency late)
@@ -34,7 +34,7 @@ give-full p room given (front ∷ rest) none =
     (λ (near : front.dependency ≤ p). rw (le-ltb p front.dependency near, eq-eqb room 0 none))
     (cases_lt p front.dependency)
 
--- the front output fits in part
+-- the first output fits in part
 pub give-cut : (p room given : ℕ) (front : Held) (rest : List Held) → front.dependency ≤ p → 0 < room → room < length front.octets
     → give p room given (front ∷ rest) ≡ cut_off room given front rest
 give-cut p room given front rest near some long =
@@ -152,7 +152,7 @@ give-last_dependency p room given (front ∷ rest) =
 
 -- ---- step by step
 
--- What holds of the number kept, the outputs held and the octets given, and still holds when the front output is given
+-- What holds of the number kept, the outputs held and the octets given, and still holds when the first output is given
 -- whole or cut, holds of what a release leaves and gives.
 pub give-steps : (P : ℕ → List Held → List ℕ → Type 0) (p : ℕ)
     → ((given : ℕ) (front : Held) (rest : List Held) (octets : List ℕ) → front.dependency ≤ p → P given (front ∷ rest) octets

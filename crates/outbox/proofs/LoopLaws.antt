@@ -1,4 +1,4 @@
--- The loop over the front outputs.
+-- The loop over the first outputs.
 use Rattle.std.proofs.Common.{◌≡◌, ℕ, Bool, ◌||◌, List, ◌++◌}
 use Rattle.outbox.specs.Queue.{Giving}
 

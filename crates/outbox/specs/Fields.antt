@@ -9,7 +9,7 @@ use Rattle.outbox.specs.Slots.{LiesWithin, entries_in}
 abbrev pub queue_of : queue.Inside → QueueView
 queue_of q = record { given = q.given; held = q.outputs.items; room = deque_capacity q.outputs - deque_len q.outputs }
 
--- the octets are counted
+-- the queue counts the octets that it holds
 abbrev pub IsSoundQueue : queue.Inside → Type 0
 IsSoundQueue q = q.buffered ≡ buffered q.outputs.items
 
@@ -26,7 +26,7 @@ pub record IsSoundBuffer (b : buffer.Inside) : Type 0 where
   pub few : vec_len b.slots ≤ 64
   pub room : 64 ≤ vec_capacity b.slots
 
--- what the loop over the first outputs leaves, of them and after the octets that were already there
+-- what the loop over the first outputs leaves: of the outputs, and after the octets that were already there
 pub record IsGiven (g : Giving) (ended : Bool) (given : ℕ) (held : List Held) (before after : List ℕ) : Type 0 where
   pub ended_is : ended ≡ g.ended
   pub given_is : given ≡ g.given

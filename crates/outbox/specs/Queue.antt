@@ -85,6 +85,6 @@ entry_of number g = if length g.octets == 0 && not g.ended then [] else (number,
 abbrev pub octets_in : List Entry → ℕ
 octets_in entries = sum_by (λ (e : Entry). length e.1) entries
 
--- their octets, one entry's after the other
+-- the octets of these entries, one entry's after the other
 abbrev pub octets_along : List Entry → List ℕ
 octets_along entries = concat (map (λ (e : Entry). e.1) entries)

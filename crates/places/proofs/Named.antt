@@ -92,7 +92,7 @@ files_from inodes files f (k ∷ places) (x ∷ xs) are have same =
     let tail = files_from inodes files f places xs are (λ y has. have y (suc has.0, omega (arith, has.1), has.2)) rest in
     λ i. head i ∷ tail i
 
--- a group comes from the change that made it, and its two files stand behind that one's
+-- a group comes from the change that made it, and its two files come after that change's file
 record IsMadeBy (S : Spool) (n : ℕ) (R : Spool) (g : NewsGroup) : Type 0 where
   entry : Entry
   here : Contains (entries_from n R) entry
@@ -172,7 +172,7 @@ kept_names old new (k ∷ places) (q ∷ names) keeps same =
     let tail = kept_names old new places names keeps rest in
     λ i. head i ∷ tail i
 
--- with one place more, whose file has this name
+-- with one more place, whose file has this name
 one_more : {X : Type 0} (old new : List (Option File)) (named : X → Octets) (places : List ℕ) (xs : List X) (at : ℕ) (x : X)
     → KeepsNames old new → names_of old places ≡ map (λ y. Some (named y)) xs → name_of new at ≡ Some (named x)
     → names_of new (places ++ at ∷ []) ≡ map (λ y. Some (named y)) (xs ++ x ∷ [])

@@ -26,7 +26,7 @@ first_picked q (suc n) k (x ∷ xs) inside above =
     ∙ ap (λ ps. (k, x) ∷ ps) (first_picked q n (k + 1) xs (λ j from to. inside j (omega (arith, from)) (omega (arith, to)))
     (λ j from to. above j (omega (arith, from)) (omega (arith, to))))
 
--- n of them behind the first d
+-- n of them after the first d
 pub between : {X : Type 0} (q : ℕ → Bool) (d n k : ℕ) (xs : List X) → ((j : ℕ) → k ≤ j → j < k + d → q j ≡ false)
     → ((j : ℕ) → k + d ≤ j → j < k + d + n → q j ≡ true)
     → ((j : ℕ) → k + d + n ≤ j → j < k + length xs → q j ≡ false) → picked q k xs ≡ enumerate_from (k + d) (take n (drop d xs))

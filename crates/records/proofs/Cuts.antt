@@ -1,4 +1,4 @@
--- What stands behind the parts of a record.
+-- What follows the parts of a record.
 use Rattle.std.proofs.Common.{◌≡◌, ℕ, ◌^◌, ◌<◌, List, [], ◌∷◌, ◌++◌, length, sym, ◌∙◌, ap, arith}
 use Rattle.std.specs.Prelude.{flat_map}
 use Rattle.std.proofs.lemmas.List.{append_assoc}
@@ -33,7 +33,7 @@ expiry_behind octets numbered behind_number serial number e first second is =
 abbrev pub named : List Octets → Octets
 named names = flat_map (λ g. length g ∷ g) names
 
--- fewer names than there are leave one in front
+-- fewer names than there are leave one at the start
 pub name_left : (xs ys : List Octets) (front back : Octets) → length xs < length ys → named xs ++ front ≡ named ys ++ back
     → (name : Octets) × ((rest : Octets) × (front ≡ (length name ∷ name) ++ rest))
 name_left xs [] front back less is = absurd (omega arith)
@@ -67,7 +67,7 @@ article_is a octets serial moment text count rest small short cut is =
     let last : count ∷ rest ≡ length a.groups ∷ (named a.groups ++ a.text) = three.1 in
     record { text_is = three.0; count_is = cc; rest_is = cc }
 
--- the text is what stands behind the names
+-- the text is what follows the names
 pub text_is : (a : NewsArticle) (names : List Octets) (rest text : Octets) → length names ≡ length a.groups
     → rest ≡ named a.groups ++ a.text → rest ≡ named names ++ text → text ≡ a.text
 text_is a names rest text count is cut = (counted_lists names a.groups text a.text count (sym cut ∙ is)).1

@@ -133,7 +133,7 @@ unfolding sent_on
 on_of cr x [] = refl
 on_of cr x (l ∷ ls) = refl
 
--- what is sent of the lines behind an octet, by whether a line begins there
+-- what is sent of the lines after an octet, by whether a line begins there
 record Both (before : ℕ) (text : Octets) : Type 0 where
   pub fresh : flat_map stuffed_line (lines_after before text) ≡ stuffed_from (state true (before == 13)) text
   pub going : sent_on (lines_after before text) ≡ stuffed_from (state false (before == 13)) text

@@ -3,11 +3,11 @@ use Rattle.std.specs.Prelude.{ℕ, ◌&&◌, ◌==◌, if◌then◌else◌, [], 
 use Rattle.model.specs.Stream.{Octets}
 use Rattle.replies.specs.declared.stuffing.Stuffing.{Stuffing}
 
--- one more octet: a line begins after CRLF
+-- the state after one more octet: a line begins after CRLF
 abbrev pub step : Stuffing → ℕ → Stuffing
 step s x = record { fresh = s.after_cr && (x == 10); after_cr = x == 13 }
 
--- some more octets
+-- the state after some more octets
 abbrev pub after : Stuffing → Octets → Stuffing
 after s [] = s
 after s (x ∷ rest) = after (step s x) rest

@@ -247,7 +247,7 @@ fn push_number(text: &mut Vec<u8>, n: u64) -> Result<(), AllocError>
     text.extend_from_slice(buffer.format(n).as_bytes())
 }
 
-/// Appends what part is used, in per cent, rounded down.
+/// Appends the used part in per cent, rounded down.
 fn push_per_cent(text: &mut Vec<u8>, used: u32, all: u32) -> Result<(), AllocError>
     requires { 0 < all }
     ensures { OnOk result (text.new.items ≡ text.old.items ++ table.in_per_cent used all) }

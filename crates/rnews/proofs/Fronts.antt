@@ -1,4 +1,4 @@
--- What the front of a batch says, however the batch goes on.
+-- What a prefix of a batch says, however the batch continues.
 use Rattle.std.proofs.Common.{◌≡◌, ℕ, zero, suc, ◌+◌, ◌-◌, ◌<◌, ◌≤◌, [], ◌∷◌, ◌++◌, refl, sym, ◌∙◌, ap, arith, inl, inr, Bool, true, false}
 use Rattle.std.proofs.Common.{length-append, length-drop}
 use Rattle.std.specs.Prelude.{length, take, drop, nat_eq, nat_le, nat_lt, not, ◌==◌, Option, Some, None, Result, Ok, Err}

@@ -12,7 +12,7 @@ IsShort text = length text ≤ block_limit
 abbrev pub IsReadBack : Type 0
 IsReadBack = (texts : List Octets) → All IsShort texts → IsReadAs texts (batch texts)
 
--- and as no other texts
+-- octets are read as at most one list of texts
 abbrev pub IsReadAsOne : Type 0
 IsReadAsOne = (texts others : List Octets) (octets : Octets) → IsReadAs texts octets → IsReadAs others octets → texts ≡ others
 
@@ -20,6 +20,6 @@ IsReadAsOne = (texts others : List Octets) (octets : Octets) → IsReadAs texts 
 abbrev pub TextStays : Type 0
 TextStays = (octets more text rest : Octets) → next octets ≡ Ok (Some (text, rest)) → next (octets ++ more) ≡ Ok (Some (text, rest ++ more))
 
--- and so is the cause of a refusal
+-- the cause of a refusal found in the octets that have arrived is also the one found in all octets
 abbrev pub CauseStays : Type 0
 CauseStays = (octets more : Octets) (cause : BatchCause) → next octets ≡ Err cause → next (octets ++ more) ≡ Err cause

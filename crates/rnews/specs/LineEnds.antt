@@ -4,7 +4,7 @@ use Rattle.std.specs.List.{All, list_all}
 use Rattle.model.specs.Stream.{Octets, line}
 use Rattle.model.specs.Names.{begins}
 
--- each CRLF is an LF
+-- each CRLF becomes LF
 unfoldable pub with_lf : Octets → Octets
 with_lf [] = []
 with_lf (x ∷ rest) = (if x == 13 && begins (λ y. y == 10) rest then [] else x ∷ []) ++ with_lf rest
@@ -33,7 +33,7 @@ lf_line text = text ++ 10 ∷ []
 abbrev pub LinesGetLf : Type 0
 LinesGetLf = (lines : List Octets) → All IsLine lines → with_lf (flat_map line lines) ≡ flat_map lf_line lines
 
--- and these become the lines that end in CRLF again
+-- lines that end in LF become the same lines that end in CRLF
 abbrev pub LinesGetCrlf : Type 0
 LinesGetCrlf = (lines : List Octets) → All IsLine lines → with_crlf (flat_map lf_line lines) ≡ flat_map line lines
 

@@ -5,7 +5,7 @@ use Rattle.rnews.specs.Held.{Held}
 use Rattle.rnews.specs.declared.reader.BatchError.{BatchError}
 use Rattle.rnews.specs.declared.reader.BatchError.TheVariants.{Memory, Refused}
 
--- memory was refused, or no batch continues with what is held, and the place is where that begins
+-- an allocation was refused, or no batch continues with what is held, whose place the refusal names
 abbrev pub IsDue : Held → BatchError → Type 0
 IsDue held Memory = Unit {0}
 IsDue held (Refused refusal) = (next held.rest ≡ Err refusal.cause) × (refusal.place ≡ held.place)

@@ -2,7 +2,7 @@
 use Rattle.std.proofs.Common.{◌≡◌, ◌<◌, ◌≤◌, ℕ, zero, suc, ◌+◌, ◌^◌, true, List, [], ◌∷◌, ◌++◌, length, get_or, refl, sym, ◌∙◌, ap, subst}
 use Rattle.std.proofs.Common.{arith, Option, Some, None, inl, inr, length-append}
 use Rattle.std.specs.Prelude.{option_map, is_some}
-use Rattle.std.proofs.lemmas.Bool.{cases_lt, true≢false}
+use Rattle.std.proofs.lemmas.Bool.{cases_lt}
 use Rattle.std.proofs.lemmas.List.{get_or_read}
 use Rattle.model.specs.Stream.{Octets}
 use Rattle.model.specs.Article.{overview_line}
@@ -13,7 +13,7 @@ use Rattle.model.specs.SpoolFiles.{next_line, overview_file}
 use Rattle.model.proofs.HoldsOne.{high_few}
 use Rattle.index.specs.Filing.{end_of}
 use Rattle.index.specs.View.{IndexView}
-use Rattle.index.proofs.LookUps.{group_is, not_here}
+use Rattle.index.proofs.LookUps.{group_is}
 use Rattle.index.proofs.Growing.{overview_size}
 use Rattle.spool_opening.specs.Replayed.{IsBounded}
 use Rattle.spool_opening.specs.Stored.{HasPiece, Which, file_for, name_for, piece_for}
@@ -27,9 +27,6 @@ mapped f (Some g) = refl
 pub here_is : (S : Spool) (name : Octets) (i : GroupIndex) → Some i ≡ option_map (group_index S) (group_named S name)
     → is_here S name ≡ true
 here_is S name i is = sym (mapped (group_index S) (group_named S name)) ∙ ap (λ (o : Option GroupIndex). is_some o) (sym is)
-
-pub never_here : (S : Spool) (name : Octets) → None ≡ option_map (group_index S) (group_named S name) → is_here S name ≡ true → ⊥
-never_here S name is here = true≢false (sym here ∙ ap (λ (o : Option NewsGroup). is_some o) (not_here S name is))
 
 -- ---- the bounds that the index keeps
 

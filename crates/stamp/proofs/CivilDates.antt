@@ -19,7 +19,7 @@ months_same year (suc months) =
     ap (λ n. n + days_in_month (civil.is_leap_year year) (suc months)) (months_same year months)
     ∙ sym (days_of_months-suc (civil.is_leap_year year) months)
 
--- one year more, counted from the year -10000 on
+-- one more year, counted from the year -10000 on
 years_suc : (n : ℕ) → civil.days_of_years (suc n) ≡ civil.days_of_years n + days_in_year (civil.is_leap_year (pos n -ℤ pos 10000))
 unfolding civil.days_of_years
 years_suc n = refl

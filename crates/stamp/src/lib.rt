@@ -95,7 +95,8 @@ pub fn date_reply(alloc: Global, moment: u64) -> Result<Vec<u8>, AllocError>
     Ok(text)
 }
 
-/// Appends these digits. Refused only for want of memory; then the text may hold any octets, and the caller discards it.
+/// Appends the digits of `date_reply`. Refused only for want of memory; then the text may hold any octets, and the
+/// caller discards it.
 pub fn push_date_reply(text: &mut Vec<u8>, moment: u64) -> Result<(), AllocError>
     requires { moment < calendar.moment_limit }
     ensures { OnOk result (text.new.items ≡ text.old.items ++ calendar.date_reply moment) }

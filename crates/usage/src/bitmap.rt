@@ -15,7 +15,8 @@ pub fn used_blocks(bitmap: &[u8]) -> u32
     bits as u32 - count_clear(bitmap, bits)
 }
 
-/// As many bits are set in blocks 0 and 1 as there are blocks of a volume that are not free. It does nothing.
+/// In blocks 0 and 1 of a volume, as many bits are set as the volume has blocks that are not free. The function does
+/// nothing, and its contract is the law.
 pub fn bits_are_used_blocks()
     ensures { BitsAreUsedBlocks }
 {}

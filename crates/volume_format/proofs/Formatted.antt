@@ -112,7 +112,7 @@ module _ (old label : List ℕ) (segments blocks gate : ℕ) (counts : (segments
   pub gate_is : get_or superblock 148 0 ≡ gate
   gate_is = overwritten_inside 148 (gate ∷ []) fifth (omega (arith, size5)) 148 0 (omega arith) (omega arith)
 
-  -- the octets behind those that are used
+  -- the octets after those that are used
   zeros_stay : All IsZero (drop 149 superblock)
   zeros_stay = All-from_get_or IsZero (drop 149 superblock) 0 each
     where

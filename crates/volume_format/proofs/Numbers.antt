@@ -137,7 +137,7 @@ module _ (old : List ℕ) (number last : ℕ) (ns : List ℕ) (whole : length ol
   pub described_listed : listed described ≡ ns
   described_listed = listed_written ns fourth (omega (arith, size4, few)) small count4
 
--- a write right behind a front, into zeros
+-- a write right after a prefix, into zeros
 behind : (at : ℕ) (front octets image : List ℕ) (m : ℕ) → image ≡ front ++ replicate m 0 → length front ≡ at
     → overwritten at octets image ≡ front ++ octets ++ replicate (m - length octets) 0
 behind at front octets image m is size =

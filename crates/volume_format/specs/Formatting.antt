@@ -8,11 +8,11 @@ use Rattle.volume_format.specs.declared.FormatError.TheVariants.{Fault, Memory}
 unfoldable pub zero_block : List ℕ
 zero_block = replicate 4096 0
 
--- this many of them
+-- this many logical blocks of zeros
 abbrev pub zeroed : ℕ → List (List ℕ)
 zeroed n = replicate n zero_block
 
--- the device's count of failures changes at a fault, and stays otherwise
+-- a fault changes the device's count of failures, and no other result does
 pub record CountsFaults {T : Type 0} (result : Result T FormatError) (old new : Device) : Type 0 where
   pub ok : OnOk result (new.failures ≡ old.failures)
   pub fault : IfErr result (λ error. error ≡ Fault → new.failures ≢ old.failures)

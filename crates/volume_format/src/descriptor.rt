@@ -51,8 +51,8 @@ fn clear(octets: &mut [u8])
     }
 }
 
-/// Reads the numbers of a descriptor to the start of `numbers`, and answers how many there are. `None` if it is not
-/// valid.
+/// Reads the numbers of a descriptor to the start of `numbers`, and answers how many there are. `None` if the
+/// descriptor is not valid; then `numbers` may hold any numbers.
 pub fn read_descriptor(descriptor: &[u8], blocks: u64, numbers: &mut Vec<u32>) -> Option<usize>
     requires descriptor { length descriptor.now ≡ 4096 }
     requires room { length numbers.old.items ≡ 512 }

@@ -40,7 +40,7 @@ pub fn format<D: Disk>(
     format_with(alloc, disk, SEGMENTS, blocks, label, format)
 }
 
-/// Does the same with 1 segment or 8.
+/// Does the same as `format`, with 1 segment or 8.
 pub fn format_with<D: Disk>(
     alloc: Global,
     disk: &mut D,

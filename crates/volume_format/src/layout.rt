@@ -82,7 +82,7 @@ pub fn home_block(segments: u32, number: u64) -> u64
     1 + SEGMENT_BLOCKS * u64::from(segments) + number
 }
 
-/// The i-th of the blocks in memory.
+/// The i-th block of these octets, counted from 0.
 pub fn block_at(octets: &[u8], i: usize) -> &[u8]
     requires { 4096 * i + 4096 ≤ length octets.now }
     ensures { result.now ≡ block i octets.now }

@@ -18,7 +18,7 @@ pub enum FormatError {
     /// The device failed in this call.
     #[error("E1 Fault")]
     Fault,
-    /// A growth was refused in this call.
+    /// An allocation was refused in this call.
     #[error("E2 Memory")]
     Memory,
 }

@@ -50,7 +50,7 @@ abbrev pub FilesOfFormatOne : Type 0
 FilesOfFormatOne = (blocks : List Octets) (inode slot : Octets) →
     (IsFile (entry_of blocks inode slot) × (size (entry_of blocks inode slot) ≤ 4235264)) ↔ IsFileOne (entry_one blocks inode slot)
 
--- they own the same blocks and have the same content
+-- the files own the same blocks and have the same content
 abbrev pub ReadAsFormatOne : Type 0
 ReadAsFormatOne = (blocks : List Octets) (inode slot : Octets) → IsFileOne (entry_one blocks inode slot) →
     (owned (entry_of blocks inode slot) ≡ owned_one (entry_one blocks inode slot))

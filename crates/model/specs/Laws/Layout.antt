@@ -10,7 +10,7 @@ use Rattle.model.specs.Volume.{StandsFor, block, format_number, number_at}
 abbrev pub ImagesStandForOne : Type 0
 ImagesStandForOne = (host other image : Octets) (S R : Spool) → Stands host image S → Stands other image R → (host ≡ other) × (S ≡ R)
 
--- Its superblock has version 1.
+-- An image that stands for a spool has a superblock of version 1.
 abbrev pub VersionIsOne : Type 0
 VersionIsOne = (host image : Octets) (S : Spool) → Stands host image S → number_at 8 4 (block 0 image) ≡ 1
 

@@ -47,7 +47,7 @@ pub record HasRoomForChange (blocks inodes : ℕ) (S : Spool) (c : Change) : Typ
       (length (numbers_file S g) + length (next_record S text g) ≤ largest_file)
       × (length (overview_file S g) + length (next_line S text g) ≤ largest_file)
 
--- So none of its calls meets a full file system where the spool is not full.
+-- So if the spool is not full, none of a change's calls meets a full file system.
 abbrev pub NotFullHasRoom : Type 0
 NotFullHasRoom = (host : Octets) (blocks inodes : ℕ) (S : Spool) (c : Change) → length S ≤ 32_768 → IsLawful host S → MayFollow host S c →
     is_full blocks inodes S (Some c) ≡ false → HasRoomForChange blocks inodes S c
