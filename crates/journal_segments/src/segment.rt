@@ -86,6 +86,7 @@ impl Segment {
         number64(self.descriptor.as_slice(), 8)
     }
 
+    /// The descriptor block of its batch.
     pub fn descriptor(&self) -> &[u8]
         ensures block { result.now ≡ self.now.descriptor }
         ensures size { length result.now ≡ 4096 }
@@ -101,6 +102,7 @@ impl Segment {
         self.numbers[i]
     }
 
+    /// The i-th image of its batch.
     pub fn image(&self, i: usize) -> &[u8]
         requires { i < length self.now.numbers }
         ensures image { result.now ≡ slice_index_or self.now.images i [] }

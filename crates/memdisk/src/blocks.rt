@@ -150,7 +150,8 @@ pub fn settle_marked(
     }
 }
 
-// The same for a range. `count` touched octets lie below its start; the result is the number below its end.
+// Puts what the picks say into the touched octets of a range. `count` touched octets lie below its start; the result is
+// the number below its end.
 fn settle_range(
     present: &mut Vec<u8>,
     synced: &[u8],

@@ -60,7 +60,7 @@ impl Plan {
         }
     }
 
-    // The answer to that call. A failure is counted.
+    // The answer to a call of that kind. A failure is counted.
     fn ask(&mut self, call: DiskCall, failures: &mut u64) -> Result<(), DiskError>
         ensures fails { IsErrOf result DiskError.Fault ↔ IsTrue (fails_next call self.old) }
         ensures no_memory { IfErr result (λ error. error ≡ DiskError.Fault) }

@@ -18,27 +18,27 @@ pub const ONE_SEGMENT: u32 = 1;
 pub const SEGMENT_IMAGES: usize = 512;
 /// The number of blocks of a segment: its gate, its descriptor and its images.
 pub const SEGMENT_BLOCKS: u64 = 514;
-/// The fewest and the most logical blocks.
+/// The fewest logical blocks that a volume may have.
 pub const FEWEST_BLOCKS: u64 = 1024;
-
+/// The most logical blocks that a volume may have.
 pub const MOST_BLOCKS: u64 = 65536;
-
+/// The octets that a superblock begins with: `XNNTPFS1`.
 pub const MAGIC: [u8; 8] = [0x58, 0x4e, 0x4e, 0x54, 0x50, 0x46, 0x53, 0x31];
-
+/// The version of the layout, as the superblock states it.
 pub const VERSION: u32 = 1;
-/// Where the label begins in the superblock. The octet after it is the gate of the format.
+/// Where the label begins in the superblock.
 pub const LABEL_AT: usize = 20;
-
+/// Where the gate of the format is in the superblock: right after the label.
 pub const FORMAT_AT: usize = 148;
 /// The gate of the format ends the octets that are used; those after it are zero.
 pub const SUPERBLOCK_USED: usize = 149;
-/// The octet at the gate of a volume of format 2, and the one that a new volume of format 1 gets.
+/// The octet at the gate of a volume of format 2.
 pub const IS_FORMAT_2: u8 = 2;
-
+/// The octet at the gate of a new volume of format 1. Any octet but that of format 2 means format 1.
 pub const IS_FORMAT_1: u8 = 0;
-/// The first octet of an open gate, and that of a closed one as the journal writes it.
+/// The first octet of the gate block of an open segment.
 pub const OPEN: u8 = 1;
-
+/// The first octet of the gate block of a closed segment, as the journal writes it.
 pub const CLOSED: u8 = 0;
 /// The number of a batch that begins while no segment is open.
 pub const FIRST_NUMBER: u64 = 1;
@@ -60,6 +60,7 @@ pub fn gate_block(segment: u32) -> u64
     1 + SEGMENT_BLOCKS * u64::from(segment)
 }
 
+/// The block of the descriptor of a segment.
 pub fn descriptor_block(segment: u32) -> u64
     ensures { result ≡ descriptor_place segment }
 {
@@ -90,6 +91,7 @@ pub fn block_at(octets: &[u8], i: usize) -> &[u8]
     &octets[BLOCK * i..BLOCK * i + BLOCK]
 }
 
+/// The number in the four octets from a place on.
 #[tactic(auto, unfolding(model::specs::Volume::number_at))]
 pub fn number32(octets: &[u8], at: usize) -> u32
     requires { at + 4 ≤ length octets.now }
@@ -98,6 +100,7 @@ pub fn number32(octets: &[u8], at: usize) -> u32
     LittleEndian::read_u32(&octets[at..])
 }
 
+/// The number in the eight octets from a place on.
 #[tactic(auto, unfolding(model::specs::Volume::number_at))]
 pub fn number64(octets: &[u8], at: usize) -> u64
     requires { at + 8 ≤ length octets.now }
@@ -115,6 +118,7 @@ pub fn put64(octets: &mut [u8], at: usize, n: u64)
     LittleEndian::write_u64(&mut octets[at..end], n);
 }
 
+/// Puts a number into the four octets from a place on.
 pub fn put32(octets: &mut [u8], at: usize, n: u32)
     requires { at + 4 ≤ length octets.old }
     ensures { octets.new ≡ overwritten at (little_bytes 4 n) octets.old }
@@ -123,6 +127,7 @@ pub fn put32(octets: &mut [u8], at: usize, n: u32)
     LittleEndian::write_u32(&mut octets[at..end], n);
 }
 
+/// Puts numbers into the octets from a place on, four octets for each.
 pub fn put_numbers(octets: &mut [u8], at: usize, numbers: &[u32])
     requires { at + 4 * length numbers.now ≤ length octets.old }
     ensures { octets.new ≡ overwritten at (flat_map (little_bytes 4) numbers.now) octets.old }
@@ -131,6 +136,7 @@ pub fn put_numbers(octets: &mut [u8], at: usize, numbers: &[u32])
     LittleEndian::write_u32_into(numbers, &mut octets[at..end]);
 }
 
+/// Overwrites the octets from a place on with these.
 pub fn put_octets(octets: &mut [u8], at: usize, from: &[u8])
     requires { at + length from.now ≤ length octets.old }
     ensures { octets.new ≡ overwritten at from.now octets.old }
