@@ -263,7 +263,7 @@ module _ (D : Type 0) (device : D → Device) (sized : (d : D) → IsTrue (devic
       (let none : s + 0 ≡ s = omega arith in
       subst (λ (n : ℕ). IsItsGate (device first) (gate_at n) octet) none (its 0 (omega arith))) partly e refused.1
 
-  -- all of it
+  -- what any run of the calls leaves
   pub leaves : (result : Result (Unit {0}) DiskError) (first last : D) → WritesThem device result first last
       → Leaves result (device first) (device last)
   leaves result first last them =

@@ -52,7 +52,7 @@ pub gate_of_segment : (i : ℕ) → (i ≡ 0 → ⊥) → gate_at i ≡ 4096 * g
 unfolding gate_at
 gate_of_segment i other = ap (λ (b : Bool). if b then 148 else 4096 * gate_place (i - 1)) (ne_eqb i 0 other)
 
--- those of a volume are within it
+-- the gates of a volume lie within its device
 pub all_within : (segments blocks size : ℕ) → 1024 ≤ blocks → size ≡ 4096 * home_place segments blocks → AreWithin (segments + 1) size
 all_within segments blocks size low is i there = elim (cases_eq i 0) [
   | inl first ↦ let at = gate_of_format i first in omega (arith, low, is, at)
@@ -76,7 +76,7 @@ count_of device superblock n is size same (inr none) =
       none.1,
     )
 
--- the same superblock, and the same size
+-- after good reads the superblock and the size are the same
 module _ (a b : Device) (look : IsLook a b) (seen : IsSeen a b) (t : IsTrue a.tells) where
   pub segments_back : HasSegments b → HasSegments a
   segments_back is = subst (λ (n : ℕ). IsSuperblock (block 0 a.content) n) look.time.size

@@ -7,7 +7,7 @@ use Rattle.disk.specs.Device.{Device}
 use Rattle.disk.specs.declared.DiskError.{DiskError}
 use Rattle.gates.specs.Gates.{gate_at, writes_from}
 
--- those from the i-th on
+-- the writes from the i-th on
 pub writes_at : (octets : List ℕ) (i : ℕ) → i < length octets
     → writes_from i (drop i octets) ≡ Call.Write (gate_at i) (get_or octets i 0 ∷ []) ∷ writes_from (i + 1) (drop (i + 1) octets)
 writes_at octets i low = ap (λ (l : List ℕ). writes_from i l) (drop_one octets i low)
@@ -42,7 +42,7 @@ module _ {D : Type 0} (device : D → Device) where
       so_far.continues (Err e) next
       (subst (λ (calls : List Call). Makes device calls (Err e) now next) (sym (writes_at octets i low)) (inr (refl, did)))
 
-  -- all of them
+  -- all writes, each of which was good
   pub ends : (octets : List ℕ) (i : ℕ) (first now : D) → length octets ≤ i → IsWriting octets i first now
       → Makes device (writes_from 0 octets) (Ok tt) first now
   ends octets i first now past so_far =

@@ -61,12 +61,12 @@ module _ (line : List ℕ) where
   line-words plain = cond-false (begins is_blank line) parsed.Unknown (parsed_words clean (words line)) (sym plain)
 
   module _ (plain : false ≡ begins is_blank line) where
-    -- one without words too
+    -- a line without words is unknown
     pub line-empty : words line ≡ [] → parsed.Unknown ≡ parsed_line line
     line-empty none = sym (line-words plain ∙ ap (parsed_words clean) none)
 
     module _ (word : List ℕ) (rest : List (List ℕ)) (is : words line ≡ word ∷ rest) where
-      -- and one whose first word is no keyword
+      -- a line whose first word is no keyword is unknown
       pub line-unknown : None ≡ commands.keyword_of word → parsed.Unknown ≡ parsed_line line
       line-unknown none =
           ap (λ o. unwrap_or (option_map (λ keyword. parsed_by clean keyword rest) o) parsed.Unknown) none
@@ -84,7 +84,7 @@ module _ (line : List ℕ) where
             sym (cond-false clean (unwrap_or (option_map parsed.Command (command_of keyword rest)) parsed.Bad) parsed.Bad (sym unclean))
             ∙ line-known
 
-        -- else the line is the command of its keyword and words, or bad
+        -- any other line is the command of its keyword and words, or bad
         pub line-clean : true ≡ clean → (found : Option Command) → found ≡ command_of keyword rest
             → unwrap_or (option_map parsed.Command found) parsed.Bad ≡ parsed_line line
         line-clean all found same =

@@ -51,7 +51,7 @@ words-cut line end some within is none =
     ∙ filled-word (take end line) (slice_split is_blank (drop (suc end) line)) (omega (arith, length-take-le end line))
     ∙ ap (λ l. take end line ∷ l) (sym (ap words (drop-cons line end 0 within) ∙ words-blank (get_or line end 0) (drop (suc end) line) is))
 
--- or with the line
+-- without a blank, the first word is the whole line
 pub words-uncut : (line : List ℕ) → 0 < length line → ((k : ℕ) → k < length line → is_blank (get_or line k 0) ≡ false)
     → words line ≡ take (length line) line ∷ words (drop (length line) line)
 words-uncut line some none =

@@ -40,7 +40,7 @@ module _ (numbers : List ℕ) (images blocks : List (List ℕ)) (i k : ℕ) (wit
       → get_or (laid_over blocks (take (i + 1) numbers) (take (i + 1) images)) k [] ≡ before
   image_passed before so_far other = laid_there other ∙ so_far
 
--- all of them
+-- all images
 pub images_put : (numbers : List ℕ) (images blocks : List (List ℕ)) (i : ℕ) → length numbers ≡ i → length images ≡ length numbers
     → laid_over blocks (take i numbers) (take i images) ≡ laid_over blocks numbers images
 images_put numbers images blocks i is full =

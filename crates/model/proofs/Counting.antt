@@ -33,7 +33,7 @@ count_same p q a (suc n) same =
     ∙ ap (λ (m : ℕ). cond (q a) 1 0 + m) (count_same p q (a + 1) n (λ b low high. same b (omega arith) (omega arith)))
     ∙ sym (count_cons q a (range_with_len (a + 1) n))
 
--- those that fail are the others
+-- of a test and its negation exactly one passes
 not_one : (b : Bool) → cond b 1 0 + cond (not b) 1 0 ≡ 1
 not_one true = refl
 not_one false = refl

@@ -132,7 +132,7 @@ module _ (blocks : List Octets) (inode slot : Octets) where
         slot_is = file.slot_is;
       }
 
-  -- and back
+  -- from format 1 to both formats
   from_one : IsFileOne o → IsFile e
   from_one file =
       let parts = spare_parts inode file.spare in

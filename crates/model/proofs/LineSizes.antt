@@ -173,7 +173,7 @@ content_there name text some = by_found (find (is_named name) (fields text)) ref
   by_found None is = absurd (true≢false (sym (field_counted name text is) ∙ some))
   by_found (Some f) is = omega (arith, content_less f, named_size name f (found_named name (fields text) f is))
 
--- or of one that may be there
+-- the content of a field that may be there
 content_most : (name text : Octets) → length (content name text) ≤ cost (fields text) name
 content_most name text = by_found (find (is_named name) (fields text)) where
   by_found : (o : Option Octets) → length (unwrap_or (option_map content_of o) []) ≤ sized o

@@ -162,7 +162,7 @@ module _ (items name : List ℕ) where
         record { place = some.place; after = omega (arith, some.after); holds = some.holds }
   ]
 
-  -- and the other way round
+  -- what the items after * take from some place on, * takes
   pub run-before : (left at k : ℕ) → tail_takes at (k + left) ≡ true → run_takes at k ≡ true
   run-before zero at k taken =
       let here : k + 0 ≡ k = omega arith in

@@ -66,7 +66,7 @@ wildmat_by_parts text plain =
     (first_alike p.first (p.begins_so ∙ plain))
     ∙ sym (ap later_patterns_of p.is)
 
--- and one that does is none
+-- a text that begins with ! is no wildmat
 pub no_wildmat : (text : List ℕ) → begins is_mark text ≡ true → wildmat_of text ≡ None
 no_wildmat text marked =
     let p = parted text in

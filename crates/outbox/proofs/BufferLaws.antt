@@ -62,7 +62,7 @@ entries_in-more octets slots number start end g within from to =
     ∙ ap (λ none. entries_in octets slots ++ (if none && not g.ended then [] else (number, g.octets, g.ended) ∷ []))
     (empty_or_not start end (length g.octets) (omega arith))
 
--- and the slots lie within the octets still
+-- the slots still lie within the octets
 LiesWithin-more : (size more : ℕ) (slots : List Slot) → size ≤ more → All (LiesWithin size) slots → All (LiesWithin more) slots
 LiesWithin-more size more slots le within k d below = let at = within k d below in
     record { order = at.order; bound = omega (arith, at.bound) }

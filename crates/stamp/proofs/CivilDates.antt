@@ -137,6 +137,6 @@ is_date-to_civil year month day is =
     let day_high : day ≤ days_in_month (is_leap_year year) month = leb-true _ _ days.1 in
     ((omega (arith, ints), omega (arith, ints)), (omega (arith, ints), omega (arith, ints)), (omega (arith, ints), omega (arith, ints)))
 
--- and it is in no year before 1970
+-- the civil date of a moment is in no year before 1970
 pub year_since-civil : (moment : ℕ) (year : ℤ) (month day : ℕ) → IsDateOfDay (moment / 86_400) year month day → 1970 ≤ unsigned_abs year
 year_since-civil moment year month day is = year_since moment (date_of year month day) (record { is = is.is; day = is.number })
