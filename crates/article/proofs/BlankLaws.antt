@@ -13,7 +13,7 @@ use Rattle.model.specs.Stream.{Octets}
 use Rattle.model.specs.Names.{is_blank}
 use Rattle.model.specs.Article.{trimmed_start}
 use Rattle.names.proofs.BlankLaws.{blanks, inside, outside}
-use Rattle.article.proofs.LineLaws.{each_passes}
+use Rattle.header_fields.proofs.LineLaws.{each_passes}
 
 start-blank : (x : ℕ) (rest : Octets) → is_blank x ≡ true → trimmed_start (x ∷ rest) ≡ trimmed_start rest
 unfolding trimmed_start

@@ -13,7 +13,7 @@ use Rattle.model.specs.Article.{Origin, allows_id, are_distinct, id_in_field, is
 use Rattle.model.proofs.Ids.{none_kept, none_found}
 use Rattle.article.specs.Causes.{has_good_id}
 use Rattle.names.proofs.PartLaws.{cut_at, uncut}
-use Rattle.article.proofs.LineLaws.{is_false}
+use Rattle.header_fields.proofs.LineLaws.{is_false}
 
 abbrev is_id_field : Octets → Bool
 is_id_field = is_named (codes "Message-ID")

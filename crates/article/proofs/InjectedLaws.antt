@@ -16,7 +16,7 @@ use Rattle.model.proofs.Ids.{no_cause}
 use Rattle.model.proofs.Ids.{HasNoCause}
 use Rattle.model.proofs.Stored.{date_plain, grouped, header_front, is_no_lf, lines_front, made_plain, no_lf, path_plain, stored}
 use Rattle.std.specs.Option.{option_or}
-use Rattle.article.specs.Header.{IsHeader}
+use Rattle.header_fields.specs.Header.{IsHeader}
 use Rattle.article.specs.Stored.{added_to, field_line, front, front_fields, path_of, perhaps}
 
 -- lines before a text

@@ -1,6 +1,3 @@
-pub mod LineLaws
-pub mod HeaderLaws
-pub mod FieldLaws
 pub mod BlankLaws
 pub mod SplitLaws
 pub mod ContentLaws

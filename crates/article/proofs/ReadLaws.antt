@@ -9,7 +9,7 @@ use Rattle.model.specs.Article.{Origin, Posted, Carried, Cause, WrongOctets, NoE
 use Rattle.model.specs.Article.{cause, cause_but_long, content, fields, has_empty_line, header, is_short as is_short_text, first_cause}
 use Rattle.model.specs.Article.{has_lines_alone, has_fields_alone, header_lines}
 use Rattle.model.proofs.Stored.{header_stored}
-use Rattle.article.specs.Header.{IsHeader}
+use Rattle.header_fields.specs.Header.{IsHeader}
 use Rattle.article.specs.Origins.{HasSmallSerial, names_host}
 use Rattle.article.specs.Causes.{content_in, field_cause, front_for, has_good_groups, has_good_id, has_twice, is_short, lacks_field}
 use Rattle.article.specs.Causes.{shape_cause}

@@ -14,7 +14,7 @@ use Rattle.model.specs.Article.{line_text, unfolded}
 use Rattle.model.specs.declared.message.Mode.TheVariants as mode
 use Rattle.model.proofs.LineLaws.{lines-empty, lines-line, lines-rest}
 use Rattle.model.proofs.StreamLaws.{end_cases}
-use Rattle.article.proofs.LineLaws.{ends_there, occurs, too_early}
+use Rattle.header_fields.proofs.LineLaws.{ends_there, occurs, too_early}
 
 -- CRLF in what is left stands further back in the whole
 occurs-whole : (text : Octets) (last k : ℕ) → last ≤ length text → OccursAt (drop last text) crlf k → OccursAt text crlf (last + k)

@@ -1,7 +1,7 @@
 -- What a posted article keeps of its stored text.
 use Rattle.std.specs.Prelude.{◌≡◌, ◌+◌, ◌++◌, ◌≤◌, codes, length, map}
 use Rattle.model.specs.Article.{content, fields}
-use Rattle.article.specs.Header.{IsHeader}
+use Rattle.header_fields.specs.Header.{IsHeader}
 use Rattle.article.specs.declared.injected.Injected.TheInside.{Inside}
 
 -- where the header ends, the added fields and the posted ones, and the content of Newsgroups

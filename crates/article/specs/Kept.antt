@@ -1,7 +1,7 @@
 -- What an article keeps of its text.
 use Rattle.std.specs.Prelude.{◌≡◌, ◌+◌, ◌≤◌, codes, length, map}
 use Rattle.model.specs.Article.{content, fields}
-use Rattle.article.specs.Header.{IsHeader}
+use Rattle.header_fields.specs.Header.{IsHeader}
 use Rattle.article.specs.declared.Article.TheInside.{Inside}
 
 -- where the header ends, the fields, and the content of Newsgroups

@@ -1,4 +1,3 @@
-pub mod Header
 pub mod Origins
 pub mod Causes
 pub mod Stored

@@ -5,14 +5,13 @@ ghost use Rattle.std.specs.List.{list_all, list_any};
 ghost use Rattle.model.specs.Article as article;
 ghost use Rattle.model.specs.Names as model_names;
 ghost use Rattle.article.specs.Causes as causes;
-ghost use Rattle.article.specs.Header.{IsHeader};
+ghost use Rattle.header_fields.specs.Header.{IsHeader};
 ghost use Rattle.article.specs.Origins.{HasSmallSerial, cause_of, origin_of};
 
 use crate::contents::{count, find_field, id_in_field, is_blank_field, trim, unfold, value_of};
-use crate::fields::has_fields_alone;
-use crate::lines::has_lines_alone;
 use crate::origin::{Cause, Origin};
 use crate::stored::front;
+use header_fields::{has_fields_alone, has_lines_alone};
 use memchr::memchr;
 use names::{is_group_name, is_message_id, is_of_host};
 use std::alloc::{AllocError, Global};

@@ -7,9 +7,8 @@ ghost use Rattle.model.specs.Article as article;
 ghost use Rattle.model.specs.Names as names;
 ghost use Rattle.article.specs.Causes.{content_in, is_blank_in};
 
-use crate::fields::name_of;
-use crate::lines::line_length;
 use bstr::ByteSlice;
+use header_fields::{line_length, name_of};
 use std::alloc::{AllocError, Global};
 
 /// SP and TAB (RFC 5322, 2.2.2).

@@ -6,8 +6,7 @@ ghost use Rattle.article.specs.Causes.{content_in};
 
 use crate::Article;
 use crate::contents::{find_field, id_in_field, push_content, unfold, value_of};
-use crate::fields::fields_of;
-use crate::lines::{header_length, line_count};
+use header_fields::{fields_of, header_length, line_count};
 use std::alloc::{AllocError, Global};
 use std::marker::Model;
 

@@ -11,21 +11,17 @@ ghost use Rattle.article.specs.declared.origin.Cause.{Cause as Told};
 
 mod causes;
 mod contents;
-mod fields;
 mod header;
 mod injected;
-mod lines;
 mod origin;
 mod stored;
 
 use causes::{field_cause, front_length, groups_in, is_short, newsgroups_in, shape_cause};
 pub use causes::{HEADER_LIMIT, TEXT_LIMIT};
 use contents::{find_field, id_in_field, unfold, value_of};
-use fields::fields_of;
 pub use header::{Header, body_line_count};
+use header_fields::{fields_of, header_length, line_count};
 pub use injected::Injected;
-pub use lines::header_length;
-use lines::line_count;
 use model::Text;
 pub use origin::{Cause, Origin, ReadError};
 use std::alloc::{AllocError, Global};

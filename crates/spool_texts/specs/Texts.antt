@@ -6,7 +6,7 @@ use Rattle.model.specs.Stream.{Octets, line}
 use Rattle.model.specs.Indexed.{ArePlaces, FilePlaces, line_start}
 use Rattle.model.specs.Spool.{Spool, group_named, high, low}
 use Rattle.lookups.specs.Held.{article_with, text_of}
-use Rattle.article.specs.Header.{IsHeader}
+use Rattle.header_fields.specs.Header.{IsHeader}
 use Rattle.index.specs.View.{IndexView, Indexes}
 use Rattle.spool_texts.specs.declared.finding.TextPlace.{TextPlace}
 

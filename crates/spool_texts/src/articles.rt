@@ -12,7 +12,7 @@ ghost use Rattle.spool_texts.specs.Texts.{HasArticle};
 
 use crate::finding::{front_of, place_of};
 use crate::sending::push_stuffed;
-use article::header_length;
+use header_fields::header_length;
 use index::Index;
 use model::Part;
 use places::Places;

@@ -4,9 +4,10 @@ ghost use Rattle.std.specs.Prelude.{◌≡◌, ◌<◌, length, IfOk};
 ghost use Rattle.model.specs.Files.{HasRoom, IsFile, IsFileSystem, entry};
 ghost use Rattle.spool_texts.specs.Texts.{HasArticle, HasHeader, IsPlaceOf, octets_in};
 
-use article::{HEADER_LIMIT, header_length};
+use article::HEADER_LIMIT;
 use fs_inodes::read_entry;
 use fs_layout::inodes::size_of;
+use header_fields::header_length;
 use index::Index;
 use places::Places;
 use std::alloc::{AllocError, Global};

@@ -3,7 +3,7 @@ use Rattle.std.specs.Prelude.{None, codes}
 use Rattle.std.specs.List.{concat}
 use Rattle.std.proofs.lemmas.List.{length-append}
 use Rattle.model.specs.Article.{Posted, cause, content, fields, injected}
-use Rattle.article.specs.Header.{IsHeader}
+use Rattle.header_fields.specs.Header.{IsHeader}
 use Rattle.article.specs.Stored.{front, front_fields}
 use Rattle.article.proofs.InjectedLaws.{concat_front, injected_fields, injected_header, injected_newsgroups}
 use Rattle.article.proofs.Article.injected.Goals as goal

@@ -1,7 +1,7 @@
 use Rattle.std.proofs.Common.{◌∙◌, ap, ◌+◌, length}
 use Rattle.model.specs.Stream.{lines}
 use Rattle.model.specs.Article.{header_lines}
-use Rattle.article.proofs.HeaderLaws.{lines-drop}
+use Rattle.header_fields.proofs.HeaderLaws.{lines-drop}
 use Rattle.article.proofs.Article.line_count.Goals as goal
 
 pub returns : goal.returns

@@ -3,7 +3,7 @@ use Rattle.std.proofs.lemmas.List.{drop_all, take_rest}
 use Rattle.model.specs.Stream.{Octets, lines}
 use Rattle.model.specs.Article.{header_lines}
 use Rattle.model.proofs.LineLaws.{lines-empty}
-use Rattle.article.proofs.HeaderLaws.{lines-drop}
+use Rattle.header_fields.proofs.HeaderLaws.{lines-drop}
 use Rattle.article.proofs.header.body_line_count.Goals as goal
 
 pub returns-then-header-text : goal.returns-then-header-text

@@ -3,7 +3,7 @@ use Rattle.std.proofs.lemmas.Result.{on_ok_weaker}
 use Rattle.model.specs.Article.{header}
 use Rattle.model.specs.Files.{content_of, entry}
 use Rattle.model.specs.Stream.{stuffed}
-use Rattle.article.specs.Header.{IsHeader}
+use Rattle.header_fields.specs.Header.{IsHeader}
 use Rattle.spool_texts.proofs.Headers.{head_stands}
 use Rattle.spool_texts.proofs.articles.push_head.Goals as goal
 

@@ -2,7 +2,7 @@ use Rattle.std.proofs.Common.{◌<◌, ◌≤◌, ℕ, List, length, drop, sym, 
 use Rattle.std.proofs.lemmas.List.{take-take}
 use Rattle.std.proofs.lemmas.Result.{IfOk-weaker}
 use Rattle.model.specs.Files.{content_of, entry}
-use Rattle.article.specs.Header.{IsHeader}
+use Rattle.header_fields.specs.Header.{IsHeader}
 use Rattle.spool_texts.specs.Texts.{HasHeader, octets_in}
 use Rattle.spool_texts.proofs.Headers.{found_in_front, whole_text}
 use Rattle.spool_texts.proofs.finding.front_of.Goals as goal
