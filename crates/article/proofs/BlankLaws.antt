@@ -40,7 +40,7 @@ start-none (x ∷ rest) none =
     start-none rest (λ k low below. none (suc k) (omega arith) (omega arith))
     ∙ sym (start-blank x rest (inside x (none 0 (omega arith) (omega arith))))
 
--- a text less its blanks at the end
+-- a text without its trailing blanks
 abbrev trimmed_end : Octets → Octets
 trimmed_end text = reverse (trimmed_start (reverse text))
 

@@ -24,7 +24,7 @@ good_id-none origin fields none =
     sym (ap (λ b. b || allows_id origin (unwrap_or (option_map id_in_field (find is_id_field fields)) []))
     (eq-eqb (count_by is_id_field fields) 0 (sym (length-filter is_id_field fields) ∙ none_found is_id_field fields none)))
 
--- with one it decides
+-- with the field, the id in it decides
 pub good_id-some : (origin : Origin) (fields : List Octets) (field : Octets) (good : Bool) → find is_id_field fields ≡ Some field
     → good ≡ allows_id origin (id_in_field field) → good ≡ has_good_id origin fields
 good_id-some origin fields field good some is =
@@ -73,7 +73,7 @@ distinct-more (x ∷ rest) d some other =
     ∙ ap (λ b. not b && are_distinct (map (λ (y : Bor Octets). y.now) rest))
     (ap (λ l. list_any (bytes_eq x.now) (map (λ (y : Bor Octets). y.now) l)) (sym all) ∙ other))
 
--- the same name again
+-- where a name occurs again
 pub distinct-twice : (rest : List (Bor Octets)) (d : Bor Octets) → 1 ≤ length rest
     → list_any (bytes_eq (slice_index_or rest 0 d).now) (map (λ (x : Bor Octets). x.now) (take (length rest - 1) (drop 1 rest))) ≡ true
     → are_distinct (map (λ (x : Bor Octets). x.now) rest) ≡ false

@@ -1,6 +1,6 @@
 -- What is put before a posted text leaves its lines, its fields and its groups as they are.
-use Rattle.std.specs.Prelude.{◌≡◌, ℕ, ◌+◌, ◌<◌, ◌≤◌, ◌^◌, Bool, true, false, ◌||◌, ◌==◌, if◌then◌else◌, List, [], ◌∷◌, ◌++◌, length, take, drop}
-use Rattle.std.specs.Prelude.{find, codes, bytes_eq, count_by, nat_lt, Option, Some, None, option_map, unwrap_or, IsTrue}
+use Rattle.std.specs.Prelude.{◌≡◌, ℕ, ◌+◌, ◌<◌, ◌≤◌, ◌^◌, Bool, true, false, ◌||◌, ◌==◌, if◌then◌else◌, List, [], ◌∷◌, ◌++◌, length}
+use Rattle.std.specs.Prelude.{take, drop, find, codes, bytes_eq, count_by, nat_lt, Option, Some, None, option_map, unwrap_or, IsTrue}
 use Rattle.std.specs.List.{concat, list_all, list_any}
 use Rattle.std.proofs.Common.{sym, ◌∙◌, ap, refl, subst, arith}
 use Rattle.std.proofs.lemmas.Bool.{cond-false, lt-ltb}
@@ -105,7 +105,8 @@ pub concat_front : (host : Octets) (serial moment : ℕ) (all : List Octets)
     → concat (front_fields host serial moment all) ≡ front host serial moment all
 concat_front host serial moment all =
     concat-append (path ++ date) id ∙ (λ i. concat-append path date i ++ concat_one lacks_id id_line i)
-    ∙ (λ i. concat_one lacks_path path_line i ++ concat_one lacks_date date_line i ++ added_to all (codes "Message-ID") (made_id host serial))
+    ∙ (λ i. concat_one lacks_path path_line i ++ concat_one lacks_date date_line i
+    ++ added_to all (codes "Message-ID") (made_id host serial))
   where
     path_line : Octets
     path_line = field_line (codes "Path") (path_of host)

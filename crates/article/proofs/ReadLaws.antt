@@ -14,7 +14,7 @@ use Rattle.article.specs.Origins.{HasSmallSerial, names_host}
 use Rattle.article.specs.Causes.{content_in, field_cause, front_for, has_good_groups, has_good_id, has_twice, is_short, lacks_field}
 use Rattle.article.specs.Causes.{shape_cause}
 
--- the text as it would be stored, by what is put in front
+-- the text as it would be stored, by what is put before it
 stored_header : (origin : Origin) (text : Octets) → IsTrue (names_host origin) → HasSmallSerial origin
     → header (as_stored origin text) ≡ front_for origin (fields text) ++ header text
 stored_header (Posted host serial) text good small = header_stored host text serial 0 good small

@@ -16,7 +16,7 @@ use Rattle.model.proofs.LineLaws.{lines-empty, lines-line, lines-rest}
 use Rattle.model.proofs.StreamLaws.{end_cases}
 use Rattle.header_fields.proofs.LineLaws.{ends_there, occurs, too_early}
 
--- CRLF in what is left stands further back in the whole
+-- CRLF in the rest of a text stands at a later place in the text
 occurs-whole : (text : Octets) (last k : ℕ) → last ≤ length text → OccursAt (drop last text) crlf k → OccursAt text crlf (last + k)
 occurs-whole text last k within at = record {
   fits = omega (arith, at.fits, length-drop last text, within);
@@ -24,7 +24,7 @@ occurs-whole text last k within at = record {
       ap (λ i. get_or text i 0) place ∙ sym (get_or-drop last text (k + j) 0) ∙ at.reads j below;
 }
 
--- CRLF after a place stands in what is left from there on
+-- CRLF after a place of a text stands in the rest from there
 occurs-left : (text : Octets) (last k : ℕ) → last ≤ k → OccursAt text crlf k → OccursAt (drop last text) crlf (k - last)
 occurs-left text last k low at = record {
   fits = omega (arith, at.fits, length-drop last text, low);
@@ -66,7 +66,7 @@ line_text-line rest n at =
     cond-true (ends_with nat_eq (take n rest) crlf) (take (length (take n rest) - 2) (take n rest)) (take n rest) at.ends
     ∙ ap (λ m. take m (take n rest)) cut ∙ take-take (n - 2) n rest (omega arith)
 
--- a text in which no line ends keeps all
+-- a text in which no line ends stays as it is
 unfolded-never : (rest : Octets) → NeverEnds mode.Line rest → unfolded rest ≡ rest
 unfolded-never [] never = ap (flat_map line_text) lines-empty
 unfolded-never (x ∷ rest) never =

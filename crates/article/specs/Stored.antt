@@ -27,7 +27,7 @@ front host serial moment fields =
 abbrev pub perhaps : Bool → Octets → List Octets
 perhaps b field = if b then field ∷ [] else []
 
--- the fields of the front
+-- the fields that make up `front`
 abbrev pub front_fields : Octets → ℕ → ℕ → List Octets → List Octets
 front_fields host serial moment fields =
     perhaps (count_by (is_named (codes "Path")) fields == 0) (field_line (codes "Path") (path_of host))

@@ -16,13 +16,13 @@ use memchr::memchr;
 use names::{is_group_name, is_message_id, is_of_host};
 use std::alloc::{AllocError, Global};
 
-/// The octets of the longest header that is stored (this project's rule).
+/// The largest number of octets of a header that is stored (this project's rule).
 pub const HEADER_LIMIT: usize = 8_192;
 
-/// The octets of the longest text that is stored (this project's rule).
+/// The largest number of octets of a text that is stored (this project's rule).
 pub const TEXT_LIMIT: usize = 262_144;
 
-/// The most groups of an article (this project's rule).
+/// The largest number of groups of an article (this project's rule).
 const GROUP_LIMIT: usize = 16;
 
 /// The fields that may occur at most once (RFC 5536, 3.1 and 3.2).
@@ -132,7 +132,7 @@ fn is_among(name: &[u8], names: &[&[u8]]) -> bool
     names.iter().any(|other| name == *other)
 }
 
-/// Whether no two of the names are equal. There are few.
+/// Whether no two of the names are equal. There are at most 16, so each is compared with all after it.
 fn are_distinct(names: &[&[u8]]) -> bool
     ensures { result ≡ article.are_distinct (map (λ name. name.now) names.now) }
 {
@@ -177,7 +177,8 @@ pub(crate) fn front_length(
     origin: Origin<'_>,
     fields: &[&[u8]],
 ) -> Result<usize, AllocError>
-    ensures length { IfOk result (λ added. added ≡ length (causes.front_for (origin_of origin.entry) (map (λ field. field.now) fields.now))) }
+    ensures length { IfOk result (λ added. added
+        ≡ length (causes.front_for (origin_of origin.entry) (map (λ field. field.now) fields.now))) }
     ensures small { OnOk result (HasSmallSerial (origin_of origin.entry)) }
 {
     match origin {

@@ -18,7 +18,7 @@ const BLANKS: &[u8] = b" \t";
 fn is_named(name: &[u8], field: &[u8]) -> bool
     ensures { result ≡ article.is_named name.now field.now }
 {
-    // most fields have another name, and this finds no colon in them
+    // most fields have another name: no colon stands where this one would end, so none is searched for
     if name.len() < field.len() && field[name.len()] != b':' {
         return false;
     }
@@ -39,7 +39,7 @@ pub(crate) fn find_field<'t>(fields: &[&'t [u8]], name: &[u8]) -> Option<&'t [u8
     fields.iter().find(|field| is_named(name, field)).copied()
 }
 
-/// The part after name, colon and one SP.
+/// The part of a field after its name, the colon and one SP. It is empty if the field is shorter.
 pub(crate) fn value_of(field: &[u8]) -> &[u8]
     ensures { result.now ≡ drop (length (article.name_of field.now) + 2) field.now }
 {

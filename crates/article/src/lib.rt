@@ -154,8 +154,9 @@ impl<'t> Article<'t> {
         Ok(stored)
     }
 
-    /// The same with what was read of it, so that nobody reads the stored text again. It must be an article that this
-    /// host may inject under this serial.
+    /// The text that `inject` gives, with what was read of the posted one, so that the stored text isn't read again. The
+    /// host must be valid, the moment as for `inject`, and the article one that this host may inject under this serial.
+    /// Refused only for want of memory; then the article is gone.
     pub fn injected(
         self,
         alloc: Global,

@@ -9,7 +9,7 @@ use thiserror::Error;
 /// Where a text comes from.
 #[derive(Clone, Copy)]
 pub enum Origin<'h> {
-    /// A client of this host, which would give the article this serial.
+    /// A client of this host, which would give the article this serial. Reading wants a valid host.
     Posted { host: &'h [u8], serial: u64 },
     /// Another server.
     Carried,
@@ -39,7 +39,7 @@ pub enum Cause {
 /// Why a text was not read.
 #[derive(Clone, Copy, Debug, PartialEq, Eq, Error)]
 pub enum ReadError {
-    /// A growth was refused.
+    /// An allocation was refused.
     #[error("E2 Memory")]
     Memory,
     /// The text is not an article of this origin; this is the first cause.

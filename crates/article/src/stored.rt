@@ -32,7 +32,8 @@ fn push_missing(
     content: &[u8],
 ) -> Result<(), AllocError>
     ensures { OnOk result (added.new.items ≡ added.old.items
-        ++ stored.perhaps (count_by (is_named name.now) (map (λ field. field.now) fields.now) == 0) (stored.field_line name.now content.now)) }
+        ++ stored.perhaps (count_by (is_named name.now) (map (λ field. field.now) fields.now) == 0)
+        (stored.field_line name.now content.now)) }
 {
     if count(fields, name) == 0 {
         added.push(Text::new(field_line(alloc, name, content)?))?;

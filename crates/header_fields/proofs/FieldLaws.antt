@@ -16,7 +16,7 @@ use Rattle.header_fields.specs.Header.{EndsField}
 use Rattle.header_fields.proofs.LineLaws.{is_false}
 use Rattle.header_fields.proofs.HeaderLaws.{header_lines-empty, header_lines-end, header_lines-line, least_line}
 
--- a line that goes on with the field in front is a part of it
+-- a line that continues the field before it is a part of that field
 fields-joined : (front line : Octets) (later : List Octets) → begins is_blank line ≡ true
     → fields_of_lines (front ∷ line ∷ later) ≡ fields_of_lines ((front ++ line) ∷ later)
 unfolding fields_of_lines
@@ -83,7 +83,7 @@ GoesOn-line text first rest line later end n before blank some fits front back i
           ∙ ap (λ l. fields_of_lines (l ∷ header_lines later)) (sym (take-add end n text));
     }
 
--- a text that doesn't begin with a blank goes on with no field
+-- a text that doesn't begin with a blank continues no field
 not_continued : (rest : Octets) → begins is_blank rest ≡ false → continues (header_lines rest) ≡ false
 not_continued [] is = ap continues header_lines-empty
 not_continued (x ∷ rest) is = by_first (least_line (x ∷ rest) (omega arith)) where
@@ -96,7 +96,7 @@ not_continued (x ∷ rest) is = by_first (least_line (x ∷ rest) (omega arith))
         ap continues (header_lines-line (x ∷ rest) (take n (x ∷ rest)) (drop n (x ∷ rest)) first other)
         ∙ begins-take (x ∷ rest) n some ∙ is
 
--- where the lines go on no further, the field ends
+-- where the next line doesn't continue the field, the field ends
 pub EndsField-found : (text : Octets) (first : ℕ) (rest : Octets) (end : ℕ) → GoesOn text first rest end → begins is_blank rest ≡ false
     → EndsField text first end
 EndsField-found text first rest end before is =
@@ -147,7 +147,7 @@ module _ (rest line later : Octets) (n : ℕ) (first : lines rest ≡ take n res
   pub alone-end : bytes_eq line crlf ≡ true → has_fields_alone (header_lines rest) ≡ true
   alone-end ends = ap has_fields_alone (header_lines-end rest line later same ends)
 
-  -- the first field is put to those before it
+  -- the first field is appended to those before it
   pub fields-more : (before : List Octets) (end : ℕ) (field after : Octets) (all : List Octets) → bytes_eq line crlf ≡ false
       → EndsField rest n end → field ≡ take end rest → after ≡ drop end rest
       → before ++ fields rest ≡ all → (before ++ field ∷ []) ++ fields after ≡ all

@@ -1,10 +1,11 @@
 -- A line ends at the first CRLF.
-use Rattle.std.specs.Prelude.{◌≡◌, ◌≢◌, ℕ, zero, suc, ◌+◌, ◌-◌, ◌<◌, ◌≤◌, Bool, true, false, not, ◌||◌, ◌&&◌, ◌==◌, nat_eq, nat_lt, List, [], ◌∷◌}
-use Rattle.std.specs.Prelude.{length, take, drop, get_or, bytes_eq}
+use Rattle.std.specs.Prelude.{◌≡◌, ◌≢◌, ℕ, zero, suc, ◌+◌, ◌-◌, ◌<◌, ◌≤◌, Bool, true, false, not, ◌||◌, ◌&&◌, ◌==◌, nat_eq, nat_lt, List}
+use Rattle.std.specs.Prelude.{[], ◌∷◌, length, take, drop, get_or, bytes_eq}
 use Rattle.std.specs.List.{ends_with, list_all}
 use Rattle.std.proofs.Common.{sym, ◌∙◌, ap, refl, arith, inl, inr, subst}
 use Rattle.std.proofs.Math.Seq.{drop-cons}
-use Rattle.std.proofs.lemmas.List.{drop_all, get_or-drop, get_or-take, get_or_past, length-drop, length-take-le, nil_from_length, take-take, take_all}
+use Rattle.std.proofs.lemmas.List.{drop_all, get_or-drop, get_or-take, get_or_past, length-drop, length-take-le, nil_from_length, take-take}
+use Rattle.std.proofs.lemmas.List.{take_all}
 use Rattle.std.proofs.lemmas.List.Folds.{list_all_at}
 use Rattle.std.proofs.Math.Bool.{and-false}
 use Rattle.std.proofs.lemmas.Bool.{true≢false, cases_lt, eqb-true, lt-ltb, ne_eqb, and_from}
@@ -17,7 +18,7 @@ use Rattle.model.proofs.LineLaws.{lines-empty, lines-line, lines-rest}
 use Rattle.model.proofs.StreamLaws.{end_cases}
 use Rattle.model.proofs.Ends.{ends_with-get, ends_with-length}
 
--- where a front ends in CRLF, CRLF occurs
+-- where a prefix ends in CRLF, CRLF occurs
 pub occurs : (text : List ℕ) (k : ℕ) → k ≤ length text → ends_with nat_eq (take k text) crlf ≡ true → OccursAt text crlf (k - 2)
 occurs text k within ends =
     let size = length-take-le k text within in
@@ -32,7 +33,7 @@ occurs text k within ends =
 pub too_early : (text : List ℕ) (k : ℕ) → k ≤ length text → ends_with nat_eq (take k text) crlf ≡ true → 2 ≤ k
 too_early text k within ends = omega (arith, length-take-le k text within, ends_with-length (take k text) crlf ends)
 
--- a front before the first CRLF's end doesn't end in it
+-- a prefix that stops before the end of the first CRLF doesn't end in CRLF
 none_ends : (text : List ℕ) (at k : ℕ) → Nowhere (OccursAt text crlf) 0 at → k ≤ length text → k < at + 2
     → ends_with nat_eq (take k text) crlf ≡ false
 none_ends text at k none within below = by_test (ends_with nat_eq (take k text) crlf) refl where

@@ -31,7 +31,8 @@ invariant_of-result c =
     let added = c.in_ok-added.ensures ∙ ap (front_fields host n t) posted in
     let before = c.in_ok-text.ensures ∙ ap concat (c.deref-2.ensures.value ∙ added) ∙ concat_front host n t (fields text) in
     let same : stored ≡ injected host n t text = c.in_ok-extend_from_slice.ensures.items ∙ ap (λ (b : List ℕ). b ++ text) before in
-    let none : cause (Posted host n) text ≡ None = subst (λ (x : List ℕ). cause (Posted host n) x ≡ None) (sym c.self.view_is) c.requires.cause in
+    let none : cause (Posted host n) text ≡ None =
+    subst (λ (x : List ℕ). cause (Posted host n) x ≡ None) (sym c.self.view_is) c.requires.cause in
     let small : n < 2 ^ 64 = omega (arith, c.ranges.serial.fits) in
     let room : h + 2 ≤ length text = c.self.invariant.room in
     let size : c.len.result ≡ length (front host n t (fields text)) = c.len.ensures ∙ c.in_ok-text.text.ok.0 ∙ ap length before in
@@ -40,7 +41,9 @@ invariant_of-result c =
     record {
       header = subst (λ (p : List ℕ × ℕ). IsHeader p.0 (p.1 + h)) (λ i. (sym same i, sym size i)) at;
       room = omega (arith, room, size, ap length same, length-append (front host n t (fields text)) text);
-      fields = (λ i. added i ++ c.self.invariant.fields i) ∙ injected_fields host text n t c.requires.host small none ∙ ap fields (sym same);
+      fields =
+          (λ i. added i ++ c.self.invariant.fields i) ∙ injected_fields host text n t c.requires.host small none
+          ∙ ap fields (sym same);
       newsgroups =
           c.self.invariant.newsgroups ∙ sym (injected_newsgroups host text n t c.requires.host small none)
           ∙ ap (content (codes "Newsgroups")) (sym same);

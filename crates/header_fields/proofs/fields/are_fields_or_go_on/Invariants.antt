@@ -5,7 +5,7 @@ use Rattle.model.specs.Names.{begins, is_blank}
 use Rattle.model.specs.Article.{begins_field, header_lines}
 use Rattle.header_fields.proofs.fields.are_fields_or_go_on.Given as goal
 
--- the lines so far do
+-- each line so far begins a field or continues one
 abbrev pub invariant-loop-rest : goal.invariant-loop-rest
 invariant-loop-rest l =
     list_all (λ line. begins is_blank line || begins_field line) (header_lines l.rest)

@@ -2,7 +2,7 @@ use Rattle.std.proofs.Common.{length}
 use Rattle.header_fields.proofs.FieldLaws.{GoesOn}
 use Rattle.header_fields.proofs.fields.field_end.Given as goal
 
--- the lines so far go on with the field
+-- the lines so far continue the field
 abbrev pub invariant-loop-rest : goal.invariant-loop-rest
 invariant-loop-rest l = GoesOn l.text l.first l.rest l.end
 
