@@ -6,11 +6,12 @@ ghost use Rattle.model.specs.Indexed.{group_index};
 ghost use Rattle.model.specs.Lawful.{MayExpire, MayMake, is_description_octet};
 ghost use Rattle.model.specs.Spool.{Spool, group_named};
 ghost use Rattle.model.specs.Spool as spool;
-ghost use Rattle.index.specs.Shown.{shown};
+ghost use Rattle.index_groups.specs.Shown.{shown};
 ghost use Rattle.index.specs.View.{Indexes};
 ghost use Rattle.admission.specs.Fields.{are_group_fields};
 
-use index::{Group, Index};
+use index::Index;
+use index_groups::Group;
 use model::Text;
 use names::is_group_name;
 use std::alloc::{AllocError, Global};

@@ -23,8 +23,8 @@ use Rattle.model.proofs.HoldsOne.{carried_cause}
 use Rattle.model.proofs.Ids.{no_cause}
 use Rattle.model.proofs.Joined.{bytes_swap, map_twice}
 use Rattle.model.proofs.Owning.{free_kind}
-use Rattle.index.specs.Filing.{EndBelow, end_of}
-use Rattle.index.specs.Naming.{heads}
+use Rattle.index_groups.specs.Filing.{EndBelow, end_of}
+use Rattle.index_groups.specs.Naming.{heads}
 use Rattle.index.specs.View.{IndexView, Indexes}
 use Rattle.index.proofs.Growing.{overview_size}
 

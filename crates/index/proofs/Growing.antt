@@ -24,8 +24,8 @@ use Rattle.model.proofs.HoldsOne.{carried_cause}
 use Rattle.model.proofs.Ids.{no_cause}
 use Rattle.model.proofs.Indexing.{articles_grow, empty_index, expiries_grow, groups_grow}
 use Rattle.model.proofs.Joined.{bytes_swap, map_twice}
-use Rattle.index.specs.Filing.{AreLineSizes, end_of, filed_by, filed_once, with_line}
-use Rattle.index.specs.Shown.{kept}
+use Rattle.index_groups.specs.Filing.{AreLineSizes, end_of, filed_by, filed_once, with_line}
+use Rattle.index.specs.Kept.{kept}
 use Rattle.index.specs.View.{IndexView, Indexes}
 use Rattle.index.specs.declared.note.Note.{Note}
 
@@ -208,7 +208,7 @@ filed_distinct host S text filed moment may =
     (and_parts (nat_le (length (groups_of text)) 16 && list_all is_group_name (groups_of text)) (are_distinct (groups_of text))
     (no_cause Carried text (carried_cause text may.carried)).good_groups).1
 
--- a name differs from all in front of it
+-- a name differs from all before it
 lacks_front : (x h : Octets) (names : List Octets) (k : ℕ) → k < length names → list_any (bytes_eq x) names ≡ false
     → bytes_eq (get_or names k []) h ≡ true → bytes_eq x h ≡ false
 lacks_front x h [] k low none at = absurd (omega arith)

@@ -14,12 +14,12 @@ use Rattle.model.specs.Spool.{Spool, NewsArticle, NewsGroup, filed_in, greatest,
 use Rattle.model.proofs.Joined.{map_twice}
 use Rattle.lookups.specs.Held.{Known, all_known, known}
 use Rattle.lookups.proofs.Absent.{last_of_groups}
-use Rattle.index.specs.Finding.{known_in}
-use Rattle.index.specs.Naming.{AreNamed, heads, name_at}
+use Rattle.index_groups.specs.Finding.{known_in}
+use Rattle.index_groups.specs.Naming.{AreNamed, heads, name_at}
+use Rattle.index_groups.proofs.Lists.{got}
+use Rattle.index_groups.proofs.Naming.{Places, here, nowhere}
 use Rattle.index.specs.View.{IndexView, Indexes}
-use Rattle.index.proofs.Lists.{got}
 use Rattle.index.proofs.LookUps.{group_found, group_not_found, not_here}
-use Rattle.index.proofs.Naming.{Places, here, nowhere}
 
 -- ---- names
 

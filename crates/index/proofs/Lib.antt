@@ -1,8 +1,5 @@
-pub mod Places
-pub mod Naming
 pub mod Growing
 pub mod LookUps
-pub mod Steps
 pub mod Lists
 pub mod Serials
 pub mod Known

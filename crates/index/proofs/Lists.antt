@@ -1,17 +1,10 @@
 -- Loops over lists: whether one passes, and the greatest.
-use Rattle.std.proofs.Common.{◌≡◌, ℕ, zero, suc, ◌+◌, ◌<◌, List, [], ◌∷◌, ◌++◌, length, map, take, get_or, refl, sym, ◌∙◌, ap, arith, Bool}
+use Rattle.std.proofs.Common.{◌≡◌, ℕ, ◌+◌, ◌<◌, List, [], ◌∷◌, ◌++◌, length, map, take, get_or, refl, sym, ◌∙◌, ap, arith, Bool}
 use Rattle.std.proofs.Common.{true, false, cond}
-use Rattle.std.specs.Prelude.{Some, filter, max, slice_get, ◌&&◌, ◌||◌}
+use Rattle.std.specs.Prelude.{filter, max, ◌&&◌, ◌||◌}
 use Rattle.std.specs.List.{list_any}
 use Rattle.std.proofs.lemmas.List.{map_push, take_more}
 use Rattle.model.specs.Spool.{greatest}
-
--- ---- an element
-
-pub got : {X : Type 0} (xs : List X) (k : ℕ) (d : X) → k < length xs → slice_get xs k ≡ Some (get_or xs k d)
-got [] k d low = absurd (omega arith)
-got (x ∷ xs) zero d low = refl
-got (x ∷ xs) (suc k) d low = got xs k d (omega arith)
 
 -- ---- whether one passes
 

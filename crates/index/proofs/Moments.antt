@@ -16,7 +16,7 @@ use Rattle.lookups.specs.Held.{article_with}
 use Rattle.index.specs.Finding.{entry_with}
 use Rattle.index.specs.Latest.{AreLatest}
 use Rattle.index.specs.Notes.{moment_in}
-use Rattle.index.specs.Shown.{kept}
+use Rattle.index.specs.Kept.{kept}
 use Rattle.index.specs.View.{IndexView, Indexes}
 use Rattle.index.specs.declared.note.Note.{Note}
 use Rattle.index.proofs.Serials.{each_moment, noted, said}
@@ -134,7 +134,7 @@ latest_which moments note last its top last_is its_is top_is = elim (cases_lt it
     by_moment more None is none = inl (omega (arith, top_is, none, more))
     by_moment more (Some m) is some = inr (inl (is ∙ ap Some (omega (arith, top_is, some, more))))
 
--- behind the last one stands the later of it and the moment of the change
+-- after the last one stands the later of it and the moment of the change
 pub latest_later : (moments : List ℕ) (notes : List Note) (note : Note) (last its top : ℕ)
     → last ≡ unwrap_or (slice_get moments (length moments - 1)) 0 → its ≡ unwrap_or (moment_in note) 0 → top ≡ max its last
     → AreLatest moments notes → AreLatest (moments ++ top ∷ []) (notes ++ note ∷ [])

@@ -1,14 +1,14 @@
 -- Which articles are new, and their lines.
 use Rattle.std.proofs.Common.{◌≡◌, ℕ, zero, suc, ◌+◌, ◌-◌, ◌<◌, ◌≤◌, List, [], ◌∷◌, ◌++◌, map, refl, sym, ◌∙◌, ap, subst, arith}
-use Rattle.std.proofs.Common.{add-one, append-nil, inl, inr, Bool, true, false, cond, drop, get_or, length}
-use Rattle.std.specs.Prelude.{◌==◌, ◌&&◌, ◌||◌, Contains, IfSome, filter, filter_map, find, flat_map, max, min, nat_le, slice_get}
+use Rattle.std.proofs.Common.{add-one, append-nil, inl, inr, Bool, true, false, cond, drop, length}
+use Rattle.std.specs.Prelude.{◌==◌, ◌&&◌, ◌||◌, Contains, IfSome, filter, filter_map, find, flat_map, nat_le, slice_get}
 use Rattle.std.specs.Prelude.{slice_index, take, Option, Some, None, ℤ, option_map, option_and_then, unwrap_or}
 use Rattle.std.specs.List.{cons_option, list_any}
 use Rattle.std.specs.Option.{option_to_list}
 use Rattle.std.proofs.Math.Seq.{drop-nil}
-use Rattle.std.proofs.lemmas.Bool.{and_from, and_parts, and_right, cases_lt, eq-eqb, eqb-true, le-leb, leb-false, leb-true, lt-leb, ne_eqb}
+use Rattle.std.proofs.lemmas.Bool.{and_from, and_parts, and_right, eq-eqb, eqb-true, le-leb, leb-false, leb-true, lt-leb, ne_eqb}
 use Rattle.std.proofs.lemmas.Bool.{or_cases}
-use Rattle.std.proofs.lemmas.List.{drop-map, length-map, take_all}
+use Rattle.std.proofs.lemmas.List.{length-map, take_all}
 use Rattle.std.proofs.lemmas.List.Concat.{flat_map-append}
 use Rattle.std.proofs.lemmas.List.Elements.{filter-append}
 use Rattle.std.proofs.lemmas.List.Folds.{list_any_at}
@@ -26,10 +26,11 @@ use Rattle.model.specs.declared.change.Change.TheVariants.{Group, Article, Expir
 use Rattle.model.proofs.Rising.{filed_rise}
 use Rattle.lookups.specs.Held.{article_with, groups_now}
 use Rattle.lookups.specs.News.{is_new, new_lines}
-use Rattle.index.specs.Finding.{EachRises, Rise, contains, is_matching, is_still_in}
+use Rattle.index_groups.specs.Finding.{EachRises, Rise, contains, is_matching}
+use Rattle.index_groups.proofs.Searching.{filter_mapped}
+use Rattle.index_groups.proofs.Lists.{any_mapped}
+use Rattle.index.specs.Finding.{is_still_in}
 use Rattle.index.specs.View.{IndexView, Indexes}
-use Rattle.index.specs.declared.group.Line.{Line}
-use Rattle.index.proofs.LookUps.{filter_mapped}
 use Rattle.index.proofs.Serials.{in_none, in_one, still_nowhere}
 
 -- ---- whether one passes
@@ -55,52 +56,9 @@ any_none : {X : Type 0} (p : X → Bool) (xs : List X) → ((x : X) → p x ≡ 
 any_none p [] none = refl
 any_none p (x ∷ xs) none = ap (λ (b : Bool). b || list_any p xs) (none x) ∙ any_none p xs none
 
-pub none_listed : {X : Type 0} (p : X → Bool) (xs : List X) → length xs ≡ 0 → list_any p xs ≡ false
-none_listed p [] none = refl
-none_listed p (x ∷ xs) none = absurd (omega arith)
-
 any_same : {X : Type 0} (p q : X → Bool) (xs : List X) → ((x : X) → p x ≡ q x) → list_any p xs ≡ list_any q xs
 any_same p q [] same = refl
 any_same p q (x ∷ xs) same = λ i. same x i || any_same p q xs same i
-
-pub any_mapped : {X Y : Type 0} (f : X → Y) (p : Y → Bool) (xs : List X) → list_any p (map f xs) ≡ list_any (λ x. p (f x)) xs
-any_mapped f p [] = refl
-any_mapped f p (x ∷ xs) = ap (λ (b : Bool). p (f x) || b) (any_mapped f p xs)
-
--- elements that do not pass may be left out at the start
-pub any_dropped : {X : Type 0} (p : X → Bool) (xs : List X) (g f : ℕ)
-    → ((j : ℕ) (d : X) → g ≤ j → j < f → j < length xs → p (get_or xs j d) ≡ false)
-    → ((j : ℕ) (d : X) → f ≤ j → j < g → j < length xs → p (get_or xs j d) ≡ false)
-    → list_any p (drop g xs) ≡ list_any p (drop f xs)
-any_dropped p [] g f one two = ap (list_any p) (drop-nil g ∙ sym (drop-nil f))
-any_dropped p (x ∷ xs) zero zero one two = refl
-any_dropped p (x ∷ xs) zero (suc f) one two =
-    ap (λ (b : Bool). b || list_any p xs) (one 0 x (omega arith) (omega arith) (omega arith))
-    ∙ any_dropped p xs 0 f (λ j d low less small. one (suc j) d (omega arith) (omega arith) (omega arith))
-    (λ j d low less small. absurd (omega arith))
-any_dropped p (x ∷ xs) (suc g) zero one two =
-    sym (ap (λ (b : Bool). b || list_any p xs) (two 0 x (omega arith) (omega arith) (omega arith))
-    ∙ any_dropped p xs 0 g (λ j d low less small. two (suc j) d (omega arith) (omega arith) (omega arith))
-    (λ j d low less small. absurd (omega arith)))
-any_dropped p (x ∷ xs) (suc g) (suc f) one two =
-    any_dropped p xs g f (λ j d low less small. one (suc j) d (omega arith) (omega arith) (omega arith))
-    (λ j d low less small. two (suc j) d (omega arith) (omega arith) (omega arith))
-
--- the lines from the first one on that is in the group and is not older
-pub marked_lines : (lines : List Line) (s older low first count : ℕ) → older < s → first ≡ max count (min (low - 1) (length lines))
-    → ((j : ℕ) (d : Line) → j < count → nat_le (get_or lines j d).serial older ≡ true)
-    → list_any (λ (l : Line). l.serial == s) (drop first lines)
-    ≡ list_any (λ n. n == s) (drop (low - 1) (map (λ (l : Line). l.serial) lines))
-marked_lines lines s older low first count above first_is early =
-    any_dropped (λ (l : Line). l.serial == s) lines first (low - 1)
-    (λ j d from to small. absurd (omega (arith, first_is)))
-    (λ j d from to small. elim (cases_lt j count) [
-      | inl less ↦ ne_eqb (get_or lines j d).serial s
-          (λ same. let old = leb-true (get_or lines j d).serial older (early j d less) in absurd (omega (arith, same, old, above)))
-      | inr more ↦ absurd (omega (arith, first_is))
-    ])
-    ∙ sym (any_mapped (λ (l : Line). l.serial) (λ n. n == s) (drop (low - 1) lines))
-    ∙ ap (list_any (λ n. n == s)) (sym (drop-map (λ (l : Line). l.serial) (low - 1) lines))
 
 -- ---- the number of an article among rising serials
 

@@ -17,13 +17,15 @@ use Rattle.model.specs.declared.change.Change.TheVariants.{Group, Article, Expir
 use Rattle.model.proofs.Filing.{new_has_nothing}
 use Rattle.model.proofs.Rising.{filed_rise}
 use Rattle.lookups.specs.Held.{article_with, gone_with, groups_now}
-use Rattle.index.specs.Finding.{Rise, entry_with, is_still_in, note_at, number_upto}
+use Rattle.index_groups.specs.Finding.{Rise}
+use Rattle.index_groups.proofs.Searching.{filter_mapped}
+use Rattle.index.specs.Finding.{entry_with, is_still_in, note_at, number_upto}
 use Rattle.index.specs.Notes.{groups_in, id_in, moment_in, size_in}
-use Rattle.index.specs.Shown.{kept}
+use Rattle.index.specs.Kept.{kept}
 use Rattle.index.specs.View.{IndexView, Indexes}
 use Rattle.index.specs.declared.note.Note.{Note}
 use Rattle.index.proofs.Lists.{any_filtered}
-use Rattle.index.proofs.LookUps.{filter_mapped, group_is, not_here}
+use Rattle.index.proofs.LookUps.{group_is, not_here}
 
 -- ---- notes
 

@@ -1,7 +1,5 @@
-pub mod Shown
+pub mod Kept
 pub mod View
-pub mod Naming
-pub mod Filing
 pub mod Notes
 pub mod Finding
 pub mod Latest

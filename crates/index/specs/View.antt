@@ -3,7 +3,7 @@ use Rattle.std.specs.Prelude.{◌≡◌, ℕ, List, map, option_map}
 use Rattle.model.specs.Stream.{Octets}
 use Rattle.model.specs.Indexed.{GroupIndex, group_index, value_of}
 use Rattle.model.specs.Spool.{Spool, by_id, entries, groups}
-use Rattle.index.specs.Shown.{kept}
+use Rattle.index.specs.Kept.{kept}
 use Rattle.index.specs.declared.note.Note.{Note}
 
 -- for each change a note, by serial; the groups, in rising serial; the serials of articles by their ids

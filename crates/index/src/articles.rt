@@ -16,7 +16,7 @@ use model::Text;
 
 impl Index {
     ghost use Rattle.index.specs.Finding.{entry_with, is_still_in, number_upto};
-    ghost use Rattle.index.specs.Shown.{kept};
+    ghost use Rattle.index.specs.Kept.{kept};
     ghost use Rattle.index.specs.View.{Indexes};
 
     /// What is kept of the change with this serial.

@@ -11,22 +11,17 @@ ghost use Rattle.model.specs.Indexed.{group_index};
 ghost use Rattle.model.specs.Lawful.{IsLawful, MayExpire, MayFile, MayMake};
 ghost use Rattle.model.specs.Spool.{Spool, by_id, by_number, expired_at, group_named, groups};
 ghost use Rattle.model.specs.declared.change.Change.{Change};
-ghost use Rattle.index.specs.Shown.{shown};
-ghost use Rattle.index.specs.Filing.{AreLineSizes, EndBelow};
-ghost use Rattle.index.specs.Naming.{heads};
+ghost use Rattle.index_groups.specs.Shown.{shown};
+ghost use Rattle.index_groups.specs.Filing.{AreLineSizes, EndBelow};
+ghost use Rattle.index_groups.specs.Naming.{heads};
 
 mod articles;
-mod filing;
-mod group;
-mod keys;
 mod latest;
 mod news;
 mod note;
 mod views;
 
-use filing::{expire_one, place_of, push_lines, reserve_lines};
-pub use group::Group;
-use keys::Keys;
+use index_groups::{Group, Keys, expire_one, place_of, push_lines, reserve_lines};
 use latest::push_latest;
 use model::{Names, Text};
 pub use note::Note;
@@ -49,9 +44,9 @@ pub struct Index {
 
 impl Model for Index {
     ghost use Rattle.std.specs.Prelude.{map};
-    ghost use Rattle.index.specs.Shown.{shown};
+    ghost use Rattle.index_groups.specs.Shown.{shown};
+    ghost use Rattle.index_groups.specs.Naming.{AreNamed, heads};
     ghost use Rattle.index.specs.Latest.{AreLatest};
-    ghost use Rattle.index.specs.Naming.{AreNamed, heads};
     ghost use Rattle.index.specs.View.{IndexView};
 
     ghost Value = { IndexView };

@@ -4,31 +4,9 @@ ghost use Rattle.std.specs.Prelude.{◌≡◌, ◌<◌, Some, length, option_map
 ghost use Rattle.model.specs.Spool.{Spool, group_named, groups};
 ghost use Rattle.lookups.specs.Held as held;
 ghost use Rattle.lookups.specs.Held.{all_known, known};
-ghost use Rattle.index.specs.Shown.{shown};
 
 use crate::Index;
-use crate::group::Group;
 use lookups::GroupView;
-
-impl Group {
-    ghost use Rattle.index.specs.Finding.{known_in};
-
-    /// The group as the commands see it.
-    pub fn view(&self) -> GroupView<'_>
-        ensures { held.shown result ≡ known_in (shown self.now) }
-    {
-        GroupView {
-            serial: self.serial(),
-            name: self.name(),
-            status: self.status(),
-            description: self.description(),
-            moment: self.moment(),
-            low: self.low(),
-            high: self.high(),
-            last: self.last(),
-        }
-    }
-}
 
 impl Index {
     ghost use Rattle.index.specs.View.{Indexes};

@@ -20,7 +20,7 @@ use Rattle.spool_opening.proofs.Filed.{are_here}
 use Rattle.spool.specs.Refusals.{article_refusal}
 use Rattle.spool.specs.View.{SpoolView}
 use Rattle.model.proofs.Indexing.{numbers_size}
-use Rattle.index.specs.Filing.{end_of}
+use Rattle.index_groups.specs.Filing.{end_of}
 use Rattle.index.proofs.Growing.{overview_size}
 use Rattle.index.proofs.LookUps.{group_is}
 use Rattle.spool.proofs.Full.{lacks}

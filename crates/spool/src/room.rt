@@ -5,12 +5,13 @@ ghost use Rattle.std.specs.List.{list_any};
 ghost use Rattle.model.specs.Room as model_room;
 ghost use Rattle.model.specs.Spool.{Spool, is_here};
 ghost use Rattle.model.specs.SpoolFiles.{numbers_file, overview_file};
-ghost use Rattle.index.specs.Filing.{end_of};
-ghost use Rattle.index.specs.Shown.{shown};
+ghost use Rattle.index_groups.specs.Filing.{end_of};
+ghost use Rattle.index_groups.specs.Shown.{shown};
 ghost use Rattle.index.specs.View.{Indexes};
 ghost use Rattle.spool_opening.specs.Replayed.{AreHere};
 
-use index::{Group, Index};
+use index::Index;
+use index_groups::Group;
 use model::Text;
 
 /// The most octets of a file that may still grow: 12,288 less than the largest file has.

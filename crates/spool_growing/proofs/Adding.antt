@@ -25,7 +25,7 @@ use Rattle.model.proofs.Joined.{bytes_same}
 use Rattle.fs.specs.Calls.{IsFileAt}
 use Rattle.filing.specs.declared.Piece.{Piece}
 use Rattle.filing.specs.Calls.{MayAllGrow, MayGrow, append_call}
-use Rattle.index.specs.Filing.{end_of}
+use Rattle.index_groups.specs.Filing.{end_of}
 use Rattle.index.specs.View.{IndexView, Indexes}
 use Rattle.index.proofs.Callers.{overview_small}
 use Rattle.index.proofs.Growing.{filed_distinct, overview_size}

@@ -5,7 +5,7 @@ ghost use Rattle.std.specs.List.{All};
 ghost use Rattle.model.specs.Files.{table};
 ghost use Rattle.model.specs.Indexed.{ArePlaces};
 ghost use Rattle.model.specs.Spool.{Spool};
-ghost use Rattle.index.specs.Filing.{AreLineSizes};
+ghost use Rattle.index_groups.specs.Filing.{AreLineSizes};
 ghost use Rattle.index.specs.View.{Indexes};
 ghost use Rattle.spool_growing.specs.Articles.{ArePieces, ArePiecesOf, CanFile, CanFileIn};
 

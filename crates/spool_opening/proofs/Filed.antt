@@ -14,7 +14,7 @@ use Rattle.model.specs.Lawful.{MayFile}
 use Rattle.model.specs.Spool.{Spool, NewsGroup, group_named, groups, is_here, is_name}
 use Rattle.model.specs.SpoolFiles.{overview_file, overview_name}
 use Rattle.model.specs.declared.change.Change.TheVariants.{Article}
-use Rattle.index.specs.Filing.{AreLineSizes, EndBelow, end_of}
+use Rattle.index_groups.specs.Filing.{AreLineSizes, EndBelow, end_of}
 use Rattle.index.specs.View.{IndexView, Indexes}
 use Rattle.index.proofs.Growing.{overview_size}
 use Rattle.places.specs.Places.{AreNamed, with_change}

@@ -13,7 +13,7 @@ use Rattle.model.specs.Spool.{Spool, NewsArticle, NewsGroup, filed_in, high}
 use Rattle.model.specs.SpoolFiles.{is_of_change, next_line, next_record, number_record, numbers_file, numbers_name, overview_file}
 use Rattle.model.specs.SpoolFiles.{overview_name}
 use Rattle.model.proofs.Indexing.{numbers_size}
-use Rattle.index.specs.Filing.{end_of}
+use Rattle.index_groups.specs.Filing.{end_of}
 use Rattle.index.proofs.Growing.{overview_size}
 use Rattle.spool_reading.specs.Sorted.{AreSorted}
 use Rattle.spool_opening.specs.Stored.{HasPiece, IsFileAt, Numbers, Overview, Which, file_for, name_for, piece_for}

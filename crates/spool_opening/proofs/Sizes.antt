@@ -11,7 +11,7 @@ use Rattle.model.specs.Indexed.{GroupIndex, group_index}
 use Rattle.model.specs.Spool.{Spool, NewsGroup, filed_in, group_named, is_here}
 use Rattle.model.specs.SpoolFiles.{next_line, overview_file}
 use Rattle.model.proofs.HoldsOne.{high_few}
-use Rattle.index.specs.Filing.{end_of}
+use Rattle.index_groups.specs.Filing.{end_of}
 use Rattle.index.specs.View.{IndexView}
 use Rattle.index.proofs.LookUps.{group_is}
 use Rattle.index.proofs.Growing.{overview_size}

@@ -15,7 +15,7 @@ use Rattle.model.proofs.Counting.{free_is_beside}
 use Rattle.model.proofs.HoldsOne.{there_few}
 use Rattle.model.proofs.Indexing.{numbers_size}
 use Rattle.fs_layout.proofs.Tables.{length-table}
-use Rattle.index.specs.Filing.{end_of}
+use Rattle.index_groups.specs.Filing.{end_of}
 use Rattle.index.specs.View.{IndexView, Indexes}
 use Rattle.index.proofs.LookUps.{group_is}
 use Rattle.index.proofs.Growing.{overview_size}

@@ -9,7 +9,7 @@ use Rattle.model.specs.Indexed.{ArePlaces, FilePlaces, GroupIndex, group_index}
 use Rattle.model.specs.Spool.{Spool, NewsArticle, NewsGroup, filed_in, groups}
 use Rattle.model.specs.SpoolFiles.{overview_file, overview_name}
 use Rattle.fs_layout.proofs.Tables.{named_from_there}
-use Rattle.index.specs.Naming.{heads}
+use Rattle.index_groups.specs.Naming.{heads}
 use Rattle.index.specs.View.{IndexView, Indexes}
 use Rattle.spool_texts.specs.Texts.{LinesRise}
 use Rattle.spool_texts.proofs.Lines.{group_ends, rising}

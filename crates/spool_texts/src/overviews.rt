@@ -7,14 +7,15 @@ ghost use Rattle.model.specs.Indexed.{ArePlaces};
 ghost use Rattle.model.specs.Spool.{Spool};
 ghost use Rattle.model.specs.Stream.{Octets, line};
 ghost use Rattle.lookups.specs.Held.{overviews_between, text_of};
-ghost use Rattle.index.specs.Shown.{shown};
+ghost use Rattle.index_groups.specs.Shown.{shown};
 ghost use Rattle.index.specs.View.{Indexes};
 ghost use Rattle.spool_texts.specs.Texts.{HasArticle, HasNumbers, IsRun, LinesRise, lines_from};
 
 use crate::finding::place_of;
 use crate::sending::END_SIZE;
 use fs_inodes::{piece, read_entry, read_into};
-use index::{Group, Index};
+use index::Index;
+use index_groups::Group;
 use overview::push_line;
 use places::Places;
 use std::alloc::{AllocError, Global};

@@ -2,10 +2,11 @@
 
 ghost use Rattle.std.specs.Prelude.{◌^◌, map};
 ghost use Rattle.std.specs.Bool.{OnTrue};
-ghost use Rattle.index.specs.Filing.{EndBelow};
-ghost use Rattle.index.specs.Shown.{shown};
+ghost use Rattle.index_groups.specs.Filing.{EndBelow};
+ghost use Rattle.index_groups.specs.Shown.{shown};
 
-use index::{Group, Index, Note};
+use index::{Index, Note};
+use index_groups::Group;
 use model::{Names, Text};
 use names::is_wildmat;
 use std::alloc::{AllocError, Global};

@@ -6,7 +6,7 @@ use Rattle.model.specs.Layout.{HoldsIn}
 use Rattle.model.specs.Spool.{NewsGroup, Spool, contents, count, groups, high, low}
 use Rattle.model.specs.SpoolFiles.{overview_file}
 use Rattle.model.specs.Stream.{Octets}
-use Rattle.index.specs.Filing.{end_of}
+use Rattle.index_groups.specs.Filing.{end_of}
 use Rattle.reporting.specs.declared.state.GroupStatus.{GroupStatus}
 use Rattle.reporting.specs.declared.state.Share.{Share}
 use Rattle.reporting.specs.declared.state.VolumeStatus.{VolumeStatus}

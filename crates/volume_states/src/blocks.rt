@@ -1,8 +1,8 @@
 //! The state of the volume of a host, in its blocks.
 
 ghost use Rattle.std.specs.Prelude.{◌≡◌, ◌<◌, ◌^◌, IfErr, IfOk, map};
-ghost use Rattle.index.specs.Filing.{EndBelow, end_of};
-ghost use Rattle.index.specs.Shown.{shown};
+ghost use Rattle.index_groups.specs.Filing.{EndBelow, end_of};
+ghost use Rattle.index_groups.specs.Shown.{shown};
 ghost use Rattle.model.specs.Files.{HasRoom};
 ghost use Rattle.model.specs.Layout.{HoldsIn};
 ghost use Rattle.model.specs.Spool.{Spool};
@@ -10,7 +10,7 @@ ghost use Rattle.volume_states.specs.State.{AreBlocks, AreInodes, IsStatusOf, of
 
 use fs_layout::inodes::free_inode_count;
 use fs_layout::marks::free_block_count;
-use index::Group;
+use index_groups::Group;
 use model::Text;
 use reporting::{GroupStatus, Share, VolumeStatus};
 use spool_opening::open;

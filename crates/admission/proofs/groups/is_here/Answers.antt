@@ -1,6 +1,6 @@
 use Rattle.model.specs.Indexed.{group_index}
 use Rattle.model.specs.Spool.{group_named}
-use Rattle.index.specs.Shown.{shown}
+use Rattle.index_groups.specs.Shown.{shown}
 use Rattle.admission.proofs.Testing.{same_some}
 use Rattle.admission.proofs.groups.is_here.Goals as goal
 

@@ -1,6 +1,6 @@
 use Rattle.std.proofs.Common.{sym, arith}
 use Rattle.std.proofs.lemmas.Bool.{true≢false, le-leb, leb-true}
-use Rattle.index.specs.Shown.{shown}
+use Rattle.index_groups.specs.Shown.{shown}
 use Rattle.admission.proofs.Testing.{expired_by_test, expiry_bounds, no_expiry_elsewhere}
 use Rattle.admission.proofs.groups.may_expire.Goals as goal
 

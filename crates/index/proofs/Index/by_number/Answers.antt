@@ -1,5 +1,5 @@
 use Rattle.std.proofs.Common.{◌∙◌}
-use Rattle.index.specs.Shown.{shown}
+use Rattle.index_groups.specs.Shown.{shown}
 use Rattle.index.proofs.LookUps.{number_found, number_not_found}
 use Rattle.index.proofs.Index.by_number.Goals as goal
 

@@ -1,4 +1,4 @@
-use Rattle.index.specs.Shown.{shown}
+use Rattle.index_groups.specs.Shown.{shown}
 use Rattle.index.proofs.LookUps.{expiry_found, expiry_not_found}
 use Rattle.index.proofs.Index.expired_at.Goals as goal
 

@@ -1,8 +1,8 @@
 use Rattle.std.proofs.Common.{ap, map, sym, ◌∙◌}
 use Rattle.std.specs.Prelude.{Some, bytes_eq}
 use Rattle.std.specs.List.{list_any}
-use Rattle.index.specs.Naming.{heads}
-use Rattle.index.specs.Shown.{shown}
+use Rattle.index_groups.specs.Naming.{heads}
+use Rattle.index_groups.specs.Shown.{shown}
 use Rattle.index.specs.View.{IndexView}
 use Rattle.index.proofs.LookUps.{group_found, group_not_found}
 use Rattle.index.proofs.Known.{named_false, named_true}

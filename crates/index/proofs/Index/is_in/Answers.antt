@@ -1,4 +1,4 @@
-use Rattle.index.specs.Shown.{shown}
+use Rattle.index_groups.specs.Shown.{shown}
 use Rattle.index.proofs.Serials.{still_found, still_nowhere}
 use Rattle.index.proofs.Index.is_in.Goals as goal
 

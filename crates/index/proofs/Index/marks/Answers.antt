@@ -2,11 +2,11 @@ use Rattle.std.proofs.Common.{◌≡◌, ◌∙◌, ◌+◌, ◌++◌, ◌<◌, 
 use Rattle.std.specs.Prelude.{◌||◌, slice_index_or}
 use Rattle.std.specs.List.{list_any}
 use Rattle.std.proofs.lemmas.List.{get_or-replicate}
-use Rattle.index.specs.Finding.{EachRises, is_matching}
-use Rattle.index.specs.Shown.{shown}
+use Rattle.index_groups.specs.Finding.{EachRises, is_matching}
+use Rattle.index_groups.specs.Shown.{shown}
+use Rattle.index_groups.proofs.Steps.{written}
 use Rattle.index.specs.View.{IndexView}
 use Rattle.index.proofs.Newest.{groups_rise, matching}
-use Rattle.index.proofs.Steps.{written}
 use Rattle.index.proofs.Index.marks.Goals as goal
 
 pub returns-clause-marked : goal.returns-clause-marked

@@ -1,5 +1,5 @@
 use Rattle.std.proofs.Common.{map, ap}
-use Rattle.index.specs.Shown.{shown}
+use Rattle.index_groups.specs.Shown.{shown}
 use Rattle.index.proofs.Growing.{none_indexed}
 use Rattle.index.proofs.Index.new.Goals as goal
 

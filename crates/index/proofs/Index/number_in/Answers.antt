@@ -1,4 +1,4 @@
-use Rattle.index.specs.Shown.{shown}
+use Rattle.index_groups.specs.Shown.{shown}
 use Rattle.index.proofs.Serials.{number_upto_found, number_upto_none}
 use Rattle.index.proofs.Index.number_in.Goals as goal
 

@@ -1,8 +1,8 @@
 use Rattle.std.proofs.Common.{ap, length, map, ◌∙◌, ◌≡◌, subst}
 use Rattle.std.specs.Prelude.{IfSome, Some, bytes_eq, slice_get}
 use Rattle.std.specs.List.{list_any}
-use Rattle.index.specs.Naming.{heads}
-use Rattle.index.specs.Shown.{shown}
+use Rattle.index_groups.specs.Naming.{heads}
+use Rattle.index_groups.specs.Shown.{shown}
 use Rattle.index.specs.View.{IndexView}
 use Rattle.index.proofs.Known.{IsPlace, place_here, place_spool, place_there}
 use Rattle.index.proofs.Index.place.Goals as goal

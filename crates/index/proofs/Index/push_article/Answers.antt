@@ -1,15 +1,15 @@
 use Rattle.std.proofs.Common.{◌≡◌, ◌+◌, ◌++◌, ◌∷◌, [], ℕ, List, length, map, sym, ap, subst, ◌∙◌, arith, cond}
 use Rattle.std.specs.Prelude.{Some, bytes_eq}
 use Rattle.model.specs.Indexed.{value_of}
-use Rattle.index.specs.Filing.{filed_by}
+use Rattle.index_groups.specs.Filing.{filed_by}
+use Rattle.index_groups.specs.Naming.{AreNamed, heads}
+use Rattle.index_groups.specs.Shown.{shown}
+use Rattle.index_groups.proofs.Steps.{filed_twice, heads_by}
 use Rattle.index.specs.Latest.{AreLatest}
-use Rattle.index.specs.Naming.{AreNamed, heads}
-use Rattle.index.specs.Shown.{shown}
 use Rattle.index.specs.View.{IndexView}
 use Rattle.index.specs.declared.note.Note.{Note}
 use Rattle.index.specs.declared.note.Note.TheVariants as note
 use Rattle.index.proofs.Growing.{article_indexed, new_serial}
-use Rattle.index.proofs.Steps.{filed_twice, heads_by}
 use Rattle.index.proofs.Index.push_article.Goals as goal
 
 pub invariant_of-self-2 : goal.invariant_of-self-2

@@ -1,15 +1,15 @@
 use Rattle.std.proofs.Common.{◌≡◌, ◌+◌, ◌++◌, ◌∷◌, [], ℕ, List, length, map, sym, ap, subst, ◌∙◌, arith}
 use Rattle.model.specs.Stream.{Octets}
-use Rattle.index.specs.Filing.{expired_once}
+use Rattle.index_groups.specs.Filing.{expired_once}
+use Rattle.index_groups.specs.Naming.{AreNamed, heads}
+use Rattle.index_groups.specs.Shown.{shown}
+use Rattle.index_groups.specs.declared.group.Group.{Group}
+use Rattle.index_groups.proofs.Steps.{heads_expired, kept_size, written}
 use Rattle.index.specs.Latest.{AreLatest}
-use Rattle.index.specs.Naming.{AreNamed, heads}
-use Rattle.index.specs.Shown.{shown}
 use Rattle.index.specs.View.{IndexView}
-use Rattle.index.specs.declared.group.Group.{Group}
 use Rattle.index.specs.declared.note.Note.{Note}
 use Rattle.index.specs.declared.note.Note.TheVariants as note
 use Rattle.index.proofs.Growing.{expiry_indexed, new_serial}
-use Rattle.index.proofs.Steps.{heads_expired, kept_size, written}
 use Rattle.index.proofs.Index.push_expiry.Goals as goal
 
 pub invariant_of-self-2 : goal.invariant_of-self-2

@@ -3,15 +3,15 @@ use Rattle.std.specs.Prelude.{Some, bytes_eq}
 use Rattle.std.specs.List.{list_any}
 use Rattle.std.proofs.lemmas.List.{map_push}
 use Rattle.model.specs.Indexed.{GroupIndex, value_of}
+use Rattle.index_groups.specs.Naming.{heads}
+use Rattle.index_groups.specs.Shown.{shown}
+use Rattle.index_groups.specs.declared.group.Group.{Group}
+use Rattle.index_groups.proofs.Naming.{named_pushed}
 use Rattle.index.specs.Latest.{AreLatest}
-use Rattle.index.specs.Naming.{heads}
-use Rattle.index.specs.Shown.{shown}
 use Rattle.index.specs.View.{IndexView}
-use Rattle.index.specs.declared.group.Group.{Group}
 use Rattle.index.specs.declared.note.Note.{Note}
 use Rattle.index.specs.declared.note.Note.TheVariants as note
 use Rattle.index.proofs.Growing.{group_indexed, new_serial}
-use Rattle.index.proofs.Naming.{named_pushed}
 use Rattle.index.proofs.Index.push_group.Goals as goal
 
 pub invariant_of-self-2 : goal.invariant_of-self-2

@@ -4,9 +4,9 @@ use Rattle.std.proofs.lemmas.List.{length-map}
 use Rattle.std.proofs.lemmas.Option.{slice_get-map}
 use Rattle.model.specs.Indexed.{GroupIndex}
 use Rattle.lookups.specs.Held as held
-use Rattle.index.specs.Shown.{shown}
+use Rattle.index_groups.specs.Shown.{shown}
+use Rattle.index_groups.proofs.Lists.{got}
 use Rattle.index.proofs.Known.{known_at}
-use Rattle.index.proofs.Lists.{got}
 use Rattle.index.proofs.Index.view_at.Goals as goal
 
 pub returns : goal.returns

@@ -2,7 +2,7 @@ use Rattle.std.proofs.Common.{◌≡◌, ℕ, Bool, [], length, map, ◌∙◌, 
 use Rattle.std.specs.Prelude.{nat_le, ◌||◌}
 use Rattle.std.proofs.lemmas.List.{length-map}
 use Rattle.model.specs.Spool.{groups}
-use Rattle.index.specs.Shown.{shown}
+use Rattle.index_groups.specs.Shown.{shown}
 use Rattle.spool.specs.View.{SpoolView}
 use Rattle.spool.proofs.Full.{full_group, group_count}
 use Rattle.spool.proofs.Spool.is_full_for_group.Goals as goal

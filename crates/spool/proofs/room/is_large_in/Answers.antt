@@ -1,5 +1,5 @@
 use Rattle.std.proofs.Common.{◌∙◌}
-use Rattle.index.specs.Shown.{shown}
+use Rattle.index_groups.specs.Shown.{shown}
 use Rattle.spool.proofs.Large.{large_group}
 use Rattle.spool.proofs.room.is_large_in.Goals as goal
 

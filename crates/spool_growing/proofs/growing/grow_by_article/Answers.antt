@@ -11,7 +11,7 @@ use Rattle.model.proofs.HoldsOne.{carried_size}
 use Rattle.fs.specs.Calls.{IsThere}
 use Rattle.filing.specs.declared.Piece.{Piece}
 use Rattle.filing.specs.Calls.{IsKnown, MayAllGrow}
-use Rattle.index.specs.Filing.{AreLineSizes}
+use Rattle.index_groups.specs.Filing.{AreLineSizes}
 use Rattle.index.specs.View.{Indexes}
 use Rattle.index.proofs.Callers.{few_groups, overviews_end}
 use Rattle.spool_growing.specs.Articles.{ArePieces}

@@ -6,7 +6,7 @@ use Rattle.model.specs.Article.{overview_line}
 use Rattle.model.specs.Indexed.{GroupIndex, group_index}
 use Rattle.model.specs.Spool.{group_named, groups}
 use Rattle.model.specs.SpoolFiles.{number_record}
-use Rattle.index.specs.Shown.{shown}
+use Rattle.index_groups.specs.Shown.{shown}
 use Rattle.spool_opening.proofs.Whole.{groups_few}
 use Rattle.spool_growing.proofs.Adding.{are_its_pieces, at_place, filed_here, is_at, kept_at, never_absent, numbers_at}
 use Rattle.spool_growing.proofs.Adding.{overview_at, same_count, short_end, short_line}

@@ -2,7 +2,7 @@ use Rattle.std.proofs.Common.{◌≡◌, ◌+◌, ◌^◌, ◌∙◌, ℕ, List,
 use Rattle.model.specs.Article.{overview_line}
 use Rattle.model.specs.Files.{table}
 use Rattle.model.specs.SpoolFiles.{next_line}
-use Rattle.index.specs.Shown.{shown}
+use Rattle.index_groups.specs.Shown.{shown}
 use Rattle.spool_opening.specs.Going.{GoesOn}
 use Rattle.spool_opening.specs.Stored.{HasPiece, file_for, name_for, piece_for}
 use Rattle.spool_opening.proofs.Sizes.{all_more, count_more, few_filed, goes_by_pieces, line_size, name_here, pieces_more, pieces_of}

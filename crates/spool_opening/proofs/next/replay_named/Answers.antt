@@ -1,5 +1,5 @@
 use Rattle.std.proofs.Common.{sym, ◌∙◌}
-use Rattle.index.proofs.Steps.{ok_map}
+use Rattle.index_groups.proofs.Steps.{ok_map}
 use Rattle.spool_opening.specs.Stored.{Numbers, Overview}
 use Rattle.spool_opening.proofs.Nexts.{group_named_there, named_at}
 use Rattle.spool_opening.proofs.next.replay_named.Goals as goal

@@ -1,7 +1,7 @@
 use Rattle.std.proofs.Common.{List, ℕ, ap, map, subst, sym}
 use Rattle.model.specs.Files.{table}
 use Rattle.model.specs.Lawful.{MayFile}
-use Rattle.index.proofs.Steps.{ok_map}
+use Rattle.index_groups.proofs.Steps.{ok_map}
 use Rattle.spool_reading.proofs.Passing.{err_map}
 use Rattle.spool_opening.specs.Replayed.{AllGoOn}
 use Rattle.spool_opening.proofs.Nexts.{all_go_on}

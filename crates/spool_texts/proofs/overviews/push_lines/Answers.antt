@@ -3,7 +3,7 @@ use Rattle.std.specs.Prelude.{min}
 use Rattle.model.specs.Files.{content_of, entry}
 use Rattle.model.specs.Indexed.{line_start}
 use Rattle.model.specs.Stream.{Octets, crlf}
-use Rattle.index.specs.Shown.{shown}
+use Rattle.index_groups.specs.Shown.{shown}
 use Rattle.spool_texts.specs.Texts.{lines_from}
 use Rattle.spool_texts.proofs.Lines.{here, next_start, one_appended}
 use Rattle.spool_texts.proofs.overviews.push_lines.Goals as goal

@@ -2,7 +2,7 @@ use Rattle.std.proofs.Common.{◌≡◌, ◌≤◌, ◌-◌, ◌++◌, ℕ, List
 use Rattle.model.specs.Files.{content_of, entry}
 use Rattle.model.specs.Indexed.{line_start}
 use Rattle.model.specs.Stream.{Octets}
-use Rattle.index.specs.Shown.{shown}
+use Rattle.index_groups.specs.Shown.{shown}
 use Rattle.spool_texts.specs.Texts.{IsRun, lines_from}
 use Rattle.spool_texts.proofs.overviews.push_lines.Given as goal
 

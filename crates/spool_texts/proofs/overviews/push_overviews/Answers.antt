@@ -9,10 +9,10 @@ use Rattle.model.specs.Indexed.{GroupIndex, group_index}
 use Rattle.model.specs.Spool.{Spool, NewsGroup, filed_in, group_named, groups}
 use Rattle.model.specs.Files.{content_of, entry}
 use Rattle.model.specs.Stream.{Octets}
-use Rattle.index.specs.Naming.{heads}
-use Rattle.index.specs.Shown.{shown}
+use Rattle.index_groups.specs.Naming.{heads}
+use Rattle.index_groups.specs.Shown.{shown}
+use Rattle.index_groups.specs.declared.group.Group.{Group}
 use Rattle.index.specs.View.{IndexView, Indexes}
-use Rattle.index.specs.declared.group.Group.{Group}
 use Rattle.spool_texts.proofs.Groups.{IsKept, has_overview, is_at, is_kept, kept_rise}
 use Rattle.spool_texts.proofs.Lines.{between}
 use Rattle.spool_texts.proofs.overviews.push_overviews.Goals as goal

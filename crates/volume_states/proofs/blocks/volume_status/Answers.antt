@@ -1,6 +1,6 @@
 use Rattle.std.proofs.Common.{◌^◌, sym, ◌∙◌, ap, map, refl, subst}
+use Rattle.index_groups.specs.Filing.{EndBelow}
 use Rattle.index.proofs.Callers.{overviews_end}
-use Rattle.index.specs.Filing.{EndBelow}
 use Rattle.model.specs.Spool.{groups}
 use Rattle.volume_states.proofs.Groups.{of_groups}
 use Rattle.volume_states.specs.State.{of_index}

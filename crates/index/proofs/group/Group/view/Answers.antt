@@ -1,5 +1,0 @@
-use Rattle.std.proofs.Common.{rules}
-use Rattle.index.proofs.group.Group.view.Goals as goal
-
-pub returns : goal.returns
-returns c = search rules

@@ -1,0 +1,4 @@
+pub mod Shown
+pub mod Naming
+pub mod Filing
+pub mod Finding
