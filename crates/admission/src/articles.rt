@@ -10,15 +10,11 @@ ghost use Rattle.index.specs.View.{Indexes};
 ghost use Rattle.admission.specs.Fields.{MayHaveId};
 
 use crate::groups::MOMENT_LIMIT;
-use article::Article;
+use article::{Article, made_id};
 use index::Index;
-use itoa::Buffer;
 use model::Text;
 use names::is_of_host;
 use std::alloc::{AllocError, Global};
-
-/// The number of octets of a made message-id besides its serial and its host: `<`, `@` and `>`.
-const ID_MARKS: usize = 3;
 
 /// The message-id of an article, empty if it has none.
 pub fn id_of<'a>(article: &'a Article<'_>) -> &'a [u8]
@@ -28,21 +24,6 @@ pub fn id_of<'a>(article: &'a Article<'_>) -> &'a [u8]
         Some(id) => id,
         None => &[],
     }
-}
-
-/// The message-id that a host makes for a serial.
-fn made_id(alloc: Global, host: &[u8], serial: u64) -> Result<Vec<u8>, AllocError>
-    ensures { IfOk result (λ id. id.items ≡ model_article.made_id host.now serial) }
-{
-    let mut buffer = Buffer::new();
-    let number = buffer.format(serial).as_bytes();
-    let mut id = Vec::with_capacity(alloc, host.len().saturating_add(ID_MARKS + number.len()))?;
-    id.extend_from_slice(b"<")?;
-    id.extend_from_slice(number)?;
-    id.extend_from_slice(b"@")?;
-    id.extend_from_slice(host)?;
-    id.extend_from_slice(b">")?;
-    Ok(id)
 }
 
 /// Whether an article with this id may get this serial.

@@ -26,6 +26,7 @@ use model::Text;
 pub use origin::{Cause, Origin, ReadError};
 use std::alloc::{AllocError, Global};
 use std::marker::Model;
+pub use stored::made_id;
 use stored::{added_fields, front, joined};
 
 /// A text that is an article, seen by contracts as its octets.

@@ -7,9 +7,13 @@ ghost use Rattle.model.specs.Calendar.{moment_limit};
 ghost use Rattle.article.specs.Stored as stored;
 
 use crate::contents::count;
+use itoa::Buffer;
 use model::Text;
 use stamp::date_header;
 use std::alloc::{AllocError, Global};
+
+/// The number of octets of a made message-id besides its serial and its host: `<`, `@` and `>`.
+const ID_MARKS: usize = 3;
 
 /// A field of one line.
 fn field_line(alloc: Global, name: &[u8], content: &[u8]) -> Result<Vec<u8>, AllocError>
@@ -51,14 +55,16 @@ fn path(alloc: Global, host: &[u8]) -> Result<Vec<u8>, AllocError>
     Ok(path)
 }
 
-/// The message-id that a host makes for a serial.
-fn made_id(alloc: Global, host: &[u8], serial: u64) -> Result<Vec<u8>, AllocError>
+/// The message-id that a host makes for a serial: `<`, the serial in decimal digits, `@`, the host and `>`. Refused only
+/// for want of memory.
+pub fn made_id(alloc: Global, host: &[u8], serial: u64) -> Result<Vec<u8>, AllocError>
     ensures { IfOk result (λ id. id.items ≡ stored.made_id host.now serial) }
 {
-    let number = format!(in alloc; "{serial}")?;
-    let mut id = Vec::new(alloc);
+    let mut buffer = Buffer::new();
+    let number = buffer.format(serial).as_bytes();
+    let mut id = Vec::with_capacity(alloc, host.len().saturating_add(ID_MARKS + number.len()))?;
     id.extend_from_slice(b"<")?;
-    id.extend_from_slice(number.as_bytes())?;
+    id.extend_from_slice(number)?;
     id.extend_from_slice(b"@")?;
     id.extend_from_slice(host)?;
     id.extend_from_slice(b">")?;
