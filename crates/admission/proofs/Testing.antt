@@ -4,7 +4,7 @@ use Rattle.std.proofs.Common.{ap, arith, Option, Some, None}
 use Rattle.std.specs.Prelude.{bytes_eq, ◌==◌, ◌&&◌, ◌||◌, not, nat_le, nat_lt, filter, option_map, is_some, IsTrue}
 use Rattle.std.specs.List.{list_all}
 use Rattle.std.proofs.lemmas.Bool.{true≢false, or_cases, or_left, or_right, and_parts, eq-eqb, eqb-true, le-leb, leb-true, lt-ltb, ltb-true}
-use Rattle.std.proofs.lemmas.Bool.{not-true}
+use Rattle.std.proofs.lemmas.Bool.{not-true, and_from}
 use Rattle.std.proofs.lemmas.List.{get_or-map, get_or_read, length-map}
 use Rattle.std.proofs.lemmas.Slice.Eq.{bytes_eq-Decides}
 use Rattle.model.specs.Stream.{Octets}
@@ -26,10 +26,6 @@ same_some f h None (Some y) is = absurd (cc)
 same_some f h (Some x) None is = absurd (cc)
 same_some f h (Some x) (Some y) is = refl
 
-both : (a b : Bool) → a ≡ true → b ≡ true → (a && b) ≡ true
-both true b one two = two
-both false b one two = one
-
 fields_from : (S : Spool) (name : Octets) (status : ℕ) (description : Octets) (moment : ℕ) → MayMake S name status description moment
     → are_group_fields name status description moment ≡ true
 fields_from S name status description moment may =
@@ -38,10 +34,10 @@ fields_from S name status description moment may =
       | inl y ↦ or_left (status == 121) (status == 110) (eq-eqb status 121 y)
       | inr n ↦ or_right (status == 121) (status == 110) (eq-eqb status 110 n)
     ] in
-    both (is_group_name name) _ may.is_name
-    (both (status == 121 || status == 110) _ y_or_n
-    (both (nat_le (length description) 200) _ (le-leb (length description) 200 may.short)
-    (both (list_all is_description_octet description) (nat_lt moment moment_limit) may.printable
+    and_from (is_group_name name) _ may.is_name
+    (and_from (status == 121 || status == 110) _ y_or_n
+    (and_from (nat_le (length description) 200) _ (le-leb (length description) 200 may.short)
+    (and_from (list_all is_description_octet description) (nat_lt moment moment_limit) may.printable
     (lt-ltb moment moment_limit may.in_time))))
 
 may_from : (S : Spool) (name : Octets) (status : ℕ) (description : Octets) (moment : ℕ)
@@ -76,7 +72,7 @@ pub made_by_test : (S : Spool) (name : Octets) (status : ℕ) (description : Oct
 made_by_test S name status description moment fields here fields_are here_is = (
   λ is. let parts = and_parts fields (not here) is in
       may_from S name status description moment (sym fields_are ∙ parts.0) (sym here_is ∙ not-true here parts.1),
-  λ may. both fields (not here) (fields_are ∙ fields_from S name status description moment may)
+  λ may. and_from fields (not here) (fields_are ∙ fields_from S name status description moment may)
       (ap not (here_is ∙ ap (λ (o : Option NewsGroup). is_some o) may.new)),
 )
 

@@ -5,12 +5,12 @@ use Rattle.std.specs.Prelude.{min}
 use Rattle.std.specs.List.{All, Contains, range_with_len, flat_map}
 use Rattle.std.proofs.lemmas.List.{drop-take, take-take, drop-drop, length-take, take_all}
 use Rattle.std.proofs.Math.Seq.{take-add}
-use Rattle.std.proofs.lemmas.List.FromFn.{get_or-range_with_len, get_or-map-range_with_len}
+use Rattle.std.proofs.lemmas.List.FromFn.{get_or-range_with_len, get_or-map-range_with_len, length-range_with_len}
 use Rattle.model.specs.Stream.{Octets}
 use Rattle.model.specs.Volume.{block, blocks_from}
 use Rattle.model.specs.Files.{Entry, size, block_count, pointer, owned, content_of}
 use Rattle.volume.proofs.Octets.{blocks_from-flat_map, get_or-blocks_from}
-use Rattle.fs_layout.proofs.Entries.{owns_pointer, length-range}
+use Rattle.fs_layout.proofs.Entries.{owns_pointer}
 
 -- a part of a front
 part_of_front : (r n m : ℕ) (octets : Octets) → r + n ≤ m → take n (drop r (take m octets)) ≡ take n (drop r octets)
@@ -27,7 +27,7 @@ module _ (blocks : List Octets) (e : Entry) (whole : All (λ b. length b ≡ 409
 
   each : All (λ i. length (get_or blocks (pointer e i) []) ≡ 4096) (range_with_len 0 (block_count e))
   each k d low =
-      let inside : k < block_count e = omega (arith, length-range 0 (block_count e)) in
+      let inside : k < block_count e = omega (arith, length-range_with_len 0 (block_count e)) in
       let none : 0 + k ≡ k = omega arith in
       ap (λ (i : ℕ). length (get_or blocks (pointer e i) [])) (get_or-range_with_len 0 (block_count e) k d inside ∙ none)
       ∙ whole (pointer e k) [] (within (pointer e k) (owns_pointer e k inside))
@@ -35,7 +35,7 @@ module _ (blocks : List Octets) (e : Entry) (whole : All (λ b. length b ≡ 409
   -- its k-th block
   pub block_of_content : (k : ℕ) → k < block_count e → block k blocks_of ≡ get_or blocks (pointer e k) []
   block_of_content k low =
-      let many = length-range 0 (block_count e) in
+      let many = length-range_with_len 0 (block_count e) in
       sym (get_or-blocks_from (block_count e) k blocks_of low)
       ∙ ap (λ (n : ℕ). get_or (blocks_from 0 n blocks_of) k []) (sym many)
       ∙ ap (λ (l : List Octets). get_or l k [])

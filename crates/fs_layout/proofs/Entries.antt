@@ -69,7 +69,3 @@ flat_map_same f g a zero same = refl
 flat_map_same f g a (suc n) same =
     ap (λ (l : Octets). l ++ flat_map f (range_with_len (a + 1) n)) (same a (omega arith) (omega arith))
     ∙ ap (λ (l : Octets). g a ++ l) (flat_map_same f g (a + 1) n (λ i low high. same i (omega arith) (omega arith)))
-
-pub length-range : (a n : ℕ) → length (range_with_len a n) ≡ n
-length-range a zero = refl
-length-range a (suc n) = ap suc (length-range (a + 1) n)

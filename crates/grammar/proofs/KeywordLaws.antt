@@ -1,5 +1,5 @@
 -- The keyword of a word, by the code's table.
-use Rattle.std.specs.Prelude.{◌≡◌, ℕ, true, false, cond, List, [], ◌∷◌, map, find, Option, Some, None, option_map}
+use Rattle.std.specs.Prelude.{◌≡◌, ℕ, true, false, cond, List, [], ◌∷◌, map, find, Some, option_map}
 use Rattle.std.specs.Str.{str_eq_ignore_ascii_case}
 use Rattle.std.proofs.Common.{refl}
 use Rattle.model.specs.Commands as commands
@@ -26,7 +26,3 @@ found_alike word (k ∷ keywords) =
 pub keyword_found : (word : List ℕ)
     → option_map meant (find (λ k. str_eq_ignore_ascii_case (text_of k) word) KEYWORDS) ≡ commands.keyword_of word
 keyword_found word = found_alike word KEYWORDS
-
-pub option_map-same : {A : Type 0} (o : Option A) → option_map (λ x. x) o ≡ o
-option_map-same None = refl
-option_map-same (Some x) = refl

@@ -1,10 +1,10 @@
 -- What becomes of a carried text, by its tests.
 use Rattle.std.proofs.Common.{◌≡◌, ◌⊎◌, inl, inr, ℕ, zero, suc, ◌<◌, arith, List, [], ◌∷◌, length, refl, sym, ◌∙◌, ap, subst, Bool, true}
 use Rattle.std.proofs.Common.{false}
-use Rattle.std.specs.Prelude.{◌==◌, ◌||◌, ◌++◌, find, filter, codes, if◌then◌else◌, Option, Some, None, option_map, option_and_then}
+use Rattle.std.specs.Prelude.{◌==◌, ◌++◌, find, filter, codes, if◌then◌else◌, Option, Some, None, option_map, option_and_then}
 use Rattle.std.specs.Prelude.{unwrap_or, bytes_eq}
 use Rattle.std.specs.List.{list_any}
-use Rattle.std.proofs.lemmas.Bool.{true≢false}
+use Rattle.std.proofs.lemmas.Bool.{true≢false, or_parts}
 use Rattle.std.proofs.lemmas.Slice.Eq.{bytes_eq-Decides}
 use Rattle.model.specs.Answer.{accepted, groups_here, has_other_id, id_here, no_group_here, spool_outcome, transfer_outcome}
 use Rattle.model.specs.Article.{Carried, added_fields, cause, cause_but_long, field_count, fields, groups_of, id, id_in_field}
@@ -22,12 +22,8 @@ use Rattle.posting_commands.proofs.Telling.{transfer_filed}
 
 -- ---- an article that was carried has a message-id
 
-or_false : (a b : Bool) → (a || b) ≡ false → (a ≡ false) × (b ≡ false)
-or_false true b e = absurd (true≢false e)
-or_false false b e = (refl, e)
-
 any_false : {X : Type 0} (p : X → Bool) (x : X) (xs : List X) → list_any p (x ∷ xs) ≡ false → (p x ≡ false) × (list_any p xs ≡ false)
-any_false p x xs e = or_false (p x) (list_any p xs) e
+any_false p x xs e = or_parts (p x) (list_any p xs) e
 
 none_mapped : {X Y : Type 0} (f : X → Y) (o : Option X) → option_map f o ≡ None → o ≡ None
 none_mapped f None e = refl
@@ -39,7 +35,7 @@ has_id text carried none =
     let counts : Octets → Bool = λ name. field_count name text == 0 in
     let there = (no_cause Carried text (no_but (cause_but_long Carried text) (long_cause Carried text) carried)).there in
     let needed =
-    (or_false (list_any counts (needed_fields Carried)) (list_any (is_blank_field text) (written_fields ++ added_fields)) there).0 in
+    (or_parts (list_any counts (needed_fields Carried)) (list_any (is_blank_field text) (written_fields ++ added_fields)) there).0 in
     let after_from = (any_false counts (codes "From") (codes "Newsgroups" ∷ codes "Subject" ∷ added_fields) needed).1 in
     let after_groups = (any_false counts (codes "Newsgroups") (codes "Subject" ∷ added_fields) after_from).1 in
     let after_subject = (any_false counts (codes "Subject") added_fields after_groups).1 in

@@ -1,10 +1,10 @@
 -- What `exec` does, from its parts.
-use Rattle.std.proofs.Common.{◌≡◌, ◌≢◌, ◌⊎◌, inl, inr, ℕ, zero, suc, ◌≤◌, ◌<◌, Bool, true, false, List, [], ◌∷◌, length, refl, ap, sym, ◌∙◌}
+use Rattle.std.proofs.Common.{◌≡◌, ◌≢◌, ◌⊎◌, inl, inr, ℕ, zero, suc, ◌≤◌, Bool, true, false, List, [], ◌∷◌, length, refl, ap, sym, ◌∙◌}
 use Rattle.std.proofs.Common.{subst, arith, set}
 use Rattle.std.specs.Prelude.{Option, Some, None, Result, Ok, Err, MatchResult, IsSome, is_none, is_some, not, ◌||◌, ◌&&◌, bytes_eq, nat_le}
 use Rattle.std.specs.Prelude.{nat_lt, slice_get, slice_index_or, if◌then◌else◌}
 use Rattle.std.proofs.Math.Bool.{or-false, or-true}
-use Rattle.std.proofs.lemmas.Bool.{le-leb, leb-true, ltb-false}
+use Rattle.std.proofs.lemmas.Bool.{ltb-false, or_cases}
 use Rattle.model.specs.declared.session.Answer.{Answer}
 use Rattle.model.specs.declared.session.Session.{Session}
 use Rattle.model.proofs.Joined.{bytes_same}
@@ -98,11 +98,6 @@ is_other xs ys other = go (bytes_eq xs ys) refl where
 differ : (xs ys : Octets) → not (bytes_eq xs ys) ≡ true → xs ≢ ys
 differ xs ys is same = absurd (cc (is, (bytes_eq-Decides xs ys).1 same))
 
--- one of two tests passes
-one_of : (a b : Bool) → (a || b) ≡ true → (a ≡ true) ⊎ (b ≡ true)
-one_of true b is = inl refl
-one_of false b is = inr is
-
 -- the dirty blocks as the spool says them
 pub changed_dirties : (s s' : SpoolView) (d : ℕ) (f : Option ℕ) (h : Bool) (j : ℕ) (seats seats' : List Seat)
     → changed.Dirties s.blocks s'.blocks s.dirty s'.dirty
@@ -129,7 +124,7 @@ changed_dirties s s' d f h j seats seats' is =
           (is_other (slice_index_or s.blocks k []) (slice_index_or s'.blocks k []) differs) ∙ or-true (is_dirty old k)
 
       to : (k : ℕ) → (is_dirty old k || other k) ≡ true → Contains s.dirty k ⊎ Differs s.blocks s'.blocks k
-      to k said = elim (one_of (is_dirty old k) (other k) said) [
+      to k said = elim (or_cases (is_dirty old k) (other k) said) [
         | inl was ↦ inl (contained k s.dirty was)
         | inr now ↦ inr (differ (slice_index_or s.blocks k []) (slice_index_or s'.blocks k []) now)
       ]
@@ -273,16 +268,6 @@ not_none (Some x) is = refl
 pub none_of : {T : Type 0} (b : Bool) (o : Option T) → is_some o ≡ not b → b ≡ true → o ≡ None
 none_of b None is yes_it = refl
 none_of b (Some x) is yes_it = absurd (cc (is, ap not yes_it))
-
-pub leb-of : (a b : ℕ) → a ≤ b → nat_le a b ≡ true
-leb-of a b le = le-leb a b le
-
-pub leb-not : (a b : ℕ) → b < a → nat_le a b ≡ false
-leb-not a b lt = go (nat_le a b) refl
-  where
-    go : (c : Bool) → nat_le a b ≡ c → nat_le a b ≡ false
-    go true is = absurd (omega (arith, leb-true a b is))
-    go false is = is
 
 pub stopped_changes_nothing : (s : SpoolView) (x : Session) (m : Message) (t : ℕ) → IsSome (answer_in s x m t mark.Stopped).change → ⊥
 stopped_changes_nothing s x m t some = let none = ap (λ (a : Answer). is_some a.change) (stopped_answer s.host s.changes x m t) in

@@ -4,7 +4,7 @@ use Rattle.std.proofs.Common.{false, cond}
 use Rattle.std.specs.Prelude.{filter, filter_map, find, length, max, Option, Some, None, bytes_eq, is_some, ◌||◌}
 use Rattle.std.specs.List.{list_any}
 use Rattle.std.specs.Option.{option_or}
-use Rattle.std.proofs.lemmas.Bool.{true≢false}
+use Rattle.std.proofs.lemmas.Bool.{true≢false, or_right}
 use Rattle.std.proofs.lemmas.Slice.Eq.{bytes_eq-Decides}
 use Rattle.std.proofs.lemmas.List.Elements.{filter_map-append}
 use Rattle.std.proofs.lemmas.List.Folds.{find-append}
@@ -58,10 +58,6 @@ record Named (P : Spool) (test : Octets → Bool) (names : List Octets) : Type 0
   pub here : is_here P name ≡ true
   pub among : list_any (is_name name) names ≡ true
 
-or_true : (a b : Bool) → b ≡ true → (a || b) ≡ true
-or_true true b is = refl
-or_true false b is = is
-
 named_one : (P : Spool) (test : Octets → Bool) (names : List Octets) → list_any test (filter (is_here P) names) ≡ true
     → Named P test (filter (is_here P) names)
 named_one P test [] any = absurd (true≢false (sym any))
@@ -85,7 +81,7 @@ named_one P test (x ∷ names) any = by_here (is_here P x) refl any (named_one P
           name = one.name;
           passes = one.passes;
           here = one.here;
-          among = or_true (is_name one.name x) (list_any (is_name one.name) rest) one.among;
+          among = or_right (is_name one.name x) (list_any (is_name one.name) rest) one.among;
         }
 
 -- ---- bounds

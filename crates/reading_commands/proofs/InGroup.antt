@@ -3,7 +3,7 @@ use Rattle.std.proofs.Common.{◌≡◌, ℕ, suc, ◌+◌, ◌-◌, ◌<◌, �
 use Rattle.std.proofs.Common.{Bool, true, false, cond, length}
 use Rattle.std.specs.Prelude.{◌&&◌, codes, decimal, drop, filter, flat_map, max, nat_le, take, Option, Some, None}
 use Rattle.std.specs.List.{enumerate_from}
-use Rattle.std.proofs.lemmas.Bool.{le-leb, lt-leb, leb-true, and_from}
+use Rattle.std.proofs.lemmas.Bool.{le-leb, lt-leb, leb-true, and_from, and_right}
 use Rattle.std.proofs.lemmas.List.{length-take, length-drop}
 use Rattle.model.specs.Names.{is_in_range}
 use Rattle.model.specs.Stream.{Octets, crlf, dot_line, line, stuffed_line}
@@ -31,10 +31,6 @@ in_range first (Some last) j = refl
 abbrev is_wanted : ℕ → Option ℕ → ℕ → ℕ → Bool
 is_wanted first last low j = nat_le low j && (nat_le first j && up_to last j)
 
-and_false : (a b : Bool) → b ≡ false → (a && b) ≡ false
-and_false true b is = is
-and_false false b is = refl
-
 below_first : (first : ℕ) (last : Option ℕ) (low j : ℕ) → j < max first low → is_wanted first last low j ≡ false
 below_first first last low j less = by_low (nat_le low j) (nat_le first j) refl refl where
   by_low : (a b : Bool) → nat_le low j ≡ a → nat_le first j ≡ b → (a && (b && up_to last j)) ≡ false
@@ -45,8 +41,8 @@ below_first first last low j less = by_low (nat_le low j) (nat_le first j) refl 
 above_last : (first : ℕ) (last : Option ℕ) (low high j : ℕ) → last_in last high < j → j ≤ high → is_wanted first last low j ≡ false
 above_last first None low high j more within = absurd (omega (arith, more, within))
 above_last first (Some l) low high j more within =
-    and_false (nat_le low j) (nat_le first j && nat_le j l)
-    (and_false (nat_le first j) (nat_le j l) (lt-leb j l (omega (arith, more, within))))
+    and_right (nat_le low j) (nat_le first j && nat_le j l)
+    (and_right (nat_le first j) (nat_le j l) (lt-leb j l (omega (arith, more, within))))
 
 up_to_last : (last : Option ℕ) (high j : ℕ) → j ≤ last_in last high → up_to last j ≡ true
 up_to_last None high j within = refl

@@ -4,6 +4,7 @@ use Rattle.std.proofs.Common.{refl, ap, sym, ◌∙◌, subst, arith, length-dro
 use Rattle.std.specs.Prelude.{nat_lt, ◌||◌, if◌then◌else◌, Option, Some, None, IsSome, is_none, All}
 use Rattle.std.proofs.lemmas.List.{drop-drop}
 use Rattle.std.proofs.lemmas.List.Elements.{All-cons, All-head, All-tail}
+use Rattle.std.proofs.lemmas.Bool.{or_parts}
 use borrow.Author.Tests.{ltb-true}
 use Rattle.model.specs.Stream.{Octets}
 use Rattle.model.specs.Spool.{Spool}
@@ -25,10 +26,6 @@ give_by stays cut p room given held rest =
 none_is_some : {A : Type 0} (o : Option A) → is_none o ≡ false → IsSome o
 none_is_some None is = absurd (cc is)
 none_is_some (Some a) is = refl
-
-or_false : (a b : Bool) → (a || b) ≡ false → (a ≡ false) × (b ≡ false)
-or_false true b is = absurd (cc is)
-or_false false b is = (refl, is)
 
 module _ (host : Octets) (S : Spool) where
   -- whole replies after an output, as what is held once that is gone
@@ -151,7 +148,7 @@ module _ (host : Octets) (S : Spool) where
           let t = tail goes_on in
           record {
             outputs = t.outputs;
-            awaits = λ is. t.awaits (or_false held.ends (give p (room - length held.octets) held.dependency rest).ended is).1;
+            awaits = λ is. t.awaits (or_parts held.ends (give p (room - length held.octets) held.dependency rest).ended is).1;
             ends = λ is. t.ends (subst (λ (b : Bool). (b || (give p (room - length held.octets) held.dependency rest).ended) ≡ true) goes_on
                 is);
           }
@@ -160,7 +157,7 @@ module _ (host : Octets) (S : Spool) where
           record {
             outputs = subst (λ (xs : List Held). SeatIsKept host S (give p (room - length held.octets) held.dependency rest).given xs last)
                 (sym none) tt;
-            awaits = λ is. absurd (cc ((or_false held.ends (give p (room - length held.octets) held.dependency rest).ended is).0, ended));
+            awaits = λ is. absurd (cc ((or_parts held.ends (give p (room - length held.octets) held.dependency rest).ended is).0, ended));
             ends = λ is. none;
           }
 

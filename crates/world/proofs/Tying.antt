@@ -5,6 +5,7 @@ use Rattle.std.specs.Prelude.{bytes_eq, slice_index_or, not, ◌||◌, is_some, 
 use Rattle.std.specs.Option.{option_to_list}
 use Rattle.std.proofs.lemmas.List.{append-nil, take-append-le, take_all}
 use Rattle.std.proofs.lemmas.Slice.Eq.{bytes_eq-Decides}
+use Rattle.std.proofs.lemmas.Bool.{or_parts, not-false, not-true}
 use Rattle.disk.specs.Device.{Device}
 use Rattle.journal.specs.Calls.{IsRetried, MakesCall, OnMade, OnRetried, blocks_after}
 use Rattle.journal.specs.Journal.{JournalView, IsReady, IsSameBatch, sizes, with_batch}
@@ -49,24 +50,16 @@ pub record Grows (old new : KernelView) : Type 0 where
   pub size : length new.blocks ≡ length old.blocks
   pub agrees : (base : List Octets) → AgreesBehind old base → AgreesBehind new base
 
-or_false : (a b : Bool) → (a || b) ≡ false → (a ≡ false) × (b ≡ false)
-or_false true b is = absurd (cc is)
-or_false false b is = (refl, is)
-
-not_false : (b : Bool) → not b ≡ false → b ≡ true
-not_false true is = refl
-not_false false is = absurd (cc is)
-
 -- blocks that the old cache had but for its dirty ones, the new one has but for its own
 agrees_still : (old new : KernelView) (base : List Octets) → Dirties old new → AgreesBehind old base → AgreesBehind new base
 agrees_still old new base d h = record { size = h.size ∙ sym d.size; clean = clean }
   where
     clean : (k : ℕ) → k < length new.blocks → is_dirty new k ≡ false → slice_index_or base k [] ≡ slice_index_or new.blocks k []
     clean k lt is =
-        let parts = or_false (is_dirty old k) (not (bytes_eq (slice_index_or old.blocks k []) (slice_index_or new.blocks k [])))
+        let parts = or_parts (is_dirty old k) (not (bytes_eq (slice_index_or old.blocks k []) (slice_index_or new.blocks k [])))
         (sym (d.exactly k lt) ∙ is) in
         let same : slice_index_or old.blocks k [] ≡ slice_index_or new.blocks k [] =
-        (bytes_eq-Decides (slice_index_or old.blocks k []) (slice_index_or new.blocks k [])).0 (not_false _ parts.1) in
+        (bytes_eq-Decides (slice_index_or old.blocks k []) (slice_index_or new.blocks k [])).0 (not-false _ parts.1) in
         h.clean k (omega (arith, d.size)) parts.0 ∙ same
 
 pub Grows-refl : (kernel : KernelView) (joined : ℕ) (seats : List Seat) → Grows kernel (record kernel { joined = joined; seats = seats })
@@ -175,15 +168,11 @@ none_flies : (o : Option ℕ) → is_some o ≡ false → o ≡ None
 none_flies None is = refl
 none_flies (Some n) is = absurd (cc is)
 
-not_true : (b : Bool) → not b ≡ true → b ≡ false
-not_true true is = absurd (cc is)
-not_true false is = refl
-
 -- where there is a batch, none is in flight, and the kernel runs
 pub batch_parts : (kernel : KernelView) → has_batch kernel ≡ true → (kernel.in_flight ≡ None) × (kernel.halted ≡ false)
 batch_parts kernel is =
-    let all = or_false ((length kernel.dirty == 0) || is_some kernel.in_flight) kernel.halted (not_true _ is) in
-    let some = or_false (length kernel.dirty == 0) (is_some kernel.in_flight) all.0 in
+    let all = or_parts ((length kernel.dirty == 0) || is_some kernel.in_flight) kernel.halted (not-true _ is) in
+    let some = or_parts (length kernel.dirty == 0) (is_some kernel.in_flight) all.0 in
     (none_flies kernel.in_flight some.1, all.1)
 
 faults_none : (halted : Bool) (news : List News) → AreFaults false halted news → news ≡ []

@@ -4,15 +4,16 @@ use Rattle.std.specs.Str.{str_eq_ignore_ascii_case}
 use Rattle.std.proofs.lemmas.Iterator.{YieldsList-from_slice}
 use Rattle.std.proofs.lemmas.Iterator.Consumers.{YieldsList-from_copied}
 use Rattle.std.proofs.lemmas.Iterator.Search.{find_from_yields_List}
+use Rattle.std.proofs.lemmas.Iterator.Adapters.{option_map_id}
 use Rattle.grammar.specs.declared.keywords.TheConstants.{KEYWORDS}
 use Rattle.grammar.specs.Keywords.{meant, text_of}
-use Rattle.grammar.proofs.KeywordLaws.{keyword_found, option_map-same}
+use Rattle.grammar.proofs.KeywordLaws.{keyword_found}
 use Rattle.grammar.proofs.keywords.keyword_of.Goals as goal
 
 pub returns : goal.returns
 returns c =
     let word = c.args.word.now in
-    ap (option_map meant) (sym (option_map-same c.find.result)
+    ap (option_map meant) (sym (option_map_id c.find.result)
     ∙ find_from_yields_List (λ k. str_eq_ignore_ascii_case (text_of k) word) _ _ c.find.result c.find.ensures.ran
     (YieldsList-from_copied (YieldsList-from_slice KEYWORDS cc)) (λ x b q k. search (rules, tests)))
     ∙ keyword_found word

@@ -1,4 +1,5 @@
 use Rattle.std.proofs.Common.{◌≡◌, List, true, false, length, refl, ap, sym, subst, ◌∙◌, arith}
+use Rattle.std.proofs.lemmas.Bool.{le-leb, lt-leb}
 use Rattle.std.specs.Prelude.{Option, Some, None, IsSome, is_none, not, ◌&&◌, nat_le, nat_lt, slice_get}
 use Rattle.model.specs.Lawful.{IsLawfulSession}
 use Rattle.model.specs.Service.{mode_of}
@@ -13,7 +14,7 @@ use Rattle.kernel.specs.Serving.{Grows, answer_in, mark_in}
 use Rattle.kernel.specs.Stored.{kernel_of}
 use Rattle.kernel.specs.declared.errors.ExecError.TheVariants as exec
 use Rattle.kernel.proofs.KernelLaws.{all_at, kept_served, same_place}
-use Rattle.kernel.proofs.ExecLaws.{buffered_is, done, later_dirty, later_out, leb-not, leb-of, mode_is, no_session, none_fails, none_of}
+use Rattle.kernel.proofs.ExecLaws.{buffered_is, done, later_dirty, later_out, mode_is, no_session, none_fails, none_of}
 use Rattle.kernel.proofs.ExecLaws.{not_none, out_of_memory, refused, room_for, served_mark, some_of, stopped_changes_nothing, stopped_mark}
 use Rattle.kernel.proofs.ExecLaws.{stopped_mode, stopped_stays}
 use Rattle.kernel.proofs.Kernel.exec.Goals as goal
@@ -64,7 +65,7 @@ returns-then-buffered-ge-MOST_BUFFERED c =
     let size : buffered was c.args.sid ≡ c.buffered.result =
     buffered_is s i.durable i.in_flight i.halted i.joined seats c.in-Some.at seat c.args.sid c.args.message.now c.args.moment rise place
     number ∙ (ap (λ (x : Seat). octets_held x.held) (sym same) ∙ sym c.buffered.ensures) in
-    let many : nat_le 1048576 (buffered was c.args.sid) ≡ true = leb-of 1048576 (buffered was c.args.sid) (omega (arith, size)) in
+    let many : nat_le 1048576 (buffered was c.args.sid) ≡ true = le-leb 1048576 (buffered was c.args.sid) (omega (arith, size)) in
     refused s i.durable i.in_flight i.halted i.joined seats c.in-Some.at seat c.args.sid c.args.message.now c.args.moment rise place number
     c.args.self.now c.index_mut-seat.result.now LaterOut exec.LaterOut c.self.view_is same
     (later_out was c.args.sid c.args.message.now there many) refl
@@ -94,7 +95,7 @@ returns-in_default-stop c =
     let size : buffered was c.args.sid ≡ c.buffered.result =
     buffered_is s i.durable i.in_flight i.halted i.joined seats c.in-Some.at seat c.args.sid c.args.message.now c.args.moment rise place
     number ∙ (ap (λ (x : Seat). octets_held x.held) (sym same) ∙ sym c.buffered.ensures) in
-    let few : nat_le 1048576 (buffered was c.args.sid) ≡ false = leb-not 1048576 (buffered was c.args.sid) (omega (arith, size)) in
+    let few : nat_le 1048576 (buffered was c.args.sid) ≡ false = lt-leb 1048576 (buffered was c.args.sid) (omega (arith, size)) in
     let passes = none_fails was c.args.sid c.args.message.now there few
     (λ k. not (c.if-self.true k) && is_block c.args.message.now && nat_lt 256 (length s.dirty)) in
     out_of_memory s i.durable i.in_flight i.halted i.joined seats c.in-Some.at seat c.args.sid c.args.message.now c.args.moment rise place
@@ -147,7 +148,7 @@ returns-then-self c =
     let size : buffered was c.args.sid ≡ c.buffered.result =
     buffered_is s i.durable i.in_flight i.halted i.joined seats c.in-Some.at seat c.args.sid c.args.message.now c.args.moment rise place
     number ∙ (ap (λ (x : Seat). octets_held x.held) (sym same) ∙ sym c.buffered.ensures) in
-    let few : nat_le 1048576 (buffered was c.args.sid) ≡ false = leb-not 1048576 (buffered was c.args.sid) (omega (arith, size)) in
+    let few : nat_le 1048576 (buffered was c.args.sid) ≡ false = lt-leb 1048576 (buffered was c.args.sid) (omega (arith, size)) in
     let passes = none_fails was c.args.sid c.args.message.now there few
     (λ k. not (c.if-self.true k) && is_block c.args.message.now && nat_lt 256 (length s.dirty)) in
     let told = c.in-Ok.ensures.ok s.host s.changes c.args.message.now c.args.moment in
@@ -183,7 +184,7 @@ returns-then-is_late c =
     let size : buffered was c.args.sid ≡ c.buffered.result =
     buffered_is s i.durable i.in_flight i.halted i.joined seats c.in-Some.at seat c.args.sid c.args.message.now c.args.moment rise place
     number ∙ (ap (λ (x : Seat). octets_held x.held) (sym same) ∙ sym c.buffered.ensures) in
-    let few : nat_le 1048576 (buffered was c.args.sid) ≡ false = leb-not 1048576 (buffered was c.args.sid) (omega (arith, size)) in
+    let few : nat_le 1048576 (buffered was c.args.sid) ≡ false = lt-leb 1048576 (buffered was c.args.sid) (omega (arith, size)) in
     let late : (is_block c.args.message.now && nat_lt 256 (length s.dirty)) ≡ true =
     (λ k. is_block c.args.message.now && nat_lt 256 (sym c.dirty_len.ensures k)) ∙ (sym c.is_late.ensures ∙ c.if-is_late.true) in
     let dirty : (not i.halted && is_block c.args.message.now && nat_lt 256 (length s.dirty)) ≡ true =
@@ -230,7 +231,7 @@ returns-in_default-serve c =
     let size : buffered was c.args.sid ≡ c.buffered.result =
     buffered_is s i.durable i.in_flight i.halted i.joined seats c.in-Some.at seat c.args.sid c.args.message.now c.args.moment rise place
     number ∙ (ap (λ (x : Seat). octets_held x.held) (sym same) ∙ sym c.buffered.ensures) in
-    let few : nat_le 1048576 (buffered was c.args.sid) ≡ false = leb-not 1048576 (buffered was c.args.sid) (omega (arith, size)) in
+    let few : nat_le 1048576 (buffered was c.args.sid) ≡ false = lt-leb 1048576 (buffered was c.args.sid) (omega (arith, size)) in
     let early : (is_block c.args.message.now && nat_lt 256 (length s.dirty)) ≡ false =
     (λ k. is_block c.args.message.now && nat_lt 256 (sym c.dirty_len.ensures k)) ∙ (sym c.is_late.ensures ∙ c.if-is_late.false) in
     let clean : (not i.halted && is_block c.args.message.now && nat_lt 256 (length s.dirty)) ≡ false =
@@ -291,7 +292,7 @@ returns c =
     let size : buffered was c.args.sid ≡ c.buffered.result =
     buffered_is s i.durable i.in_flight i.halted i.joined seats c.in-Some.at seat c.args.sid c.args.message.now c.args.moment rise place
     number ∙ (ap (λ (x : Seat). octets_held x.held) (sym same) ∙ sym c.buffered.ensures) in
-    let few : nat_le 1048576 (buffered was c.args.sid) ≡ false = leb-not 1048576 (buffered was c.args.sid) (omega (arith, size)) in
+    let few : nat_le 1048576 (buffered was c.args.sid) ≡ false = lt-leb 1048576 (buffered was c.args.sid) (omega (arith, size)) in
     let early : (is_block c.args.message.now && nat_lt 256 (length s.dirty)) ≡ false =
     (λ k. is_block c.args.message.now && nat_lt 256 (sym c.dirty_len.ensures k)) ∙ (sym c.is_late.ensures ∙ c.if-is_late.false) in
     let clean : (not i.halted && is_block c.args.message.now && nat_lt 256 (length s.dirty)) ≡ false =
