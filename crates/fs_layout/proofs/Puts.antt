@@ -59,8 +59,3 @@ pub on_put : {T E : Type 0} (r : Result T E) (P : Type 0) (new old done : List O
     → OnOk r P
 on_put (Ok x) P new old done is then = then is
 on_put (Err e) P new old done is then = tt
-
--- what follows of what was done
-pub on_ok : {T E : Type 0} (r : Result T E) (P Q : Type 0) → (P → Q) → OnOk r P → OnOk r Q
-on_ok (Ok x) P Q then done = then done
-on_ok (Err e) P Q then done = tt

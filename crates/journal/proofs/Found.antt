@@ -498,10 +498,6 @@ pub match_both : {T E : Type 0} (r : Result T E) (P P' : T → Type 0) (Q Q' : E
 match_both (Ok x) P P' Q Q' ok err f h = f x ok
 match_both (Err y) P P' Q Q' ok err f h = h y err
 
-pub err_weaker : {T E : Type 0} (r : Result T E) (P Q : E → Type 0) → ((y : E) → P y → Q y) → IfErr r P → IfErr r Q
-err_weaker (Ok x) P Q f h = h
-err_weaker (Err y) P Q f h = f y h
-
 -- an opening's end, where both of two facts of a refusal are known
 pub err_weaker_both : {T E : Type 0} (r : Result T E) (P P' Q : E → Type 0) → ((y : E) → P y → P' y → Q y) → IfErr r P → IfErr r P'
     → IfErr r Q

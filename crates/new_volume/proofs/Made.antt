@@ -1,5 +1,5 @@
 -- A volume of zeroed blocks, and the batch that is laid over them.
-use Rattle.std.proofs.Common.{◌≡◌, ◌⊎◌, inl, inr, ◌≤◌, ℕ, arith, Bool, IsTrue, sym, ◌∙◌, subst, Result, Ok, Err, IfOk, IfErr}
+use Rattle.std.proofs.Common.{◌≡◌, ◌⊎◌, inl, inr, ◌≤◌, ℕ, arith, Bool, IsTrue, sym, ◌∙◌, subst}
 use Rattle.std.proofs.lemmas.Bool.{cases_eq}
 use Rattle.disk.specs.Device.{Device, Elapses}
 use Rattle.journal.specs.Journal.{JournalView}
@@ -16,15 +16,6 @@ one_or_two n low high = elim (cases_eq n 1) [
   | inl one ↦ inl one
   | inr other ↦ inr (omega (arith, low, high, other))
 ]
-
--- what an answer gives gives more
-pub ok_map : {T E : Type 0} {P Q : T → Type 0} (r : Result T E) → ((x : T) → P x → Q x) → IfOk r P → IfOk r Q
-ok_map (Ok x) f is = f x is
-ok_map (Err e) f is = is
-
-pub err_map : {T E : Type 0} {P Q : E → Type 0} (r : Result T E) → ((e : E) → P e → Q e) → IfErr r P → IfErr r Q
-err_map (Ok x) f is = is
-err_map (Err e) f is = f e is
 
 pub zeroed_opened : {D : Type 0} (device : D → Device) (first mid : D) (blocks : ℕ) (label : Octets) (format : ℕ) (journal : JournalView D)
     → (IsTrue (device first).tells → StandsFor (device mid).content label (zeroed blocks))

@@ -1,6 +1,5 @@
 -- The file of a change stands in its place, and says that change alone.
 use Rattle.std.proofs.Common.{◌≡◌, ◌<◌, ◌≤◌, ◌+◌, ◌-◌, ℕ, zero, suc, List, [], ◌∷◌, length, get_or, map, drop, sym, subst, ◌∙◌, ap, arith}
-use Rattle.std.proofs.Common.{Result, Ok, Err, IfOk}
 use Rattle.std.specs.Prelude.{Option, Some, None, slice_get}
 use Rattle.std.proofs.lemmas.Option.{same_Some, slice_get-get_or}
 use Rattle.model.specs.Stream.{Octets}
@@ -49,11 +48,6 @@ pub read_same : (n : ℕ) (c : Change) (name name' content content' : Octets) �
     → IsFileOf n c name' content'
 read_same n c name name' content content' names contents is =
     subst (λ (p : Octets × Octets). IsFileOf n c p.0 p.1) (λ i. (names i, contents i)) is
-
--- what an answer gives gives more
-pub ok_map : {T E : Type 0} {P Q : T → Type 0} (r : Result T E) → ((x : T) → P x → Q x) → IfOk r P → IfOk r Q
-ok_map (Ok x) f is = f x is
-ok_map (Err e) f is = is
 
 module _ (inodes : ℕ) (blocks : List Octets) (few : inodes ≤ 32768) (p : FilePlaces) (places : List ℕ) (serial : ℕ)
     (same : places ≡ p.changes) (there : HasChange inodes blocks p serial) where

@@ -1,7 +1,7 @@
 -- The files of a spool are those of the format if the check of the blocks says so, and only then.
 use Rattle.std.proofs.Common.{◌≡◌, ◌≢◌, inl, inr, ◌≤◌, ℕ, cond, Bool, List, length, Result, Ok, Err, sym, ap, subst, arith}
 use Rattle.std.specs.List.{All}
-use Rattle.std.specs.Result.{IfErr, IfOk}
+use Rattle.std.specs.Result.{IfOk}
 use Rattle.std.proofs.lemmas.Bool.{cases_eq, eq-eqb, ne_eqb}
 use Rattle.std.proofs.lemmas.List.Sorted.{All-permutation, IsPermutation-sym}
 use Rattle.model.specs.Stream.{Octets}
@@ -52,7 +52,3 @@ module _ (format : ℕ) (host : Octets) (inodes : ℕ) (blocks : List Octets) (r
 pub if_ok : {T E : Type 0} (r : Result T E) (P : Type 0) → P → IfOk r (λ x. P)
 if_ok (Ok x) P holds = holds
 if_ok (Err e) P holds = tt
-
-pub if_err : {T E : Type 0} (r : Result T E) (P Q : E → Type 0) → ((e : E) → P e → Q e) → IfErr r P → IfErr r Q
-if_err (Ok x) P Q then was = tt
-if_err (Err e) P Q then was = then e was

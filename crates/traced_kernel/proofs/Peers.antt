@@ -1,7 +1,7 @@
 -- A write to one of the peers.
 use Rattle.std.proofs.Common.{◌≡◌, ℕ, zero, suc, ◌-◌, ◌≤◌, ◌<◌, List, [], ◌∷◌, length, set, get_or, Option, Some, None, refl, ap, sym, ◌∙◌}
 use Rattle.std.proofs.Common.{subst, arith}
-use Rattle.std.specs.Prelude.{map, slice_get, unwrap_or, option_map, IfSome, IfOk, OnOk, OnErr, Result, Ok, Err}
+use Rattle.std.specs.Prelude.{map, slice_get, unwrap_or, option_map, IfSome}
 use Rattle.std.proofs.lemmas.Option.{slice_get-get_or}
 use Rattle.traced_kernel.specs.Fields.{Becomes, inputs, sent_of, sents}
 use Rattle.traced_kernel.specs.Traced.{nobody, numbered, sent_at, with_numbered}
@@ -71,18 +71,6 @@ pub input_becomes : (peers : List Peer) (number : ℕ) (was p : Peer) (R : Input
 input_becomes peers number was p R at r before is =
     let same : was.input ≡ before = cc (sym at.input ∙ is) in
     (p.input, at.sets_input p, subst (λ b. R b p.input) same r)
-
-pub IfOk-map : {T E : Type 0} (r : Result T E) {P Q : T → Type 0} → ((x : T) → P x → Q x) → IfOk r P → IfOk r Q
-IfOk-map (Ok x) f h = f x h
-IfOk-map (Err e) f h = tt
-
-pub OnOk-map : {T E : Type 0} (r : Result T E) {P Q : Type 0} → (P → Q) → OnOk r P → OnOk r Q
-OnOk-map (Ok x) f h = f h
-OnOk-map (Err e) f h = tt
-
-pub OnErr-map : {T E : Type 0} (r : Result T E) {P Q : Type 0} → (P → Q) → OnErr r P → OnErr r Q
-OnErr-map (Ok x) f h = tt
-OnErr-map (Err e) f h = f h
 
 pub IfSome-map : {T : Type 0} (o : Option T) {P Q : T → Type 0} → ((x : T) → P x → Q x) → IfSome o P → IfSome o Q
 IfSome-map None f h = tt

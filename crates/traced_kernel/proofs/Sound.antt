@@ -566,10 +566,6 @@ pub look_some : {T : Type 0} (r : Option T) (x : T) (P : Type 0) (Q : T → Type
 look_some None x P Q is h = absurd (cc is)
 look_some (Some y) x P Q is h = let same : y ≡ x = cc is in subst Q same h
 
-pub look_none : {T : Type 0} (r : Option T) (P : Type 0) (Q : T → Type 0) → r ≡ None → MatchOption r P Q → P
-look_none None P Q is h = h
-look_none (Some y) P Q is h = absurd (cc is)
-
 -- ---- a session that is not there leaves nothing
 
 filter_none : (number : ℕ) (seats : List Seat) → seat_in seats number ≡ None

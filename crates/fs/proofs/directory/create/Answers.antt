@@ -1,16 +1,10 @@
 use Rattle.std.proofs.Common.{rules, ◌≡◌, refl, sym, ◌∙◌}
-use Rattle.std.specs.Prelude.{Result, Ok, Err, IfErr}
+use Rattle.std.proofs.lemmas.Result.{IfErr-weaker}
 use Rattle.model.specs.Files.{entry, content_of, table}
-use Rattle.fs_layout.specs.declared.errors.FsError.{FsError}
 use Rattle.fs_layout.specs.declared.errors.FsError.TheVariants.{Full}
 use Rattle.fs_layout.proofs.Tables.{no_slot, there_from_slot}
 use Rattle.fs.specs.Calls.{HasNoFreeInode, IsThere}
 use Rattle.fs.proofs.directory.create.Goals as goal
-
--- what is said of a refusal says more of it
-if_err : {T : Type 0} (r : Result T FsError) (P Q : FsError → Type 0) → ((e : FsError) → P e → Q e) → IfErr r P → IfErr r Q
-if_err (Ok x) P Q more is = is
-if_err (Err e) P Q more is = more e is
 
 pub returns-in-Some-clause-exists : goal.returns-in-Some-clause-exists
 returns-in-Some-clause-exists g c =
@@ -36,7 +30,8 @@ returns-clause-full g c =
     let blocks = g.B.Blocks.blocks c.args.blocks.now in
     let absent = no_slot c.args.inodes blocks c.requires.rule c.args.name.now
     (λ k low same. c.in_default.ensures k low (same ∙ sym c.slot_for.ensures)) in
-    if_err c.create_absent.result (λ e. e ≡ Full → HasNoFreeInode c.args.inodes blocks × (c.create_absent.new.blocks ≡ c.args.blocks.now))
+    IfErr-weaker c.create_absent.result
+    (λ e. e ≡ Full → HasNoFreeInode c.args.inodes blocks × (c.create_absent.new.blocks ≡ c.args.blocks.now))
     (λ e. e ≡ Full → (¬ (IsThere (table c.args.inodes blocks) c.args.name.now)) × HasNoFreeInode c.args.inodes blocks
     × (c.create_absent.new.blocks ≡ c.args.blocks.now))
     (λ e had is. (absent, (had is).0, (had is).1)) c.create_absent.ensures.full

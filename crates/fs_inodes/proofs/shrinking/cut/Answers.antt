@@ -1,11 +1,11 @@
 use Rattle.std.proofs.Common.{ℕ, ◌+◌, ◌/◌, List, take, ◌∙◌, ap, subst}
+use Rattle.std.proofs.lemmas.Result.{on_ok_weaker}
 use Rattle.byteorder.specs.Endian.{little_bytes}
 use Rattle.disk.specs.Image.{overwritten}
 use Rattle.model.specs.Files.{content_of, entry}
 use Rattle.fs_layout.specs.Blocks.{PutsRecord}
 use Rattle.fs_inodes.specs.Changes.{ReplacesContent, SameMarks}
 use Rattle.fs_inodes.proofs.Cutting.{cuts, cuts_marks, cuts_touches}
-use Rattle.fs_layout.proofs.Puts.{on_ok}
 use Rattle.fs_layout.specs.Touches.{TouchesInode}
 use Rattle.fs_inodes.proofs.shrinking.cut.Goals as goal
 
@@ -14,8 +14,9 @@ returns-clause-done g c =
     let old = g.B.Blocks.blocks c.args.blocks.now in
     let new = g.B.Blocks.blocks c.put_record.new.blocks in
     let inode = c.put64.ensures ∙ ap (λ (o : List ℕ). overwritten 4 (little_bytes 8 c.args.end) o) c.get_record.ensures in
-    on_ok c.put_record.result (PutsRecord 2 c.args.at c.put64.new.octets old new)
-    (ReplacesContent c.args.inodes c.args.at (take c.args.end (content_of old (entry c.args.inodes old c.args.at))) old new)
+    on_ok_weaker {P = PutsRecord 2 c.args.at c.put64.new.octets old new}
+    {Q = ReplacesContent c.args.inodes c.args.at (take c.args.end (content_of old (entry c.args.inodes old c.args.at))) old new}
+    c.put_record.result
     (λ put. cuts c.args.inodes c.args.at c.args.end old new c.requires.room c.requires.rule c.requires.below c.requires.file
     c.requires.shorter c.requires.same_count
     (subst (λ (o : List ℕ). PutsRecord 2 c.args.at o old new) inode put))
@@ -26,7 +27,7 @@ returns-clause-marks g c =
     let old = g.B.Blocks.blocks c.args.blocks.now in
     let new = g.B.Blocks.blocks c.put_record.new.blocks in
     let inode = c.put64.ensures ∙ ap (λ (o : List ℕ). overwritten 4 (little_bytes 8 c.args.end) o) c.get_record.ensures in
-    on_ok c.put_record.result (PutsRecord 2 c.args.at c.put64.new.octets old new) (SameMarks old new)
+    on_ok_weaker {P = PutsRecord 2 c.args.at c.put64.new.octets old new} {Q = SameMarks old new} c.put_record.result
     (λ put. cuts_marks c.args.inodes c.args.at c.args.end old new c.requires.room c.requires.rule c.requires.below c.requires.file
     c.requires.shorter c.requires.same_count
     (subst (λ (o : List ℕ). PutsRecord 2 c.args.at o old new) inode put))
@@ -37,8 +38,8 @@ returns-clause-touches g c =
     let old = g.B.Blocks.blocks c.args.blocks.now in
     let new = g.B.Blocks.blocks c.put_record.new.blocks in
     let inode = c.put64.ensures ∙ ap (λ (o : List ℕ). overwritten 4 (little_bytes 8 c.args.end) o) c.get_record.ensures in
-    on_ok c.put_record.result (PutsRecord 2 c.args.at c.put64.new.octets old new)
-    (TouchesInode c.args.at ((c.args.end + 4095) / 4096) ((c.args.end + 4095) / 4096) old new)
+    on_ok_weaker {P = PutsRecord 2 c.args.at c.put64.new.octets old new}
+    {Q = TouchesInode c.args.at ((c.args.end + 4095) / 4096) ((c.args.end + 4095) / 4096) old new} c.put_record.result
     (λ put. cuts_touches c.args.inodes c.args.at c.args.end old new c.requires.room c.requires.rule c.requires.below c.requires.file
     c.requires.shorter c.requires.same_count
     (subst (λ (o : List ℕ). PutsRecord 2 c.args.at o old new) inode put))

@@ -1,4 +1,5 @@
 use Rattle.std.proofs.Common.{◌≡◌, ◌≢◌, ◌<◌, ◌≤◌, ℕ, ◌+◌, ◌-◌, ◌*◌, ◌/◌, List, [], length, take, sym, ◌∙◌, ap, subst, arith}
+use Rattle.std.proofs.lemmas.Result.{on_ok_weaker}
 use Rattle.byteorder.specs.Endian.{little_bytes}
 use Rattle.disk.specs.Image.{overwritten}
 use Rattle.model.specs.Volume.{number_at}
@@ -6,7 +7,6 @@ use Rattle.model.specs.Files.{Entry, block_count, content_of, entry, entry_of, i
 use Rattle.fs_layout.specs.Blocks.{IsThere, PutsRecord}
 use Rattle.fs_layout.specs.Touches.{TouchesInode}
 use Rattle.fs_layout.proofs.Entries.{owns_pointer}
-use Rattle.fs_layout.proofs.Puts.{on_ok}
 use Rattle.fs_inodes.specs.Changes.{ReplacesContent, TakesNone}
 use Rattle.fs_inodes.specs.Growing.{NamesBlocks, inode_entry}
 use Rattle.fs_inodes.specs.Shrinking.{DropsPointer}
@@ -69,8 +69,8 @@ returns-clause-done g c =
     let times : last * 4096 ≡ 4096 * last = omega arith in
     let octets : c.put64.new.octets ≡ overwritten 4 (little_bytes 8 (4096 * last)) inode1 = c.put64.ensures
     ∙ ap (λ (n : ℕ). overwritten 4 (little_bytes 8 n) inode1) times in
-    on_ok c.put_record.result (PutsRecord 2 at c.put64.new.octets later new)
-    (ReplacesContent c.args.inodes at (take (4096 * last) (content_of old e)) old new)
+    on_ok_weaker {P = PutsRecord 2 at c.put64.new.octets later new}
+    {Q = ReplacesContent c.args.inodes at (take (4096 * last) (content_of old e)) old new} c.put_record.result
     (λ put. drops c.args.inodes at last c.pointer_at-number.result inode1 old mid later new c.requires.room c.requires.rule c.requires.below
     c.requires.file c.requires.counted is drop c.in_ok-unmark.ensures.done
     (subst (λ (o : List ℕ). PutsRecord 2 at o later new) octets put))
@@ -93,7 +93,7 @@ returns-clause-none_taken g c =
     let times : last * 4096 ≡ 4096 * last = omega arith in
     let octets : c.put64.new.octets ≡ overwritten 4 (little_bytes 8 (4096 * last)) inode1 = c.put64.ensures
     ∙ ap (λ (n : ℕ). overwritten 4 (little_bytes 8 n) inode1) times in
-    on_ok c.put_record.result (PutsRecord 2 at c.put64.new.octets later new) (TakesNone old new)
+    on_ok_weaker {P = PutsRecord 2 at c.put64.new.octets later new} {Q = TakesNone old new} c.put_record.result
     (λ put. drops_takes_none c.args.inodes at last c.pointer_at-number.result inode1 old mid later new c.requires.room c.requires.rule
     c.requires.below c.requires.file c.requires.counted is drop c.in_ok-unmark.ensures.done
     (subst (λ (o : List ℕ). PutsRecord 2 at o later new) octets put))
@@ -116,7 +116,7 @@ returns-clause-touches g c =
     let times : last * 4096 ≡ 4096 * last = omega arith in
     let octets : c.put64.new.octets ≡ overwritten 4 (little_bytes 8 (4096 * last)) inode1 = c.put64.ensures
     ∙ ap (λ (n : ℕ). overwritten 4 (little_bytes 8 n) inode1) times in
-    on_ok c.put_record.result (PutsRecord 2 at c.put64.new.octets later new) (TouchesInode at last (last + 1) old new)
+    on_ok_weaker {P = PutsRecord 2 at c.put64.new.octets later new} {Q = TouchesInode at last (last + 1) old new} c.put_record.result
     (λ put. drops_touches c.args.inodes at last c.pointer_at-number.result inode1 old mid later new c.requires.room c.requires.rule
     c.requires.below c.requires.file c.requires.counted is drop c.in_ok-unmark.ensures.done
     (subst (λ (o : List ℕ). PutsRecord 2 at o later new) octets put))

@@ -1,8 +1,8 @@
 use Rattle.std.proofs.Common.{◌≡◌, ◌≢◌, ◌<◌, ℕ, ◌+◌, ◌*◌, ◌/◌, List, length, sym, ◌∙◌, ap, subst, arith}
+use Rattle.std.proofs.lemmas.Result.{on_ok_weaker}
 use Rattle.model.specs.Files.{indirect_for}
 use Rattle.fs_inodes.specs.Growing.{NamesBlocks, PutsPointer, inode_entry}
 use Rattle.fs_inodes.specs.Shrinking.{DropsPointer, DropsTable}
-use Rattle.fs_layout.proofs.Puts.{on_ok}
 use Rattle.fs_inodes.proofs.Tables.{is_apart}
 use Rattle.fs_inodes.proofs.Untabling.{drops_first, drops_within}
 use Rattle.fs_inodes.proofs.shrinking.drop_pointer.Goals as goal
@@ -13,8 +13,8 @@ returns-then-i-eq-DIRECT_POINTERS-clause-done g c =
     let new = g.B.Blocks.blocks c.drop_table.new.blocks in
     let i = c.args.i in
     let is : i ≡ 1024 * (i / 1024) + 10 = omega (arith, c.if-i-eq-DIRECT_POINTERS.true) in
-    on_ok c.drop_table.result (DropsTable (i / 1024) c.args.inode.now c.drop_table.new.inode old new)
-    (DropsPointer i c.args.inode.now c.drop_table.new.inode old new)
+    on_ok_weaker {P = DropsTable (i / 1024) c.args.inode.now c.drop_table.new.inode old new}
+    {Q = DropsPointer i c.args.inode.now c.drop_table.new.inode old new} c.drop_table.result
     (λ drop. drops_first i c.args.inode.now c.drop_table.new.inode old new c.requires.names (i / 1024) is c.requires.last drop)
     c.drop_table.ensures.done
 
@@ -23,7 +23,7 @@ returns-clause-done g c =
     let old = g.B.Blocks.blocks c.args.blocks.now in
     let new = g.B.Blocks.blocks c.put_pointer.new.blocks in
     let i = c.args.i in
-    on_ok c.put_pointer.result (PutsPointer i 0 c.args.inode.now c.put_pointer.new.inode old new)
-    (DropsPointer i c.args.inode.now c.put_pointer.new.inode old new)
+    on_ok_weaker {P = PutsPointer i 0 c.args.inode.now c.put_pointer.new.inode old new}
+    {Q = DropsPointer i c.args.inode.now c.put_pointer.new.inode old new} c.put_pointer.result
     (λ puts. drops_within i c.args.inode.now c.put_pointer.new.inode old new c.requires.names c.if-i-eq-DIRECT_POINTERS.false puts)
     c.put_pointer.ensures.done

@@ -1,11 +1,11 @@
 use Rattle.std.proofs.Common.{◌≡◌, ◌≢◌, ◌<◌, ℕ, ◌+◌, false, List, length, sym, ◌∙◌, ap, subst, arith}
+use Rattle.std.proofs.lemmas.Result.{on_ok_weaker}
 use Rattle.model.specs.Volume.{number_at}
 use Rattle.model.specs.Files.{indirect_pointer}
 use Rattle.fs_layout.specs.Blocks.{IsThere}
 use Rattle.fs_layout.specs.Marks.{SetsMark}
 use Rattle.fs_inodes.specs.Growing.{PutsIndirect, inode_entry}
 use Rattle.fs_inodes.specs.Shrinking.{DropsTable}
-use Rattle.fs_layout.proofs.Puts.{on_ok}
 use Rattle.fs_inodes.proofs.Untabling.{double_apart, double_there, drops_double, drops_table}
 use Rattle.fs_inodes.proofs.shrinking.drop_table.Goals as goal
 
@@ -29,8 +29,8 @@ returns-then-p-ne1-clause-done g c =
     let p = c.args.p in
     let first : SetsMark (indirect_pointer (inode_entry old inode) p) false old mid =
     subst (λ (n : ℕ). SetsMark n false old mid) c.indirect_at-table.ensures c.in_ok-unmark.ensures.done in
-    on_ok c.put_indirect.result (PutsIndirect p 0 inode c.put_indirect.new.inode mid new)
-    (DropsTable p inode c.put_indirect.new.inode old new)
+    on_ok_weaker {P = PutsIndirect p 0 inode c.put_indirect.new.inode mid new}
+    {Q = DropsTable p inode c.put_indirect.new.inode old new} c.put_indirect.result
     (λ puts. drops_table p inode old mid c.requires.count_few c.requires.whole c.requires.names first c.put_indirect.new.inode new
     c.if-p-ne1.true puts)
     c.put_indirect.ensures.done

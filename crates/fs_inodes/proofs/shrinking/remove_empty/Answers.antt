@@ -1,9 +1,9 @@
 use Rattle.std.proofs.Common.{◌+◌, ◌/◌, None, set, replicate, [], ◌∷◌}
+use Rattle.std.proofs.lemmas.Result.{on_ok_weaker}
 use Rattle.model.specs.Files.{table}
 use Rattle.fs_layout.specs.Blocks.{PutsRecord}
 use Rattle.fs_layout.specs.Table.{Makes}
 use Rattle.fs_inodes.proofs.Removing.{removes}
-use Rattle.fs_layout.proofs.Puts.{on_ok}
 use Rattle.fs_layout.specs.Touches.{SameBut, inode_block, slot_block}
 use Rattle.fs_layout.proofs.Touching.{inode_then_slot}
 use Rattle.fs_inodes.proofs.shrinking.remove_empty.Goals as goal
@@ -13,8 +13,8 @@ returns-clause-done g c =
     let old = g.B.Blocks.blocks c.args.blocks.now in
     let mid = g.B.Blocks.blocks c.put_record.new.blocks in
     let new = g.B.Blocks.blocks c.put_record-2.new.blocks in
-    on_ok c.put_record-2.result (PutsRecord (2 + c.args.inodes / 64) c.args.at (replicate 64 0) mid new)
-    (Makes c.args.inodes (set (table c.args.inodes old) c.args.at None) new)
+    on_ok_weaker {P = PutsRecord (2 + c.args.inodes / 64) c.args.at (replicate 64 0) mid new}
+    {Q = Makes c.args.inodes (set (table c.args.inodes old) c.args.at None) new} c.put_record-2.result
     (λ put. removes c.args.inodes c.args.at old mid new c.requires.room c.requires.rule c.requires.below c.requires.file c.requires.empty
     c.in_ok-put_record.ensures.done put)
     c.put_record-2.ensures.done
@@ -24,7 +24,7 @@ returns-clause-touches g c =
     let old = g.B.Blocks.blocks c.args.blocks.now in
     let mid = g.B.Blocks.blocks c.put_record.new.blocks in
     let new = g.B.Blocks.blocks c.put_record-2.new.blocks in
-    on_ok c.put_record-2.result (PutsRecord (2 + c.args.inodes / 64) c.args.at (replicate 64 0) mid new)
-    (SameBut (inode_block c.args.at ∷ slot_block c.args.inodes c.args.at ∷ []) old new)
+    on_ok_weaker {P = PutsRecord (2 + c.args.inodes / 64) c.args.at (replicate 64 0) mid new}
+    {Q = SameBut (inode_block c.args.at ∷ slot_block c.args.inodes c.args.at ∷ []) old new} c.put_record-2.result
     (λ put. inode_then_slot c.args.inodes c.args.at (replicate 64 0) (replicate 64 0) old mid new c.in_ok-put_record.ensures.done put)
     c.put_record-2.ensures.done

@@ -1,10 +1,10 @@
 use Rattle.std.proofs.Common.{◌≡◌, ◌≤◌, ◌<◌, ℕ, ◌+◌, ◌-◌, ◌*◌, ◌/◌, List, length, take, refl, sym, ◌∙◌, ap, subst, arith}
 use Rattle.std.proofs.lemmas.List.{length-take, length-take-le, take_all, take-take}
+use Rattle.std.proofs.lemmas.Result.{on_ok_weaker}
 use Rattle.model.specs.Volume.{number_at}
 use Rattle.model.specs.Files.{Entry, HasRoom, IsFile, IsFileSystem, block_count, entry, size, content_of}
 use Rattle.model.proofs.Owning.{content_size}
 use Rattle.fs_inodes.specs.Changes.{ReplacesContent, SameMarks, TakesNone}
-use Rattle.fs_layout.proofs.Puts.{on_ok}
 use Rattle.fs_inodes.proofs.Replacing.{replaces_none, replaces_same, replaces_then, named_now, size_now}
 use Rattle.fs_layout.specs.Touches.{TouchesInode}
 use Rattle.fs_layout.proofs.Touching.{inode_none, inode_then}
@@ -125,8 +125,10 @@ returns-clause-done g c =
     let old = g.B.Blocks.blocks c.args.blocks.now in
     let mid = g.B.Blocks.blocks c.loop-left.blocks in
     let new = g.B.Blocks.blocks c.cut.new.blocks in
-    on_ok c.cut.result (ReplacesContent c.args.inodes c.args.at (take c.args.end (content_of mid (entry c.args.inodes mid c.args.at))) mid
-    new) (ReplacesContent c.args.inodes c.args.at (take c.args.end (content_of old (entry c.args.inodes old c.args.at))) old new)
+    on_ok_weaker
+    {P = ReplacesContent c.args.inodes c.args.at (take c.args.end (content_of mid (entry c.args.inodes mid c.args.at))) mid new}
+    {Q = ReplacesContent c.args.inodes c.args.at (take c.args.end (content_of old (entry c.args.inodes old c.args.at))) old new}
+    c.cut.result
     (λ then. all c.args.inodes c.args.at c.args.end c.content_blocks-keep.result old c.requires.room c.requires.rule c.requires.below
     c.requires.file c.requires.shorter c.content_blocks-keep.ensures c.loop-left.left mid c.loop-left.invariant.0
     (omega arith) new then)
@@ -143,7 +145,7 @@ returns-clause-touches g c =
     let so_far = c.loop-left.invariant.0 in
     let left : c.loop-left.left ≡ keep = omega (arith, c.content_blocks-keep.ensures, so_far.at_least) in
     let touched : TouchesInode at keep most old mid = subst (λ (n : ℕ). TouchesInode at n most old mid) left so_far.touched in
-    on_ok c.cut.result (TouchesInode at keep keep mid new) (TouchesInode at keep most old new)
+    on_ok_weaker {P = TouchesInode at keep keep mid new} {Q = TouchesInode at keep most old new} c.cut.result
     (λ then. inode_then at keep keep most old mid new (omega arith) (omega (arith, left, so_far.at_most)) touched then)
     c.cut.ensures.touches
 
@@ -152,6 +154,6 @@ returns-clause-none_taken g c =
     let old = g.B.Blocks.blocks c.args.blocks.now in
     let mid = g.B.Blocks.blocks c.loop-left.blocks in
     let new = g.B.Blocks.blocks c.cut.new.blocks in
-    on_ok c.cut.result (SameMarks mid new) (TakesNone old new)
+    on_ok_weaker {P = SameMarks mid new} {Q = TakesNone old new} c.cut.result
     (λ same b small marked. c.loop-left.invariant.0.none_taken b small (sym (same.marks b small) ∙ marked))
     c.cut.ensures.marks

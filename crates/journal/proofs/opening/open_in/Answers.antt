@@ -1,11 +1,11 @@
 use Rattle.std.proofs.Common.{◌≡◌, ◌⊎◌, inl, IsTrue, sym, subst, Bool}
-use Rattle.std.proofs.lemmas.Result.{IfOk-weaker}
+use Rattle.std.proofs.lemmas.Result.{IfOk-weaker, IfErr-weaker}
 use Rattle.journal.specs.Journal.{JournalView}
 use Rattle.journal.specs.Opening.{Opens, Refuses, SyncsFirst, NeverSyncs}
 use Rattle.journal.specs.declared.Refused.{Refused}
 use Rattle.journal.specs.Opening.{Costs}
 use Rattle.journal.specs.declared.JournalError.TheVariants.{NotAVolume}
-use Rattle.journal.proofs.Found.{caused_elsewhere, costs_synced, err_weaker, match_both, opens_synced, refuses_caused, refuses_synced}
+use Rattle.journal.proofs.Found.{caused_elsewhere, costs_synced, match_both, opens_synced, refuses_caused, refuses_synced}
 use Rattle.journal.proofs.Found.{syncs_first}
 use Rattle.journal.proofs.opening.open_in.Goals as goal
 
@@ -18,7 +18,7 @@ returns-in-Ok-clause-ok g c =
 
 pub returns-in-Ok-clause-err : goal.returns-in-Ok-clause-err
 returns-in-Ok-clause-err g c =
-    err_weaker c.open_synced.result
+    IfErr-weaker c.open_synced.result
     (λ (refused : Refused g.row.D.Denot). Refuses g.D.Disk.device c.sync_first.new.disk refused.disk refused.error)
     (λ (refused : Refused g.row.D.Denot). Refuses g.D.Disk.device c.args.disk refused.disk refused.error)
     (λ refused h. refuses_synced g.D.Disk.device c.args.disk c.sync_first.new.disk c.sync_first.ensures.quiet c.in-Ok.ensures.synced
@@ -45,7 +45,7 @@ returns-in-Ok-clause-moment g c =
 
 pub returns-in-Ok-clause-judged : goal.returns-in-Ok-clause-judged
 returns-in-Ok-clause-judged g c =
-    err_weaker c.open_synced.result
+    IfErr-weaker c.open_synced.result
     (λ (refused : Refused g.row.D.Denot). Refuses g.D.Disk.device c.sync_first.new.disk refused.disk refused.error)
     (λ (refused : Refused g.row.D.Denot). refused.error ≡ NotAVolume → SyncsFirst g.D.Disk.device c.args.disk refused.disk)
     (λ refused h is. syncs_first g.D.Disk.device c.args.disk c.sync_first.new.disk c.sync_first.ensures.quiet c.in-Ok.ensures.synced

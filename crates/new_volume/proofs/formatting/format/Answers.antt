@@ -1,13 +1,13 @@
 use Rattle.std.proofs.Common.{◌∙◌}
+use Rattle.std.proofs.lemmas.Result.{IfOk-weaker}
 use Rattle.new_volume.proofs.Formed.{formatted}
-use Rattle.new_volume.proofs.Made.{ok_map}
 use Rattle.new_volume.proofs.formatting.format.Goals as goal
 
 pub returns-in-Ok-open_zeroed-clause-ok : goal.returns-in-Ok-open_zeroed-clause-ok
 returns-in-Ok-open_zeroed-clause-ok g c =
     let plan = c.args.plan.now in
     let journal = c.in-Ok-open_zeroed in
-    ok_map c.lay.result
+    IfOk-weaker c.lay.result _ _
     (λ made lays.
     formatted g.D.Disk.device plan.blocks c.deref.result.now plan.format c.args.disk journal.journal journal.ensures.ok plan.host.now
     plan.inodes c.first_block.result made plan.named plan.sized (c.deref.ensures.value

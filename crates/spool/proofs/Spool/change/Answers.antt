@@ -1,10 +1,10 @@
 use Rattle.std.proofs.Common.{◌≡◌, ◌≤◌, ◌-◌, List, length, sym, subst}
+use Rattle.std.proofs.lemmas.Result.{IfOk-weaker}
 use Rattle.std.specs.Prelude.{Some, slice_get}
 use Rattle.model.specs.Files.{HasRoom}
 use Rattle.model.specs.Indexed.{ArePlaces}
 use Rattle.model.specs.Layout.{Holds}
 use Rattle.model.specs.Stream.{Octets}
-use Rattle.spool_changes.proofs.Standing.{ok_map}
 use Rattle.spool.specs.View.{SpoolView}
 use Rattle.spool.proofs.Spool.change.Goals as goal
 
@@ -32,7 +32,7 @@ returns c =
     let s = c.self.inside in
     let kept = c.self.invariant.0 in
     let held = subst (λ (bs : List Octets). Holds s.host s.inodes bs s.stands.changes) (sym kept.seen) kept.is.held in
-    ok_map c.change.result
+    IfOk-weaker c.change.result _ _
     (λ change is. subst (λ (x : SpoolView). slice_get x.changes (c.args.serial - 1) ≡ Some change) c.self.view_is
     (is s.host s.stands.changes held))
     c.change.ensures

@@ -1,8 +1,9 @@
 use Rattle.std.proofs.Common.{refl, sym, ap, ◌∙◌, arith}
+use Rattle.std.proofs.lemmas.Result.{IfOk-weaker}
 use Rattle.std.specs.Prelude.{Some}
 use Rattle.model.specs.declared.change.Change.{Change}
 use Rattle.spool_reading.specs.Said.{change_of}
-use Rattle.spool_changes.proofs.Standing.{below, few_serials, is_change, is_its_file, low, ok_map, read_same, there_file}
+use Rattle.spool_changes.proofs.Standing.{below, few_serials, is_change, is_its_file, low, read_same, there_file}
 use Rattle.spool_changes.proofs.stored.change.Goals as goal
 
 pub offset_bounds-changes-serial : goal.offset_bounds-changes-serial
@@ -46,7 +47,7 @@ pub returns : goal.returns
 returns g c =
     let blocks = g.B.Blocks.blocks c.args.blocks.now in
     let said = rw c.in-Some.is at c.in_ok-said.ensures in
-    ok_map c.change_said.result
+    IfOk-weaker c.change_said.result _ _
     (λ change is host S held.
     is_change c.args.inodes blocks c.requires.room.few c.args.places.now c.changes.result.now c.args.serial c.changes.ensures
     c.requires.there _ c.in_ok-file.file.name.items c.in_ok-file.file.content.items

@@ -1,8 +1,8 @@
 use Rattle.std.proofs.Common.{◌+◌, ℕ, ap, arith, get_or, length, sym, ◌∙◌}
 use Rattle.std.proofs.lemmas.List.{get_or_read}
+use Rattle.std.proofs.lemmas.Result.{IfErr-weaker}
 use Rattle.index_groups.proofs.Steps.{ok_map}
 use Rattle.spool_reading.specs.Said.{change_of}
-use Rattle.spool_reading.proofs.Passing.{err_map}
 use Rattle.spool_opening.proofs.Nexts.{next_file, one_replayed, said_next, same_file, slots_few, taken_below, taken_there}
 use Rattle.spool_opening.proofs.next.replay_next.Goals as goal
 
@@ -67,7 +67,7 @@ returns-clause-damaged g c =
     let slots = c.args.files.now.slots.items in
     let read = get_or_read slots c.args.done c.index-at.result.now c.requires.below c.index-at.ensures 0 in
     let said = rw c.in-Some.is at c.in_ok-said.ensures in
-    err_map c.replay_said.result
+    IfErr-weaker c.replay_said.result _ _
     (λ e none is S held low.
     let next = next_file c.args.host.now c.args.inodes (g.B.Blocks.blocks c.args.blocks.now) its.changes S slots c.args.files.now.named
     c.index-at.result.now c.in_ok-file.file.name.items c.in_ok-file.file.content.items c.requires.room.few held its.replayed.read

@@ -1,8 +1,8 @@
 use Rattle.std.proofs.Common.{List, ℕ, ap, map, subst, sym}
+use Rattle.std.proofs.lemmas.Result.{IfErr-weaker}
 use Rattle.model.specs.Files.{table}
 use Rattle.model.specs.Lawful.{MayFile}
 use Rattle.index_groups.proofs.Steps.{ok_map}
-use Rattle.spool_reading.proofs.Passing.{err_map}
 use Rattle.spool_opening.specs.Replayed.{AllGoOn}
 use Rattle.spool_opening.proofs.Nexts.{all_go_on}
 use Rattle.spool_opening.proofs.next.replay_said.Goals as goal
@@ -16,7 +16,7 @@ returns-in-Group-clause-ok g c =
 pub returns-in-Group-clause-damaged : goal.returns-in-Group-clause-damaged
 returns-in-Group-clause-damaged g c =
     rw c.in-Group.is
-    (err_map c.replay_named.result (λ e none is R S replayed held next. none is c.args.host.now c.args.inodes
+    (IfErr-weaker c.replay_named.result _ _ (λ e none is R S replayed held next. none is c.args.host.now c.args.inodes
     (g.B.Blocks.blocks c.args.blocks.now) R S c.requires.sorted replayed held next) c.replay_named.ensures.damaged)
 
 pub returns-in-Article-clause-damaged : goal.returns-in-Article-clause-damaged
@@ -24,7 +24,7 @@ returns-in-Article-clause-damaged g c =
     let gs = map (λ g'. g'.now) c.in-Article.groups.items in
     let names = ap (map (λ g'. g'.now)) c.as_slice.ensures.value in
     rw c.in-Article.is
-    (err_map c.replay_article.result
+    (IfErr-weaker c.replay_article.result _ _
     (λ e none is R S replayed held next.
     none is R replayed.indexed (subst (λ (l : List (List ℕ)). MayFile c.args.host.now R c.in-Article.text.now l c.in-Article.moment)
     (sym names) next.may)

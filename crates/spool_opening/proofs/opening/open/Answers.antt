@@ -1,7 +1,8 @@
+use Rattle.std.proofs.lemmas.Result.{IfErr-weaker}
 use Rattle.model.specs.Layout.{AreOfFormat, Holds}
 use Rattle.model.specs.Spool.{Spool}
 use Rattle.model.specs.SpoolFiles.{files_of}
-use Rattle.spool_opening.proofs.Formats.{if_err, if_ok, of_format, within_format}
+use Rattle.spool_opening.proofs.Formats.{if_ok, of_format, within_format}
 use Rattle.spool_opening.proofs.opening.open.Goals as goal
 
 pub returns-in-Ok-clause-format : goal.returns-in-Ok-clause-format
@@ -12,7 +13,7 @@ returns-in-Ok-clause-format g c =
 
 pub returns-in-Ok-clause-damaged : goal.returns-in-Ok-clause-damaged
 returns-in-Ok-clause-damaged g c =
-    if_err c.open_checked.result _ _ (λ e was damaged S held. was damaged S held.held) c.open_checked.ensures.damaged
+    IfErr-weaker c.open_checked.result _ _ (λ e was damaged S held. was damaged S held.held) c.open_checked.ensures.damaged
 
 pub returns-in-Err-Damaged-clause-damaged : goal.returns-in-Err-Damaged-clause-damaged
 returns-in-Err-Damaged-clause-damaged g c =

@@ -1,6 +1,7 @@
 use Rattle.std.proofs.Common.{◌≡◌, ap, ◌∙◌, sym, refl, subst, Option, Some, None, arith, ◌++◌, ◌∷◌, []}
 use Rattle.std.specs.Prelude.{Ok, Err, Result}
 use Rattle.std.proofs.lemmas.Result.{err_from_is_err_and}
+use Rattle.std.proofs.lemmas.Option.{MatchOption-at_none}
 use Rattle.kernel.specs.Errors.{of_exec}
 use Rattle.kernel.specs.Kernel.{mode_at, exec_refusal}
 use Rattle.kernel.specs.declared.errors.ExecError.{ExecError}
@@ -12,7 +13,7 @@ use Rattle.traced_kernel.specs.Input.{Found}
 use Rattle.traced_kernel.specs.Traced.{TracedView, account, next_of}
 use Rattle.traced_kernel.proofs.Peers.{same-length}
 use Rattle.traced_kernel.proofs.Sound.{DidAt, IsSound-along, did_none, did_refused, did_serve}
-use Rattle.traced_kernel.proofs.Sound.{found_message, found_some, look_none, look_some}
+use Rattle.traced_kernel.proofs.Sound.{found_message, found_some, look_some}
 use Rattle.traced_kernel.proofs.Sound.{next_by_mode, mode_there, sound_found, sound_serves, tested_err, tested_ok, there_numbered}
 use Rattle.traced_kernel.proofs.TracedKernel.exec.Goals as goal
 
@@ -144,7 +145,7 @@ returns-in_default-found c =
     mode c.self.invariant c.in-Ok.ensures.input in
     absurd (found_some old (inputs c.find.new.peers.items) c.args.number c.in-Some.mode c.in-Ok.is_found mode c.self.invariant.beside
     c.if-not-is_found.false f.1
-    (look_none c.found.result (f.1.0.message ≡ None) (λ m. f.1.0.message ≡ Some m.now) c.in_default-found.is (c.found.ensures f.1.0 f.1.1)))
+    (MatchOption-at_none (f.1.0.message ≡ None) (λ m. f.1.0.message ≡ Some m.now) c.in_default-found.is (c.found.ensures f.1.0 f.1.1)))
 
 pub exec-requires-clause-kind : goal.exec-requires-clause-kind
 exec-requires-clause-kind c =

@@ -1,5 +1,6 @@
 use Rattle.std.proofs.Common.{refl}
-use Rattle.traced_kernel.proofs.Peers.{AtPeer, at_peer, keeps_sent, input_becomes, IfOk-map}
+use Rattle.std.proofs.lemmas.Result.{IfOk-weaker}
+use Rattle.traced_kernel.proofs.Peers.{AtPeer, at_peer, keeps_sent, input_becomes}
 use Rattle.traced_kernel.proofs.peer.find.Goals as goal
 
 pub find-requires : goal.find-requires
@@ -16,7 +17,7 @@ returns-clause-sent c =
 
 pub returns-clause-input : goal.returns-clause-input
 returns-clause-input c =
-    IfOk-map c.find.result
+    IfOk-weaker c.find.result _ _
     (λ found now. input_becomes c.args.peers.now.items c.args.number c.index_mut.result.now _ _
     (at_peer c.args.peers.now.items c.args.number c.index_mut.result.now c.requires.some c.requires.within c.index_mut.ensures.value)
     now)

@@ -1,14 +1,15 @@
 use Rattle.std.proofs.Common.{ap, ◌∙◌, sym, ◌++◌}
+use Rattle.std.proofs.lemmas.Result.{on_ok_weaker, on_err_weaker}
 use Rattle.traced_kernel.specs.Traced.{Sent, with_numbered}
 use Rattle.traced_kernel.specs.Fields.{sents}
-use Rattle.traced_kernel.proofs.Peers.{AtPeer, at_peer, keeps_input, keeps_sent, input_becomes, sent_here, OnOk-map, OnErr-map}
+use Rattle.traced_kernel.proofs.Peers.{AtPeer, at_peer, keeps_input, keeps_sent, input_becomes, sent_here}
 use Rattle.traced_kernel.proofs.peer.hear.Goals as goal
 
 pub returns-clause-sent : goal.returns-clause-sent
 returns-clause-sent c =
     let at : AtPeer c.args.peers.now.items c.args.number c.index_mut.result.now =
     at_peer c.args.peers.now.items c.args.number c.index_mut.result.now c.requires.some c.requires.within c.index_mut.ensures.value in
-    OnOk-map c.hear.result
+    on_ok_weaker c.hear.result
     (λ now. at.sets_sent c.hear.new.self ∙ (ap (with_numbered (sents c.args.peers.now.items) c.args.number) now
     ∙ ap (λ (s : Sent). with_numbered (sents c.args.peers.now.items) c.args.number (record {
       arrived = s.arrived ++ c.args.octets.now;
@@ -19,7 +20,7 @@ returns-clause-sent c =
 
 pub returns-clause-input : goal.returns-clause-input
 returns-clause-input c =
-    OnOk-map c.hear.result
+    on_ok_weaker c.hear.result
     (λ now. input_becomes c.args.peers.now.items c.args.number c.index_mut.result.now c.hear.new.self _
     (at_peer c.args.peers.now.items c.args.number c.index_mut.result.now c.requires.some c.requires.within c.index_mut.ensures.value)
     now)
@@ -27,7 +28,7 @@ returns-clause-input c =
 
 pub returns-clause-err_sent : goal.returns-clause-err_sent
 returns-clause-err_sent c =
-    OnErr-map c.hear.result
+    on_err_weaker c.hear.result
     (λ same. keeps_sent c.args.peers.now.items c.args.number c.index_mut.result.now c.hear.new.self
     (at_peer c.args.peers.now.items c.args.number c.index_mut.result.now c.requires.some c.requires.within c.index_mut.ensures.value)
     same)
@@ -35,7 +36,7 @@ returns-clause-err_sent c =
 
 pub returns-clause-err_input : goal.returns-clause-err_input
 returns-clause-err_input c =
-    OnErr-map c.hear.result
+    on_err_weaker c.hear.result
     (λ same. keeps_input c.args.peers.now.items c.args.number c.index_mut.result.now c.hear.new.self
     (at_peer c.args.peers.now.items c.args.number c.index_mut.result.now c.requires.some c.requires.within c.index_mut.ensures.value)
     same)

@@ -1,5 +1,6 @@
 use Rattle.std.proofs.Common.{refl}
-use Rattle.traced_kernel.proofs.Peers.{at_peer, keeps_input, keeps_sent, OnOk-map}
+use Rattle.std.proofs.lemmas.Result.{on_ok_weaker}
+use Rattle.traced_kernel.proofs.Peers.{at_peer, keeps_input, keeps_sent}
 use Rattle.traced_kernel.proofs.Room.{room_here, room_stays}
 use Rattle.traced_kernel.proofs.peer.reserve.Goals as goal
 
@@ -18,7 +19,7 @@ returns-clause-input c = keeps_input c.args.peers.now.items c.args.number c.inde
     (at_peer c.args.peers.now.items c.args.number c.index_mut.result.now c.requires.some c.requires.within c.index_mut.ensures.value) refl
 
 pub returns-clause-room : goal.returns-clause-room
-returns-clause-room c = OnOk-map c.reserve.result
+returns-clause-room c = on_ok_weaker c.reserve.result
     (λ le. room_here c.args.peers.now.items c.args.number c.index_mut.result.now _
     (at_peer c.args.peers.now.items c.args.number c.index_mut.result.now c.requires.some c.requires.within c.index_mut.ensures.value) 65536
     le) c.reserve.ensures.ok
