@@ -9,11 +9,10 @@ use Rattle.std.proofs.Math.Nat.{zero-div}
 use Rattle.model.specs.Stream.{Octets}
 use Rattle.model.specs.Volume.{AreDistinct}
 use Rattle.model.specs.Files.{HasRoom, IsFree, owned, entry, first_data, is_marked_used, IsFileSystem, table}
-use Rattle.model.proofs.Owning.{free_kind, free_owns}
+use Rattle.model.proofs.Owning.{free_kind, free_owns, zero_at}
 use Rattle.fs_layout.specs.Bits.{bit_of, IsFront}
 use Rattle.fs_layout.specs.Table.{Makes}
 use Rattle.fs_layout.proofs.Counts.{mark_is_bit}
-use Rattle.fs_layout.proofs.Entries.{zero_at}
 use Rattle.fs_layout.proofs.Tables.{length-table, get_or-table, file_at_free}
 use Rattle.fs_layout.proofs.Keeps.{keeps_room}
 

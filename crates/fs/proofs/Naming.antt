@@ -4,8 +4,8 @@ use Rattle.std.proofs.Common.{arith}
 use Rattle.std.proofs.lemmas.List.{take_more, take_all, append-nil}
 use Rattle.model.specs.Stream.{Octets}
 use Rattle.model.specs.Files.{File, name_in, entry, slot_of, IsFileSystem, file_at, table, content_of}
+use Rattle.model.proofs.Owning.{zero_at}
 use Rattle.fs_layout.specs.Table.{file_names}
-use Rattle.fs_layout.proofs.Entries.{zero_at}
 use Rattle.fs_layout.proofs.Tables.{length-table, get_or-table, file_at_free, file_at_file}
 
 file_names-push : (files : List (Option File)) (file : Option File)
@@ -16,12 +16,6 @@ file_names-push (Some f ∷ files) file = ap (λ (l : List Octets). f.name ∷ l
 
 module _ (inodes : ℕ) (blocks : List Octets) (fs : IsFileSystem inodes blocks) (at : ℕ) (low : at < inodes) (slot : Octets)
     (is : slot ≡ slot_of inodes blocks at) where
-  pub small_name : get_or slot 0 0 ≤ 63
-  small_name = elim (fs.each at low) [
-    | inl free ↦ omega (arith, zero_at (slot_of inodes blocks at) 0 free.slot_zeros, ap (λ (s : Octets). get_or s 0 0) is)
-    | inr file ↦ omega (arith, ap (λ (s : Octets). get_or s 0 0) (is ∙ file.slot_is), file.name_few)
-  ]
-
   more : (file : Option File) → file_at inodes blocks at ≡ file
       → file_names (take (at + 1) (table inodes blocks)) ≡ file_names (take at (table inodes blocks)) ++ file_names (file ∷ [])
   more file here =

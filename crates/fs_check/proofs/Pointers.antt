@@ -8,7 +8,7 @@ use Rattle.byteorder.specs.Endian.{little_from}
 use Rattle.model.specs.Stream.{Octets}
 use Rattle.model.specs.Volume.{number_at}
 use Rattle.model.specs.Files.{Entry, entry_of, indirect_of, indirect_pointer, pointer}
-use Rattle.fs_layout.proofs.Keeps.{no_block}
+use Rattle.model.proofs.Formats.{no_block}
 use Rattle.fs_check.specs.Checking.{HasNumber, HasTables}
 
 -- a number after the octets is 0

@@ -10,8 +10,8 @@ use Rattle.std.proofs.lemmas.Map.Lookups.{exact_bytes}
 use Rattle.std.proofs.lemmas.Map.Views.{tells_apart}
 use Rattle.model.specs.Stream.{Octets}
 use Rattle.model.specs.Files.{IsFile, name_in, slot_octets, entry, slot_of}
+use Rattle.model.proofs.Owning.{zero_at}
 use Rattle.fs_check.specs.Checking.{IsEntry, HasDistinctNames}
-use Rattle.fs_layout.proofs.Entries.{zero_at}
 
 abbrev pub has : BTreeSet (List ℕ) → Octets → Bool
 has slots slot = contains (slice_cmp nat_cmp) slots slot

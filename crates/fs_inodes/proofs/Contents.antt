@@ -9,8 +9,8 @@ use Rattle.std.proofs.lemmas.List.FromFn.{get_or-range_with_len, get_or-map-rang
 use Rattle.model.specs.Stream.{Octets}
 use Rattle.model.specs.Volume.{block, blocks_from}
 use Rattle.model.specs.Files.{Entry, size, block_count, pointer, owned, content_of}
+use Rattle.model.proofs.Owning.{owns_pointer}
 use Rattle.volume.proofs.Octets.{blocks_from-flat_map, get_or-blocks_from}
-use Rattle.fs_layout.proofs.Entries.{owns_pointer}
 
 -- a part of a front
 part_of_front : (r n m : ℕ) (octets : Octets) → r + n ≤ m → take n (drop r (take m octets)) ≡ take n (drop r octets)

@@ -9,10 +9,11 @@ use Rattle.model.specs.Stream.{Octets}
 use Rattle.model.specs.Volume.{number_at}
 use Rattle.model.specs.Files.{Entry, HasRoom, IsFile, size, block_count, pointer, owned, double_blocks, double_pointer, indirect_count}
 use Rattle.model.specs.Files.{indirect_for, indirect_pointer, content_of, entry, entry_of, inode_of, slot_of, indirect_of, IsFileSystem}
+use Rattle.model.proofs.Owning.{owns_pointer}
 use Rattle.fs_layout.specs.Blocks.{PutsRecord}
 use Rattle.fs_inodes.specs.Changes.{ReplacesContent, SameMarks}
 use Rattle.fs_layout.specs.Touches.{TouchesInode, double_of, table_of}
-use Rattle.fs_layout.proofs.Entries.{owns_double, owns_pointer, owns_indirect}
+use Rattle.fs_layout.proofs.Entries.{owns_double, owns_indirect}
 use Rattle.fs_inodes.specs.Growing.{tables_to}
 use Rattle.fs_inodes.proofs.Owned.{owned_to}
 use Rattle.fs_inodes.proofs.Fields.{length-inode, map_same, content_front}

@@ -13,10 +13,11 @@ use Rattle.model.specs.Volume.{number_at, AreDistinct}
 use Rattle.model.specs.Files.{Entry, HasRoom, IsFile, IsFileSystem, size, block_count, content_of, double_blocks, double_pointer, entry}
 use Rattle.model.specs.Files.{entry_of, first_data, indirect_count, indirect_for, indirect_of, indirect_pointer, inode_of, is_marked_used}
 use Rattle.model.specs.Files.{owned, pointer, slot_of}
+use Rattle.model.proofs.Owning.{owns_pointer}
 use Rattle.fs_layout.specs.Blocks.{PutsRecord}
 use Rattle.fs_layout.specs.Marks.{SetsMark}
 use Rattle.fs_layout.specs.Touches.{TouchesInode, double_of, table_of}
-use Rattle.fs_layout.proofs.Entries.{owns_double, owns_indirect, owns_pointer}
+use Rattle.fs_layout.proofs.Entries.{owns_double, owns_indirect}
 use Rattle.fs_layout.proofs.Keeps.{PutsEntry, indirect_same, marks_same, same_entry}
 use Rattle.fs_inodes.specs.Changes.{ReplacesContent, TakesNone}
 use Rattle.fs_inodes.specs.Growing.{NamesBlocks, inode_entry, tables_to}

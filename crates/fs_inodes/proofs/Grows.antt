@@ -17,7 +17,8 @@ use Rattle.model.specs.Files.{Entry, HasRoom, IsFile, kind, size, block_count, d
 use Rattle.model.specs.Files.{indirect_for, indirect_pointer, pointer, owned, name_in, content_of, entry, inode_of, slot_of, indirect_of}
 use Rattle.model.specs.Files.{first_data, is_marked_used, free_blocks, IsFileSystem, file_at}
 use Rattle.model.specs.Room.{content_blocks}
-use Rattle.model.proofs.Owning.{content_size}
+use Rattle.model.proofs.Owning.{content_size, owns_pointer}
+use Rattle.model.proofs.Formats.{flat_map_same}
 use Rattle.fs_layout.specs.Blocks.{PutsRecord}
 use Rattle.fs_layout.specs.Touches.{TouchesData, double_of, table_of}
 use Rattle.fs_layout.proofs.Touching.{is_first}
@@ -25,7 +26,6 @@ use Rattle.fs_inodes.specs.Growing.{blocks_for}
 use Rattle.fs_inodes.specs.Growing.{NamesBlocks, inode_entry, tables_to, with_indirect, TakesLowest, KeepsMarks, GrowsBy}
 use Rattle.fs_inodes.proofs.Owned.{owned_to, has_pointer, has_table, has_double, pointers_differ, table_not_pointer, double_not_pointer}
 use Rattle.fs_inodes.proofs.Tables.{map_same_below}
-use Rattle.fs_layout.proofs.Entries.{owns_pointer, flat_map_same}
 use Rattle.fs_inodes.proofs.Extending.{blocks_octets, content_front, take_overwritten}
 use Rattle.fs_layout.proofs.Keeps.{PutsEntry, indirect_same, same_entry, marks_same}
 use Rattle.fs_layout.proofs.Marking.{same_free}

@@ -11,9 +11,8 @@ use Rattle.model.specs.Stream.{Octets}
 use Rattle.model.specs.Volume.{number_at}
 use Rattle.model.specs.Files.{Entry, HasRoom, IsFile, size, block_count, double_pointer, indirect_count, indirect_pointer, pointer, owned}
 use Rattle.model.specs.Files.{content_of, entry, inode_of, slot_of, indirect_of, first_data, IsFileSystem}
-use Rattle.model.proofs.Owning.{content_size}
+use Rattle.model.proofs.Owning.{content_size, owns_pointer}
 use Rattle.fs_inodes.specs.Changes.{ReplacesContent, SameMarks}
-use Rattle.fs_layout.proofs.Entries.{owns_pointer}
 use Rattle.fs_layout.proofs.Keeps.{indirect_same, PutsEntry, same_entry, marks_same}
 use Rattle.fs_inodes.proofs.Named.{file_names}
 use Rattle.fs_inodes.proofs.Owned.{double_not_pointer, pointers_differ, table_not_pointer}

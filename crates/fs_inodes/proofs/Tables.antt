@@ -4,7 +4,7 @@ use Rattle.std.proofs.Common.{List, [], ◌∷◌, ◌++◌, length, get_or, map
 use Rattle.std.proofs.Common.{length-append}
 use Rattle.std.specs.List.{All, Contains, range_with_len}
 use Rattle.std.proofs.lemmas.List.{append-nil}
-use Rattle.std.proofs.lemmas.List.Elements.{All-nil, All-replicate, Contains-append_right}
+use Rattle.std.proofs.lemmas.List.Elements.{All-replicate, Contains-append_right}
 use Rattle.std.proofs.lemmas.List.FromFn.{map-range_with_len_more}
 use Rattle.std.proofs.lemmas.Bool.{cases_eq, cases_lt, eq-eqb, ne_eqb, lt-ltb, le-ltb}
 use Rattle.byteorder.specs.Endian.{little_bytes}
@@ -16,9 +16,10 @@ use Rattle.model.specs.Volume.{number_at}
 use Rattle.model.specs.Files.{Entry, double_blocks, double_pointer, indirect_for, indirect_of, indirect_pointer, pointer, is_marked_used}
 use Rattle.model.specs.Files.{free_blocks}
 use Rattle.model.proofs.Owning.{zero_number}
+use Rattle.model.proofs.Formats.{none_number, no_block}
 use Rattle.fs_inodes.specs.Growing.{AddsDouble, AddsTable, IsApart, IsTaken, NamesBlocks, PutsIndirect, TakesBlocks, TakesZeros}
 use Rattle.fs_inodes.specs.Growing.{inode_entry, tables_to, with_double}
-use Rattle.fs_layout.proofs.Keeps.{indirect_same, marks_same, same_entry, no_block}
+use Rattle.fs_layout.proofs.Keeps.{indirect_same, marks_same, same_entry}
 use Rattle.fs_inodes.proofs.Putting.{in_inode, in_block}
 use Rattle.fs_inodes.proofs.Taking.{fresh_apart, fresh_taken, taken_still, takes_both, takes_none, takes_then}
 
@@ -30,9 +31,6 @@ map_same_below f g a (suc n) same =
 
 zeros_number : (at : ℕ) → number_at at 4 (replicate 4096 0) ≡ 0
 zeros_number at = zero_number at 4 (replicate 4096 0) (All-replicate (λ (o : ℕ). o ≡ 0) 4096 0 refl)
-
-pub none_number : (at : ℕ) → number_at at 4 [] ≡ 0
-none_number at = zero_number at 4 [] (All-nil (λ (o : ℕ). o ≡ 0))
 
 block_of : (blocks : List Octets) (n : ℕ) → n ≢ 0 → indirect_of blocks n ≡ get_or blocks n []
 block_of blocks n some = ap (λ (t : Bool). cond t [] (get_or blocks n [])) (ne_eqb n 0 some)

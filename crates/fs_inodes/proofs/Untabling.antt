@@ -13,14 +13,15 @@ use Rattle.volume_format.proofs.Numbers.{number_at_apart, number_at_written}
 use Rattle.model.specs.Stream.{Octets}
 use Rattle.model.specs.Volume.{number_at}
 use Rattle.model.specs.Files.{Entry, double_blocks, indirect_for, indirect_of, indirect_pointer, pointer, is_marked_used}
+use Rattle.model.proofs.Formats.{none_number, no_block}
 use Rattle.fs_inodes.specs.Growing.{IsTaken, NamesBlocks, PutsIndirect, PutsPointer, inode_entry, tables_to}
 use Rattle.fs_inodes.specs.Shrinking.{DropsPointer, DropsTable, GivesUp}
 use Rattle.fs_layout.specs.Blocks.{IsThere}
 use Rattle.fs_layout.specs.Marks.{SetsMark}
-use Rattle.fs_layout.proofs.Keeps.{indirect_same, marks_same, no_block}
+use Rattle.fs_layout.proofs.Keeps.{indirect_same, marks_same}
 use Rattle.fs_layout.proofs.Touching.{one_number}
 use Rattle.fs_inodes.proofs.Putting.{in_block, in_double, in_inode}
-use Rattle.fs_inodes.proofs.Tables.{entry_stays, map_same_below, none_number, table_taken}
+use Rattle.fs_inodes.proofs.Tables.{entry_stays, map_same_below, table_taken}
 
 -- ---- a block of pointers is dropped
 

@@ -10,9 +10,10 @@ use Rattle.model.specs.Volume.{number_at, AreDistinct}
 use Rattle.model.specs.Files.{Entry, HasRoom, IsFile, IsFree, kind, size, block_count, double_pointer, entry_of, indirect_count}
 use Rattle.model.specs.Files.{indirect_number, indirect_pointer, pointer, owned, name_in, content_of, entry, inode_of, slot_of, indirect_of}
 use Rattle.model.specs.Files.{first_data, is_marked_used, IsUsed, IsFileSystem, file_at}
-use Rattle.model.proofs.Owning.{zero_number}
+use Rattle.model.proofs.Owning.{zero_number, owns_pointer}
+use Rattle.model.proofs.Formats.{no_block, flat_map_same}
 use Rattle.fs_layout.specs.Blocks.{PutsRecord, record_at}
-use Rattle.fs_layout.proofs.Entries.{owns_double, owns_pointer, owns_indirect, flat_map_same}
+use Rattle.fs_layout.proofs.Entries.{owns_double, owns_indirect}
 
 -- no inode or slot changes but those of inode k, and no block changes but these
 pub record PutsEntry (inodes k : ℕ) (inode slot : Octets) (touched : ℕ → Type 0) (old new : List Octets) : Type 0 where
@@ -93,9 +94,6 @@ indirect_same old new n same = elim (cases_eq n 0) [
       ∙ sym (ap (λ (b : Bool). cond b [] (get_or old n [])) (eq-eqb n 0 none))
   | inr some ↦ ap (λ (o : Octets). cond (eqb n 0) [] o) (same some)
 ]
-
-pub no_block : (blocks : List Octets) (n : ℕ) → n ≡ 0 → indirect_of blocks n ≡ []
-no_block blocks n is = ap (λ (b : Bool). cond b [] (get_or blocks n [])) (eq-eqb n 0 is)
 
 -- a free entry names no block of pointers
 free_points : (blocks : List Octets) (inode slot : Octets) → IsFree (entry_of blocks inode slot) → (p : ℕ)

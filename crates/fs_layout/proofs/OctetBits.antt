@@ -8,8 +8,9 @@ use Rattle.std.proofs.lemmas.List.FromFn.{length-range_with_len}
 use Rattle.std.proofs.lemmas.Nat.{ones-le, ones_cat}
 use Rattle.std.proofs.Math.Nat.{div-div-eq-div-mul, div-one, pow-suc, pow-succ'}
 use Rattle.model.specs.Stream.{Octets}
+use Rattle.model.proofs.Counting.{count_cons}
 use Rattle.fs_layout.specs.Bits.{bit_of}
-use Rattle.fs_layout.proofs.Counts.{count_cons, count_same, count_split}
+use Rattle.fs_layout.proofs.Counts.{count_same, count_split}
 
 abbrev has_bit : ℕ → ℕ → Bool
 has_bit n j = eqb (n / 2 ^ j % 2) 1

@@ -20,7 +20,7 @@ use Rattle.model.proofs.Owning.{free_kind, free_owns, owned_with, owned_without,
 
 -- ---- counts
 
-count_cons : (p : ℕ → Bool) (x : ℕ) (xs : List ℕ) → count_by p (x ∷ xs) ≡ cond (p x) 1 0 + count_by p xs
+pub count_cons : (p : ℕ → Bool) (x : ℕ) (xs : List ℕ) → count_by p (x ∷ xs) ≡ cond (p x) 1 0 + count_by p xs
 count_cons p x xs = sum_by-cons (λ n. cond (p n) 1 0) x xs
 
 -- two tests that agree on a range

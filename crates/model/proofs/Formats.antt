@@ -58,11 +58,11 @@ spare_whole octets low high = number_of 56 8 octets (λ k within. elim (cases_lt
 
 -- ---- what is named
 
-none_there : (blocks : List Octets) (n : ℕ) → n ≡ 0 → indirect_of blocks n ≡ []
-none_there blocks n is = ap (λ (b : Bool). cond b [] (get_or blocks n [])) (eq-eqb n 0 is)
+pub no_block : (blocks : List Octets) (n : ℕ) → n ≡ 0 → indirect_of blocks n ≡ []
+no_block blocks n is = ap (λ (b : Bool). cond b [] (get_or blocks n [])) (eq-eqb n 0 is)
 
-nothing : (at : ℕ) → number_at at 4 [] ≡ 0
-nothing at = zero_number at 4 [] (All-nil (λ o. o ≡ 0))
+pub none_number : (at : ℕ) → number_at at 4 [] ≡ 0
+none_number at = zero_number at 4 [] (All-nil (λ o. o ≡ 0))
 
 module _ (blocks : List Octets) (inode slot : Octets) where
   abbrev e : Entry
@@ -94,15 +94,15 @@ module _ (blocks : List Octets) (inode slot : Octets) where
     none_behind p some =
         ap (λ (b : Bool). cond b (number_at 52 4 inode) (number_at (4 * (p - 1)) 4 (indirect_of blocks (number_at 56 4 inode))))
         (ne_eqb p 0 (λ is. absurd (omega (arith, is, some))))
-        ∙ ap (number_at (4 * (p - 1)) 4) (none_there blocks (number_at 56 4 inode) no_double) ∙ nothing (4 * (p - 1))
+        ∙ ap (number_at (4 * (p - 1)) 4) (no_block blocks (number_at 56 4 inode) no_double) ∙ none_number (4 * (p - 1))
 
     no_pointer : (i : ℕ) → 1034 ≤ i → pointer e i ≡ 0
     no_pointer i far =
         let test : ltb i 10 ≡ false = le-ltb i 10 (omega (arith, far)) in
         ap (λ (b : Bool). cond b (number_at (12 + 4 * i) 4 inode) (number_at (4 * ((i - 10) % 1024)) 4 (e.pointers ((i - 10) / 1024)))) test
         ∙ ap (number_at (4 * ((i - 10) % 1024)) 4)
-        (none_there blocks (indirect_pointer e ((i - 10) / 1024)) (none_behind ((i - 10) / 1024) (omega (arith, far))))
-        ∙ nothing (4 * ((i - 10) % 1024))
+        (no_block blocks (indirect_pointer e ((i - 10) / 1024)) (none_behind ((i - 10) / 1024) (omega (arith, far))))
+        ∙ none_number (4 * ((i - 10) % 1024))
 
   first_is : indirect_pointer e 0 ≡ indirect_one o
   first_is = refl
@@ -169,12 +169,12 @@ map_same f g a (suc n) same =
     ap (λ (x : ℕ). x ∷ map f (range_with_len (a + 1) n)) (same a (omega arith) (omega arith))
     ∙ ap (λ (l : List ℕ). g a ∷ l) (map_same f g (a + 1) n (λ i low high. same i (omega (arith, low)) (omega (arith, high))))
 
-flat_same : (f g : ℕ → Octets) (a n : ℕ) → ((i : ℕ) → a ≤ i → i < a + n → f i ≡ g i)
+pub flat_map_same : (f g : ℕ → Octets) (a n : ℕ) → ((i : ℕ) → a ≤ i → i < a + n → f i ≡ g i)
     → flat_map f (range_with_len a n) ≡ flat_map g (range_with_len a n)
-flat_same f g a zero same = refl
-flat_same f g a (suc n) same =
+flat_map_same f g a zero same = refl
+flat_map_same f g a (suc n) same =
     ap (λ (l : Octets). l ++ flat_map f (range_with_len (a + 1) n)) (same a (omega arith) (omega arith))
-    ∙ ap (λ (l : Octets). g a ++ l) (flat_same f g (a + 1) n (λ i low high. same i (omega (arith, low)) (omega (arith, high))))
+    ∙ ap (λ (l : Octets). g a ++ l) (flat_map_same f g (a + 1) n (λ i low high. same i (omega (arith, low)) (omega (arith, high))))
 
 module _ (blocks : List Octets) (inode slot : Octets) (file : IsFileOne (entry_one blocks inode slot)) where
   abbrev ee : Entry
@@ -217,7 +217,7 @@ module _ (blocks : List Octets) (inode slot : Octets) (file : IsFileOne (entry_o
   same_content : content_of blocks ee ≡ content_one blocks oo
   same_content =
       ap (λ (l : Octets). take (size ee) l)
-      (flat_same (λ i. get_or blocks (pointer ee i) []) (λ i. get_or blocks (pointer_one oo i) []) 0 (block_count ee)
+      (flat_map_same (λ i. get_or blocks (pointer ee i) []) (λ i. get_or blocks (pointer_one oo i) []) 0 (block_count ee)
       (λ i low high. ap (λ (n : ℕ). get_or blocks n []) (same_pointer blocks inode slot i (omega (arith, high, file.small)))))
 
 pub files_of_one : FilesOfFormatOne

@@ -14,7 +14,7 @@ use Rattle.model.specs.Files.{indirect_for, indirect_pointer, pointer, owned, co
 
 -- ---- zeros
 
-zero_at : (octets : Octets) (i : ℕ) → All (λ o. o ≡ 0) octets → get_or octets i 0 ≡ 0
+pub zero_at : (octets : Octets) (i : ℕ) → All (λ o. o ≡ 0) octets → get_or octets i 0 ≡ 0
 zero_at octets i zeros = elim (cases_lt i (length octets)) [
   | inl inside ↦ zeros i 0 inside
   | inr past ↦ get_or_past octets i 0 past
@@ -69,7 +69,7 @@ owned_with e some = omega (arith, owned_count e, one_double e some)
 
 -- ---- how many octets
 
-owns_pointer : (e : Entry) (i : ℕ) → i < block_count e → Contains (owned e) (pointer e i)
+pub owns_pointer : (e : Entry) (i : ℕ) → i < block_count e → Contains (owned e) (pointer e i)
 owns_pointer e i low =
     Contains-append_right (double_blocks e) (indirect_blocks e ++ map (λ i. pointer e i) (range_with_len 0 (block_count e))) (pointer e i)
     (Contains-append_right (indirect_blocks e) (map (λ i. pointer e i) (range_with_len 0 (block_count e))) (pointer e i)

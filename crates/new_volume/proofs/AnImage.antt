@@ -15,6 +15,7 @@ use Rattle.model.specs.Stream.{Octets}
 use Rattle.model.specs.Volume.{StandsFor, all_laid_over, batch_in, block, gate_place, home, home_place, home_size, is_open, number_at}
 use Rattle.model.specs.Volume.{open_segments, rising, segment_count}
 use Rattle.model.proofs.Images.{empty_stands}
+use Rattle.model.proofs.Owning.{zero_at}
 use Rattle.segment_laws.specs.Images.{IsInside, IsOpenIn, SameBut}
 use Rattle.segment_laws.proofs.Blocks.{block-overwritten, overwritten_same}
 use Rattle.segment_laws.proofs.Standing.{count_same, get_or-home, head_same, home_size_same, length-home, stands_over}
@@ -24,7 +25,6 @@ use Rattle.volume_format.proofs.Formatted.{blocks_are, label_is, length-superblo
 use Rattle.volume_format.proofs.Formatted.{superblock, superblock_valid}
 use Rattle.fs_layout.specs.Bits.{IsFront, bit_of}
 use Rattle.fs_layout.specs.Table.{Makes}
-use Rattle.fs_layout.proofs.Entries.{zero_at}
 use Rattle.fs.proofs.Emptying.{makes_empty}
 use Rattle.new_volume.specs.Laws.{AnImageStands, EachHostHasAnImage}
 use Rattle.new_volume.proofs.Emptied.{IsZero, Sized, is_zero_block, makes, many, part_zero, sized, zero_block_size, zero_block_zero}

@@ -2,18 +2,11 @@
 use Rattle.std.proofs.Common.{◌≡◌, inl, inr, ◌<◌, ◌≤◌, ℕ, Some, None, List, get_or, length, sym, ◌∙◌, ap, arith}
 use Rattle.model.specs.Stream.{Octets}
 use Rattle.model.specs.Files.{File, HasRoom, IsFileSystem, content_of, entry, name_in, slot_of, table}
-use Rattle.model.proofs.Owning.{content_size}
-use Rattle.fs_layout.proofs.Entries.{zero_at}
+use Rattle.model.proofs.Owning.{content_size, zero_at}
 use Rattle.fs_layout.proofs.Tables.{IsNamed, file_at_file, file_at_free, get_or-table, named_from_there}
 
 module _ (inodes : ℕ) (blocks : List Octets) (fs : IsFileSystem inodes blocks) (at : ℕ) (low : at < inodes) (slot : Octets)
     (is : slot ≡ slot_of inodes blocks at) where
-  pub small_name : get_or slot 0 0 ≤ 63
-  small_name = elim (fs.each at low) [
-    | inl free ↦ omega (arith, zero_at (slot_of inodes blocks at) 0 free.slot_zeros, ap (λ (s : Octets). get_or s 0 0) is)
-    | inr file ↦ omega (arith, ap (λ (s : Octets). get_or s 0 0) (is ∙ file.slot_is), file.name_few)
-  ]
-
   pub name_there : 0 < get_or slot 0 0
       → get_or (table inodes blocks) at None ≡ Some (record { name = name_in slot; content = content_of blocks (entry inodes blocks at) })
   name_there some = elim (fs.each at low) [

@@ -2,7 +2,8 @@ use Rattle.std.proofs.Common.{◌<◌, ℕ, Vec, Global, List, [], ◌∷◌, �
 use Rattle.std.proofs.lemmas.List.{map-append}
 use Rattle.model.specs.Files.{table}
 use Rattle.fs_layout.specs.Table.{file_names}
-use Rattle.fs.proofs.Naming.{small_name, one_name, no_name, all_names}
+use Rattle.fs_layout.proofs.Entries.{small_name}
+use Rattle.fs.proofs.Naming.{one_name, no_name, all_names}
 use Rattle.fs.proofs.directory.names.Goals as goal
 use Rattle.fs.proofs.directory.names.Goals.{then-slot-gt0+in_ok-name_of+in_ok-push, else-slot-gt0}
 

@@ -9,10 +9,10 @@ use Rattle.disk.specs.Image.{overwritten}
 use Rattle.model.specs.Volume.{number_at}
 use Rattle.model.specs.Files.{Entry, entry, entry_of, free_blocks, inode_of, size, pointer, first_data, indirect_for, indirect_pointer}
 use Rattle.model.specs.Files.{block_count}
+use Rattle.model.proofs.Owning.{owns_pointer}
 use Rattle.fs_layout.specs.Blocks.{IsThere, PutsRecord}
 use Rattle.fs_inodes.specs.Growing.{inode_entry, with_indirect, AddsBlock, NamesBlocks}
 use Rattle.fs_inodes.proofs.Named.{double_is_there, file_names, table_is_there}
-use Rattle.fs_layout.proofs.Entries.{owns_pointer}
 use Rattle.fs_inodes.proofs.Extends.{extends_last, extends_new}
 use Rattle.fs_inodes.proofs.Grows.{Extends, grows, touches}
 use Rattle.fs_inodes.proofs.growing.add_piece.Goals as goal

@@ -5,9 +5,8 @@ use Rattle.std.proofs.lemmas.Bool.{cases_lt}
 use Rattle.std.proofs.lemmas.List.{take_all}
 use Rattle.model.specs.Volume.{number_at}
 use Rattle.model.specs.Files.{Entry, entry, entry_of, size, pointer, content_of, indirect_pointer, block_count}
-use Rattle.model.proofs.Owning.{content_size}
+use Rattle.model.proofs.Owning.{content_size, owns_pointer}
 use Rattle.fs_layout.specs.Blocks.{IsThere}
-use Rattle.fs_layout.proofs.Entries.{owns_pointer}
 use Rattle.fs_inodes.proofs.Contents.{content_part}
 use Rattle.fs_inodes.proofs.Named.{double_is_there, table_is_there}
 use Rattle.fs_inodes.proofs.reading.piece.Goals as goal

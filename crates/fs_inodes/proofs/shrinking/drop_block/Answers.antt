@@ -4,9 +4,9 @@ use Rattle.byteorder.specs.Endian.{little_bytes}
 use Rattle.disk.specs.Image.{overwritten}
 use Rattle.model.specs.Volume.{number_at}
 use Rattle.model.specs.Files.{Entry, block_count, content_of, entry, entry_of, indirect_for, indirect_pointer, inode_of, pointer}
+use Rattle.model.proofs.Owning.{owns_pointer}
 use Rattle.fs_layout.specs.Blocks.{IsThere, PutsRecord}
 use Rattle.fs_layout.specs.Touches.{TouchesInode}
-use Rattle.fs_layout.proofs.Entries.{owns_pointer}
 use Rattle.fs_inodes.specs.Changes.{ReplacesContent, TakesNone}
 use Rattle.fs_inodes.specs.Growing.{NamesBlocks, inode_entry}
 use Rattle.fs_inodes.specs.Shrinking.{DropsPointer}

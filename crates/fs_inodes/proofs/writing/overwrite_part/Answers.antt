@@ -2,9 +2,9 @@ use Rattle.std.proofs.Common.{◌≡◌, ◌≢◌, ℕ, ◌-◌, ◌/◌, ◌%�
 use Rattle.disk.specs.Image.{overwritten}
 use Rattle.model.specs.Volume.{number_at}
 use Rattle.model.specs.Files.{Entry, entry, entry_of, pointer, content_of, indirect_pointer, block_count}
+use Rattle.model.proofs.Owning.{owns_pointer}
 use Rattle.fs_layout.specs.Blocks.{IsThere}
 use Rattle.fs_inodes.specs.Changes.{ReplacesContent, SameMarks}
-use Rattle.fs_layout.proofs.Entries.{owns_pointer}
 use Rattle.fs_inodes.proofs.Named.{double_is_there, table_is_there}
 use Rattle.fs_inodes.proofs.Overwriting.{overwrites, overwrites_marks}
 use Rattle.fs_layout.proofs.Puts.{on_put}

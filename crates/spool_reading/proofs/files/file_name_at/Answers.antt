@@ -1,7 +1,8 @@
 use Rattle.std.proofs.Common.{List, ℕ, Some, ap, sym, ◌∙◌, arith}
 use Rattle.std.specs.Prelude.{option_map}
 use Rattle.model.specs.Files.{File}
-use Rattle.spool_reading.proofs.Contents.{name_there, nothing_there, small_name}
+use Rattle.fs_layout.proofs.Entries.{small_name}
+use Rattle.spool_reading.proofs.Contents.{name_there, nothing_there}
 use Rattle.spool_reading.proofs.files.file_name_at.Goals as goal
 
 pub returns-then-slot-eq0 : goal.returns-then-slot-eq0
