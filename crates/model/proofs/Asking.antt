@@ -8,7 +8,6 @@ use Rattle.std.proofs.lemmas.Bool.{and_parts, or_parts, leb-true, ltb-false, le-
 use Rattle.std.proofs.lemmas.List.Sums.{sum_by-cons, length-filter, count_by-le-length}
 use Rattle.std.proofs.lemmas.Slice.Eq.{bytes_eq-Decides}
 use Rattle.byteorder.specs.Endian.{little_bytes}
-use Rattle.byteorder.specs.Numbers.{length-bytes_low_first}
 use Rattle.model.specs.Stream.{Octets}
 use Rattle.model.specs.Names.{is_group_name, is_group_octet, is_dotted}
 use Rattle.model.specs.Article.{Carried, are_distinct, cause, groups_of}
@@ -28,6 +27,7 @@ use Rattle.model.specs.declared.change.Change.TheVariants.{Group, Article, Expir
 use Rattle.model.proofs.HoldsOne.{carried_cause, carried_size, high_few}
 use Rattle.model.proofs.Ids.{no_cause}
 use Rattle.model.proofs.LineSizes.{line_short}
+use Rattle.model.proofs.Strings.{length-little}
 
 -- ---- blocks of a size
 
@@ -53,18 +53,15 @@ files_grow_by_blocks size more = omega (arith, double_one (indirect_for (content
 
 -- ---- sizes of records
 
-little_size : (size n : ℕ) → length (little_bytes size n) ≡ size
-little_size size n = length-bytes_low_first 0 size n
-
 number_size : (serial offset : ℕ) (line : Octets) → length (number_record serial offset line) ≡ 16
 number_size serial offset line =
     omega (
       arith,
       length-append (little_bytes 8 serial ++ little_bytes 4 offset) (little_bytes 4 (length line)),
       length-append (little_bytes 8 serial) (little_bytes 4 offset),
-      little_size 8 serial,
-      little_size 4 offset,
-      little_size 4 (length line),
+      length-little 8 serial,
+      length-little 4 offset,
+      length-little 4 (length line),
     )
 
 group_size : (g : NewsGroup) → length (group_record g) ≡ 17 + length g.description
@@ -73,8 +70,8 @@ group_size g =
       arith,
       length-append (little_bytes 8 g.serial ++ little_bytes 8 g.moment) (g.status ∷ g.description),
       length-append (little_bytes 8 g.serial) (little_bytes 8 g.moment),
-      little_size 8 g.serial,
-      little_size 8 g.moment,
+      length-little 8 g.serial,
+      length-little 8 g.moment,
     )
 
 names_size : (names : List Octets) → list_all is_group_name names ≡ true → length (flat_map (λ g. length g ∷ g) names) ≤ 41 * length names
@@ -98,9 +95,9 @@ article_size a =
       length-append named a.text,
       length-append head (little_bytes 4 (length a.text)),
       length-append (little_bytes 8 a.serial) (little_bytes 8 a.moment),
-      little_size 8 a.serial,
-      little_size 8 a.moment,
-      little_size 4 (length a.text),
+      length-little 8 a.serial,
+      length-little 8 a.moment,
+      length-little 4 (length a.text),
     )
 
 expiry_size : (n number : ℕ) (group : Octets)
@@ -110,8 +107,8 @@ expiry_size n number group =
       arith,
       length-append (little_bytes 8 n ++ little_bytes 4 number) (length group ∷ group),
       length-append (little_bytes 8 n) (little_bytes 4 number),
-      little_size 8 n,
-      little_size 4 number,
+      length-little 8 n,
+      length-little 4 number,
     )
 
 -- ---- the groups of an article
@@ -166,7 +163,7 @@ here_from host before (Group h status description moment ∷ cs) n g lawful here
       by_name true is found later = ap is_group_name (sym ((bytes_eq-Decides h g).0 is)) ∙ lawful.0.is_name
       by_name false is found later = later found
 
-here_short : (host : Octets) (S : Spool) (g : Octets) → IsLawful host S → is_here S g ≡ true → length g ≤ 40
+pub here_short : (host : Octets) (S : Spool) (g : Octets) → IsLawful host S → is_here S g ≡ true → length g ≤ 40
 unfolding group_named groups entries
 here_short host S g lawful here =
     leb-true (length g) 40 (and_parts (nat_le (length g) 40) (is_dotted is_group_octet g) (here_from host [] S 1 g lawful here)).0

@@ -4,7 +4,7 @@ use Rattle.std.proofs.Common.{arith, Bool, true, false, cond, length-append}
 use Rattle.std.specs.Prelude.{flat_map, filter, filter_map, find, zip, bytes_eq, is_some, nat_le, Option, Some, None, IsPermutation, not}
 use Rattle.std.specs.Prelude.{◌||◌, ◌&&◌}
 use Rattle.std.specs.List.{enumerate_from, list_any, list_all}
-use Rattle.std.proofs.lemmas.Bool.{cond-true, cond-false, or_parts, or_from, and_parts, not-true, true≢false}
+use Rattle.std.proofs.lemmas.Bool.{cond-false, or_parts, or_from, and_parts, not-true, true≢false}
 use Rattle.std.proofs.lemmas.List.{append_assoc, append-nil, map-append, map-id, map_push, same_from_push, take_at}
 use Rattle.std.proofs.lemmas.List.Concat.{flat_map-append}
 use Rattle.std.proofs.lemmas.List.Elements.{filter-append, filter_map-append}
@@ -21,14 +21,16 @@ use Rattle.model.specs.SpoolFiles.{group_name, numbers_name, overview_name, arti
 use Rattle.model.specs.SpoolFiles.{overview_lines, overview_of, numbers_of, overview_file, numbers_file, change_file, entry_files, files_of}
 use Rattle.model.specs.SpoolFiles.{FileCall, appended, after_call, after_calls, next_line, next_record, filing_calls, making_calls}
 use Rattle.model.specs.SpoolFiles.{change_calls}
-use Rattle.model.specs.Lawful.{MayFollow, IsLawfulAfter, IsLawful}
+use Rattle.model.specs.Lawful.{IsLawfulAfter, IsLawful}
 use Rattle.model.specs.Laws.SpoolFiles.{FilesGrow, SpoolsGrow}
 use Rattle.model.specs.declared.change.Change.{Change}
 use Rattle.model.specs.declared.change.Change.TheVariants.{Group, Article, Expire}
 use Rattle.model.proofs.Fronts.{absent_cut}
 use Rattle.model.proofs.HoldsOne.{carried_cause}
 use Rattle.model.proofs.Ids.{no_cause}
-use Rattle.model.proofs.Joined.{map_joined, map_twice, bytes_same, bytes_differ, bytes_swap}
+use Rattle.model.proofs.Joined.{map_joined, map_twice, bytes_differ, bytes_swap}
+use Rattle.model.proofs.Inodes.{appended_here}
+use Rattle.model.proofs.LawfulLaws.{lawful_more}
 
 -- ---- one element more
 
@@ -180,13 +182,6 @@ new_has_nothing host S name lawful none = nothing_filed host [] S 1 name lawful 
 apart : (name octets : Octets) (f : File) → bytes_eq name f.name ≡ false → appended name octets f ≡ f
 apart name octets f other = cond-false (bytes_eq name f.name) (record { name = f.name; content = f.content ++ octets }) f other
 
-hit : (name octets content : Octets) → appended name octets (record { name = name; content = content }) ≡ record {
-  name = name;
-  content = content ++ octets;
-}
-hit name octets content = cond-true (bytes_eq name name) (record { name = name; content = content ++ octets })
-    (record { name = name; content = content }) (bytes_same name)
-
 -- no file of these changes has this name
 abbrev LackFrom : Octets → ℕ → Spool → Type 0
 LackFrom name n [] = Unit {0}
@@ -241,7 +236,7 @@ lacks_group name n (Group g status description moment ∷ S) none = by_name (byt
 
 -- ---- serials in names
 
-digits_one : (count m n : ℕ) → m < 10 ^ count → n < 10 ^ count → last_digits count m ≡ last_digits count n → m ≡ n
+pub digits_one : (count m n : ℕ) → m < 10 ^ count → n < 10 ^ count → last_digits count m ≡ last_digits count n → m ≡ n
 digits_one zero m n small small' same = omega (arith, small, small')
 digits_one (suc count) m n small small' same =
     let parts = same_from_push (last_digits count (m / 10)) (last_digits count (n / 10)) (48 + m % 10) (48 + n % 10) same in
@@ -275,11 +270,11 @@ made S name octets own lack =
     let fs = flat_map (entry_files S) (entries_from 1 S) in
     map-append (appended name octets) fs (record { name = name; content = [] } ∷ [])
     ∙ ap (λ xs. xs ++ appended name octets (record { name = name; content = [] }) ∷ []) (left_alone S name octets own 1 S lack)
-    ∙ ap (λ (f : File). fs ++ f ∷ []) (hit name octets [])
+    ∙ ap (λ (f : File). fs ++ f ∷ []) (appended_here name octets [])
 
-calls_then : (fs : List File) (calls more : List FileCall) → after_calls fs (calls ++ more) ≡ after_calls (after_calls fs calls) more
-calls_then fs [] more = refl
-calls_then fs (call ∷ calls) more = calls_then (after_call fs call) calls more
+pub calls_after : (fs : List File) (calls more : List FileCall) → after_calls fs (calls ++ more) ≡ after_calls (after_calls fs calls) more
+calls_after fs [] more = refl
+calls_after fs (call ∷ calls) more = calls_after (after_call fs call) calls more
 
 -- ---- the files of the earlier changes
 
@@ -388,7 +383,7 @@ module _ (S : Spool) (text : Octets) where
             (and_parts (not (list_any (bytes_eq g) gs)) (are_distinct gs) distinct).0) in
             ap (λ (x : File). through gs (appended (overview_name g) (next_line S text g) x))
             (ap (λ (n : Octets). appended (numbers_name n) (next_record S text n) f) same
-            ∙ hit (numbers_name h) (next_record S text h) content)
+            ∙ appended_here (numbers_name h) (next_record S text h) content)
             ∙ numbers_pass h (content ++ next_record S text h) gs once
 
   overview_gains : (h content : Octets) (gs : List Octets) → are_distinct gs ≡ true
@@ -416,7 +411,7 @@ module _ (S : Spool) (text : Octets) where
             let once = others g h gs same (not-true (list_any (bytes_eq g) gs)
             (and_parts (not (list_any (bytes_eq g) gs)) (are_distinct gs) distinct).0) in
             ap (through gs) (ap (λ (n : Octets). appended (overview_name n) (next_line S text n) f) same
-            ∙ hit (overview_name h) (next_line S text h) content)
+            ∙ appended_here (overview_name h) (next_line S text h) content)
             ∙ overview_passes h (content ++ next_line S text h) gs once
 
 -- the numbers and the overview of a group after an article
@@ -472,11 +467,11 @@ module _ (S : Spool) (text : Octets) (gs : List Octets) (moment : ℕ) (distinct
       ∙ sym (map_push (through S text gs) (files_of S) its)
       ∙ ap (map (through S text gs)) (sym (made S its.name its.content (λ g. (refl, refl)) lack))
       ∙ sym (filings S text gs (after_calls (files_of S) creation))
-      ∙ sym (calls_then (files_of S) creation (flat_map (filing_calls S text) gs))
+      ∙ sym (calls_after (files_of S) creation (flat_map (filing_calls S text) gs))
 
 -- ---- distinct groups
 
-filter_lacks : (p : Octets → Bool) (x : Octets) (names : List Octets) → list_any (bytes_eq x) names ≡ false
+pub filter_lacks : (p : Octets → Bool) (x : Octets) (names : List Octets) → list_any (bytes_eq x) names ≡ false
     → list_any (bytes_eq x) (filter p names) ≡ false
 filter_lacks p x [] none = refl
 filter_lacks p x (y ∷ names) none =
@@ -488,7 +483,7 @@ filter_lacks p x (y ∷ names) none =
     by_test true other rest = or_from (bytes_eq x y) (list_any (bytes_eq x) (filter p names)) other rest
     by_test false other rest = rest
 
-filter_distinct : (p : Octets → Bool) (names : List Octets) → are_distinct names ≡ true → are_distinct (filter p names) ≡ true
+pub filter_distinct : (p : Octets → Bool) (names : List Octets) → are_distinct names ≡ true → are_distinct (filter p names) ≡ true
 unfolding are_distinct
 filter_distinct p [] distinct = refl
 filter_distinct p (x ∷ names) distinct =
@@ -515,11 +510,6 @@ no_lines f g = refl
 lack_new : (T : Spool) (g : Octets) → group_named T g ≡ None → LackFrom (group_name g) 1 T
 unfolding group_named groups entries
 lack_new T g none = lacks_group g 1 T none
-
-lawful_push : (host : Octets) (R cs : Spool) (c : Change) → IsLawfulAfter host R cs → MayFollow host (R ++ cs) c
-    → IsLawfulAfter host R (cs ++ c ∷ [])
-lawful_push host R [] c lawful may = (rw append-nil at may, tt)
-lawful_push host R (d ∷ cs) c lawful may = (lawful.0, lawful_push host (R ++ d ∷ []) cs c lawful.1 (rw append_assoc may))
 
 pub files_grow : FilesGrow
 files_grow host S (Group name status description moment) small lawful may =
@@ -570,5 +560,5 @@ spools_grow host inodes blocks files S c small lawful may held same = record {
   files = files;
   held = held;
   same = subst (IsPermutation files) (sym (files_grow host S c small lawful may)) same;
-  lawful = lawful_push host [] S c lawful may;
+  lawful = lawful_more host [] S c lawful may;
 }

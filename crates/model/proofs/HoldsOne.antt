@@ -166,7 +166,7 @@ source_is S n m c d (suc k, low, is) = absurd (index_apart S d m c (k, omega ari
 
 -- ---- entries
 
-entry_in : (n : ℕ) (S : Spool) (k : ℕ) → k < length S
+pub entry_in : (n : ℕ) (S : Spool) (k : ℕ) → k < length S
     → Contains (entries_from n S) (record { serial = n + k; change = get_or S k no_change })
 entry_in n [] k low = absurd (omega arith)
 entry_in n (c ∷ S) zero low = let serial : n ≡ n + 0 = omega arith in

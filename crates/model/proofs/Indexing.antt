@@ -245,7 +245,7 @@ expiries_grow host S h number g may =
           ∙ ap (λ (n : ℕ). 1 + n) (greatest_push (map (λ (e : Expiry). e.number) (expiries_of S g.name)) number small))
           all last
 
-nothing_expired : (host : Octets) (before cs : Spool) (n : ℕ) (name : Octets) → IsLawfulAfter host before cs
+pub nothing_expired : (host : Octets) (before cs : Spool) (n : ℕ) (name : Octets) → IsLawfulAfter host before cs
     → group_named (before ++ cs) name ≡ None
     → filter (λ (e : Expiry). is_name name e.group) (filter_map expiry_made (entries_from n cs)) ≡ []
 nothing_expired host before [] n name lawful none = refl
@@ -261,7 +261,7 @@ nothing_expired host before (Expire h number ∷ cs) n name lawful none =
     let rest = nothing_expired host (before ++ Expire h number ∷ []) cs (suc n) name lawful.1 (rw append_assoc none) in
     cond-false (bytes_eq h name) _ _ other ∙ rest
 
-new_has_expired : (host : Octets) (S : Spool) (name : Octets) → IsLawful host S → group_named S name ≡ None → expiries_of S name ≡ []
+pub new_has_expired : (host : Octets) (S : Spool) (name : Octets) → IsLawful host S → group_named S name ≡ None → expiries_of S name ≡ []
 unfolding expiries_of expiries entries
 new_has_expired host S name lawful none = nothing_expired host [] S 1 name lawful none
 

@@ -42,7 +42,7 @@ appended_other name octets f other =
     cond-false (bytes_eq name f.name) (record { name = f.name; content = f.content ++ octets }) f
     (bytes_differ name f.name (λ is. other (sym is)))
 
-appended_here : (name octets content : Octets) → appended name octets (record { name = name; content = content }) ≡ record {
+pub appended_here : (name octets content : Octets) → appended name octets (record { name = name; content = content }) ≡ record {
   name = name;
   content = content ++ octets;
 }

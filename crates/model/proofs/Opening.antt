@@ -70,7 +70,7 @@ same_elements (x ∷ xs) ys once within same =
 
 -- ---- files by inode
 
-where_is : (inodes : List (Option File)) (f : File) → Contains (files_in inodes) f → (k : ℕ) × (get_or inodes k None ≡ Some f)
+pub where_is : (inodes : List (Option File)) (f : File) → Contains (files_in inodes) f → (k : ℕ) × (get_or inodes k None ≡ Some f)
 where_is [] f (k, low, is) = absurd (omega arith)
 where_is (None ∷ inodes) f has = let rest = where_is inodes f has in (suc rest.0, rest.1)
 where_is (Some g ∷ inodes) f (zero, low, is) = (0, ap Some is)
@@ -129,10 +129,10 @@ fronts_read host inodes blocks S R room held says =
 
 -- ---- how many changes
 
-change_counts : (n : ℕ) (c : Change) → is_of_change (change_file (record { serial = n; change = c })) ≡ true
-change_counts n (Group name status description moment) = refl
-change_counts n (Article text gs moment) = refl
-change_counts n (Expire group number) = refl
+pub of_change : (n : ℕ) (c : Change) → is_of_change (change_file (record { serial = n; change = c })) ≡ true
+of_change n (Group name status description moment) = refl
+of_change n (Article text gs moment) = refl
+of_change n (Expire group number) = refl
 
 abbrev counted : List File → ℕ
 counted files = count_by is_of_change files

@@ -17,7 +17,7 @@ append_split (x ∷ xs) (y ∷ ys) front back same is =
     let parts = append_split xs ys front back (omega arith) tails in
     ((λ i. heads i ∷ parts.0 i), parts.1)
 
-length-little : (size n : ℕ) → length (little_bytes size n) ≡ size
+pub length-little : (size n : ℕ) → length (little_bytes size n) ≡ size
 length-little size n = length-bytes_low_first 0 size n
 
 little_value-little : (size n : ℕ) → n < 256 ^ size → little_number size (little_bytes size n) ≡ n
