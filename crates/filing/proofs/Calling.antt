@@ -12,6 +12,7 @@ use Rattle.model.specs.SpoolFiles.{FileCall, Create, Append, after_call, after_c
 use Rattle.model.proofs.Asking.{files_grow_by_blocks}
 use Rattle.model.proofs.Inodes.{appends_to_one, creates_one}
 use Rattle.model.proofs.Owning.{content_size}
+use Rattle.model.proofs.Filing.{calls_after}
 use Rattle.fs.specs.Calls.{Creates, HasNoFreeInode, IsFileAt}
 use Rattle.fs.specs.Changes.{SameMarks}
 use Rattle.fs.specs.Growing.{GrowsBy, HasRoomFor}
@@ -24,10 +25,6 @@ use Rattle.filing.specs.declared.Free.{Free}
 use Rattle.places.specs.Places.{KeepsNames, name_of}
 
 -- ---- calls after calls
-
-calls_after : (fs : List File) (calls more : List FileCall) → after_calls fs (calls ++ more) ≡ after_calls (after_calls fs calls) more
-calls_after fs [] more = refl
-calls_after fs (call ∷ calls) more = calls_after (after_call fs call) calls more
 
 pub calls_then : (inodes : ℕ) (calls more : List FileCall) (old mid new : List Octets) → Calls inodes calls old mid
     → Calls inodes more mid new → Calls inodes (calls ++ more) old new

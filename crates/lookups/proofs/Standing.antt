@@ -3,9 +3,10 @@ use Rattle.std.proofs.Common.{◌≡◌, ℕ, zero, suc, ◌+◌, ◌-◌, List,
 use Rattle.std.specs.Prelude.{filter, filter_map, find, slice_get, Option, Some, None, option_map, option_and_then, unwrap_or}
 use Rattle.model.specs.Stream.{Octets}
 use Rattle.model.specs.Spool.{Spool, NewsArticle, article_filed, articles, by_id, by_number, entries, entries_from, filed_in, gone_at}
-use Rattle.model.specs.Spool.{is_gone, low, numbered, unless_gone}
+use Rattle.model.specs.Spool.{is_gone, numbered, unless_gone}
 use Rattle.model.specs.declared.change.Change.TheVariants.{Group, Article, Expire}
 use Rattle.model.specs.Reads.{id_reads}
+use Rattle.model.proofs.Wanted.{has_number}
 use Rattle.lookups.specs.Held.{article_of, article_with, gone_with, text_of}
 
 -- the article at this place from this serial on
@@ -67,15 +68,9 @@ numbered_some filed n a is = by_zero (Rattle.std.specs.Prelude.nat_eq n 0) is wh
   by_zero true same = absurd (cc)
   by_zero false same = same
 
-at_some : (S : Spool) (g : Octets) (n : ℕ) (a : NewsArticle) → by_number S g n ≡ Some a → numbered (filed_in S g) n ≡ Some a
-at_some S g n a is = by_low (Rattle.std.specs.Prelude.nat_lt n (low S g)) is where
-  by_low : (b : Bool) → cond b None (numbered (filed_in S g) n) ≡ Some a → numbered (filed_in S g) n ≡ Some a
-  by_low true same = absurd (cc)
-  by_low false same = same
-
 pub number_stands : (S : Spool) (g : Octets) (n : ℕ) (a : NewsArticle) → by_number S g n ≡ Some a → article_with S a.serial ≡ Some a
 unfolding filed_in articles entries
-number_stands S g n a is = stands S a (filtered_from _ 1 S (n - 1) a (numbered_some (filed_in S g) n a (at_some S g n a is)))
+number_stands S g n a is = stands S a (filtered_from _ 1 S (n - 1) a (numbered_some (filed_in S g) n a (has_number S g n a is)))
 
 -- what is found is the article of its serial
 pub record IsFound (S : Spool) (o : Option NewsArticle) (serial : ℕ) : Type 0 where

@@ -7,7 +7,7 @@ use Rattle.std.proofs.lemmas.List.{map_push}
 use Rattle.std.proofs.lemmas.List.Elements.{filter_map-append}
 use Rattle.std.proofs.lemmas.List.Sorted.{IsPermutation-sym, Contains-permutation}
 use Rattle.model.specs.Stream.{Octets}
-use Rattle.model.specs.Files.{File, files_in, table}
+use Rattle.model.specs.Files.{File, table}
 use Rattle.model.specs.Layout.{Holds}
 use Rattle.model.specs.Spool.{Spool, Entry, NewsGroup, entries, entries_from, group_made, groups}
 use Rattle.model.specs.SpoolFiles.{change_file, entry_files, files_of, numbers_file, numbers_name, overview_file, overview_name}
@@ -16,6 +16,7 @@ use Rattle.model.specs.declared.change.Change.TheVariants.{Group, Article, Expir
 use Rattle.model.proofs.Filing.{entries_push}
 use Rattle.model.proofs.Inodes.{names_once}
 use Rattle.model.proofs.Joined.{joined_has, map_twice}
+use Rattle.model.proofs.Opening.{where_is}
 use Rattle.places.specs.Laws.{PlacesAreByName, PlacesGrowByChange, PlacesGrowByGroup, PlacesHaveNames}
 use Rattle.places.specs.Places.{KeepsNames, name_of, names_of}
 
@@ -58,12 +59,6 @@ record HasName (o : Option File) (name : Octets) : Type 0 where
 with_name : (o : Option File) (name : Octets) → option_map (λ (f : File). f.name) o ≡ Some name → HasName o name
 with_name None name is = absurd (cc)
 with_name (Some f) name is = record { file = f; is = refl; named = cc }
-
-where_is : (inodes : List (Option File)) (f : File) → Contains (files_in inodes) f → (k : ℕ) × (get_or inodes k None ≡ Some f)
-where_is [] f (k, low, is) = absurd (omega arith)
-where_is (None ∷ inodes) f has = let rest = where_is inodes f has in (suc rest.0, rest.1)
-where_is (Some g ∷ inodes) f (zero, low, is) = (0, ap Some is)
-where_is (Some g ∷ inodes) f (suc k, low, is) = let rest = where_is inodes f (k, omega arith, is) in (suc rest.0, rest.1)
 
 -- each of these files is the one with its name
 abbrev AreTheirs : List (Option File) → List File → Type 0

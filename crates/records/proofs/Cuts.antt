@@ -3,19 +3,15 @@ use Rattle.std.proofs.Common.{◌≡◌, ℕ, ◌^◌, ◌<◌, List, [], ◌∷
 use Rattle.std.specs.Prelude.{flat_map}
 use Rattle.std.proofs.lemmas.List.{append_assoc}
 use Rattle.byteorder.specs.Endian.{little_bytes}
-use Rattle.byteorder.specs.Numbers.{length-bytes_low_first}
 use Rattle.model.specs.Stream.{Octets}
 use Rattle.model.specs.Spool.{Expiry, NewsArticle}
 use Rattle.model.specs.Records.{article_record, expiry_record}
-use Rattle.model.proofs.Strings.{append_split, counted_lists, counted_split, little_split}
-
-size_of : (size n : ℕ) → length (little_bytes size n) ≡ size
-size_of size n = length-bytes_low_first 0 size n
+use Rattle.model.proofs.Strings.{append_split, counted_lists, counted_split, little_split, length-little}
 
 -- whatever the number, the rest is the same
 behind : (size n m : ℕ) (front back : Octets) → little_bytes size n ++ front ≡ little_bytes size m ++ back → front ≡ back
 behind size n m front back is =
-    (append_split (little_bytes size n) (little_bytes size m) front back (size_of size n ∙ sym (size_of size m)) is).1
+    (append_split (little_bytes size n) (little_bytes size m) front back (length-little size n ∙ sym (length-little size m)) is).1
 
 -- ---- an expiry
 
