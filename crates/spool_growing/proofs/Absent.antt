@@ -1,9 +1,8 @@
 -- Names that no file of a spool has.
-use Rattle.std.proofs.Common.{◌≡◌, ◌≢◌, ◌<◌, ◌≤◌, ◌^◌, ℕ, zero, suc, ◌+◌, ◌/◌, ◌%◌, Bool, true, false, cond, [], ◌∷◌, length, get_or, drop}
+use Rattle.std.proofs.Common.{◌≡◌, ◌≢◌, ◌<◌, ◌≤◌, ◌^◌, ℕ, zero, suc, ◌+◌, Bool, true, false, cond, [], ◌∷◌, length, get_or, drop}
 use Rattle.std.proofs.Common.{refl, sym, ◌∙◌, ap, subst, arith}
 use Rattle.std.specs.Prelude.{bytes_eq, filter_map, find, flat_map, Option, Some, None}
 use Rattle.std.specs.List.{Contains}
-use Rattle.std.proofs.lemmas.List.{same_from_push}
 use Rattle.model.specs.Stream.{Octets}
 use Rattle.model.specs.Files.{File}
 use Rattle.model.specs.Records.{last_digits}
@@ -11,6 +10,7 @@ use Rattle.model.specs.Spool.{Spool, NewsGroup, entries, entries_from, group_mad
 use Rattle.model.specs.SpoolFiles.{article_name, entry_files, expiry_name, files_of, group_name, numbers_name, overview_name}
 use Rattle.model.specs.declared.change.Change.TheVariants.{Group, Article, Expire}
 use Rattle.model.proofs.Joined.{bytes_same}
+use Rattle.model.proofs.Filing.{digits_one}
 
 pub not_first : (a b : Octets) (x y : ℕ) → get_or a 0 0 ≡ x → get_or b 0 0 ≡ y → x ≢ y → a ≢ b
 not_first a b x y p q other same = other (sym p ∙ ap (λ (o : Octets). get_or o 0 0) same ∙ q)
@@ -98,13 +98,6 @@ unfolding group_named groups entries files_of
 lacks_names S name none f has = groups_lack S name 1 S none f has
 
 -- ---- a serial's names
-
-digits_one : (count m n : ℕ) → m < 10 ^ count → n < 10 ^ count → last_digits count m ≡ last_digits count n → m ≡ n
-digits_one zero m n small small' same = omega (arith, small, small')
-digits_one (suc count) m n small small' same =
-    let parts = same_from_push (last_digits count (m / 10)) (last_digits count (n / 10)) (48 + m % 10) (48 + n % 10) same in
-    let front : m / 10 ≡ n / 10 = digits_one count (m / 10) (n / 10) (omega (arith, small)) (omega (arith, small')) parts.0 in
-    omega (arith, front, parts.1)
 
 -- none of the names of the files of this serial
 pub record LacksSerial (m : ℕ) (q : Octets) : Type 0 where

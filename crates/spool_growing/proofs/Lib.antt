@@ -5,4 +5,3 @@ pub mod Grown
 pub mod Adding
 pub mod Touched
 pub mod Filed
-pub mod Short

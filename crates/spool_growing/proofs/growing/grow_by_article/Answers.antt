@@ -6,7 +6,7 @@ use Rattle.model.specs.Records.{article_record}
 use Rattle.model.specs.Files.{HasRoom, table}
 use Rattle.model.specs.SpoolFiles.{article_name}
 use Rattle.model.specs.declared.change.Change.TheVariants.{Article}
-use Rattle.model.proofs.Asking.{changes_ask_few}
+use Rattle.model.proofs.Asking.{changes_ask_few, here_short}
 use Rattle.model.proofs.HoldsOne.{carried_size}
 use Rattle.fs.specs.Calls.{IsThere}
 use Rattle.filing.specs.declared.Piece.{Piece}
@@ -20,7 +20,6 @@ use Rattle.spool_growing.proofs.Adding.{filed_here, pieces_count, pieces_may_gro
 use Rattle.spool_growing.proofs.Filed.{article_grown, lacks_article}
 use Rattle.spool_growing.proofs.Grown.{applied_dirties}
 use Rattle.spool_growing.proofs.Held.{changes_are_few, enough}
-use Rattle.spool_growing.proofs.Short.{here_is_short}
 use Rattle.spool_growing.proofs.Touched.{article_touches}
 use Rattle.spool_growing.proofs.growing.grow_by_article.Goals as goal
 
@@ -50,7 +49,7 @@ record_of-requires-clause-names c = λ k d low.
       low,
       get_or_default c.args.groups.now k g d low,
     ) in
-    omega (arith, here_is_short ready.host ready.changes g ready.kept.is.held.lawful here)
+    omega (arith, here_short ready.host ready.changes g ready.kept.is.held.lawful here)
 
 pub file_article-requires-clause-short : goal.file_article-requires-clause-short
 file_article-requires-clause-short c =

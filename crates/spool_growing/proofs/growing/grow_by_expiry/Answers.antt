@@ -4,13 +4,12 @@ use Rattle.model.specs.Records.{expiry_record}
 use Rattle.model.specs.Files.{HasRoom, table}
 use Rattle.model.specs.SpoolFiles.{expiry_name}
 use Rattle.model.specs.declared.change.Change.TheVariants.{Expire}
-use Rattle.model.proofs.Asking.{changes_ask_few}
+use Rattle.model.proofs.Asking.{changes_ask_few, here_short}
 use Rattle.fs.specs.Calls.{IsThere}
 use Rattle.filing.specs.Calls.{IsKnown}
 use Rattle.spool_growing.specs.Growing.{HasFree}
 use Rattle.spool_growing.proofs.Grown.{applied_dirties, expiry_grown, lacks_expiry}
 use Rattle.spool_growing.proofs.Held.{changes_are_few, enough}
-use Rattle.spool_growing.proofs.Short.{here_is_short}
 use Rattle.spool_growing.proofs.growing.grow_by_expiry.Goals as goal
 
 pub overflow_add-serial : goal.overflow_add-serial
@@ -25,7 +24,7 @@ overflow_add-serial c =
 pub expiry_record-requires : goal.expiry_record-requires
 expiry_record-requires c =
     let ready = c.requires.ready in
-    omega (arith, here_is_short ready.host ready.changes c.args.name.now ready.kept.is.held.lawful ready.may.here)
+    omega (arith, here_short ready.host ready.changes c.args.name.now ready.kept.is.held.lawful ready.may.here)
 
 pub make_expiry-requires-clause-short : goal.make_expiry-requires-clause-short
 make_expiry-requires-clause-short c =
