@@ -18,10 +18,10 @@ use Rattle.model.specs.declared.change.Change.TheVariants.{Group, Article, Expir
 use Rattle.model.proofs.Filing.{filed_article, filed_no_more, named_front, numbers_push, overview_push}
 use Rattle.model.proofs.HoldsOne.{changes_few, fits_lawful, no_change}
 use Rattle.fs_layout.proofs.Tables.{there_once}
-use Rattle.model.proofs.Opening.{fronts_read}
+use Rattle.model.proofs.Opening.{fronts_read, where_is}
 use Rattle.spool_opening.specs.Stored.{AreRead, NextIs, HasFront, HasPiece, IsFileAt, Numbers, Overview, Which, file_for, name_for}
 use Rattle.spool_opening.specs.Stored.{piece_for}
-use Rattle.spool_reading.proofs.Finding.{has_change, in_blocks, in_spool, is_among, where_is}
+use Rattle.spool_reading.proofs.Finding.{has_change, in_blocks, in_spool, is_among}
 use Rattle.spool_opening.proofs.GroupFiles.{has_index, index_is}
 
 -- ---- the next change

@@ -13,7 +13,7 @@ use Rattle.model.specs.SpoolFiles.{overview_file}
 use Rattle.model.specs.declared.change.Change.{Change}
 use Rattle.model.specs.declared.change.Change.TheVariants.{Group, Article, Expire}
 use Rattle.model.proofs.Joined.{joined_from, joined_has}
-use Rattle.spool_reading.proofs.Slots.{of_change}
+use Rattle.model.proofs.Opening.{of_change}
 use Rattle.spool_opening.specs.Stored.{Which, Numbers, Overview, name_for, file_for}
 
 -- ---- the files of a group

@@ -5,28 +5,24 @@ use Rattle.std.specs.Prelude.{slice_get, find, filter_map, bytes_eq, is_some}
 use Rattle.std.specs.List.{Contains, list_any}
 use Rattle.std.specs.Option.{option_or}
 use Rattle.std.proofs.lemmas.Bool.{true≢false}
-use Rattle.std.proofs.lemmas.List.{append_assoc, append-nil}
+use Rattle.std.proofs.lemmas.List.{append-nil}
 use Rattle.std.proofs.lemmas.List.Folds.{find-append}
 use Rattle.std.proofs.lemmas.Option.{slice_get_past}
 use Rattle.std.proofs.lemmas.Slice.Eq.{bytes_eq-Decides}
 use Rattle.model.specs.Stream.{Octets}
 use Rattle.model.specs.Files.{IsFileSystem, files_in, table}
-use Rattle.model.specs.Lawful.{IsLawful, IsLawfulAfter, MayFollow}
+use Rattle.model.specs.Lawful.{IsLawful, MayFollow}
 use Rattle.model.specs.Spool.{Spool, NewsGroup, entries, group_made, group_named, groups, is_here, is_name}
 use Rattle.model.specs.SpoolFiles.{HasRoomInFile, change_file, numbers_of, overview_of}
 use Rattle.model.specs.declared.change.Change.{Change}
 use Rattle.model.specs.declared.change.Change.TheVariants.{Group, Article, Expire}
 use Rattle.model.proofs.Filing.{new_has_nothing}
+use Rattle.model.proofs.LawfulLaws.{lawful_more}
 use Rattle.places.proofs.Named.{groups_more}
 use Rattle.spool_opening.specs.Stored.{AreRead, HasFront, HasPiece, IsFileAt, Numbers, Overview, Which, file_for, name_for, piece_for}
 use Rattle.spool_opening.proofs.Fronts.{article_grows, front_grows, other_grows}
 
 -- ---- lawful
-
-pub lawful_more : (host : Octets) (before cs : Spool) (c : Change) → IsLawfulAfter host before cs → MayFollow host (before ++ cs) c
-    → IsLawfulAfter host before (cs ++ c ∷ [])
-lawful_more host before [] c lawful may = (rw append-nil at may, tt)
-lawful_more host before (d ∷ cs) c lawful may = (lawful.0, lawful_more host (before ++ d ∷ []) cs c lawful.1 (rw append_assoc may))
 
 -- ---- the changes
 

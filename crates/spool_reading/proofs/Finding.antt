@@ -1,5 +1,5 @@
 -- The files of a spool in the blocks that hold it.
-use Rattle.std.proofs.Common.{◌≡◌, ◌<◌, ℕ, zero, suc, ◌+◌, List, [], ◌∷◌, length, get_or, sym, subst, arith, ap, refl, Option, Some, None}
+use Rattle.std.proofs.Common.{◌≡◌, ◌<◌, ℕ, zero, suc, ◌+◌, List, [], ◌∷◌, length, get_or, sym, subst, arith, refl, Option, Some, None}
 use Rattle.std.specs.List.{Contains}
 use Rattle.std.proofs.lemmas.List.Sorted.{Contains-permutation, IsPermutation-sym}
 use Rattle.model.specs.Stream.{Octets}
@@ -7,16 +7,10 @@ use Rattle.model.specs.Files.{File, files_in, table}
 use Rattle.model.specs.Layout.{Holds}
 use Rattle.model.specs.Spool.{Spool, entries_from, entries}
 use Rattle.model.specs.SpoolFiles.{change_file, entry_files, files_of}
-use Rattle.model.proofs.HoldsOne.{no_change}
+use Rattle.model.proofs.HoldsOne.{no_change, entry_in}
 use Rattle.model.proofs.Joined.{joined_has}
 
 -- ---- in the table of inodes
-
-pub where_is : (inodes : List (Option File)) (f : File) → Contains (files_in inodes) f → (k : ℕ) × (get_or inodes k None ≡ Some f)
-where_is [] f (k, low, is) = absurd (omega arith)
-where_is (None ∷ inodes) f has = let rest = where_is inodes f has in (suc rest.0, rest.1)
-where_is (Some g ∷ inodes) f (zero, low, is) = (0, ap (λ (h : File). Some h) is)
-where_is (Some g ∷ inodes) f (suc k, low, is) = let rest = where_is inodes f (k, omega arith, is) in (suc rest.0, rest.1)
 
 pub is_among : (inodes : List (Option File)) (k : ℕ) (f : File) → get_or inodes k None ≡ Some f → Contains (files_in inodes) f
 is_among [] k f is = absurd (cc)
@@ -39,20 +33,6 @@ in_spool host inodes blocks S f held has =
     Contains-permutation held.files (files_of S) f held.same (subst (λ (fs : List File). Contains fs f) (sym held.held.contents) has)
 
 -- ---- the file of a change
-
-entry_in : (n : ℕ) (S : Spool) (k : ℕ) → k < length S
-    → Contains (entries_from n S) (record { serial = n + k; change = get_or S k no_change })
-entry_in n [] k low = absurd (omega arith)
-entry_in n (c ∷ S) zero low = let serial : n ≡ n + 0 = omega arith in
-    (0, omega arith, ap (λ (m : ℕ). record { serial = m; change = c }) serial)
-entry_in n (c ∷ S) (suc k) low =
-    let serial : suc n + k ≡ n + suc k = omega arith in
-    let rest = entry_in (suc n) S k (omega arith) in
-    subst (λ (m : ℕ). Contains (entries_from n (c ∷ S)) (record { serial = m; change = get_or S k no_change })) serial (
-      suc rest.0,
-      omega (arith, rest.1),
-      rest.2,
-    )
 
 pub has_change : (S : Spool) (k : ℕ) → k < length S
     → Contains (files_of S) (change_file (record { serial = k + 1; change = get_or S k no_change }))
