@@ -12,6 +12,7 @@ use Rattle.model.specs.declared.message.Message.TheVariants.{Line, Block, TooLon
 use Rattle.model.specs.declared.message.Mode.{Mode}
 use Rattle.model.specs.declared.message.Mode.TheVariants as mode
 use Rattle.model.proofs.StreamLaws.{next-append}
+use Rattle.model.proofs.LawfulLaws.{none_by_test}
 use Rattle.traced_kernel.specs.declared.input.Input.{Input}
 use Rattle.traced_kernel.specs.Input.{Found, HoldsMessage, MayAsk, Waits}
 
@@ -57,10 +58,6 @@ pub Waits-served : (held : Held) (message : Message) (m other : Mode) (stream : 
     (h : HoldsMessage (input_with held (Some message)) m stream message) → Waits (input_with held None) other h.0
 Waits-served held message m other stream h = (h.2, subst (λ o. IfSome o (λ awaited. awaited ≡ other)) (sym h.3) tt)
 
-pub none_some : {A : Type 0} (o : Option A) → is_some o ≡ false → o ≡ None
-none_some None is = refl
-none_some (Some a) is = absurd (cc is)
-
 pub some_some : {A : Type 0} (o : Option A) → is_some o ≡ true → (a : A) × (o ≡ Some a)
 some_some None is = absurd (cc is)
 some_some (Some a) is = (a, refl)
@@ -74,7 +71,7 @@ pub found_new : (input : Input) (new : Held) (m : Mode) (found : Message) → is
     → next m input.reader.rest ≡ Some (found, new.rest) → new.awaits ≡ None → (stream : List ℕ) → Waits input m stream
     → Found true (input_with new (Some found)) m stream
 found_new input new m found is may e awaits stream h =
-    let none : input.message ≡ None = none_some input.message is in
+    let none : input.message ≡ None = none_by_test input.message is in
     Found-new input.reader new m stream found (subst (λ o. MayAsk (input_with input.reader o) m) none may) e awaits
     (subst (λ o. Waits (input_with input.reader o) m stream) none h)
 
@@ -82,7 +79,7 @@ pub found_none : (input : Input) (new : Held) (m : Mode) → is_some input.messa
     → ReadsAlike m input.reader.rest new.rest → new.awaits ≡ Some m → (stream : List ℕ) → Waits input m stream
     → Found false (input_with new input.message) m stream
 found_none input new m is may e alike awaits stream h =
-    let none : input.message ≡ None = none_some input.message is in
+    let none : input.message ≡ None = none_by_test input.message is in
     subst (λ o. Found false (input_with new o) m stream) (sym none)
     (Found-none input.reader new m stream (subst (λ o. MayAsk (input_with input.reader o) m) none may) e alike awaits
     (subst (λ o. Waits (input_with input.reader o) m stream) none h))

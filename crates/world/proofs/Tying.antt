@@ -1,6 +1,6 @@
 -- Each event keeps the tie between journal and kernel.
 use Rattle.std.proofs.Common.{◌≡◌, ◌≢◌, ◌⊎◌, inl, inr, ⊎_elim, ℕ, ◌≤◌, ◌<◌, ◌==◌, Bool, true, false, List, [], ◌∷◌, ◌++◌, length, take}
-use Rattle.std.proofs.Common.{Option, Some, None, refl, ap, sym, ◌∙◌, subst, arith}
+use Rattle.std.proofs.Common.{Some, None, refl, ap, sym, ◌∙◌, subst, arith}
 use Rattle.std.specs.Prelude.{bytes_eq, slice_index_or, not, ◌||◌, is_some, IfErr, IsTrue, map, Result, Ok, Err}
 use Rattle.std.specs.Option.{option_to_list}
 use Rattle.std.proofs.lemmas.List.{append-nil, take-append-le, take_all}
@@ -28,6 +28,7 @@ use Rattle.model.specs.Volume.{laid_over}
 use Rattle.model.specs.declared.change.Change.{Change}
 use Rattle.model.specs.declared.message.Mark.{Mark}
 use Rattle.model.specs.declared.message.Message.{Message}
+use Rattle.model.proofs.LawfulLaws.{none_by_test}
 use Rattle.traced_kernel.specs.Traced.{TracedView}
 use Rattle.traced_kernel.specs.Events.{with_kernel}
 use Rattle.world.specs.World.{News, IsDurable, HasFailed, WorldView, kernel_of, with_served}
@@ -164,16 +165,12 @@ IsTied-grows tells world served kept g h =
 
 -- ---- Take
 
-none_flies : (o : Option ℕ) → is_some o ≡ false → o ≡ None
-none_flies None is = refl
-none_flies (Some n) is = absurd (cc is)
-
 -- where there is a batch, none is in flight, and the kernel runs
 pub batch_parts : (kernel : KernelView) → has_batch kernel ≡ true → (kernel.in_flight ≡ None) × (kernel.halted ≡ false)
 batch_parts kernel is =
     let all = or_parts ((length kernel.dirty == 0) || is_some kernel.in_flight) kernel.halted (not-true _ is) in
     let some = or_parts (length kernel.dirty == 0) (is_some kernel.in_flight) all.0 in
-    (none_flies kernel.in_flight some.1, all.1)
+    (none_by_test kernel.in_flight some.1, all.1)
 
 faults_none : (halted : Bool) (news : List News) → AreFaults false halted news → news ≡ []
 faults_none halted news h = h.1

@@ -1,9 +1,10 @@
 use Rattle.std.proofs.Common.{◌≡◌, ◌∙◌, sym, subst, None, arith}
 use Rattle.kernel.specs.Kernel.{seat_of}
+use Rattle.model.proofs.LawfulLaws.{none_by_test}
 use Rattle.traced_kernel.specs.Events.{leaves}
 use Rattle.traced_kernel.specs.Fields.{inputs, sents}
 use Rattle.traced_kernel.specs.Traced.{TracedView}
-use Rattle.traced_kernel.proofs.Inputs.{none_some, some_some}
+use Rattle.traced_kernel.proofs.Inputs.{some_some}
 use Rattle.traced_kernel.proofs.Peers.{same-length}
 use Rattle.traced_kernel.proofs.Sound.{IsSound-along, leaves_none, leaves_there, sound_leaves, there_numbered}
 use Rattle.traced_kernel.proofs.TracedKernel.leave.Goals as goal
@@ -17,7 +18,7 @@ returns-then-not-has c =
       trace = c.self.inside.trace.items;
       ready = c.self.inside.ready;
     } in
-    let none : seat_of c.self.inside.kernel c.args.number ≡ None = none_some _ (sym c.has.ensures ∙ c.if-not-has.true) in
+    let none : seat_of c.self.inside.kernel c.args.number ≡ None = none_by_test _ (sym c.has.ensures ∙ c.if-not-has.true) in
     subst (λ (s : TracedView). s ≡ leaves s c.args.number) c.self.view_is (sym (leaves_none old c.args.number none))
 
 pub leave-requires-clause-within : goal.leave-requires-clause-within
