@@ -15,9 +15,9 @@ use Rattle.model.specs.Names.{is_of_host}
 use Rattle.model.specs.Spool.{NewsArticle, Spool, by_id, is_here}
 use Rattle.model.specs.Stream.{Octets}
 use Rattle.model.proofs.Ids.{field_counted, no_cause}
+use Rattle.model.proofs.Fronts.{first_none}
 use Rattle.change_spool.specs.declared.FilingError.{FilingError}
 use Rattle.change_spool.specs.declared.FilingError.TheVariants as file
-use Rattle.posting_commands.proofs.Saying.{no_but}
 use Rattle.posting_commands.proofs.Telling.{transfer_filed}
 
 -- ---- an article that was carried has a message-id
@@ -33,7 +33,7 @@ pub has_id : (text : Octets) → cause Carried text ≡ None → own_id text ≡
 unfolding cause
 has_id text carried none =
     let counts : Octets → Bool = λ name. field_count name text == 0 in
-    let there = (no_cause Carried text (no_but (cause_but_long Carried text) (long_cause Carried text) carried)).there in
+    let there = (no_cause Carried text (first_none (cause_but_long Carried text) (long_cause Carried text) carried)).there in
     let needed =
     (or_parts (list_any counts (needed_fields Carried)) (list_any (is_blank_field text) (written_fields ++ added_fields)) there).0 in
     let after_from = (any_false counts (codes "From") (codes "Newsgroups" ∷ codes "Subject" ∷ added_fields) needed).1 in

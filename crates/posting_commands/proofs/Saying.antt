@@ -10,6 +10,7 @@ use Rattle.model.specs.Replies.{not_accepted}
 use Rattle.model.specs.Spool.{Spool}
 use Rattle.model.specs.declared.message.Mark.TheVariants as mark
 use Rattle.model.specs.declared.session.Session.{Session}
+use Rattle.model.proofs.Fronts.{first_none}
 use Rattle.replies.specs.Answered.{answered}
 use Rattle.posting_commands.specs.Outcomes.{mark_by, post_said, posted_by, then_line}
 
@@ -20,13 +21,9 @@ either : (a : Option Cause) (short : Bool) (c : Option Cause) → option_or a (c
 either None short c is none = is
 either (Some d) short c is none = absurd (cc)
 
-pub no_but : (a b : Option Cause) → option_or a b ≡ None → a ≡ None
-no_but None b is = refl
-no_but (Some c) b is = absurd (cc)
-
 but_none : (o : Origin) (text : Octets) → cause o text ≡ None → cause_but_long o text ≡ None
 unfolding cause
-but_none o text is = no_but (cause_but_long o text) _ is
+but_none o text is = first_none (cause_but_long o text) _ is
 
 is_short_so : (short : Bool) → cond short None (Some Long) ≡ None → short ≡ true
 is_short_so true is = refl
