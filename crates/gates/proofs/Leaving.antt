@@ -9,6 +9,7 @@ use Rattle.disk.specs.Image.{Torn, overwritten}
 use Rattle.disk.specs.declared.DiskError.{DiskError}
 use Rattle.disk.specs.declared.DiskError.TheVariants.{Memory}
 use Rattle.disk.proofs.Images.{length-overwritten, overwritten_above, overwritten_below, overwritten_inside}
+use Rattle.disk.proofs.Devices.{elapses_then}
 use Rattle.model.specs.Volume.{home_size, segment_count}
 use Rattle.gates.specs.Gates.{IsCount, IsGate, IsLook, IsSeen, IsTornAtGates, Leaves, MayLeaveTorn, WritesThem, gate_at, writes_from}
 use Rattle.gates.proofs.Looking.{all_within, gate_back, tells_then}
@@ -88,13 +89,6 @@ looked first now look seen = record {
 
 now_tells : (first now : Device) → IsPartly first now → IsTrue first.tells → IsTrue now.tells
 now_tells first now partly t = subst (λ (b : Bool). IsTrue b) (sym partly.time.tells) t
-
-elapses_then : (first mid last : Device) → Elapses first mid → Elapses mid last → Elapses first last
-elapses_then first mid last is next = record {
-  size = next.size ∙ is.size;
-  tells = next.tells ∙ is.tells;
-  later = omega (arith, is.later, next.later);
-}
 
 -- the octet of a gate of the first device, if it tells its octets
 record IsItsGate (first : Device) (at octet : ℕ) : Type 0 where

@@ -4,6 +4,7 @@ use Rattle.std.proofs.Common.{length, set, refl, sym, ◌∙◌, ap, subst, arit
 use Rattle.std.proofs.lemmas.Bool.{cond_both}
 use Rattle.std.proofs.lemmas.List.{take_all}
 use Rattle.disk.specs.Device.{Device, Elapses, LeavesOnly}
+use Rattle.disk.proofs.Devices.{elapses_then}
 use Rattle.segment_laws.specs.Held.{Held}
 use Rattle.journal.specs.Calls.{Call, Does, IsRetried, MakesCall, OnMade, OnRetried, Syncs, blocks_after, call_at}
 use Rattle.journal.specs.Calls.Call.{Sync}
@@ -21,14 +22,6 @@ use Rattle.journal.proofs.Flights.{after_commit, after_gate, after_home, after_i
 use Rattle.journal.proofs.Upgrades.{at_rest}
 use Rattle.model.specs.Volume.{StandsFor, block, blocks_from, descriptor_of, format_number, laid_over}
 use Rattle.new_volume.specs.Formatting.{HasCarried, HasLaid, IsLeft, Spoils}
-
--- time goes on
-pub elapsed : (a b c : Device) → Elapses a b → Elapses b c → Elapses a c
-elapsed a b c first second = record {
-  size = second.size ∙ first.size;
-  tells = second.tells ∙ first.tells;
-  later = omega (arith, first.later, second.later);
-}
 
 pub no_time : (a : Device) → Elapses a a
 no_time a = record { size = refl; tells = refl; later = omega arith }
@@ -144,7 +137,7 @@ module _ {D : Type 0} (device : D → Device) (old now new : JournalView D) (so_
   one_more p call = record {
     running = call.next.1;
     same = same_then old now new so_far.same call.same;
-    time = elapsed (device old.disk) (device now.disk) (device new.disk) so_far.time call.time;
+    time = elapses_then (device old.disk) (device now.disk) (device new.disk) so_far.time call.time;
     failures = call.failures.ok ∙ so_far.failures;
     blocks = λ t.
         call.blocks (tells t) ∙ ap (λ (q : Progress). blocks_after now q) call.answers
@@ -172,8 +165,9 @@ module _ {D : Type 0} (device : D → Device) (old now new : JournalView D) (so_
   pub time_by : (error : JournalError) → OnMade {T = Progress} (Err error) (MakesCall device now new (Err error))
       → OnRetried {T = Progress} (Err error) (IsRetried device now new) → (error ≡ Fault) ⊎ (error ≡ Memory)
       → Elapses (device old.disk) (device new.disk)
-  time_by error made retried (inl is) = elapsed (device old.disk) (device now.disk) (device new.disk) so_far.time (made is).time
-  time_by error made retried (inr is) = elapsed (device old.disk) (device now.disk) (device new.disk) so_far.time (retried is).refused.time
+  time_by error made retried (inl is) = elapses_then (device old.disk) (device now.disk) (device new.disk) so_far.time (made is).time
+  time_by error made retried (inr is) = elapses_then (device old.disk) (device now.disk) (device new.disk) so_far.time
+      (retried is).refused.time
 
 -- ---- at the end
 

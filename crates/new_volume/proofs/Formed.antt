@@ -2,6 +2,7 @@
 use Rattle.std.proofs.Common.{◌≡◌, ◌≤◌, ℕ, Bool, List, None, length, length-set, replicate, set, sym, ◌∙◌, subst, refl, arith}
 use Rattle.std.specs.Prelude.{IsTrue}
 use Rattle.disk.specs.Device.{Device}
+use Rattle.disk.proofs.Devices.{elapses_then}
 use Rattle.fs_layout.specs.Bits.{IsFront}
 use Rattle.fs_layout.specs.Table.{Makes}
 use Rattle.journal.specs.Journal.{JournalView}
@@ -15,7 +16,6 @@ use Rattle.model.proofs.Images.{empty_stands}
 use Rattle.volume_format.specs.Formatting.{zeroed}
 use Rattle.new_volume.specs.Formatting.{Formats, HasLaid, IsZeroed, Spoils}
 use Rattle.new_volume.specs.Sizes.{are_sizes}
-use Rattle.new_volume.proofs.Carried.{elapsed}
 use Rattle.new_volume.proofs.Emptied.{Sized, makes, many, sized}
 
 module _ {D : Type 0} (device : D → Device) (blocks : ℕ) (label : Octets) (format : ℕ) (first : D) (journal : JournalView D)
@@ -41,7 +41,7 @@ module _ {D : Type 0} (device : D → Device) (blocks : ℕ) (label : Octets) (f
           format = subst (λ (n : ℕ). n ≤ format_number image) (zero.format_is t) left.format;
           synced = left.synced;
         };
-    time = elapsed (device first) (device journal.disk) (device last) zero.time lays.time;
+    time = elapses_then (device first) (device journal.disk) (device last) zero.time lays.time;
     failures = lays.failures ∙ zero.failures;
   }
     where
@@ -64,7 +64,7 @@ module _ {D : Type 0} (device : D → Device) (blocks : ℕ) (label : Octets) (f
   pub spoiled : (error : JournalError) (last : D) → Spoils error (device journal.disk) (device last)
       → Spoils error (device first) (device last)
   spoiled error last spoils = record {
-    time = elapsed (device first) (device journal.disk) (device last) zero.time spoils.time;
+    time = elapses_then (device first) (device journal.disk) (device last) zero.time spoils.time;
     fault = λ is same. spoils.fault is (same ∙ sym zero.failures);
     memory = λ is. spoils.memory is ∙ zero.failures;
     no_volume = λ is t. spoils.no_volume is (told t);

@@ -2,6 +2,7 @@
 use Rattle.std.proofs.Common.{◌≡◌, ◌⊎◌, inl, inr, ◌≤◌, ℕ, arith, Bool, IsTrue, sym, ◌∙◌, subst}
 use Rattle.std.proofs.lemmas.Bool.{cases_eq}
 use Rattle.disk.specs.Device.{Device, Elapses}
+use Rattle.disk.proofs.Devices.{elapses_then}
 use Rattle.journal.specs.Journal.{JournalView}
 use Rattle.journal.specs.Opening.{Opens, Refuses}
 use Rattle.journal.specs.declared.JournalError.{JournalError}
@@ -9,7 +10,6 @@ use Rattle.model.specs.Stream.{Octets}
 use Rattle.model.specs.Volume.{StandsFor, format_number}
 use Rattle.volume_format.specs.Formatting.{zeroed}
 use Rattle.new_volume.specs.Formatting.{IsZeroed, Spoils}
-use Rattle.new_volume.proofs.Carried.{elapsed}
 
 pub one_or_two : (n : ℕ) → 1 ≤ n → n ≤ 2 → (n ≡ 1) ⊎ (n ≡ 2)
 one_or_two n low high = elim (cases_eq n 1) [
@@ -26,7 +26,7 @@ zeroed_opened device first mid blocks label format journal stands formats time f
   label_is = λ t. sym (opens.stands (told t)).has_label ∙ (stands t).has_label;
   blocks_are = λ t. sym (opens.stands (told t)).has_blocks ∙ (stands t).has_blocks;
   format_is = λ t. sym (opens.format (told t)) ∙ formats t;
-  time = elapsed (device first) (device mid) (device journal.disk) time opens.time;
+  time = elapses_then (device first) (device mid) (device journal.disk) time opens.time;
   failures = opens.failures ∙ failures;
 }
   where
@@ -37,7 +37,7 @@ pub zeroed_refused : {D : Type 0} (device : D → Device) (first mid last : D) (
     → (IsTrue (device first).tells → StandsFor (device mid).content label (zeroed blocks)) → Elapses (device first) (device mid)
     → (device mid).failures ≡ (device first).failures → Refuses device mid last error → Spoils error (device first) (device last)
 zeroed_refused device first mid last blocks label error stands time failures refuses = record {
-  time = elapsed (device first) (device mid) (device last) time refuses.time;
+  time = elapses_then (device first) (device mid) (device last) time refuses.time;
   fault = λ is same. refuses.fault is (same ∙ sym failures);
   memory = λ is. refuses.memory is ∙ failures;
   no_volume = λ is t. refuses.no_volume is (subst (λ (b : Bool). IsTrue b) (sym time.tells) t) label (zeroed blocks) (stands t);

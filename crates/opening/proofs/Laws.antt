@@ -2,7 +2,7 @@
 use Rattle.std.proofs.Common.{◌≡◌, ◌≢◌, inl, inr, ⊎_elim, ℕ, ◌+◌, ◌≤◌, ◌%◌, ◌^◌, List, length, refl, ap, sym, ◌∙◌, subst, arith}
 use Rattle.std.proofs.Math.Nat.{mod-add-mod}
 use Rattle.std.specs.Prelude.{IsTrue}
-use Rattle.disk.specs.Device.{Device, Elapses}
+use Rattle.disk.specs.Device.{Device}
 use Rattle.journal.specs.Journal.{Admits, IsIdle, JournalView}
 use Rattle.journal.specs.Opening.{AreSameVolume, Costs, IsMore, IsNoVolume, LeftKept, Opens, SyncsFirst, home_syncs, home_writes}
 use Rattle.journal.specs.declared.JournalError.{JournalError}
@@ -178,7 +178,3 @@ journal_lacked_memory journal.Fault r is runs a = absurd (let both : open_errors
 journal_lacked_memory journal.Memory r is runs a = refl
 journal_lacked_memory journal.NotAVolume r is runs a = absurd (let both : open_errors.NotAVolume ≡ open_errors.Memory = sym is ∙ a in cc)
 journal_lacked_memory journal.Halted r is runs a = absurd (runs refl)
-
--- time that goes on twice
-pub elapses_both : (a b c : Device) → Elapses a b → Elapses b c → Elapses a c
-elapses_both a b c f s = record { size = s.size ∙ f.size; tells = s.tells ∙ f.tells; later = omega (arith, f.later, s.later) }

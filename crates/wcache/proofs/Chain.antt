@@ -6,6 +6,7 @@ use Rattle.disk.specs.Device.{Device, Elapses, HasCause, IsTornImage, LeavesOnly
 use Rattle.disk.specs.Image.{Torn}
 use Rattle.disk.specs.declared.DiskError.{DiskError}
 use Rattle.disk.specs.declared.DiskError.TheVariants.{Memory}
+use Rattle.disk.proofs.Devices.{elapses_then}
 use Rattle.wcache.specs.Collected.{IsOver, MayBe, MayLeave, shown}
 use Rattle.wcache.specs.Runs.{Run, writes_of}
 use Rattle.wcache.proofs.RunLaws.{AreParts, IsPart}
@@ -47,13 +48,6 @@ torn_over cs at octets mid last each torn = record {
         ∙ each (k - at) (omega (arith, inside.0, inside.1)) in
         ⊎_elim (λ still. same k still) (λ any. subst (λ (c : Option ℕ). MayBe c (get_or mid k 0) (get_or last k 0)) (sym is)
         (inr (inr any))) (torn.octets k inside.0 inside.1)
-
-elapses_then : (first mid last : Device) → Elapses first mid → Elapses mid last → Elapses first last
-elapses_then first mid last is next = record {
-  size = next.size ∙ is.size;
-  tells = next.tells ∙ is.tells;
-  later = omega (arith, is.later, next.later);
-}
 
 module _ (cs : List (Option ℕ)) where
   -- after some of the writes, each of them good

@@ -1,8 +1,9 @@
 use Rattle.std.proofs.Common.{◌≡◌, inl, inr, ⊎_elim, sym, subst}
 use Rattle.disk.specs.Device.{Elapses}
+use Rattle.disk.proofs.Devices.{elapses_then}
 use Rattle.journal.specs.Opening.{LeavesVolume, LeftKept, SyncsFirst}
 use Rattle.kernel.specs.declared.opening.OpenError.TheVariants.{NotAVolume, Damaged}
-use Rattle.opening.proofs.Laws.{costs_both, elapses_both, is_damaged, journal_finds_no_damage, journal_lacked_memory, journal_missed}
+use Rattle.opening.proofs.Laws.{costs_both, is_damaged, journal_finds_no_damage, journal_lacked_memory, journal_missed}
 use Rattle.opening.proofs.Laws.{left_both, no_label, no_volume, stands_opened, still_opened, syncs_both, volume_left}
 use Rattle.opening.proofs.open.Goals as goal
 
@@ -39,11 +40,11 @@ returns-clause-spool g c tells =
 pub returns-in-Err-open-clause-time : goal.returns-in-Err-open-clause-time
 returns-in-Err-open-clause-time g c =
     subst (λ d. Elapses (g.D.Disk.device c.args.disk) (g.D.Disk.device d)) (sym c.into_disk-disk.ensures)
-    (elapses_both (g.D.Disk.device c.args.disk) (g.D.Disk.device c.in-Ok.journal.disk)
+    (elapses_then (g.D.Disk.device c.args.disk) (g.D.Disk.device c.in-Ok.journal.disk)
     (g.D.Disk.device c.open-2.new.journal.disk) c.in-Ok.ensures.ok.time c.open-2.ensures.reads.time)
 
 pub returns-clause-time : goal.returns-clause-time
-returns-clause-time g c = elapses_both (g.D.Disk.device c.args.disk) (g.D.Disk.device c.in-Ok.journal.disk)
+returns-clause-time g c = elapses_then (g.D.Disk.device c.args.disk) (g.D.Disk.device c.in-Ok.journal.disk)
     (g.D.Disk.device c.open-2.new.journal.disk) c.in-Ok.ensures.ok.time c.open-2.ensures.reads.time
 
 pub returns-in-Err-open-clause-volume : goal.returns-in-Err-open-clause-volume
