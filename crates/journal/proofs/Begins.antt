@@ -7,6 +7,7 @@ use Rattle.std.proofs.lemmas.List.{length-take-le, map_more}
 use Rattle.disk.specs.Device.{Device}
 use Rattle.model.specs.Volume.{AreDistinct, StandsFor, descriptor_of, is_open, number_at}
 use Rattle.segment_laws.specs.Held.{AreOpen, HaveLess, Held, IsAmong}
+use Rattle.segment_laws.proofs.Gates.{among_end}
 use Rattle.journal_segments.specs.Staged.{IsSound, IsStaged, Staged, held_as, none_staged, staged_at}
 use Rattle.journal.specs.Flight.{all_of, flight_in, left_of}
 use Rattle.journal_segments.specs.Found.{IsTaken}
@@ -41,10 +42,6 @@ among_front : (s : ℕ) (hs : List Held) (h : Held) → IsAmong s hs → IsAmong
 among_front s [] h among = absurd among
 among_front s (g ∷ hs) h (inl is) = inl is
 among_front s (g ∷ hs) h (inr rest) = inr (among_front s hs h rest)
-
-among_end : (s : ℕ) (hs : List Held) (h : Held) → s ≡ h.place → IsAmong s (hs ++ h ∷ [])
-among_end s [] h is = inl is
-among_end s (g ∷ hs) h is = inr (among_end s hs h is)
 
 among_all : (room : List Staged) (n : ℕ) → n ≤ length room → ((t : ℕ) → t < n → (staged_at room t).place ≡ t) → (k : ℕ) → k ≤ n → (s : ℕ)
     → s < k → IsAmong s (map held_as (take k room))

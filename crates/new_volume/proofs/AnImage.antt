@@ -21,13 +21,13 @@ use Rattle.segment_laws.proofs.Blocks.{block-overwritten, overwritten_same}
 use Rattle.segment_laws.proofs.Standing.{count_same, get_or-home, head_same, home_size_same, length-home, stands_over}
 use Rattle.volume.proofs.Octets.{length-block}
 use Rattle.volume_format.specs.Formatting.{zero_block, zeroed}
-use Rattle.volume_format.proofs.Formatted.{blocks_are, label_is, length-superblock, none_formatted, segments_are, stands_formatted}
-use Rattle.volume_format.proofs.Formatted.{superblock, superblock_valid}
+use Rattle.volume_format.proofs.Formatted.{blocks_are, label_is, length-superblock, none_formatted, segments_are, stands_formatted, IsZero}
+use Rattle.volume_format.proofs.Formatted.{superblock, superblock_valid, is_zero_block}
 use Rattle.fs_layout.specs.Bits.{IsFront, bit_of}
 use Rattle.fs_layout.specs.Table.{Makes}
 use Rattle.fs.proofs.Emptying.{makes_empty}
 use Rattle.new_volume.specs.Laws.{AnImageStands, EachHostHasAnImage}
-use Rattle.new_volume.proofs.Emptied.{IsZero, Sized, is_zero_block, makes, many, part_zero, sized, zero_block_size, zero_block_zero}
+use Rattle.new_volume.proofs.Emptied.{Sized, makes, many, part_zero, sized, zero_block_size, zero_block_zero}
 
 -- ---- the first block is written at home, while no segment is open
 

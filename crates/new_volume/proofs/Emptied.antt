@@ -1,29 +1,21 @@
 -- The empty file system on zeroed blocks, of which the first is replaced.
-use Rattle.std.proofs.Common.{◌≡◌, ◌≤◌, ◌+◌, ◌*◌, ◌/◌, ◌%◌, ℕ, leb, eqb, List, None, length, set, drop, replicate, refl, sym, ◌∙◌, arith}
+use Rattle.std.proofs.Common.{◌≡◌, ◌≤◌, ◌+◌, ◌*◌, ◌/◌, ◌%◌, ℕ, leb, eqb, List, None, length, set, drop, replicate, refl, arith}
 use Rattle.std.specs.Prelude.{IsTrue, ◌&&◌}
 use Rattle.std.specs.List.{All}
 use Rattle.std.proofs.lemmas.Bool.{and_parts, eqb-true, leb-true}
-use Rattle.std.proofs.lemmas.List.{ext_get_or, get_or-replicate, length-replicate}
+use Rattle.std.proofs.lemmas.List.{length-replicate}
 use Rattle.std.proofs.lemmas.List.Elements.{All-drop, All-replicate, All-take}
 use Rattle.model.specs.Files.{HasRoom, first_data}
 use Rattle.model.specs.Stream.{Octets}
 use Rattle.model.specs.Volume.{block}
 use Rattle.volume_format.specs.Formatting.{zero_block, zeroed}
+use Rattle.volume_format.proofs.Formatted.{IsZero}
 use Rattle.fs_layout.specs.Bits.{IsFront}
 use Rattle.fs_layout.specs.Table.{Makes}
 use Rattle.fs.proofs.Emptying.{makes_empty}
 use Rattle.new_volume.specs.Sizes.{are_sizes}
 
-abbrev pub IsZero : ℕ → Type 0
-IsZero octet = octet ≡ 0
-
 -- ---- zeroed blocks
-
-pub is_zero_block : (xs : List ℕ) → length xs ≡ 4096 → All IsZero xs → xs ≡ zero_block
-unfolding zero_block
-is_zero_block xs size all =
-    ext_get_or 0 xs (replicate 4096 0) (size ∙ sym (length-replicate {A = ℕ} 4096 0)) (λ i within. all i 0 within
-    ∙ sym (get_or-replicate 4096 i 0 0 (omega (arith, within, size))))
 
 pub part_zero : (k : ℕ) (octets : List ℕ) → All IsZero octets → All IsZero (block k octets)
 part_zero k octets all = All-take IsZero 4096 (drop (4096 * k) octets) (All-drop IsZero (4096 * k) octets all)

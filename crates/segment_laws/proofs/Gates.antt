@@ -46,9 +46,9 @@ held_more : (x : List ℕ) (held : List Held) (h : Held) → AreHeld held x → 
 held_more x [] h each is = (is, tt)
 held_more x (g ∷ held) h each is = (each.0, held_more x held h each.1 is)
 
-among_last : (s : ℕ) (held : List Held) (h : Held) → s ≡ h.place → IsAmong s (held ++ h ∷ [])
-among_last s [] h is = inl is
-among_last s (g ∷ held) h is = inr (among_last s held h is)
+pub among_end : (s : ℕ) (held : List Held) (h : Held) → s ≡ h.place → IsAmong s (held ++ h ∷ [])
+among_end s [] h is = inl is
+among_end s (g ∷ held) h is = inr (among_end s held h is)
 
 among_more : (s : ℕ) (held more : List Held) → IsAmong s held → IsAmong s (held ++ more)
 among_more s [] more among = absurd among
@@ -225,7 +225,7 @@ module _ (x c label : List ℕ) (blocks : List (List ℕ)) (m : ℕ) (stands : S
           are.each)
           ((omega (arith, within, count_same x c zeroth same.size), opened), its_batch m valid);
       all = λ s is. elim (cases_eq s m) [
-        | inl here ↦ among_last s held (record { place = m; batch = batch_in m x }) here
+        | inl here ↦ among_end s held (record { place = m; batch = batch_in m x }) here
         | inr other ↦ among_more s held (record { place = m; batch = batch_in m x } ∷ [])
             (are.all s (omega (arith, is.0, count_same x c zeroth same.size), sym (other_gate s other) ∙ is.1))
       ];

@@ -22,7 +22,7 @@ use Rattle.segment_laws.proofs.Places.{each_at, each_of, filter_same, map_same}
 
 -- ---- the superblock and the home
 
-number_at-part : (at n : ℕ) (octets : List ℕ) → number_at at n octets ≡ little_number n (part at n octets)
+pub number_at-part : (at n : ℕ) (octets : List ℕ) → number_at at n octets ≡ little_number n (part at n octets)
 unfolding number_at
 number_at-part at n octets = sym (little_from-take 0 n n (drop at octets) (omega arith))
 

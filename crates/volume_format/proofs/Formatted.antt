@@ -15,11 +15,11 @@ use Rattle.segment_laws.proofs.Blocks.{overwritten_same, block-overwritten}
 use Rattle.volume_format.proofs.Numbers.{number_at_apart, number_at_written}
 use Rattle.segment_laws.proofs.Standing.{get_or-home, length-home, none_are_open, stands_bare}
 
-abbrev IsZero : ℕ → Type 0
+abbrev pub IsZero : ℕ → Type 0
 IsZero octet = octet ≡ 0
 
 -- 4,096 zeros are the zero block
-is_zero_block : (xs : List ℕ) → length xs ≡ 4096 → All IsZero xs → xs ≡ zero_block
+pub is_zero_block : (xs : List ℕ) → length xs ≡ 4096 → All IsZero xs → xs ≡ zero_block
 unfolding zero_block
 is_zero_block xs size zero =
     ext_get_or 0 xs (replicate (length xs) 0) (sym (length-replicate (length xs) 0)) (λ i within. All-get_or IsZero xs i 0 within zero

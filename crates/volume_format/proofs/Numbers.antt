@@ -6,14 +6,11 @@ use Rattle.std.proofs.lemmas.List.{drop_at, drop-drop, drop-replicate, take_at}
 use Rattle.std.proofs.lemmas.List.Elements.{All-head, All-tail}
 use Rattle.std.proofs.lemmas.List.FromFn.{fill_by_all}
 use Rattle.byteorder.specs.Endian.{little_number, little_bytes}
-use Rattle.byteorder.specs.Numbers.{little_from-take, little_number-reads_back}
-use Rattle.disk.specs.Image.{part, overwritten}
+use Rattle.byteorder.specs.Numbers.{little_number-reads_back}
+use Rattle.disk.specs.Image.{overwritten}
 use Rattle.disk.proofs.Images.{length-overwritten, part-overwritten_apart}
 use Rattle.model.specs.Volume.{number_at, listed, descriptor_of}
-
-pub number_at-part : (p n : ℕ) (xs : List ℕ) → number_at p n xs ≡ little_number n (part p n xs)
-unfolding number_at
-number_at-part p n xs = sym (little_from-take 0 n n (drop p xs) (omega arith))
+use Rattle.segment_laws.proofs.Standing.{number_at-part}
 
 -- apart from what was written
 pub number_at_apart : (at : ℕ) (octets xs : List ℕ) → at + length octets ≤ length xs → (p n : ℕ) → (p + n ≤ at) ⊎ (at + length octets ≤ p)
