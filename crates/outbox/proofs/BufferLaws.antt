@@ -141,3 +141,16 @@ module _ (before after : List ℕ) (slots after_slots : List Slot) (number start
 
   pub given-few : length after_slots ≤ length slots + 1
   given-few = omega (arith, ap length noted, length-append slots (slots_of number start end ended), slots_of-few number start end ended)
+
+-- ---- what a session's entry adds
+
+-- there is one or none
+pub length-entry : (number : ℕ) (g : Giving) → length (entry_of number g) ≤ 1
+length-entry number g = go (length g.octets == 0 && not g.ended)
+  where
+    go : (b : Bool) → (let entries : List Entry = (if b then [] else (number, g.octets, g.ended) ∷ []) in length entries) ≤ 1
+    go true = omega arith
+    go false = omega arith
+
+pub octets_in-append : (front back : List Entry) → octets_in (front ++ back) ≡ octets_in front + octets_in back
+octets_in-append front back = sum_by-append (λ (e : Entry). length e.1) front back

@@ -1,13 +1,12 @@
 -- A release in its middle: some sessions have given, the others are still to give.
 use Rattle.std.proofs.Common.{◌≡◌, ℕ, suc, ◌+◌, ◌-◌, ◌≤◌, ◌<◌, Bool, true, false, cond, List, [], ◌∷◌, ◌++◌, length, take, drop, map, refl}
 use Rattle.std.proofs.Common.{ap, sym, ◌∙◌, subst, arith, append_assoc, append-nil, length-append, drop-cons, get_or, set}
-use Rattle.std.specs.Prelude.{◌==◌, ◌&&◌, not, filter}
+use Rattle.std.specs.Prelude.{◌==◌, filter}
 use Rattle.std.proofs.lemmas.List.{drop-set-lt, drop_all, get_or_default, length-set, map-append, take_all}
 use Rattle.std.proofs.Math.Seq.{take-suc-set}
-use Rattle.outbox.proofs.BufferLaws.{octets_in-entry_of}
+use Rattle.outbox.proofs.BufferLaws.{octets_in-entry_of, length-entry, octets_in-append}
 use Rattle.outbox.proofs.GivingLaws.{give-cases, give-room}
 use Rattle.outbox.specs.Queue.{Entry, Giving, Held, entry_of, give, octets_in}
-use Rattle.std.proofs.lemmas.List.Sums.{sum_by-append}
 use Rattle.outboxes.specs.Sessions.{Release, RiseFrom, Session, after_giving, holding, is_holding, release}
 use Rattle.outboxes.specs.Outbox.{HaveRoom, Kept, room_of, session_in, sessions}
 use Rattle.outboxes.proofs.Places.{room_set}
@@ -22,15 +21,6 @@ give_fewer p room given (front ∷ rest) =
     (omega arith)
     (λ near some long. omega arith)
     (λ near some short. omega (arith, give_fewer p (room - length front.octets) front.dependency rest))
-
-length-entry : (number : ℕ) (g : Giving) → length (entry_of number g) ≤ 1
-length-entry number g = go (length g.octets == 0 && not g.ended) where
-  go : (b : Bool) → (let entries : List Entry = cond b [] ((number, g.octets, g.ended) ∷ []) in length entries) ≤ 1
-  go true = omega arith
-  go false = omega arith
-
-octets_in-append : (front back : List Entry) → octets_in (front ++ back) ≡ octets_in front + octets_in back
-octets_in-append front back = sum_by-append (λ (e : Entry). length e.1) front back
 
 abbrev given_of : ℕ → List Entry → Kept → Giving
 given_of p entries k = give p (65536 - octets_in entries) k.given k.held

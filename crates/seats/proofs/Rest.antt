@@ -1,11 +1,10 @@
 -- A release in its middle: some sessions have given, the others are still to give.
 use Rattle.std.proofs.Common.{◌≡◌, ℕ, suc, ◌+◌, ◌-◌, ◌≤◌, ◌<◌, Bool, true, false, List, [], ◌∷◌, ◌++◌, length, take, drop, refl, ap, sym}
 use Rattle.std.proofs.Common.{◌∙◌, arith, append_assoc, length-append, length-drop, drop-cons, get_or, set}
-use Rattle.std.specs.Prelude.{◌==◌, ◌&&◌, not, if◌then◌else◌}
+use Rattle.std.specs.Prelude.{if◌then◌else◌}
 use Rattle.std.proofs.lemmas.List.{length-take-le, take_at, drop_at, drop-set-lt, length-set}
-use Rattle.std.proofs.lemmas.List.Sums.{sum_by-append}
 use Rattle.std.proofs.Math.Seq.{take-suc-set}
-use Rattle.outbox.proofs.BufferLaws.{octets_in-entry_of}
+use Rattle.outbox.proofs.BufferLaws.{octets_in-entry_of, length-entry, octets_in-append}
 use Rattle.outbox.proofs.GivingLaws.{give-room}
 use Rattle.outbox.specs.Queue.{Entry, Giving, entry_of, octets_in}
 use Rattle.seats.specs.Seats.{Seat, Ready, given_of, ready, seat_given}
@@ -20,16 +19,6 @@ pub record IsRest (p : ℕ) (all : List Seat) (entries : List Entry) (at : ℕ) 
 
 pub rest_at_first : (p : ℕ) (all : List Seat) → IsRest p all [] 0 all
 rest_at_first p all = record { within = omega arith; size = omega arith; entries_are = refl; seats_are = refl }
-
-length-entry : (number : ℕ) (g : Giving) → length (entry_of number g) ≤ 1
-length-entry number g = go (length g.octets == 0 && not g.ended)
-  where
-    go : (b : Bool) → (let entries : List Entry = (if b then [] else (number, g.octets, g.ended) ∷ []) in length entries) ≤ 1
-    go true = omega arith
-    go false = omega arith
-
-octets_in-append : (front back : List Entry) → octets_in (front ++ back) ≡ octets_in front + octets_in back
-octets_in-append front back = sum_by-append (λ (e : Entry). length e.1) front back
 
 -- the room after a session's entry
 room_behind : (p : ℕ) (entries : List Entry) (seat : Seat)
