@@ -100,6 +100,9 @@ article_size a =
       length-little 4 (length a.text),
     )
 
+pub text_fits : (a : NewsArticle) → length a.text ≤ length (article_record a)
+text_fits a = omega (arith, article_size a)
+
 expiry_size : (n number : ℕ) (group : Octets)
     → length (expiry_record (record { serial = n; group = group; number = number })) ≡ 13 + length group
 expiry_size n number group =

@@ -157,6 +157,27 @@ named_front P Q name none =
     subst (λ R. find (λ (group : NewsGroup). is_name name group.name) (filter_map group_made (entries R)) ≡ None)
     (take_at P Q (length P) refl) cut
 
+-- a group that is here stays
+pub here_stays : (P Q : Spool) (h : Octets) → is_here P h ≡ true → is_here (P ++ Q) h ≡ true
+here_stays P Q h here = by_found (group_named (P ++ Q) h) refl where
+  by_found : (o : Option NewsGroup) → group_named (P ++ Q) h ≡ o → is_some o ≡ true
+  by_found (Some g) is = refl
+  by_found None is = absurd (true≢false (sym here ∙ ap (λ (o : Option NewsGroup). is_some o) (named_front P Q h is)))
+
+-- the group that is found under a name has this name
+found_name : (name : Octets) (gs : List NewsGroup) (g : NewsGroup) → find (λ (h : NewsGroup). is_name name h.name) gs ≡ Some g
+    → g.name ≡ name
+found_name name [] g is = absurd (cc)
+found_name name (h ∷ gs) g is = by_name (bytes_eq h.name name) refl is (found_name name gs g) where
+  by_name : (b : Bool) → bytes_eq h.name name ≡ b → cond b (Some h) (find (λ (h : NewsGroup). is_name name h.name) gs) ≡ Some g
+      → (find (λ (h : NewsGroup). is_name name h.name) gs ≡ Some g → g.name ≡ name) → g.name ≡ name
+  by_name true same found later = let one : h ≡ g = cc in ap (λ (k : NewsGroup). k.name) (sym one) ∙ (bytes_eq-Decides h.name name).0 same
+  by_name false other found later = later found
+
+pub group_has_name : (S : Spool) (name : Octets) (g : NewsGroup) → group_named S name ≡ Some g → g.name ≡ name
+unfolding group_named
+group_has_name S name g is = found_name name (groups S) g is
+
 nothing_filed : (host : Octets) (before cs : Spool) (n : ℕ) (name : Octets) → IsLawfulAfter host before cs
     → group_named (before ++ cs) name ≡ None
     → filter (λ a. list_any (is_name name) a.groups) (filter_map article_filed (entries_from n cs)) ≡ []

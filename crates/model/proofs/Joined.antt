@@ -1,10 +1,12 @@
 -- Elements of lists that are joined, and texts that are compared.
-use Rattle.std.proofs.Common.{◌≡◌, ◌≢◌, inl, inr, zero, suc, List, [], ◌∷◌, ◌++◌, map, refl, sym, ◌∙◌, ap, subst, arith, true, false}
-use Rattle.std.specs.Prelude.{flat_map, bytes_eq}
+use Rattle.std.proofs.Common.{◌≡◌, ◌≢◌, inl, inr, ℕ, zero, suc, ◌+◌, List, [], ◌∷◌, ◌++◌, map, take, refl, sym, ◌∙◌, ap, subst, arith}
+use Rattle.std.proofs.Common.{true, false}
+use Rattle.std.specs.Prelude.{flat_map, bytes_eq, slice_get, Some, option_map}
 use Rattle.std.specs.List.{Contains}
-use Rattle.std.proofs.lemmas.List.{map-append}
+use Rattle.std.proofs.lemmas.List.{map-append, take_more}
 use Rattle.std.proofs.lemmas.List.Elements.{Contains-append_left, Contains-append_right, Contains-append_cases}
 use Rattle.std.proofs.lemmas.Bool.{false_from_ne_true}
+use Rattle.std.proofs.lemmas.Option.{get_or_from_slice_get, same_Some, slice_get-map, slice_get_within}
 use Rattle.std.proofs.lemmas.Slice.Eq.{bytes_eq-Decides}
 use Rattle.model.specs.Stream.{Octets}
 
@@ -51,3 +53,16 @@ bytes_differ xs ys other = false_from_ne_true (bytes_eq xs ys) (λ is. other ((b
 pub bytes_swap : (xs ys : Octets) → bytes_eq xs ys ≡ false → bytes_eq ys xs ≡ false
 bytes_swap xs ys other = false_from_ne_true (bytes_eq ys xs)
     (λ is. absurd (let one : bytes_eq xs ys ≡ true = (bytes_eq-Decides xs ys).1 (sym ((bytes_eq-Decides ys xs).0 is)) in cc))
+
+-- ---- elements in one place
+
+-- one element more of a list
+pub front_more : {X : Type 0} (xs : List X) (n : ℕ) (x : X) → slice_get xs n ≡ Some x → take (n + 1) xs ≡ take n xs ++ x ∷ []
+front_more xs n x is = take_more xs n x (slice_get_within xs n x is) ∙ ap (λ y. take n xs ++ y ∷ []) (get_or_from_slice_get xs n x x is)
+
+-- elements of two lists that are the same list by two functions
+pub both_at : {X Y Z : Type 0} (f : X → Z) (h : Y → Z) (xs : List X) (ys : List Y) (k : ℕ) (x : X) (y : Y) → map f xs ≡ map h ys
+    → slice_get xs k ≡ Some x → slice_get ys k ≡ Some y → f x ≡ h y
+both_at {X} {Y} {Z} f h xs ys k x y same first second =
+    same_Some (f x) (h y) (sym (ap (option_map f) first) ∙ sym (slice_get-map f xs k) ∙ ap (λ (l : List Z). slice_get l k) same
+    ∙ slice_get-map h ys k ∙ ap (option_map h) second)

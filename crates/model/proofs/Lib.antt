@@ -39,3 +39,4 @@ pub mod Images
 pub mod Rising
 pub mod Indexing
 pub mod ByKind
+pub mod Blocks

@@ -76,6 +76,13 @@ where_is (None ∷ inodes) f has = let rest = where_is inodes f has in (suc rest
 where_is (Some g ∷ inodes) f (zero, low, is) = (0, ap Some is)
 where_is (Some g ∷ inodes) f (suc k, low, is) = let rest = where_is inodes f (k, omega arith, is) in (suc rest.0, rest.1)
 
+pub is_among : (inodes : List (Option File)) (k : ℕ) (f : File) → get_or inodes k None ≡ Some f → Contains (files_in inodes) f
+is_among [] k f is = absurd (cc)
+is_among (None ∷ inodes) zero f is = absurd (cc)
+is_among (None ∷ inodes) (suc k) f is = is_among inodes k f is
+is_among (Some g ∷ inodes) zero f is = (0, omega arith, cc)
+is_among (Some g ∷ inodes) (suc k) f is = let rest = is_among inodes k f is in (suc rest.0, omega (arith, rest.1), rest.2)
+
 files_from : (inodes : List (Option File))
     → ((k l : ℕ) (f g : File) → get_or inodes k None ≡ Some f → get_or inodes l None ≡ Some g → f.name ≡ g.name → k ≡ l)
     → Once (files_in inodes)
