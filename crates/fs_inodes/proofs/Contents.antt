@@ -10,7 +10,8 @@ use Rattle.model.specs.Stream.{Octets}
 use Rattle.model.specs.Volume.{block, blocks_from}
 use Rattle.model.specs.Files.{Entry, size, block_count, pointer, owned, content_of}
 use Rattle.model.proofs.Owning.{owns_pointer}
-use Rattle.volume.proofs.Octets.{blocks_from-flat_map, get_or-blocks_from}
+use Rattle.model.proofs.Blocks.{get_or-blocks_from}
+use Rattle.volume.proofs.Octets.{blocks_from-flat_map}
 
 -- a part of a front
 part_of_front : (r n m : ℕ) (octets : Octets) → r + n ≤ m → take n (drop r (take m octets)) ≡ take n (drop r octets)

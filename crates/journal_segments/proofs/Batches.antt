@@ -1,17 +1,13 @@
 -- What was read into memory, or taken into it, is a batch.
-use Rattle.std.proofs.Common.{◌≡◌, ◌<◌, ◌≤◌, ℕ, ◌*◌, IsTrue, List, [], length, get_or, take, sym, ◌∙◌, ap, subst, arith, length-take}
-use Rattle.std.proofs.Common.{zero-add}
+use Rattle.std.proofs.Common.{◌≡◌, ◌<◌, ◌≤◌, ℕ, ◌*◌, IsTrue, List, length, take, sym, ◌∙◌, ap, subst, arith, length-take}
 use Rattle.std.specs.List.{All}
 use Rattle.disk.specs.Device.{Device}
 use Rattle.disk.proofs.Images.{length-part}
 use Rattle.model.specs.Volume.{AreDistinct, IsDescriptor, block, blocks_from, descriptor_place, listed, number_at}
-use Rattle.segment_laws.proofs.Blocks.{get_or-blocks_from, length-blocks_from}
+use Rattle.model.proofs.Blocks.{get_or-blocks_from}
+use Rattle.segment_laws.proofs.Blocks.{length-blocks_from}
 use Rattle.journal_segments.specs.Staged.{IsSound}
 use Rattle.journal_segments.specs.Found.{AreLoaded, IsReadFrom}
-
--- images that stand one after the other
-image_at : (n i : ℕ) (octets : List ℕ) → i < n → get_or (blocks_from 0 n octets) i [] ≡ block i octets
-image_at n i octets within = get_or-blocks_from 0 n i octets within ∙ ap (λ (k : ℕ). block k octets) (zero-add i)
 
 pub sound_of : (blocks number last : ℕ) (ns octets : List ℕ) → 1 ≤ length ns → length ns ≤ 512 → All (λ n. n < blocks) ns
     → 4096 * length ns ≤ length octets
@@ -23,7 +19,7 @@ sound_of blocks number last ns octets some few below room = record {
   images = length-blocks_from 0 (length ns) octets;
   whole = λ i within.
       let inside : i < length ns = omega (arith, within, length-blocks_from 0 (length ns) octets) in
-      ap length (image_at (length ns) i octets inside) ∙ length-part (4096 * i) 4096 octets (omega (arith, inside, room));
+      ap length (get_or-blocks_from (length ns) i octets inside) ∙ length-part (4096 * i) 4096 octets (omega (arith, inside, room));
 }
 
 pub read_from : (device : Device) (blocks place count : ℕ) (descriptor numbers octets : List ℕ)
@@ -57,6 +53,6 @@ read_from device blocks place count descriptor numbers octets room valid value i
         images_are = λ i within.
             let inside : i < length (take count numbers) =
             omega (arith, within, length-blocks_from 0 (length (take count numbers)) octets) in
-            images t i (omega (arith, inside, size)) ∙ sym (image_at (length (take count numbers)) i octets inside);
+            images t i (omega (arith, inside, size)) ∙ sym (get_or-blocks_from (length (take count numbers)) i octets inside);
       };
     }

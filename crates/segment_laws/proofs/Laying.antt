@@ -1,31 +1,18 @@
 -- Batches laid over homes that differ.
 use Rattle.std.proofs.Common.{◌≡◌, ◌≢◌, ◌⊎◌, inl, inr, ◌<◌, ◌≤◌, ℕ, zero, suc, List, [], ◌∷◌, ◌++◌, length, get_or, set, refl, sym, ◌∙◌, ap}
 use Rattle.std.proofs.Common.{arith, length-set}
-use Rattle.std.proofs.lemmas.List.{ext_get_or, set-get_or, get_or-set_same, get_or-set_other, get_or_past}
+use Rattle.std.proofs.lemmas.List.{ext_get_or, get_or-set_same, get_or-set_other, get_or_past}
 use Rattle.std.proofs.lemmas.Bool.{cases_eq, cases_lt}
 use Rattle.model.specs.Volume.{Batch, laid_over, all_laid_over}
+use Rattle.model.proofs.Blocks.{length-laid_over}
 use Rattle.segment_laws.specs.Batches.{AgreeBut, AreFull, HaveNone}
-
-length-laid : (ns : List ℕ) (images xs : List (List ℕ)) → length (laid_over xs ns images) ≡ length xs
-length-laid [] images xs = refl
-length-laid (n ∷ ns) [] xs = refl
-length-laid (n ∷ ns) (image ∷ images) xs = length-laid ns images (set xs n image) ∙ length-set xs n image
 
 pub length-all : (bs : List Batch) (xs : List (List ℕ)) → length (all_laid_over xs bs) ≡ length xs
 length-all [] xs = refl
-length-all (b ∷ bs) xs = length-all bs (laid_over xs b.numbers b.images) ∙ length-laid b.numbers b.images xs
+length-all (b ∷ bs) xs = length-all bs (laid_over xs b.numbers b.images) ∙ length-laid_over xs b.numbers b.images
 
 abbrev None : ℕ → List ℕ → Type 0
 None k ns = (i : ℕ) → i < length ns → k ≢ get_or ns i 0
-
--- where the blocks are the images already
-pub laid_done : (xs : List (List ℕ)) (ns : List ℕ) (images : List (List ℕ))
-    → ((i : ℕ) → i < length ns → i < length images → get_or xs (get_or ns i 0) [] ≡ get_or images i []) → laid_over xs ns images ≡ xs
-laid_done xs [] images done = refl
-laid_done xs (n ∷ ns) [] done = refl
-laid_done xs (n ∷ ns) (image ∷ images) done =
-    let same : set xs n image ≡ xs = ap (λ (b : List ℕ). set xs n b) (sym (done 0 (omega arith) (omega arith))) ∙ set-get_or xs n [] in
-    ap (λ (l : List (List ℕ)). laid_over l ns images) same ∙ laid_done xs ns images (λ i h l. done (suc i) (omega arith) (omega arith))
 
 -- a block of which the batch has no image stays
 laid_kept : (ns : List ℕ) (images xs : List (List ℕ)) (k : ℕ) → None k ns → get_or (laid_over xs ns images) k [] ≡ get_or xs k []
@@ -69,8 +56,8 @@ all_same_at : (bs : List Batch) (xs ys : List (List ℕ)) → AreFull bs → len
     → get_or (all_laid_over xs bs) k [] ≡ get_or (all_laid_over ys bs) k []
 all_same_at [] xs ys full size same k = same k tt
 all_same_at (b ∷ bs) xs ys full size same k =
-    all_same_at bs (laid_over xs b.numbers b.images) (laid_over ys b.numbers b.images) full.1 (length-laid b.numbers b.images xs ∙ size
-    ∙ sym (length-laid b.numbers b.images ys))
+    all_same_at bs (laid_over xs b.numbers b.images) (laid_over ys b.numbers b.images) full.1 (length-laid_over xs b.numbers b.images ∙ size
+    ∙ sym (length-laid_over ys b.numbers b.images))
     (λ j none. laid_same b.numbers b.images xs ys j full.0 size (λ here. same j (here, none))) k
 
 -- homes that differ only where some batch has an image stand for the same blocks
@@ -104,7 +91,7 @@ last_again bs cs xs full =
 pub on_the_way : (bs cs : List Batch) (b : Batch) (xs : List (List ℕ)) (numbers : List ℕ) (images : List (List ℕ))
     → ((k : ℕ) → None k b.numbers → None k numbers) → AgreeBut (bs ++ b ∷ cs) xs (laid_over (all_laid_over xs bs) numbers images)
 on_the_way bs cs b xs numbers images fewer = record {
-  size = length-laid numbers images (all_laid_over xs bs) ∙ length-all bs xs;
+  size = length-laid_over (all_laid_over xs bs) numbers images ∙ length-all bs xs;
   same = λ k none. laid_kept numbers images (all_laid_over xs bs) k (fewer k (here bs k none)) ∙ all_kept bs xs k (front bs k none);
 }
   where

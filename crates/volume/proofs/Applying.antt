@@ -6,10 +6,11 @@ use Rattle.std.proofs.lemmas.List.{take_more, take_all, set-get_or, get_or-set_s
 use Rattle.std.proofs.lemmas.Bool.{cases_eq}
 use Rattle.disk.specs.Image.{overwritten}
 use Rattle.model.specs.Volume.{block, blocks_from, laid_over}
+use Rattle.model.proofs.Blocks.{get_or-blocks_from}
 use Rattle.volume.specs.Numbers.{Numbers, IsNumbers}
 use Rattle.volume.specs.Volume.{Differs, seen_over}
 use Rattle.volume.proofs.Laid.{laid_over_other, laid_over_push}
-use Rattle.volume.proofs.Octets.{length-blocks_from, get_or-blocks_from, blocks_from-put, length-put, length-block}
+use Rattle.volume.proofs.Octets.{length-blocks_from, blocks_from-put, length-put, length-block}
 
 -- as far as the first `at` staged blocks
 pub record IsApplied (at : ℕ) (staged images start cache : List ℕ) (before dirty : Numbers) : Type 0 where

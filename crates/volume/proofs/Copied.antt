@@ -4,9 +4,10 @@ use Rattle.std.specs.List.{All, flat_map}
 use Rattle.std.proofs.lemmas.List.{get_or-map, get_or_default, length-map}
 use Rattle.std.proofs.lemmas.List.Elements.{All-head, All-tail}
 use Rattle.model.specs.Volume.{block, blocks_from, laid_over}
+use Rattle.model.proofs.Blocks.{get_or-blocks_from}
 use Rattle.volume.specs.Volume.{AgreeOutside}
 use Rattle.volume.proofs.Laid.{laid_over_done, laid_over_agree}
-use Rattle.volume.proofs.Octets.{length-block, get_or-blocks_from, blocks_from-flat_map}
+use Rattle.volume.proofs.Octets.{length-block, blocks_from-flat_map}
 
 flat_map_same : (f g : ℕ → List ℕ) (ns : List ℕ) → All (λ n. f n ≡ g n) ns → flat_map f ns ≡ flat_map g ns
 flat_map_same f g [] same = refl

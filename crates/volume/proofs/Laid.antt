@@ -5,11 +5,6 @@ use Rattle.std.proofs.lemmas.List.{ext_get_or, set-get_or, set-set, set_comm, ge
 use Rattle.std.proofs.lemmas.Bool.{cases_eq, cases_lt}
 use Rattle.model.specs.Volume.{AreDistinct, laid_over}
 
-pub length-laid_over : (xs : List (List ℕ)) (ns : List ℕ) (images : List (List ℕ)) → length (laid_over xs ns images) ≡ length xs
-length-laid_over xs [] images = refl
-length-laid_over xs (n ∷ ns) [] = refl
-length-laid_over xs (n ∷ ns) (image ∷ images) = length-laid_over (set xs n image) ns images ∙ length-set xs n image
-
 -- where the blocks are the images already
 pub laid_over_done : (xs : List (List ℕ)) (ns : List ℕ) (images : List (List ℕ))
     → ((i : ℕ) → i < length ns → i < length images → get_or xs (get_or ns i 0) [] ≡ get_or images i []) → laid_over xs ns images ≡ xs

@@ -8,7 +8,8 @@ use Rattle.std.proofs.lemmas.List.{ext_get_or}
 use Rattle.std.proofs.lemmas.Bool.{cases_eq}
 use Rattle.disk.specs.Image.{overwritten}
 use Rattle.model.specs.Volume.{laid_over, block, blocks_from}
-use Rattle.volume.proofs.Octets.{block-put, block-put_other, length-blocks_from, get_or-blocks_from}
+use Rattle.model.proofs.Blocks.{get_or-blocks_from}
+use Rattle.volume.proofs.Octets.{block-put, block-put_other, length-blocks_from}
 use Rattle.journal.specs.Journal.{JournalView, IsIdle, LeavesAdmitted, Admits, HasWholeBlocks, with_batch}
 use Rattle.journal.proofs.During.{same_itself, same_then}
 use Rattle.volume.specs.Opening.{Loads}

@@ -5,21 +5,19 @@ use Rattle.std.proofs.Math.Seq.{drop-append-add}
 use Rattle.std.specs.List.{flat_map, All}
 use Rattle.std.proofs.lemmas.List.{ext_get_or, drop-append-le, take-append-le, take_all, drop_at, length_push, get_or_append_left}
 use Rattle.std.proofs.lemmas.List.{get_or_push, get_or-set_same, get_or-set_other, length-take-le}
-use Rattle.std.proofs.lemmas.List.FromFn.{length-map-range_with_len, get_or-map-range_with_len}
+use Rattle.std.proofs.lemmas.List.FromFn.{length-map-range_with_len}
 use Rattle.std.proofs.lemmas.List.Elements.{All-head, All-tail, All-from_get_or}
 use Rattle.std.proofs.lemmas.Bool.{cases_order, cases_eq, cases_lt}
 use Rattle.disk.specs.Image.{part, overwritten}
 use Rattle.disk.proofs.Images.{length-overwritten, length-part, part-overwritten, part-overwritten_apart}
 use Rattle.model.specs.Volume.{block, blocks_from}
+use Rattle.model.proofs.Blocks.{get_or-blocks_from}
 
 pub length-block : (k : ℕ) (octets : List ℕ) → 4096 * k + 4096 ≤ length octets → length (block k octets) ≡ 4096
 length-block k octets fits = length-part (4096 * k) 4096 octets fits
 
 pub length-blocks_from : (n : ℕ) (octets : List ℕ) → length (blocks_from 0 n octets) ≡ n
 length-blocks_from n octets = length-map-range_with_len (λ k. block k octets) 0 n
-
-pub get_or-blocks_from : (n k : ℕ) (octets : List ℕ) → k < n → get_or (blocks_from 0 n octets) k [] ≡ block k octets
-get_or-blocks_from n k octets within = get_or-map-range_with_len (λ k. block k octets) 0 n k k [] within (omega arith)
 
 pub blocks_whole : (n : ℕ) (octets : List ℕ) → length octets ≡ 4096 * n → All (λ b. length b ≡ 4096) (blocks_from 0 n octets)
 blocks_whole n octets size =

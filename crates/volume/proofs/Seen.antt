@@ -5,10 +5,11 @@ use Rattle.std.proofs.lemmas.List.{get_or_default, length_push}
 use Rattle.std.proofs.lemmas.List.Elements.{All-set, All-head, All-tail}
 use Rattle.disk.specs.Image.{overwritten}
 use Rattle.model.specs.Volume.{block, blocks_from, laid_over}
+use Rattle.model.proofs.Blocks.{get_or-blocks_from, length-laid_over}
 use Rattle.volume.specs.Numbers.{Numbers}
 use Rattle.volume.specs.Volume.{IsVolume, seen_over}
-use Rattle.volume.proofs.Laid.{length-laid_over, laid_over_at, laid_over_other, laid_over_push, laid_over_set}
-use Rattle.volume.proofs.Octets.{length-blocks_from, get_or-blocks_from, blocks_whole, blocks_from-put, blocks_from-push}
+use Rattle.volume.proofs.Laid.{laid_over_at, laid_over_other, laid_over_push, laid_over_set}
+use Rattle.volume.proofs.Octets.{length-blocks_from, blocks_whole, blocks_from-put, blocks_from-push}
 
 laid_over_whole : (xs : List (List ℕ)) (ns : List ℕ) (images : List (List ℕ)) → All (λ b. length b ≡ 4096) xs
     → All (λ b. length b ≡ 4096) images → All (λ b. length b ≡ 4096) (laid_over xs ns images)

@@ -1,8 +1,7 @@
 -- An image that stands for enough changes is externally synchronous, and each that the journal admits is one.
-use Rattle.std.proofs.Common.{◌≡◌, inl, inr, ⊎_elim, ℕ, ◌≤◌, Bool, true, false, List, [], ◌∷◌, length, take, set, Option, Some, None, refl}
+use Rattle.std.proofs.Common.{◌≡◌, inl, inr, ⊎_elim, ℕ, ◌≤◌, Bool, true, false, List, length, take, Option, Some, None, refl}
 use Rattle.std.proofs.Common.{ap, sym, ◌∙◌, subst, arith, length-take}
 use Rattle.std.specs.Prelude.{unwrap_or, IsTrue, IfSome}
-use Rattle.std.proofs.lemmas.List.{length-set}
 use Rattle.disk.specs.Device.{Device}
 use Rattle.journal.specs.Journal.{JournalView, Admits, with_batch}
 use Rattle.journal.specs.declared.Next.TheVariants.{Commit}
@@ -10,7 +9,7 @@ use Rattle.model.specs.Stream.{Octets}
 use Rattle.model.specs.Spool.{Spool}
 use Rattle.model.specs.Layout.{IsLabel}
 use Rattle.model.specs.News.{Holds, Stands, service}
-use Rattle.model.specs.Volume.{StandsFor, format_number, laid_over}
+use Rattle.model.specs.Volume.{StandsFor, format_number}
 use Rattle.model.specs.declared.session.Session.{Session}
 use Rattle.kernel.specs.Kernel.{KernelView, seat_of}
 use Rattle.seats.specs.Seats.{Seat}
@@ -64,12 +63,6 @@ is_synchronous served h p le image stands =
         (released_of host served.kernel.durable (session_at served.sessions number) (seat_of served.kernel number) _ _ (h.each number)))
 
 -- ---- what the journal admits
-
-pub length-laid_over : (blocks : List Octets) (numbers : List ℕ) (images : List Octets)
-    → length (laid_over blocks numbers images) ≡ length blocks
-length-laid_over blocks [] images = refl
-length-laid_over blocks (n ∷ numbers) [] = refl
-length-laid_over blocks (n ∷ numbers) (image ∷ images) = length-laid_over (set blocks n image) numbers images ∙ length-set blocks n image
 
 -- an image of a volume whose blocks hold these changes, in no lower format than the journal has
 stands_for : {D : Type 0} (tells : Bool) (world : WorldView D) (blocks : List Octets) (p : ℕ) (image : Octets) → IsTied tells world
