@@ -15,18 +15,12 @@ use Rattle.model.specs.Spool.{Spool, contents, NewsGroup, articles, entries, exp
 use Rattle.model.specs.Spool.{group_made, group_named, groups, is_here, is_name, last_naming, last_naming_one, names_one}
 use Rattle.model.specs.declared.change.Change.{Change}
 use Rattle.model.specs.declared.change.Change.TheVariants.{Group, Article, Expire}
-use Rattle.model.proofs.Filing.{entries_push, named_front}
+use Rattle.model.proofs.Filing.{entries_push, here_stays}
 use Rattle.model.proofs.Fronts.{passing, greatest_serial, find-filter, head_of}
 use Rattle.model.proofs.Joined.{bytes_same}
 use Rattle.model.proofs.LookUps.{last_naming_more, contents_cut}
 
 -- ---- what is here stays here
-
-here_stays : (P Q : Spool) (h : Octets) → is_here P h ≡ true → is_here (P ++ Q) h ≡ true
-here_stays P Q h here = by_found (group_named (P ++ Q) h) refl where
-  by_found : (o : Option NewsGroup) → group_named (P ++ Q) h ≡ o → is_some o ≡ true
-  by_found (Some g) is = refl
-  by_found None is = absurd (true≢false (sym here ∙ ap (λ (o : Option NewsGroup). is_some o) (named_front P Q h is)))
 
 or_some : (a b : Option NewsGroup) → is_some b ≡ true → is_some (option_or a b) ≡ true
 or_some None b some = some

@@ -1,10 +1,10 @@
 -- What a view of a group says of the group with its name.
-use Rattle.std.proofs.Common.{◌≡◌, refl, sym, ◌∙◌, ap, true, false, Bool, cond}
-use Rattle.std.specs.Prelude.{find, ◌==◌, Option, Some, None, List, [], ◌∷◌, bytes_eq, option_map}
-use Rattle.std.proofs.lemmas.Slice.Eq.{bytes_eq-Decides}
+use Rattle.std.proofs.Common.{◌≡◌, refl, sym, ◌∙◌, ap, true, false}
+use Rattle.std.specs.Prelude.{◌==◌, Option, Some, None, option_map}
 use Rattle.model.specs.Stream.{Octets}
 use Rattle.model.specs.Answer.{is_closed}
-use Rattle.model.specs.Spool.{Spool, NewsGroup, contents, contents_if_here, group_named, groups, high, is_here, is_name, last_naming, low}
+use Rattle.model.specs.Spool.{Spool, NewsGroup, contents, contents_if_here, group_named, high, is_here, last_naming, low}
+use Rattle.model.proofs.Filing.{group_has_name}
 use Rattle.lookups.specs.declared.GroupView.{GroupView}
 use Rattle.lookups.specs.Held.{Known, known, shown}
 
@@ -17,19 +17,6 @@ pub record IsOf (S : Spool) (name : Octets) (v : GroupView) : Type 0 where
   pub closed : is_closed S name ≡ (v.status == 110)
   pub has : contents_if_here S name ≡ Some (contents S name)
 
-found_name : (name : Octets) (gs : List NewsGroup) (g : NewsGroup) → find (λ (h : NewsGroup). is_name name h.name) gs ≡ Some g
-    → g.name ≡ name
-found_name name [] g is = absurd (cc)
-found_name name (h ∷ gs) g is = by_name (bytes_eq h.name name) refl is (found_name name gs g) where
-  by_name : (b : Bool) → bytes_eq h.name name ≡ b → cond b (Some h) (find (λ (h : NewsGroup). is_name name h.name) gs) ≡ Some g
-      → (find (λ (h : NewsGroup). is_name name h.name) gs ≡ Some g → g.name ≡ name) → g.name ≡ name
-  by_name true same found later = let one : h ≡ g = cc in ap (λ (k : NewsGroup). k.name) (sym one) ∙ (bytes_eq-Decides h.name name).0 same
-  by_name false other found later = later found
-
-its_name : (S : Spool) (name : Octets) (g : NewsGroup) → group_named S name ≡ Some g → g.name ≡ name
-unfolding group_named
-its_name S name g is = found_name name (groups S) g is
-
 pub is_of : (S : Spool) (name : Octets) (v : GroupView) → Some (shown v) ≡ option_map (known S) (group_named S name) → IsOf S name v
 unfolding contents_if_here
 is_of S name v says = by_found (group_named S name) refl says where
@@ -37,7 +24,7 @@ is_of S name v says = by_found (group_named S name) refl says where
   by_found None is same = absurd (cc)
   by_found (Some g) is same =
       let one : shown v ≡ known S g = cc in
-      let named : g.name ≡ name = its_name S name g is in
+      let named : g.name ≡ name = group_has_name S name g is in
       record {
         low = ap (λ (k : Known). k.listed.low) one ∙ ap (low S) named;
         high = ap (λ (k : Known). k.listed.high) one ∙ ap (high S) named;

@@ -6,7 +6,7 @@ use Rattle.std.specs.List.{Contains, list_any}
 use Rattle.std.specs.Option.{option_and_then}
 use Rattle.std.proofs.lemmas.Bool.{and_parts, not-true, or_parts, true≢false}
 use Rattle.std.proofs.lemmas.List.{length-map}
-use Rattle.std.proofs.lemmas.Option.{same_Some, slice_get-get_or, slice_get-map, slice_get_cases, slice_get_within}
+use Rattle.std.proofs.lemmas.Option.{same_Some, slice_get-get_or, slice_get_cases, slice_get_within}
 use Rattle.model.specs.Stream.{Octets}
 use Rattle.model.specs.Article.{are_distinct, groups_of, overview_line}
 use Rattle.model.specs.Files.{File, table}
@@ -21,7 +21,8 @@ use Rattle.model.specs.SpoolFiles.{overview_name}
 use Rattle.model.specs.declared.change.Change.TheVariants.{Article}
 use Rattle.model.proofs.Asking.{changes_ask_few, not_full_room, records_size}
 use Rattle.model.proofs.HoldsOne.{high_few}
-use Rattle.model.proofs.Joined.{bytes_same}
+use Rattle.model.proofs.Joined.{bytes_same, both_at}
+use Rattle.model.proofs.Filing.{group_has_name}
 use Rattle.fs.specs.Calls.{IsFileAt}
 use Rattle.filing.specs.declared.Piece.{Piece}
 use Rattle.filing.specs.Calls.{MayAllGrow, MayGrow, append_call}
@@ -30,7 +31,6 @@ use Rattle.index.specs.View.{IndexView, Indexes}
 use Rattle.index.proofs.Callers.{overview_small}
 use Rattle.index.proofs.Growing.{filed_distinct, overview_size}
 use Rattle.index.proofs.Known.{count_is}
-use Rattle.index.proofs.LookUps.{group_is}
 use Rattle.spool_opening.proofs.Going.{high_is}
 use Rattle.spool_growing.specs.Articles.{ArePieces, ArePiecesOf, CanFile}
 use Rattle.spool_growing.specs.Kept.{IsHeld}
@@ -61,14 +61,9 @@ pub record IsAt (S : Spool) (name : Octets) (k : ℕ) : Type 0 where
   pub its_name : group.name ≡ name
   pub at : slice_get (groups S) k ≡ Some group
 
-named : (S : Spool) (name : Octets) (g : NewsGroup) → group_named S name ≡ Some g → g.name ≡ name
-named S name g is =
-    let its = group_is S name (group_index S g) (ap (option_map (group_index S)) (sym is)) in
-    ap (λ (i : GroupIndex). i.group.name) its.its_index ∙ its.its_name
-
 pub is_at : (S : Spool) (name : Octets) (k : ℕ) → k < length (groups S) → slice_get (groups S) k ≡ group_named S name → IsAt S name k
 is_at S name k low same = elim (slice_get_cases (groups S) k).1 [
-  | inl found ↦ record { group = found.0; its_name = named S name found.0 (sym same ∙ found.2); at = found.2 }
+  | inl found ↦ record { group = found.0; its_name = group_has_name S name found.0 (sym same ∙ found.2); at = found.2 }
   | inr past ↦ absurd (omega (arith, low, past.0))
 ]
 
@@ -84,12 +79,6 @@ at_place S name k same here = elim (slice_get_cases (groups S) k).1 [
   | inl found ↦ found.1
   | inr past ↦ absurd (true≢false (sym here ∙ ap (λ (g : Option NewsGroup). is_some g) (sym same ∙ past.1)))
 ]
-
-both_at : {X Y Z : Type 0} (f : X → Z) (h : Y → Z) (xs : List X) (ys : List Y) (k : ℕ) (x : X) (y : Y) → map f xs ≡ map h ys
-    → slice_get xs k ≡ Some x → slice_get ys k ≡ Some y → f x ≡ h y
-both_at {X} {Y} {Z} f h xs ys k x y same first second =
-    same_Some (f x) (h y) (sym (ap (option_map f) first) ∙ sym (slice_get-map f xs k) ∙ ap (λ (l : List Z). slice_get l k) same
-    ∙ slice_get-map h ys k ∙ ap (option_map h) second)
 
 pub same_count : (S R : Spool) (x : IndexView) → Indexes S x → Indexes R x → length (groups S) ≡ length (groups R)
 same_count S R x is also = sym (count_is S x is) ∙ count_is R x also

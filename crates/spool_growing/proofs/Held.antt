@@ -1,7 +1,7 @@
 -- What blocks that hold changes leave free, and the change that they get.
-use Rattle.std.proofs.Common.{◌≡◌, ◌≢◌, ◌≤◌, ℕ, zero, suc, ◌+◌, ◌-◌, false, List, [], ◌∷◌, ◌++◌, length, get_or, refl, sym, ◌∙◌, ap, subst}
+use Rattle.std.proofs.Common.{◌≡◌, ◌≢◌, ◌≤◌, ℕ, ◌+◌, ◌-◌, false, List, [], ◌∷◌, ◌++◌, length, refl, sym, ◌∙◌, ap, subst}
 use Rattle.std.proofs.Common.{arith}
-use Rattle.std.specs.Prelude.{Option, Some, None, IsPermutation, nat_lt, ◌||◌}
+use Rattle.std.specs.Prelude.{Some, IsPermutation, nat_lt, ◌||◌}
 use Rattle.std.specs.List.{Contains}
 use Rattle.std.proofs.lemmas.Bool.{ltb-false, or_parts}
 use Rattle.std.proofs.lemmas.List.Sorted.{Contains-permutation, length_permutation, sum_by-IsPermutation}
@@ -17,17 +17,11 @@ use Rattle.model.specs.declared.change.Change.TheVariants.{Group, Article, Expir
 use Rattle.model.proofs.Counting.{free_is_beside}
 use Rattle.model.proofs.Filing.{spools_grow}
 use Rattle.model.proofs.HoldsOne.{changes_few}
+use Rattle.model.proofs.Opening.{is_among}
 use Rattle.fs.specs.Calls.{IsThere}
 use Rattle.filing.specs.Calls.{Calls}
 use Rattle.spool_growing.specs.Growing.{HasFree}
 use Rattle.spool_growing.specs.Kept.{IsHeld}
-
-there_among : (inodes : List (Option File)) (k : ℕ) (f : File) → get_or inodes k None ≡ Some f → Contains (files_in inodes) f
-there_among [] k f is = absurd (cc)
-there_among (None ∷ inodes) zero f is = absurd (cc)
-there_among (None ∷ inodes) (suc k) f is = there_among inodes k f is
-there_among (Some g ∷ inodes) zero f is = let same : g ≡ f = cc in (0, omega arith, same)
-there_among (Some g ∷ inodes) (suc k) f is = let rest = there_among inodes k f is in (suc rest.0, omega (arith, rest.1), rest.2)
 
 module _ (host : Octets) (inodes : ℕ) (blocks : List Octets) (S : Spool) (is : IsHeld host inodes blocks S) where
   pub changes_are_few : length S ≤ 32768
@@ -48,7 +42,7 @@ module _ (host : Octets) (inodes : ℕ) (blocks : List Octets) (S : Spool) (is :
   pub not_there : (q : Octets) → ((f : File) → Contains (files_of S) f → f.name ≢ q) → ¬ (IsThere (table inodes blocks) q)
   not_there q lacks (k, content, there) =
       let f : File = record { name = q; content = content } in
-      lacks f (Contains-permutation (files_in (table inodes blocks)) (files_of S) f files_are (there_among (table inodes blocks) k f there))
+      lacks f (Contains-permutation (files_in (table inodes blocks)) (files_of S) f files_are (is_among (table inodes blocks) k f there))
       refl
 
   pub enough : (c : Change) → is_full (length blocks) inodes S (Some c) ≡ false → HasFree inodes (files_made c) blocks

@@ -1,27 +1,26 @@
 -- The changes that were read are the first ones of each spool that the blocks hold.
 use Rattle.std.proofs.Common.{◌≡◌, ◌<◌, ◌≤◌, ℕ, zero, suc, ◌+◌, Bool, true, false, cond, List, [], ◌∷◌, ◌++◌, length, get_or, take, drop}
-use Rattle.std.proofs.Common.{refl, sym, ◌∙◌, ap, subst, arith, Option, Some, None, length-append}
-use Rattle.std.specs.Prelude.{filter_map, is_some, slice_get}
+use Rattle.std.proofs.Common.{refl, sym, ◌∙◌, ap, subst, arith, Some, length-append}
+use Rattle.std.specs.Prelude.{filter_map, slice_get}
 use Rattle.std.specs.List.{list_any}
 use Rattle.std.proofs.Math.Seq.{take-append-add, drop-append_seam, take-append_seam}
-use Rattle.std.proofs.lemmas.Bool.{true≢false}
 use Rattle.std.proofs.lemmas.List.{append_assoc, append-nil, take_more, take-append-drop}
 use Rattle.std.proofs.lemmas.Option.{slice_get-get_or}
 use Rattle.model.specs.Stream.{Octets}
 use Rattle.model.specs.Files.{IsFileSystem, table}
 use Rattle.model.specs.Layout.{Holds}
 use Rattle.model.specs.Lawful.{IsLawfulAfter, MayFollow}
-use Rattle.model.specs.Spool.{Spool, NewsGroup, article_filed, filed_in, first, group_named, is_here, is_name}
+use Rattle.model.specs.Spool.{Spool, article_filed, filed_in, first, is_here, is_name}
 use Rattle.model.specs.SpoolFiles.{HasRoomInFile, next_line, next_record, numbers_file, numbers_of, overview_file, overview_of}
 use Rattle.model.specs.declared.change.Change.{Change}
 use Rattle.model.specs.declared.change.Change.TheVariants.{Group, Article, Expire}
-use Rattle.model.proofs.Filing.{filed_article, filed_no_more, named_front, numbers_push, overview_push}
+use Rattle.model.proofs.Filing.{filed_article, filed_no_more, numbers_push, overview_push, here_stays}
 use Rattle.model.proofs.HoldsOne.{changes_few, fits_lawful, no_change}
 use Rattle.fs_layout.proofs.Tables.{there_once}
-use Rattle.model.proofs.Opening.{fronts_read, where_is}
+use Rattle.model.proofs.Opening.{fronts_read, where_is, is_among}
 use Rattle.spool_opening.specs.Stored.{AreRead, NextIs, HasFront, HasPiece, IsFileAt, Numbers, Overview, Which, file_for, name_for}
 use Rattle.spool_opening.specs.Stored.{piece_for}
-use Rattle.spool_reading.proofs.Finding.{has_change, in_blocks, in_spool, is_among}
+use Rattle.spool_reading.proofs.Finding.{has_change, in_blocks, in_spool}
 use Rattle.spool_opening.proofs.GroupFiles.{has_index, index_is}
 
 -- ---- the next change
@@ -100,12 +99,6 @@ front_for w S (c ∷ T) g =
 
 -- ---- what the blocks have of a group
 
-pub still_here : (P Q : Spool) (g : Octets) → is_here P g ≡ true → is_here (P ++ Q) g ≡ true
-still_here P Q g here = by_group (group_named (P ++ Q) g) refl where
-  by_group : (o : Option NewsGroup) → group_named (P ++ Q) g ≡ o → is_some o ≡ true
-  by_group (Some h) is = refl
-  by_group None is = absurd (true≢false (sym here ∙ ap (λ (o : Option NewsGroup). is_some o) (named_front P Q g is)))
-
 -- the file of this name is the spool's
 pub its_content : (host : Octets) (inodes : ℕ) (blocks : List Octets) (S : Spool) (w : Which) (g : Octets) (k : ℕ) (content : Octets)
     → Holds host inodes blocks S
@@ -139,7 +132,7 @@ piece_stands host inodes blocks R S w text gs moment g held front filed here =
     let more = front_for w (R ++ c ∷ []) (drop (length R + 1) S) g in
     let here_all : is_here S g ≡ true =
     ap (λ (T : Spool). is_here T g) (sym (sym (append_assoc R (c ∷ []) (drop (length R + 1) S)) ∙ whole))
-    ∙ still_here R ((c ∷ []) ++ drop (length R + 1) S) g here in
+    ∙ here_stays R ((c ∷ []) ++ drop (length R + 1) S) g here in
     let its = its_file host inodes blocks S w g held here_all in
     let content : file_for w S g ≡ (file_for w R g ++ piece_for w R text g) ++ more.0 =
     ap (λ (T : Spool). file_for w T g) (sym whole) ∙ more.1

@@ -14,11 +14,11 @@ use Rattle.model.specs.Layout.{Holds}
 use Rattle.model.specs.Spool.{Spool, groups}
 use Rattle.model.specs.SpoolFiles.{change_file, files_of, is_of_change}
 use Rattle.model.proofs.HoldsOne.{no_change}
-use Rattle.model.proofs.Opening.{files_counted, files_make_spool, where_is}
+use Rattle.model.proofs.Opening.{files_counted, files_make_spool, where_is, is_among}
 use Rattle.fs_layout.proofs.Tables.{length-table, there_once}
 use Rattle.index.specs.View.{IndexView}
 use Rattle.spool_reading.specs.Sorted.{AreFirst, AreSorted}
-use Rattle.spool_reading.proofs.Finding.{has_change, in_spool, is_among}
+use Rattle.spool_reading.proofs.Finding.{has_change, in_spool}
 use Rattle.spool_reading.proofs.Slots.{slot_of}
 use Rattle.spool_opening.specs.Ended.{IsNameOf, IsOpened, IsWholeAt}
 use Rattle.spool_opening.specs.Laws.{FilesAreAsMany, IndexIsWhole, ReadIsHeld}

@@ -15,6 +15,7 @@ use Rattle.model.specs.declared.change.Change.{Change}
 use Rattle.model.specs.declared.change.Change.TheVariants.{Group, Article}
 use Rattle.model.proofs.HoldsOne.{same_change}
 use Rattle.model.proofs.Joined.{bytes_same}
+use Rattle.model.proofs.Filing.{here_stays}
 use Rattle.fs_layout.proofs.Tables.{length-table}
 use Rattle.index.specs.View.{IndexView}
 use Rattle.spool_reading.specs.Said.{IsFileOf}
@@ -23,7 +24,7 @@ use Rattle.spool_reading.proofs.Slots.{its_slot}
 use Rattle.spool_opening.specs.Replayed.{AllGoOn, AreReplayedTo, IsReplayed}
 use Rattle.spool_opening.specs.Stored.{AreRead, IsFileAt, IsNext, Numbers, Overview, Which, name_for}
 use Rattle.spool_opening.proofs.Filed.{filed_here}
-use Rattle.spool_opening.proofs.Fronts.{is_front, its_file, next_is, next_there, piece_stands, still_here}
+use Rattle.spool_opening.proofs.Fronts.{is_front, its_file, next_is, next_there, piece_stands}
 use Rattle.spool_opening.proofs.Going.{no_piece}
 use Rattle.spool_opening.proofs.Growing.{here_more}
 
@@ -80,7 +81,7 @@ group_here host R S name status description moment next =
     (option_or o (find (λ (h : NewsGroup). is_name name h.name)
     (filter_map group_made (record { serial = length R + 1; change = c } ∷ []))))) next.may.new
     ∙ ap (λ (b : Bool). is_some (cond b (Some its) None)) (bytes_same name) in
-    ap (λ (T : Spool). is_here T name) (sym whole) ∙ still_here (R ++ c ∷ []) (drop (length R + 1) S) name here
+    ap (λ (T : Spool). is_here T name) (sym whole) ∙ here_stays (R ++ c ∷ []) (drop (length R + 1) S) name here
 
 pub group_named_there : (host : Octets) (inodes : ℕ) (blocks : List Octets) (R S : Spool) (slots : List ℕ) (named : List (Octets × ℕ))
     (w : Which) (name file : Octets) (status : ℕ) (description : Octets) (moment : ℕ)

@@ -10,12 +10,12 @@ use Rattle.model.specs.Spool.{Spool}
 use Rattle.model.specs.SpoolFiles.{change_file, numbers_name, overview_name}
 use Rattle.model.specs.declared.change.Change.{Change}
 use Rattle.model.specs.declared.change.Change.TheVariants.{Group, Expire}
+use Rattle.model.proofs.Opening.{is_among}
 use Rattle.index.specs.View.{IndexView, Indexes}
 use Rattle.places.specs.Places.{AreNamed, name_of, with_change, with_group}
 use Rattle.places.proofs.Named.{grow_by_change, grow_by_group}
 use Rattle.spool_opening.specs.Replayed.{IsItsFile, IsReplayed}
 use Rattle.spool_opening.specs.Stored.{IsFileAt, Numbers, Overview, Which, name_for}
-use Rattle.spool_reading.proofs.Finding.{is_among}
 use Rattle.spool_opening.proofs.Growing.{expiry_is_read, group_is_read}
 
 pub its_file_there : (inodes : ℕ) (blocks : List Octets) (at serial : ℕ) (c : Change) → IsItsFile inodes blocks at serial c

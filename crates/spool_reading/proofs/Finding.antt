@@ -1,5 +1,5 @@
 -- The files of a spool in the blocks that hold it.
-use Rattle.std.proofs.Common.{◌≡◌, ◌<◌, ℕ, zero, suc, ◌+◌, List, [], ◌∷◌, length, get_or, sym, subst, arith, refl, Option, Some, None}
+use Rattle.std.proofs.Common.{◌≡◌, ◌<◌, ℕ, ◌+◌, List, length, get_or, sym, subst, arith, refl}
 use Rattle.std.specs.List.{Contains}
 use Rattle.std.proofs.lemmas.List.Sorted.{Contains-permutation, IsPermutation-sym}
 use Rattle.model.specs.Stream.{Octets}
@@ -11,13 +11,6 @@ use Rattle.model.proofs.HoldsOne.{no_change, entry_in}
 use Rattle.model.proofs.Joined.{joined_has}
 
 -- ---- in the table of inodes
-
-pub is_among : (inodes : List (Option File)) (k : ℕ) (f : File) → get_or inodes k None ≡ Some f → Contains (files_in inodes) f
-is_among [] k f is = absurd (cc)
-is_among (None ∷ inodes) zero f is = absurd (cc)
-is_among (None ∷ inodes) (suc k) f is = is_among inodes k f is
-is_among (Some g ∷ inodes) zero f is = (0, omega arith, cc)
-is_among (Some g ∷ inodes) (suc k) f is = let rest = is_among inodes k f is in (suc rest.0, omega (arith, rest.1), rest.2)
 
 -- ---- in the blocks
 

@@ -1,8 +1,6 @@
 -- What the files of changes say.
-use Rattle.std.proofs.Common.{◌≡◌, ◌≢◌, ℕ, ◌^◌, ◌<◌, ◌≤◌, List, ◌∷◌, ◌++◌, length, get_or, sym, ◌∙◌, ap, arith}
-use Rattle.std.specs.Prelude.{codes, flat_map}
-use Rattle.std.proofs.Common.{length-append}
-use Rattle.byteorder.specs.Endian.{little_bytes}
+use Rattle.std.proofs.Common.{◌≡◌, ◌≢◌, ℕ, ◌^◌, ◌<◌, List, ◌∷◌, ◌++◌, length, get_or, sym, ◌∙◌, ap, arith}
+use Rattle.std.specs.Prelude.{codes}
 use Rattle.model.specs.Stream.{Octets}
 use Rattle.model.specs.Records.{last_digits, group_record, article_record, expiry_record}
 use Rattle.model.specs.Spool.{Expiry, NewsArticle, NewsGroup}
@@ -11,6 +9,7 @@ use Rattle.model.specs.SpoolFiles.{change_file, group_name}
 use Rattle.model.specs.declared.change.Change.{Change}
 use Rattle.model.specs.declared.change.Change.TheVariants.{Group, Article, Expire}
 use Rattle.model.proofs.HoldsOne.{same_change}
+use Rattle.model.proofs.Asking.{text_fits}
 use Rattle.records.specs.Kinds.{front_of}
 use Rattle.records.specs.declared.names.FileKind.{FileKind}
 use Rattle.records.specs.declared.names.FileKind.TheVariants as kind
@@ -86,14 +85,6 @@ other_article digits content n differ (Group name status description moment) is 
     absurd (let octets : 103 ≡ 97 = first_octet is in omega arith)
 other_article digits content n differ (Expire g number) is = absurd (let octets : 120 ≡ 97 = first_octet is in omega arith)
 
-article_size : (a : NewsArticle) → length a.text ≤ length (article_record a)
-article_size a = omega (
-  arith,
-  length-append
-      (little_bytes 8 a.serial ++ little_bytes 8 a.moment ++ little_bytes 4 (length a.text) ++ length a.groups ∷ flat_map
-      (λ g. length g ∷ g) a.groups) a.text,
-)
-
 pub article_is : (n m moment : ℕ) (text : Octets) (gs : List Octets) (digits content : Octets) → n < 256 ^ 8 → moment < 256 ^ 8
     → length content < 2 ^ 32 → digits ≡ last_digits 10 n → m ≡ n
     → content ≡ article_record (record { serial = m; text = text; groups = gs; moment = moment })
@@ -104,7 +95,7 @@ article_is n m moment text gs digits content small early short digits_are same i
     early,
     omega (
       arith,
-      article_size (record { serial = m; text = text; groups = gs; moment = moment }),
+      text_fits (record { serial = m; text = text; groups = gs; moment = moment }),
       ap (λ (o : Octets). length o) is,
     ),
   );

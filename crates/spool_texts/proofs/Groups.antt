@@ -8,12 +8,13 @@ use Rattle.model.specs.Files.{IsFile, IsFileSystem, content_of, entry, table}
 use Rattle.model.specs.Indexed.{ArePlaces, FilePlaces, GroupIndex, group_index}
 use Rattle.model.specs.Spool.{Spool, NewsArticle, NewsGroup, filed_in, groups}
 use Rattle.model.specs.SpoolFiles.{overview_file, overview_name}
+use Rattle.model.proofs.Joined.{both_at}
 use Rattle.fs_layout.proofs.Tables.{named_from_there}
 use Rattle.index_groups.specs.Naming.{heads}
 use Rattle.index.specs.View.{IndexView, Indexes}
 use Rattle.spool_texts.specs.Texts.{LinesRise}
 use Rattle.spool_texts.proofs.Lines.{group_ends, rising}
-use Rattle.spool_texts.proofs.Standing.{both_at, placed_at}
+use Rattle.spool_texts.proofs.Standing.{placed_at}
 
 -- the group with this place has this name
 pub record IsAt (S : Spool) (name : Octets) (k : ℕ) : Type 0 where

@@ -5,7 +5,7 @@ use Rattle.std.specs.Prelude.{Option, Some, None, flat_map, option_map, slice_ge
 use Rattle.std.specs.Option.{option_and_then}
 use Rattle.std.proofs.Math.Seq.{drop-append_seam, take-length}
 use Rattle.std.proofs.lemmas.List.{length-map}
-use Rattle.std.proofs.lemmas.Option.{same_Some, slice_get-get_or, slice_get-map, slice_get_within}
+use Rattle.std.proofs.lemmas.Option.{same_Some, slice_get-get_or, slice_get_within}
 use Rattle.byteorder.specs.Endian.{little_bytes}
 use Rattle.model.specs.Stream.{Octets}
 use Rattle.model.specs.Files.{File, HasRoom, IsFile, IsFileSystem, content_of, entry, size, table}
@@ -16,6 +16,8 @@ use Rattle.model.specs.SpoolFiles.{article_file, article_name, change_file}
 use Rattle.model.specs.declared.change.Change.{Change}
 use Rattle.model.specs.declared.change.Change.TheVariants.{Group, Article, Expire}
 use Rattle.model.proofs.Owning.{content_size}
+use Rattle.model.proofs.Asking.{text_fits}
+use Rattle.model.proofs.Joined.{both_at}
 use Rattle.lookups.specs.Held.{article_with, text_of}
 use Rattle.fs_layout.proofs.Tables.{named_from_there}
 
@@ -43,9 +45,6 @@ text_is_last : (a : NewsArticle) → take (length a.text) (drop (length (article
 text_is_last a = ap (λ (o : Octets). take (length a.text) (drop (length o - length a.text) o)) (record_ends a)
     ∙ last_octets (front a) a.text
 
-text_fits : (a : NewsArticle) → length a.text ≤ length (article_record a)
-text_fits a = omega (arith, ap (λ (o : Octets). length o) (record_ends a), length-append (front a) a.text)
-
 -- ---- the file of an article
 
 filed_file : (n : ℕ) (c : Change) (a : NewsArticle) → article_filed (record { serial = n; change = c }) ≡ Some a
@@ -65,12 +64,6 @@ its S k a is = by_entry (slice_get (entries S) k) refl is where
   by_entry : (o : Option Entry) → slice_get (entries S) k ≡ o → option_and_then article_filed o ≡ Some a → Its S k a
   by_entry None at same = absurd (cc)
   by_entry (Some e) at same = record { change = e; at = at; file_is = filed_file e.serial e.change a same }
-
-pub both_at : {X Y Z : Type 0} (f : X → Z) (h : Y → Z) (xs : List X) (ys : List Y) (k : ℕ) (x : X) (y : Y) → map f xs ≡ map h ys
-    → slice_get xs k ≡ Some x → slice_get ys k ≡ Some y → f x ≡ h y
-both_at {X} {Y} {Z} f h xs ys k x y same first second =
-    same_Some (f x) (h y) (sym (ap (option_map f) first) ∙ sym (slice_get-map f xs k) ∙ ap (λ (l : List Z). slice_get l k) same
-    ∙ slice_get-map h ys k ∙ ap (option_map h) second)
 
 -- the elements of a list have files in these places
 pub placed_at : {X : Type 0} (inodes : List (Option File)) (f : X → File) (xs : List X) (places : List ℕ) (k : ℕ) (x : X)
