@@ -15,7 +15,7 @@ use Rattle.model.specs.Names.{is_of_host}
 use Rattle.model.specs.Spool.{NewsArticle, Spool, by_id, is_here}
 use Rattle.model.specs.Stream.{Octets}
 use Rattle.model.proofs.Ids.{field_counted, no_cause}
-use Rattle.model.proofs.Fronts.{first_none}
+use Rattle.model.proofs.Fronts.{first_none, none_mapped}
 use Rattle.change_spool.specs.declared.FilingError.{FilingError}
 use Rattle.change_spool.specs.declared.FilingError.TheVariants as file
 use Rattle.posting_commands.proofs.Telling.{transfer_filed}
@@ -24,10 +24,6 @@ use Rattle.posting_commands.proofs.Telling.{transfer_filed}
 
 any_false : {X : Type 0} (p : X → Bool) (x : X) (xs : List X) → list_any p (x ∷ xs) ≡ false → (p x ≡ false) × (list_any p xs ≡ false)
 any_false p x xs e = or_parts (p x) (list_any p xs) e
-
-none_mapped : {X Y : Type 0} (f : X → Y) (o : Option X) → option_map f o ≡ None → o ≡ None
-none_mapped f None e = refl
-none_mapped f (Some x) e = absurd (cc)
 
 pub has_id : (text : Octets) → cause Carried text ≡ None → own_id text ≡ None → ⊥
 unfolding cause

@@ -2,15 +2,15 @@
 use Rattle.std.proofs.Common.{◌≡◌, ℕ, ◌+◌, List, [], ◌∷◌, ◌++◌, map, refl, sym, ◌∙◌, ap, arith, append_assoc, append-nil, Bool, true, false}
 use Rattle.std.proofs.Common.{cond, length}
 use Rattle.std.specs.Prelude.{◌==◌, filter, flat_map, max, slice_get, take, Some, None, ℤ}
-use Rattle.std.proofs.lemmas.List.{map-append, take_more, take_all, length-map}
+use Rattle.std.proofs.lemmas.List.{map-append, take_all, length-map}
 use Rattle.std.proofs.lemmas.List.Concat.{flat_map-append}
 use Rattle.std.proofs.lemmas.List.Elements.{filter-append}
-use Rattle.std.proofs.lemmas.Option.{get_or_from_slice_get, slice_get_within}
 use Rattle.model.specs.Answer.{is_listed, is_since}
 use Rattle.model.specs.Lawful.{IsLawful}
 use Rattle.model.specs.Replies.{block}
 use Rattle.model.specs.Spool.{Spool, Listed, NewsGroup, greatest, groups, last_naming, last_naming_one, listed}
 use Rattle.model.specs.Stream.{Octets, dot_line, line, stuffed_line}
+use Rattle.model.proofs.Joined.{front_more}
 use Rattle.lookups.specs.Held.{Known, all_known, known}
 use Rattle.lookups.proofs.Absent.{greatest_last, last_of_groups}
 use Rattle.listing_commands.specs.Lists.{is_picked, last_of, later_of, line_of, lines_of, picked, rest_of, shown_as}
@@ -43,9 +43,6 @@ pub stuffed_group : (show : Show) (l : Listed) → stuffed_line (line (shown_as 
 stuffed_group show l = ap stuffed_line (named show l) ∙ stuffed_front l.group.name (rest_of show l) (rest_plain show l)
 
 -- ---- one group more
-
-front_more : {X : Type 0} (xs : List X) (n : ℕ) (x : X) → slice_get xs n ≡ Some x → take (n + 1) xs ≡ take n xs ++ x ∷ []
-front_more xs n x is = take_more xs n x (slice_get_within xs n x is) ∙ ap (λ y. take n xs ++ y ∷ []) (get_or_from_slice_get xs n x x is)
 
 greatest_more : (ns : List ℕ) (n : ℕ) → greatest (ns ++ n ∷ []) ≡ max (greatest ns) n
 greatest_more [] n = omega arith

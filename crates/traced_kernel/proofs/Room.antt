@@ -10,6 +10,7 @@ use Rattle.seats.specs.Seats.{Ready, Seat, ready, ready_of}
 use Rattle.seats.proofs.SeatsLaws.{eqb-same, find_place}
 use Rattle.outbox.specs.Queue.{Entry}
 use Rattle.synchrony.specs.Server.{updated}
+use Rattle.model.proofs.Joined.{front_more}
 use Rattle.traced_kernel.specs.Events.{with_released}
 use Rattle.traced_kernel.specs.Fields.{AreKnown, HasRoom, HaveRoom, given_in, inputs, sents}
 use Rattle.traced_kernel.specs.Traced.{Sent, numbered, sent_at, with_numbered, with_sent}
@@ -69,11 +70,6 @@ pub record MakesRoom (seats : List Seat) (old new : List Peer) (place : ℕ) : T
   pub input : inputs new ≡ inputs old
   pub room : (k : ℕ) (seat : Seat) → k < place → slice_get seats k ≡ Some seat → HasRoom new seat.number 65536
 
--- what maps to nothing is nothing
-pub none_there : {A B : Type 0} (f : A → B) (o : Option A) → option_map f o ≡ None → o ≡ None
-none_there f None is = refl
-none_there f (Some x) is = absurd (cc is)
-
 pub get_past : {A : Type 0} (xs : List A) (place k : ℕ) (x : A) → slice_get xs place ≡ None → slice_get xs k ≡ Some x → k < place
 get_past [] place k x none is = absurd (cc is)
 get_past (y ∷ xs) zero k x none is = absurd (cc none)
@@ -97,12 +93,6 @@ released_more sessions [] entry = refl
 released_more sessions (first ∷ entries) entry =
     released_more (with_sent sessions first.0
     (record (sent_at sessions first.0) { released = (sent_at sessions first.0).released ++ first.1 })) entries entry
-
-take_more : {A : Type 0} (xs : List A) (k : ℕ) (x : A) → slice_get xs k ≡ Some x → take (k + 1) xs ≡ take k xs ++ x ∷ []
-take_more [] k x is = absurd (cc is)
-take_more (y ∷ xs) zero x is = let same : y ≡ x = cc is in ap (λ z. z ∷ []) same
-take_more (y ∷ xs) (suc k) x is = let e : suc k + 1 ≡ suc (k + 1) = omega arith in ap (λ n. take n (y ∷ xs)) e
-    ∙ ap (λ ys. y ∷ ys) (take_more xs k x is)
 
 drop_more : {A : Type 0} (xs : List A) (k : ℕ) (x : A) → slice_get xs k ≡ Some x → drop k xs ≡ x ∷ drop (k + 1) xs
 drop_more [] k x is = absurd (cc is)
@@ -152,7 +142,7 @@ module _ (entries : List Entry) (old now : List Peer) (index : ℕ) (number : �
         sent = sent ∙ ((λ i. with_sent (h.sent i) number
             (record (sent_at (h.sent i) number) { released = (sent_at (h.sent i) number).released ++ octets }))
             ∙ (sym (released_more (sents old) (take index entries) (number, octets, ends))
-            ∙ ap (with_released (sents old)) (sym (take_more entries index (number, octets, ends) entry))));
+            ∙ ap (with_released (sents old)) (sym (front_more entries index (number, octets, ends) entry))));
         input = input ∙ h.input;
         known = subst (λ xs. AreKnown xs (drop (index + 1) entries)) (sym sent)
             (AreKnown-given (sents now) (number, octets, ends) its_known.0 (drop (index + 1) entries) its_known.1);

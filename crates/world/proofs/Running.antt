@@ -1,9 +1,10 @@
 -- Events done one after another.
-use Rattle.std.proofs.Common.{◌≡◌, ◌≢◌, inl, inr, ⊎_elim, ℕ, zero, suc, ◌+◌, ◌<◌, ◌≤◌, length, Bool, true, false, List, [], ◌∷◌, ◌++◌, take}
+use Rattle.std.proofs.Common.{◌≡◌, ◌≢◌, inl, inr, ⊎_elim, ℕ, ◌+◌, ◌<◌, ◌≤◌, length, Bool, true, false, List, [], ◌∷◌, ◌++◌, take}
 use Rattle.std.proofs.Common.{Some, refl, ap, sym, ◌∙◌, subst, arith}
 use Rattle.std.specs.Prelude.{IsTrue, Result, Ok, Err, slice_get}
 use Rattle.disk.specs.Device.{Device}
 use Rattle.model.specs.Stream.{Octets}
+use Rattle.model.proofs.Joined.{front_more}
 use Rattle.world.specs.Events.{Did, Ran, Went, for_memory, more, none}
 use Rattle.world.specs.Images.{EachNow, EachSince, Fits, LeftFits}
 use Rattle.world.specs.Tied.{IsWorld}
@@ -54,13 +55,6 @@ module _ {D : Type 0} (device : D → Device) (write_grows sync_grows : Bool) wh
         since = λ tells t image le left. inl left;
       }
 
-  take_next : (events : List Event) (i : ℕ) (event : Event) → slice_get events i ≡ Some event
-      → take (i + 1) events ≡ take i events ++ event ∷ []
-  take_next [] i event is = absurd (cc is)
-  take_next (first ∷ events) zero event is = let same : first ≡ event = cc is in ap (λ e. e ∷ []) same
-  take_next (first ∷ events) (suc i) event is = let e : suc i + 1 ≡ suc (i + 1) = omega arith in ap (λ n. take n (first ∷ events)) e
-      ∙ ap (λ xs. first ∷ xs) (take_next events i event is)
-
   pub running_more : (old now new : WorldView D) (events : List Event) (i : ℕ) (event : Event) (result : Result Answer StepError)
       → Running old now events i → slice_get events i ≡ Some event → result ≢ Err error.Memory
       → Did device write_grows sync_grows now event result new → IsWorld device new
@@ -68,7 +62,7 @@ module _ {D : Type 0} (device : D → Device) (write_grows sync_grows : Bool) wh
   running_more old now new events i event result h at fine did world since =
       let on = step_goes_on device write_grows sync_grows now new event result world did in
       record {
-        went = subst (λ es. Went device write_grows sync_grows old es new) (sym (take_next events i event at))
+        went = subst (λ es. Went device write_grows sync_grows old es new) (sym (front_more events i event at))
             (went_more old now new (take i events) event result h.went fine did);
         world = world;
         now_fits = now_fits device new world;

@@ -2,7 +2,8 @@ use Rattle.std.proofs.Common.{◌≡◌, ◌<◌, None, length, sym, ◌∙◌, 
 use Rattle.std.specs.Prelude.{slice_get}
 use Rattle.std.proofs.lemmas.Option.{slice_get_within}
 use Rattle.seats.specs.Seats.{Seat}
-use Rattle.traced_kernel.proofs.Room.{get_past, none_there, room_more}
+use Rattle.model.proofs.Fronts.{none_mapped}
+use Rattle.traced_kernel.proofs.Room.{get_past, room_more}
 use Rattle.traced_kernel.proofs.peer.make_room.Goals as goal
 
 pub loop-place-preserved : goal.loop-place-preserved
@@ -14,7 +15,7 @@ loop-place-preserved c =
 pub returns-in-None-clause-room : goal.returns-in-None-clause-room
 returns-in-None-clause-room c k seat is =
     let past : slice_get c.args.kernel.now.seats c.loop-place.place ≡ None =
-    none_there (λ (s : Seat). s.number) (slice_get c.args.kernel.now.seats c.loop-place.place) (sym c.session.ensures ∙ c.in-None.is) in
+    none_mapped (λ (s : Seat). s.number) (slice_get c.args.kernel.now.seats c.loop-place.place) (sym c.session.ensures ∙ c.in-None.is) in
     c.loop-place.invariant.room k seat (get_past c.args.kernel.now.seats c.loop-place.place k seat past is) is
 
 pub returns-clause-room : goal.returns-clause-room
