@@ -82,8 +82,8 @@ module _ (inodes k : ℕ) (place : ℕ) (octets : Octets) (old : List Octets) (r
   puts : PutsEntry inodes k (inode_of old k) (slot_of inodes old k) (λ m. m ≡ number) old new
   puts = puts_data inodes k number written old room.whole low (fs.within k number low owns).0
 
-  marks : SameMarks old new
-  marks = data_keeps_marks inodes k number written old room.whole low (fs.within k number low owns).0
+  pub overwrites_marks : SameMarks old new
+  overwrites_marks = data_keeps_marks inodes k number written old room.whole low (fs.within k number low owns).0
 
   untouched : (l b : ℕ) → l < inodes → l ≢ k → Contains (owned (entry inodes old l)) b → b ≢ number
   untouched l b below other has is =
@@ -188,8 +188,6 @@ module _ (inodes k : ℕ) (place : ℕ) (octets : Octets) (old : List Octets) (r
       let is_file = subst IsFile (sym same_here) file in
       replaces inodes k (inode_of old k) (λ m. m ≡ number) old new room fs low file puts untouched is_file
       (overwritten place octets (content_of old e)) whole
-      (rule_keeps inodes k (inode_of old k) (λ m. m ≡ number) old new room fs low file puts untouched is_file (ap owned same_here) marks)
+      (rule_keeps inodes k (inode_of old k) (λ m. m ≡ number) old new room fs low file puts untouched is_file
+      (ap owned same_here) overwrites_marks)
       content_is
-
-  pub overwrites_marks : SameMarks old new
-  overwrites_marks = marks

@@ -14,8 +14,8 @@ use Rattle.journal.specs.declared.Next.TheVariants.{Idle, Descriptor, Image, Sea
 use Rattle.journal.specs.declared.Progress.{Progress}
 use Rattle.journal.proofs.During.{same_then}
 use Rattle.journal.proofs.Flights.{after_home}
-use Rattle.model.specs.Volume.{StandsFor, format_number, laid_over}
-use Rattle.new_volume.proofs.Carried.{IsOnTheWay, one_more}
+use Rattle.model.specs.Volume.{StandsFor, format_number}
+use Rattle.new_volume.proofs.Carried.{IsOnTheWay, one_more, same_batch}
 use Rattle.importing.specs.Saved.{Carries, IsSameVolume, LeavesOneOf}
 
 -- ---- what the journal admits is one of two
@@ -28,9 +28,6 @@ IsOneOf old image = IsVolume old.format old.label old.blocks image ⊎ IsVolume 
 -- commit has been made
 abbrev pub IsEither : {D : Type 0} → JournalView D → JournalView D → Type 0
 IsEither old now = (now.blocks ≡ old.blocks) ⊎ ((now.blocks ≡ with_batch old) × (now.next ≢ Commit))
-
-same_laid : {D : Type 0} (old now : JournalView D) → IsSameBatch old now → now.blocks ≡ old.blocks → with_batch now ≡ with_batch old
-same_laid old now same blocks = λ i. laid_over (blocks i) (same.numbers i) (same.images i)
 
 -- the volume of a later journal, of blocks that were known before
 moved_back : {D : Type 0} (old now : JournalView D) (blocks : List (List ℕ)) (image : List ℕ) → IsSameBatch old now
@@ -50,7 +47,7 @@ one_of {D = D} old now image same either admits = by_blocks either admits.0 wher
   by_blocks (inl before) (inl stands) = inl (back old.blocks (subst (λ (bs : List (List ℕ)). StandsFor image now.label bs) before stands))
   by_blocks (inl before) (inr commits) =
       inr (back (with_batch old)
-      (subst (λ (bs : List (List ℕ)). StandsFor image now.label bs) (same_laid old now same before) commits.1))
+      (subst (λ (bs : List (List ℕ)). StandsFor image now.label bs) (same_batch old now same before) commits.1))
   by_blocks (inr after) (inl stands) =
       inr (back (with_batch old) (subst (λ (bs : List (List ℕ)). StandsFor image now.label bs) after.0 stands))
   by_blocks (inr after) (inr commits) = absurd (after.1 commits.0)

@@ -114,7 +114,7 @@ begun device journal running next = record {
 }
 
 -- the same batch over the same blocks
-same_batch : {D : Type 0} (old now : JournalView D) → IsSameBatch old now → now.blocks ≡ old.blocks → with_batch now ≡ with_batch old
+pub same_batch : {D : Type 0} (old now : JournalView D) → IsSameBatch old now → now.blocks ≡ old.blocks → with_batch now ≡ with_batch old
 same_batch old now same blocks = λ i. laid_over (blocks i) (same.numbers i) (same.images i)
 
 module _ {D : Type 0} (device : D → Device) (old now new : JournalView D) (so_far : IsOnTheWay device old now)

@@ -6,4 +6,5 @@ pub mod Places
 pub mod Putting
 pub mod RunLaws
 pub mod Showing
+pub mod Sizes
 pub mod Written

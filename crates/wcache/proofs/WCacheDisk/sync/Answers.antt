@@ -1,17 +1,11 @@
-use Rattle.std.proofs.Common.{◌≡◌, ℕ, IsTrue, List, length, replicate, Option, None, Ok, Err, refl, sym, ◌∙◌, ap, arith}
-use Rattle.disk.specs.Device.{Device}
+use Rattle.std.proofs.Common.{ℕ, replicate, Option, None, Ok, Err, refl, sym, ◌∙◌, ap, arith}
 use Rattle.wcache.specs.Slots.{places}
 use Rattle.wcache.specs.Taken.{taken}
 use Rattle.wcache.proofs.Blocks.{length-places}
 use Rattle.wcache.proofs.Caching.{err_crash, err_since, ok_content, ok_crash, ok_durable, ok_since, sync_given}
 use Rattle.wcache.proofs.Places.{get_or-places_none, places_none}
 use Rattle.wcache.proofs.WCacheDisk.sync.Goals as goal
-
-sized : (D : Type 0) (device : D → Device)
-    → ((d : D) (image : List ℕ) → IsTrue (device d).tells → (device d).may_leave image → length image ≡ (device d).size)
-    → ((d : D) → IsTrue (device d).tells → (device d).may_leave (device d).content) → (d : D) → IsTrue (device d).tells
-    → length (device d).content ≡ (device d).size
-sized D device law now d t = law d (device d).content t (now d t)
+use Rattle.wcache.proofs.Sizes.{sized}
 
 pub invariant_of-self : goal.invariant_of-self
 invariant_of-self g c =

@@ -1,4 +1,4 @@
-use Rattle.std.proofs.Common.{◌≡◌, ◌≤◌, ℕ, ◌+◌, IsTrue, List, length, Option, sym, ◌∙◌, ap, subst, arith}
+use Rattle.std.proofs.Common.{◌≡◌, ◌≤◌, ℕ, ◌+◌, List, length, Option, sym, ◌∙◌, ap, subst, arith}
 use Rattle.disk.specs.Device.{Device}
 use Rattle.wcache.specs.Cache.{CacheView, cache_device}
 use Rattle.wcache.specs.Slots.{places}
@@ -7,12 +7,7 @@ use Rattle.wcache.proofs.Cached.{left_collected}
 use Rattle.wcache.proofs.Caching.{IsUntouched, collects, collects_content, collects_crash, none_past, untouched}
 use Rattle.wcache.proofs.Places.{places_same}
 use Rattle.wcache.proofs.WCacheDisk.write.Goals as goal
-
-sized : (D : Type 0) (device : D → Device)
-    → ((d : D) (image : List ℕ) → IsTrue (device d).tells → (device d).may_leave image → length image ≡ (device d).size)
-    → ((d : D) → IsTrue (device d).tells → (device d).may_leave (device d).content) → (d : D) → IsTrue (device d).tells
-    → length (device d).content ≡ (device d).size
-sized D device law now d t = law d (device d).content t (now d t)
+use Rattle.wcache.proofs.Sizes.{sized}
 
 fits : (D : Type 0) (device : D → Device) (v w : CacheView D) → v ≡ w → (at : ℕ) (from : List ℕ) → at + length from ≤ (device w.disk).size
     → at + length from ≤ (device v.disk).size
