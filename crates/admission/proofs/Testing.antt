@@ -112,10 +112,6 @@ no_expiry_elsewhere S name number is may = true≢false (sym may.here ∙ ap (λ
 
 -- ---- articles
 
-pub none_by : (o : Option NewsArticle) → None ≡ option_map (λ (a : NewsArticle). a.serial) o → o ≡ None
-none_by None is = refl
-none_by (Some a) is = absurd (cc)
-
 pub some_by : (o : Option NewsArticle) (n : ℕ) → Some n ≡ option_map (λ (a : NewsArticle). a.serial) o → o ≡ None → ⊥
 some_by None n is none = absurd (cc)
 some_by (Some a) n is none = absurd (cc)

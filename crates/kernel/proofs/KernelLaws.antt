@@ -31,6 +31,7 @@ use Rattle.kernel.specs.Stored.{kernel_of}
 use Rattle.seats.proofs.Keeping.{SeatIsKept-answered}
 use Rattle.seats.proofs.Releasing.{ready_seats, ready_rises, ready_few, seat_gives}
 use Rattle.seats.proofs.SeatsLaws.{RiseFrom-filter, RiseFrom-push, RiseFrom-set, find_at, find_place, seats_more, with_seat_set}
+use Rattle.synchrony.proofs.Released.{filled_length}
 
 -- what holds of each session holds of the one at a place
 pub all_at : (P : Seat → Type 0) (at : ℕ) (seats : List Seat) (seat : Seat) → All P seats → slice_get seats at ≡ Some seat → P seat
@@ -107,10 +108,6 @@ some_awaits : (held : List Held) (output : Held) (x : Session) → StillAwaits (
 some_awaits [] output x = tt
 some_awaits (first ∷ held) output x = tt
 
-filled : (xs : Octets) → xs ≢ [] → 0 < length xs
-filled [] h = absurd (h refl)
-filled (x ∷ xs) h = omega arith
-
 pub kept_served : (s s' : SpoolView) (d : ℕ) (f : Option ℕ) (halted : Bool) (j : ℕ) (seats : List Seat) (at : ℕ) (seat seat' : Seat)
     (m : Message) (t : ℕ) (mark : Mark)
     → slice_get seats at ≡ Some seat → IsSome (mode_of seat.session.awaits)
@@ -122,7 +119,7 @@ kept_served s s' d f halted j seats at seat seat' m t mark place awaited room so
     let k = kept_grown s s' d f halted j seats (answer_in s seat.session m t mark).change room sound grows h in
     let g = grown s s' (answer_in s seat.session m t mark).change grows in
     let was = all_at (IsSeat s.host s.changes j) at seats seat h.seats place in
-    let full = filled (answer_in s seat.session m t mark).reply ((lawful s.host).replies s.changes seat.session m t mark) in
+    let full = filled_length (answer_in s seat.session m t mark).reply ((lawful s.host).replies s.changes seat.session m t mark) in
     let outputs = SeatIsKept-answered s.host s.changes seat.session m t mark seat.given seat.held awaited full was.outputs in
     let now : IsSeat s.host (s.changes ++ option_to_list (answer_in s seat.session m t mark).change) j
     (answered_by s.host s.changes m t mark seat) =
@@ -167,7 +164,7 @@ new_is_kept host S j =
       outputs = inl (
         0,
         record {
-          cut_within = filled (greeting host) (lawful host).greets;
+          cut_within = filled_length (greeting host) (lawful host).greets;
           octets = refl;
           dependency = refl;
           ends = refl;

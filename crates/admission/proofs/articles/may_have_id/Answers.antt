@@ -1,6 +1,7 @@
 use Rattle.std.proofs.Common.{rules, refl, sym, ◌∙◌}
 use Rattle.std.proofs.lemmas.Bool.{true≢false}
-use Rattle.admission.proofs.Testing.{none_by, some_by}
+use Rattle.lookups.proofs.Standing.{not_found}
+use Rattle.admission.proofs.Testing.{some_by}
 use Rattle.admission.proofs.articles.may_have_id.Goals as goal
 
 pub returns-in-Some : goal.returns-in-Some
@@ -9,7 +10,7 @@ returns-in-Some c = λ S is. (λ yes. absurd (true≢false (sym yes)), λ may. a
 pub returns-then-not-is_of_host : goal.returns-then-not-is_of_host
 returns-then-not-is_of_host c = λ S is. (
   λ yes. record {
-    new = none_by _ (c.in_default.ensures S is);
+    new = not_found _ (c.in_default.ensures S is);
     own = λ own. absurd (true≢false (sym own ∙ sym c.is_of_host.ensures ∙ c.if-not-is_of_host.true));
   },
   λ may. refl,
