@@ -1,17 +1,17 @@
 -- Format 1, defined on its own.
-use Rattle.std.proofs.Common.{◌≡◌, ◌≢◌, ◌⊎◌, inl, inr, ◌<◌, ◌≤◌, ℕ, zero, suc, ◌+◌, ◌-◌, ◌*◌, ◌/◌, ◌%◌, cond, eqb, ltb, Bool, true, false}
-use Rattle.std.proofs.Common.{List, [], ◌∷◌, ◌++◌, length, get_or, map, take, drop, refl, sym, ◌∙◌, ap, subst, arith}
-use Rattle.std.specs.List.{All, flat_map, range_with_len}
+use Rattle.std.proofs.Common.{◌≡◌, ◌≢◌, inl, inr, ◌<◌, ◌≤◌, ℕ, zero, suc, ◌+◌, ◌-◌, ◌*◌, ◌/◌, ◌%◌, cond, eqb, ltb, Bool, true, false}
+use Rattle.std.proofs.Common.{List, [], ◌∷◌, ◌++◌, get_or, map, take, drop, refl, sym, ◌∙◌, ap, subst, arith}
+use Rattle.std.specs.List.{flat_map, range_with_len}
 use Rattle.std.proofs.lemmas.Bool.{cases_eq, cases_lt, eq-eqb, ne_eqb, le-ltb, lt-ltb}
 use Rattle.std.proofs.lemmas.List.{get_or-drop}
 use Rattle.std.proofs.lemmas.List.Elements.{All-nil}
 use Rattle.byteorder.specs.Endian.{little_from}
 use Rattle.model.specs.Stream.{Octets}
 use Rattle.model.specs.Volume.{number_at}
-use Rattle.model.specs.Files.{Entry, IsFile, block_count, content_of, double_pointer, entry_of, indirect_count, indirect_for, indirect_of}
+use Rattle.model.specs.Files.{Entry, IsFile, block_count, content_of, double_pointer, entry_of, indirect_count, indirect_of}
 use Rattle.model.specs.Files.{indirect_pointer, owned, pointer, size}
 use Rattle.model.specs.Laws.Formats.{EntryOne, FilesOfFormatOne, IsFileOne, ReadAsFormatOne, content_one, count_one, entry_one}
-use Rattle.model.specs.Laws.Formats.{indirect_one, owned_one, pointer_one, size_one}
+use Rattle.model.specs.Laws.Formats.{indirect_one, owned_one, pointer_one}
 use Rattle.model.proofs.Owning.{zero_number}
 
 -- ---- numbers of zeros

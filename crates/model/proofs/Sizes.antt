@@ -1,14 +1,12 @@
 -- The sizes in the inodes are the lengths of the files.
-use Rattle.std.proofs.Common.{◌≡◌, inl, inr, ◌<◌, ◌≤◌, ℕ, zero, suc, ◌+◌, cond, eqb, List, [], ◌∷◌, ◌++◌, length, map, sym, ◌∙◌, ap, subst}
-use Rattle.std.proofs.Common.{arith}
+use Rattle.std.proofs.Common.{◌≡◌, inl, inr, ◌<◌, ◌≤◌, ℕ, zero, suc, ◌+◌, cond, eqb, List, ◌++◌, length, map, sym, ap, subst, arith}
 use Rattle.std.specs.Prelude.{Option, Some, None}
 use Rattle.std.specs.List.{All, range_with_len}
 use Rattle.std.specs.Option.{option_to_list}
 use Rattle.std.proofs.lemmas.Bool.{cases_eq}
 use Rattle.std.proofs.lemmas.List.Elements.{All-cons, All-head, All-nil, All-tail}
 use Rattle.model.specs.Stream.{Octets}
-use Rattle.model.specs.Files.{AreWithin, File, HasRoom, IsFile, IsFree, IsFileSystem, content_of, entry, file_at, files_in, kind, name_in}
-use Rattle.model.specs.Files.{size, slot_of, table}
+use Rattle.model.specs.Files.{File, HasRoom, IsFile, IsFree, IsFileSystem, content_of, entry, file_at, files_in, name_in, size, slot_of}
 use Rattle.model.specs.Laws.Formats.{SizesBoundFiles}
 use Rattle.model.proofs.Owning.{content_size, free_kind, zero_number}
 
