@@ -12,7 +12,7 @@ use Rattle.model.specs.Stream.{Octets}
 use Rattle.model.specs.Names.{is_group_name, is_group_octet, is_dotted}
 use Rattle.model.specs.Article.{Carried, are_distinct, cause, groups_of}
 use Rattle.model.specs.Spool.{Spool, entries_from, NewsArticle, NewsGroup, group_made, is_name, filed_in, group_named, groups, entries}
-use Rattle.model.specs.Spool.{is_here}
+use Rattle.model.specs.Spool.{is_here, news_article, news_group, status_octet}
 use Rattle.model.specs.Records.{group_record, article_record, expiry_record}
 use Rattle.model.specs.SpoolFiles.{numbers_name, overview_name, number_record, number_records, numbers_of, numbers_file, overview_file}
 use Rattle.model.specs.SpoolFiles.{overview_lines, change_file, next_line, next_record, FileCall, Create, Append, filing_calls, files_of}
@@ -24,6 +24,7 @@ use Rattle.model.specs.Room.{has_all_groups, is_full_for, is_large, largest_file
 use Rattle.model.specs.Lawful.{MayFile, IsLawfulAfter, IsLawful}
 use Rattle.model.specs.Laws.Room.{ChangesAskFew, FilesGrowByBlocks, NotFullHasRoom}
 use Rattle.model.specs.declared.change.Change.TheVariants.{Group, Article, Expire}
+use Rattle.model.specs.declared.change.Filing.{Filing}
 use Rattle.model.proofs.HoldsOne.{carried_cause, carried_size, high_few}
 use Rattle.model.proofs.Ids.{no_cause}
 use Rattle.model.proofs.LineSizes.{line_short}
@@ -68,7 +69,7 @@ group_size : (g : NewsGroup) → length (group_record g) ≡ 17 + length g.descr
 group_size g =
     omega (
       arith,
-      length-append (little_bytes 8 g.serial ++ little_bytes 8 g.moment) (g.status ∷ g.description),
+      length-append (little_bytes 8 g.serial ++ little_bytes 8 g.moment) (status_octet g.status ∷ g.description),
       length-append (little_bytes 8 g.serial) (little_bytes 8 g.moment),
       length-little 8 g.serial,
       length-little 8 g.moment,
@@ -129,21 +130,21 @@ record AreFew (names : List Octets) : Type 0 where
   count : length names ≤ 16
   named : list_all is_group_name names ≡ true
 
-few_groups : (host : Octets) (S : Spool) (text : Octets) (gs : List Octets) (moment : ℕ) → MayFile host S text gs moment → AreFew gs
-few_groups host S text gs moment may =
-    let good = (no_cause Carried text (carried_cause text may.carried)).good_groups in
-    let sound = (and_parts (nat_le (length (groups_of text)) 16 && list_all is_group_name (groups_of text))
-    (are_distinct (groups_of text)) good).0 in
-    let parts = and_parts (nat_le (length (groups_of text)) 16) (list_all is_group_name (groups_of text)) sound in
+few_groups : (host : Octets) (S : Spool) (f : Filing) → MayFile host S f → AreFew f.groups
+few_groups host S f may =
+    let names = groups_of f.text in
+    let good = (no_cause Carried f.text (carried_cause f.text may.carried)).good_groups in
+    let sound = (and_parts (nat_le (length names) 16 && list_all is_group_name names) (are_distinct names) good).0 in
+    let parts = and_parts (nat_le (length names) 16) (list_all is_group_name names) sound in
     record {
       count = omega (
         arith,
         ap (λ (l : List Octets). length l) may.filed,
-        length-filter (is_here S) (groups_of text),
-        count_by-le-length (is_here S) (groups_of text),
-        leb-true (length (groups_of text)) 16 parts.0,
+        length-filter (is_here S) names,
+        count_by-le-length (is_here S) names,
+        leb-true (length names) 16 parts.0,
       );
-      named = ap (list_all is_group_name) may.filed ∙ filter_all is_group_name (is_here S) (groups_of text) parts.1;
+      named = ap (list_all is_group_name) may.filed ∙ filter_all is_group_name (is_here S) names parts.1;
     }
 
 -- a group that is here has a name
@@ -151,19 +152,18 @@ here_from : (host : Octets) (before cs : Spool) (n : ℕ) (g : Octets) → IsLaw
     → is_some (find (λ (group : NewsGroup). is_name g group.name) (filter_map group_made (entries_from n cs))) ≡ true
     → is_group_name g ≡ true
 here_from host before [] n g lawful here = absurd (false≢true here)
-here_from host before (Article text gs moment ∷ cs) n g lawful here =
-    here_from host (before ++ Article text gs moment ∷ []) cs (suc n) g lawful.1 here
-here_from host before (Expire h number ∷ cs) n g lawful here = here_from host (before ++ Expire h number ∷ []) cs (suc n) g lawful.1 here
-here_from host before (Group h status description moment ∷ cs) n g lawful here =
-    by_name (bytes_eq h g) refl here (here_from host (before ++ Group h status description moment ∷ []) cs (suc n) g lawful.1) where
+here_from host before (Article filing ∷ cs) n g lawful here =
+    here_from host (before ++ Article filing ∷ []) cs (suc n) g lawful.1 here
+here_from host before (Expire expiry ∷ cs) n g lawful here = here_from host (before ++ Expire expiry ∷ []) cs (suc n) g lawful.1 here
+here_from host before (Group created ∷ cs) n g lawful here =
+    by_name (bytes_eq created.name g) refl here (here_from host (before ++ Group created ∷ []) cs (suc n) g lawful.1) where
       rest : Option NewsGroup
       rest = find (λ (group : NewsGroup). is_name g group.name) (filter_map group_made (entries_from (suc n) cs))
 
-      by_name : (b : Bool) → bytes_eq h g ≡ b
-          → is_some (cond b (Some (record { serial = n; name = h; status = status; description = description; moment = moment })) rest)
-          ≡ true
+      by_name : (b : Bool) → bytes_eq created.name g ≡ b
+          → is_some (cond b (Some (news_group n created)) rest) ≡ true
           → (is_some rest ≡ true → is_group_name g ≡ true) → is_group_name g ≡ true
-      by_name true is found later = ap is_group_name (sym ((bytes_eq-Decides h g).0 is)) ∙ lawful.0.is_name
+      by_name true is found later = ap is_group_name (sym ((bytes_eq-Decides created.name g).0 is)) ∙ lawful.0.is_name
       by_name false is found later = later found
 
 pub here_short : (host : Octets) (S : Spool) (g : Octets) → IsLawful host S → is_here S g ≡ true → length g ≤ 40
@@ -266,64 +266,55 @@ two_created first second = omega (
 
 pub changes_ask_few : ChangesAskFew
 unfolding blocks_changed
-changes_ask_few host S (Group name status description moment) few lawful may =
-    let its = change_file (record { serial = length S + 1; change = Group name status description moment }) in
+changes_ask_few host S (Group created) few lawful may =
+    let its = change_file (record { serial = length S + 1; change = Group created }) in
     let size : length its.content ≤ 217 =
-    omega (
-      arith,
-      group_size (record {
-        serial = length S + 1;
-        name = name;
-        status = status;
-        description = description;
-        moment = moment;
-      }),
-      may.short,
-    ) in
+    omega (arith, group_size (news_group (length S + 1) created), may.short) in
     record {
       blocks = omega (
         arith,
-        making_taken its.name its.content (Create (numbers_name name) ∷ Create (overview_name name) ∷ []),
-        two_created (numbers_name name) (overview_name name),
+        making_taken its.name its.content (Create (numbers_name created.name) ∷ Create (overview_name created.name) ∷ []),
+        two_created (numbers_name created.name) (overview_name created.name),
         size,
       );
       made = omega (arith, size);
-      lines = λ text g gs m same. absurd (cc);
+      lines = λ f g same. absurd (cc);
       changed = omega (arith, small_blocks (length its.content) (omega (arith, size)), size);
     }
-changes_ask_few host S (Article text gs moment) few lawful may =
-    let its = change_file (record { serial = length S + 1; change = Article text gs moment }) in
-    let groups_few = few_groups host S text gs moment may in
+changes_ask_few host S (Article filing) few lawful may =
+    let its = change_file (record { serial = length S + 1; change = Article filing }) in
+    let groups_few = few_groups host S filing may in
     let size : length its.content ≤ 262821 =
     omega (
       arith,
-      article_size (record { serial = length S + 1; text = text; groups = gs; moment = moment }),
-      names_size gs groups_few.named,
+      article_size (news_article (length S + 1) filing),
+      names_size filing.groups groups_few.named,
       groups_few.count,
-      carried_size text may.carried,
+      carried_size filing.text may.carried,
     ) in
     record {
       blocks = omega (
         arith,
-        making_taken its.name its.content (flat_map (filing_calls S text) gs),
-        filing_taken S text few may.carried gs,
+        making_taken its.name its.content (flat_map (filing_calls S filing.text) filing.groups),
+        filing_taken S filing.text few may.carried filing.groups,
         groups_few.count,
         size,
       );
       made = size;
-      lines = λ text' g gs' m same. let one : text' ≡ text = cc in
-          omega (arith, ap (λ (t : Octets). length (next_line S t g)) one, short_line S text few may.carried g);
+      lines = λ f g same. let one : f ≡ filing = cc in
+          omega (arith, ap (λ (x : Filing). length (next_line S x.text g)) one, short_line S filing.text few may.carried g);
       changed = omega (
         arith,
         middle_blocks (length its.content) (omega (arith, size)),
-        all_filed S text few may.carried gs,
+        all_filed S filing.text few may.carried filing.groups,
         groups_few.count,
         size,
       );
     }
-changes_ask_few host S (Expire group number) few lawful may =
-    let its = change_file (record { serial = length S + 1; change = Expire group number }) in
-    let size : length its.content ≤ 53 = omega (arith, expiry_size (length S + 1) number group, here_short host S group lawful may.here) in
+changes_ask_few host S (Expire expiry) few lawful may =
+    let its = change_file (record { serial = length S + 1; change = Expire expiry }) in
+    let size : length its.content ≤ 53 =
+    omega (arith, expiry_size (length S + 1) expiry.number expiry.group, here_short host S expiry.group lawful may.here) in
     let calls : sum_by blocks_taken (making_calls its.name its.content) ≡ blocks_for_more (length its.content) =
     omega (
       arith,
@@ -333,7 +324,7 @@ changes_ask_few host S (Expire group number) few lawful may =
     record {
       blocks = omega (arith, calls, size);
       made = omega (arith, size);
-      lines = λ text g gs m same. absurd (cc);
+      lines = λ f g same. absurd (cc);
       changed = omega (arith, small_blocks (length its.content) (omega (arith, size)), size);
     }
 
@@ -367,18 +358,18 @@ not_full_room host blocks inodes S c few lawful may room =
     record {
       blocks_enough = omega (arith, asks.blocks, ltb-false free blocks_asked first.0);
       inodes_enough = ltb-false left (files_made c) second.0;
-      sizes = λ text filed moment g same has.
-          let none : extends_large S (Article text filed moment) ≡ false = ap (extends_large S) (sym same) ∙ third.0 in
-          let small = large_at S filed g none has in (
+      sizes = λ f g same has.
+          let none : extends_large S (Article f) ≡ false = ap (extends_large S) (sym same) ∙ third.0 in
+          let small = large_at S f.groups g none has in (
             omega (
               arith,
               ltb-false (largest_file - octets_asked) (length (numbers_file S g)) small.0,
-              number_size (length S + 1) (length (overview_file S g)) (next_line S text g),
+              number_size (length S + 1) (length (overview_file S g)) (next_line S f.text g),
             ),
             omega (
               arith,
               ltb-false (largest_file - octets_asked) (length (overview_file S g)) small.1,
-              asks.lines text g filed moment same,
+              asks.lines f g same,
             ),
           );
     }

@@ -6,6 +6,7 @@ use Rattle.std.proofs.lemmas.List.Sorted.{IsPermutation-append_right, IsPermutat
 use Rattle.std.proofs.lemmas.List.Sorted.{IsPermutation-sym, IsPermutation-trans}
 use Rattle.model.specs.Files.{File}
 use Rattle.model.specs.Spool.{Spool, Entry, entries_from, entries, group_made, article_filed, expiry_made, groups, articles, expiries}
+use Rattle.model.specs.Spool.{news_article, news_expiry, news_group}
 use Rattle.model.specs.SpoolFiles.{article_file, entry_files, expiry_file, files_by_kind, files_of, group_files}
 use Rattle.model.specs.Laws.SpoolFiles.{FilesAreByKind}
 use Rattle.model.specs.declared.change.Change.TheVariants.{Group, Article, Expire}
@@ -23,25 +24,25 @@ module _ (S : Spool) where
   by_kind : (n : ℕ) (R : Spool) → IsPermutation (flat_map (entry_files S) (entries_from n R))
       (of_groups (entries_from n R) ++ (of_articles (entries_from n R) ++ of_expiries (entries_from n R)))
   by_kind n [] = IsPermutation-refl []
-  by_kind n (Group name status description moment ∷ R) =
+  by_kind n (Group created ∷ R) =
       let es = entries_from (suc n) R in
-      let its : List File = group_files S (record { serial = n; name = name; status = status; description = description; moment = moment })
+      let its : List File = group_files S (news_group n created)
       in
       subst (IsPermutation (its ++ flat_map (entry_files S) es)) (sym (append_assoc its (of_groups es) (of_articles es ++ of_expiries es)))
       (IsPermutation-append_right its (flat_map (entry_files S) es) (of_groups es ++ (of_articles es ++ of_expiries es))
       (by_kind (suc n) R))
-  by_kind n (Article text gs moment ∷ R) =
+  by_kind n (Article filing ∷ R) =
       let es = entries_from (suc n) R in
-      let its : File = article_file (record { serial = n; text = text; groups = gs; moment = moment }) in
+      let its : File = article_file (news_article n filing) in
       IsPermutation-trans (its ∷ flat_map (entry_files S) es) (its ∷ (of_groups es ++ (of_articles es ++ of_expiries es)))
       (of_groups es ++ its ∷ (of_articles es ++ of_expiries es))
       (IsPermutation-cons its (flat_map (entry_files S) es) (of_groups es ++ (of_articles es ++ of_expiries es)) (by_kind (suc n) R))
       (IsPermutation-sym (of_groups es ++ its ∷ (of_articles es ++ of_expiries es))
       (its ∷ (of_groups es ++ (of_articles es ++ of_expiries es)))
       (IsPermutation-middle (of_groups es) its (of_articles es ++ of_expiries es)))
-  by_kind n (Expire group number ∷ R) =
+  by_kind n (Expire expiry ∷ R) =
       let es = entries_from (suc n) R in
-      let its : File = expiry_file (record { serial = n; group = group; number = number }) in
+      let its : File = expiry_file (news_expiry n expiry) in
       let both = of_groups es ++ of_articles es in
       let rest : IsPermutation (flat_map (entry_files S) es) (both ++ of_expiries es) =
       subst (IsPermutation (flat_map (entry_files S) es)) (sym (append_assoc (of_groups es) (of_articles es) (of_expiries es)))

@@ -1,6 +1,6 @@
 -- Blocks hold one spool.
-use Rattle.std.proofs.Common.{◌≡◌, ◌≢◌, inl, inr, ◌<◌, ◌≤◌, ◌^◌, ℕ, zero, suc, ◌+◌, List, [], ◌∷◌, ◌++◌, length, get_or, refl, sym, ◌∙◌, ap}
-use Rattle.std.proofs.Common.{subst, arith, Bool, true, false, length-append}
+use Rattle.std.proofs.Common.{◌≡◌, ◌≢◌, inl, inr, ◌<◌, ◌≤◌, ◌^◌, ℕ, zero, suc, ◌+◌, List, [], ◌∷◌, ◌++◌, length, get_or, refl, sym, ◌∙◌}
+use Rattle.std.proofs.Common.{ap, subst, arith, Bool, true, false, length-append}
 use Rattle.std.specs.Prelude.{flat_map, filter_map, replicate, Option, Some, None, nat_le, if◌then◌else◌, IsPermutation}
 use Rattle.std.specs.List.{Contains, list_any}
 use Rattle.std.specs.Option.{option_or, option_to_list}
@@ -11,15 +11,20 @@ use Rattle.std.proofs.lemmas.List.Sorted.{IsPermutation-refl, IsPermutation-sym,
 use Rattle.std.proofs.lemmas.List.Sums.{length-filter, count_by-le-length}
 use Rattle.byteorder.specs.Endian.{little_bytes}
 use Rattle.model.specs.Stream.{Octets}
-use Rattle.model.specs.Article.{Carried, Cause, Long, cause, cause_but_long, header, is_short}
+use Rattle.model.specs.Article.{Carried, cause, cause_but_long, header, is_short}
 use Rattle.model.specs.Files.{File, table, file_at}
-use Rattle.model.specs.Spool.{Spool, Entry, entries_from, entries, NewsArticle, article_filed, articles, filed_in, is_name}
+use Rattle.model.specs.Spool.{Spool, Entry, entries_from, entries, NewsArticle, article_filed, articles, filed_in, is_name, news_article}
+use Rattle.model.specs.Spool.{news_expiry, news_group, status_octet}
 use Rattle.model.specs.Records.{group_record, article_record, expiry_record}
 use Rattle.model.specs.SpoolFiles.{HasRoomInFile, change_file, entry_files, files_of, index_files}
 use Rattle.model.specs.Lawful.{MayFollow, IsLawfulAfter}
 use Rattle.model.specs.Laws.SpoolFiles.{BlocksHoldOne, ChangesAreFew, EmptyHoldsNone}
+use Rattle.model.specs.declared.cause.Cause.{Cause}
+use Rattle.model.specs.declared.cause.Cause.TheVariants.{Long}
 use Rattle.model.specs.declared.change.Change.{Change}
 use Rattle.model.specs.declared.change.Change.TheVariants.{Group, Article, Expire}
+use Rattle.model.specs.declared.values.Status.{Status}
+use Rattle.model.specs.declared.values.Status.TheVariants.{Open, Closed}
 use Rattle.model.proofs.Joined.{joined_has, joined_from}
 use Rattle.model.proofs.Strings.{little_split, counted_lists}
 
@@ -48,9 +53,9 @@ carried_cause text is = by_cause (cause_but_long Carried text) (if is_short text
 
 filed_few : (n : ℕ) (S : Spool) → length (filter_map article_filed (entries_from n S)) ≤ length S
 filed_few n [] = omega arith
-filed_few n (Group name status description moment ∷ S) = omega (arith, filed_few (suc n) S)
-filed_few n (Article text groups moment ∷ S) = omega (arith, filed_few (suc n) S)
-filed_few n (Expire group number ∷ S) = omega (arith, filed_few (suc n) S)
+filed_few n (Group created ∷ S) = omega (arith, filed_few (suc n) S)
+filed_few n (Article filing ∷ S) = omega (arith, filed_few (suc n) S)
+filed_few n (Expire expiry ∷ S) = omega (arith, filed_few (suc n) S)
 
 pub high_few : (S : Spool) (g : Octets) → length (filed_in S g) ≤ length S
 unfolding filed_in articles entries
@@ -60,13 +65,13 @@ high_few S g =
 
 fits_one : (host : Octets) (before : Spool) (n : ℕ) (c : Change) → MayFollow host before c → n < 256 ^ 8 → length before ≤ 32768
     → HasRoomInFile n c
-fits_one host before n (Group name status description moment) may small few = (small, omega (arith, may.in_time))
-fits_one host before n (Article text groups moment) may small few =
-    (small, omega (arith, may.in_time), omega (arith, carried_size text may.carried))
-fits_one host before n (Expire group number) may small few = (small, omega (arith, may.to_high, high_few before group))
+fits_one host before n (Group created) may small few = (small, omega (arith, may.in_time))
+fits_one host before n (Article filing) may small few =
+    (small, omega (arith, may.in_time), omega (arith, carried_size filing.text may.carried))
+fits_one host before n (Expire expiry) may small few = (small, omega (arith, may.to_high, high_few before expiry.group))
 
 pub no_change : Change
-no_change = Group [] 0 [] 0
+no_change = Expire (record { group = []; number = 0 })
 
 pub fits_from : (host : Octets) (before cs : Spool) → IsLawfulAfter host before cs → length before + length cs ≤ 32768 → (k : ℕ)
     → k < length cs → HasRoomInFile (1 + (length before + k)) (get_or cs k no_change)
@@ -87,76 +92,87 @@ fits_lawful host S lawful few k low =
 
 -- ---- the file of a change says it
 
+pub same_status : (a b : Status) → status_octet a ≡ status_octet b → a ≡ b
+same_status Open Open is = refl
+same_status Open Closed is = absurd (let octets : 121 ≡ 110 = is in omega arith)
+same_status Closed Open is = absurd (let octets : 110 ≡ 121 = is in omega arith)
+same_status Closed Closed is = refl
+
 pub same_change : (n m : ℕ) (c d : Change) → HasRoomInFile n c → HasRoomInFile m d
     → change_file (record { serial = n; change = c }) ≡ change_file (record { serial = m; change = d }) → (n ≡ m) × (c ≡ d)
-same_change n m (Group name status description moment) (Group name' status' description' moment') fits fits' is =
-    let names : 103 ∷ 46 ∷ name ≡ 103 ∷ 46 ∷ name' = ap (λ (f : File). f.name) is in
-    let name_is : name ≡ name' = cc in
-    let contents : group_record (record { serial = n; name = name; status = status; description = description; moment = moment })
-    ≡ group_record (record { serial = m; name = name'; status = status'; description = description'; moment = moment' }) =
-    ap (λ (f : File). f.content) is in
-    let grouped : little_bytes 8 n ++ (little_bytes 8 moment ++ status ∷ description)
-    ≡ little_bytes 8 m ++ (little_bytes 8 moment' ++ status' ∷ description') = simp append_assoc at contents in
-    let serials = little_split 8 n m (little_bytes 8 moment ++ status ∷ description) (little_bytes 8 moment' ++ status' ∷ description')
-    fits.0 fits'.0 grouped in
-    let moments = little_split 8 moment moment' (status ∷ description) (status' ∷ description') fits.1 fits'.1 serials.1 in
-    let statuses : status ≡ status' = let same = moments.1 in cc in
-    let descriptions : description ≡ description' = let same = moments.1 in cc in
-    (serials.0, λ i. Group (name_is i) (statuses i) (descriptions i) (moments.0 i))
-same_change n m (Article text groups moment) (Article text' groups' moment') fits fits' is =
-    let contents : article_record (record { serial = n; text = text; groups = groups; moment = moment })
-    ≡ article_record (record { serial = m; text = text'; groups = groups'; moment = moment' }) = ap (λ (f : File). f.content) is in
+same_change n m (Group created) (Group created') fits fits' is =
+    let names : 103 ∷ 46 ∷ created.name ≡ 103 ∷ 46 ∷ created'.name = ap (λ (f : File). f.name) is in
+    let name_is : created.name ≡ created'.name = cc in
+    let contents : group_record (news_group n created) ≡ group_record (news_group m created') = ap (λ (f : File). f.content) is in
+    let rest = status_octet created.status ∷ created.description in
+    let rest' = status_octet created'.status ∷ created'.description in
+    let grouped : little_bytes 8 n ++ (little_bytes 8 created.moment ++ rest)
+    ≡ little_bytes 8 m ++ (little_bytes 8 created'.moment ++ rest') = simp append_assoc at contents in
+    let serials = little_split 8 n m (little_bytes 8 created.moment ++ rest) (little_bytes 8 created'.moment ++ rest') fits.0 fits'.0
+    grouped in
+    let moments = little_split 8 created.moment created'.moment rest rest' fits.1 fits'.1 serials.1 in
+    let octets : status_octet created.status ≡ status_octet created'.status = let same = moments.1 in cc in
+    let statuses = same_status created.status created'.status octets in
+    let descriptions : created.description ≡ created'.description = let same = moments.1 in cc in (
+      serials.0,
+      λ i. Group (record { name = name_is i; status = statuses i; description = descriptions i; moment = moments.0 i }),
+    )
+same_change n m (Article filing) (Article filing') fits fits' is =
+    let contents : article_record (news_article n filing) ≡ article_record (news_article m filing') = ap (λ (f : File). f.content) is in
+    let listed = flat_map (λ g. length g ∷ g) filing.groups ++ filing.text in
+    let listed' = flat_map (λ g. length g ∷ g) filing'.groups ++ filing'.text in
     let grouped : little_bytes 8 n ++
-    (little_bytes 8 moment ++ (little_bytes 4 (length text) ++ (length groups ∷ (flat_map (λ g. length g ∷ g) groups ++ text))))
-    ≡ little_bytes 8 m ++ (little_bytes 8 moment' ++
-    (little_bytes 4 (length text') ++ (length groups' ∷ (flat_map (λ g. length g ∷ g) groups' ++ text')))) =
+    (little_bytes 8 filing.moment ++ (little_bytes 4 (length filing.text) ++ (length filing.groups ∷ listed)))
+    ≡ little_bytes 8 m ++
+    (little_bytes 8 filing'.moment ++ (little_bytes 4 (length filing'.text) ++ (length filing'.groups ∷ listed'))) =
     simp append_assoc at contents in
     let serials = little_split 8 n m _ _ fits.0 fits'.0 grouped in
-    let moments = little_split 8 moment moment' _ _ fits.1 fits'.1 serials.1 in
-    let lengths = little_split 4 (length text) (length text') _ _ fits.2 fits'.2 moments.1 in
-    let counts : length groups ≡ length groups' = let same = lengths.1 in cc in
-    let lists : flat_map (λ g. length g ∷ g) groups ++ text ≡ flat_map (λ g. length g ∷ g) groups' ++ text' = let same = lengths.1 in cc in
-    let names = counted_lists groups groups' text text' counts lists in
-    (serials.0, λ i. Article (names.1 i) (names.0 i) (moments.0 i))
-same_change n m (Expire group number) (Expire group' number') fits fits' is =
-    let contents : expiry_record (record { serial = n; group = group; number = number })
-    ≡ expiry_record (record { serial = m; group = group'; number = number' }) = ap (λ (f : File). f.content) is in
-    let grouped : little_bytes 8 n ++ (little_bytes 4 number ++ length group ∷ group)
-    ≡ little_bytes 8 m ++ (little_bytes 4 number' ++ length group' ∷ group') = simp append_assoc at contents in
-    let serials = little_split 8 n m (little_bytes 4 number ++ length group ∷ group) (little_bytes 4 number' ++ length group' ∷ group')
-    fits.0 fits'.0 grouped in
-    let numbers = little_split 4 number number' (length group ∷ group) (length group' ∷ group') fits.1 fits'.1 serials.1 in
-    let names : group ≡ group' = let same = numbers.1 in cc in
-    (serials.0, λ i. Expire (names i) (numbers.0 i))
-same_change n m (Group name status description moment) (Article text' groups' moment') fits fits' is =
+    let moments = little_split 8 filing.moment filing'.moment _ _ fits.1 fits'.1 serials.1 in
+    let lengths = little_split 4 (length filing.text) (length filing'.text) _ _ fits.2 fits'.2 moments.1 in
+    let counts : length filing.groups ≡ length filing'.groups = let same = lengths.1 in cc in
+    let lists : listed ≡ listed' = let same = lengths.1 in cc in
+    let names = counted_lists filing.groups filing'.groups filing.text filing'.text counts lists in
+    (serials.0, λ i. Article (record { text = names.1 i; groups = names.0 i; moment = moments.0 i }))
+same_change n m (Expire expiry) (Expire expiry') fits fits' is =
+    let contents : expiry_record (news_expiry n expiry) ≡ expiry_record (news_expiry m expiry') = ap (λ (f : File). f.content) is in
+    let rest = length expiry.group ∷ expiry.group in
+    let rest' = length expiry'.group ∷ expiry'.group in
+    let grouped : little_bytes 8 n ++ (little_bytes 4 expiry.number ++ rest)
+    ≡ little_bytes 8 m ++ (little_bytes 4 expiry'.number ++ rest') = simp append_assoc at contents in
+    let serials = little_split 8 n m (little_bytes 4 expiry.number ++ rest) (little_bytes 4 expiry'.number ++ rest') fits.0 fits'.0
+    grouped in
+    let numbers = little_split 4 expiry.number expiry'.number rest rest' fits.1 fits'.1 serials.1 in
+    let names : expiry.group ≡ expiry'.group = let same = numbers.1 in cc in
+    (serials.0, λ i. Expire (record { group = names i; number = numbers.0 i }))
+same_change n m (Group created) (Article filing') fits fits' is =
     absurd (let octets : 103 ≡ 97 = ap (λ (f : File). get_or f.name 0 0) is in omega arith)
-same_change n m (Group name status description moment) (Expire group' number') fits fits' is =
+same_change n m (Group created) (Expire expiry') fits fits' is =
     absurd (let octets : 103 ≡ 120 = ap (λ (f : File). get_or f.name 0 0) is in omega arith)
-same_change n m (Article text groups moment) (Group name' status' description' moment') fits fits' is =
+same_change n m (Article filing) (Group created') fits fits' is =
     absurd (let octets : 97 ≡ 103 = ap (λ (f : File). get_or f.name 0 0) is in omega arith)
-same_change n m (Article text groups moment) (Expire group' number') fits fits' is =
+same_change n m (Article filing) (Expire expiry') fits fits' is =
     absurd (let octets : 97 ≡ 120 = ap (λ (f : File). get_or f.name 0 0) is in omega arith)
-same_change n m (Expire group number) (Group name' status' description' moment') fits fits' is =
+same_change n m (Expire expiry) (Group created') fits fits' is =
     absurd (let octets : 120 ≡ 103 = ap (λ (f : File). get_or f.name 0 0) is in omega arith)
-same_change n m (Expire group number) (Article text' groups' moment') fits fits' is =
+same_change n m (Expire expiry) (Article filing') fits fits' is =
     absurd (let octets : 120 ≡ 97 = ap (λ (f : File). get_or f.name 0 0) is in omega arith)
 
 -- numbers and overviews are no file of a change
 not_index : (octet n : ℕ) (c : Change) → octet ≢ 103 → octet ≢ 97 → octet ≢ 120
     → get_or (change_file (record { serial = n; change = c })).name 0 0 ≢ octet
-not_index octet n (Group name status description moment) group article expiry is = group (sym is)
-not_index octet n (Article text groups moment) group article expiry is = article (sym is)
-not_index octet n (Expire group' number) group article expiry is = expiry (sym is)
+not_index octet n (Group created) group article expiry is = group (sym is)
+not_index octet n (Article filing) group article expiry is = article (sym is)
+not_index octet n (Expire e) group article expiry is = expiry (sym is)
 
 index_apart : (S : Spool) (d : Change) (n : ℕ) (c : Change) → Contains (index_files S d) (change_file (record { serial = n; change = c }))
     → ⊥
-index_apart S (Group name status description moment) n c (zero, low, is) =
+index_apart S (Group created) n c (zero, low, is) =
     not_index 110 n c (λ e. omega arith) (λ e. omega arith) (λ e. omega arith) (ap (λ (f : File). get_or f.name 0 0) (sym is))
-index_apart S (Group name status description moment) n c (suc zero, low, is) =
+index_apart S (Group created) n c (suc zero, low, is) =
     not_index 111 n c (λ e. omega arith) (λ e. omega arith) (λ e. omega arith) (ap (λ (f : File). get_or f.name 0 0) (sym is))
-index_apart S (Group name status description moment) n c (suc (suc k), low, is) = omega arith
-index_apart S (Article text groups moment) n c (k, low, is) = omega arith
-index_apart S (Expire group number) n c (k, low, is) = omega arith
+index_apart S (Group created) n c (suc (suc k), low, is) = omega arith
+index_apart S (Article filing) n c (k, low, is) = omega arith
+index_apart S (Expire expiry) n c (k, low, is) = omega arith
 
 pub source_is : (S : Spool) (n m : ℕ) (c d : Change)
     → Contains (entry_files S (record { serial = n; change = d })) (change_file (record { serial = m; change = c }))

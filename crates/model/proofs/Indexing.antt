@@ -12,15 +12,16 @@ use Rattle.std.proofs.Math.Nat.{le-max_left, le-max_right}
 use Rattle.model.specs.Stream.{Octets}
 use Rattle.model.specs.Indexed.{ends_from, group_index, GroupIndex, line_start, new_index, note_of, with_article, with_expiry}
 use Rattle.model.specs.Lawful.{MayFollow, IsLawfulAfter, IsLawful}
-use Rattle.model.specs.Spool.{Spool, Entry, entries_from, entries, Expiry, NewsArticle, NewsGroup, expiries_of, filed_in, greatest, is_here}
-use Rattle.model.specs.Spool.{is_name, last_naming, last_naming_one, low, names_one, expiry_made, articles, expiries, groups, group_named}
-use Rattle.model.specs.Spool.{by_id}
+use Rattle.model.specs.Spool.{Spool, Entry, entries_from, entries, NewsExpiry, NewsArticle, NewsGroup, expiries_of, filed_in, greatest}
+use Rattle.model.specs.Spool.{is_here, is_name, last_naming, last_naming_one, low, names_one, expiry_made, articles, expiries, groups}
+use Rattle.model.specs.Spool.{group_named, by_id, news_article, news_expiry}
 use Rattle.model.specs.SpoolFiles.{next_line, numbers_of, overview_lines, overview_of}
 use Rattle.model.specs.Laws.Indexed.{ArticlesGrow, EmptyIndex, ExpiriesGrow, GroupsGrow, LinesStand, NotesGrow, NumbersAreWhole}
 use Rattle.model.specs.declared.change.Change.{Change}
 use Rattle.model.specs.declared.change.Change.TheVariants.{Group, Article, Expire}
+use Rattle.model.specs.declared.change.NewGroup.{NewGroup}
 use Rattle.model.proofs.Asking.{records_size}
-use Rattle.model.proofs.Filing.{entries_push, filed_article, filed_no_more, lines_push, lines_size, named_front, new_has_nothing}
+use Rattle.model.proofs.Growing.{entries_push, filed_article, filed_no_more, lines_push, lines_size, named_front, new_has_nothing}
 use Rattle.model.proofs.Joined.{bytes_differ}
 use Rattle.model.proofs.Rising.{expiry_push}
 
@@ -160,7 +161,7 @@ last_push S c test =
 expired_same : (S : Spool) (g : Octets) (c : Change) → filter_map expiry_made (record { serial = length S + 1; change = c } ∷ []) ≡ []
     → expiries_of (S ++ c ∷ []) g ≡ expiries_of S g
 expired_same S g c none =
-    expiry_push S g c ∙ ap (λ (es : List Expiry). expiries_of S g ++ filter (λ (e : Expiry). is_name g e.group) es) none
+    expiry_push S g c ∙ ap (λ (es : List NewsExpiry). expiries_of S g ++ filter (λ (e : NewsExpiry). is_name g e.group) es) none
     ∙ append-nil (expiries_of S g)
 
 pub notes_grow : NotesGrow
@@ -184,7 +185,7 @@ index_parts : (S R : Spool) (g : NewsGroup) → filed_in R g.name ≡ filed_in S
 index_parts S R g filed expired last =
     made_index (group_index R g) (group_index S g) refl (ap (map (λ (a : NewsArticle). a.serial)) filed)
     (ap (λ (f : List NewsArticle). ends_from 0 (overview_lines f)) filed)
-    (ap (λ (es : List Expiry). 1 + greatest (map (λ (e : Expiry). e.number) es)) expired) expired last
+    (ap (λ (es : List NewsExpiry). 1 + greatest (map (λ (e : NewsExpiry). e.number) es)) expired) expired last
 
 size : (filed : List NewsArticle) (line : Octets)
     → 0 + length (flat_map (λ l. l) (overview_lines filed)) + length line ≡ length (overview_of filed) + length line
@@ -192,74 +193,75 @@ unfolding overview_of
 size filed line = omega arith
 
 pub articles_grow : ArticlesGrow
-articles_grow S text gs moment g =
-    by_test (list_any (is_name g.name) gs) (filed_article S g.name text gs moment)
-    (last_push S (Article text gs moment) (is_name g.name)) where
+articles_grow S filing g =
+    by_test (list_any (is_name g.name) filing.groups) (filed_article S g.name filing) (last_push S (Article filing) (is_name g.name)) where
       R : Spool
-      R = S ++ Article text gs moment ∷ []
+      R = S ++ Article filing ∷ []
 
       its : NewsArticle
-      its = record { serial = length S + 1; text = text; groups = gs; moment = moment }
+      its = news_article (length S + 1) filing
 
       expired : expiries_of R g.name ≡ expiries_of S g.name
-      expired = expired_same S g.name (Article text gs moment) refl
+      expired = expired_same S g.name (Article filing) refl
 
       by_test : (b : Bool) → filed_in R g.name ≡ filed_in S g.name ++ cond b (its ∷ []) []
           → last_naming R g.name ≡ cond b (length S + 1) (last_naming S g.name)
-          → group_index R g ≡ cond b (with_article S text (group_index S g)) (group_index S g)
+          → group_index R g ≡ cond b (with_article S filing.text (group_index S g)) (group_index S g)
       by_test false filed last = index_parts S R g (filed ∙ append-nil (filed_in S g.name)) expired last
       by_test true filed last =
-          made_index (group_index R g) (with_article S text (group_index S g)) refl
+          made_index (group_index R g) (with_article S filing.text (group_index S g)) refl
           (ap (map (λ (a : NewsArticle). a.serial)) filed ∙ map_push (λ (a : NewsArticle). a.serial) (filed_in S g.name) its)
           (ap (λ (f : List NewsArticle). ends_from 0 (overview_lines f)) filed ∙ ap (ends_from 0) (lines_push (filed_in S g.name) its)
-          ∙ ends_push 0 (overview_lines (filed_in S g.name)) (next_line S text g.name)
-          ∙ ap (λ (n : ℕ). ends_from 0 (overview_lines (filed_in S g.name)) ++ n ∷ []) (size (filed_in S g.name) (next_line S text g.name)))
-          (ap (λ (es : List Expiry). 1 + greatest (map (λ (e : Expiry). e.number) es)) expired) expired last
+          ∙ ends_push 0 (overview_lines (filed_in S g.name)) (next_line S filing.text g.name)
+          ∙ ap (λ (n : ℕ). ends_from 0 (overview_lines (filed_in S g.name)) ++ n ∷ [])
+          (size (filed_in S g.name) (next_line S filing.text g.name)))
+          (ap (λ (es : List NewsExpiry). 1 + greatest (map (λ (e : NewsExpiry). e.number) es)) expired) expired last
 
 pub expiries_grow : ExpiriesGrow
-expiries_grow host S h number g may =
-    by_test (bytes_eq h g.name) refl (expiry_push S g.name (Expire h number)) (last_push S (Expire h number) (is_name g.name)) where
+expiries_grow host S expiry g may =
+    by_test (bytes_eq expiry.group g.name) refl (expiry_push S g.name (Expire expiry)) (last_push S (Expire expiry) (is_name g.name)) where
       R : Spool
-      R = S ++ Expire h number ∷ []
+      R = S ++ Expire expiry ∷ []
 
-      its : Expiry
-      its = record { serial = length S + 1; group = h; number = number }
+      its : NewsExpiry
+      its = news_expiry (length S + 1) expiry
 
       filed : filed_in R g.name ≡ filed_in S g.name
-      filed = filed_no_more S g.name (Expire h number) refl
+      filed = filed_no_more S g.name (Expire expiry) refl
 
-      by_test : (b : Bool) → bytes_eq h g.name ≡ b → expiries_of R g.name ≡ expiries_of S g.name ++ cond b (its ∷ []) []
+      by_test : (b : Bool) → bytes_eq expiry.group g.name ≡ b → expiries_of R g.name ≡ expiries_of S g.name ++ cond b (its ∷ []) []
           → last_naming R g.name ≡ cond b (length S + 1) (last_naming S g.name)
-          → group_index R g ≡ cond b (with_expiry S number (group_index S g)) (group_index S g)
+          → group_index R g ≡ cond b (with_expiry S expiry.number (group_index S g)) (group_index S g)
       by_test false is expired last = index_parts S R g filed (expired ∙ append-nil (expiries_of S g.name)) last
       by_test true is expired last =
-          let same : h ≡ g.name = (bytes_eq-Decides h g.name).0 is in
-          let small : greatest (map (λ (e : Expiry). e.number) (expiries_of S g.name)) ≤ number =
+          let same : expiry.group ≡ g.name = (bytes_eq-Decides expiry.group g.name).0 is in
+          let small : greatest (map (λ (e : NewsExpiry). e.number) (expiries_of S g.name)) ≤ expiry.number =
           omega (arith, may.from_low, ap (low S) same) in
-          let all : expiries_of R g.name ≡ expiries_of S g.name ++ record { serial = length S + 1; group = g.name; number = number } ∷ [] =
-          expired ∙ ap (λ (n : Octets). expiries_of S g.name ++ record { serial = length S + 1; group = n; number = number } ∷ []) same in
-          made_index (group_index R g) (with_expiry S number (group_index S g)) refl (ap (map (λ (a : NewsArticle). a.serial)) filed)
+          let named : NewsExpiry = record its { group = g.name } in
+          let all : expiries_of R g.name ≡ expiries_of S g.name ++ named ∷ [] =
+          expired ∙ ap (λ (n : Octets). expiries_of S g.name ++ record its { group = n } ∷ []) same in
+          made_index (group_index R g) (with_expiry S expiry.number (group_index S g)) refl (ap (map (λ (a : NewsArticle). a.serial)) filed)
           (ap (λ (f : List NewsArticle). ends_from 0 (overview_lines f)) filed)
-          (ap (λ (ns : List ℕ). 1 + greatest ns) (ap (map (λ (e : Expiry). e.number)) all
-          ∙ map_push (λ (e : Expiry). e.number) (expiries_of S g.name) (record { serial = length S + 1; group = g.name; number = number }))
-          ∙ ap (λ (n : ℕ). 1 + n) (greatest_push (map (λ (e : Expiry). e.number) (expiries_of S g.name)) number small))
+          (ap (λ (ns : List ℕ). 1 + greatest ns) (ap (map (λ (e : NewsExpiry). e.number)) all
+          ∙ map_push (λ (e : NewsExpiry). e.number) (expiries_of S g.name) named)
+          ∙ ap (λ (n : ℕ). 1 + n) (greatest_push (map (λ (e : NewsExpiry). e.number) (expiries_of S g.name)) expiry.number small))
           all last
 
 pub nothing_expired : (host : Octets) (before cs : Spool) (n : ℕ) (name : Octets) → IsLawfulAfter host before cs
     → group_named (before ++ cs) name ≡ None
-    → filter (λ (e : Expiry). is_name name e.group) (filter_map expiry_made (entries_from n cs)) ≡ []
+    → filter (λ (e : NewsExpiry). is_name name e.group) (filter_map expiry_made (entries_from n cs)) ≡ []
 nothing_expired host before [] n name lawful none = refl
-nothing_expired host before (Group g status description moment ∷ cs) n name lawful none =
-    nothing_expired host (before ++ Group g status description moment ∷ []) cs (suc n) name lawful.1 (rw append_assoc none)
-nothing_expired host before (Article text gs moment ∷ cs) n name lawful none =
-    nothing_expired host (before ++ Article text gs moment ∷ []) cs (suc n) name lawful.1 (rw append_assoc none)
-nothing_expired host before (Expire h number ∷ cs) n name lawful none =
+nothing_expired host before (Group created ∷ cs) n name lawful none =
+    nothing_expired host (before ++ Group created ∷ []) cs (suc n) name lawful.1 (rw append_assoc none)
+nothing_expired host before (Article filing ∷ cs) n name lawful none =
+    nothing_expired host (before ++ Article filing ∷ []) cs (suc n) name lawful.1 (rw append_assoc none)
+nothing_expired host before (Expire expiry ∷ cs) n name lawful none =
     let absent : is_here before name ≡ false =
-    ap (λ (o : Option NewsGroup). is_some o) (named_front before (Expire h number ∷ cs) name none) in
-    let other : bytes_eq h name ≡ false =
-    bytes_differ h name (λ same. true≢false (sym lawful.0.here ∙ ap (is_here before) same ∙ absent)) in
-    let rest = nothing_expired host (before ++ Expire h number ∷ []) cs (suc n) name lawful.1 (rw append_assoc none) in
-    cond-false (bytes_eq h name) _ _ other ∙ rest
+    ap (λ (o : Option NewsGroup). is_some o) (named_front before (Expire expiry ∷ cs) name none) in
+    let other : bytes_eq expiry.group name ≡ false =
+    bytes_differ expiry.group name (λ same. true≢false (sym lawful.0.here ∙ ap (is_here before) same ∙ absent)) in
+    let rest = nothing_expired host (before ++ Expire expiry ∷ []) cs (suc n) name lawful.1 (rw append_assoc none) in
+    cond-false (bytes_eq expiry.group name) _ _ other ∙ rest
 
 pub new_has_expired : (host : Octets) (S : Spool) (name : Octets) → IsLawful host S → group_named S name ≡ None → expiries_of S name ≡ []
 unfolding expiries_of expiries entries
@@ -267,27 +269,27 @@ new_has_expired host S name lawful none = nothing_expired host [] S 1 name lawfu
 
 pub groups_grow : GroupsGrow
 groups_grow = record { others = others; its_own = its_own } where
-  others : (S : Spool) (name : Octets) (status : ℕ) (description : Octets) (moment : ℕ) (g : NewsGroup) → bytes_eq name g.name ≡ false
-      → group_index (S ++ Group name status description moment ∷ []) g ≡ group_index S g
-  others S name status description moment g other =
-      let c = Group name status description moment in
+  others : (S : Spool) (created : NewGroup) (g : NewsGroup) → bytes_eq created.name g.name ≡ false
+      → group_index (S ++ Group created ∷ []) g ≡ group_index S g
+  others S created g other =
+      let c = Group created in
       index_parts S (S ++ c ∷ []) g (filed_no_more S g.name c refl) (expired_same S g.name c refl) (last_push S c (is_name g.name)
-      ∙ cond-false (bytes_eq name g.name) (length S + 1) (last_naming S g.name) other)
+      ∙ cond-false (bytes_eq created.name g.name) (length S + 1) (last_naming S g.name) other)
 
-  its_own : (host : Octets) (S : Spool) (name : Octets) (status : ℕ) (description : Octets) (moment : ℕ) (g : NewsGroup) → IsLawful host S
-      → MayFollow host S (Group name status description moment) → g.name ≡ name
-      → group_index (S ++ Group name status description moment ∷ []) g ≡ new_index S g
-  its_own host S name status description moment g lawful may same =
-      let c = Group name status description moment in
+  its_own : (host : Octets) (S : Spool) (created : NewGroup) (g : NewsGroup) → IsLawful host S → MayFollow host S (Group created)
+      → g.name ≡ created.name → group_index (S ++ Group created ∷ []) g ≡ new_index S g
+  its_own host S created g lawful may same =
+      let c = Group created in
       let R = S ++ c ∷ [] in
       let none : group_named S g.name ≡ None = ap (group_named S) same ∙ may.new in
       let filed : filed_in R g.name ≡ [] = filed_no_more S g.name c refl ∙ new_has_nothing host S g.name lawful none in
       let expired : expiries_of R g.name ≡ [] = expired_same S g.name c refl ∙ new_has_expired host S g.name lawful none in
       let last : last_naming R g.name ≡ length S + 1 = last_push S c (is_name g.name)
-      ∙ cond-true (bytes_eq name g.name) (length S + 1) (last_naming S g.name) ((bytes_eq-Decides name g.name).1 (sym same)) in
+      ∙ cond-true (bytes_eq created.name g.name) (length S + 1) (last_naming S g.name)
+      ((bytes_eq-Decides created.name g.name).1 (sym same)) in
       made_index (group_index R g) (new_index S g) refl (ap (map (λ (a : NewsArticle). a.serial)) filed)
       (ap (λ (f : List NewsArticle). ends_from 0 (overview_lines f)) filed)
-      (ap (λ (es : List Expiry). 1 + greatest (map (λ (e : Expiry). e.number) es)) expired) expired last
+      (ap (λ (es : List NewsExpiry). 1 + greatest (map (λ (e : NewsExpiry). e.number) es)) expired) expired last
 
 pub empty_index : EmptyIndex
 unfolding groups group_named by_id articles entries

@@ -14,7 +14,7 @@ pub mod Filled
 pub mod NoLater
 pub mod Numbers
 pub mod Expiring
-pub mod Wanted
+pub mod Found
 pub mod Gone
 pub mod Within
 pub mod Ids
@@ -30,7 +30,7 @@ pub mod Formats
 pub mod Sizes
 pub mod HoldsOne
 pub mod Inodes
-pub mod Filing
+pub mod Growing
 pub mod Counting
 pub mod LineSizes
 pub mod Asking
@@ -40,3 +40,4 @@ pub mod Rising
 pub mod Indexing
 pub mod ByKind
 pub mod Blocks
+pub mod Tables

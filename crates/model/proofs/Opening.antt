@@ -108,9 +108,9 @@ files_make_spool host inodes blocks files S held lawful each same =
 counted_from : (S : Spool) (n : ℕ) (R : Spool)
     → length (flat_map (entry_files S) (entries_from n R)) ≡ length R + 2 * length (filter_map group_made (entries_from n R))
 counted_from S n [] = refl
-counted_from S n (Group name status description moment ∷ R) = omega (arith, counted_from S (suc n) R)
-counted_from S n (Article text gs moment ∷ R) = omega (arith, counted_from S (suc n) R)
-counted_from S n (Expire group number ∷ R) = omega (arith, counted_from S (suc n) R)
+counted_from S n (Group created ∷ R) = omega (arith, counted_from S (suc n) R)
+counted_from S n (Article filing ∷ R) = omega (arith, counted_from S (suc n) R)
+counted_from S n (Expire expiry ∷ R) = omega (arith, counted_from S (suc n) R)
 
 pub files_counted : FilesAreCounted
 unfolding files_of entries groups
@@ -137,9 +137,9 @@ fronts_read host inodes blocks S R room held says =
 -- ---- how many changes
 
 pub of_change : (n : ℕ) (c : Change) → is_of_change (change_file (record { serial = n; change = c })) ≡ true
-of_change n (Group name status description moment) = refl
-of_change n (Article text gs moment) = refl
-of_change n (Expire group number) = refl
+of_change n (Group created) = refl
+of_change n (Article filing) = refl
+of_change n (Expire expiry) = refl
 
 abbrev counted : List File → ℕ
 counted files = count_by is_of_change files
@@ -153,13 +153,13 @@ none_counted f fs is =
     sum_by-cons (λ x. cond (is_of_change x) 1 0) f fs ∙ ap (λ (b : Bool). cond b 1 0 + counted fs) is ∙ zero_more
 
 entry_counts : (S : Spool) (n : ℕ) (c : Change) → counted (entry_files S (record { serial = n; change = c })) ≡ 1
-entry_counts S n (Group name status description moment) =
-    let its = change_file (record { serial = n; change = Group name status description moment }) in
-    let second : File = record { name = numbers_name name; content = numbers_file S name } in
-    let third : File = record { name = overview_name name; content = overview_file S name } in
+entry_counts S n (Group created) =
+    let its = change_file (record { serial = n; change = Group created }) in
+    let second : File = record { name = numbers_name created.name; content = numbers_file S created.name } in
+    let third : File = record { name = overview_name created.name; content = overview_file S created.name } in
     omega (arith, one_counted its (second ∷ third ∷ []) refl, none_counted second (third ∷ []) refl, none_counted third [] refl)
-entry_counts S n (Article text gs moment) = one_counted (change_file (record { serial = n; change = Article text gs moment })) [] refl
-entry_counts S n (Expire group number) = one_counted (change_file (record { serial = n; change = Expire group number })) [] refl
+entry_counts S n (Article filing) = one_counted (change_file (record { serial = n; change = Article filing })) [] refl
+entry_counts S n (Expire expiry) = one_counted (change_file (record { serial = n; change = Expire expiry })) [] refl
 
 entries_count : (S : Spool) (n : ℕ) (R : Spool) → counted (flat_map (entry_files S) (entries_from n R)) ≡ length R
 entries_count S n [] = refl

@@ -1,6 +1,6 @@
 -- Lists whose numbers rise.
-use Rattle.std.proofs.Common.{◌≡◌, ◌<◌, ◌≤◌, ℕ, zero, suc, ◌+◌, List, [], ◌∷◌, ◌++◌, length, get_or, map, refl, sym, ◌∙◌, ap, subst, arith}
-use Rattle.std.proofs.Common.{Bool, true, false, cond}
+use Rattle.std.proofs.Common.{◌≡◌, ◌<◌, ◌≤◌, ℕ, zero, suc, ◌+◌, List, [], ◌∷◌, ◌++◌, length, get_or, map, refl, sym, ◌∙◌, ap, subst}
+use Rattle.std.proofs.Common.{arith, Bool, true, false, cond}
 use Rattle.std.specs.Prelude.{filter, filter_map, bytes_eq}
 use Rattle.std.specs.List.{list_any}
 use Rattle.std.proofs.lemmas.List.{append-nil, append_assoc, length-map, map-append}
@@ -8,13 +8,13 @@ use Rattle.std.proofs.lemmas.List.Elements.{filter-append, filter_map-append}
 use Rattle.std.proofs.lemmas.Slice.Eq.{bytes_eq-Decides}
 use Rattle.std.proofs.Math.Nat.{le-max_left, le-max_right}
 use Rattle.model.specs.Stream.{Octets}
-use Rattle.model.specs.Spool.{Spool, Entry, entries_from, entries, Expiry, NewsArticle, expiry_made, expiries, expiries_of, article_filed}
-use Rattle.model.specs.Spool.{articles, filed_in, greatest, is_name, low}
+use Rattle.model.specs.Spool.{Spool, Entry, entries_from, entries, NewsExpiry, NewsArticle, expiry_made, expiries, expiries_of}
+use Rattle.model.specs.Spool.{article_filed, articles, filed_in, greatest, is_name, low, news_article, news_expiry}
 use Rattle.model.specs.Lawful.{MayFollow, IsLawfulAfter}
 use Rattle.model.specs.Laws.Indexed.{ExpiriesRise, FiledRise}
 use Rattle.model.specs.declared.change.Change.{Change}
 use Rattle.model.specs.declared.change.Change.TheVariants.{Group, Article, Expire}
-use Rattle.model.proofs.Filing.{entries_push}
+use Rattle.model.proofs.Growing.{entries_push}
 
 -- each number below all later ones
 abbrev Rises : List ℕ → Type 0
@@ -45,38 +45,40 @@ rises_push (n ∷ ns) m rise less = (
 -- ---- expiries
 
 abbrev numbers : Spool → Octets → List ℕ
-numbers S g = map (λ (e : Expiry). e.number) (expiries_of S g)
+numbers S g = map (λ (e : NewsExpiry). e.number) (expiries_of S g)
 
 pub expiry_push : (S : Spool) (g : Octets) (c : Change)
-    → expiries_of (S ++ c ∷ []) g ≡ expiries_of S g ++ filter (λ (e : Expiry). is_name g e.group)
+    → expiries_of (S ++ c ∷ []) g ≡ expiries_of S g ++ filter (λ (e : NewsExpiry). is_name g e.group)
     (filter_map expiry_made (record { serial = length S + 1; change = c } ∷ []))
 unfolding expiries_of expiries entries
 expiry_push S g c =
     let e : Entry = record { serial = length S + 1; change = c } in
-    ap (λ es. filter (λ (x : Expiry). is_name g x.group) (filter_map expiry_made es)) (entries_push 1 S c)
-    ∙ ap (filter (λ (x : Expiry). is_name g x.group)) (filter_map-append expiry_made (entries_from 1 S) (e ∷ []))
-    ∙ filter-append (λ (x : Expiry). is_name g x.group) (filter_map expiry_made (entries_from 1 S)) (filter_map expiry_made (e ∷ []))
+    ap (λ es. filter (λ (x : NewsExpiry). is_name g x.group) (filter_map expiry_made es)) (entries_push 1 S c)
+    ∙ ap (filter (λ (x : NewsExpiry). is_name g x.group)) (filter_map-append expiry_made (entries_from 1 S) (e ∷ []))
+    ∙ filter-append (λ (x : NewsExpiry). is_name g x.group) (filter_map expiry_made (entries_from 1 S)) (filter_map expiry_made (e ∷ []))
 
 one_more : (host : Octets) (S : Spool) (g : Octets) (c : Change) → MayFollow host S c → Rises (numbers S g)
     → Rises (numbers (S ++ c ∷ []) g)
-one_more host S g (Group name status description moment) may rise =
-    subst (λ (es : List Expiry). Rises (map (λ e. e.number) es))
-    (sym (expiry_push S g (Group name status description moment) ∙ append-nil (expiries_of S g))) rise
-one_more host S g (Article text gs moment) may rise =
-    subst (λ (es : List Expiry). Rises (map (λ e. e.number) es))
-    (sym (expiry_push S g (Article text gs moment) ∙ append-nil (expiries_of S g))) rise
-one_more host S g (Expire h number) may rise = by_name (bytes_eq h g) refl (expiry_push S g (Expire h number)) where
-  its : Expiry
-  its = record { serial = length S + 1; group = h; number = number }
+one_more host S g (Group created) may rise =
+    subst (λ (es : List NewsExpiry). Rises (map (λ e. e.number) es))
+    (sym (expiry_push S g (Group created) ∙ append-nil (expiries_of S g))) rise
+one_more host S g (Article filing) may rise =
+    subst (λ (es : List NewsExpiry). Rises (map (λ e. e.number) es))
+    (sym (expiry_push S g (Article filing) ∙ append-nil (expiries_of S g))) rise
+one_more host S g (Expire expiry) may rise = by_name (bytes_eq expiry.group g) refl (expiry_push S g (Expire expiry)) where
+  its : NewsExpiry
+  its = news_expiry (length S + 1) expiry
 
-  by_name : (b : Bool) → bytes_eq h g ≡ b → expiries_of (S ++ Expire h number ∷ []) g ≡ expiries_of S g ++ cond b (its ∷ []) []
-      → Rises (numbers (S ++ Expire h number ∷ []) g)
-  by_name false is more = subst (λ (es : List Expiry). Rises (map (λ e. e.number) es)) (sym (more ∙ append-nil (expiries_of S g))) rise
+  by_name : (b : Bool) → bytes_eq expiry.group g ≡ b → expiries_of (S ++ Expire expiry ∷ []) g ≡ expiries_of S g ++ cond b (its ∷ []) []
+      → Rises (numbers (S ++ Expire expiry ∷ []) g)
+  by_name false is more = subst (λ (es : List NewsExpiry). Rises (map (λ e. e.number) es)) (sym (more ∙ append-nil (expiries_of S g))) rise
   by_name true is more =
-      let same : h ≡ g = (bytes_eq-Decides h g).0 is in
-      let above : greatest (numbers S g) < number = omega (arith, may.from_low, ap (low S) same) in
-      subst Rises (sym (ap (map (λ (e : Expiry). e.number)) more ∙ map-append (λ (e : Expiry). e.number) (expiries_of S g) (its ∷ [])))
-      (rises_push (numbers S g) number rise above)
+      let same : expiry.group ≡ g = (bytes_eq-Decides expiry.group g).0 is in
+      let above : greatest (numbers S g) < expiry.number = omega (arith, may.from_low, ap (low S) same) in
+      subst Rises
+      (sym (ap (map (λ (e : NewsExpiry). e.number)) more
+      ∙ map-append (λ (e : NewsExpiry). e.number) (expiries_of S g) (its ∷ [])))
+      (rises_push (numbers S g) expiry.number rise above)
 
 all_rise : (host : Octets) (before cs : Spool) (g : Octets) → IsLawfulAfter host before cs → Rises (numbers before g)
     → Rises (numbers (before ++ cs) g)
@@ -92,7 +94,7 @@ none_yet g = tt
 pub expiries_rise : ExpiriesRise
 expiries_rise host S g i j lawful less within =
     rises_at (numbers S g) (all_rise host [] S g lawful (none_yet g)) i j less
-    (omega (arith, length-map (expiries_of S g) (λ (e : Expiry). e.number)))
+    (omega (arith, length-map (expiries_of S g) (λ (e : NewsExpiry). e.number)))
 
 -- ---- articles
 
@@ -103,15 +105,15 @@ serials_from : (g : Octets) (n : ℕ) (S : Spool)
     → n ≤ get_or (map (λ (a : NewsArticle). a.serial)
     (filter (λ a. list_any (is_name g) a.groups) (filter_map article_filed (entries_from n S)))) k 0)
 serials_from g n [] = (tt, λ k low. absurd (omega arith))
-serials_from g n (Group name status description moment ∷ S) = let rest = serials_from g (suc n) S in
+serials_from g n (Group created ∷ S) = let rest = serials_from g (suc n) S in
     (rest.0, λ k low. omega (arith, rest.1 k low))
-serials_from g n (Expire h number ∷ S) = let rest = serials_from g (suc n) S in (rest.0, λ k low. omega (arith, rest.1 k low))
-serials_from g n (Article text gs moment ∷ S) = by_test (list_any (is_name g) gs) (serials_from g (suc n) S) where
+serials_from g n (Expire expiry ∷ S) = let rest = serials_from g (suc n) S in (rest.0, λ k low. omega (arith, rest.1 k low))
+serials_from g n (Article filing ∷ S) = by_test (list_any (is_name g) filing.groups) (serials_from g (suc n) S) where
   later : List NewsArticle
   later = filter (λ a. list_any (is_name g) a.groups) (filter_map article_filed (entries_from (suc n) S))
 
   its : NewsArticle
-  its = record { serial = n; text = text; groups = gs; moment = moment }
+  its = news_article n filing
 
   by_test : (b : Bool) → Rises (map (λ (a : NewsArticle). a.serial) later) × ((k : ℕ) → k < length later
       → suc n ≤ get_or (map (λ (a : NewsArticle). a.serial) later) k 0)

@@ -5,7 +5,8 @@ use Rattle.std.specs.Prelude.{bytes_eq, option_map}
 use Rattle.std.specs.Map.{lookup}
 use Rattle.model.specs.Stream.{Octets}
 use Rattle.model.specs.Files.{File, table}
-use Rattle.model.specs.Spool.{Spool, Entry, entries, NewsGroup, Expiry, groups, group_named, filed_in, expiries_of, low, last_naming, by_id}
+use Rattle.model.specs.Spool.{Spool, Entry, entries, NewsGroup, NewsExpiry, groups, group_named, filed_in, expiries_of, low, last_naming}
+use Rattle.model.specs.Spool.{by_id, news_group}
 use Rattle.model.specs.SpoolFiles.{change_file, numbers_name, overview_name, next_line, numbers_file, overview_file, overview_lines}
 use Rattle.model.specs.declared.change.Change.{Change}
 use Rattle.model.specs.declared.change.Change.TheVariants.{Group, Article, Expire}
@@ -22,10 +23,9 @@ pub data Note : Type 0 where
 abbrev pub note_of : Entry → Note
 note_of e = by_change e.serial e.change where
   by_change : ℕ → Change → Note
-  by_change n (Group name status description moment) =
-      GroupNote (record { serial = n; name = name; status = status; description = description; moment = moment })
-  by_change n (Article text filed moment) = ArticleNote (length text) filed moment
-  by_change n (Expire group number) = ExpiryNote group number
+  by_change n (Group g) = GroupNote (news_group n g)
+  by_change n (Article f) = ArticleNote (length f.text) f.groups f.moment
+  by_change n (Expire e) = ExpiryNote e.group e.number
 
 -- ---- a group
 
@@ -42,7 +42,7 @@ pub record GroupIndex : Type 0 where
   pub ends : List ℕ
   pub low : ℕ
   -- its expiries, by rising number
-  pub expired : List Expiry
+  pub expired : List NewsExpiry
   -- the last serial that names it
   pub last : ℕ
 

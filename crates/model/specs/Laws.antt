@@ -3,6 +3,7 @@ pub mod Dates
 pub mod Texts
 pub mod Answers
 pub mod Numbers
+pub mod Commands
 pub mod Expiry
 pub mod Spools
 pub mod Service

@@ -3,7 +3,7 @@
 use Rattle.std.specs.Prelude.{ℕ, zero, suc, ◌+◌, ◌/◌, ◌%◌, [], ◌∷◌, ◌++◌, flat_map, length}
 use Rattle.byteorder.specs.Endian.{little_bytes}
 use Rattle.model.specs.Stream.{Octets}
-use Rattle.model.specs.Spool.{NewsGroup, NewsArticle, Expiry}
+use Rattle.model.specs.Spool.{NewsGroup, NewsArticle, NewsExpiry, status_octet}
 
 -- the last decimal digits of a number, this many of them
 abbrev pub last_digits : ℕ → ℕ → Octets
@@ -12,7 +12,7 @@ last_digits (suc count) n = last_digits count (n / 10) ++ (48 + n % 10) ∷ []
 
 -- a group: serial, moment, status, description
 abbrev pub group_record : NewsGroup → Octets
-group_record g = little_bytes 8 g.serial ++ little_bytes 8 g.moment ++ g.status ∷ g.description
+group_record g = little_bytes 8 g.serial ++ little_bytes 8 g.moment ++ status_octet g.status ∷ g.description
 
 -- an article: serial, moment, the text's length, its groups with their lengths, the text
 abbrev pub article_record : NewsArticle → Octets
@@ -20,5 +20,5 @@ article_record a = little_bytes 8 a.serial ++ little_bytes 8 a.moment ++ little_
     (λ g. length g ∷ g) a.groups ++ a.text
 
 -- an expiry: serial, number, the group's name after its length
-abbrev pub expiry_record : Expiry → Octets
+abbrev pub expiry_record : NewsExpiry → Octets
 expiry_record e = little_bytes 8 e.serial ++ little_bytes 4 e.number ++ length e.group ∷ e.group

@@ -1,7 +1,7 @@
 -- How much room a spool's files leave, and when the spool is full. All of it is this project's own layout and rule
 -- (docs/FORMATS.md).
-use Rattle.std.specs.Prelude.{ℕ, ◌+◌, ◌-◌, ◌*◌, ◌/◌, ◌%◌, ◌==◌, Bool, false, ◌||◌, nat_le, nat_lt, if◌then◌else◌, List, length, Option}
-use Rattle.std.specs.Prelude.{Some, None}
+use Rattle.std.specs.Prelude.{ℕ, ◌+◌, ◌-◌, ◌/◌, ◌%◌, ◌==◌, Bool, false, ◌||◌, nat_le, nat_lt, if◌then◌else◌, List, length, Option, Some}
+use Rattle.std.specs.Prelude.{None}
 use Rattle.std.specs.List.{list_any, sum_by}
 use Rattle.model.specs.Stream.{Octets}
 use Rattle.model.specs.Files.{File, first_data, indirect_for}
@@ -54,24 +54,24 @@ most_groups = 4_096
 
 -- the files that a change makes
 abbrev pub files_made : Change → ℕ
-files_made (Group name status description moment) = 3
-files_made (Article text groups moment) = 1
-files_made (Expire group number) = 1
+files_made (Group g) = 3
+files_made (Article f) = 1
+files_made (Expire e) = 1
 
 abbrev pub is_large : Octets → Bool
 is_large content = nat_lt (largest_file - octets_asked) (length content)
 
 -- a file that the change extends is too large to grow
 abbrev pub extends_large : Spool → Change → Bool
-extends_large S (Group name status description moment) = false
-extends_large S (Article text filed moment) = list_any (λ g. is_large (numbers_file S g) || is_large (overview_file S g)) filed
-extends_large S (Expire group number) = false
+extends_large S (Group g) = false
+extends_large S (Article f) = list_any (λ g. is_large (numbers_file S g) || is_large (overview_file S g)) f.groups
+extends_large S (Expire e) = false
 
 -- the spool has the most groups that it may have
 abbrev pub has_all_groups : Spool → Change → Bool
-has_all_groups S (Group name status description moment) = nat_le most_groups (length (groups S))
-has_all_groups S (Article text filed moment) = false
-has_all_groups S (Expire group number) = false
+has_all_groups S (Group g) = nat_le most_groups (length (groups S))
+has_all_groups S (Article f) = false
+has_all_groups S (Expire e) = false
 
 unfoldable pub is_full_for : ℕ → ℕ → Spool → Change → Bool
 is_full_for blocks inodes S c =
@@ -132,15 +132,14 @@ blocks_filed S text g =
 
 -- the blocks that a change after these changes may change
 unfoldable pub blocks_changed : Spool → Change → ℕ
-blocks_changed S (Group name status description moment) =
-    bitmap_blocks + blocks_made (length
-    (change_file (record { serial = length S + 1; change = Group name status description moment })).content) + blocks_made 0
+blocks_changed S (Group g) =
+    bitmap_blocks + blocks_made (length (change_file (record { serial = length S + 1; change = Group g })).content) + blocks_made 0
     + blocks_made 0
-blocks_changed S (Article text filed moment) =
-    bitmap_blocks + blocks_made (length (change_file (record { serial = length S + 1; change = Article text filed moment })).content)
-    + sum_by (blocks_filed S text) filed
-blocks_changed S (Expire group number) =
-    bitmap_blocks + blocks_made (length (change_file (record { serial = length S + 1; change = Expire group number })).content)
+blocks_changed S (Article f) =
+    bitmap_blocks + blocks_made (length (change_file (record { serial = length S + 1; change = Article f })).content)
+    + sum_by (blocks_filed S f.text) f.groups
+blocks_changed S (Expire e) =
+    bitmap_blocks + blocks_made (length (change_file (record { serial = length S + 1; change = Expire e })).content)
 
 -- the most blocks that a change alters: 2 of the bitmap; of an article 1 with its inode, 1 with its slot, 65 with its
 -- octets and one of pointers; for each of 16 groups 4 for its numbers and 7 for its overview

@@ -8,7 +8,8 @@ use Rattle.model.specs.Stream.{Octets}
 use Rattle.model.specs.Article.{overview_line}
 use Rattle.model.specs.Files.{File}
 use Rattle.model.specs.Records.{last_digits, group_record, article_record, expiry_record}
-use Rattle.model.specs.Spool.{Spool, Entry, entries, NewsGroup, NewsArticle, Expiry, groups, articles, expiries, filed_in, high}
+use Rattle.model.specs.Spool.{Spool, Entry, entries, NewsGroup, NewsArticle, NewsExpiry, groups, articles, expiries, filed_in, high}
+use Rattle.model.specs.Spool.{news_article, news_expiry, news_group}
 use Rattle.model.specs.declared.change.Change.{Change}
 use Rattle.model.specs.declared.change.Change.TheVariants.{Group, Article, Expire}
 
@@ -65,25 +66,19 @@ numbers_file S g = numbers_of (filed_in S g)
 abbrev pub change_file : Entry → File
 change_file e = by_change e.serial e.change where
   by_change : ℕ → Change → File
-  by_change n (Group name status description moment) =
-      record {
-        name = group_name name;
-        content = group_record (record { serial = n; name = name; status = status; description = description; moment = moment });
-      }
-  by_change n (Article text groups moment) =
-      record { name = article_name n; content = article_record (record { serial = n; text = text; groups = groups; moment = moment }) }
-  by_change n (Expire group number) =
-      record { name = expiry_name n; content = expiry_record (record { serial = n; group = group; number = number }) }
+  by_change n (Group g) = record { name = group_name g.name; content = group_record (news_group n g) }
+  by_change n (Article f) = record { name = article_name n; content = article_record (news_article n f) }
+  by_change n (Expire e) = record { name = expiry_name n; content = expiry_record (news_expiry n e) }
 
 -- the numbers and the overview of the group that it makes
 abbrev pub index_files : Spool → Change → List File
-index_files S (Group name status description moment) =
-    record { name = numbers_name name; content = numbers_file S name } ∷ record {
-      name = overview_name name;
-      content = overview_file S name;
+index_files S (Group g) =
+    record { name = numbers_name g.name; content = numbers_file S g.name } ∷ record {
+      name = overview_name g.name;
+      content = overview_file S g.name;
     } ∷ []
-index_files S (Article text groups moment) = []
-index_files S (Expire group number) = []
+index_files S (Article f) = []
+index_files S (Expire e) = []
 
 -- the files that a change made, as the spool has them
 abbrev pub entry_files : Spool → Entry → List File
@@ -104,7 +99,7 @@ group_files S g =
 abbrev pub article_file : NewsArticle → File
 article_file a = record { name = article_name a.serial; content = article_record a }
 
-abbrev pub expiry_file : Expiry → File
+abbrev pub expiry_file : NewsExpiry → File
 expiry_file e = record { name = expiry_name e.serial; content = expiry_record e }
 
 unfoldable pub files_by_kind : Spool → List File
@@ -116,9 +111,9 @@ is_of_change file = slice_index file.name 0 == 103 || (slice_index file.name 0 =
 
 -- the serial and the numbers of a change fit into its file
 abbrev pub HasRoomInFile : ℕ → Change → Type 0
-HasRoomInFile n (Group name status description moment) = (n < 256 ^ 8) × (moment < 256 ^ 8)
-HasRoomInFile n (Article text groups moment) = (n < 256 ^ 8) × (moment < 256 ^ 8) × (length text < 256 ^ 4)
-HasRoomInFile n (Expire group number) = (n < 256 ^ 8) × (number < 256 ^ 4)
+HasRoomInFile n (Group g) = (n < 256 ^ 8) × (g.moment < 256 ^ 8)
+HasRoomInFile n (Article f) = (n < 256 ^ 8) × (f.moment < 256 ^ 8) × (length f.text < 256 ^ 4)
+HasRoomInFile n (Expire e) = (n < 256 ^ 8) × (e.number < 256 ^ 4)
 
 -- ---- what a change does to the files
 
@@ -156,18 +151,11 @@ making_calls name octets = Create name ∷ Append name octets ∷ []
 
 -- the calls that a change makes after these changes
 abbrev pub change_calls : Spool → Change → List FileCall
-change_calls S (Group name status description moment) =
-    making_calls (group_name name) (group_record (record {
-      serial = length S + 1;
-      name = name;
-      status = status;
-      description = description;
-      moment = moment;
-    }))
-    ++ Create (numbers_name name) ∷ Create (overview_name name) ∷ []
-change_calls S (Article text groups moment) =
-    making_calls (article_name (length S + 1))
-    (article_record (record { serial = length S + 1; text = text; groups = groups; moment = moment }))
-    ++ flat_map (filing_calls S text) groups
-change_calls S (Expire group number) =
-    making_calls (expiry_name (length S + 1)) (expiry_record (record { serial = length S + 1; group = group; number = number }))
+change_calls S (Group g) =
+    making_calls (group_name g.name) (group_record (news_group (length S + 1) g))
+    ++ Create (numbers_name g.name) ∷ Create (overview_name g.name) ∷ []
+change_calls S (Article f) =
+    making_calls (article_name (length S + 1)) (article_record (news_article (length S + 1) f))
+    ++ flat_map (filing_calls S f.text) f.groups
+change_calls S (Expire e) =
+    making_calls (expiry_name (length S + 1)) (expiry_record (news_expiry (length S + 1) e))

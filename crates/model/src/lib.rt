@@ -5,10 +5,12 @@
 //! - texts: `next_message`, `later_octets`, `read_back`, `date_of_a_moment`, `made_ids`, `stored_texts`
 //! - answers: `answers_come_from_front`, `accepted_change_is_read`, `nothing_later_is_read`, `replies_are_filled`,
 //!   `numbers_stay`, `expiry_is_for_good`
+//! - commands: `tables_are_complete`
 //! - the service: `news_is_lawful`, `news_is_synchronous`
 //! - spools: `lawful_stays`
 #![tactic(auto)]
 
+mod cause;
 mod change;
 mod command;
 mod filed;
@@ -17,9 +19,13 @@ mod message;
 mod session;
 mod text;
 mod texts;
+mod values;
 
-pub use change::Change;
-pub use command::{Command, Parsed, Part, Range, Selector};
+pub use cause::Cause;
+pub use change::{Change, Expiry, Filing, NewGroup};
+pub use command::{
+    Command, KEYWORDS, Keyword, LISTINGS, Listing, Parsed, Part, Range, Selector, Wanted,
+};
 pub use filed::{
     appends_reach_one_file, blocks_hold_one_spool, changes_ask_for_few_blocks,
     creates_add_one_file, empty_blocks_hold_no_change, files_say_their_spool,
@@ -29,8 +35,10 @@ pub use filed::{
 pub use laws::{
     accepted_change_is_read, answers_come_from_front, expiry_is_for_good, lawful_stays,
     news_is_lawful, news_is_synchronous, nothing_later_is_read, numbers_stay, replies_are_filled,
+    tables_are_complete,
 };
 pub use message::{Mark, Message, Mode};
 pub use session::{Answer, Awaits, Session};
 pub use text::{Names, Text};
 pub use texts::{date_of_a_moment, later_octets, made_ids, next_message, read_back, stored_texts};
+pub use values::{MOMENT_LIMIT, Moment, Status};

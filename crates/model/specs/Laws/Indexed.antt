@@ -1,21 +1,25 @@
 -- What the index of a spool relies on, and how it grows.
 use Rattle.std.specs.Prelude.{◌≡◌, ℕ, ◌+◌, ◌*◌, ◌<◌, false, if◌then◌else◌, [], ◌∷◌, ◌++◌, bytes_eq, length, map, slice_get, slice_index}
-use Rattle.std.specs.Prelude.{List, Some}
+use Rattle.std.specs.Prelude.{Some}
 use Rattle.std.specs.List.{list_any}
 use Rattle.disk.specs.Image.{part}
 use Rattle.model.specs.Stream.{Octets}
 use Rattle.model.specs.Indexed.{IsIndexOf, ends_from, group_index, line_start, new_index, note_of, with_article, with_expiry}
 use Rattle.model.specs.Lawful.{IsLawful, MayFollow}
-use Rattle.model.specs.Spool.{Spool, Expiry, NewsArticle, NewsGroup, entries, expiries_of, filed_in, high, is_name}
+use Rattle.model.specs.Spool.{Spool, NewsExpiry, NewsArticle, NewsGroup, entries, expiries_of, filed_in, high, is_name}
 use Rattle.model.specs.SpoolFiles.{numbers_file, overview_file, overview_lines}
 use Rattle.model.specs.declared.change.Change.{Change}
 use Rattle.model.specs.declared.change.Change.TheVariants.{Group, Article, Expire}
+use Rattle.model.specs.declared.change.Expiry.{Expiry}
+use Rattle.model.specs.declared.change.Filing.{Filing}
+use Rattle.model.specs.declared.change.NewGroup.{NewGroup}
 
 -- The expiries of a group have rising numbers, and the articles filed in it have rising serials, so both are found by
 -- binary search.
 abbrev pub ExpiriesRise : Type 0
 ExpiriesRise = (host : Octets) (S : Spool) (g : Octets) (i j : ℕ) → IsLawful host S → i < j → j < length (expiries_of S g) →
-    slice_index (map (λ (e : Expiry). e.number) (expiries_of S g)) i < slice_index (map (λ (e : Expiry). e.number) (expiries_of S g)) j
+    slice_index (map (λ (e : NewsExpiry). e.number) (expiries_of S g)) i
+    < slice_index (map (λ (e : NewsExpiry). e.number) (expiries_of S g)) j
 
 abbrev pub FiledRise : Type 0
 FiledRise = (S : Spool) (g : Octets) (i j : ℕ) → i < j → j < length (filed_in S g) →
@@ -35,20 +39,20 @@ LinesStand = (S : Spool) (g : Octets) (k : ℕ) (line : Octets) → slice_get (o
 -- ---- one more change
 
 pub record GroupsGrow : Type 0 where
-  pub others : (S : Spool) (name : Octets) (status : ℕ) (description : Octets) (moment : ℕ) (g : NewsGroup) → bytes_eq name g.name ≡ false →
-      group_index (S ++ Group name status description moment ∷ []) g ≡ group_index S g
-  pub its_own : (host : Octets) (S : Spool) (name : Octets) (status : ℕ) (description : Octets) (moment : ℕ) (g : NewsGroup)
-      → IsLawful host S → MayFollow host S (Group name status description moment) →
-      g.name ≡ name → group_index (S ++ Group name status description moment ∷ []) g ≡ new_index S g
+  pub others : (S : Spool) (new : NewGroup) (g : NewsGroup) → bytes_eq new.name g.name ≡ false →
+      group_index (S ++ Group new ∷ []) g ≡ group_index S g
+  pub its_own : (host : Octets) (S : Spool) (new : NewGroup) (g : NewsGroup) → IsLawful host S → MayFollow host S (Group new) →
+      g.name ≡ new.name → group_index (S ++ Group new ∷ []) g ≡ new_index S g
 
 abbrev pub ArticlesGrow : Type 0
-ArticlesGrow = (S : Spool) (text : Octets) (filed : List Octets) (moment : ℕ) (g : NewsGroup) →
-    group_index (S ++ Article text filed moment ∷ []) g
-    ≡ (if list_any (is_name g.name) filed then with_article S text (group_index S g) else group_index S g)
+ArticlesGrow = (S : Spool) (f : Filing) (g : NewsGroup) →
+    group_index (S ++ Article f ∷ []) g
+    ≡ (if list_any (is_name g.name) f.groups then with_article S f.text (group_index S g) else group_index S g)
 
 abbrev pub ExpiriesGrow : Type 0
-ExpiriesGrow = (host : Octets) (S : Spool) (h : Octets) (number : ℕ) (g : NewsGroup) → MayFollow host S (Expire h number) →
-    group_index (S ++ Expire h number ∷ []) g ≡ (if bytes_eq h g.name then with_expiry S number (group_index S g) else group_index S g)
+ExpiriesGrow = (host : Octets) (S : Spool) (e : Expiry) (g : NewsGroup) → MayFollow host S (Expire e) →
+    group_index (S ++ Expire e ∷ []) g
+    ≡ (if bytes_eq e.group g.name then with_expiry S e.number (group_index S g) else group_index S g)
 
 -- each change has one note
 abbrev pub NotesGrow : Type 0

@@ -1,15 +1,16 @@
 -- What a spool's files leave free, and what a change asks for.
-use Rattle.std.specs.Prelude.{◌≡◌, ℕ, ◌+◌, ◌/◌, ◌≤◌, false, List, Some, length}
+use Rattle.std.specs.Prelude.{◌≡◌, ℕ, ◌+◌, ◌≤◌, false, List, Some, length}
 use Rattle.std.specs.List.{Contains, sum_by}
 use Rattle.model.specs.Stream.{Octets}
 use Rattle.model.specs.Files.{File, HasRoom, HoldsFiles, free_blocks, free_inodes}
 use Rattle.model.specs.Lawful.{IsLawful, MayFollow}
-use Rattle.model.specs.Room.{blocks_changed, blocks_for, blocks_for_more, blocks_taken, files_made, free_blocks_beside, free_inodes_beside}
-use Rattle.model.specs.Room.{is_full, largest_file, most_changed}
+use Rattle.model.specs.Room.{blocks_changed, blocks_for, blocks_for_more, blocks_taken, files_made, free_blocks_beside}
+use Rattle.model.specs.Room.{free_inodes_beside, is_full, largest_file, most_changed}
 use Rattle.model.specs.Spool.{Spool}
 use Rattle.model.specs.SpoolFiles.{change_calls, change_file, files_of, next_line, next_record, numbers_file, overview_file}
 use Rattle.model.specs.declared.change.Change.{Change}
 use Rattle.model.specs.declared.change.Change.TheVariants.{Article}
+use Rattle.model.specs.declared.change.Filing.{Filing}
 
 pub record IsBeside (inodes : ℕ) (blocks : List Octets) (files : List File) : Type 0 where
   pub blocks_are : free_blocks blocks ≡ free_blocks_beside (length blocks) inodes files
@@ -31,7 +32,7 @@ pub record AsksFew (S : Spool) (c : Change) : Type 0 where
   -- a head of at most 677 octets, and the text
   pub made : length (change_file (record { serial = length S + 1; change = c })).content ≤ 262_821
   -- fewer than the 12,288 octets that the overview has room for
-  pub lines : (text g : Octets) (filed : List Octets) (moment : ℕ) → c ≡ Article text filed moment → length (next_line S text g) ≤ 8_191
+  pub lines : (f : Filing) (g : Octets) → c ≡ Article f → length (next_line S f.text g) ≤ 8_191
   -- so one change alters few blocks
   pub changed : blocks_changed S c ≤ most_changed
 
@@ -43,9 +44,9 @@ ChangesAskFew = (host : Octets) (S : Spool) (c : Change) → length S ≤ 32_768
 pub record HasRoomForChange (blocks inodes : ℕ) (S : Spool) (c : Change) : Type 0 where
   pub blocks_enough : sum_by blocks_taken (change_calls S c) ≤ free_blocks_beside blocks inodes (files_of S)
   pub inodes_enough : files_made c ≤ free_inodes_beside inodes (files_of S)
-  pub sizes : (text : Octets) (filed : List Octets) (moment : ℕ) (g : Octets) → c ≡ Article text filed moment → Contains filed g →
-      (length (numbers_file S g) + length (next_record S text g) ≤ largest_file)
-      × (length (overview_file S g) + length (next_line S text g) ≤ largest_file)
+  pub sizes : (f : Filing) (g : Octets) → c ≡ Article f → Contains f.groups g →
+      (length (numbers_file S g) + length (next_record S f.text g) ≤ largest_file)
+      × (length (overview_file S g) + length (next_line S f.text g) ≤ largest_file)
 
 -- So if the spool is not full, none of a change's calls meets a full file system.
 abbrev pub NotFullHasRoom : Type 0

@@ -1,4 +1,4 @@
-use Rattle.model.proofs.Filing.{files_grow, spools_grow}
+use Rattle.model.proofs.Growing.{files_grow, spools_grow}
 use Rattle.model.proofs.filed.spools_grow_by_their_files.Goals as goal
 
 pub returns : goal.returns

@@ -15,7 +15,7 @@ use Rattle.model.specs.Article.{Carried, are_distinct, groups_of, overview_line}
 use Rattle.model.specs.Names.{is_group_name}
 use Rattle.model.specs.Files.{File}
 use Rattle.model.specs.Spool.{Spool, Entry, entries_from, entries, NewsArticle, NewsGroup, group_made, article_filed, is_name, groups}
-use Rattle.model.specs.Spool.{articles, filed_in, group_named, is_here}
+use Rattle.model.specs.Spool.{articles, filed_in, group_named, is_here, news_article, news_group}
 use Rattle.model.specs.Records.{last_digits}
 use Rattle.model.specs.SpoolFiles.{group_name, numbers_name, overview_name, article_name, expiry_name, number_record, number_records}
 use Rattle.model.specs.SpoolFiles.{overview_lines, overview_of, numbers_of, overview_file, numbers_file, change_file, entry_files, files_of}
@@ -25,6 +25,7 @@ use Rattle.model.specs.Lawful.{IsLawfulAfter, IsLawful}
 use Rattle.model.specs.Laws.SpoolFiles.{FilesGrow, SpoolsGrow}
 use Rattle.model.specs.declared.change.Change.{Change}
 use Rattle.model.specs.declared.change.Change.TheVariants.{Group, Article, Expire}
+use Rattle.model.specs.declared.change.Filing.{Filing}
 use Rattle.model.proofs.Fronts.{absent_cut}
 use Rattle.model.proofs.HoldsOne.{carried_cause}
 use Rattle.model.proofs.Ids.{no_cause}
@@ -117,13 +118,12 @@ numbers_push filed a =
 
 -- ---- what is filed in a group
 
-pub filed_article : (S : Spool) (g text : Octets) (gs : List Octets) (moment : ℕ)
-    → filed_in (S ++ Article text gs moment ∷ []) g ≡ filed_in S g ++ cond (list_any (is_name g) gs)
-    (record { serial = length S + 1; text = text; groups = gs; moment = moment } ∷ []) []
+pub filed_article : (S : Spool) (g : Octets) (f : Filing)
+    → filed_in (S ++ Article f ∷ []) g ≡ filed_in S g ++ cond (list_any (is_name g) f.groups) (news_article (length S + 1) f ∷ []) []
 unfolding filed_in articles entries
-filed_article S g text gs moment =
-    let e : Entry = record { serial = length S + 1; change = Article text gs moment } in
-    ap (λ es. filter (λ a. list_any (is_name g) a.groups) (filter_map article_filed es)) (entries_push 1 S (Article text gs moment))
+filed_article S g f =
+    let e : Entry = record { serial = length S + 1; change = Article f } in
+    ap (λ es. filter (λ a. list_any (is_name g) a.groups) (filter_map article_filed es)) (entries_push 1 S (Article f))
     ∙ ap (filter (λ a. list_any (is_name g) a.groups)) (filter_map-append article_filed (entries_from 1 S) (e ∷ []))
     ∙ filter-append (λ a. list_any (is_name g) a.groups) (filter_map article_filed (entries_from 1 S)) (filter_map article_filed (e ∷ []))
 
@@ -182,17 +182,17 @@ nothing_filed : (host : Octets) (before cs : Spool) (n : ℕ) (name : Octets) �
     → group_named (before ++ cs) name ≡ None
     → filter (λ a. list_any (is_name name) a.groups) (filter_map article_filed (entries_from n cs)) ≡ []
 nothing_filed host before [] n name lawful none = refl
-nothing_filed host before (Group g status description moment ∷ cs) n name lawful none =
-    nothing_filed host (before ++ Group g status description moment ∷ []) cs (suc n) name lawful.1 (rw append_assoc none)
-nothing_filed host before (Expire g number ∷ cs) n name lawful none =
-    nothing_filed host (before ++ Expire g number ∷ []) cs (suc n) name lawful.1 (rw append_assoc none)
-nothing_filed host before (Article text gs moment ∷ cs) n name lawful none =
+nothing_filed host before (Group created ∷ cs) n name lawful none =
+    nothing_filed host (before ++ Group created ∷ []) cs (suc n) name lawful.1 (rw append_assoc none)
+nothing_filed host before (Expire expiry ∷ cs) n name lawful none =
+    nothing_filed host (before ++ Expire expiry ∷ []) cs (suc n) name lawful.1 (rw append_assoc none)
+nothing_filed host before (Article filing ∷ cs) n name lawful none =
     let absent : is_here before name ≡ false =
-    ap (λ (o : Option NewsGroup). is_some o) (named_front before (Article text gs moment ∷ cs) name none) in
-    let never : list_any (is_name name) gs ≡ false = ap (list_any (is_name name)) lawful.0.filed
-    ∙ none_here before name absent (groups_of text) in
-    let rest = nothing_filed host (before ++ Article text gs moment ∷ []) cs (suc n) name lawful.1 (rw append_assoc none) in
-    cond-false (list_any (is_name name) gs) _ _ never ∙ rest
+    ap (λ (o : Option NewsGroup). is_some o) (named_front before (Article filing ∷ cs) name none) in
+    let never : list_any (is_name name) filing.groups ≡ false = ap (list_any (is_name name)) lawful.0.filed
+    ∙ none_here before name absent (groups_of filing.text) in
+    let rest = nothing_filed host (before ++ Article filing ∷ []) cs (suc n) name lawful.1 (rw append_assoc none) in
+    cond-false (list_any (is_name name) filing.groups) _ _ never ∙ rest
 
 pub new_has_nothing : (host : Octets) (S : Spool) (name : Octets) → IsLawful host S → group_named S name ≡ None → filed_in S name ≡ []
 unfolding filed_in articles entries
@@ -215,16 +215,18 @@ IsOfChange name = (g : Octets) → (bytes_eq name (numbers_name g) ≡ false) ×
 left_entry : (R : Spool) (name octets : Octets) → IsOfChange name → (n : ℕ) (c : Change)
     → bytes_eq name (change_file (record { serial = n; change = c })).name ≡ false
     → map (appended name octets) (entry_files R (record { serial = n; change = c })) ≡ entry_files R (record { serial = n; change = c })
-left_entry R name octets own n (Group g status description moment) other =
-    let first = apart name octets (change_file (record { serial = n; change = Group g status description moment })) other in
-    let second = apart name octets (record { name = numbers_name g; content = numbers_file R g }) (own g).0 in
-    let third = apart name octets (record { name = overview_name g; content = overview_file R g }) (own g).1 in
+left_entry R name octets own n (Group created) other =
+    let first = apart name octets (change_file (record { serial = n; change = Group created })) other in
+    let second = apart name octets (record { name = numbers_name created.name; content = numbers_file R created.name })
+    (own created.name).0 in
+    let third = apart name octets (record { name = overview_name created.name; content = overview_file R created.name })
+    (own created.name).1 in
     λ i. first i ∷ second i ∷ third i ∷ []
-left_entry R name octets own n (Article text gs moment) other =
-    let first = apart name octets (change_file (record { serial = n; change = Article text gs moment })) other in
+left_entry R name octets own n (Article filing) other =
+    let first = apart name octets (change_file (record { serial = n; change = Article filing })) other in
     λ i. first i ∷ []
-left_entry R name octets own n (Expire g number) other =
-    let first = apart name octets (change_file (record { serial = n; change = Expire g number })) other in
+left_entry R name octets own n (Expire expiry) other =
+    let first = apart name octets (change_file (record { serial = n; change = Expire expiry })) other in
     λ i. first i ∷ []
 
 left_alone : (R : Spool) (name octets : Octets) → IsOfChange name → (n : ℕ) (S : Spool) → LackFrom name n S
@@ -242,18 +244,18 @@ lacks_group : (name : Octets) (n : ℕ) (S : Spool)
     → find (λ (group : NewsGroup). is_name name group.name) (filter_map group_made (entries_from n S)) ≡ None
     → LackFrom (group_name name) n S
 lacks_group name n [] none = tt
-lacks_group name n (Article text gs moment ∷ S) none = (refl, lacks_group name (suc n) S none)
-lacks_group name n (Expire g number ∷ S) none = (refl, lacks_group name (suc n) S none)
-lacks_group name n (Group g status description moment ∷ S) none = by_name (bytes_eq g name) refl none (lacks_group name (suc n) S) where
+lacks_group name n (Article filing ∷ S) none = (refl, lacks_group name (suc n) S none)
+lacks_group name n (Expire expiry ∷ S) none = (refl, lacks_group name (suc n) S none)
+lacks_group name n (Group created ∷ S) none = by_name (bytes_eq created.name name) refl none (lacks_group name (suc n) S) where
   rest : Option NewsGroup
   rest = find (λ (group : NewsGroup). is_name name group.name) (filter_map group_made (entries_from (suc n) S))
 
-  by_name : (b : Bool) → bytes_eq g name ≡ b
-      → cond b (Some (record { serial = n; name = g; status = status; description = description; moment = moment })) rest ≡ None
+  by_name : (b : Bool) → bytes_eq created.name name ≡ b
+      → cond b (Some (news_group n created)) rest ≡ None
       → (rest ≡ None → LackFrom (group_name name) (suc n) S)
-      → (bytes_eq name g ≡ false) × LackFrom (group_name name) (suc n) S
+      → (bytes_eq name created.name ≡ false) × LackFrom (group_name name) (suc n) S
   by_name true is found later = absurd (cc)
-  by_name false is found later = (bytes_swap g name is, later found)
+  by_name false is found later = (bytes_swap created.name name is, later found)
 
 -- ---- serials in names
 
@@ -271,16 +273,16 @@ serials_apart m n less small =
 
 lacks_article : (m n : ℕ) (S : Spool) → n + length S ≤ m → m < 10 ^ 10 → LackFrom (article_name m) n S
 lacks_article m n [] later small = tt
-lacks_article m n (Group g status description moment ∷ S) later small = (refl, lacks_article m (suc n) S (omega arith) small)
-lacks_article m n (Article text gs moment ∷ S) later small =
+lacks_article m n (Group created ∷ S) later small = (refl, lacks_article m (suc n) S (omega arith) small)
+lacks_article m n (Article filing ∷ S) later small =
     (serials_apart m n (omega arith) small, lacks_article m (suc n) S (omega arith) small)
-lacks_article m n (Expire g number ∷ S) later small = (refl, lacks_article m (suc n) S (omega arith) small)
+lacks_article m n (Expire expiry ∷ S) later small = (refl, lacks_article m (suc n) S (omega arith) small)
 
 lacks_expiry : (m n : ℕ) (S : Spool) → n + length S ≤ m → m < 10 ^ 10 → LackFrom (expiry_name m) n S
 lacks_expiry m n [] later small = tt
-lacks_expiry m n (Group g status description moment ∷ S) later small = (refl, lacks_expiry m (suc n) S (omega arith) small)
-lacks_expiry m n (Article text gs moment ∷ S) later small = (refl, lacks_expiry m (suc n) S (omega arith) small)
-lacks_expiry m n (Expire g number ∷ S) later small = (serials_apart m n (omega arith) small, lacks_expiry m (suc n) S (omega arith) small)
+lacks_expiry m n (Group created ∷ S) later small = (refl, lacks_expiry m (suc n) S (omega arith) small)
+lacks_expiry m n (Article filing ∷ S) later small = (refl, lacks_expiry m (suc n) S (omega arith) small)
+lacks_expiry m n (Expire expiry ∷ S) later small = (serials_apart m n (omega arith) small, lacks_expiry m (suc n) S (omega arith) small)
 
 -- ---- a file is made
 
@@ -307,13 +309,13 @@ entries_same f g same (e ∷ es) = ap (λ xs. xs ++ flat_map f es) (same e.seria
 
 index_same : (R S : Spool) → ((g : Octets) → filed_in R g ≡ filed_in S g) → (n : ℕ) (c : Change)
     → entry_files R (record { serial = n; change = c }) ≡ entry_files S (record { serial = n; change = c })
-index_same R S same n (Group g status description moment) =
-    ap (λ filed. change_file (record { serial = n; change = Group g status description moment }) ∷ record {
-      name = numbers_name g;
+index_same R S same n (Group created) =
+    ap (λ filed. change_file (record { serial = n; change = Group created }) ∷ record {
+      name = numbers_name created.name;
       content = numbers_of filed;
-    } ∷ record { name = overview_name g; content = overview_of filed } ∷ []) (same g)
-index_same R S same n (Article text gs moment) = refl
-index_same R S same n (Expire g number) = refl
+    } ∷ record { name = overview_name created.name; content = overview_of filed } ∷ []) (same created.name)
+index_same R S same n (Article filing) = refl
+index_same R S same n (Expire expiry) = refl
 
 -- the files of a spool with one more change, by change
 with_change : (S : Spool) (c : Change)
@@ -436,59 +438,63 @@ module _ (S : Spool) (text : Octets) where
             ∙ overview_passes h (content ++ next_line S text h) gs once
 
 -- the numbers and the overview of a group after an article
-module _ (S : Spool) (text : Octets) (gs : List Octets) (moment : ℕ) (distinct : are_distinct gs ≡ true) where
+module _ (S : Spool) (filing : Filing) (distinct : are_distinct filing.groups ≡ true) where
   abbrev longer : Spool
-  longer = S ++ Article text gs moment ∷ []
+  longer = S ++ Article filing ∷ []
 
   abbrev article : NewsArticle
-  article = record { serial = length S + 1; text = text; groups = gs; moment = moment }
+  article = news_article (length S + 1) filing
 
-  numbers_more : (h : Octets) → numbers_file longer h ≡ numbers_file S h ++ cond (list_any (is_name h) gs) (next_record S text h) []
-  numbers_more h = ap numbers_of (filed_article S h text gs moment) ∙ by_test (list_any (is_name h) gs) where
+  numbers_more : (h : Octets)
+      → numbers_file longer h ≡ numbers_file S h ++ cond (list_any (is_name h) filing.groups) (next_record S filing.text h) []
+  numbers_more h = ap numbers_of (filed_article S h filing) ∙ by_test (list_any (is_name h) filing.groups) where
     by_test : (b : Bool) → numbers_of (filed_in S h ++ cond b (article ∷ []) []) ≡ numbers_of (filed_in S h) ++ cond b
-        (next_record S text h) []
+        (next_record S filing.text h) []
     by_test true = numbers_push (filed_in S h) article
     by_test false = ap numbers_of (append-nil (filed_in S h)) ∙ sym (append-nil (numbers_of (filed_in S h)))
 
-  overview_more : (h : Octets) → overview_file longer h ≡ overview_file S h ++ cond (list_any (is_name h) gs) (next_line S text h) []
-  overview_more h = ap overview_of (filed_article S h text gs moment) ∙ by_test (list_any (is_name h) gs) where
+  overview_more : (h : Octets)
+      → overview_file longer h ≡ overview_file S h ++ cond (list_any (is_name h) filing.groups) (next_line S filing.text h) []
+  overview_more h = ap overview_of (filed_article S h filing) ∙ by_test (list_any (is_name h) filing.groups) where
     by_test : (b : Bool) → overview_of (filed_in S h ++ cond b (article ∷ []) []) ≡ overview_of (filed_in S h) ++ cond b
-        (next_line S text h) []
+        (next_line S filing.text h) []
     by_test true = overview_push (filed_in S h) article
     by_test false = ap overview_of (append-nil (filed_in S h)) ∙ sym (append-nil (overview_of (filed_in S h)))
 
   entry_grows : (n : ℕ) (c : Change)
-      → map (through S text gs) (entry_files S (record { serial = n; change = c })) ≡ entry_files longer (record { serial = n; change = c })
-  entry_grows n (Article text' gs' moment') =
-      let first = passes S text gs (change_file (record { serial = n; change = Article text' gs' moment' })) (λ g. (refl, refl)) in
+      → map (through S filing.text filing.groups) (entry_files S (record { serial = n; change = c }))
+      ≡ entry_files longer (record { serial = n; change = c })
+  entry_grows n (Article filing') =
+      let first = passes S filing.text filing.groups (change_file (record { serial = n; change = Article filing' })) (λ g. (refl, refl)) in
       λ i. first i ∷ []
-  entry_grows n (Expire g number) =
-      let first = passes S text gs (change_file (record { serial = n; change = Expire g number })) (λ g. (refl, refl)) in
+  entry_grows n (Expire expiry) =
+      let first = passes S filing.text filing.groups (change_file (record { serial = n; change = Expire expiry })) (λ g. (refl, refl)) in
       λ i. first i ∷ []
-  entry_grows n (Group h status description moment') =
-      let first = passes S text gs (change_file (record { serial = n; change = Group h status description moment' })) (λ g. (refl, refl)) in
-      let second = numbers_gain S text h (numbers_file S h) gs distinct
-      ∙ ap (λ os. record { name = numbers_name h; content = os }) (sym (numbers_more h)) in
-      let third = overview_gains S text h (overview_file S h) gs distinct
-      ∙ ap (λ os. record { name = overview_name h; content = os }) (sym (overview_more h)) in
+  entry_grows n (Group created) =
+      let first = passes S filing.text filing.groups (change_file (record { serial = n; change = Group created })) (λ g. (refl, refl)) in
+      let second = numbers_gain S filing.text created.name (numbers_file S created.name) filing.groups distinct
+      ∙ ap (λ os. record { name = numbers_name created.name; content = os }) (sym (numbers_more created.name)) in
+      let third = overview_gains S filing.text created.name (overview_file S created.name) filing.groups distinct
+      ∙ ap (λ os. record { name = overview_name created.name; content = os }) (sym (overview_more created.name)) in
       λ i. first i ∷ second i ∷ third i ∷ []
 
   article_grows : LackFrom (article_name (length S + 1)) 1 S
-      → files_of longer ≡ after_calls (files_of S) (change_calls S (Article text gs moment))
+      → files_of longer ≡ after_calls (files_of S) (change_calls S (Article filing))
   article_grows lack =
-      let its = change_file (record { serial = length S + 1; change = Article text gs moment }) in
+      let its = change_file (record { serial = length S + 1; change = Article filing }) in
       let creation = making_calls its.name its.content in
-      let own = passes S text gs its (λ g. (refl, refl)) in
-      let old : map (through S text gs) (files_of S) ≡ flat_map (entry_files longer) (entries S) =
-      ap (map (through S text gs)) (files_by_change S) ∙ map_joined (through S text gs) (entry_files S) (entries S)
-      ∙ entries_same (λ e. map (through S text gs) (entry_files S e)) (entry_files longer) entry_grows (entries S) in
-      with_change S (Article text gs moment)
+      let own = passes S filing.text filing.groups its (λ g. (refl, refl)) in
+      let old : map (through S filing.text filing.groups) (files_of S) ≡ flat_map (entry_files longer) (entries S) =
+      ap (map (through S filing.text filing.groups)) (files_by_change S)
+      ∙ map_joined (through S filing.text filing.groups) (entry_files S) (entries S)
+      ∙ entries_same (λ e. map (through S filing.text filing.groups) (entry_files S e)) (entry_files longer) entry_grows (entries S) in
+      with_change S (Article filing)
       ∙ ap (λ fs. fs ++ its ∷ []) (sym old)
-      ∙ ap (λ (f : File). map (through S text gs) (files_of S) ++ f ∷ []) (sym own)
-      ∙ sym (map_push (through S text gs) (files_of S) its)
-      ∙ ap (map (through S text gs)) (sym (made S its.name its.content (λ g. (refl, refl)) lack))
-      ∙ sym (filings S text gs (after_calls (files_of S) creation))
-      ∙ sym (calls_after (files_of S) creation (flat_map (filing_calls S text) gs))
+      ∙ ap (λ (f : File). map (through S filing.text filing.groups) (files_of S) ++ f ∷ []) (sym own)
+      ∙ sym (map_push (through S filing.text filing.groups) (files_of S) its)
+      ∙ ap (map (through S filing.text filing.groups)) (sym (made S its.name its.content (λ g. (refl, refl)) lack))
+      ∙ sym (filings S filing.text filing.groups (after_calls (files_of S) creation))
+      ∙ sym (calls_after (files_of S) creation (flat_map (filing_calls S filing.text) filing.groups))
 
 -- ---- distinct groups
 
@@ -533,42 +539,42 @@ unfolding group_named groups entries
 lack_new T g none = lacks_group g 1 T none
 
 pub files_grow : FilesGrow
-files_grow host S (Group name status description moment) small lawful may =
-    let c = Group name status description moment in
+files_grow host S (Group created) small lawful may =
+    let c = Group created in
     let its = change_file (record { serial = length S + 1; change = c }) in
     let R = S ++ c ∷ [] in
     let same : (g : Octets) → filed_in R g ≡ filed_in S g = λ g. filed_no_more S g c refl in
-    let none : filed_in R name ≡ [] = same name ∙ new_has_nothing host S name lawful may.new in
+    let none : filed_in R created.name ≡ [] = same created.name ∙ new_has_nothing host S created.name lawful may.new in
     let index : entry_files R (record { serial = length S + 1; change = c }) ≡ its ∷ record {
-      name = numbers_name name;
+      name = numbers_name created.name;
       content = [];
-    } ∷ record { name = overview_name name; content = [] } ∷ [] =
-    ap (λ filed. its ∷ record { name = numbers_name name; content = numbers_of filed } ∷ record {
-      name = overview_name name;
+    } ∷ record { name = overview_name created.name; content = [] } ∷ [] =
+    ap (λ filed. its ∷ record { name = numbers_name created.name; content = numbers_of filed } ∷ record {
+      name = overview_name created.name;
       content = overview_of filed;
-    } ∷ []) none ∙ no_lines its name in
+    } ∷ []) none ∙ no_lines its created.name in
     with_change S c
     ∙ ap (λ fs. fs ++ entry_files R (record { serial = length S + 1; change = c }))
     (entries_same (entry_files R) (entry_files S) (index_same R S same) (entries S) ∙ sym (files_by_change S))
     ∙ ap (λ fs. files_of S ++ fs) index
-    ∙ sym (append_assoc (files_of S ++ its ∷ []) (record { name = numbers_name name; content = [] } ∷ [])
-    (record { name = overview_name name; content = [] } ∷ [])
-    ∙ append_assoc (files_of S) (its ∷ []) (record { name = numbers_name name; content = [] } ∷ record {
-      name = overview_name name;
+    ∙ sym (append_assoc (files_of S ++ its ∷ []) (record { name = numbers_name created.name; content = [] } ∷ [])
+    (record { name = overview_name created.name; content = [] } ∷ [])
+    ∙ append_assoc (files_of S) (its ∷ []) (record { name = numbers_name created.name; content = [] } ∷ record {
+      name = overview_name created.name;
       content = [];
     } ∷ []))
-    ∙ ap (λ (fs : List File). (fs ++ record { name = numbers_name name; content = [] } ∷ []) ++ record {
-      name = overview_name name;
+    ∙ ap (λ (fs : List File). (fs ++ record { name = numbers_name created.name; content = [] } ∷ []) ++ record {
+      name = overview_name created.name;
       content = [];
-    } ∷ []) (sym (made S its.name its.content (λ g. (refl, refl)) (lack_new S name may.new)))
-files_grow host S (Article text gs moment) small lawful may =
-    let distinct : are_distinct gs ≡ true = ap are_distinct may.filed
-    ∙ filter_distinct (is_here S) (groups_of text)
-    (and_parts (nat_le (length (groups_of text)) 16 && list_all is_group_name (groups_of text)) (are_distinct (groups_of text))
-    (no_cause Carried text (carried_cause text may.carried)).good_groups).1 in
-    article_grows S text gs moment distinct (lacks_article (length S + 1) 1 S (omega arith) small)
-files_grow host S (Expire g number) small lawful may =
-    let c = Expire g number in
+    } ∷ []) (sym (made S its.name its.content (λ g. (refl, refl)) (lack_new S created.name may.new)))
+files_grow host S (Article filing) small lawful may =
+    let names = groups_of filing.text in
+    let distinct : are_distinct filing.groups ≡ true = ap are_distinct may.filed
+    ∙ filter_distinct (is_here S) names (and_parts (nat_le (length names) 16 && list_all is_group_name names) (are_distinct names)
+    (no_cause Carried filing.text (carried_cause filing.text may.carried)).good_groups).1 in
+    article_grows S filing distinct (lacks_article (length S + 1) 1 S (omega arith) small)
+files_grow host S (Expire expiry) small lawful may =
+    let c = Expire expiry in
     let its = change_file (record { serial = length S + 1; change = c }) in
     let R = S ++ c ∷ [] in
     with_change S c

@@ -1,0 +1,9 @@
+use Rattle.std.proofs.Common.{sym}
+use Rattle.model.specs.declared.values.Status.TheVariants.{Open, Closed}
+use Rattle.model.proofs.values.Status.of.Goals as goal
+
+pub returns-in-121-clause-none : goal.returns-in-121-clause-none
+returns-in-121-clause-none c = (λ none. absurd (cc), λ apart. absurd (apart Open (sym c.in-121.is)))
+
+pub returns-in-110-clause-none : goal.returns-in-110-clause-none
+returns-in-110-clause-none c = (λ none. absurd (cc), λ apart. absurd (apart Closed (sym c.in-110.is)))
