@@ -1,6 +1,7 @@
 //! The plain data of the news server, and what is proved of its definitions, which are in the folder specs/. Read them
 //! in this order: Stream, Names, Calendar, Article, Spool, Commands, Replies, Answer, Reads, Service, Lawful, Layout.
-//! The laws are in specs/Laws/. Each function below does nothing, and its contract is a law:
+//! Statuses, moments, keywords, listings and causes are types of this crate, so that each octet, limit and text of theirs
+//! stands once. The laws are in specs/Laws/. Each function below does nothing, and its contract is a law:
 //!
 //! - texts: `next_message`, `later_octets`, `read_back`, `date_of_a_moment`, `made_ids`, `stored_texts`
 //! - answers: `answers_come_from_front`, `accepted_change_is_read`, `nothing_later_is_read`, `replies_are_filled`,
