@@ -6,6 +6,8 @@ use Rattle.model.specs.Stream.{Octets}
 use Rattle.model.specs.Spool.{is_here}
 use Rattle.model.specs.declared.change.Change.{Change}
 use Rattle.model.specs.declared.change.Change.TheVariants.{Expire, Group}
+use Rattle.model.specs.declared.change.Expiry.{Expiry}
+use Rattle.model.specs.declared.change.NewGroup.{NewGroup}
 use Rattle.spool.specs.View.{SpoolView, Adds}
 use Rattle.spool.specs.Refusals.{expiry_refusal, group_refusal, has_number, is_full_for}
 use Rattle.spool.specs.declared.errors.AddError.TheVariants as add
@@ -53,42 +55,42 @@ early_none k is = go k.halted refl (nat_lt 256 (length k.dirty)) refl
 pub few_dirty : (k : KernelView) → early_refusal k ≡ None → length k.dirty ≤ 256
 few_dirty k is = ltb-false 256 (length k.dirty) (early_none k is).1
 
-module _ (s : SpoolView) (d : ℕ) (f : Option ℕ) (h : Bool) (j : ℕ) (seats : List Seat) (name : Octets) (status : ℕ) (description : Octets)
-    (moment : ℕ) (early : early_refusal (kernel_of s d f h j seats) ≡ None) where
+module _ (s : SpoolView) (d : ℕ) (f : Option ℕ) (h : Bool) (j : ℕ) (seats : List Seat) (g : NewGroup)
+    (early : early_refusal (kernel_of s d f h j seats) ≡ None) where
   abbrev was : KernelView
   was = kernel_of s d f h j seats
 
   abbrev c : Change
-  c = Group name status description moment
+  c = Group g
 
-  by_tests : (here full : Bool) → is_here s.changes name ≡ here → is_full_for s c ≡ full
+  by_tests : (here full : Bool) → is_here s.changes g.name ≡ here → is_full_for s c ≡ full
       → admin_refusal_of was c ≡ first_failing ((false, Halted) ∷ (false, LaterDirty) ∷ (here, Exists) ∷ (full, Full) ∷ [])
   by_tests here full a b = λ i. first_failing
       (((early_none was early).0 i, Halted) ∷ ((early_none was early).1 i, LaterDirty) ∷ (a i, Exists) ∷ (b i, Full) ∷ [])
 
-  pub exists_when : group_refusal s name c ≡ Some add.Exists → admin_refusal_of was c ≡ Some Exists
-  exists_when = go (is_here s.changes name) (is_full_for s c) refl refl
+  pub exists_when : group_refusal s g.name c ≡ Some add.Exists → admin_refusal_of was c ≡ Some Exists
+  exists_when = go (is_here s.changes g.name) (is_full_for s c) refl refl
     where
-      go : (here full : Bool) → is_here s.changes name ≡ here → is_full_for s c ≡ full
+      go : (here full : Bool) → is_here s.changes g.name ≡ here → is_full_for s c ≡ full
           → (if here then Some add.Exists else if full then Some add.Full else None) ≡ Some add.Exists
           → admin_refusal_of was c ≡ Some Exists
       go true full a b is = by_tests true full a b
       go false true a b is = absurd (cc is)
       go false false a b is = absurd (cc is)
 
-  pub full_when : group_refusal s name c ≡ Some add.Full → admin_refusal_of was c ≡ Some Full
-  full_when = go (is_here s.changes name) (is_full_for s c) refl refl
+  pub full_when : group_refusal s g.name c ≡ Some add.Full → admin_refusal_of was c ≡ Some Full
+  full_when = go (is_here s.changes g.name) (is_full_for s c) refl refl
     where
-      go : (here full : Bool) → is_here s.changes name ≡ here → is_full_for s c ≡ full
+      go : (here full : Bool) → is_here s.changes g.name ≡ here → is_full_for s c ≡ full
           → (if here then Some add.Exists else if full then Some add.Full else None) ≡ Some add.Full → admin_refusal_of was c ≡ Some Full
       go true full a b is = absurd (cc is)
       go false true a b is = by_tests false true a b
       go false false a b is = absurd (cc is)
 
-  pub none_when : group_refusal s name c ≡ None → admin_refusal_of was c ≡ None
-  none_when = go (is_here s.changes name) (is_full_for s c) refl refl
+  pub none_when : group_refusal s g.name c ≡ None → admin_refusal_of was c ≡ None
+  none_when = go (is_here s.changes g.name) (is_full_for s c) refl refl
     where
-      go : (here full : Bool) → is_here s.changes name ≡ here → is_full_for s c ≡ full
+      go : (here full : Bool) → is_here s.changes g.name ≡ here → is_full_for s c ≡ full
           → (if here then Some add.Exists else if full then Some add.Full else None) ≡ None → admin_refusal_of was c ≡ None
       go true full a b is = absurd (cc is)
       go false true a b is = absurd (cc is)
@@ -105,43 +107,43 @@ module _ (s : SpoolView) (d : ℕ) (f : Option ℕ) (h : Bool) (j : ℕ) (seats 
         rest = (adds.host, adds.inodes, refl, refl, refl, refl, refl);
       }
 
-module _ (s : SpoolView) (d : ℕ) (f : Option ℕ) (h : Bool) (j : ℕ) (seats : List Seat) (group : Octets) (number : ℕ)
+module _ (s : SpoolView) (d : ℕ) (f : Option ℕ) (h : Bool) (j : ℕ) (seats : List Seat) (e : Expiry)
     (early : early_refusal (kernel_of s d f h j seats) ≡ None) where
-  by_expiry : (has full : Bool) → has_number s.changes group number ≡ has → is_full_for s (Expire group number) ≡ full
-      → expire_refusal_of (kernel_of s d f h j seats) (Expire group number)
+  by_expiry : (has full : Bool) → has_number s.changes e.group e.number ≡ has → is_full_for s (Expire e) ≡ full
+      → expire_refusal_of (kernel_of s d f h j seats) (Expire e)
       ≡ first_failing ((false, Halted) ∷ (false, LaterDirty) ∷ (not has, NotFound) ∷ (full, Full) ∷ [])
   by_expiry has full a b =
       let now = early_none (kernel_of s d f h j seats) early in
       λ i. first_failing ((now.0 i, Halted) ∷ (now.1 i, LaterDirty) ∷ (not (a i), NotFound) ∷ (b i, Full) ∷ [])
 
-  pub not_found_when : expiry_refusal s group number ≡ Some expire.NotFound
-      → expire_refusal_of (kernel_of s d f h j seats) (Expire group number) ≡ Some NotFound
-  not_found_when = go (has_number s.changes group number) (is_full_for s (Expire group number)) refl refl
+  pub not_found_when : expiry_refusal s e.group e.number ≡ Some expire.NotFound
+      → expire_refusal_of (kernel_of s d f h j seats) (Expire e) ≡ Some NotFound
+  not_found_when = go (has_number s.changes e.group e.number) (is_full_for s (Expire e)) refl refl
     where
-      go : (has full : Bool) → has_number s.changes group number ≡ has → is_full_for s (Expire group number) ≡ full
+      go : (has full : Bool) → has_number s.changes e.group e.number ≡ has → is_full_for s (Expire e) ≡ full
           → (if has then (if full then Some expire.Full else None) else Some expire.NotFound) ≡ Some expire.NotFound
-          → expire_refusal_of (kernel_of s d f h j seats) (Expire group number) ≡ Some NotFound
+          → expire_refusal_of (kernel_of s d f h j seats) (Expire e) ≡ Some NotFound
       go true true a b is = absurd (cc is)
       go true false a b is = absurd (cc is)
       go false full a b is = by_expiry false full a b
 
-  pub no_room_when : expiry_refusal s group number ≡ Some expire.Full
-      → expire_refusal_of (kernel_of s d f h j seats) (Expire group number) ≡ Some Full
-  no_room_when = go (has_number s.changes group number) (is_full_for s (Expire group number)) refl refl
+  pub no_room_when : expiry_refusal s e.group e.number ≡ Some expire.Full
+      → expire_refusal_of (kernel_of s d f h j seats) (Expire e) ≡ Some Full
+  no_room_when = go (has_number s.changes e.group e.number) (is_full_for s (Expire e)) refl refl
     where
-      go : (has full : Bool) → has_number s.changes group number ≡ has → is_full_for s (Expire group number) ≡ full
+      go : (has full : Bool) → has_number s.changes e.group e.number ≡ has → is_full_for s (Expire e) ≡ full
           → (if has then (if full then Some expire.Full else None) else Some expire.NotFound) ≡ Some expire.Full
-          → expire_refusal_of (kernel_of s d f h j seats) (Expire group number) ≡ Some Full
+          → expire_refusal_of (kernel_of s d f h j seats) (Expire e) ≡ Some Full
       go true true a b is = by_expiry true true a b
       go true false a b is = absurd (cc is)
       go false full a b is = absurd (cc is)
 
-  pub expires_when : expiry_refusal s group number ≡ None → expire_refusal_of (kernel_of s d f h j seats) (Expire group number) ≡ None
-  expires_when = go (has_number s.changes group number) (is_full_for s (Expire group number)) refl refl
+  pub expires_when : expiry_refusal s e.group e.number ≡ None → expire_refusal_of (kernel_of s d f h j seats) (Expire e) ≡ None
+  expires_when = go (has_number s.changes e.group e.number) (is_full_for s (Expire e)) refl refl
     where
-      go : (has full : Bool) → has_number s.changes group number ≡ has → is_full_for s (Expire group number) ≡ full
+      go : (has full : Bool) → has_number s.changes e.group e.number ≡ has → is_full_for s (Expire e) ≡ full
           → (if has then (if full then Some expire.Full else None) else Some expire.NotFound) ≡ None
-          → expire_refusal_of (kernel_of s d f h j seats) (Expire group number) ≡ None
+          → expire_refusal_of (kernel_of s d f h j seats) (Expire e) ≡ None
       go true true a b is = absurd (cc is)
       go true false a b is = by_expiry true false a b
       go false full a b is = absurd (cc is)
@@ -167,7 +169,8 @@ no_group_memory s name c = go (is_here s.changes name) (is_full_for s c)
     go false false is = cc is
 
 pub no_expiry_memory : (s : SpoolView) (group : Octets) (number : ℕ) → expiry_refusal s group number ≡ Some expire.Memory → ⊥
-no_expiry_memory s group number = go (has_number s.changes group number) (is_full_for s (Expire group number))
+no_expiry_memory s group number =
+    go (has_number s.changes group number) (is_full_for s (Expire (record { group = group; number = number })))
   where
     go : (has full : Bool) → (if has then (if full then Some expire.Full else None) else Some expire.NotFound) ≡ Some expire.Memory → ⊥
     go true true is = cc is

@@ -212,9 +212,9 @@ early_refusal kernel = first_failing ((kernel.halted, Halted) ∷ (nat_lt 256 (l
 
 -- whether a group with the name that the change gives exists already
 abbrev pub makes_again : Spool → Change → Bool
-makes_again S (change.Group name status description moment) = is_here S name
-makes_again S (change.Article text groups moment) = false
-makes_again S (change.Expire group number) = false
+makes_again S (change.Group g) = is_here S g.name
+makes_again S (change.Article f) = false
+makes_again S (change.Expire e) = false
 
 -- all of its tests: a group with that name exists, or there is no room for the change
 abbrev pub admin_refusal_of : KernelView → Change → Option Refusal
@@ -225,9 +225,9 @@ admin_refusal_of kernel c =
 
 -- whether the change removes a number that the group does not have
 abbrev pub takes_none : Spool → Change → Bool
-takes_none S (change.Group name status description moment) = false
-takes_none S (change.Article text groups moment) = false
-takes_none S (change.Expire group number) = not (has_number S group number)
+takes_none S (change.Group g) = false
+takes_none S (change.Article f) = false
+takes_none S (change.Expire e) = not (has_number S e.group e.number)
 
 -- all tests of expire: the group does not exist or does not have the number, or there is no room for the change
 abbrev pub expire_refusal_of : KernelView → Change → Option Refusal

@@ -3,28 +3,26 @@
 //! what its invariant is.
 #![tactic(auto)]
 
-ghost use Rattle.std.specs.Prelude.{[], None, ◌++◌, ◌&&◌, nat_lt, ◌≡◌, ◌≢◌, ◌⊎◌, ◌↔◌, ◌+◌, ◌*◌, ◌<◌, ◌≤◌, Some, IsSome, IsNone, IsTrue};
+ghost use Rattle.std.specs.Prelude.{[], None, ◌++◌, ◌&&◌, nat_lt, ◌≡◌, ◌≢◌, ◌⊎◌, ◌↔◌, ◌+◌, ◌*◌, ◌<◌, Some, IsSome, IsNone, IsTrue};
 ghost use Rattle.std.specs.Prelude.{IfOk, IfSome, OnErr, length, true, false, is_some, option_map, slice_get};
-ghost use Rattle.std.specs.List.{list_all};
 ghost use Rattle.kernel.specs.Errors.{of_join, of_exec, of_admin, of_expire};
 ghost use Rattle.kernel.specs.Kept.{IsKept};
 ghost use Rattle.kernel.specs.Kernel.{Administers, Execs, FitsMode, Takes, Tested, TestedOrMemory, admin_refusal_of, early_refusal};
 ghost use Rattle.kernel.specs.Kernel.{exec_refusal, expire_refusal_of, has_batch, halted_for_good, is_block, join_refusal, joined, left};
 ghost use Rattle.kernel.specs.Kernel.{made_durable, mode_at, only_tested, released, released_of, seat_of};
 ghost use Rattle.seats.specs.Seats.{holds, ready, ready_of, Seat as SeatView};
-ghost use Rattle.model.specs.Calendar.{moment_limit};
-ghost use Rattle.model.specs.Lawful.{is_description_octet};
 ghost use Rattle.model.specs.Volume.{blocks_from};
 ghost use Rattle.model.specs.declared.change.Change.TheVariants.{Group, Expire};
 ghost use Rattle.kernel.specs.Stored.{kernel_of};
+ghost use Rattle.names.specs.Requests.{group_of};
 
 mod errors;
 mod opening;
 
 pub use errors::{AdminError, ExecError, ExpireError, JoinError, Stale};
 use lookups::LookUps;
-use model::{Mark, Message, Mode};
-use names::GroupName;
+use model::{Mark, Message, Mode, Moment};
+use names::{GroupName, GroupRequest};
 pub use opening::{OpenError, open_spool};
 use outbox::ReadyBuf;
 use seats::{Seat, position, release, release_of};
@@ -162,19 +160,18 @@ impl Kernel {
         }
     }
 
-    /// Answers a message at once: its reply is held with its dependency, and its change is accepted. The result is what
-    /// the session sends next, which is `None` if it sends nothing more, and the mark of the message. `moment` is in
-    /// seconds since 1970. Refused as `NoSession` (E10), `LaterOut` (E9), `LaterDirty` (E8, only while the kernel is
-    /// not halted) or `Memory` (E2), tested in that order; a refusal changes nothing.
+    /// Answers a message at once, at this moment: its reply is held with its dependency, and its change is accepted. The
+    /// result is what the session sends next, which is `None` if it sends nothing more, and the mark of the message.
+    /// Refused as `NoSession` (E10), `LaterOut` (E9), `LaterDirty` (E8, only while the kernel is not halted) or `Memory`
+    /// (E2), tested in that order; a refusal changes nothing.
     pub fn exec(
         &mut self,
         alloc: Global,
         sid: u64,
         message: &Message,
-        moment: u64,
+        moment: Moment,
     ) -> Result<(Option<Mode>, Mark), ExecError>
-        requires kind { FitsMode (mode_at self.old sid) message.now }
-        requires moment { moment < moment_limit }
+        requires { FitsMode (mode_at self.old sid) message.now }
         ensures { Tested of_exec ExecError.Memory (exec_refusal self.old sid message.now) self.old self.new result
             (Execs self.old self.new sid message.now moment) }
     {
@@ -217,31 +214,16 @@ impl Kernel {
         Ok(())
     }
 
-    /// Makes a group for the operator and answers its serial, which says nothing about durability. `status` is `y` or
-    /// `n`, the description has at most 200 octets of 32 to 126, and `moment` is in seconds since 1970. Refused as
-    /// `Halted` (E4), `LaterDirty` (E8), `Exists` (E11), `Full` (E6) or `Memory` (E2), tested in that order; a refusal
-    /// changes nothing.
-    pub fn admin(
-        &mut self,
-        alloc: Global,
-        name: &GroupName,
-        status: u8,
-        description: &[u8],
-        moment: u64,
-    ) -> Result<u64, AdminError>
-        requires status { (status ≡ 121) ⊎ (status ≡ 110) }
-        requires short { length description.now ≤ 200 }
-        requires printable { IsTrue (list_all is_description_octet description.now) }
-        requires moment { moment < moment_limit }
-        ensures { let change = Group name.now status description.now moment in
+    /// Makes a group for the operator and answers its serial, which says nothing about durability. Refused as `Halted`
+    /// (E4), `LaterDirty` (E8), `Exists` (E11), `Full` (E6) or `Memory` (E2), tested in that order; a refusal changes
+    /// nothing.
+    pub fn admin(&mut self, alloc: Global, group: &GroupRequest) -> Result<u64, AdminError>
+        ensures { let change = Group (group_of group.now) in
             TestedOrMemory of_admin AdminError.Memory (admin_refusal_of self.old change) (admin_refusal_of self.old change)
             self.old self.new result (Administers self.old self.new change) }
     {
         self.may_administer()?;
-        let serial = match self
-            .spool
-            .add_group(name.as_slice(), status, description, moment)
-        {
+        let serial = match self.spool.add_group(group) {
             Ok(serial) => serial,
             Err(AddError::Exists) => return Err(AdminError::Exists),
             Err(AddError::Full) => return Err(AdminError::Full),
@@ -270,7 +252,7 @@ impl Kernel {
     /// `NotFound` (E12) if the group does not exist or the number is below its lowest or above its highest, `Full` (E6)
     /// or `Memory` (E2), tested in that order; a refusal changes nothing.
     pub fn expire(&mut self, name: &GroupName, number: u32) -> Result<u64, ExpireError>
-        ensures { let change = Expire name.now number in
+        ensures { let change = Expire (record { group = name.now; number = number }) in
             TestedOrMemory of_expire ExpireError.Memory (expire_refusal_of self.old change) (expire_refusal_of self.old change)
             self.old self.new result (Administers self.old self.new change) }
     {

@@ -4,9 +4,10 @@ use Rattle.std.specs.Prelude.{Option, Some, None, option_map}
 use Rattle.model.specs.Stream.{Octets}
 use Rattle.model.specs.Answer.{Outcome, accepted, article_answer, group_closed, groups_here, has_other_id, same_id, transfer_outcome}
 use Rattle.model.specs.Answer.{id_here, no_group_here, not_an_article, spool_outcome}
-use Rattle.model.specs.Article.{Carried, Cause, cause}
+use Rattle.model.specs.Article.{Carried, cause}
 use Rattle.model.specs.Reads.{outcome_reads}
 use Rattle.model.specs.Spool.{Spool, NewsArticle, last_naming}
+use Rattle.model.specs.declared.cause.Cause.{Cause}
 use Rattle.model.specs.declared.change.Change.TheVariants.{Article}
 use Rattle.model.specs.declared.session.Session.{Session}
 use Rattle.replies.specs.Answered.{answered}
@@ -40,15 +41,17 @@ refused_said S x welcome refusal stored t n (accepted here) is = absurd (cc)
 
 pub accepted_said : (S : Spool) (x : Session) (welcome refusal stored : Octets) (t : ℕ) (names : List Octets) (o : Outcome)
     → outcome.Accepted names ≡ told S o
-    → answered (then_line x welcome (Some (Article stored names t))) (outcome_reads S (accepted names))
+    → answered (then_line x welcome (Some (Article (record { text = stored; groups = names; moment = t }))))
+    (outcome_reads S (accepted names))
     ≡ answered (article_answer (answers.awaiting x awaits.Line) welcome refusal stored t o) (outcome_reads S o)
 accepted_said S x welcome refusal stored t names not_an_article is = absurd (cc)
 accepted_said S x welcome refusal stored t names (id_here a) is = absurd (cc)
 accepted_said S x welcome refusal stored t names no_group_here is = absurd (cc)
 accepted_said S x welcome refusal stored t names (group_closed g) is = absurd (cc)
 accepted_said S x welcome refusal stored t names (accepted here) is =
-    let one : names ≡ here = cc in ap (λ ns. answered (then_line x welcome (Some (Article stored ns t))) (outcome_reads S (accepted ns)))
-    one
+    let one : names ≡ here = cc in
+    ap (λ ns. answered (then_line x welcome (Some (Article (record { text = stored; groups = ns; moment = t })))) (outcome_reads S
+    (accepted ns))) one
 
 -- ---- what comes of a carried text
 

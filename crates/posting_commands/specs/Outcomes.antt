@@ -4,8 +4,10 @@ use Rattle.model.specs.Stream.{Octets}
 use Rattle.model.specs.Answer as answers
 use Rattle.model.specs.Reads.{outcome_reads}
 use Rattle.model.specs.Replies.{not_accepted, received}
-use Rattle.model.specs.Article.{Cause, Long, groups_of, injected}
+use Rattle.model.specs.Article.{groups_of, injected}
 use Rattle.model.specs.Spool.{Spool, last_naming}
+use Rattle.model.specs.declared.cause.Cause.{Cause}
+use Rattle.model.specs.declared.cause.Cause.TheVariants.{Long}
 use Rattle.model.specs.declared.change.Change.{Change}
 use Rattle.model.specs.declared.message.Mark.{Mark}
 use Rattle.model.specs.declared.message.Mark.TheVariants as mark

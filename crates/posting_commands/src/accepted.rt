@@ -1,7 +1,7 @@
 //! An article that an answer accepts.
 
 use article::{Article, Injected};
-use model::Names;
+use model::{Moment, Names};
 
 /// An article as it is stored.
 #[derive(Drop)]
@@ -17,6 +17,6 @@ pub enum Stored<'t> {
 pub struct Accepted<'t> {
     pub text: Stored<'t>,
     pub groups: Names,
-    /// seconds since 1970
-    pub moment: u64,
+    /// when it is filed
+    pub moment: Moment,
 }

@@ -1,11 +1,9 @@
 //! The articles that follow POST and IHAVE.
 
-ghost use Rattle.std.specs.Prelude.{◌≡◌, ◌+◌, ◌<◌, IfOk, None, length, not, option_map};
+ghost use Rattle.std.specs.Prelude.{◌≡◌, ◌+◌, IfOk, None, length, not, option_map};
 ghost use Rattle.model.specs.Answer as answers;
 ghost use Rattle.model.specs.Article.{Carried, Posted as PostedTo, cause};
-ghost use Rattle.model.specs.Calendar.{moment_limit};
 ghost use Rattle.model.specs.Reads.{outcome_reads};
-ghost use Rattle.article.specs.Origins.{cause_of};
 ghost use Rattle.replies.specs.Answered.{answered};
 ghost use Rattle.replies.specs.Replies.{sent};
 ghost use Rattle.posting_commands.specs.Accepted.{change_of};
@@ -13,9 +11,9 @@ ghost use Rattle.posting_commands.specs.Outcomes.{mark_by, post_said, posted_by,
 
 use crate::accepted::{Accepted, Stored};
 use crate::filing::{Closed, Outcome, filing};
-use article::{Article, Cause, Origin, ReadError};
+use article::{Article, Origin, ReadError};
 use lookups::LookUps;
-use model::{Awaits, Mark, Session, Text};
+use model::{Awaits, Cause, Mark, Moment, Session, Text};
 use replies::{Reply, awaiting, push_reply};
 use std::alloc::{AllocError, Global};
 
@@ -54,17 +52,16 @@ fn answer<'t>(
     })
 }
 
-/// Answers the article that follows POST, at a moment in seconds since 1970, below 253,402,300,800. It is refused if it
-/// is not an article, or if an article with its id was filed. It is also refused if none of its groups exists, or one
-/// of them takes no articles. Its mark is `Long` if it is refused because it would be too long as it is stored.
+/// Answers the article that follows POST, at this moment. It is refused if it is not an article, or if an article with
+/// its id was filed. It is also refused if none of its groups exists, or one of them takes no articles. Its mark is
+/// `Long` if it is refused because it would be too long as it is stored.
 pub fn post_block<'t, L: LookUps>(
     alloc: Global,
     spool: &L,
     session: &Session,
     text: &'t [u8],
-    moment: u64,
+    moment: Moment,
 ) -> Result<Posted<'t>, AllocError>
-    requires { moment < moment_limit }
     ensures { IfOk result (λ posted. said posted ≡ post_said (L.host_of spool.now) (L.changes spool.now) session.now moment text.now) }
 {
     let host = spool.host();
@@ -84,7 +81,7 @@ pub fn post_block<'t, L: LookUps>(
 
 /// The mark of a post that is refused for this cause.
 fn mark_of(cause: Cause) -> Mark
-    ensures { result ≡ mark_by (cause_of cause) }
+    ensures { result ≡ mark_by cause }
 {
     match cause {
         Cause::Long => Mark::Long,
@@ -99,9 +96,8 @@ fn taken<'t, L: LookUps>(
     session: &Session,
     article: Article<'t>,
     serial: u64,
-    moment: u64,
+    moment: Moment,
 ) -> Result<Posted<'t>, AllocError>
-    requires moment { moment < moment_limit }
     requires serial { serial ≡ length (L.changes spool.now) + 1 }
     requires cause { cause (PostedTo (L.host_of spool.now) serial) article ≡ None }
     ensures { IfOk result (λ posted. said posted
@@ -121,16 +117,15 @@ fn taken<'t, L: LookUps>(
     }
 }
 
-/// Answers the article that follows IHAVE with this message-id, at a moment in seconds since 1970. It is refused if it
-/// is not an article or has another id. It is also refused if an article with its id was filed, or if none of its
-/// groups exists.
+/// Answers the article that follows IHAVE with this message-id, at this moment. It is refused if it is not an article or
+/// has another id. It is also refused if an article with its id was filed, or if none of its groups exists.
 pub fn ihave_block<'t, L: LookUps>(
     alloc: Global,
     spool: &L,
     session: &Session,
     id: &[u8],
     text: &'t [u8],
-    moment: u64,
+    moment: Moment,
 ) -> Result<Posted<'t>, AllocError>
     ensures { IfOk result (λ posted. said posted
         ≡ said_served (answered (answers.transfer_answer (L.changes spool.now) session.now moment id.now text.now)
@@ -150,7 +145,7 @@ fn given<'t, L: LookUps>(
     session: &Session,
     id: &[u8],
     article: Article<'t>,
-    moment: u64,
+    moment: Moment,
 ) -> Result<Posted<'t>, AllocError>
     requires { cause Carried article ≡ None }
     ensures { IfOk result (λ posted. said posted

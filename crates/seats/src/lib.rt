@@ -7,7 +7,6 @@ ghost use Rattle.std.specs.Prelude.{IfOk, OnErr, OnOk, length};
 ghost use Rattle.seats.specs.Seats.{Seat as SeatView, answered_by, given_of, holds, new_seat, ready, ready_of, seat_given};
 ghost use Rattle.seats.specs.Kept.{RiseFrom};
 ghost use Rattle.seats.specs.Serving.{SeatServed};
-ghost use Rattle.model.specs.Calendar.{moment_limit};
 ghost use Rattle.model.specs.Lawful.{IsLawfulSession};
 ghost use Rattle.model.specs.Service.{mode_of};
 ghost use Rattle.model.specs.Spool.{Spool as Changes};
@@ -16,7 +15,7 @@ ghost use Rattle.model.specs.declared.message.Message.{Message as MessageView};
 ghost use Rattle.outbox.specs.Queue.{buffered, entry_of, last_dependency};
 
 use change_spool::ChangeSpool;
-use model::{Answer, Awaits, Mark, Message, Mode, Session};
+use model::{Answer, Awaits, Mark, Message, Mode, Moment, Session};
 use outbox::{Queue, ReadyBuf};
 use plain_commands::stopped;
 use replies::{Answered, push_greeting};
@@ -92,18 +91,16 @@ impl Seat {
         self.queue.buffered()
     }
 
-    /// Serves a message over a spool that takes changes, and holds its reply. Answers what the session sends next, and
-    /// the mark of the message. `moment` is in seconds since 1970. Refused only for want of memory; then neither
-    /// session nor spool changes.
+    /// Serves a message over a spool that takes changes, at this moment, and holds its reply. Answers what the session
+    /// sends next, and the mark of the message. Refused only for want of memory; then neither session nor spool changes.
     pub fn serve<S: ChangeSpool>(
         &mut self,
         alloc: Global,
         spool: &mut S,
         message: &Message,
-        moment: u64,
+        moment: Moment,
     ) -> Result<(Option<Mode>, Mark), AllocError>
         requires session { IsLawfulSession (S.host_of spool.old) self.old.session }
-        requires moment { moment < moment_limit }
         requires room { buffered self.old.held < 1_048_576 }
         ensures ok { IfOk result (SeatServed (S.host_of spool.old) (S.changes spool.old) (S.lacks_room spool.old)
             (S.adds spool.old spool.new) (spool.new ≡ spool.old) self.old self.new message.now moment) }

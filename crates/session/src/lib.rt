@@ -2,8 +2,7 @@
 //! that is filed.
 #![tactic(auto)]
 
-ghost use Rattle.std.specs.Prelude.{◌≡◌, ◌<◌, ◌++◌, ◌∷◌, [], IfOk, OnErr};
-ghost use Rattle.model.specs.Calendar.{moment_limit};
+ghost use Rattle.std.specs.Prelude.{◌≡◌, ◌++◌, ◌∷◌, [], IfOk, OnErr};
 ghost use Rattle.model.specs.Lawful.{IsLawful, IsLawfulSession};
 ghost use Rattle.posting_commands.specs.Accepted.{change_of};
 ghost use Rattle.session.specs.Served.{IsFiled, IsServed};
@@ -14,7 +13,7 @@ mod steps;
 
 use change_spool::{ChangeSpool, FilingError};
 use messages::Step;
-use model::{Answer, Mark, Message, Session, Text, lawful_stays};
+use model::{Answer, Mark, Message, Moment, Session, Text, lawful_stays};
 use plain_commands::full;
 use posting_commands::{Accepted, Stored};
 use replies::Answered;
@@ -32,23 +31,24 @@ pub struct Served {
     pub reads: u64,
 }
 
-/// Answers a message and files the change that it accepts, at a moment in seconds since 1970, below 253,402,300,800.
-/// The mark is `Long` if a posted article is refused because it would be too long as it is stored. It is `Full` if
-/// there is no room for the change, and otherwise `Served`. Refused only for want of memory, with nothing changed.
+/// Answers a message and files the change that it accepts, at this moment. The mark is `Long` if a posted article is
+/// refused because it would be too long as it is stored. It is `Full` if there is no room for the change, and otherwise
+/// `Served`. Refused only for want of memory, with nothing changed.
 pub fn serve<S: ChangeSpool>(
     alloc: Global,
     spool: &mut S,
     session: &Session,
     message: &Message,
-    moment: u64,
+    moment: Moment,
 ) -> Result<Served, AllocError>
-    requires moment { moment < moment_limit }
-    requires session { IsLawfulSession (S.host_of spool.old) session.now }
+    requires { IsLawfulSession (S.host_of spool.old) session.now }
     ensures ok { IfOk result (IsServed (S.host_of spool.old) (S.changes spool.old) (S.lacks_room spool.old) (S.adds spool.old spool.new)
         (spool.new ≡ spool.old) session.now message.now moment) }
     ensures err { OnErr result (spool.new ≡ spool.old) }
 {
     lawful_stays();
+    // its clauses state that the moment is before the year 10000
+    let _seconds = moment.seconds();
     let Step {
         reply,
         next,

@@ -1,8 +1,7 @@
 //! Messages, by what the session awaits.
 
-ghost use Rattle.std.specs.Prelude.{◌≡◌, ◌<◌, IfOk, None};
+ghost use Rattle.std.specs.Prelude.{◌≡◌, IfOk, None};
 ghost use Rattle.model.specs.Answer.{awaiting, line_answer, says};
-ghost use Rattle.model.specs.Calendar.{moment_limit};
 ghost use Rattle.model.specs.Commands.{parsed_line};
 ghost use Rattle.model.specs.Reads.{line_reads};
 ghost use Rattle.model.specs.declared.session.Awaits.TheVariants as waits;
@@ -15,7 +14,7 @@ ghost use Rattle.session.specs.Steps.{posted_step, served_step, step_of, taken};
 use crate::commands::command;
 use grammar::arguments_are_in_grammar;
 use lookups::LookUps;
-use model::{Answer, Awaits, Mark, Message, Parsed, Session, Text};
+use model::{Answer, Awaits, Mark, Message, Moment, Parsed, Session, Text};
 use plain_commands::ends;
 use posting_commands::{Accepted, Posted, ihave_block, post_block};
 use replies::{Answered, Reply, says_line};
@@ -84,9 +83,8 @@ fn line<L: LookUps>(
     spool: &L,
     session: &Session,
     text: &[u8],
-    moment: u64,
+    moment: Moment,
 ) -> Result<Answered, AllocError>
-    requires { moment < moment_limit }
     ensures { IfOk result (λ r. r ≡ answered
         (line_answer (L.host_of spool.now) (L.changes spool.now) session.now moment (parsed_line text.now))
         (line_reads (L.host_of spool.now) (L.changes spool.now) session.now moment (parsed_line text.now))) }
@@ -106,9 +104,8 @@ pub(crate) fn at_line<'m, L: LookUps>(
     spool: &L,
     session: &Session,
     message: &'m Message,
-    moment: u64,
+    moment: Moment,
 ) -> Result<Step<'m>, AllocError>
-    requires { moment < moment_limit }
     ensures { IfOk result (λ step. taken step
         ≡ step_of (L.host_of spool.now) (L.changes spool.now) session.now moment waits.Line message.now) }
 {
@@ -129,9 +126,8 @@ pub(crate) fn at_post<'m, L: LookUps>(
     spool: &L,
     session: &Session,
     message: &'m Message,
-    moment: u64,
+    moment: Moment,
 ) -> Result<Step<'m>, AllocError>
-    requires { moment < moment_limit }
     ensures { IfOk result (λ step. taken step ≡ step_of (L.host_of spool.now) (L.changes spool.now) session.now moment waits.PostBlock
         message.now) }
 {
@@ -153,7 +149,7 @@ pub(crate) fn at_ihave<'m, L: LookUps>(
     session: &Session,
     id: &[u8],
     message: &'m Message,
-    moment: u64,
+    moment: Moment,
 ) -> Result<Step<'m>, AllocError>
     ensures { IfOk result (λ step. taken step ≡ step_of (L.host_of spool.now) (L.changes spool.now) session.now moment
         (waits.IhaveBlock id.now) message.now) }
@@ -182,7 +178,7 @@ pub(crate) fn at_nothing<'m, L: LookUps>(
     spool: &L,
     session: &Session,
     message: &'m Message,
-    moment: u64,
+    moment: Moment,
 ) -> Result<Step<'m>, AllocError>
     ensures { IfOk result (λ step. taken step
         ≡ step_of (L.host_of spool.now) (L.changes spool.now) session.now moment waits.Nothing message.now) }

@@ -1,30 +1,28 @@
 //! The step of a session: the answer to one message, its mark, and what it reads. `specs/Answer.antt` and
 //! `specs/Reads.antt` of the crate `model` say what each step is. Each call is refused only for want of memory.
 
-ghost use Rattle.std.specs.Prelude.{◌≡◌, ◌<◌, IfOk, if◌then◌else◌};
+ghost use Rattle.std.specs.Prelude.{◌≡◌, IfOk, if◌then◌else◌};
 ghost use Rattle.model.specs.Answer as answers;
-ghost use Rattle.model.specs.Calendar.{moment_limit};
 ghost use Rattle.model.specs.Reads.{reads};
 ghost use Rattle.model.specs.declared.message.Mark.TheVariants as mark;
 ghost use Rattle.session.specs.Steps.{step_of, taken};
 
 use crate::messages::{Step, at_ihave, at_line, at_nothing, at_post};
 use lookups::LookUps;
-use model::{Awaits, Message, Session};
+use model::{Awaits, Message, Moment, Session};
 use std::alloc::{AllocError, Global};
 
-/// Answers a message at a moment in seconds since 1970, below 253,402,300,800. A line is a command (RFC 3977, section
-/// 3.1), and a block is the article that POST or IHAVE asked for; a message of another kind than the session awaits is
-/// a bad line. The answer is that of `specs/Answer.antt` for this mark. It does not check for room and changes nothing:
-/// the caller files the article that it accepts, which has already been read.
+/// Answers a message at this moment. A line is a command (RFC 3977, section 3.1), and a block is the article that POST
+/// or IHAVE asked for; a message of another kind than the session awaits is a bad line. The answer is that of
+/// `specs/Answer.antt` for this mark. It does not check for room and changes nothing: the caller files the article that
+/// it accepts, which has already been read.
 pub(crate) fn step<'m, L: LookUps>(
     alloc: Global,
     spool: &L,
     session: &Session,
     message: &'m Message,
-    moment: u64,
+    moment: Moment,
 ) -> Result<Step<'m>, AllocError>
-    requires { moment < moment_limit }
     ensures answer { IfOk result (λ step. (taken step).answer ≡ answers.answer (L.host_of spool.now)
         (L.changes spool.now) session.now message.now moment step.mark) }
     ensures reads { IfOk result (λ step. step.reads ≡ reads (L.host_of spool.now) (L.changes spool.now) session.now message.now moment
@@ -41,9 +39,8 @@ fn by_kind<'m, L: LookUps>(
     spool: &L,
     session: &Session,
     message: &'m Message,
-    moment: u64,
+    moment: Moment,
 ) -> Result<Step<'m>, AllocError>
-    requires { moment < moment_limit }
     ensures { IfOk result (λ step. taken step ≡ step_of (L.host_of spool.now) (L.changes spool.now) session.now moment session.now.awaits
         message.now) }
 {

@@ -4,16 +4,13 @@ ghost use Rattle.std.specs.Prelude.{IsTrue};
 ghost use Rattle.kernel.specs.Kernel.{FitsMode};
 
 use kernel::{BatchBuf, ExecError, Kernel};
-use model::{Mark, Message, Mode, Text};
+use model::{Mark, Message, Mode, Moment, Text};
 use std::alloc::{AllocError, Global};
 use std::sync::{Mutex, Wait};
 use std::thread;
 
 /// The articles of each poster.
 pub(crate) const ARTICLES: u64 = 100;
-
-/// The moment of all articles, in seconds since 1970.
-const MOMENT: u64 = 1_000_000_000;
 
 /// How often a message is offered while the answer is to try again later.
 const TRIES: u32 = 1_000_000;
@@ -27,6 +24,11 @@ const LINES: u32 = 120;
 const LINE_TEXT: usize = 510;
 
 const BLOCK_TEXT: usize = 262_144;
+
+/// The moment of the group and of all articles.
+pub(crate) fn post_moment() -> Option<Moment> {
+    Moment::at(1_000_000_000)
+}
 
 /// The message-id of an article.
 pub(crate) fn message_id(alloc: Global, article: u64) -> Result<String, AllocError> {
@@ -120,7 +122,10 @@ impl<'a> Poster<'a> {
         if !fits(kernel.mode(self.session), message) {
             return Err(ExecError::NoSession);
         }
-        let (_next, mark) = kernel.exec(alloc, self.session, message, MOMENT)?;
+        let Some(moment) = post_moment() else {
+            return Err(ExecError::NoSession);
+        };
+        let (_next, mark) = kernel.exec(alloc, self.session, message, moment)?;
         Ok(mark)
     }
 

@@ -1,12 +1,13 @@
 //! A kernel under a lock, and two threads that post.
 
-use crate::posters::{ARTICLES, Poster};
+use crate::posters::{ARTICLES, Poster, post_moment};
 use crate::tally::{has_each_id, has_each_number};
 use journal::Journal;
 use kernel::{BatchBuf, Kernel};
 use lookups::LookUps;
 use memdisk::MemDisk;
-use names::{GroupName, is_host};
+use model::Status;
+use names::{Description, GroupName, GroupRequest, is_host};
 use new_volume::{FORMAT_2, VolumePlan, are_sizes, device_octets, format};
 use std::alloc::Global;
 use std::sync::{Mutex, Wait};
@@ -61,12 +62,15 @@ fn new_kernel(alloc: Global) -> Option<Kernel> {
 
 /// Whether the group `x.a` was made, and its change is durable.
 fn makes_group<R: Wait>(rt: &R, alloc: Global, kernel: &Mutex<Kernel>) -> Option<()> {
-    let name = GroupName::read(b"x.a").ok()?;
+    let group = GroupRequest {
+        name: GroupName::read(b"x.a").ok()?,
+        status: Status::Open,
+        description: Description::read(alloc, b"test").ok()?,
+        moment: post_moment()?,
+    };
     let mut batch = BatchBuf::new(alloc).ok()?;
     let mut kernel = kernel.lock(rt);
-    kernel
-        .admin(alloc, &name, b'y', b"test", 1_000_000_000)
-        .ok()?;
+    kernel.admin(alloc, &group).ok()?;
     let ticket = kernel.take_batch(&mut batch)?;
     kernel.committed(ticket).ok()
 }

@@ -1,13 +1,7 @@
 //! What a line of a script asks of a world, and the world's answers in words.
 
-ghost use Rattle.std.specs.Prelude.{IfOk, OnOk};
-ghost use Rattle.std.specs.List.{All};
-ghost use Rattle.script.specs.Script.{IsLawful};
-ghost use Rattle.world.specs.Events.{MayHappen};
-
 use crate::errors::SimError;
 use model::Mark;
-use names::GroupName;
 use script::{Line, ParseError, number, parse};
 use std::alloc::{AllocError, Global};
 use world::{Answer, Event, StepError};
@@ -16,9 +10,7 @@ use world::{Answer, Event, StepError};
 pub type Row = (&'static str, &'static str);
 
 /// What a line asks.
-pub(crate) fn event(alloc: Global, line: &str) -> Result<Event, SimError>
-    ensures { IfOk result MayHappen }
-{
+pub(crate) fn event(alloc: Global, line: &str) -> Result<Event, SimError> {
     if let Some(session) = line.strip_prefix("release ") {
         return release_of(session);
     }
@@ -30,35 +22,17 @@ pub(crate) fn event(alloc: Global, line: &str) -> Result<Event, SimError>
 }
 
 // A script has no line for this.
-fn release_of(session: &str) -> Result<Event, SimError>
-    ensures { IfOk result MayHappen }
-{
+fn release_of(session: &str) -> Result<Event, SimError> {
     match number(session.as_bytes()) {
         Some(session) => Ok(Event::ReleaseOf(session)),
         None => Err(SimError::NoEvent),
     }
 }
 
-fn event_of(line: Line) -> Result<Event, SimError>
-    requires { IsLawful line }
-    ensures { IfOk result MayHappen }
-{
+fn event_of(line: Line) -> Result<Event, SimError> {
     match line {
-        Line::Group {
-            name,
-            status,
-            moment,
-            description,
-        } => Ok(Event::Admin {
-            name: group_name(&name)?,
-            status,
-            description,
-            moment,
-        }),
-        Line::Expire { name, number } => Ok(Event::Expire {
-            name: group_name(&name)?,
-            number,
-        }),
+        Line::Group(group) => Ok(Event::Admin(group)),
+        Line::Expire { name, number } => Ok(Event::Expire { name, number }),
         Line::Join => Ok(Event::Join),
         Line::Leave(session) => Ok(Event::Leave(session)),
         Line::Arrive { session, octets } => Ok(Event::Arrive(session, octets)),
@@ -71,30 +45,10 @@ fn event_of(line: Line) -> Result<Event, SimError>
     }
 }
 
-fn group_name(octets: &[u8]) -> Result<GroupName, SimError> {
-    match GroupName::read(octets) {
-        Ok(name) => Ok(name),
-        Err(_) => Err(SimError::NoEvent),
-    }
-}
-
-/// Appends an event that may happen.
-#[tactic(auto, using(crate::proofs::Listed::may_push))]
-fn push(events: &mut Vec<Event>, event: Event) -> Result<(), AllocError>
-    requires may { MayHappen event }
-    requires all { All MayHappen events.old.items }
-    ensures { OnOk result (All MayHappen events.new.items) }
-{
-    Ok(events.push(event)?)
-}
-
 /// Appends the events that these lines ask for.
-pub(crate) fn read(alloc: Global, rows: &[Row], events: &mut Vec<Event>) -> Result<(), SimError>
-    requires { All MayHappen events.old.items }
-    ensures { OnOk result (All MayHappen events.new.items) }
-{
+pub(crate) fn read(alloc: Global, rows: &[Row], events: &mut Vec<Event>) -> Result<(), SimError> {
     for (line, _) in rows {
-        push(events, event(alloc, line)?)?;
+        events.push(event(alloc, line)?)?;
     }
     Ok(())
 }

@@ -1,9 +1,5 @@
 //! A device and a world over it, sealed: the proof of a caller learns nothing about them.
 
-ghost use Rattle.std.specs.Prelude.{Some};
-ghost use Rattle.std.specs.List.{All};
-ghost use Rattle.world.specs.Events.{MayHappen};
-
 use crate::copying::Room;
 use crate::errors::SimError;
 use crate::events::{Row, event, read, said};
@@ -265,14 +261,10 @@ fn opened(alloc: Global, disk: MemDisk) -> Result<World<MemDisk>, Refused<MemDis
     World::open(alloc, disk)
 }
 
-fn stepped(alloc: Global, world: &mut World<MemDisk>, event: &Event) -> Result<Answer, StepError>
-    requires { MayHappen event.now }
-{
+fn stepped(alloc: Global, world: &mut World<MemDisk>, event: &Event) -> Result<Answer, StepError> {
     world.step(alloc, event)
 }
 
-fn ran(alloc: Global, world: &mut World<MemDisk>, events: &[Event]) -> u64
-    requires { All MayHappen events.now }
-{
+fn ran(alloc: Global, world: &mut World<MemDisk>, events: &[Event]) -> u64 {
     world.run(alloc, events)
 }

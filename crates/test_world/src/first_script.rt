@@ -124,10 +124,10 @@ pub(crate) fn is_opened(alloc: Global, sim: &Sim, count: u64) -> Result<bool, Fa
 }
 
 fn is_served(entry: &Entry) -> bool {
-    matches!(
-        entry.happened(),
-        Happened::Command(1, 1_000_000_000, Mark::Served)
-    )
+    match entry.happened() {
+        Happened::Command(1, moment, Mark::Served) => moment.seconds() == 1_000_000_000,
+        _ => false,
+    }
 }
 
 /// Whether the trace is that of the whole script.
@@ -140,7 +140,7 @@ fn is_traced(trace: &[Entry]) -> bool {
 
 fn is_made(entry: &Entry) -> bool {
     match entry.happened() {
-        Happened::Admin(Change::Group { name, .. }) => name.as_slice() == b"x.a".as_slice(),
+        Happened::Admin(Change::Group(group)) => group.name.as_slice() == b"x.a".as_slice(),
         _ => false,
     }
 }
@@ -222,8 +222,8 @@ fn expired() -> &'static [Row] {
 fn is_expired(trace: &[Entry]) -> bool {
     match trace {
         [.., last] => match last.happened() {
-            Happened::Admin(Change::Expire { group, number }) => {
-                group.as_slice() == b"x.a".as_slice() && *number == 1
+            Happened::Admin(Change::Expire(expiry)) => {
+                expiry.group.as_slice() == b"x.a".as_slice() && expiry.number == 1
             }
             _ => false,
         },

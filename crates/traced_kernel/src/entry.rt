@@ -1,13 +1,13 @@
 //! The entries of the trace.
 
-use model::{Change, Mark};
+use model::{Change, Mark, Moment};
 use std::marker::Model;
 
 /// What happened, as an entry of the trace records it.
 #[derive(Drop)]
 pub enum Happened {
     /// A session's message was served: the session, the moment, and the mark.
-    Command(u64, u64, Mark),
+    Command(u64, Moment, Mark),
     /// The operator made a change.
     Admin(Change),
 }

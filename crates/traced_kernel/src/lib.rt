@@ -3,18 +3,16 @@
 //! does.
 #![tactic(auto)]
 
-ghost use Rattle.std.specs.Prelude.{◌≡◌, ◌≢◌, ◌⊎◌, ◌↔◌, ◌+◌, ◌*◌, ◌≤◌, ◌<◌, [], Option, Some, None, Ok, IsTrue, IsSome, IsNone, IfOk};
+ghost use Rattle.std.specs.Prelude.{◌≡◌, ◌≢◌, ◌⊎◌, ◌↔◌, ◌+◌, ◌*◌, [], Option, Some, None, Ok, IsTrue, IsSome, IsNone, IfOk};
 ghost use Rattle.std.specs.Prelude.{IfSome, OnOk, OnErr, length, true, false, is_none};
-ghost use Rattle.std.specs.List.{list_all};
 ghost use Rattle.kernel.specs.Errors.{of_join, of_admin, of_expire};
 ghost use Rattle.traced_kernel.specs.Errors.{of_arrive};
 ghost use Rattle.kernel.specs.Kept.{IsKept};
 ghost use Rattle.kernel.specs.Kernel.{Takes, Tested, TestedOrMemory, admin_refusal_of, early_refusal, expire_refusal_of, halted_for_good};
 ghost use Rattle.kernel.specs.Kernel.{has_batch, join_refusal, made_durable, mode_at};
-ghost use Rattle.model.specs.Calendar.{moment_limit};
-ghost use Rattle.model.specs.Lawful.{is_description_octet};
 ghost use Rattle.model.specs.Volume.{blocks_from};
 ghost use Rattle.model.specs.declared.change.Change.TheVariants.{Expire, Group};
+ghost use Rattle.names.specs.Requests.{group_of};
 ghost use Rattle.traced_kernel.specs.Events.{DidExec, Makes, arrive_refusal, arrives, joins};
 ghost use Rattle.traced_kernel.specs.Events.{leaves, opens, releases, releases_of, with_kernel};
 ghost use Rattle.synchrony.specs.Server.{Admin};
@@ -31,8 +29,8 @@ pub use input::Input;
 use kernel::{
     AdminError, BatchBuf, ExecError, ExpireError, JoinError, Kernel, Spool, Stale, Ticket,
 };
-use model::{Change, Mark, Mode, Text};
-use names::GroupName;
+use model::{Change, Expiry, Mark, Mode, Moment, NewGroup, Text};
+use names::{GroupName, GroupRequest};
 use outbox::ReadyBuf;
 pub use peer::Peer;
 use std::alloc::{AllocError, Global};
@@ -154,16 +152,15 @@ impl TracedKernel {
         Ok(())
     }
 
-    /// Serves a session's next whole message at a moment, in seconds since 1970; `None` if no message has arrived
-    /// whole. Refused as by the kernel, but `Memory` may come before any refusal except `NoSession`. A refusal changes
-    /// nothing, and the message is still the session's next one.
+    /// Serves a session's next whole message at this moment; `None` if no message has arrived whole. Refused as by the
+    /// kernel, but `Memory` may come before any refusal except `NoSession`. A refusal changes nothing, and the message is
+    /// still the session's next one.
     pub fn exec(
         &mut self,
         alloc: Global,
         number: u64,
-        moment: u64,
+        moment: Moment,
     ) -> Result<Option<(Option<Mode>, Mark)>, ExecError>
-        requires { moment < moment_limit }
         ensures { DidExec self.old number moment (mode_at self.old.kernel number) (next_of self.old number) result self.new }
     {
         let Some(mode) = self.kernel.mode(number) else {
@@ -190,30 +187,19 @@ impl TracedKernel {
 
     /// Makes a group for the operator, and answers its serial. Refused as by the kernel, in the same order, but
     /// `Memory` may come at any growth, which is never before `Halted` and `LaterDirty`; a refusal changes nothing.
-    pub fn admin(
-        &mut self,
-        alloc: Global,
-        name: &GroupName,
-        status: u8,
-        description: &[u8],
-        moment: u64,
-    ) -> Result<u64, AdminError>
-        requires status { (status ≡ 121) ⊎ (status ≡ 110) }
-        requires short { length description.now ≤ 200 }
-        requires printable { IsTrue (list_all is_description_octet description.now) }
-        requires moment { moment < moment_limit }
-        ensures { let change = Group name.now status description.now moment in
+    pub fn admin(&mut self, alloc: Global, group: &GroupRequest) -> Result<u64, AdminError>
+        ensures { let change = Group (group_of group.now) in
             TestedOrMemory of_admin AdminError.Memory (early_refusal self.old.kernel) (admin_refusal_of self.old.kernel change)
             self.old self.new result (Makes self.old self.new change) }
     {
         self.kernel.may_administer()?;
-        let Ok(entry) = group_entry(alloc, name, status, description, moment) else {
+        let Ok(entry) = group_entry(alloc, group) else {
             return Err(AdminError::Memory);
         };
         if self.trace.reserve(1).is_err() {
             return Err(AdminError::Memory);
         }
-        let serial = self.kernel.admin(alloc, name, status, description, moment)?;
+        let serial = self.kernel.admin(alloc, group)?;
         self.trace.push_reserved(entry);
         Ok(serial)
     }
@@ -227,7 +213,7 @@ impl TracedKernel {
         name: &GroupName,
         number: u32,
     ) -> Result<u64, ExpireError>
-        ensures { let change = Expire name.now number in
+        ensures { let change = Expire (record { group = name.now; number = number }) in
             TestedOrMemory of_expire ExpireError.Memory (early_refusal self.old.kernel) (expire_refusal_of self.old.kernel change)
             self.old self.new result (Makes self.old self.new change) }
     {
@@ -353,29 +339,23 @@ impl TracedKernel {
 }
 
 /// The entry of a group that the operator makes.
-fn group_entry(
-    alloc: Global,
-    name: &GroupName,
-    status: u8,
-    description: &[u8],
-    moment: u64,
-) -> Result<Entry, AllocError>
-    ensures { IfOk result (λ entry. entry ≡ Admin (Group name.now status description.now moment)) }
+fn group_entry(alloc: Global, group: &GroupRequest) -> Result<Entry, AllocError>
+    ensures { IfOk result (λ entry. entry ≡ Admin (Group (group_of group.now))) }
 {
-    Ok(Entry::new(Happened::Admin(Change::Group {
-        name: Text::new(name.as_slice().to_vec(alloc)?),
-        status,
-        description: Text::new(description.to_vec(alloc)?),
-        moment,
-    })))
+    Ok(Entry::new(Happened::Admin(Change::Group(NewGroup {
+        name: Text::new(group.name.as_slice().to_vec(alloc)?),
+        status: group.status,
+        description: Text::new(group.description.as_slice().to_vec(alloc)?),
+        moment: group.moment,
+    }))))
 }
 
 /// The entry for the articles that the operator removes from a group.
 fn expiry_entry(alloc: Global, name: &GroupName, number: u32) -> Result<Entry, AllocError>
-    ensures { IfOk result (λ entry. entry ≡ Admin (Expire name.now number)) }
+    ensures { IfOk result (λ entry. entry ≡ Admin (Expire (record { group = name.now; number = number }))) }
 {
-    Ok(Entry::new(Happened::Admin(Change::Expire {
+    Ok(Entry::new(Happened::Admin(Change::Expire(Expiry {
         group: Text::new(name.as_slice().to_vec(alloc)?),
         number: u64::from(number),
-    })))
+    }))))
 }

@@ -124,8 +124,7 @@ module _ {D : Type 0} (device : D → Device) (write_grows sync_grows : Bool) (o
       by_tests of_kernel error.Memory None (arrive_refusal (kernel_of old) number) r _ (λ a done. by_served _ done.1)
       (tested_or of_kernel error.Memory (arrive_refusal (kernel_of old) number) old new r _ d)
   did_left (event.Exec number moment) r h d = left_exec number moment (mode_at (kernel_of old) number) (next_of old.served number) r d
-  did_left (event.Admin name status description moment) r h d =
-      by_tests of_kernel error.Memory _ _ r _ (λ a done. by_served new.served done.3) d
+  did_left (event.Admin group) r h d = by_tests of_kernel error.Memory _ _ r _ (λ a done. by_served new.served done.3) d
   did_left (event.Expire name number) r h d = by_tests of_kernel error.Memory _ _ r _ (λ a done. by_served new.served done.3) d
   did_left event.Take r h d = left_take r d
   did_left event.Dev r h d = left_dev r h d

@@ -1,7 +1,4 @@
 -- What each event does, by its answer.
-use Rattle.std.specs.List.{list_all}
-use Rattle.model.specs.Calendar.{moment_limit}
-use Rattle.model.specs.Lawful.{is_description_octet}
 use Rattle.std.specs.Prelude.{◌⊎◌, ◌<◌, ◌≤◌, IsTrue, ◌≡◌, ◌≢◌, ℕ, ◌+◌, Bool, true, false, List, [], ◌∷◌, ◌++◌, length, drop, map}
 use Rattle.std.specs.Prelude.{slice_index_or, Option, Some, None, Result, Ok, Err, IfErr, MatchResult, slice_get, take}
 use Rattle.disk.specs.Device.{Device}
@@ -30,6 +27,7 @@ use Rattle.model.specs.declared.change.Change.TheVariants.{Expire, Group}
 use Rattle.model.specs.declared.message.Mark.{Mark}
 use Rattle.model.specs.declared.message.Message.{Message}
 use Rattle.model.specs.declared.message.Mode.{Mode}
+use Rattle.names.specs.Requests.{group_of}
 use Rattle.traced_kernel.specs.Events.{Makes, Serves, arrive_refusal, arrives, joins, leaves, releases, releases_of, with_kernel}
 use Rattle.traced_kernel.specs.Traced.{next_of}
 use Rattle.world.specs.World.{HasFailed, IsDurable, News, WorldView, kernel_of, with_served}
@@ -142,16 +140,16 @@ Did device write_grows sync_grows old (event.Arrive number octets) result new =
     (λ a. (a ≡ answer.Done) × (new ≡ with_served old (arrives old.served number octets.items)))
 Did device write_grows sync_grows old (event.Exec number moment) result new =
     DidExec old number moment (mode_at (kernel_of old) number) (next_of old.served number) result new
-Did device write_grows sync_grows old (event.Admin name status description moment) result new =
-    TestedOrMemory of_kernel error.Memory (early_refusal (kernel_of old))
-    (admin_refusal_of (kernel_of old) (Group name status description.items moment)) old new result
-    (λ a. (serial : ℕ) × (a ≡ answer.Made serial) × Makes old.served new.served (Group name status description.items moment) serial
+Did device write_grows sync_grows old (event.Admin group) result new =
+    TestedOrMemory of_kernel error.Memory (early_refusal (kernel_of old)) (admin_refusal_of (kernel_of old) (Group (group_of group))) old
+    new result
+    (λ a. (serial : ℕ) × (a ≡ answer.Made serial) × Makes old.served new.served (Group (group_of group)) serial
     × (new ≡ with_served old new.served))
 Did device write_grows sync_grows old (event.Expire name number) result new =
-    TestedOrMemory of_kernel error.Memory (early_refusal (kernel_of old)) (expire_refusal_of (kernel_of old) (Expire name number)) old new
-    result
-    (λ a. (serial : ℕ) × (a ≡ answer.Made serial) × Makes old.served new.served (Expire name number) serial
-    × (new ≡ with_served old new.served))
+    TestedOrMemory of_kernel error.Memory (early_refusal (kernel_of old))
+    (expire_refusal_of (kernel_of old) (Expire (record { group = name; number = number }))) old new result
+    (λ a. (serial : ℕ) × (a ≡ answer.Made serial)
+    × Makes old.served new.served (Expire (record { group = name; number = number })) serial × (new ≡ with_served old new.served))
 Did device write_grows sync_grows old event.Take result new = DidTake old result new
 Did device write_grows sync_grows old event.Dev result new = DidDev device write_grows sync_grows old result new
 Did device write_grows sync_grows old event.Told result new =
@@ -220,11 +218,3 @@ of_expire_error expire.Memory = error.Memory
 abbrev pub of_arrive_error : ArriveError → StepError
 of_arrive_error arrive.NoSession = error.NoSession
 of_arrive_error arrive.Memory = error.Memory
-
--- the conditions of an event: its moment and the fields of a group are in their ranges
-abbrev pub MayHappen : Event → Type 0
-MayHappen (event.Exec number moment) = moment < moment_limit
-MayHappen (event.Admin name status description moment) =
-    ((status ≡ 121) ⊎ (status ≡ 110)) × (length description.items ≤ 200) × IsTrue (list_all is_description_octet description.items)
-    × (moment < moment_limit)
-MayHappen e = Unit {0}

@@ -1,11 +1,11 @@
 //! The events of the whole system, and the answers to them.
 
 use journal::Progress;
-use model::{Mark, Mode};
-use names::GroupName;
+use model::{Mark, Mode, Moment};
+use names::{GroupName, GroupRequest};
 use thiserror::Error;
 
-/// An event. Sessions are named by their numbers; a moment is in seconds since 1970.
+/// An event. Sessions are named by their numbers.
 #[derive(Drop)]
 pub enum Event {
     /// A session begins.
@@ -15,21 +15,11 @@ pub enum Event {
     /// Octets arrive for a session.
     Arrive(u64, Vec<u8>),
     /// A session's next whole message is served, if there is one, at a moment.
-    Exec(u64, u64),
+    Exec(u64, Moment),
     /// The operator makes a group.
-    Admin {
-        name: GroupName,
-        /// `y` or `n`
-        status: u8,
-        /// at most 200 octets of 32 to 126
-        description: Vec<u8>,
-        moment: u64,
-    },
+    Admin(GroupRequest),
     /// The operator removes the articles of a group up to a number.
-    Expire {
-        name: GroupName,
-        number: u32,
-    },
+    Expire { name: GroupName, number: u32 },
     /// The journal begins a batch of the dirty blocks, if it is idle and there are any.
     Take,
     /// The journal makes its next device call.

@@ -3,16 +3,14 @@
 //! event does, `specs/Tied.antt` what the system's invariant is.
 #![tactic(auto)]
 
-ghost use Rattle.std.specs.Prelude.{◌≢◌, IfOk, IfErr, ◌≡◌, ◌⊎◌, ◌≤◌, ◌<◌, ℕ, Some, Ok, Err, true, [], take, slice_get, MatchOption, ◌||◌};
+ghost use Rattle.std.specs.Prelude.{◌≢◌, IfOk, IfErr, ◌≡◌, ◌⊎◌, ◌≤◌, ℕ, Some, Ok, Err, true, [], take, MatchOption, ◌||◌};
 ghost use Rattle.std.specs.Prelude.{IsTrue, length, MatchResult};
-ghost use Rattle.std.specs.List.{list_all};
 ghost use Rattle.kernel.specs.Kernel.{Tested, TestedOrMemory, admin_refusal_of, early_refusal, expire_refusal_of, mode_at};
-ghost use Rattle.model.specs.Calendar.{moment_limit};
-ghost use Rattle.model.specs.Lawful.{is_description_octet};
 ghost use Rattle.model.specs.declared.change.Change.TheVariants.{Expire, Group};
+ghost use Rattle.names.specs.Requests.{group_of};
 ghost use Rattle.traced_kernel.specs.Events.{Makes, arrive_refusal, arrives, leaves};
 ghost use Rattle.traced_kernel.specs.Traced.{arrived_at, next_of, released_at};
-ghost use Rattle.world.specs.Events.{Did, DidDev, DidExec, DidTake, MayHappen, Ran, Went, commits, dev_answer, exec_answer, fails};
+ghost use Rattle.world.specs.Events.{Did, DidDev, DidExec, DidTake, Ran, Went, commits, dev_answer, exec_answer, fails};
 ghost use Rattle.world.specs.Events.{for_memory, of_admin_error, of_arrive_error, of_expire_error, of_join_error, of_kernel, told};
 ghost use Rattle.world.specs.Fields.{durable_news};
 ghost use Rattle.disk.specs.Device.{Elapses};
@@ -25,7 +23,6 @@ ghost use Rattle.world.specs.Images.{EachNow, EachSince, Fits, KeepsSpools, Left
 ghost use Rattle.world.specs.Opening.{IsNew};
 ghost use Rattle.world.specs.Tied.{IsWorld};
 ghost use Rattle.world.specs.World.{WorldView, kernel_of, with_served};
-ghost use Rattle.world.specs.declared.events.Event.{Event as ItsEvent};
 
 mod events;
 
@@ -34,8 +31,8 @@ pub use events::{Answer, Event, StepError};
 use journal::{Journal, JournalError, Progress};
 pub use kernel::Spool;
 use kernel::{AdminError, BatchBuf, ExecError, ExpireError, JoinError, Ticket};
-use model::{Mark, Mode};
-use names::GroupName;
+use model::{Mark, Mode, Moment};
+use names::{GroupName, GroupRequest};
 use opening::Opened;
 pub use opening::{OpenError, Refused};
 use outbox::ReadyBuf;
@@ -171,7 +168,6 @@ impl<D: Disk> World<D> {
     /// `specs/Events.antt`). `keeps` says that the system's invariant holds again afterwards (`IsWorld` in
     /// `specs/Tied.antt`).
     pub fn step(&mut self, alloc: Global, event: &Event) -> Result<Answer, StepError>
-        requires { MayHappen event.now }
         ensures did { Did D.device D.write_grows D.sync_grows self.old event.now result self.new }
         ensures during { EachSince (D.device self.old.journal.disk) (D.device self.new.journal.disk) (Fits self.old) }
         ensures now { EachNow (D.device self.new.journal.disk) (Fits self.new) }
@@ -189,7 +185,6 @@ impl<D: Disk> World<D> {
     /// leaves a disk that is externally synchronous with the state after some of them. A crash after the last one
     /// leaves one that is synchronous with the state at the end.
     pub fn run(&mut self, alloc: Global, events: &[Event]) -> u64
-        requires { (k : ℕ) (event : ItsEvent) → slice_get events.now k ≡ Some event → MayHappen event }
         ensures count { result ≤ length events.now }
         ensures went { Ran D.device D.write_grows D.sync_grows self.old events.now result self.new }
         ensures during { EachSince (D.device self.old.journal.disk) (D.device self.new.journal.disk)
@@ -276,7 +271,6 @@ impl<D: Disk> World<D> {
     }
 
     fn happen(&mut self, alloc: Global, event: &Event) -> Result<Answer, StepError>
-        requires { MayHappen event.now }
         ensures { Did D.device D.write_grows D.sync_grows self.old event.now result self.new }
     {
         match event {
@@ -284,12 +278,7 @@ impl<D: Disk> World<D> {
             Event::Leave(number) => self.leave(*number),
             Event::Arrive(number, octets) => self.arrive(*number, octets.as_slice()),
             Event::Exec(number, moment) => self.exec(alloc, *number, *moment),
-            Event::Admin {
-                name,
-                status,
-                description,
-                moment,
-            } => self.admin(alloc, name, *status, description.as_slice(), *moment),
+            Event::Admin(group) => self.admin(alloc, group),
             Event::Expire { name, number } => self.expire(alloc, name, *number),
             Event::Take => self.take(),
             Event::Dev => self.dev(),
@@ -328,34 +317,21 @@ impl<D: Disk> World<D> {
         }
     }
 
-    fn exec(&mut self, alloc: Global, number: u64, moment: u64) -> Result<Answer, StepError>
-        requires { moment < moment_limit }
+    fn exec(&mut self, alloc: Global, number: u64, moment: Moment) -> Result<Answer, StepError>
         ensures { DidExec self.old number moment (mode_at (kernel_of self.old) number) (next_of self.old.served number) result self.new }
     {
         self.served.kept();
         exec_answer(self.served.exec(alloc, number, moment))
     }
 
-    fn admin(
-        &mut self,
-        alloc: Global,
-        name: &GroupName,
-        status: u8,
-        description: &[u8],
-        moment: u64,
-    ) -> Result<Answer, StepError>
-        requires status { (status ≡ 121) ⊎ (status ≡ 110) }
-        requires short { length description.now ≤ 200 }
-        requires printable { IsTrue (list_all is_description_octet description.now) }
-        requires moment { moment < moment_limit }
+    fn admin(&mut self, alloc: Global, group: &GroupRequest) -> Result<Answer, StepError>
         ensures { TestedOrMemory of_kernel StepError.Memory (early_refusal (kernel_of self.old))
-            (admin_refusal_of (kernel_of self.old) (Group name.now status description.now moment)) self.old self.new result
-            (λ a. (serial : ℕ) × (a ≡ Answer.Made serial)
-            × Makes self.old.served self.new.served (Group name.now status description.now moment) serial
+            (admin_refusal_of (kernel_of self.old) (Group (group_of group.now))) self.old self.new result
+            (λ a. (serial : ℕ) × (a ≡ Answer.Made serial) × Makes self.old.served self.new.served (Group (group_of group.now)) serial
             × (self.new ≡ with_served self.old self.new.served)) }
     {
         self.served.kept();
-        match self.served.admin(alloc, name, status, description, moment) {
+        match self.served.admin(alloc, group) {
             Ok(serial) => Ok(Answer::Made(serial)),
             Err(error) => Err(admin_error(error)),
         }
@@ -363,8 +339,9 @@ impl<D: Disk> World<D> {
 
     fn expire(&mut self, alloc: Global, name: &GroupName, number: u32) -> Result<Answer, StepError>
         ensures { TestedOrMemory of_kernel StepError.Memory (early_refusal (kernel_of self.old))
-            (expire_refusal_of (kernel_of self.old) (Expire name.now number)) self.old self.new result
-            (λ a. (serial : ℕ) × (a ≡ Answer.Made serial) × Makes self.old.served self.new.served (Expire name.now number) serial
+            (expire_refusal_of (kernel_of self.old) (Expire (record { group = name.now; number = number }))) self.old self.new result
+            (λ a. (serial : ℕ) × (a ≡ Answer.Made serial)
+            × Makes self.old.served self.new.served (Expire (record { group = name.now; number = number })) serial
             × (self.new ≡ with_served self.old self.new.served)) }
     {
         self.served.kept();

@@ -22,7 +22,7 @@ file-requires g c =
     ∙ ap (option_map change_of) c.in-Some.is in
     let few : length S + 1 < 2 ^ 64 = omega (arith, g.met.S.LookUps.few s) in
     c.lawful_stays.ensures.spool host S x m t k its (g.met.S.LookUps.good_host s)
-    (g.met.S.LookUps.lawful s) c.requires.session c.requires.moment few
+    (g.met.S.LookUps.lawful s) c.requires c.seconds-seconds.ensures.limit few
     (not_long host S x m t k its c.in_ok-reply.ensures.mark makes) makes
 
 pub returns-in-Err-Full-clause-ok : goal.returns-in-Err-Full-clause-ok

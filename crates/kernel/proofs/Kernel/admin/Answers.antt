@@ -1,6 +1,7 @@
 use Rattle.std.proofs.Common.{◌≡◌, inl, inr, refl, ap, subst, ◌∙◌}
-use Rattle.model.specs.Stream.{Octets}
 use Rattle.model.specs.declared.change.Change.TheVariants.{Group}
+use Rattle.model.specs.declared.change.NewGroup.{NewGroup}
+use Rattle.names.specs.Requests.{group_of}
 use Rattle.std.specs.Prelude.{Some, None}
 use Rattle.spool.specs.View.{SpoolView}
 use Rattle.spool.specs.Refusals.{group_refusal}
@@ -15,18 +16,17 @@ use Rattle.kernel.proofs.Kernel.admin.Goals as goal
 pub returns-in-Err-Exists : goal.returns-in-Err-Exists
 returns-in-Err-Exists c =
     let s : SpoolView = c.self.inside.spool in
+    let g : NewGroup = group_of c.args.group.now in
     let early : early_refusal (kernel_of s c.self.inside.durable c.self.inside.in_flight c.self.inside.halted c.self.inside.joined
     c.self.inside.seats.items) ≡ None = ap early_refusal c.self.view_is
     ∙ passed of_admin (early_refusal c.args.self.now) c.in_ok-may_administer.field-0 c.in_ok-may_administer.ensures in
-    let told : group_refusal s c.as_slice.result.now (Group c.as_slice.result.now c.args.status c.args.description.now c.args.moment)
-    ≡ Some add.Exists = said add.Memory c.in-Err-Exists.field-0 add.Exists _ c.in-Err-Exists.field-0-is
-    (λ is. cc is) c.in-Err-Exists.ensures.0 in
+    let told : group_refusal s g.name (Group g) ≡ Some add.Exists =
+    said add.Memory c.in-Err-Exists.field-0 add.Exists _ c.in-Err-Exists.field-0-is (λ is. cc is) c.in-Err-Exists.ensures.0 in
     let fails = exists_when s c.self.inside.durable c.self.inside.in_flight c.self.inside.halted c.self.inside.joined
-    c.self.inside.seats.items c.as_slice.result.now c.args.status c.args.description.now c.args.moment early told in (
+    c.self.inside.seats.items g early told in (
       inr (
         Exists,
-        subst (λ (t : KernelView × Octets). admin_refusal_of t.0 (Group t.1 c.args.status c.args.description.now c.args.moment)
-            ≡ Some Exists) (λ i. (c.self.view_is i, c.as_slice.ensures.value i)) fails,
+        subst (λ (k : KernelView). admin_refusal_of k (Group g) ≡ Some Exists) c.self.view_is fails,
         refl,
       ),
       ap (λ (r : SpoolView). kernel_of r c.self.inside.durable c.self.inside.in_flight c.self.inside.halted c.self.inside.joined
@@ -36,17 +36,17 @@ returns-in-Err-Exists c =
 pub returns-in-Err-Full : goal.returns-in-Err-Full
 returns-in-Err-Full c =
     let s : SpoolView = c.self.inside.spool in
+    let g : NewGroup = group_of c.args.group.now in
     let early : early_refusal (kernel_of s c.self.inside.durable c.self.inside.in_flight c.self.inside.halted c.self.inside.joined
     c.self.inside.seats.items) ≡ None = ap early_refusal c.self.view_is
     ∙ passed of_admin (early_refusal c.args.self.now) c.in_ok-may_administer.field-0 c.in_ok-may_administer.ensures in
-    let told : group_refusal s c.as_slice.result.now (Group c.as_slice.result.now c.args.status c.args.description.now c.args.moment)
-    ≡ Some add.Full = said add.Memory c.in-Err-Full.field-0 add.Full _ c.in-Err-Full.field-0-is (λ is. cc is) c.in-Err-Full.ensures.0 in
+    let told : group_refusal s g.name (Group g) ≡ Some add.Full =
+    said add.Memory c.in-Err-Full.field-0 add.Full _ c.in-Err-Full.field-0-is (λ is. cc is) c.in-Err-Full.ensures.0 in
     let fails = full_when s c.self.inside.durable c.self.inside.in_flight c.self.inside.halted c.self.inside.joined
-    c.self.inside.seats.items c.as_slice.result.now c.args.status c.args.description.now c.args.moment early told in (
+    c.self.inside.seats.items g early told in (
       inr (
         Full,
-        subst (λ (t : KernelView × Octets). admin_refusal_of t.0 (Group t.1 c.args.status c.args.description.now c.args.moment)
-            ≡ Some Full) (λ i. (c.self.view_is i, c.as_slice.ensures.value i)) fails,
+        subst (λ (k : KernelView). admin_refusal_of k (Group g) ≡ Some Full) c.self.view_is fails,
         refl,
       ),
       ap (λ (r : SpoolView). kernel_of r c.self.inside.durable c.self.inside.in_flight c.self.inside.halted c.self.inside.joined
@@ -56,19 +56,18 @@ returns-in-Err-Full c =
 pub returns-in-Err-Memory : goal.returns-in-Err-Memory
 returns-in-Err-Memory c =
     let s : SpoolView = c.self.inside.spool in
+    let g : NewGroup = group_of c.args.group.now in
     let early : early_refusal (kernel_of s c.self.inside.durable c.self.inside.in_flight c.self.inside.halted c.self.inside.joined
     c.self.inside.seats.items) ≡ None = ap early_refusal c.self.view_is
     ∙ passed of_admin (early_refusal c.args.self.now) c.in_ok-may_administer.field-0 c.in_ok-may_administer.ensures in
-    let told : group_refusal s c.as_slice.result.now (Group c.as_slice.result.now c.args.status c.args.description.now c.args.moment)
-    ≡ None = unsaid add.Memory c.in-Err-Memory.field-0 _ c.in-Err-Memory.field-0-is
-    (no_group_memory s c.as_slice.result.now (Group c.as_slice.result.now c.args.status c.args.description.now c.args.moment))
+    let told : group_refusal s g.name (Group g) ≡ None = unsaid add.Memory c.in-Err-Memory.field-0 _ c.in-Err-Memory.field-0-is
+    (no_group_memory s g.name (Group g))
     c.in-Err-Memory.ensures.0 in
     let passes = none_when s c.self.inside.durable c.self.inside.in_flight c.self.inside.halted c.self.inside.joined
-    c.self.inside.seats.items c.as_slice.result.now c.args.status c.args.description.now c.args.moment early told in (
+    c.self.inside.seats.items g early told in (
       inl (
         refl,
-        subst (λ (t : KernelView × Octets). admin_refusal_of t.0 (Group t.1 c.args.status c.args.description.now c.args.moment)
-            ≡ None) (λ i. (c.self.view_is i, c.as_slice.ensures.value i)) passes,
+        subst (λ (k : KernelView). admin_refusal_of k (Group g) ≡ None) c.self.view_is passes,
       ),
       ap (λ (r : SpoolView). kernel_of r c.self.inside.durable c.self.inside.in_flight c.self.inside.halted c.self.inside.joined
           c.self.inside.seats.items) c.in-Err-Memory.ensures.1 ∙ c.self.view_is,
@@ -81,23 +80,23 @@ invariant_of-self-2 c =
     ∙ passed of_admin (early_refusal c.args.self.now) c.in_ok-may_administer.field-0 c.in_ok-may_administer.ensures in
     kept_grown c.self.inside.spool c.add_group.new.self c.self.inside.durable c.self.inside.in_flight c.self.inside.halted
     c.self.inside.joined c.self.inside.seats.items
-    (Some (Group c.as_slice.result.now c.args.status c.args.description.now c.args.moment))
+    (Some (Group (group_of c.args.group.now)))
     (λ _. few_dirty (kernel_of c.self.inside.spool c.self.inside.durable c.self.inside.in_flight c.self.inside.halted
     c.self.inside.joined c.self.inside.seats.items) early) (λ _. c.kept.ensures) c.in-Ok.ensures.1.1 c.self.invariant
 
 pub returns : goal.returns
 returns c =
     let s : SpoolView = c.self.inside.spool in
+    let g : NewGroup = group_of c.args.group.now in
     let early : early_refusal (kernel_of s c.self.inside.durable c.self.inside.in_flight c.self.inside.halted c.self.inside.joined
     c.self.inside.seats.items) ≡ None = ap early_refusal c.self.view_is
     ∙ passed of_admin (early_refusal c.args.self.now) c.in_ok-may_administer.field-0 c.in_ok-may_administer.ensures in
     let passes = none_when s c.self.inside.durable c.self.inside.in_flight c.self.inside.halted c.self.inside.joined
-    c.self.inside.seats.items c.as_slice.result.now c.args.status c.args.description.now c.args.moment early c.in-Ok.ensures.0 in
+    c.self.inside.seats.items g early c.in-Ok.ensures.0 in
     let done = administers s c.self.inside.durable c.self.inside.in_flight c.self.inside.halted c.self.inside.joined
-    c.self.inside.seats.items (Group c.as_slice.result.now c.args.status c.args.description.now c.args.moment) c.add_group.new.self
+    c.self.inside.seats.items (Group g) c.add_group.new.self
     c.in-Ok.serial c.in-Ok.ensures.1.0 c.in-Ok.ensures.1.1 in
     let new : KernelView = kernel_of c.add_group.new.self c.self.inside.durable c.self.inside.in_flight c.self.inside.halted
     c.self.inside.joined c.self.inside.seats.items in
-    subst (λ (t : KernelView × Octets). (admin_refusal_of t.0 (Group t.1 c.args.status c.args.description.now c.args.moment) ≡ None)
-    × Administers t.0 new (Group t.1 c.args.status c.args.description.now c.args.moment) c.in-Ok.serial)
-    (λ i. (c.self.view_is i, c.as_slice.ensures.value i)) (passes, done)
+    subst (λ (k : KernelView). (admin_refusal_of k (Group g) ≡ None) × Administers k new (Group g) c.in-Ok.serial) c.self.view_is
+    (passes, done)

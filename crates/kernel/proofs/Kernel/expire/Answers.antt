@@ -2,6 +2,7 @@ use Rattle.std.proofs.Common.{◌≡◌, inl, inr, ap, refl, subst, ◌∙◌}
 use Rattle.std.specs.Prelude.{Some, None}
 use Rattle.model.specs.Stream.{Octets}
 use Rattle.model.specs.declared.change.Change.TheVariants.{Expire}
+use Rattle.model.specs.declared.change.Expiry.{Expiry}
 use Rattle.spool.specs.View.{SpoolView}
 use Rattle.spool.specs.Refusals.{expiry_refusal}
 use Rattle.spool.specs.declared.errors.ExpireError.TheVariants as expire
@@ -16,6 +17,7 @@ use Rattle.kernel.proofs.Kernel.expire.Goals as goal
 pub returns-in-Err-NotFound : goal.returns-in-Err-NotFound
 returns-in-Err-NotFound c =
     let s : SpoolView = c.self.inside.spool in
+    let e : Expiry = record { group = c.as_slice.result.now; number = c.args.number } in
     let early : early_refusal (kernel_of s c.self.inside.durable c.self.inside.in_flight c.self.inside.halted c.self.inside.joined
     c.self.inside.seats.items) ≡ None = ap early_refusal c.self.view_is
     ∙ passed of_expire (early_refusal c.args.self.now) c.in_ok-may_expire.field-0 c.in_ok-may_expire.ensures in
@@ -23,10 +25,10 @@ returns-in-Err-NotFound c =
     said expire.Memory c.in-Err-NotFound.field-0 expire.NotFound _ c.in-Err-NotFound.field-0-is
     (λ is. cc is) c.in-Err-NotFound.ensures.0 in
     let fails = not_found_when s c.self.inside.durable c.self.inside.in_flight c.self.inside.halted c.self.inside.joined
-    c.self.inside.seats.items c.as_slice.result.now c.args.number early told in (
+    c.self.inside.seats.items e early told in (
       inr (
         NotFound,
-        subst (λ (t : KernelView × Octets). expire_refusal_of t.0 (Expire t.1 c.args.number) ≡ Some NotFound)
+        subst (λ (t : KernelView × Octets). expire_refusal_of t.0 (Expire (record { group = t.1; number = c.args.number })) ≡ Some NotFound)
             (λ i. (c.self.view_is i, c.as_slice.ensures.value i)) fails,
         refl,
       ),
@@ -37,16 +39,17 @@ returns-in-Err-NotFound c =
 pub returns-in-Err-Full : goal.returns-in-Err-Full
 returns-in-Err-Full c =
     let s : SpoolView = c.self.inside.spool in
+    let e : Expiry = record { group = c.as_slice.result.now; number = c.args.number } in
     let early : early_refusal (kernel_of s c.self.inside.durable c.self.inside.in_flight c.self.inside.halted c.self.inside.joined
     c.self.inside.seats.items) ≡ None = ap early_refusal c.self.view_is
     ∙ passed of_expire (early_refusal c.args.self.now) c.in_ok-may_expire.field-0 c.in_ok-may_expire.ensures in
     let told : expiry_refusal s c.as_slice.result.now c.args.number ≡ Some expire.Full =
     said expire.Memory c.in-Err-Full.field-0 expire.Full _ c.in-Err-Full.field-0-is (λ is. cc is) c.in-Err-Full.ensures.0 in
     let fails = no_room_when s c.self.inside.durable c.self.inside.in_flight c.self.inside.halted c.self.inside.joined
-    c.self.inside.seats.items c.as_slice.result.now c.args.number early told in (
+    c.self.inside.seats.items e early told in (
       inr (
         Full,
-        subst (λ (t : KernelView × Octets). expire_refusal_of t.0 (Expire t.1 c.args.number) ≡ Some Full)
+        subst (λ (t : KernelView × Octets). expire_refusal_of t.0 (Expire (record { group = t.1; number = c.args.number })) ≡ Some Full)
             (λ i. (c.self.view_is i, c.as_slice.ensures.value i)) fails,
         refl,
       ),
@@ -57,6 +60,7 @@ returns-in-Err-Full c =
 pub returns-in-Err-Memory : goal.returns-in-Err-Memory
 returns-in-Err-Memory c =
     let s : SpoolView = c.self.inside.spool in
+    let e : Expiry = record { group = c.as_slice.result.now; number = c.args.number } in
     let early : early_refusal (kernel_of s c.self.inside.durable c.self.inside.in_flight c.self.inside.halted c.self.inside.joined
     c.self.inside.seats.items) ≡ None = ap early_refusal c.self.view_is
     ∙ passed of_expire (early_refusal c.args.self.now) c.in_ok-may_expire.field-0 c.in_ok-may_expire.ensures in
@@ -64,10 +68,10 @@ returns-in-Err-Memory c =
     unsaid expire.Memory c.in-Err-Memory.field-0 _ c.in-Err-Memory.field-0-is (no_expiry_memory s c.as_slice.result.now c.args.number)
     c.in-Err-Memory.ensures.0 in
     let passes = expires_when s c.self.inside.durable c.self.inside.in_flight c.self.inside.halted c.self.inside.joined
-    c.self.inside.seats.items c.as_slice.result.now c.args.number early told in (
+    c.self.inside.seats.items e early told in (
       inl (
         refl,
-        subst (λ (t : KernelView × Octets). expire_refusal_of t.0 (Expire t.1 c.args.number) ≡ None)
+        subst (λ (t : KernelView × Octets). expire_refusal_of t.0 (Expire (record { group = t.1; number = c.args.number })) ≡ None)
             (λ i. (c.self.view_is i, c.as_slice.ensures.value i)) passes,
       ),
       ap (λ (r : SpoolView). kernel_of r c.self.inside.durable c.self.inside.in_flight c.self.inside.halted c.self.inside.joined
@@ -77,28 +81,30 @@ returns-in-Err-Memory c =
 pub invariant_of-self-2 : goal.invariant_of-self-2
 invariant_of-self-2 c =
     let s : SpoolView = c.self.inside.spool in
+    let e : Expiry = record { group = c.as_slice.result.now; number = c.args.number } in
     let early : early_refusal (kernel_of s c.self.inside.durable c.self.inside.in_flight c.self.inside.halted c.self.inside.joined
     c.self.inside.seats.items) ≡ None = ap early_refusal c.self.view_is
     ∙ passed of_expire (early_refusal c.args.self.now) c.in_ok-may_expire.field-0 c.in_ok-may_expire.ensures in
     kept_grown s c.expire.new.self c.self.inside.durable c.self.inside.in_flight c.self.inside.halted c.self.inside.joined
     c.self.inside.seats.items
-    (Some (Expire c.as_slice.result.now c.args.number))
+    (Some (Expire e))
     (λ _. few_dirty (kernel_of s c.self.inside.durable c.self.inside.in_flight c.self.inside.halted c.self.inside.joined
     c.self.inside.seats.items) early) (λ _. c.kept.ensures) c.in-Ok.ensures.1.1 c.self.invariant
 
 pub returns : goal.returns
 returns c =
     let s : SpoolView = c.self.inside.spool in
+    let e : Expiry = record { group = c.as_slice.result.now; number = c.args.number } in
     let early : early_refusal (kernel_of s c.self.inside.durable c.self.inside.in_flight c.self.inside.halted c.self.inside.joined
     c.self.inside.seats.items) ≡ None = ap early_refusal c.self.view_is
     ∙ passed of_expire (early_refusal c.args.self.now) c.in_ok-may_expire.field-0 c.in_ok-may_expire.ensures in
     let passes = expires_when s c.self.inside.durable c.self.inside.in_flight c.self.inside.halted c.self.inside.joined
-    c.self.inside.seats.items c.as_slice.result.now c.args.number early c.in-Ok.ensures.0 in
+    c.self.inside.seats.items e early c.in-Ok.ensures.0 in
     let done = administers s c.self.inside.durable c.self.inside.in_flight c.self.inside.halted c.self.inside.joined
-    c.self.inside.seats.items (Expire c.as_slice.result.now c.args.number) c.expire.new.self c.in-Ok.serial c.in-Ok.ensures.1.0
+    c.self.inside.seats.items (Expire e) c.expire.new.self c.in-Ok.serial c.in-Ok.ensures.1.0
     c.in-Ok.ensures.1.1 in
     let new : KernelView = kernel_of c.expire.new.self c.self.inside.durable c.self.inside.in_flight c.self.inside.halted
     c.self.inside.joined c.self.inside.seats.items in
-    subst (λ (t : KernelView × Octets). (expire_refusal_of t.0 (Expire t.1 c.args.number) ≡ None)
-    × Administers t.0 new (Expire t.1 c.args.number) c.in-Ok.serial)
+    subst (λ (t : KernelView × Octets). (expire_refusal_of t.0 (Expire (record { group = t.1; number = c.args.number })) ≡ None)
+    × Administers t.0 new (Expire (record { group = t.1; number = c.args.number })) c.in-Ok.serial)
     (λ i. (c.self.view_is i, c.as_slice.ensures.value i)) (passes, done)

@@ -37,7 +37,8 @@ returns g c =
     let t = c.args.moment in
     let what = transfer_filed S c.args.id.now text c.requires (c.has_id.ensures ∙ ap not c.if-not-has_id.false) in
     subst (λ (a : Answered). IfOk c.answer-in-Accepted.result (λ posted. said posted ≡ said_served a))
-    (ap (λ n. answered (then_line x transferred (Some (Article text c.in-Accepted.groups t))) (n + 1)) c.len-serial.ensures
+    (ap (λ n. answered (then_line x transferred (Some (Article (record { text = text; groups = c.in-Accepted.groups; moment = t }))))
+    (n + 1)) c.len-serial.ensures
     ∙ accepted_said S x transferred rejected text t c.in-Accepted.groups (transfer_outcome S c.args.id.now text) (sym c.in-Accepted.is
     ∙ c.in_ok-reads.ensures ∙ ap (told S) (sym what)))
     c.answer-in-Accepted.ensures

@@ -2,7 +2,6 @@ use Rattle.std.proofs.Common.{◌≡◌, sym, ap, subst}
 use Rattle.std.specs.Prelude.{IfOk}
 use Rattle.model.specs.Answer.{transfer_outcome}
 use Rattle.model.specs.Replies.{rejected, transferred}
-use Rattle.article.specs.Origins.{cause_of}
 use Rattle.replies.specs.declared.sessions.Answered.{Answered}
 use Rattle.posting_commands.specs.Outcomes.{said, said_served, told}
 use Rattle.posting_commands.proofs.Telling.{refused_said, transfer_bad}
@@ -12,7 +11,7 @@ pub returns-in-Err-Bad : goal.returns-in-Err-Bad
 returns-in-Err-Bad g c =
     let S = g.L.LookUps.changes c.args.spool.now in
     let text = c.args.text.now in
-    let nothing = transfer_bad S c.args.id.now text (cause_of c.in-Err-Bad.field-0-0)
+    let nothing = transfer_bad S c.args.id.now text c.in-Err-Bad.field-0-0
     (c.in-Err-Bad.ensures.bad c.in-Err-Bad.field-0-0 c.in-Err-Bad.field-0-is) in
     subst (λ (a : Answered). IfOk c.answer.result (λ posted. said posted ≡ said_served a))
     (refused_said S c.args.session.now transferred rejected text c.args.moment 0 (transfer_outcome S c.args.id.now text)

@@ -1,7 +1,6 @@
 use Rattle.std.proofs.Common.{◌≡◌, ◌+◌, List, ℕ, sym, ◌∙◌, ap, subst}
 use Rattle.std.specs.Prelude.{IfOk, None}
 use Rattle.model.specs.Article.{Posted, cause}
-use Rattle.article.specs.Origins.{cause_of}
 use Rattle.posting_commands.specs.Outcomes.{Said, posted_by, said, said_served}
 use Rattle.posting_commands.proofs.Saying.{said_ok, said_refused}
 use Rattle.posting_commands.proofs.posts.post_block.Goals as goal
@@ -25,7 +24,7 @@ returns-in_ok-refusal-in-Err-Bad g c =
     let bad = (λ i. cause (Posted (sym c.host-host.ensures i) (sym c.len-serial.ensures i + 1)) text)
     ∙ c.in-Err-Bad.ensures.bad c.in-Err-Bad.cause c.in-Err-Bad.field-0-is in
     (λ i. record { answered = (c.in_ok-refusal-in-Err-Bad.ensures i).answered; mark = c.mark_of.ensures i })
-    ∙ sym (said_refused host S c.args.session.now c.args.moment text (cause_of c.in-Err-Bad.cause) bad)
+    ∙ sym (said_refused host S c.args.session.now c.args.moment text c.in-Err-Bad.cause bad)
 
 pub taken-requires-clause-cause : goal.taken-requires-clause-cause
 taken-requires-clause-cause g c =

@@ -33,7 +33,8 @@ returns g c =
     let stored = injected (g.L.LookUps.host_of c.args.spool.now) (length S + 1) t text in
     let octets = c.in_ok-stored-in-Accepted.ensures ∙ (λ i. injected (c.host.ensures i) (c.requires.serial i) t text) in
     subst (λ (a : Answered). IfOk c.answer-in-Accepted.result (λ posted. said posted ≡ said_served a))
-    ((λ i. answered (then_line x received (Some (Article (octets i) c.in-Accepted.groups t))) (c.requires.serial i))
+    ((λ i. answered (then_line x received (Some (Article (record { text = octets i; groups = c.in-Accepted.groups; moment = t }))))
+    (c.requires.serial i))
     ∙ accepted_said S x received not_accepted stored t c.in-Accepted.groups what (sym c.in-Accepted.is ∙ c.in_ok-reads.ensures))
     c.answer-in-Accepted.ensures
 

@@ -147,8 +147,8 @@ returns-in_default-found c =
     c.if-not-is_found.false f.1
     (MatchOption-at_none (f.1.0.message ≡ None) (λ m. f.1.0.message ≡ Some m.now) c.in_default-found.is (c.found.ensures f.1.0 f.1.1)))
 
-pub exec-requires-clause-kind : goal.exec-requires-clause-kind
-exec-requires-clause-kind c =
+pub exec-requires : goal.exec-requires
+exec-requires c =
     let old : TracedView = record {
       kernel = c.self.inside.kernel;
       first = c.self.inside.first;

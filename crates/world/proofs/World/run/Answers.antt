@@ -9,11 +9,6 @@ pub loop-place-init : goal.loop-place-init
 loop-place-init g c = running_none g.D.Disk.device g.D.Disk.write_grows g.D.Disk.sync_grows g.met.D.Disk.only_now c.args.self.now
     c.args.events.now c.kept.ensures
 
-pub step-result-requires : goal.step-result-requires
-step-result-requires g c = c.requires c.loop-place.place c.index-events-place.result
-    (slice_get_read c.args.events.now (length c.args.events.now) c.loop-place.place c.index-events-place.result refl c.loop-place-test.true
-    c.index-events-place.is)
-
 pub returns-then-is_for_memory-clause-went : goal.returns-then-is_for_memory-clause-went
 returns-then-is_for_memory-clause-went g c =
     ran_before g.D.Disk.device g.D.Disk.write_grows g.D.Disk.sync_grows c.args.self.now c.loop-place.self c.step-result.new.self
