@@ -30,7 +30,7 @@ pub trait ChangeSpool: LookUps {
     /// Relates two values: the second is the first with this change added as the last one.
     ghost adds: { Self → Self → ChangeView → Type 0 };
 
-    /// Files an article in these groups, at this moment. Its change must be one that may follow.
+    /// Files an article in these groups, at the given moment. Its change must be one that may follow.
     /// Refused as `Full` exactly if there is no room, and otherwise only as `Memory`; a refusal changes nothing.
     fn file(
         &mut self,

@@ -160,8 +160,8 @@ impl Kernel {
         }
     }
 
-    /// Answers a message at once, at this moment: its reply is held with its dependency, and its change is accepted. The
-    /// result is what the session sends next, which is `None` if it sends nothing more, and the mark of the message.
+    /// Answers a message at once: its reply is held with its dependency, and its change is accepted at the given moment.
+    /// The result is what the session sends next, which is `None` if it sends nothing more, and the mark of the message.
     /// Refused as `NoSession` (E10), `LaterOut` (E9), `LaterDirty` (E8, only while the kernel is not halted) or `Memory`
     /// (E2), tested in that order; a refusal changes nothing.
     pub fn exec(

@@ -52,9 +52,9 @@ fn answer<'t>(
     })
 }
 
-/// Answers the article that follows POST, at this moment. It is refused if it is not an article, or if an article with
-/// its id was filed. It is also refused if none of its groups exists, or one of them takes no articles. Its mark is
-/// `Long` if it is refused because it would be too long as it is stored.
+/// Answers the article that follows POST, at the given moment. It is refused if it is not an article, or if an article
+/// with its id was filed. It is also refused if none of its groups exists, or one of them takes no articles. Its mark
+/// is `Long` if it is refused because it would be too long as it is stored.
 pub fn post_block<'t, L: LookUps>(
     alloc: Global,
     spool: &L,
@@ -117,8 +117,8 @@ fn taken<'t, L: LookUps>(
     }
 }
 
-/// Answers the article that follows IHAVE with this message-id, at this moment. It is refused if it is not an article or
-/// has another id. It is also refused if an article with its id was filed, or if none of its groups exists.
+/// Answers the article that follows IHAVE with this message-id, at the given moment. It is refused if it is not an
+/// article or has another id. It is also refused if an article with its id was filed, or if none of its groups exists.
 pub fn ihave_block<'t, L: LookUps>(
     alloc: Global,
     spool: &L,

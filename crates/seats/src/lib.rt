@@ -91,8 +91,9 @@ impl Seat {
         self.queue.buffered()
     }
 
-    /// Serves a message over a spool that takes changes, at this moment, and holds its reply. Answers what the session
-    /// sends next, and the mark of the message. Refused only for want of memory; then neither session nor spool changes.
+    /// Serves a message at the given moment over a spool that takes changes, and holds its reply. Answers what the
+    /// session sends next, and the mark of the message. Refused only for want of memory; then neither session nor spool
+    /// changes.
     pub fn serve<S: ChangeSpool>(
         &mut self,
         alloc: Global,

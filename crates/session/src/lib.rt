@@ -31,9 +31,9 @@ pub struct Served {
     pub reads: u64,
 }
 
-/// Answers a message and files the change that it accepts, at this moment. The mark is `Long` if a posted article is
-/// refused because it would be too long as it is stored. It is `Full` if there is no room for the change, and otherwise
-/// `Served`. Refused only for want of memory, with nothing changed.
+/// Answers a message and files the change that it accepts, at the given moment. The mark is `Long` if a posted article
+/// is refused because it would be too long as it is stored. It is `Full` if there is no room for the change, and
+/// otherwise `Served`. Refused only for want of memory, with nothing changed.
 pub fn serve<S: ChangeSpool>(
     alloc: Global,
     spool: &mut S,

@@ -152,9 +152,9 @@ impl TracedKernel {
         Ok(())
     }
 
-    /// Serves a session's next whole message at this moment; `None` if no message has arrived whole. Refused as by the
-    /// kernel, but `Memory` may come before any refusal except `NoSession`. A refusal changes nothing, and the message is
-    /// still the session's next one.
+    /// Serves a session's next whole message at the given moment; `None` if no message has arrived whole. Refused as by
+    /// the kernel, but `Memory` may come before any refusal except `NoSession`. A refusal changes nothing, and the message
+    /// is still the session's next one.
     pub fn exec(
         &mut self,
         alloc: Global,
