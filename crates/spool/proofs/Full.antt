@@ -9,6 +9,8 @@ use Rattle.model.specs.Spool.{Spool, groups, is_here}
 use Rattle.model.specs.SpoolFiles.{files_of}
 use Rattle.model.specs.declared.change.Change.{Change}
 use Rattle.model.specs.declared.change.Change.TheVariants.{Group, Expire}
+use Rattle.model.specs.declared.change.Expiry.{Expiry}
+use Rattle.model.specs.declared.change.NewGroup.{NewGroup}
 use Rattle.spool.specs.Refusals.{expiry_refusal, group_refusal, has_number}
 use Rattle.spool.specs.View.{Adds, SpoolView}
 use Rattle.spool.specs.declared.errors.AddError.TheVariants as add
@@ -35,26 +37,20 @@ abbrev pub lacks : ℕ → ℕ → Spool → ℕ → Bool
 lacks blocks inodes S files = nat_lt (free_blocks_beside blocks inodes (files_of S)) 256 || nat_lt
     (free_inodes_beside inodes (files_of S)) files
 
-pub full_group : (blocks inodes : ℕ) (S : Spool) (name : Octets) (status : ℕ) (description : Octets) (moment : ℕ)
-    → is_full_for blocks inodes S (Group name status description moment) ≡ (lacks blocks inodes S 3 || nat_le 4096 (length (groups S)))
+pub full_group : (blocks inodes : ℕ) (S : Spool) (g : NewGroup)
+    → is_full_for blocks inodes S (Group g) ≡ (lacks blocks inodes S 3 || nat_le 4096 (length (groups S)))
 unfolding is_full_for
-full_group blocks inodes S name status description moment =
+full_group blocks inodes S g =
     parted (nat_lt (free_blocks_beside blocks inodes (files_of S)) 256) (nat_lt (free_inodes_beside inodes (files_of S)) 3)
     (nat_le 4096 (length (groups S)))
 
-pub full_expiry : (blocks inodes : ℕ) (S : Spool) (group : Octets) (number : ℕ)
-    → is_full_for blocks inodes S (Expire group number) ≡ lacks blocks inodes S 1
+pub full_expiry : (blocks inodes : ℕ) (S : Spool) (e : Expiry) → is_full_for blocks inodes S (Expire e) ≡ lacks blocks inodes S 1
 unfolding is_full_for
-full_expiry blocks inodes S group number =
+full_expiry blocks inodes S e =
     parted_none (nat_lt (free_blocks_beside blocks inodes (files_of S)) 256) (nat_lt (free_inodes_beside inodes (files_of S)) 1)
 
 pub group_count : (S : Spool) (gs : List GroupIndex) → gs ≡ map (group_index S) (groups S) → length gs ≡ length (groups S)
 group_count S gs is = ap (λ (l : List GroupIndex). length l) is ∙ length-map (groups S) (group_index S)
-
-pub full_any : (blocks inodes : ℕ) (S : Spool) (name : Octets) (status : ℕ) (description : Octets) (moment : ℕ)
-    → is_full_for blocks inodes S (Group name status description moment) ≡ is_full_for blocks inodes S (Group [] 0 [] 0)
-full_any blocks inodes S name status description moment = full_group blocks inodes S name status description moment
-    ∙ sym (full_group blocks inodes S [] 0 [] 0)
 
 -- ---- refusals
 
@@ -64,7 +60,7 @@ pub group_refused : (s : SpoolView) (name : Octets) (c : Change) (here full : Bo
 group_refused s name c here full named room = λ k. if named k then Some add.Exists else if room k then Some add.Full else None
 
 pub expiry_refused : (s : SpoolView) (g : Octets) (n : ℕ) (has full : Bool) → has_number s.changes g n ≡ has
-    → is_full_for (length s.blocks) s.inodes s.changes (Expire g n) ≡ full
+    → is_full_for (length s.blocks) s.inodes s.changes (Expire (record { group = g; number = n })) ≡ full
     → expiry_refusal s g n ≡ (if has then (if full then Some expire.Full else None) else Some expire.NotFound)
 expiry_refused s g n has full there room = λ k. if there k then (if room k then Some expire.Full else None) else Some expire.NotFound
 

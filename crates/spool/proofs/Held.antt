@@ -30,29 +30,29 @@ groups_made S c = ap (λ (gs : List _). length gs) (groups_more S c)
     ∙ length-append (groups S) (filter_map group_made (record { serial = length S + 1; change = c } ∷ []))
 
 pub files_more : (S : Spool) (c : Change) → length (files_of (S ++ c ∷ [])) ≡ length (files_of S) + files_made c
-files_more S (Group name status description moment) =
+files_more S (Group created) =
     omega (
       arith,
       files_counted S,
-      files_counted (S ++ Group name status description moment ∷ []),
-      groups_made S (Group name status description moment),
-      length-append S (Group name status description moment ∷ []),
+      files_counted (S ++ Group created ∷ []),
+      groups_made S (Group created),
+      length-append S (Group created ∷ []),
     )
-files_more S (Article text filed moment) =
+files_more S (Article filing) =
     omega (
       arith,
       files_counted S,
-      files_counted (S ++ Article text filed moment ∷ []),
-      groups_made S (Article text filed moment),
-      length-append S (Article text filed moment ∷ []),
+      files_counted (S ++ Article filing ∷ []),
+      groups_made S (Article filing),
+      length-append S (Article filing ∷ []),
     )
-files_more S (Expire group number) =
+files_more S (Expire expiry) =
     omega (
       arith,
       files_counted S,
-      files_counted (S ++ Expire group number ∷ []),
-      groups_made S (Expire group number),
-      length-append S (Expire group number ∷ []),
+      files_counted (S ++ Expire expiry ∷ []),
+      groups_made S (Expire expiry),
+      length-append S (Expire expiry ∷ []),
     )
 
 pub free_after : (free inodes : ℕ) (S : Spool) (c : Change) → AreFree free inodes S → files_made c ≤ free

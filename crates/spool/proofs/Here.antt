@@ -34,7 +34,7 @@ pub number_nowhere : (S : Spool) (name : Octets) (n : ℕ) → None ≡ option_m
 number_nowhere S name n is = ap (λ (o : Option NewsGroup). is_some o && (nat_le (low S name) n && nat_le n (high S name)))
     (not_here S name is)
 
-pub may_expire : (S : Spool) (name : Octets) (n : ℕ) → has_number S name n ≡ true → MayExpire S name n
+pub may_expire : (S : Spool) (name : Octets) (n : ℕ) → has_number S name n ≡ true → MayExpire S (record { group = name; number = n })
 may_expire S name n has =
     let parts = and_parts (is_here S name) (nat_le (low S name) n && nat_le n (high S name)) has in
     let bounds = and_parts (nat_le (low S name) n) (nat_le n (high S name)) parts.1 in

@@ -14,6 +14,7 @@ use Rattle.model.specs.Article.{groups_of}
 use Rattle.model.specs.Lawful.{MayFile}
 use Rattle.model.specs.declared.change.Change.{Change}
 use Rattle.model.specs.declared.change.Change.TheVariants.{Article}
+use Rattle.model.specs.declared.change.Filing.{Filing}
 use Rattle.change_spool.specs.declared.FilingError.TheVariants as file
 use Rattle.spool_opening.specs.Replayed.{AreHere}
 use Rattle.spool_opening.proofs.Filed.{are_here}
@@ -64,23 +65,17 @@ parted false true x = refl
 parted false false true = refl
 parted false false false = refl
 
-pub full_article : (blocks inodes : ℕ) (S : Spool) (text : Octets) (filed : List Octets) (moment : ℕ)
-    → is_full_for blocks inodes S (Article text filed moment) ≡ (lacks blocks inodes S 1 || list_any (one_large S) filed)
+pub full_article : (blocks inodes : ℕ) (S : Spool) (f : Filing)
+    → is_full_for blocks inodes S (Article f) ≡ (lacks blocks inodes S 1 || list_any (one_large S) f.groups)
 unfolding is_full_for
-full_article blocks inodes S text filed moment =
+full_article blocks inodes S f =
     parted (nat_lt (Rattle.model.specs.Room.free_blocks_beside blocks inodes (files_of S)) 256)
-    (nat_lt (Rattle.model.specs.Room.free_inodes_beside inodes (files_of S)) 1) (list_any (one_large S) filed)
-
-pub full_any_article : (blocks inodes : ℕ) (S : Spool) (text : Octets) (filed : List Octets) (moment : ℕ)
-    → is_full_for blocks inodes S (Article text filed moment) ≡ is_full_for blocks inodes S (Article [] filed 0)
-full_any_article blocks inodes S text filed moment = full_article blocks inodes S text filed moment
-    ∙ sym (full_article blocks inodes S [] filed 0)
+    (nat_lt (Rattle.model.specs.Room.free_inodes_beside inodes (files_of S)) 1) (list_any (one_large S) f.groups)
 
 pub article_refused : (s : SpoolView) (c : Change) (full : Bool) → is_full_for (length s.blocks) s.inodes s.changes c ≡ full
     → article_refusal s c ≡ (if full then Some file.Full else None)
 article_refused s c full room = ap (λ (b : Bool). if b then Some file.Full else None) room
 
 -- the groups of an article that may be filed are here
-pub are_filed : (host : Octets) (S : Spool) (text : Octets) (filed : List Octets) (moment : ℕ) → MayFile host S text filed moment
-    → AreHere S filed
-are_filed host S text filed moment may = subst (AreHere S) (sym may.filed) (are_here S (groups_of text))
+pub are_filed : (host : Octets) (S : Spool) (f : Filing) → MayFile host S f → AreHere S f.groups
+are_filed host S f may = subst (AreHere S) (sym may.filed) (are_here S (groups_of f.text))

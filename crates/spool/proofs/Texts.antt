@@ -4,7 +4,7 @@ use Rattle.std.specs.Prelude.{IsSome, Option, Some, None}
 use Rattle.model.specs.Indexed.{ArePlaces, FilePlaces}
 use Rattle.model.specs.Spool.{Spool, NewsGroup, group_named, high, low}
 use Rattle.model.specs.Stream.{Octets}
-use Rattle.model.proofs.Filing.{new_has_nothing}
+use Rattle.model.proofs.Growing.{new_has_nothing}
 use Rattle.index.specs.View.{IndexView}
 use Rattle.spool_texts.specs.Texts.{HasNumbers}
 use Rattle.volume.specs.Volume.{VolumeView}

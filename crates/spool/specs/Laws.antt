@@ -1,6 +1,6 @@
 -- What holds for every spool: its host is valid, its changes are lawful, and they are few.
-use Rattle.std.specs.Prelude.{◌≡◌, ◌⊎◌, ℕ, ◌+◌, ◌<◌, ◌^◌, List, [], ◌∷◌, ◌++◌, length, IsTrue}
-use Rattle.std.proofs.Common.{inl, inr, ap, arith}
+use Rattle.std.specs.Prelude.{ℕ, ◌+◌, ◌<◌, ◌^◌, [], ◌∷◌, ◌++◌, length, IsTrue}
+use Rattle.std.proofs.Common.{arith}
 use Rattle.std.proofs.Math.Logic.{∥∥₁_elim}
 use Rattle.std.proofs.Props.{props}
 use Rattle.model.specs.Lawful.{IsLawful, IsLawfulAfter, MayExpire, MayFile, MayFollow, MayMake}
@@ -9,33 +9,27 @@ use Rattle.model.specs.Spool.{Spool}
 use Rattle.model.specs.Stream.{Octets}
 use Rattle.model.specs.declared.change.Change.{Change}
 use Rattle.model.specs.declared.change.Change.TheVariants.{Group, Article, Expire}
+use Rattle.model.specs.declared.change.Expiry.{Expiry}
+use Rattle.model.specs.declared.change.Filing.{Filing}
+use Rattle.model.specs.declared.change.NewGroup.{NewGroup}
 use Rattle.model.proofs.HoldsOne.{changes_few as fewer_than_inodes}
 use Rattle.spool.specs.View.{SpoolView}
 
 -- ---- being lawful is a proposition
 
-same_prop : (a b : ℕ) → IsProp (a ≡ b)
-same_prop = Prim.hlevel props
+make_prop : (S : Spool) (g : NewGroup) → IsProp (MayMake S g)
+make_prop = Prim.hlevel props
 
-status_prop : (n : ℕ) → IsProp ((n ≡ 121) ⊎ (n ≡ 110))
-status_prop n (inl p) (inl q) = ap inl (same_prop n 121 p q)
-status_prop n (inl p) (inr q) = absurd (Prim.omega (arith, p, q))
-status_prop n (inr p) (inl q) = absurd (Prim.omega (arith, p, q))
-status_prop n (inr p) (inr q) = ap inr (same_prop n 110 p q)
-
-make_prop : (S : Spool) (name : Octets) (status : ℕ) (description : Octets) (moment : ℕ) → IsProp (MayMake S name status description moment)
-make_prop = Prim.hlevel (props, status_prop)
-
-file_prop : (host : Octets) (S : Spool) (text : Octets) (groups : List Octets) (moment : ℕ) → IsProp (MayFile host S text groups moment)
+file_prop : (host : Octets) (S : Spool) (f : Filing) → IsProp (MayFile host S f)
 file_prop = Prim.hlevel props
 
-expire_prop : (S : Spool) (group : Octets) (number : ℕ) → IsProp (MayExpire S group number)
+expire_prop : (S : Spool) (e : Expiry) → IsProp (MayExpire S e)
 expire_prop = Prim.hlevel props
 
 follow_prop : (host : Octets) (S : Spool) (c : Change) → IsProp (MayFollow host S c)
-follow_prop host S (Group name status description moment) = make_prop S name status description moment
-follow_prop host S (Article text groups moment) = file_prop host S text groups moment
-follow_prop host S (Expire group number) = expire_prop S group number
+follow_prop host S (Group g) = make_prop S g
+follow_prop host S (Article f) = file_prop host S f
+follow_prop host S (Expire e) = expire_prop S e
 
 lawful_prop : (host : Octets) (before cs : Spool) → IsProp (IsLawfulAfter host before cs)
 lawful_prop host before [] = Prim.hlevel props

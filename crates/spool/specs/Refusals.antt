@@ -32,8 +32,8 @@ has_number S g n = is_here S g && (nat_le (low S g) n && nat_le n (high S g))
 
 -- an expiry: the group or the number does not exist, or there is no room
 abbrev pub expiry_refusal : SpoolView → Octets → ℕ → Option ExpireError
-expiry_refusal s g n = if has_number s.changes g n then (if is_full_for s (Expire g n) then Some expire.Full else None) else Some
-    expire.NotFound
+expiry_refusal s g n = if has_number s.changes g n then (if is_full_for s (Expire (record { group = g; number = n }))
+    then Some expire.Full else None) else Some expire.NotFound
 
 -- an article that may follow: there is no room
 abbrev pub article_refusal : SpoolView → Change → Option FilingError

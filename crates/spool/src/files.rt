@@ -3,7 +3,7 @@
 use crate::Spool;
 use article::Article;
 use change_spool::{ChangeSpool, FilingError};
-use model::Text;
+use model::{Moment, Text};
 
 impl ChangeSpool for Spool {
     ghost use Rattle.spool.specs.Refusals.{is_full_for};
@@ -17,7 +17,7 @@ impl ChangeSpool for Spool {
         &mut self,
         article: &Article<'_>,
         groups: &[Text],
-        moment: u64,
+        moment: Moment,
     ) -> Result<(), FilingError> {
         match self.add_article(article, groups, moment) {
             Ok(_) => Ok(()),

@@ -2,19 +2,20 @@
 //! memory.
 #![tactic(auto)]
 
-ghost use Rattle.std.specs.Prelude.{◌≡◌, ◌⊎◌, ◌+◌, ◌-◌, ◌<◌, ◌≤◌, ◌||◌, ◌&&◌, nat_lt, ℕ, List, [], Some, false, None, length, replicate};
+ghost use Rattle.std.specs.Prelude.{◌≡◌, ◌+◌, ◌-◌, ◌<◌, ◌≤◌, ◌||◌, ◌&&◌, nat_lt, ℕ, List, [], Some, false, None, length, replicate};
 ghost use Rattle.std.specs.Prelude.{slice_index_or, IsTrue, OnErr, OnOk};
-ghost use Rattle.std.specs.List.{All, flat_map, list_all};
-ghost use Rattle.model.specs.Calendar.{moment_limit};
-ghost use Rattle.model.specs.Lawful.{MayExpire, MayFile, MayMake, is_description_octet};
+ghost use Rattle.std.specs.List.{All, flat_map};
+ghost use Rattle.model.specs.Lawful.{MayExpire, MayFile, MayMake};
 ghost use Rattle.model.specs.Layout.{Holds};
-ghost use Rattle.model.specs.Names.{is_group_name, is_host};
+ghost use Rattle.model.specs.Names.{is_host};
 ghost use Rattle.model.specs.Room.{free_blocks_beside, free_inodes_beside};
 ghost use Rattle.model.specs.Files.{HasRoom, IsFileSystem, table};
 ghost use Rattle.model.specs.Spool.{Spool as Changes, groups, is_here};
 ghost use Rattle.model.specs.SpoolFiles.{files_of};
 ghost use Rattle.model.specs.Volume.{AreDistinct, blocks_from, laid_over};
 ghost use Rattle.model.specs.declared.change.Change.TheVariants as changed;
+ghost use Rattle.model.specs.declared.change.NewGroup.{NewGroup};
+ghost use Rattle.names.specs.Requests.{group_of};
 ghost use Rattle.spool_opening.specs.Replayed.{AreHere};
 ghost use Rattle.volume.specs.Volume.{AgreeOutside};
 
@@ -33,7 +34,8 @@ use fs::free_block_count;
 use index::Index;
 use index_groups::Group;
 use lookups::LookUps;
-use model::{Change, Text};
+use model::{Change, Moment, Status, Text};
+use names::GroupRequest;
 use places::Places;
 use room::extends_large;
 use spool_growing::{grow_by_article, grow_by_expiry, grow_by_group};
@@ -231,37 +233,29 @@ impl Spool {
 
     /// Whether there is no room for a group.
     fn is_full_for_group(&self) -> bool
-        ensures { result ≡ is_full_for self.now (changed.Group [] 0 [] 0) }
+        ensures { (group : NewGroup) → result ≡ is_full_for self.now (changed.Group group) }
     {
         self.lacks_room(GROUP_FILES) || GROUPS <= self.index.groups().len()
     }
 
-    /// Adds a group and answers its serial. Refused as `Exists`, `Full` or `Memory`, tested in that order. A refusal
-    /// changes nothing.
-    pub fn add_group(
-        &mut self,
-        name: &[u8],
-        status: u8,
-        description: &[u8],
-        moment: u64,
-    ) -> Result<u64, AddError>
-        requires name { IsTrue (is_group_name name.now) }
-        requires status { (status ≡ 121) ⊎ (status ≡ 110) }
-        requires short { length description.now ≤ 200 }
-        requires printable { IsTrue (list_all is_description_octet description.now) }
-        requires in_time { moment < moment_limit }
-        ensures { Tested AddError.Memory (group_refusal self.old name.now (changed.Group name.now status description.now moment))
+    /// Adds the group that is asked for, and answers its serial. Refused as `Exists`, `Full` or `Memory`, tested in that
+    /// order. A refusal changes nothing.
+    pub fn add_group(&mut self, group: &GroupRequest) -> Result<u64, AddError>
+        ensures { Tested AddError.Memory (group_refusal self.old group.now.name (changed.Group (group_of group.now)))
             self.old self.new result
-            (λ serial. (serial ≡ length self.old.changes + 1)
-            × Adds self.old self.new (changed.Group name.now status description.now moment)) }
+            (λ serial. (serial ≡ length self.old.changes + 1) × Adds self.old self.new (changed.Group (group_of group.now))) }
     {
+        let name = group.name.as_slice();
+        let description = group.description.as_slice();
         if self.is_here(name) {
             return Err(AddError::Exists);
         }
         if self.is_full_for_group() {
             return Err(AddError::Full);
         }
-        match self.push_group(name, status, description, moment) {
+        // its clauses state that the moment is before the year 10000
+        let _seconds = group.moment.seconds();
+        match self.push_group(name, group.status, description, group.moment) {
             Ok(()) => Ok(self.len()),
             Err(_) => Err(AddError::Memory),
         }
@@ -272,13 +266,16 @@ impl Spool {
     fn push_group(
         &mut self,
         name: &[u8],
-        status: u8,
+        status: Status,
         description: &[u8],
-        moment: u64,
+        moment: Moment,
     ) -> Result<(), AllocError>
-        requires may { MayMake self.old.changes name.now status description.now moment }
-        requires room { is_full_for self.old (changed.Group name.now status description.now moment) ≡ false }
-        ensures ok { OnOk result (Adds self.old self.new (changed.Group name.now status description.now moment)) }
+        requires may { MayMake self.old.changes
+            (record { name = name.now; status = status; description = description.now; moment = moment }) }
+        requires room { is_full_for self.old (changed.Group
+            (record { name = name.now; status = status; description = description.now; moment = moment })) ≡ false }
+        ensures ok { OnOk result (Adds self.old self.new (changed.Group
+            (record { name = name.now; status = status; description = description.now; moment = moment }))) }
         ensures err { OnErr result (self.new ≡ self.old) }
     {
         let free = grow_by_group(
@@ -301,7 +298,8 @@ impl Spool {
     /// Whether there is no room for an article in these groups, which must exist.
     fn is_full_for_article(&self, groups: &[Text]) -> bool
         requires { AreHere self.now.changes groups.now }
-        ensures { result ≡ is_full_for self.now (changed.Article [] groups.now 0) }
+        ensures { (text : List ℕ) (moment : ℕ) → result ≡ is_full_for self.now
+            (changed.Article (record { text = text; groups = groups.now; moment = moment })) }
     {
         self.lacks_room(1) || extends_large(&self.index, groups)
     }
@@ -312,12 +310,13 @@ impl Spool {
         &mut self,
         article: &Article<'_>,
         groups: &[Text],
-        moment: u64,
+        moment: Moment,
     ) -> Result<u64, FilingError>
-        requires { MayFile self.old.host self.old.changes article.now groups.now moment }
-        ensures { Tested FilingError.Memory (article_refusal self.old (changed.Article article.now groups.now moment))
-            self.old self.new result
-            (λ serial. (serial ≡ length self.old.changes + 1) × Adds self.old self.new (changed.Article article.now groups.now moment)) }
+        requires { MayFile self.old.host self.old.changes (record { text = article.now; groups = groups.now; moment = moment }) }
+        ensures { Tested FilingError.Memory (article_refusal self.old (changed.Article
+            (record { text = article.now; groups = groups.now; moment = moment }))) self.old self.new result
+            (λ serial. (serial ≡ length self.old.changes + 1) × Adds self.old self.new (changed.Article
+            (record { text = article.now; groups = groups.now; moment = moment }))) }
     {
         if self.is_full_for_article(groups) {
             return Err(FilingError::Full);
@@ -334,11 +333,13 @@ impl Spool {
         &mut self,
         article: &Article<'_>,
         groups: &[Text],
-        moment: u64,
+        moment: Moment,
     ) -> Result<(), AllocError>
-        requires may { MayFile self.old.host self.old.changes article.now groups.now moment }
-        requires room { is_full_for self.old (changed.Article article.now groups.now moment) ≡ false }
-        ensures ok { OnOk result (Adds self.old self.new (changed.Article article.now groups.now moment)) }
+        requires may { MayFile self.old.host self.old.changes (record { text = article.now; groups = groups.now; moment = moment }) }
+        requires room { is_full_for self.old (changed.Article
+            (record { text = article.now; groups = groups.now; moment = moment })) ≡ false }
+        ensures ok { OnOk result (Adds self.old self.new (changed.Article
+            (record { text = article.now; groups = groups.now; moment = moment }))) }
         ensures err { OnErr result (self.new ≡ self.old) }
     {
         let free = grow_by_article(
@@ -372,7 +373,8 @@ impl Spool {
     /// changes nothing.
     pub fn expire(&mut self, name: &[u8], number: u32) -> Result<u64, ExpireError>
         ensures { Tested ExpireError.Memory (expiry_refusal self.old name.now number) self.old self.new result
-            (λ serial. (serial ≡ length self.old.changes + 1) × Adds self.old self.new (changed.Expire name.now number)) }
+            (λ serial. (serial ≡ length self.old.changes + 1) × Adds self.old self.new
+            (changed.Expire (record { group = name.now; number = number }))) }
     {
         if !self.has_number(name, number) {
             return Err(ExpireError::NotFound);
@@ -389,9 +391,9 @@ impl Spool {
     /// Adds an expiry that may follow and for which there is room. Refused only for want of memory, and then nothing
     /// changes.
     fn push_expiry(&mut self, name: &[u8], number: u32) -> Result<(), AllocError>
-        requires may { MayExpire self.old.changes name.now number }
-        requires room { is_full_for self.old (changed.Expire name.now number) ≡ false }
-        ensures ok { OnOk result (Adds self.old self.new (changed.Expire name.now number)) }
+        requires may { MayExpire self.old.changes (record { group = name.now; number = number }) }
+        requires room { is_full_for self.old (changed.Expire (record { group = name.now; number = number })) ≡ false }
+        ensures ok { OnOk result (Adds self.old self.new (changed.Expire (record { group = name.now; number = number }))) }
         ensures err { OnErr result (self.new ≡ self.old) }
     {
         let free = grow_by_expiry(

@@ -3,7 +3,7 @@
 ghost use Rattle.std.specs.Prelude.{◌≡◌, map, IfOk};
 ghost use Rattle.spool_reading.specs.Said.{change_of};
 
-use model::{Change, Names, Text};
+use model::{Change, Expiry, Filing, Names, NewGroup, Text};
 use spool_reading::Said;
 use std::alloc::{AllocError, Global};
 
@@ -17,25 +17,25 @@ pub fn change_said(alloc: Global, said: &Said<'_>) -> Result<Change, AllocError>
             status,
             description,
             moment,
-        } => Ok(Change::Group {
+        } => Ok(Change::Group(NewGroup {
             name: copy(alloc, name)?,
             status: *status,
             description: copy(alloc, description)?,
             moment: *moment,
-        }),
+        })),
         Said::Article {
             text,
             groups,
             moment,
-        } => Ok(Change::Article {
+        } => Ok(Change::Article(Filing {
             text: copy(alloc, text)?,
             groups: copy_names(alloc, groups)?,
             moment: *moment,
-        }),
-        Said::Expiry { group, number } => Ok(Change::Expire {
+        })),
+        Said::Expiry { group, number } => Ok(Change::Expire(Expiry {
             group: copy(alloc, group)?,
             number: u64::from(*number),
-        }),
+        })),
     }
 }
 

@@ -6,11 +6,12 @@ use Rattle.std.specs.List.{Contains}
 use Rattle.model.specs.Stream.{Octets}
 use Rattle.model.specs.Files.{File}
 use Rattle.model.specs.Records.{last_digits}
-use Rattle.model.specs.Spool.{Spool, NewsGroup, entries, entries_from, group_made, group_named, groups, is_name}
+use Rattle.model.specs.Spool.{Spool, NewsGroup, entries, entries_from, group_made, group_named, groups, is_name, news_group}
 use Rattle.model.specs.SpoolFiles.{article_name, entry_files, expiry_name, files_of, group_name, numbers_name, overview_name}
 use Rattle.model.specs.declared.change.Change.TheVariants.{Group, Article, Expire}
+use Rattle.model.specs.declared.change.NewGroup.{NewGroup}
 use Rattle.model.proofs.Joined.{bytes_same}
-use Rattle.model.proofs.Filing.{digits_one}
+use Rattle.model.proofs.Growing.{digits_one}
 
 pub not_first : (a b : Octets) (x y : ℕ) → get_or a 0 0 ≡ x → get_or b 0 0 ≡ y → x ≢ y → a ≢ b
 not_first a b x y p q other same = other (sym p ∙ ap (λ (o : Octets). get_or o 0 0) same ∙ q)
@@ -65,33 +66,35 @@ named_of : (name : Octets) (file f : File) → file ≡ f → LacksNames name fi
 named_of name file f is lacks = subst (λ (x : File). LacksNames name x.name) is lacks
 
 -- the files of the first group lack them, and the later groups have another name
-first_lacks : (name : Octets) (n : ℕ) (g : Octets) (status : ℕ) (description : Octets) (moment : ℕ) (R : Spool)
-    → find (λ (h : NewsGroup). is_name name h.name) (filter_map group_made (entries_from n (Group g status description moment ∷ R))) ≡ None
-    → (LacksNames name (group_name g) × LacksNames name (numbers_name g) × LacksNames name (overview_name g))
+first_lacks : (name : Octets) (n : ℕ) (created : NewGroup) (R : Spool)
+    → find (λ (h : NewsGroup). is_name name h.name) (filter_map group_made (entries_from n (Group created ∷ R))) ≡ None
+    → (LacksNames name (group_name created.name) × LacksNames name (numbers_name created.name)
+    × LacksNames name (overview_name created.name))
     × (find (λ (h : NewsGroup). is_name name h.name) (filter_map group_made (entries_from (suc n) R)) ≡ None)
-first_lacks name n g status description moment R none =
-    let parts = parted name g (record { serial = n; name = g; status = status; description = description; moment = moment })
-    (find (λ (h : NewsGroup). is_name name h.name) (filter_map group_made (entries_from (suc n) R))) (bytes_eq g name) refl none in
-    (group_files_lack name g (other_group name g parts.0), parts.1)
+first_lacks name n created R none =
+    let parts = parted name created.name (news_group n created)
+    (find (λ (h : NewsGroup). is_name name h.name) (filter_map group_made (entries_from (suc n) R)))
+    (bytes_eq created.name name) refl none in
+    (group_files_lack name created.name (other_group name created.name parts.0), parts.1)
 
 groups_lack : (S : Spool) (name : Octets) (n : ℕ) (R : Spool)
     → find (λ (g : NewsGroup). is_name name g.name) (filter_map group_made (entries_from n R)) ≡ None → (f : File)
     → Contains (flat_map (entry_files S) (entries_from n R)) f → LacksNames name f.name
 groups_lack S name n [] none f (k, low, is) = absurd (omega arith)
-groups_lack S name n (Article text gs moment ∷ R) none f (zero, low, is) =
+groups_lack S name n (Article filing ∷ R) none f (zero, low, is) =
     named_of name _ f is (by_first name (article_name n) 97 refl (λ e. omega arith) (λ e. omega arith) (λ e. omega arith))
-groups_lack S name n (Article text gs moment ∷ R) none f (suc k, low, is) = groups_lack S name (suc n) R none f (k, omega arith, is)
-groups_lack S name n (Expire g number ∷ R) none f (zero, low, is) =
+groups_lack S name n (Article filing ∷ R) none f (suc k, low, is) = groups_lack S name (suc n) R none f (k, omega arith, is)
+groups_lack S name n (Expire expiry ∷ R) none f (zero, low, is) =
     named_of name _ f is (by_first name (expiry_name n) 120 refl (λ e. omega arith) (λ e. omega arith) (λ e. omega arith))
-groups_lack S name n (Expire g number ∷ R) none f (suc k, low, is) = groups_lack S name (suc n) R none f (k, omega arith, is)
-groups_lack S name n (Group g status description moment ∷ R) none f (zero, low, is) =
-    named_of name _ f is (first_lacks name n g status description moment R none).0.0
-groups_lack S name n (Group g status description moment ∷ R) none f (suc zero, low, is) =
-    named_of name _ f is (first_lacks name n g status description moment R none).0.1
-groups_lack S name n (Group g status description moment ∷ R) none f (suc (suc zero), low, is) =
-    named_of name _ f is (first_lacks name n g status description moment R none).0.2
-groups_lack S name n (Group g status description moment ∷ R) none f (suc (suc (suc k)), low, is) =
-    groups_lack S name (suc n) R (first_lacks name n g status description moment R none).1 f (k, omega arith, is)
+groups_lack S name n (Expire expiry ∷ R) none f (suc k, low, is) = groups_lack S name (suc n) R none f (k, omega arith, is)
+groups_lack S name n (Group created ∷ R) none f (zero, low, is) =
+    named_of name _ f is (first_lacks name n created R none).0.0
+groups_lack S name n (Group created ∷ R) none f (suc zero, low, is) =
+    named_of name _ f is (first_lacks name n created R none).0.1
+groups_lack S name n (Group created ∷ R) none f (suc (suc zero), low, is) =
+    named_of name _ f is (first_lacks name n created R none).0.2
+groups_lack S name n (Group created ∷ R) none f (suc (suc (suc k)), low, is) =
+    groups_lack S name (suc n) R (first_lacks name n created R none).1 f (k, omega arith, is)
 
 pub lacks_names : (S : Spool) (name : Octets) → group_named S name ≡ None → (f : File) → Contains (files_of S) f → LacksNames name f.name
 unfolding group_named groups entries files_of
@@ -119,25 +122,25 @@ earlier m n less small same = absurd (let one : n ≡ m = digits_one 10 n m (ome
 serials_lack : (S : Spool) (m n : ℕ) (R : Spool) → n + length R ≤ m → m < 10 ^ 10 → (f : File)
     → Contains (flat_map (entry_files S) (entries_from n R)) f → LacksSerial m f.name
 serials_lack S m n [] later small f (k, low, is) = absurd (omega arith)
-serials_lack S m n (Article text gs moment ∷ R) later small f (zero, low, is) = serial_of m _ f is (record {
+serials_lack S m n (Article filing ∷ R) later small f (zero, low, is) = serial_of m _ f is (record {
   article = λ same. earlier m n (omega arith) small (ap (λ (o : Octets). drop 2 o) same);
   expiry = not_first (article_name n) (expiry_name m) 97 120 refl refl (λ e. omega arith);
 })
-serials_lack S m n (Article text gs moment ∷ R) later small f (suc k, low, is) =
+serials_lack S m n (Article filing ∷ R) later small f (suc k, low, is) =
     serials_lack S m (suc n) R (omega arith) small f (k, omega arith, is)
-serials_lack S m n (Expire g number ∷ R) later small f (zero, low, is) = serial_of m _ f is (record {
+serials_lack S m n (Expire expiry ∷ R) later small f (zero, low, is) = serial_of m _ f is (record {
   article = not_first (expiry_name n) (article_name m) 120 97 refl refl (λ e. omega arith);
   expiry = λ same. earlier m n (omega arith) small (ap (λ (o : Octets). drop 2 o) same);
 })
-serials_lack S m n (Expire g number ∷ R) later small f (suc k, low, is) =
+serials_lack S m n (Expire expiry ∷ R) later small f (suc k, low, is) =
     serials_lack S m (suc n) R (omega arith) small f (k, omega arith, is)
-serials_lack S m n (Group g status description moment ∷ R) later small f (zero, low, is) =
-    serial_of m _ f is (other_first m (group_name g) 103 refl (λ e. omega arith) (λ e. omega arith))
-serials_lack S m n (Group g status description moment ∷ R) later small f (suc zero, low, is) =
-    serial_of m _ f is (other_first m (numbers_name g) 110 refl (λ e. omega arith) (λ e. omega arith))
-serials_lack S m n (Group g status description moment ∷ R) later small f (suc (suc zero), low, is) =
-    serial_of m _ f is (other_first m (overview_name g) 111 refl (λ e. omega arith) (λ e. omega arith))
-serials_lack S m n (Group g status description moment ∷ R) later small f (suc (suc (suc k)), low, is) =
+serials_lack S m n (Group created ∷ R) later small f (zero, low, is) =
+    serial_of m _ f is (other_first m (group_name created.name) 103 refl (λ e. omega arith) (λ e. omega arith))
+serials_lack S m n (Group created ∷ R) later small f (suc zero, low, is) =
+    serial_of m _ f is (other_first m (numbers_name created.name) 110 refl (λ e. omega arith) (λ e. omega arith))
+serials_lack S m n (Group created ∷ R) later small f (suc (suc zero), low, is) =
+    serial_of m _ f is (other_first m (overview_name created.name) 111 refl (λ e. omega arith) (λ e. omega arith))
+serials_lack S m n (Group created ∷ R) later small f (suc (suc (suc k)), low, is) =
     serials_lack S m (suc n) R (omega arith) small f (k, omega arith, is)
 
 pub lacks_serial : (S : Spool) → length S + 1 < 10 ^ 10 → (f : File) → Contains (files_of S) f → LacksSerial (length S + 1) f.name

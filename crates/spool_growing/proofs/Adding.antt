@@ -19,10 +19,11 @@ use Rattle.model.specs.Spool.{is_here}
 use Rattle.model.specs.SpoolFiles.{Append, filing_calls, next_line, next_record, number_record, numbers_file, numbers_name, overview_file}
 use Rattle.model.specs.SpoolFiles.{overview_name}
 use Rattle.model.specs.declared.change.Change.TheVariants.{Article}
+use Rattle.model.specs.declared.change.Filing.{Filing}
 use Rattle.model.proofs.Asking.{changes_ask_few, not_full_room, records_size}
 use Rattle.model.proofs.HoldsOne.{high_few}
 use Rattle.model.proofs.Joined.{bytes_same, both_at}
-use Rattle.model.proofs.Filing.{group_has_name}
+use Rattle.model.proofs.Growing.{group_has_name}
 use Rattle.fs.specs.Calls.{IsFileAt}
 use Rattle.filing.specs.declared.Piece.{Piece}
 use Rattle.filing.specs.Calls.{MayAllGrow, MayGrow, append_call}
@@ -49,10 +50,8 @@ filtered p (y ∷ xs) x has = by_test (p y) refl has (λ later. filtered p xs x 
   by_test true at (suc k, low, is) rest = rest (k, omega arith, is)
   by_test false at has rest = rest has
 
-pub filed_here : (host : Octets) (S : Spool) (text : Octets) (filed : List Octets) (moment : ℕ) (g : Octets)
-    → MayFile host S text filed moment → Contains filed g → is_here S g ≡ true
-filed_here host S text filed moment g may has =
-    filtered (is_here S) (groups_of text) g (subst (λ (gs : List Octets). Contains gs g) may.filed has)
+pub filed_here : (host : Octets) (S : Spool) (f : Filing) (g : Octets) → MayFile host S f → Contains f.groups g → is_here S g ≡ true
+filed_here host S f g may has = filtered (is_here S) (groups_of f.text) g (subst (λ (gs : List Octets). Contains gs g) may.filed has)
 
 -- ---- a group at its place
 
@@ -154,12 +153,13 @@ pub short_line : (x : IndexView) (p : FilePlaces) (text : Octets) (filed : List 
     (k : ℕ) (its : IsAt can.changes name k) (i : GroupIndex) (line : Octets)
     → i ≡ group_index can.changes its.group → line ≡ overview_line (length i.filed + 1) text → length line ≤ 8191
 short_line x p text filed can name k its i line is said =
-    let asks = changes_ask_few can.host can.changes (Article text filed can.moment)
+    let filing : Filing = record { text = text; groups = filed; moment = can.moment } in
+    let asks = changes_ask_few can.host can.changes (Article filing)
     (changes_are_few can.host can.inodes can.blocks can.changes can.is) can.is.held.lawful can.may in
     omega (
       arith,
       ap (λ (l : Octets). length l) (said ∙ line_is can.changes text its.group i is),
-      asks.lines text its.group.name filed can.moment refl,
+      asks.lines filing its.group.name refl,
     )
 
 pub are_its_pieces : (inodes : ℕ) (blocks : List Octets) (S : Spool) (p : FilePlaces) (text name : Octets) (k serial : ℕ)
@@ -324,43 +324,42 @@ record_size S text g =
     let a : NewsArticle = record { serial = length S + 1; text = []; groups = []; moment = 0 } in
     omega (arith, records_size (length (overview_file S g)) ((a, next_line S text g) ∷ []), length-append (next_record S text g) [])
 
-module _ (host : Octets) (inodes : ℕ) (blocks : List Octets) (S : Spool) (text : Octets) (filed : List Octets) (moment : ℕ)
-    (pieces : List Piece) (is : IsHeld host inodes blocks S) (may : MayFile host S text filed moment)
-    (room : is_full (length blocks) inodes S (Some (Article text filed moment)) ≡ false)
-    (are : ArePieces (table inodes blocks) S text filed pieces) where
-  rooms : HasRoomForChange (length blocks) inodes S (Article text filed moment)
-  rooms = not_full_room host (length blocks) inodes S (Article text filed moment) (changes_are_few host inodes blocks S is) is.held.lawful
-      may room
+module _ (host : Octets) (inodes : ℕ) (blocks : List Octets) (S : Spool) (f : Filing) (pieces : List Piece)
+    (is : IsHeld host inodes blocks S) (may : MayFile host S f) (room : is_full (length blocks) inodes S (Some (Article f)) ≡ false)
+    (are : ArePieces (table inodes blocks) S f.text f.groups pieces) where
+  rooms : HasRoomForChange (length blocks) inodes S (Article f)
+  rooms = not_full_room host (length blocks) inodes S (Article f) (changes_are_few host inodes blocks S is) is.held.lawful may room
 
-  lines_short : (g : Octets) → length (next_line S text g) ≤ 8191
-  lines_short g = (changes_ask_few host S (Article text filed moment) (changes_are_few host inodes blocks S is) is.held.lawful may).lines
-      text g filed moment refl
+  lines_short : (g : Octets) → length (next_line S f.text g) ≤ 8191
+  lines_short g = (changes_ask_few host S (Article f) (changes_are_few host inodes blocks S is) is.held.lawful may).lines f g refl
 
-  its_room : (g : Octets) (p : Piece) → Contains filed g → IsFor (table inodes blocks) S text g p
+  its_room : (g : Octets) (p : Piece) → Contains f.groups g → IsFor (table inodes blocks) S f.text g p
       → MayGrow inodes p.at (length p.octets.items) blocks × (length p.octets.items ≤ 8191)
   its_room g p has (ForNumbers there said) = (
     record {
       name = numbers_name g;
       content = numbers_file S g;
       there = there;
-      small = omega (arith, (rooms.sizes text filed moment g refl has).0, ap (λ (o : Octets). length o) said);
+      small = omega (arith, (rooms.sizes f g refl has).0, ap (λ (o : Octets). length o) said);
     },
-    omega (arith, record_size S text g, ap (λ (o : Octets). length o) said),
+    omega (arith, record_size S f.text g, ap (λ (o : Octets). length o) said),
   )
   its_room g p has (ForOverview there said) = (
     record {
       name = overview_name g;
       content = overview_file S g;
       there = there;
-      small = omega (arith, (rooms.sizes text filed moment g refl has).1, ap (λ (o : Octets). length o) said);
+      small = omega (arith, (rooms.sizes f g refl has).1, ap (λ (o : Octets). length o) said);
     },
     omega (arith, lines_short g, ap (λ (o : Octets). length o) said),
   )
 
   pub pieces_may_grow : MayAllGrow inodes pieces blocks
   pieces_may_grow = record {
-    each = λ k p at. let its = piece_for (table inodes blocks) S text filed pieces k p are at in (its_room its.group p its.has its.is).0;
-    small = λ k p at. let its = piece_for (table inodes blocks) S text filed pieces k p are at in (its_room its.group p its.has its.is).1;
-    apart = λ j k p q less first second. pieces_apart (table inodes blocks) S text filed pieces j k p q are
-        (filed_distinct host S text filed moment may) less first second;
+    each = λ k p at. let its = piece_for (table inodes blocks) S f.text f.groups pieces k p are at in
+        (its_room its.group p its.has its.is).0;
+    small = λ k p at. let its = piece_for (table inodes blocks) S f.text f.groups pieces k p are at in
+        (its_room its.group p its.has its.is).1;
+    apart = λ j k p q less first second. pieces_apart (table inodes blocks) S f.text f.groups pieces j k p q are
+        (filed_distinct host S f may) less first second;
   }

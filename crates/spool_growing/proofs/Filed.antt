@@ -9,10 +9,11 @@ use Rattle.model.specs.Indexed.{FilePlaces}
 use Rattle.model.specs.Lawful.{MayFile}
 use Rattle.model.specs.Records.{article_record}
 use Rattle.model.specs.Room.{blocks_taken}
-use Rattle.model.specs.Spool.{Spool}
+use Rattle.model.specs.Spool.{Spool, news_article}
 use Rattle.model.specs.SpoolFiles.{FileCall, Create, Append, article_name, change_calls, filing_calls, making_calls}
 use Rattle.model.specs.declared.change.Change.{Change}
 use Rattle.model.specs.declared.change.Change.TheVariants.{Article}
+use Rattle.model.specs.declared.change.Filing.{Filing}
 use Rattle.fs.specs.Calls.{IsFileAt, IsThere}
 use Rattle.fs.specs.Touches.{Touches, touched_by_growth}
 use Rattle.fs_layout.proofs.Touching.{touches_then}
@@ -124,30 +125,29 @@ module _ (inodes at : ℕ) (name octets : Octets) (pieces : List Piece) (old mid
 -- ---- the whole
 
 -- the calls of an article that is filed
-article_is_filed : (inodes : ℕ) (S : Spool) (text : Octets) (filed : List Octets) (moment at : ℕ) (octets : Octets) (pieces : List Piece)
-    (old new : List Octets)
-    → octets ≡ article_record (record { serial = length S + 1; text = text; groups = filed; moment = moment })
-    → ArePieces (table inodes old) S text filed pieces
+article_is_filed : (inodes : ℕ) (S : Spool) (f : Filing) (at : ℕ) (octets : Octets) (pieces : List Piece) (old new : List Octets)
+    → octets ≡ article_record (news_article (length S + 1) f)
+    → ArePieces (table inodes old) S f.text f.groups pieces
     → FilesArticle inodes at (article_name (length S + 1)) octets pieces old new
-    → Calls inodes (change_calls S (Article text filed moment)) old new
-article_is_filed inodes S text filed moment at octets pieces old new says are made =
+    → Calls inodes (change_calls S (Article f)) old new
+article_is_filed inodes S f at octets pieces old new says are made =
     let name = article_name (length S + 1) in
-    let lines : Calls inodes (making_calls name octets ++ flat_map (filing_calls S text) filed) old new =
+    let lines : Calls inodes (making_calls name octets ++ flat_map (filing_calls S f.text) f.groups) old new =
     subst (λ (cs : List FileCall). Calls inodes (making_calls name octets ++ cs) old new)
-    (pieces_call (table inodes old) S text filed pieces are) made.calls in
-    subst (λ (o : Octets). Calls inodes (making_calls name o ++ flat_map (filing_calls S text) filed) old new) says lines
+    (pieces_call (table inodes old) S f.text f.groups pieces are) made.calls in
+    subst (λ (o : Octets). Calls inodes (making_calls name o ++ flat_map (filing_calls S f.text) f.groups) old new) says lines
 
-pub kept_with_article : (host : Octets) (inodes : ℕ) (v w : VolumeView) (i j : IndexView) (p q : FilePlaces) (S : Spool) (text : Octets)
-    (filed : List Octets) (moment at : ℕ) (octets : Octets) (pieces : List Piece)
-    → IsKept host inodes v i p S → MayFile host S text filed moment
-    → octets ≡ article_record (record { serial = length S + 1; text = text; groups = filed; moment = moment })
-    → ArePieces (table inodes v.cache) S text filed pieces
+pub kept_with_article : (host : Octets) (inodes : ℕ) (v w : VolumeView) (i j : IndexView) (p q : FilePlaces) (S : Spool) (f : Filing)
+    (at : ℕ) (octets : Octets) (pieces : List Piece)
+    → IsKept host inodes v i p S → MayFile host S f
+    → octets ≡ article_record (news_article (length S + 1) f)
+    → ArePieces (table inodes v.cache) S f.text f.groups pieces
     → FilesArticle inodes at (article_name (length S + 1)) octets pieces v.cache w.cache → q ≡ with_change at p
-    → Indexes (S ++ Article text filed moment ∷ []) j → w.seen ≡ w.cache
-    → IsKept host inodes w j q (S ++ Article text filed moment ∷ [])
-kept_with_article host inodes v w i j p q S text filed moment at octets pieces kept may says are made places indexed seen =
-    let c : Change = Article text filed moment in
-    let calls = article_is_filed inodes S text filed moment at octets pieces v.cache w.cache says are made in
+    → Indexes (S ++ Article f ∷ []) j → w.seen ≡ w.cache
+    → IsKept host inodes w j q (S ++ Article f ∷ [])
+kept_with_article host inodes v w i j p q S f at octets pieces kept may says are made places indexed seen =
+    let c : Change = Article f in
+    let calls = article_is_filed inodes S f at octets pieces v.cache w.cache says are made in
     let is = grown host inodes v.cache S kept.is c w.cache may calls in
     let placed = grow_by_change (table inodes v.cache) (table inodes w.cache) S c p at refl
     (have_names inodes v.cache S p kept.placed) made.calls.names made.article in
@@ -159,30 +159,28 @@ kept_with_article host inodes v w i j p q S text filed moment at octets pieces k
           (subst (AreNamed (table inodes w.cache) (S ++ c ∷ [])) (sym places) placed);
     }
 
-pub article_grown : (inodes : ℕ) (v m w : VolumeView) (i j : IndexView) (p q : FilePlaces) (text : Octets) (filed : List Octets)
-    (moment at serial : ℕ) (octets : Octets) (pieces : List Piece)
+pub article_grown : (inodes : ℕ) (v m w : VolumeView) (i j : IndexView) (p q : FilePlaces) (f : Filing) (at serial : ℕ)
+    (octets : Octets) (pieces : List Piece)
     → v.seen ≡ v.cache → FilesArticle inodes at (article_name serial) octets pieces v.seen m.seen → Dirties v.cache w.cache v.dirty w.dirty
     → w.cache ≡ m.seen → w.seen ≡ m.seen
     → q ≡ with_change at p
-    → ((host : Octets) (S : Spool) → MayFile host S text filed moment → IsKept host inodes v i p S
-    → Indexes (S ++ Article text filed moment ∷ []) j)
+    → ((host : Octets) (S : Spool) → MayFile host S f → IsKept host inodes v i p S → Indexes (S ++ Article f ∷ []) j)
     → ((S : Spool) → Indexes S i → serial ≡ length S + 1)
-    → octets ≡ article_record (record { serial = serial; text = text; groups = filed; moment = moment })
-    → ((host : Octets) (S : Spool) → IsKept host inodes v i p S → ArePieces (table inodes v.cache) S text filed pieces)
-    → IsGrown inodes v w i j p q (Article text filed moment)
-article_grown inodes v m w i j p q text filed moment at serial octets pieces seen made dirties cache now places indexed serials says are =
+    → octets ≡ article_record (news_article serial f)
+    → ((host : Octets) (S : Spool) → IsKept host inodes v i p S → ArePieces (table inodes v.cache) S f.text f.groups pieces)
+    → IsGrown inodes v w i j p q (Article f)
+article_grown inodes v m w i j p q f at serial octets pieces seen made dirties cache now places indexed serials says are =
     let made' : FilesArticle inodes at (article_name serial) octets pieces v.cache w.cache =
     subst (λ (bs : List Octets). FilesArticle inodes at (article_name serial) octets pieces v.cache bs) (sym cache)
     (subst (λ (bs : List Octets). FilesArticle inodes at (article_name serial) octets pieces bs m.seen) seen made) in
-    let said : (S : Spool) → serial ≡ length S + 1
-    → octets ≡ article_record (record { serial = length S + 1; text = text; groups = filed; moment = moment }) =
-    λ S its. says ∙ ap (λ (n : ℕ). article_record (record { serial = n; text = text; groups = filed; moment = moment })) its in
+    let said : (S : Spool) → serial ≡ length S + 1 → octets ≡ article_record (news_article (length S + 1) f) =
+    λ S its. says ∙ ap (λ (n : ℕ). article_record (news_article n f)) its in
     let named : (S : Spool) → serial ≡ length S + 1 → FilesArticle inodes at (article_name (length S + 1)) octets pieces v.cache w.cache =
     λ S its. subst (λ (n : ℕ). FilesArticle inodes at (article_name n) octets pieces v.cache w.cache) its made' in
     record {
       kept = λ host S kept may.
           let its = serials S kept.indexed in
-          kept_with_article host inodes v w i j p q S text filed moment at octets pieces kept may (said S its) (are host S kept)
+          kept_with_article host inodes v w i j p q S f at octets pieces kept may (said S its) (are host S kept)
           (named S its) places (indexed host S may kept) (now ∙ sym cache);
       dirties = dirties;
     }

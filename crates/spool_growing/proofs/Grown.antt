@@ -10,11 +10,13 @@ use Rattle.model.specs.Files.{File, files_in, table}
 use Rattle.model.specs.Indexed.{FilePlaces}
 use Rattle.model.specs.Lawful.{MayMake, MayExpire}
 use Rattle.model.specs.Records.{expiry_record, group_record}
-use Rattle.model.specs.Spool.{Spool, group_named}
+use Rattle.model.specs.Spool.{Spool, group_named, news_expiry, news_group}
 use Rattle.model.specs.SpoolFiles.{Create, FileCall, after_calls, appended, change_calls, expiry_name, group_name, making_calls}
 use Rattle.model.specs.SpoolFiles.{numbers_name, overview_name}
 use Rattle.model.specs.declared.change.Change.{Change}
 use Rattle.model.specs.declared.change.Change.TheVariants.{Group, Expire}
+use Rattle.model.specs.declared.change.Expiry.{Expiry}
+use Rattle.model.specs.declared.change.NewGroup.{NewGroup}
 use Rattle.fs.specs.Calls.{IsFileAt, IsThere}
 use Rattle.filing.specs.Calls.{Calls, CreatesAt, MakesAt, SameFilesBut}
 use Rattle.filing.proofs.Calling.{calls_then}
@@ -104,33 +106,30 @@ makes_group inodes at numbers overview name octets a b c d first second third = 
 -- ---- the whole
 
 -- the calls of a group that is made
-group_is_made : (inodes : ℕ) (S : Spool) (name : Octets) (status : ℕ) (description : Octets) (moment at numbers overview : ℕ)
-    (octets : Octets) (old new : List Octets)
-    → octets ≡ group_record (record { serial = length S + 1; name = name; status = status; description = description; moment = moment })
-    → MakesGroup inodes at numbers overview name octets old new
-    → Calls inodes (change_calls S (Group name status description moment)) old new
-group_is_made inodes S name status description moment at numbers overview octets old new says made =
-    subst (λ (o : Octets). Calls inodes (group_calls name o) old new) says made.calls
+group_is_made : (inodes : ℕ) (S : Spool) (g : NewGroup) (at numbers overview : ℕ) (octets : Octets) (old new : List Octets)
+    → octets ≡ group_record (news_group (length S + 1) g) → MakesGroup inodes at numbers overview g.name octets old new
+    → Calls inodes (change_calls S (Group g)) old new
+group_is_made inodes S g at numbers overview octets old new says made =
+    subst (λ (o : Octets). Calls inodes (group_calls g.name o) old new) says made.calls
 
 -- the calls of an expiry that is made
-expiry_is_made : (inodes : ℕ) (S : Spool) (group : Octets) (number at : ℕ) (octets : Octets) (old new : List Octets)
-    → octets ≡ expiry_record (record { serial = length S + 1; group = group; number = number })
-    → MakesAt inodes at (expiry_name (length S + 1)) octets old new → Calls inodes (change_calls S (Expire group number)) old new
-expiry_is_made inodes S group number at octets old new says made =
+expiry_is_made : (inodes : ℕ) (S : Spool) (e : Expiry) (at : ℕ) (octets : Octets) (old new : List Octets)
+    → octets ≡ expiry_record (news_expiry (length S + 1) e) → MakesAt inodes at (expiry_name (length S + 1)) octets old new
+    → Calls inodes (change_calls S (Expire e)) old new
+expiry_is_made inodes S e at octets old new says made =
     subst (λ (o : Octets). Calls inodes (making_calls (expiry_name (length S + 1)) o) old new) says made.calls
 
-pub kept_with_group : (host : Octets) (inodes : ℕ) (v w : VolumeView) (i j : IndexView) (p q : FilePlaces) (S : Spool) (name : Octets)
-    (status : ℕ) (description : Octets) (moment at numbers overview : ℕ) (octets : Octets)
-    → IsKept host inodes v i p S → MayMake S name status description moment
-    → octets ≡ group_record (record { serial = length S + 1; name = name; status = status; description = description; moment = moment })
-    → MakesGroup inodes at numbers overview name octets v.cache w.cache → q ≡ with_group at numbers overview p
-    → Indexes (S ++ Group name status description moment ∷ []) j → w.seen ≡ w.cache
-    → IsKept host inodes w j q (S ++ Group name status description moment ∷ [])
-kept_with_group host inodes v w i j p q S name status description moment at numbers overview octets kept may says made places indexed seen =
-    let c : Change = Group name status description moment in
-    let calls = group_is_made inodes S name status description moment at numbers overview octets v.cache w.cache says made in
+pub kept_with_group : (host : Octets) (inodes : ℕ) (v w : VolumeView) (i j : IndexView) (p q : FilePlaces) (S : Spool) (g : NewGroup)
+    (at numbers overview : ℕ) (octets : Octets)
+    → IsKept host inodes v i p S → MayMake S g → octets ≡ group_record (news_group (length S + 1) g)
+    → MakesGroup inodes at numbers overview g.name octets v.cache w.cache → q ≡ with_group at numbers overview p
+    → Indexes (S ++ Group g ∷ []) j → w.seen ≡ w.cache
+    → IsKept host inodes w j q (S ++ Group g ∷ [])
+kept_with_group host inodes v w i j p q S g at numbers overview octets kept may says made places indexed seen =
+    let c : Change = Group g in
+    let calls = group_is_made inodes S g at numbers overview octets v.cache w.cache says made in
     let is = grown host inodes v.cache S kept.is c w.cache may calls in
-    let placed = grow_by_group (table inodes v.cache) (table inodes w.cache) S name status description moment p at numbers overview
+    let placed = grow_by_group (table inodes v.cache) (table inodes w.cache) S g p at numbers overview
     (have_names inodes v.cache S p kept.placed) made.calls.names made.group made.first made.second in
     record {
       is = is;
@@ -140,16 +139,15 @@ kept_with_group host inodes v w i j p q S name status description moment at numb
           (subst (AreNamed (table inodes w.cache) (S ++ c ∷ [])) (sym places) placed);
     }
 
-pub kept_with_expiry : (host : Octets) (inodes : ℕ) (v w : VolumeView) (i j : IndexView) (p q : FilePlaces) (S : Spool) (group : Octets)
-    (number at : ℕ) (octets : Octets)
-    → IsKept host inodes v i p S → MayExpire S group number
-    → octets ≡ expiry_record (record { serial = length S + 1; group = group; number = number })
+pub kept_with_expiry : (host : Octets) (inodes : ℕ) (v w : VolumeView) (i j : IndexView) (p q : FilePlaces) (S : Spool) (e : Expiry)
+    (at : ℕ) (octets : Octets)
+    → IsKept host inodes v i p S → MayExpire S e → octets ≡ expiry_record (news_expiry (length S + 1) e)
     → MakesAt inodes at (expiry_name (length S + 1)) octets v.cache w.cache → q ≡ with_change at p
-    → Indexes (S ++ Expire group number ∷ []) j → w.seen ≡ w.cache
-    → IsKept host inodes w j q (S ++ Expire group number ∷ [])
-kept_with_expiry host inodes v w i j p q S group number at octets kept may says made places indexed seen =
-    let c : Change = Expire group number in
-    let calls = expiry_is_made inodes S group number at octets v.cache w.cache says made in
+    → Indexes (S ++ Expire e ∷ []) j → w.seen ≡ w.cache
+    → IsKept host inodes w j q (S ++ Expire e ∷ [])
+kept_with_expiry host inodes v w i j p q S e at octets kept may says made places indexed seen =
+    let c : Change = Expire e in
+    let calls = expiry_is_made inodes S e at octets v.cache w.cache says made in
     let is = grown host inodes v.cache S kept.is c w.cache may calls in
     let placed = grow_by_change (table inodes v.cache) (table inodes w.cache) S c p at refl
     (have_names inodes v.cache S p kept.placed) made.calls.names
@@ -180,54 +178,45 @@ applied_dirties v m w seen kept count touches cache exactly once =
     (subst (λ (ds : List ℕ). Contains w.dirty k ↔ (Contains ds k ⊎ Differs m.cache m.seen k)) same_dirty (exactly k))))
     once
 
-pub group_grown : (inodes : ℕ) (v m w : VolumeView) (i j : IndexView) (p q : FilePlaces) (name : Octets) (status : ℕ) (description : Octets)
-    (moment at numbers overview : ℕ) (octets : Octets)
-    → v.seen ≡ v.cache → MakesGroup inodes at numbers overview name octets v.seen m.seen → Dirties v.cache w.cache v.dirty w.dirty
+pub group_grown : (inodes : ℕ) (v m w : VolumeView) (i j : IndexView) (p q : FilePlaces) (g : NewGroup) (at numbers overview : ℕ)
+    (octets : Octets)
+    → v.seen ≡ v.cache → MakesGroup inodes at numbers overview g.name octets v.seen m.seen → Dirties v.cache w.cache v.dirty w.dirty
     → w.cache ≡ m.seen → w.seen ≡ m.seen
     → q ≡ with_group at numbers overview p
-    → ((host : Octets) (S : Spool) → IsLawful host S → MayMake S name status description moment → Indexes S i
-    → Indexes (S ++ Group name status description moment ∷ []) j)
-    → ((S : Spool) → Indexes S i → octets ≡ group_record (record {
-      serial = length S + 1;
-      name = name;
-      status = status;
-      description = description;
-      moment = moment;
-    }))
-    → IsGrown inodes v w i j p q (Group name status description moment)
-group_grown inodes v m w i j p q name status description moment at numbers overview octets seen made dirties cache now places indexed says =
-    let made' : MakesGroup inodes at numbers overview name octets v.cache w.cache =
-    subst (λ (bs : List Octets). MakesGroup inodes at numbers overview name octets v.cache bs) (sym cache)
-    (subst (λ (bs : List Octets). MakesGroup inodes at numbers overview name octets bs m.seen) seen made) in
+    → ((host : Octets) (S : Spool) → IsLawful host S → MayMake S g → Indexes S i → Indexes (S ++ Group g ∷ []) j)
+    → ((S : Spool) → Indexes S i → octets ≡ group_record (news_group (length S + 1) g))
+    → IsGrown inodes v w i j p q (Group g)
+group_grown inodes v m w i j p q g at numbers overview octets seen made dirties cache now places indexed says =
+    let made' : MakesGroup inodes at numbers overview g.name octets v.cache w.cache =
+    subst (λ (bs : List Octets). MakesGroup inodes at numbers overview g.name octets v.cache bs) (sym cache)
+    (subst (λ (bs : List Octets). MakesGroup inodes at numbers overview g.name octets bs m.seen) seen made) in
     record {
       kept = λ host S kept may.
-          kept_with_group host inodes v w i j p q S name status description moment at numbers overview octets kept may
+          kept_with_group host inodes v w i j p q S g at numbers overview octets kept may
           (says S kept.indexed) made' places (indexed host S kept.is.held.lawful may kept.indexed) (now ∙ sym cache);
       dirties = dirties;
     }
 
-pub expiry_grown : (inodes : ℕ) (v m w : VolumeView) (i j : IndexView) (p q : FilePlaces) (group : Octets) (number at serial : ℕ)
-    (octets : Octets)
+pub expiry_grown : (inodes : ℕ) (v m w : VolumeView) (i j : IndexView) (p q : FilePlaces) (e : Expiry) (at serial : ℕ) (octets : Octets)
     → v.seen ≡ v.cache → MakesAt inodes at (expiry_name serial) octets v.seen m.seen → Dirties v.cache w.cache v.dirty w.dirty
     → w.cache ≡ m.seen → w.seen ≡ m.seen
     → q ≡ with_change at p
-    → ((S : Spool) → MayExpire S group number → Indexes S i → Indexes (S ++ Expire group number ∷ []) j)
+    → ((S : Spool) → MayExpire S e → Indexes S i → Indexes (S ++ Expire e ∷ []) j)
     → ((S : Spool) → Indexes S i → serial ≡ length S + 1)
-    → octets ≡ expiry_record (record { serial = serial; group = group; number = number })
-    → IsGrown inodes v w i j p q (Expire group number)
-expiry_grown inodes v m w i j p q group number at serial octets seen made dirties cache now places indexed serials says =
+    → octets ≡ expiry_record (news_expiry serial e)
+    → IsGrown inodes v w i j p q (Expire e)
+expiry_grown inodes v m w i j p q e at serial octets seen made dirties cache now places indexed serials says =
     let made' : MakesAt inodes at (expiry_name serial) octets v.cache w.cache =
     subst (λ (bs : List Octets). MakesAt inodes at (expiry_name serial) octets v.cache bs) (sym cache)
     (subst (λ (bs : List Octets). MakesAt inodes at (expiry_name serial) octets bs m.seen) seen made) in
-    let said : (S : Spool) → serial ≡ length S + 1
-    → octets ≡ expiry_record (record { serial = length S + 1; group = group; number = number }) =
-    λ S its. says ∙ ap (λ (n : ℕ). expiry_record (record { serial = n; group = group; number = number })) its in
+    let said : (S : Spool) → serial ≡ length S + 1 → octets ≡ expiry_record (news_expiry (length S + 1) e) =
+    λ S its. says ∙ ap (λ (n : ℕ). expiry_record (news_expiry n e)) its in
     let named : (S : Spool) → serial ≡ length S + 1 → MakesAt inodes at (expiry_name (length S + 1)) octets v.cache w.cache =
     λ S its. subst (λ (n : ℕ). MakesAt inodes at (expiry_name n) octets v.cache w.cache) its made' in
     record {
       kept = λ host S kept may.
           let its = serials S kept.indexed in
-          kept_with_expiry host inodes v w i j p q S group number at octets kept may (said S its) (named S its) places
+          kept_with_expiry host inodes v w i j p q S e at octets kept may (said S its) (named S its) places
           (indexed S may kept.indexed) (now ∙ sym cache);
       dirties = dirties;
     }

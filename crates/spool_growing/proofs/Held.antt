@@ -15,7 +15,7 @@ use Rattle.model.specs.SpoolFiles.{change_calls, files_of}
 use Rattle.model.specs.declared.change.Change.{Change}
 use Rattle.model.specs.declared.change.Change.TheVariants.{Group, Article, Expire}
 use Rattle.model.proofs.Counting.{free_is_beside}
-use Rattle.model.proofs.Filing.{spools_grow}
+use Rattle.model.proofs.Growing.{spools_grow}
 use Rattle.model.proofs.HoldsOne.{changes_few}
 use Rattle.model.proofs.Opening.{is_among}
 use Rattle.fs.specs.Calls.{IsThere}
@@ -59,9 +59,9 @@ module _ (host : Octets) (inodes : ℕ) (blocks : List Octets) (S : Spool) (is :
       }
     where
       one_at_least : (d : Change) → 1 ≤ files_made d
-      one_at_least (Group name status description moment) = omega arith
-      one_at_least (Article text filed moment) = omega arith
-      one_at_least (Expire group number) = omega arith
+      one_at_least (Group created) = omega arith
+      one_at_least (Article filing) = omega arith
+      one_at_least (Expire expiry) = omega arith
 
   -- they lead to the blocks that hold it
   pub grown : (c : Change) (new : List Octets) → MayFollow host S c → Calls inodes (change_calls S c) blocks new

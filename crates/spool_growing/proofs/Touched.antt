@@ -8,9 +8,10 @@ use Rattle.model.specs.Files.{File, table}
 use Rattle.model.specs.Lawful.{MayFile}
 use Rattle.model.specs.Records.{article_record}
 use Rattle.model.specs.Room.{blocks_changed, blocks_filed, blocks_fresh, content_blocks, pointers_put}
-use Rattle.model.specs.Spool.{Spool}
+use Rattle.model.specs.Spool.{Spool, news_article}
 use Rattle.model.specs.SpoolFiles.{next_line, next_record, numbers_file, numbers_name, overview_file, overview_name}
 use Rattle.model.specs.declared.change.Change.TheVariants.{Article}
+use Rattle.model.specs.declared.change.Filing.{Filing}
 use Rattle.model.proofs.Asking.{changes_ask_few}
 use Rattle.fs.specs.Calls.{IsFileAt}
 use Rattle.fs.specs.Touches.{Touches, touched_by_growth}
@@ -69,33 +70,32 @@ pieces_touch inodes S text (h ∷ gs) (r ∷ s ∷ pieces) are =
 
 -- ---- all of it
 
-module _ (host : Octets) (inodes : ℕ) (blocks : List Octets) (S : Spool) (text : Octets) (filed : List Octets) (moment : ℕ)
-    (is : IsHeld host inodes blocks S) (may : MayFile host S text filed moment) where
+module _ (host : Octets) (inodes : ℕ) (blocks : List Octets) (S : Spool) (f : Filing) (is : IsHeld host inodes blocks S)
+    (may : MayFile host S f) where
   abbrev octets_of : Octets
-  octets_of = article_record (record { serial = length S + 1; text = text; groups = filed; moment = moment })
+  octets_of = article_record (news_article (length S + 1) f)
 
-  few_changed : 2 + touched_by_growth 0 (length octets_of) + sum_by (blocks_filed S text) filed ≤ 254
+  few_changed : 2 + touched_by_growth 0 (length octets_of) + sum_by (blocks_filed S f.text) f.groups ≤ 254
   unfolding blocks_changed
   few_changed =
-      let asks = changes_ask_few host S (Article text filed moment) (changes_are_few host inodes blocks S is) is.held.lawful may in
+      let asks = changes_ask_few host S (Article f) (changes_are_few host inodes blocks S is) is.held.lawful may in
       omega (arith, asks.changed, reached_by (length octets_of) asks.made)
 
-  few_touched : (octets : Octets) (pieces : List Piece) → octets ≡ octets_of → ArePieces (table inodes blocks) S text filed pieces
+  few_touched : (octets : Octets) (pieces : List Piece) → octets ≡ octets_of → ArePieces (table inodes blocks) S f.text f.groups pieces
       → 2 + touched_by_growth 0 (length octets) + touched_by_pieces (table inodes blocks) pieces ≤ 254
   few_touched octets pieces says are =
-      let pieces_are = sym (pieces_touch (table inodes blocks) S text filed pieces are) in
+      let pieces_are = sym (pieces_touch (table inodes blocks) S f.text f.groups pieces are) in
       subst (λ (n : ℕ). 2 + touched_by_growth 0 (length octets) + n ≤ 254) pieces_are
-      (subst (λ (o : Octets). 2 + touched_by_growth 0 (length o) + sum_by (blocks_filed S text) filed ≤ 254) (sym says) few_changed)
+      (subst (λ (o : Octets). 2 + touched_by_growth 0 (length o) + sum_by (blocks_filed S f.text) f.groups ≤ 254) (sym says) few_changed)
 
   pub article_touches : (serial : ℕ) (octets : Octets) (pieces : List Piece) (seen new : List Octets)
       → seen ≡ blocks → serial ≡ length S + 1
-      → octets ≡ article_record (record { serial = serial; text = text; groups = filed; moment = moment })
-      → ArePieces (table inodes blocks) S text filed pieces
+      → octets ≡ article_record (news_article serial f) → ArePieces (table inodes blocks) S f.text f.groups pieces
       → Touches (2 + touched_by_growth 0 (length octets) + touched_by_pieces (table inodes seen) pieces) seen new
       → Touches 254 seen new
   article_touches serial octets pieces seen new same count says are touches =
       let reached = 2 + touched_by_growth 0 (length octets) in
-      let its_own = ap (λ (n : ℕ). article_record (record { serial = n; text = text; groups = filed; moment = moment })) count in
+      let its_own = ap (λ (n : ℕ). article_record (news_article n f)) count in
       let few : reached + touched_by_pieces (table inodes seen) pieces ≤ 254 =
       subst (λ (bs : List Octets). reached + touched_by_pieces (table inodes bs) pieces ≤ 254) (sym same)
       (few_touched octets pieces (says ∙ its_own) are) in

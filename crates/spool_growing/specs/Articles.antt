@@ -40,7 +40,7 @@ pub record CanFile (index : IndexView) (places : FilePlaces) (text : Octets) (fi
   pub is : IsHeld host inodes blocks changes
   pub indexed : Indexes changes index
   pub placed : ArePlaces inodes blocks changes places
-  pub may : MayFile host changes text filed moment
+  pub may : MayFile host changes (record { text = text; groups = filed; moment = moment })
 
 -- the same for one of the groups
 pub record CanFileIn (index : IndexView) (places : FilePlaces) (text g : Octets) : Type 0 where

@@ -5,7 +5,7 @@ ghost use Rattle.std.specs.List.{All};
 ghost use Rattle.model.specs.Records as model_records;
 
 use article::Article;
-use model::{Names, Text};
+use model::{Moment, Names, Text};
 use records::article_record;
 use std::alloc::{AllocError, Global};
 
@@ -37,7 +37,7 @@ pub(crate) fn record_of(
     serial: u64,
     article: &Article<'_>,
     filed: &[Text],
-    moment: u64,
+    moment: Moment,
 ) -> Result<Vec<u8>, AllocError>
     requires text { length article.now < 2 ^ 32 }
     requires count { length filed.now < 256 }

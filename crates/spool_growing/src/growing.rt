@@ -15,7 +15,7 @@ use article::Article;
 use filing::Free;
 use fs_layout::marks::lowest_free;
 use index::Index;
-use model::Text;
+use model::{Moment, Status, Text};
 use places::Places;
 use records::{expiry_record, group_record};
 use std::alloc::{AllocError, Global};
@@ -44,14 +44,16 @@ pub fn grow_by_group(
     index: &mut Index,
     places: &mut Places,
     name: &[u8],
-    status: u8,
+    status: Status,
     description: &[u8],
-    moment: u64,
+    moment: Moment,
 ) -> Result<Free, AllocError>
-    requires ready { IsReady inodes volume.old index.old places.old (Change.Group name.now status description.now moment) }
+    requires ready { IsReady inodes volume.old index.old places.old (Change.Group
+        (record { name = name.now; status = status; description = description.now; moment = moment })) }
     requires known { IsKnown inodes free volume.old.cache }
     ensures grown { OnOk result (IsGrown inodes volume.old volume.new index.old index.new places.old places.new
-        (Change.Group name.now status description.now moment)) }
+        (Change.Group
+        (record { name = name.now; status = status; description = description.now; moment = moment }))) }
     ensures known { IfOk result (λ next. IsKnown inodes next volume.new.cache) }
     ensures volume { OnErr result (volume.new ≡ volume.old) }
     ensures index { OnErr result (index.new ≡ index.old) }
@@ -89,10 +91,11 @@ pub fn grow_by_expiry(
     name: &[u8],
     number: u32,
 ) -> Result<Free, AllocError>
-    requires ready { IsReady inodes volume.old index.old places.old (Change.Expire name.now number) }
+    requires ready { IsReady inodes volume.old index.old places.old
+        (Change.Expire (record { group = name.now; number = number })) }
     requires known { IsKnown inodes free volume.old.cache }
     ensures grown { OnOk result (IsGrown inodes volume.old volume.new index.old index.new places.old places.new
-        (Change.Expire name.now number)) }
+        (Change.Expire (record { group = name.now; number = number }))) }
     ensures known { IfOk result (λ next. IsKnown inodes next volume.new.cache) }
     ensures volume { OnErr result (volume.new ≡ volume.old) }
     ensures index { OnErr result (index.new ≡ index.old) }
@@ -129,12 +132,13 @@ pub fn grow_by_article(
     places: &mut Places,
     article: &Article<'_>,
     groups: &[Text],
-    moment: u64,
+    moment: Moment,
 ) -> Result<Free, AllocError>
-    requires ready { IsReady inodes volume.old index.old places.old (Change.Article article.now groups.now moment) }
+    requires ready { IsReady inodes volume.old index.old places.old
+        (Change.Article (record { text = article.now; groups = groups.now; moment = moment })) }
     requires known { IsKnown inodes free volume.old.cache }
     ensures grown { OnOk result (IsGrown inodes volume.old volume.new index.old index.new places.old places.new
-        (Change.Article article.now groups.now moment)) }
+        (Change.Article (record { text = article.now; groups = groups.now; moment = moment }))) }
     ensures known { IfOk result (λ next. IsKnown inodes next volume.new.cache) }
     ensures volume { OnErr result (volume.new ≡ volume.old) }
     ensures index { OnErr result (index.new ≡ index.old) }

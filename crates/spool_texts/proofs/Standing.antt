@@ -11,7 +11,7 @@ use Rattle.model.specs.Stream.{Octets}
 use Rattle.model.specs.Files.{File, HasRoom, IsFile, IsFileSystem, content_of, entry, size, table}
 use Rattle.model.specs.Indexed.{ArePlaces, FilePlaces}
 use Rattle.model.specs.Records.{article_record}
-use Rattle.model.specs.Spool.{Spool, Entry, NewsArticle, article_filed, entries}
+use Rattle.model.specs.Spool.{Spool, Entry, NewsArticle, article_filed, entries, news_article}
 use Rattle.model.specs.SpoolFiles.{article_file, article_name, change_file}
 use Rattle.model.specs.declared.change.Change.{Change}
 use Rattle.model.specs.declared.change.Change.TheVariants.{Group, Article, Expire}
@@ -49,10 +49,9 @@ text_is_last a = ap (λ (o : Octets). take (length a.text) (drop (length o - len
 
 filed_file : (n : ℕ) (c : Change) (a : NewsArticle) → article_filed (record { serial = n; change = c }) ≡ Some a
     → change_file (record { serial = n; change = c }) ≡ article_file a
-filed_file n (Group name status description moment) a is = absurd (cc)
-filed_file n (Expire group number) a is = absurd (cc)
-filed_file n (Article text filed moment) a is =
-    ap (λ (b : NewsArticle). article_file b) (same_Some (record { serial = n; text = text; groups = filed; moment = moment }) a is)
+filed_file n (Group created) a is = absurd (cc)
+filed_file n (Expire expiry) a is = absurd (cc)
+filed_file n (Article filing) a is = ap (λ (b : NewsArticle). article_file b) (same_Some (news_article n filing) a is)
 
 record Its (S : Spool) (k : ℕ) (a : NewsArticle) : Type 0 where
   change : Entry

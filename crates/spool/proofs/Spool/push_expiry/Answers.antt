@@ -4,6 +4,7 @@ use Rattle.model.specs.Lawful.{MayExpire}
 use Rattle.model.specs.Room.{is_full_for}
 use Rattle.model.specs.declared.change.Change.{Change}
 use Rattle.model.specs.declared.change.Change.TheVariants.{Expire}
+use Rattle.model.specs.declared.change.Expiry.{Expiry}
 use Rattle.volume.specs.Volume.{VolumeView}
 use Rattle.spool.specs.View.{SpoolView}
 use Rattle.spool.proofs.Held.{added, enough_left, free_after, if_err, kept_same, kept_stands, kept_view, the_changes}
@@ -34,18 +35,20 @@ returns-in_err-free-clause-err c =
 pub overflow_sub-self : goal.overflow_sub-self
 overflow_sub-self c =
     let s = c.self.inside in
-    let its : Change = Expire c.args.name.now c.args.number in
+    let expiry : Expiry = record { group = c.args.name.now; number = c.args.number } in
+    let its : Change = Expire expiry in
     let room : is_full_for (length s.volume.cache) s.inodes s.stands.changes its ≡ false =
-    subst (λ (x : SpoolView). is_full_for (length x.blocks) x.inodes x.changes (Expire c.args.name.now c.args.number) ≡ false)
+    subst (λ (x : SpoolView). is_full_for (length x.blocks) x.inodes x.changes its ≡ false)
     (sym c.self.view_is) c.requires.room in
     enough_left s.host s.inodes s.volume s.index s.places s.free_inodes s.stands.changes its c.self.invariant.0 c.self.invariant.1 room
 
 pub invariant_of-self-inside-2 : goal.invariant_of-self-inside-2
 invariant_of-self-inside-2 c =
     let s = c.self.inside in
-    let its : Change = Expire c.args.name.now c.args.number in
-    let may : MayExpire s.stands.changes c.args.name.now c.args.number =
-    subst (λ (x : SpoolView). MayExpire x.changes c.args.name.now c.args.number) (sym c.self.view_is) c.requires.may in
+    let expiry : Expiry = record { group = c.args.name.now; number = c.args.number } in
+    let its : Change = Expire expiry in
+    let may : MayExpire s.stands.changes expiry =
+    subst (λ (x : SpoolView). MayExpire x.changes expiry) (sym c.self.view_is) c.requires.may in
     let kept = c.in_ok-free.ensures.grown.kept s.host s.stands.changes c.self.invariant.0 may in
     (record { changes = s.stands.changes ++ its ∷ []; held = ∣ kept.is ∣₁ }, tt)
 
@@ -53,11 +56,12 @@ pub invariant_of-self-2 : goal.invariant_of-self-2
 invariant_of-self-2 c =
     let s = c.self.inside in
     let n = c.grow_by_expiry.new in
-    let its : Change = Expire c.args.name.now c.args.number in
-    let may : MayExpire s.stands.changes c.args.name.now c.args.number =
-    subst (λ (x : SpoolView). MayExpire x.changes c.args.name.now c.args.number) (sym c.self.view_is) c.requires.may in
+    let expiry : Expiry = record { group = c.args.name.now; number = c.args.number } in
+    let its : Change = Expire expiry in
+    let may : MayExpire s.stands.changes expiry =
+    subst (λ (x : SpoolView). MayExpire x.changes expiry) (sym c.self.view_is) c.requires.may in
     let room : is_full_for (length s.volume.cache) s.inodes s.stands.changes its ≡ false =
-    subst (λ (x : SpoolView). is_full_for (length x.blocks) x.inodes x.changes (Expire c.args.name.now c.args.number) ≡ false)
+    subst (λ (x : SpoolView). is_full_for (length x.blocks) x.inodes x.changes its ≡ false)
     (sym c.self.view_is) c.requires.room in
     let kept = c.in_ok-free.ensures.grown.kept s.host s.stands.changes c.self.invariant.0 may in
     let some : 1 ≤ s.free_inodes = enough_left s.host s.inodes s.volume s.index s.places s.free_inodes s.stands.changes its
@@ -71,9 +75,10 @@ pub returns-clause-ok : goal.returns-clause-ok
 returns-clause-ok c =
     let s = c.self.inside in
     let n = c.grow_by_expiry.new in
-    let its : Change = Expire c.args.name.now c.args.number in
-    let may : MayExpire s.stands.changes c.args.name.now c.args.number =
-    subst (λ (x : SpoolView). MayExpire x.changes c.args.name.now c.args.number) (sym c.self.view_is) c.requires.may in
+    let expiry : Expiry = record { group = c.args.name.now; number = c.args.number } in
+    let its : Change = Expire expiry in
+    let may : MayExpire s.stands.changes expiry =
+    subst (λ (x : SpoolView). MayExpire x.changes expiry) (sym c.self.view_is) c.requires.may in
     let kept = c.in_ok-free.ensures.grown.kept s.host s.stands.changes c.self.invariant.0 may in
     added s.host s.inodes s.volume n.volume s.stands c.self-2-1.given.0 its c.args.self.now c.self.view_is
     (the_changes s.host s.inodes n.volume.cache (s.stands.changes ++ its ∷ []) kept.is c.self-2-1.given.0)

@@ -4,8 +4,10 @@ use Rattle.model.specs.Stream.{Octets}
 use Rattle.model.specs.Lawful.{MayFile}
 use Rattle.model.specs.Records.{article_record}
 use Rattle.model.specs.Files.{HasRoom, table}
+use Rattle.model.specs.Spool.{news_article}
 use Rattle.model.specs.SpoolFiles.{article_name}
 use Rattle.model.specs.declared.change.Change.TheVariants.{Article}
+use Rattle.model.specs.declared.change.Filing.{Filing}
 use Rattle.model.proofs.Asking.{changes_ask_few, here_short}
 use Rattle.model.proofs.HoldsOne.{carried_size}
 use Rattle.fs.specs.Calls.{IsThere}
@@ -38,13 +40,13 @@ record_of-requires-clause-text c = omega (arith, carried_size c.args.article.now
 pub record_of-requires-clause-count : goal.record_of-requires-clause-count
 record_of-requires-clause-count c =
     let ready = c.requires.ready in
-    omega (arith, few_groups ready.host ready.changes c.args.article.now c.args.groups.now c.args.moment ready.may)
+    omega (arith, few_groups ready.host ready.changes _ ready.may)
 
 pub record_of-requires-clause-names : goal.record_of-requires-clause-names
 record_of-requires-clause-names c = λ k d low.
     let ready = c.requires.ready in
     let g = get_or c.args.groups.now k d in
-    let here = filed_here ready.host ready.changes c.args.article.now c.args.groups.now c.args.moment g ready.may (
+    let here = filed_here ready.host ready.changes _ g ready.may (
       k,
       low,
       get_or_default c.args.groups.now k g d low,
@@ -55,20 +57,10 @@ pub file_article-requires-clause-short : goal.file_article-requires-clause-short
 file_article-requires-clause-short c =
     let ready = c.requires.ready in
     let serial : c.len-serial.result ≡ length ready.changes = c.len-serial.ensures ready.changes ready.kept.indexed in
-    let says : c.deref.result.now ≡ article_record (record {
-      serial = length ready.changes + 1;
-      text = c.args.article.now;
-      groups = c.args.groups.now;
-      moment = c.args.moment;
-    }) =
-    c.deref.ensures.value ∙ c.in_ok-octets.ensures
-    ∙ ap (λ (n : ℕ). article_record (record {
-      serial = n + 1;
-      text = c.args.article.now;
-      groups = c.args.groups.now;
-      moment = c.args.moment;
-    })) serial in
-    let few = changes_ask_few ready.host ready.changes (Article c.args.article.now c.args.groups.now c.args.moment)
+    let filing : Filing = record { text = c.args.article.now; groups = c.args.groups.now; moment = c.args.moment } in
+    let says : c.deref.result.now ≡ article_record (news_article (length ready.changes + 1) filing) =
+    c.deref.ensures.value ∙ c.in_ok-octets.ensures ∙ ap (λ (n : ℕ). article_record (news_article (n + 1) filing)) serial in
+    let few = changes_ask_few ready.host ready.changes (Article filing)
     (changes_are_few ready.host c.args.inodes c.args.volume.now.cache ready.changes ready.kept.is) ready.kept.is.held.lawful ready.may in
     omega (arith, ap (λ (o : Octets). length o) says, few.made)
 
@@ -83,9 +75,9 @@ file_article-requires-clause-lacks c =
 pub file_article-requires-clause-free : goal.file_article-requires-clause-free
 file_article-requires-clause-free c =
     let ready = c.requires.ready in
+    let filing : Filing = record { text = c.args.article.now; groups = c.args.groups.now; moment = c.args.moment } in
     subst (λ (bs : List Octets). HasFree c.args.inodes 1 bs) (sym ready.kept.seen)
-    (enough ready.host c.args.inodes c.args.volume.now.cache ready.changes ready.kept.is
-    (Article c.args.article.now c.args.groups.now c.args.moment) ready.room)
+    (enough ready.host c.args.inodes c.args.volume.now.cache ready.changes ready.kept.is (Article filing) ready.room)
 
 pub file_article-requires-clause-grow : goal.file_article-requires-clause-grow
 file_article-requires-clause-grow c =
@@ -93,8 +85,9 @@ file_article-requires-clause-grow c =
     let serial = ap (λ (n : ℕ). n + 1) (c.len-serial.ensures ready.changes ready.kept.indexed) in
     let are = c.in_ok-lines.ensures.pieces ready.changes ready.kept.indexed serial c.args.inodes c.args.volume.now.cache ready.kept.placed
     in
-    let may = pieces_may_grow ready.host c.args.inodes c.args.volume.now.cache ready.changes c.args.article.now c.args.groups.now
-    c.args.moment c.in_ok-lines.lines.pieces.items ready.kept.is ready.may ready.room are in
+    let filing : Filing = record { text = c.args.article.now; groups = c.args.groups.now; moment = c.args.moment } in
+    let may = pieces_may_grow ready.host c.args.inodes c.args.volume.now.cache ready.changes filing c.in_ok-lines.lines.pieces.items
+    ready.kept.is ready.may ready.room are in
     subst (λ (ps : List Piece). MayAllGrow c.args.inodes ps c.args.volume.now.seen) (sym c.deref-2.ensures.value)
     (subst (λ (bs : List Octets). MayAllGrow c.args.inodes c.in_ok-lines.lines.pieces.items bs) (sym ready.kept.seen) may)
 
@@ -109,7 +102,7 @@ file_article-requires-clause-few c =
       ap (λ (ps : List Piece). length ps) c.deref-2.ensures.value,
       pieces_count (table c.args.inodes c.args.volume.now.cache) ready.changes c.args.article.now c.args.groups.now
           c.in_ok-lines.lines.pieces.items are,
-      few_groups ready.host ready.changes c.args.article.now c.args.groups.now c.args.moment ready.may,
+      few_groups ready.host ready.changes _ ready.may,
     )
 
 pub push_article-requires-clause-few : goal.push_article-requires-clause-few
@@ -117,7 +110,7 @@ push_article-requires-clause-few c =
     let ready = c.requires.ready in
     omega (
       arith,
-      few_groups ready.host ready.changes c.args.article.now c.args.groups.now c.args.moment ready.may,
+      few_groups ready.host ready.changes _ ready.may,
       ap (λ (gs : List Octets). length gs) c.in_ok-filed.ensures,
     )
 
@@ -134,15 +127,16 @@ returns-clause-grown c =
     let w = c.apply.new.self in
     let text = c.args.article.now in
     let groups = c.args.groups.now in
+    let filing : Filing = record { text = text; groups = groups; moment = c.args.moment } in
     let serial = ap (λ (n : ℕ). n + 1) (c.len-serial.ensures ready.changes ready.kept.indexed) in
     let are = c.in_ok-lines.ensures.pieces ready.changes ready.kept.indexed serial c.args.inodes v.cache ready.kept.placed in
-    let touches = article_touches ready.host c.args.inodes v.cache ready.changes text groups c.args.moment ready.kept.is ready.may
+    let touches = article_touches ready.host c.args.inodes v.cache ready.changes filing ready.kept.is ready.may
     (c.len-serial.result + 1) c.deref.result.now c.deref-2.result.now v.seen m.seen ready.kept.seen serial
     (c.deref.ensures.value ∙ c.in_ok-octets.ensures)
     (subst (λ (ps : List Piece). ArePieces (table c.args.inodes v.cache) ready.changes text groups ps) (sym c.deref-2.ensures.value) are)
     c.in-Ok.ensures.touches in
     article_grown c.args.inodes v m w c.args.index.now c.push_article.new.self c.args.places.now c.push_change.new.self
-    text groups c.args.moment c.in-Ok.at (c.len-serial.result + 1) c.deref.result.now c.deref-2.result.now
+    filing c.in-Ok.at (c.len-serial.result + 1) c.deref.result.now c.deref-2.result.now
     ready.kept.seen c.in-Ok.ensures.filed
     (applied_dirties v m w ready.kept.seen c.in-Ok.ensures.kept c.in-Ok.ensures.filed.calls.count touches c.apply.ensures.cache
     c.apply.ensures.dirty c.apply.ensures.distinct)
@@ -152,9 +146,11 @@ returns-clause-grown c =
     let sizes : AreLineSizes S text groups c.deref-3.result.now =
     subst (λ (ns : List ℕ). AreLineSizes S text groups ns) (sym c.deref-3.ensures.value)
     (c.in_ok-lines.ensures.sizes S kept.indexed serial c.args.inodes v.cache kept.placed) in
-    subst (λ (gs : List Octets). Indexes (S ++ Article text gs c.args.moment ∷ []) c.push_article.new.self) c.in_ok-filed.ensures
+    subst (λ (gs : List Octets). Indexes (S ++ Article (record { text = text; groups = gs; moment = c.args.moment }) ∷ [])
+    c.push_article.new.self) c.in_ok-filed.ensures
     (c.in-Ok-push_article.ensures.ok host S text
-    (subst (λ (gs : List Octets). MayFile host S text gs c.args.moment) (sym c.in_ok-filed.ensures) may) c.id_of.ensures
+    (subst (λ (gs : List Octets). MayFile host S (record { text = text; groups = gs; moment = c.args.moment }))
+    (sym c.in_ok-filed.ensures) may) c.id_of.ensures
     (ap (λ (o : Octets). length o) c.text.ensures)
     (subst (λ (gs : List Octets). AreLineSizes S text gs c.deref-3.result.now) (sym c.in_ok-filed.ensures) sizes) kept.indexed))
     (λ S indexed. ap (λ (n : ℕ). n + 1) (c.len-serial.ensures S indexed)) (c.deref.ensures.value ∙ c.in_ok-octets.ensures)

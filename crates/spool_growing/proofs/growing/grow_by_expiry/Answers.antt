@@ -2,8 +2,10 @@ use Rattle.std.proofs.Common.{◌≡◌, ℕ, ◌+◌, List, length, ◌∙◌, 
 use Rattle.model.specs.Stream.{Octets}
 use Rattle.model.specs.Records.{expiry_record}
 use Rattle.model.specs.Files.{HasRoom, table}
+use Rattle.model.specs.Spool.{news_expiry}
 use Rattle.model.specs.SpoolFiles.{expiry_name}
 use Rattle.model.specs.declared.change.Change.TheVariants.{Expire}
+use Rattle.model.specs.declared.change.Expiry.{Expiry}
 use Rattle.model.proofs.Asking.{changes_ask_few, here_short}
 use Rattle.fs.specs.Calls.{IsThere}
 use Rattle.filing.specs.Calls.{IsKnown}
@@ -30,14 +32,10 @@ pub make_expiry-requires-clause-short : goal.make_expiry-requires-clause-short
 make_expiry-requires-clause-short c =
     let ready = c.requires.ready in
     let serial : c.len-serial.result ≡ length ready.changes = c.len-serial.ensures ready.changes ready.kept.indexed in
-    let says : c.deref.result.now ≡ expiry_record (record {
-      serial = length ready.changes + 1;
-      group = c.args.name.now;
-      number = c.args.number;
-    }) =
-    c.deref.ensures.value ∙ c.in_ok-record.ensures
-    ∙ ap (λ (n : ℕ). expiry_record (record { serial = n + 1; group = c.args.name.now; number = c.args.number })) serial in
-    let few = changes_ask_few ready.host ready.changes (Expire c.args.name.now c.args.number)
+    let expiry : Expiry = record { group = c.args.name.now; number = c.args.number } in
+    let says : c.deref.result.now ≡ expiry_record (news_expiry (length ready.changes + 1) expiry) =
+    c.deref.ensures.value ∙ c.in_ok-record.ensures ∙ ap (λ (n : ℕ). expiry_record (news_expiry (n + 1) expiry)) serial in
+    let few = changes_ask_few ready.host ready.changes (Expire expiry)
     (changes_are_few ready.host c.args.inodes c.args.volume.now.cache ready.changes ready.kept.is) ready.kept.is.held.lawful ready.may in
     omega (arith, ap (λ (o : Octets). length o) says, few.made)
 
@@ -54,7 +52,7 @@ make_expiry-requires-clause-free c =
     let ready = c.requires.ready in
     subst (λ (bs : List Octets). HasFree c.args.inodes 1 bs) (sym ready.kept.seen)
     (enough ready.host c.args.inodes c.args.volume.now.cache ready.changes ready.kept.is
-    (Expire c.args.name.now c.args.number) ready.room)
+    (Expire (record { group = c.args.name.now; number = c.args.number })) ready.room)
 
 pub returns-clause-grown : goal.returns-clause-grown
 returns-clause-grown c =
@@ -62,8 +60,9 @@ returns-clause-grown c =
     let v = c.args.volume.now in
     let m = c.make_expiry.new.blocks in
     let w = c.apply.new.self in
+    let expiry : Expiry = record { group = c.args.name.now; number = c.args.number } in
     expiry_grown c.args.inodes v m w c.args.index.now c.push_expiry.new.self c.args.places.now c.push_change.new.self
-    c.args.name.now c.args.number c.in-Ok.at (c.len-serial.result + 1) c.deref.result.now
+    expiry c.in-Ok.at (c.len-serial.result + 1) c.deref.result.now
     ready.kept.seen c.in-Ok.ensures.made
     (applied_dirties v m w ready.kept.seen c.in-Ok.ensures.kept c.in-Ok.ensures.made.calls.count c.in-Ok.ensures.touches
     c.apply.ensures.cache c.apply.ensures.dirty c.apply.ensures.distinct)

@@ -2,7 +2,9 @@ use Rattle.std.proofs.Common.{rules, ◌≡◌, ℕ, ◌+◌, List, length, ◌�
 use Rattle.model.specs.Files.{HasRoom}
 use Rattle.model.specs.Stream.{Octets}
 use Rattle.model.specs.Records.{group_record}
+use Rattle.model.specs.Spool.{news_group}
 use Rattle.model.specs.declared.change.Change.TheVariants.{Group}
+use Rattle.model.specs.declared.change.NewGroup.{NewGroup}
 use Rattle.model.proofs.Asking.{changes_ask_few}
 use Rattle.index.proofs.Callers.{no_head}
 use Rattle.filing.specs.Calls.{IsKnown}
@@ -24,22 +26,16 @@ pub make_group-requires-clause-short : goal.make_group-requires-clause-short
 make_group-requires-clause-short c =
     let ready = c.requires.ready in
     let serial : c.len-serial.result ≡ length ready.changes = c.len-serial.ensures ready.changes ready.kept.indexed in
-    let says : c.deref.result.now ≡ group_record (record {
-      serial = length ready.changes + 1;
+    let created : NewGroup = record {
       name = c.args.name.now;
       status = c.args.status;
       description = c.args.description.now;
       moment = c.args.moment;
-    }) =
+    } in
+    let says : c.deref.result.now ≡ group_record (news_group (length ready.changes + 1) created) =
     c.deref.ensures.value ∙ c.in_ok-record.ensures c.args.name.now
-    ∙ ap (λ (n : ℕ). group_record (record {
-      serial = n + 1;
-      name = c.args.name.now;
-      status = c.args.status;
-      description = c.args.description.now;
-      moment = c.args.moment;
-    })) serial in
-    let few = changes_ask_few ready.host ready.changes (Group c.args.name.now c.args.status c.args.description.now c.args.moment)
+    ∙ ap (λ (n : ℕ). group_record (news_group (n + 1) created)) serial in
+    let few = changes_ask_few ready.host ready.changes (Group created)
     (changes_are_few ready.host c.args.inodes c.args.volume.now.cache ready.changes ready.kept.is) ready.kept.is.held.lawful ready.may in
     omega (arith, ap (λ (o : Octets). length o) says, few.made)
 
@@ -52,9 +48,14 @@ make_group-requires-clause-lacks c =
 pub make_group-requires-clause-free : goal.make_group-requires-clause-free
 make_group-requires-clause-free c =
     let ready = c.requires.ready in
+    let created : NewGroup = record {
+      name = c.args.name.now;
+      status = c.args.status;
+      description = c.args.description.now;
+      moment = c.args.moment;
+    } in
     subst (λ (bs : List Octets). HasFree c.args.inodes 3 bs) (sym ready.kept.seen)
-    (enough ready.host c.args.inodes c.args.volume.now.cache ready.changes ready.kept.is
-    (Group c.args.name.now c.args.status c.args.description.now c.args.moment) ready.room)
+    (enough ready.host c.args.inodes c.args.volume.now.cache ready.changes ready.kept.is (Group created) ready.room)
 
 pub push_group-requires-2 : goal.push_group-requires-2
 push_group-requires-2 c =
@@ -68,20 +69,20 @@ returns-clause-grown c =
     let m = c.make_group.new.blocks in
     let w = c.apply.new.self in
     let at = c.in-Ok.made in
+    let created : NewGroup = record {
+      name = c.args.name.now;
+      status = c.args.status;
+      description = c.args.description.now;
+      moment = c.args.moment;
+    } in
     group_grown c.args.inodes v m w c.args.index.now c.push_group-2.new.self c.args.places.now c.push_group.new.self
-    c.args.name.now c.args.status c.args.description.now c.args.moment at.at at.numbers at.overview c.deref.result.now
+    created at.at at.numbers at.overview c.deref.result.now
     ready.kept.seen c.in-Ok.ensures.made
     (applied_dirties v m w ready.kept.seen c.in-Ok.ensures.kept c.in-Ok.ensures.made.calls.count c.in-Ok.ensures.touches
     c.apply.ensures.cache c.apply.ensures.dirty c.apply.ensures.distinct)
     c.apply.ensures.cache c.apply.ensures.seen c.in-Ok-push_group.ensures.ok c.in-Ok-push_group-2.ensures.ok
     (λ S indexed. c.deref.ensures.value ∙ c.in_ok-record.ensures c.args.name.now
-    ∙ ap (λ (n : ℕ). group_record (record {
-      serial = n + 1;
-      name = c.args.name.now;
-      status = c.args.status;
-      description = c.args.description.now;
-      moment = c.args.moment;
-    })) (c.len-serial.ensures S indexed))
+    ∙ ap (λ (n : ℕ). group_record (news_group (n + 1) created)) (c.len-serial.ensures S indexed))
 
 pub make_group-requires-clause-known : goal.make_group-requires-clause-known
 make_group-requires-clause-known c =

@@ -17,7 +17,7 @@ pub unreachable-requires : goal.unreachable-requires
 unreachable-requires c =
     let can = c.requires.can in
     never_absent can.changes c.args.name.now c.place.result (c.place.ensures.spool can.changes can.indexed)
-    (filed_here can.host can.changes c.args.overview.now c.requires.filed can.moment c.args.name.now can.may c.requires.has)
+    (filed_here can.host can.changes _ c.args.name.now can.may c.requires.has)
     c.in_default.is
 
 pub offset_bounds-groups-place : goal.offset_bounds-groups-place
@@ -25,7 +25,7 @@ offset_bounds-groups-place c =
     let can = c.requires.can in
     let same : slice_get (groups can.changes) c.in-Some.place ≡ group_named can.changes c.args.name.now =
     c.in-Some.ensures.spool can.changes can.indexed in
-    let here = filed_here can.host can.changes c.args.overview.now c.requires.filed can.moment c.args.name.now can.may c.requires.has in
+    let here = filed_here can.host can.changes _ c.args.name.now can.may c.requires.has in
     omega (
       arith,
       at_place can.changes c.args.name.now c.in-Some.place same here,
@@ -38,7 +38,7 @@ bounds-groups-place c =
     let can = c.requires.can in
     let same : slice_get (groups can.changes) c.in-Some.place ≡ group_named can.changes c.args.name.now =
     c.in-Some.ensures.spool can.changes can.indexed in
-    let here = filed_here can.host can.changes c.args.overview.now c.requires.filed can.moment c.args.name.now can.may c.requires.has in
+    let here = filed_here can.host can.changes _ c.args.name.now can.may c.requires.has in
     omega (
       arith,
       at_place can.changes c.args.name.now c.in-Some.place same here,
@@ -52,7 +52,7 @@ overflow_cast-overview_size c =
     let can = c.requires.can in
     let same : slice_get (groups can.changes) c.in-Some.place ≡ group_named can.changes c.args.name.now =
     c.in-Some.ensures.spool can.changes can.indexed in
-    let here = filed_here can.host can.changes c.args.overview.now c.requires.filed can.moment c.args.name.now can.may c.requires.has in
+    let here = filed_here can.host can.changes _ c.args.name.now can.may c.requires.has in
     let low = at_place can.changes c.args.name.now c.in-Some.place same here in
     let its = is_at can.changes c.args.name.now c.in-Some.place low same in
     let kept = c.groups.ensures.spool can.changes can.indexed in
@@ -73,7 +73,7 @@ returns-clause-short c =
     let can = c.requires.can in
     let same : slice_get (groups can.changes) c.in-Some.place ≡ group_named can.changes c.args.name.now =
     c.in-Some.ensures.spool can.changes can.indexed in
-    let here = filed_here can.host can.changes c.args.overview.now c.requires.filed can.moment c.args.name.now can.may c.requires.has in
+    let here = filed_here can.host can.changes _ c.args.name.now can.may c.requires.has in
     let low = at_place can.changes c.args.name.now c.in-Some.place same here in
     let its = is_at can.changes c.args.name.now c.in-Some.place low same in
     let kept = c.groups.ensures.spool can.changes can.indexed in
@@ -91,7 +91,7 @@ number_record-record-requires c =
     let can = c.requires.can in
     let same : slice_get (groups can.changes) c.in-Some.place ≡ group_named can.changes c.args.name.now =
     c.in-Some.ensures.spool can.changes can.indexed in
-    let here = filed_here can.host can.changes c.args.overview.now c.requires.filed can.moment c.args.name.now can.may c.requires.has in
+    let here = filed_here can.host can.changes _ c.args.name.now can.may c.requires.has in
     let low = at_place can.changes c.args.name.now c.in-Some.place same here in
     let its = is_at can.changes c.args.name.now c.in-Some.place low same in
     let kept = c.groups.ensures.spool can.changes can.indexed in
@@ -113,7 +113,7 @@ offset_bounds-numbers-place c =
     let can = c.requires.can in
     let same : slice_get (groups can.changes) c.in-Some.place ≡ group_named can.changes c.args.name.now =
     c.in-Some.ensures.spool can.changes can.indexed in
-    let here = filed_here can.host can.changes c.args.overview.now c.requires.filed can.moment c.args.name.now can.may c.requires.has in
+    let here = filed_here can.host can.changes _ c.args.name.now can.may c.requires.has in
     omega (
       arith,
       at_place can.changes c.args.name.now c.in-Some.place same here,
@@ -126,7 +126,7 @@ bounds-numbers-place c =
     let can = c.requires.can in
     let same : slice_get (groups can.changes) c.in-Some.place ≡ group_named can.changes c.args.name.now =
     c.in-Some.ensures.spool can.changes can.indexed in
-    let here = filed_here can.host can.changes c.args.overview.now c.requires.filed can.moment c.args.name.now can.may c.requires.has in
+    let here = filed_here can.host can.changes _ c.args.name.now can.may c.requires.has in
     let its = is_at can.changes c.args.name.now c.in-Some.place (at_place can.changes c.args.name.now c.in-Some.place same here) same in
     omega (
       arith,
@@ -139,7 +139,7 @@ offset_bounds-overviews-place c =
     let can = c.requires.can in
     let same : slice_get (groups can.changes) c.in-Some.place ≡ group_named can.changes c.args.name.now =
     c.in-Some.ensures.spool can.changes can.indexed in
-    let here = filed_here can.host can.changes c.args.overview.now c.requires.filed can.moment c.args.name.now can.may c.requires.has in
+    let here = filed_here can.host can.changes _ c.args.name.now can.may c.requires.has in
     omega (
       arith,
       at_place can.changes c.args.name.now c.in-Some.place same here,
@@ -152,7 +152,7 @@ bounds-overviews-place c =
     let can = c.requires.can in
     let same : slice_get (groups can.changes) c.in-Some.place ≡ group_named can.changes c.args.name.now =
     c.in-Some.ensures.spool can.changes can.indexed in
-    let here = filed_here can.host can.changes c.args.overview.now c.requires.filed can.moment c.args.name.now can.may c.requires.has in
+    let here = filed_here can.host can.changes _ c.args.name.now can.may c.requires.has in
     let its = is_at can.changes c.args.name.now c.in-Some.place (at_place can.changes c.args.name.now c.in-Some.place same here) same in
     omega (
       arith,
@@ -165,7 +165,7 @@ returns-clause-pieces c = λ S indexed count inodes blocks placed.
     let can = c.requires.can in
     let first : slice_get (groups can.changes) c.in-Some.place ≡ group_named can.changes c.args.name.now =
     c.in-Some.ensures.spool can.changes can.indexed in
-    let here = filed_here can.host can.changes c.args.overview.now c.requires.filed can.moment c.args.name.now can.may c.requires.has in
+    let here = filed_here can.host can.changes _ c.args.name.now can.may c.requires.has in
     let low : c.in-Some.place < length (groups S) =
     omega (
       arith,
