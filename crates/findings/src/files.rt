@@ -2,7 +2,8 @@
 
 use crate::owners::{NOBODY, Names};
 use disk::Disk;
-use names::is_group_name;
+use model::{MOMENT_LIMIT, Status};
+use names::{DESCRIPTION_LIMIT, is_group_name};
 use records::{FileKind, kind_of, serial_of};
 use std::alloc::Global;
 use volume_format::layout::{number32, number64};
@@ -30,12 +31,6 @@ const TEXT_SIZE_AT: usize = 16;
 const GROUP_COUNT_AT: usize = 20;
 
 const NAME_SIZE_AT: usize = 12;
-
-/// The first second that is too late for a moment.
-const MOMENT_LIMIT: u64 = 253_402_300_800;
-
-/// The octets of the longest description.
-const DESCRIPTION_LIMIT: u64 = 200;
 
 /// Checks the rule of files, in a volume that follows the rule of blocks.
 pub(crate) fn look<D: Disk>(volume: &mut ReadVolume<D>, names: &Names) -> Result<(), ReadStop> {
@@ -202,10 +197,13 @@ fn look_at_description(
     entry: &DirectoryEntry,
     octets: &[u8],
 ) -> Result<(), ReadStop> {
-    let status = octets.get(STATUS_AT).copied();
-    wrong_unless!(alloc; status == Some(b'y') || status == Some(b'n'), "{entry} has a status that is neither y nor n");
+    let status = match octets.get(STATUS_AT) {
+        Some(octet) => Status::of(*octet),
+        None => None,
+    };
+    wrong_unless!(alloc; status.is_some(), "{entry} has a status that is neither y nor n");
     let size = entry.size().saturating_sub(GROUP_HEADER as u64);
-    wrong_unless!(alloc; size <= DESCRIPTION_LIMIT,
+    wrong_unless!(alloc; size <= DESCRIPTION_LIMIT as u64,
         "{entry} has a description of {} octets, where {DESCRIPTION_LIMIT} are the most", Grouped(size));
     for at in GROUP_HEADER..octets.len() {
         let octet = octets[at];

@@ -2,6 +2,7 @@
 use Rattle.std.specs.Prelude.{ℕ, ◌-◌, List, [], ◌∷◌, codes, map}
 use Rattle.std.specs.Str.Lossy.{utf8_lossy}
 use Rattle.model.specs.Room.{largest_file, octets_asked}
+use Rattle.model.specs.Spool.{status_octet}
 use Rattle.model.specs.Stream.{Octets}
 use Rattle.serde_json.specs.Data.{Data, array, member, no_members, number, object, string, unsigned}
 use Rattle.serde_json.specs.View.{items_of}
@@ -35,7 +36,7 @@ group_data g =
     (member (codes "low") (natural g.low)
     (member (codes "name") (words g.name)
     (member (codes "overview") (overview_data g.overview)
-    (member (codes "status") (words (g.status ∷ []))
+    (member (codes "status") (words (status_octet g.status ∷ []))
     no_members))))))
 
 abbrev pub status_data : VolumeStatus → Data

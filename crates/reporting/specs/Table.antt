@@ -2,6 +2,7 @@
 use Rattle.std.specs.Prelude.{ℕ, ◌-◌, ◌*◌, ◌/◌, ◌==◌, if◌then◌else◌, max, List, [], ◌∷◌, ◌++◌, codes, decimal, fold, length, map, replicate}
 use Rattle.std.specs.List.{flat_map}
 use Rattle.model.specs.Room.{largest_file, octets_asked}
+use Rattle.model.specs.Spool.{status_octet}
 use Rattle.model.specs.Stream.{Octets}
 use Rattle.reporting.specs.declared.state.GroupStatus.{GroupStatus}
 use Rattle.reporting.specs.declared.state.Share.{Share}
@@ -57,7 +58,7 @@ row_of g = record {
   low = decimal g.low;
   high = decimal g.high;
   count = decimal g.count;
-  status = g.status ∷ [];
+  status = status_octet g.status ∷ [];
   overview = in_per_cent g.overview (largest_file - octets_asked);
 }
 

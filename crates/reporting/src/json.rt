@@ -58,7 +58,7 @@ fn group_value(alloc: Global, group: &GroupStatus) -> Result<Value, AllocError>
     ensures { IfOk result (λ value. view value ≡ group_data group.now) }
 {
     let name = string_of(alloc, &group.name)?;
-    let status = String::from_utf8_lossy(alloc, &[group.status])?;
+    let status = String::from_utf8_lossy(alloc, &[group.status.octet()])?;
     let overview = overview_value(alloc, group.overview)?;
     json!(in alloc; {
         "status": &status,

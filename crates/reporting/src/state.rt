@@ -2,7 +2,7 @@
 
 ghost use Rattle.std.specs.Prelude.{◌≡◌, ◌-◌, ◌<◌, ◌≤◌};
 
-use model::Text;
+use model::{Status, Text};
 
 /// The size of an overview, in octets, up to which its group takes articles: 12,288 less than that of the largest file
 /// of format 2. Each volume that is served has this format.
@@ -36,8 +36,8 @@ pub struct GroupStatus {
     pub high: u64,
     /// The number of articles in it.
     pub count: u64,
-    /// `y`, or `n` if it takes no posts.
-    pub status: u8,
+    /// Whether clients may post to it.
+    pub status: Status,
     /// The size of its overview in octets.
     pub overview: u32,
 }

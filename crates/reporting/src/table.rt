@@ -154,7 +154,7 @@ fn row_of(alloc: Global, group: &GroupStatus) -> Result<Row, AllocError>
         low: number(alloc, group.low)?,
         high: number(alloc, group.high)?,
         count: number(alloc, group.count)?,
-        status: cell(alloc, &[group.status])?,
+        status: cell(alloc, &[group.status.octet()])?,
         overview: Text::new(overview),
     })
 }
