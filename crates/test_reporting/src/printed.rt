@@ -1,12 +1,12 @@
 //! How the state of a volume is printed.
 
-use model::Text;
+use model::{Status, Text};
 use reporting::{GroupStatus, Share, VolumeStatus, json_text, table_text};
 use std::alloc::{AllocError, Global};
 use std::test::Fail;
 
 /// A group: its name, its lowest and its highest number, the number of articles, its status, the octets of its overview.
-type GroupRow = (&'static str, u64, u64, u64, u8, u32);
+type GroupRow = (&'static str, u64, u64, u64, Status, u32);
 
 /// A state: the format; the blocks and the inodes, those that are used and all; the changes; the groups; the text; the
 /// JSON.
@@ -45,7 +45,7 @@ changes   0
         blocks: (1_200, 16_384),
         inodes: (310, 8_192),
         changes: 304,
-        groups: &[("x.test", 1, 100, 100, b'y', 84_460)],
+        groups: &[("x.test", 1, 100, 100, Status::Open, 84_460)],
         text: "\
 host      news.example
 format    2
@@ -67,16 +67,16 @@ x.test     1   100    100  y            0 %
         inodes: (64, 64),
         changes: 32_768,
         groups: &[
-            ("x", 1, 0, 0, b'y', 0),
+            ("x", 1, 0, 0, Status::Open, 0),
             (
                 "a.long-name.in-three.parts+more",
                 1_000,
                 123_456,
                 122_457,
-                b'n',
+                Status::Closed,
                 268_423_168,
             ),
-            ("x.b", 32, 31, 0, b'n', 2_684_231),
+            ("x.b", 32, 31, 0, Status::Closed, 2_684_231),
         ],
         text: "\
 host      news.example
@@ -104,8 +104,8 @@ x.b                                 32      31       0  n            0 %
         inodes: (2, 3),
         changes: 6,
         groups: &[
-            ("x.a", 1, 3, 3, b'y', 268_435_456),
-            ("x.b", 1, 1, 1, b'y', 2_684_232),
+            ("x.a", 1, 3, 3, Status::Open, 268_435_456),
+            ("x.b", 1, 1, 1, Status::Open, 2_684_232),
         ],
         text: "\
 host      news.example

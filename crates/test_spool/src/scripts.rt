@@ -1,6 +1,7 @@
 //! What calls of one spool answer, one after another. There are 64 inodes and 1,024 blocks, of which 1,020 are free at
 //! first.
 
+use model::Status;
 use spool::{AddError, ExpireError};
 use std::alloc::Global;
 use std::test::Fail;
@@ -49,37 +50,33 @@ const NOTHING: Rows = &[
 /// Three groups are made.
 const GROUPS: Rows = &[
     (
-        Call::Add("x.b", b'y', "test"),
+        Call::Add("x.b", Status::Open, "test"),
         Answer::Changed(Filed::Serial(1)),
     ),
     (Call::DirtyLen, Answer::Blocks(4)),
     (
-        Call::Add("x.b", b'n', ""),
+        Call::Add("x.b", Status::Closed, ""),
         Answer::Changed(Filed::NotAdded(AddError::Exists)),
     ),
     (Call::Carry, Answer::Blocks(4)),
     (
-        Call::Add("x.a", b'n', ""),
+        Call::Add("x.a", Status::Closed, ""),
         Answer::Changed(Filed::Serial(2)),
     ),
     (
-        Call::Add("x..a", b'n', ""),
+        Call::Add("x..a", Status::Closed, ""),
         Answer::Changed(Filed::NotCalled),
     ),
     (
-        Call::Add("x.d", b'm', ""),
+        Call::Add("x.d", Status::Open, "\t"),
         Answer::Changed(Filed::NotCalled),
     ),
     (
-        Call::Add("x.d", b'y', "\t"),
-        Answer::Changed(Filed::NotCalled),
-    ),
-    (
-        Call::Add("x.c", b'y', ""),
+        Call::Add("x.c", Status::Open, ""),
         Answer::Changed(Filed::Serial(3)),
     ),
     (
-        Call::Add("x.c", b'y', ""),
+        Call::Add("x.c", Status::Open, ""),
         Answer::Changed(Filed::NotAdded(AddError::Exists)),
     ),
     (Call::Carry, Answer::Blocks(5)),
@@ -87,23 +84,23 @@ const GROUPS: Rows = &[
 
 const THREE_GROUPS: Rows = &[
     (
-        Call::Change(1, Wanted::Group("x.b", b'y', "test")),
+        Call::Change(1, Wanted::Group("x.b", Status::Open, "test")),
         Answer::Is(true),
     ),
     (
-        Call::Change(2, Wanted::Group("x.a", b'n', "")),
+        Call::Change(2, Wanted::Group("x.a", Status::Closed, "")),
         Answer::Is(true),
     ),
     (
-        Call::Change(3, Wanted::Group("x.c", b'y', "")),
+        Call::Change(3, Wanted::Group("x.c", Status::Open, "")),
         Answer::Is(true),
     ),
     (
-        Call::Change(4, Wanted::Group("x.c", b'y', "")),
+        Call::Change(4, Wanted::Group("x.c", Status::Open, "")),
         Answer::Nothing,
     ),
     (
-        Call::Change(0, Wanted::Group("x.c", b'y', "")),
+        Call::Change(0, Wanted::Group("x.c", Status::Open, "")),
         Answer::Nothing,
     ),
     (Call::Find(Asked::Len), Answer::Found(3)),
@@ -133,7 +130,7 @@ const THREE_GROUPS: Rows = &[
     (Call::Is(Sought::New("*", 0), b""), Answer::Is(true)),
     (Call::IsNone(Sought::Lines("x.b", 1, 1)), Answer::Is(true)),
     (
-        Call::Add("x.a", b'y', ""),
+        Call::Add("x.a", Status::Open, ""),
         Answer::Changed(Filed::NotAdded(AddError::Exists)),
     ),
 ];
@@ -141,15 +138,15 @@ const THREE_GROUPS: Rows = &[
 /// Three groups, and what is filed in them and refused.
 const FILINGS: Rows = &[
     (
-        Call::Add("x.a", b'y', ""),
+        Call::Add("x.a", Status::Open, ""),
         Answer::Changed(Filed::Serial(1)),
     ),
     (
-        Call::Add("x.b", b'y', ""),
+        Call::Add("x.b", Status::Open, ""),
         Answer::Changed(Filed::Serial(2)),
     ),
     (
-        Call::Add("x.c", b'n', ""),
+        Call::Add("x.c", Status::Closed, ""),
         Answer::Changed(Filed::Serial(3)),
     ),
     (Call::Carry, Answer::Blocks(6)),
@@ -224,7 +221,7 @@ const FILINGS: Rows = &[
 
 const FOUR_ARTICLES: Rows = &[
     (
-        Call::Change(3, Wanted::Group("x.c", b'n', "")),
+        Call::Change(3, Wanted::Group("x.c", Status::Closed, "")),
         Answer::Is(true),
     ),
     (
@@ -364,11 +361,11 @@ const FOUR_ARTICLES: Rows = &[
 /// Two groups with three articles, and an expiry in the first.
 const EXPIRIES: Rows = &[
     (
-        Call::Add("x.a", b'y', ""),
+        Call::Add("x.a", Status::Open, ""),
         Answer::Changed(Filed::Serial(1)),
     ),
     (
-        Call::Add("x.b", b'y', ""),
+        Call::Add("x.b", Status::Open, ""),
         Answer::Changed(Filed::Serial(2)),
     ),
     (Call::Post(FIRST), Answer::Changed(Filed::Reply(240, 3))),
@@ -530,11 +527,11 @@ const FULL: Rows = &[
     (Call::Post(FIRST), Answer::Changed(Filed::Full(441))),
     (Call::Take(FIRST), Answer::Changed(Filed::Full(436))),
     (
-        Call::Add("x.b", b'y', ""),
+        Call::Add("x.b", Status::Open, ""),
         Answer::Changed(Filed::NotAdded(AddError::Full)),
     ),
     (
-        Call::Add("x.a", b'y', ""),
+        Call::Add("x.a", Status::Open, ""),
         Answer::Changed(Filed::NotAdded(AddError::Exists)),
     ),
     (
@@ -560,7 +557,7 @@ const FULL: Rows = &[
 /// another, the overview two.
 const ALL_INODES: Rows = &[
     (
-        Call::Add("x.a", b'y', ""),
+        Call::Add("x.a", Status::Open, ""),
         Answer::Changed(Filed::Serial(1)),
     ),
     (
@@ -574,7 +571,7 @@ const ALL_INODES: Rows = &[
 const MANY_GROUPS: Rows = &[
     (Call::AddMany(21), Answer::Changed(Filed::Serial(21))),
     (
-        Call::Add("x.a", b'y', ""),
+        Call::Add("x.a", Status::Open, ""),
         Answer::Changed(Filed::NotAdded(AddError::Full)),
     ),
     (
@@ -595,7 +592,7 @@ const MANY_GROUPS: Rows = &[
 /// free.
 const FEW_BLOCKS: Rows = &[
     (
-        Call::Add("x.a", b'y', ""),
+        Call::Add("x.a", Status::Open, ""),
         Answer::Changed(Filed::Serial(1)),
     ),
     (
@@ -616,7 +613,7 @@ const FEW_BLOCKS: Rows = &[
 /// More blocks are dirty than a batch may have.
 const MANY_DIRTY: Rows = &[
     (
-        Call::Add("x.a", b'y', ""),
+        Call::Add("x.a", Status::Open, ""),
         Answer::Changed(Filed::Serial(1)),
     ),
     (

@@ -18,6 +18,7 @@
 //!
 //! The overview lines in block 8 begin at 0, 72 and 147.
 
+use model::Status;
 use spool_reading::ReadSpoolError;
 use std::alloc::Global;
 use std::test::Fail;
@@ -32,11 +33,11 @@ const SLOTS: u32 = 3;
 /// The changes that are filed, and taken as a batch.
 const CHANGES: &[(Call, Answer)] = &[
     (
-        Call::Add("x.a", b'y', "test"),
+        Call::Add("x.a", Status::Open, "test"),
         Answer::Changed(Filed::Serial(1)),
     ),
     (
-        Call::Add("x.b", b'y', ""),
+        Call::Add("x.b", Status::Open, ""),
         Answer::Changed(Filed::Serial(2)),
     ),
     (

@@ -5,6 +5,7 @@ use crate::changing::{Filed, add, expire, post, take};
 use crate::finding::{Asked, Sought, find, text_of};
 use crate::sent::Sent;
 use crate::stored::Stored;
+use model::Status;
 use spool_reading::ReadSpoolError;
 use std::alloc::Global;
 
@@ -12,7 +13,7 @@ use std::alloc::Global;
 #[derive(Clone, Copy)]
 pub enum Call {
     /// Adds a group with this status and this description.
-    Add(&'static str, u8, &'static str),
+    Add(&'static str, Status, &'static str),
     /// Adds this many groups, with the names g.1, g.2 and so on.
     AddMany(u64),
     /// Removes the articles up to a number from a group.
@@ -94,9 +95,13 @@ fn is_text(alloc: Global, stored: &Stored, sought: Sought, wanted: Option<&[u8]>
 fn change_by(alloc: Global, stored: &mut Stored, call: Call) -> Filed {
     let spool = &mut stored.spool;
     match call {
-        Call::Add(name, status, description) => {
-            add(spool, name.as_bytes(), status, description.as_bytes())
-        }
+        Call::Add(name, status, description) => add(
+            alloc,
+            spool,
+            name.as_bytes(),
+            status,
+            description.as_bytes(),
+        ),
         Call::AddMany(count) => add_many(alloc, stored, count),
         Call::Expire(name, number) => expire(spool, name.as_bytes(), number),
         Call::Post(sent) => post(alloc, spool, &sent),
@@ -122,7 +127,7 @@ fn add_many(alloc: Global, stored: &mut Stored, count: u64) -> Filed {
         let Ok(name) = format!(in alloc; "g.{number}") else {
             return Filed::Memory;
         };
-        last = add(&mut stored.spool, name.as_bytes(), b'y', b"");
+        last = add(alloc, &mut stored.spool, name.as_bytes(), Status::Open, b"");
     }
     last
 }

@@ -3,7 +3,7 @@
 use crate::changing::MOMENT;
 use crate::sent::Sent;
 use lookups::LookUps;
-use model::{Change, Names, Text};
+use model::{Change, Names, Status, Text};
 use spool::Spool;
 use std::alloc::{AllocError, Global};
 
@@ -11,7 +11,7 @@ use std::alloc::{AllocError, Global};
 #[derive(Clone, Copy)]
 pub enum Wanted {
     /// A group with this status and this description.
-    Group(&'static str, u8, &'static str),
+    Group(&'static str, Status, &'static str),
     /// An article as it was sent, filed in these groups.
     Article(Sent, &'static [&'static str]),
     Expiry(&'static str, u64),
@@ -33,37 +33,22 @@ pub fn is_change(
 
 fn is_wanted(alloc: Global, change: &Change, wanted: &Wanted) -> Result<bool, AllocError> {
     match (change, wanted) {
-        (
-            Change::Group {
-                name,
-                status,
-                description,
-                moment,
-            },
-            Wanted::Group(its_name, its_status, its_description),
-        ) => Ok(
-            is_text(name, its_name)
-                && is_text(description, its_description)
-                && *status == *its_status
-                && *moment == MOMENT,
+        (Change::Group(group), Wanted::Group(name, status, description)) => Ok(
+            is_text(&group.name, name)
+                && is_text(&group.description, description)
+                && group.status == *status
+                && group.moment.seconds() == MOMENT,
         ),
-        (
-            Change::Article {
-                text,
-                groups,
-                moment,
-            },
-            Wanted::Article(sent, its_groups),
-        ) => {
+        (Change::Article(filing), Wanted::Article(sent, groups)) => {
             let octets = sent.text(alloc)?;
             Ok(
-                text.as_slice() == octets.as_slice()
-                    && are_names(groups, its_groups)
-                    && *moment == MOMENT,
+                filing.text.as_slice() == octets.as_slice()
+                    && are_names(&filing.groups, groups)
+                    && filing.moment.seconds() == MOMENT,
             )
         }
-        (Change::Expire { group, number }, Wanted::Expiry(its_group, its_number)) => {
-            Ok(is_text(group, its_group) && *number == *its_number)
+        (Change::Expire(expiry), Wanted::Expiry(group, number)) => {
+            Ok(is_text(&expiry.group, group) && expiry.number == *number)
         }
         _ => Ok(false),
     }

@@ -1,13 +1,11 @@
 //! Changes of a spool. Each call checks its own preconditions, and has no contract.
 
-ghost use Rattle.std.specs.Prelude.{◌≡◌, ◌⊎◌, ◌≤◌, IsTrue, length};
-ghost use Rattle.std.specs.List.{list_all};
-ghost use Rattle.model.specs.Lawful.{MayAwait, is_description_octet};
+ghost use Rattle.model.specs.Lawful.{MayAwait};
 
 use crate::sent::Sent;
 use lookups::LookUps;
-use model::{Awaits, Mark, Message, Session, Text};
-use names::{is_group_name, is_of_host, number_of};
+use model::{Awaits, Mark, Message, Moment, Session, Status, Text};
+use names::{Description, GroupName, GroupRequest, NameError, is_of_host, number_of};
 use session::{Served, serve};
 use spool::{AddError, ExpireError, Spool};
 use std::alloc::Global;
@@ -34,31 +32,40 @@ pub enum Filed {
 }
 
 /// Adds a group.
-pub fn add(spool: &mut Spool, name: &[u8], status: u8, description: &[u8]) -> Filed {
-    if !is_group_name(name) || !is_described(status, description) {
-        return Filed::NotCalled;
-    }
-    match spool.add_group(name, status, description, MOMENT) {
+pub fn add(
+    alloc: Global,
+    spool: &mut Spool,
+    name: &[u8],
+    status: Status,
+    description: &[u8],
+) -> Filed {
+    let group = match group_of(alloc, name, status, description) {
+        Ok(group) => group,
+        Err(NameError::Bad) => return Filed::NotCalled,
+        Err(NameError::Memory) => return Filed::Memory,
+    };
+    match spool.add_group(&group) {
         Ok(serial) => Filed::Serial(serial),
         Err(error) => Filed::NotAdded(error),
     }
 }
 
-// Whether a group may have this status and this description.
-fn is_described(status: u8, description: &[u8]) -> bool
-    ensures status { IsTrue result → (status ≡ 121) ⊎ (status ≡ 110) }
-    ensures short { IsTrue result → length description.now ≤ 200 }
-    ensures printable { IsTrue result → IsTrue (list_all is_description_octet description.now) }
-{
-    (status == b'y' || status == b'n') && description.len() <= 200 && is_printable(description)
-}
-
-fn is_printable(description: &[u8]) -> bool
-    ensures { result ≡ list_all is_description_octet description.now }
-{
-    description
-        .iter()
-        .all(|octet| 32 <= *octet && *octet <= 126)
+// The group that is asked for. `Bad` if the name is no name of a group, or the description none of one.
+fn group_of(
+    alloc: Global,
+    name: &[u8],
+    status: Status,
+    description: &[u8],
+) -> Result<GroupRequest, NameError> {
+    let Some(moment) = Moment::at(MOMENT) else {
+        return Err(NameError::Bad);
+    };
+    Ok(GroupRequest {
+        name: GroupName::read(name)?,
+        status,
+        description: Description::read(alloc, description)?,
+        moment,
+    })
 }
 
 /// Removes articles from a group.
@@ -98,7 +105,10 @@ fn deliver(alloc: Global, spool: &mut Spool, sent: &Sent, awaits: Awaits) -> Fil
         current: None,
     };
     let message = Message::Block(Text::new(text));
-    match serve(alloc, spool, &session, &message, MOMENT) {
+    let Some(moment) = Moment::at(MOMENT) else {
+        return Filed::NotCalled;
+    };
+    match serve(alloc, spool, &session, &message, moment) {
         Ok(served) => said(&served),
         Err(_) => Filed::Memory,
     }

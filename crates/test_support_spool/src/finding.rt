@@ -55,7 +55,7 @@ fn at(spool: &Spool, place: usize) -> Option<u64> {
 fn find_in_group(spool: &Spool, asked: Asked) -> Option<u64> {
     match asked {
         Asked::Serial(name) => Some(spool.group(name.as_bytes())?.serial),
-        Asked::Status(name) => Some(u64::from(spool.group(name.as_bytes())?.status)),
+        Asked::Status(name) => Some(u64::from(spool.group(name.as_bytes())?.status.octet())),
         Asked::Made(name) => Some(spool.group(name.as_bytes())?.moment),
         Asked::Low(name) => Some(spool.group(name.as_bytes())?.low),
         Asked::High(name) => Some(spool.group(name.as_bytes())?.high),

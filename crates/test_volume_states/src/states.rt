@@ -1,6 +1,7 @@
 //! What is reported of the volume of a spool.
 
 use crate::volumes::{octets_after, state_of};
+use model::Status;
 use reporting::{GroupStatus, VolumeStatus};
 use spool_reading::ReadSpoolError;
 use std::alloc::Global;
@@ -10,7 +11,7 @@ use test_support_spool::{Call, Sent};
 const HOST: &[u8] = b"news.example";
 
 /// A group: its name, its lowest and its highest number, the number of articles, its status, the octets of its overview.
-type GroupRow = (&'static str, u64, u64, u64, u8, u32);
+type GroupRow = (&'static str, u64, u64, u64, Status, u32);
 
 /// The name of a row, the changes, the used blocks, the used inodes, the number of changes, and the groups.
 type Row = (
@@ -47,29 +48,32 @@ const ROWS: &[Row] = &[
     ("no change", &[], 4, 0, 0, &[]),
     (
         "a group without articles",
-        &[Call::Add("x.a", b'y', "test")],
+        &[Call::Add("x.a", Status::Open, "test")],
         5,
         3,
         1,
-        &[("x.a", 1, 0, 0, b'y', 0)],
+        &[("x.a", 1, 0, 0, Status::Open, 0)],
     ),
     (
         "an article in one of two groups, one of which is closed",
         &[
-            Call::Add("x.b", b'n', ""),
-            Call::Add("x.a", b'y', "test"),
+            Call::Add("x.b", Status::Closed, ""),
+            Call::Add("x.a", Status::Open, "test"),
             FIRST,
         ],
         9,
         7,
         3,
-        &[("x.b", 1, 0, 0, b'n', 0), ("x.a", 1, 1, 1, b'y', 72)],
+        &[
+            ("x.b", 1, 0, 0, Status::Closed, 0),
+            ("x.a", 1, 1, 1, Status::Open, 72),
+        ],
     ),
     (
         "articles in both groups, some of them expired",
         &[
-            Call::Add("x.a", b'y', "test"),
-            Call::Add("x.b", b'y', ""),
+            Call::Add("x.a", Status::Open, "test"),
+            Call::Add("x.b", Status::Open, ""),
             FIRST,
             IN_BOTH,
             SECOND,
@@ -78,12 +82,15 @@ const ROWS: &[Row] = &[
         14,
         10,
         6,
-        &[("x.a", 2, 3, 2, b'y', 219), ("x.b", 1, 1, 1, b'y', 75)],
+        &[
+            ("x.a", 2, 3, 2, Status::Open, 219),
+            ("x.b", 1, 1, 1, Status::Open, 75),
+        ],
     ),
     (
         "all articles expired",
         &[
-            Call::Add("x.a", b'y', "test"),
+            Call::Add("x.a", Status::Open, "test"),
             FIRST,
             SECOND,
             Call::Expire("x.a", 2),
@@ -91,7 +98,7 @@ const ROWS: &[Row] = &[
         10,
         6,
         4,
-        &[("x.a", 3, 2, 0, b'y', 144)],
+        &[("x.a", 3, 2, 0, Status::Open, 144)],
     ),
 ];
 
@@ -105,7 +112,8 @@ fn is_group(group: &GroupStatus, row: &GroupRow) -> bool {
     let (name, low, high, count, status, overview) = *row;
     group.name.as_slice() == name.as_bytes()
         && (group.low, group.high, group.count) == (low, high, count)
-        && (group.status, group.overview) == (status, overview)
+        && group.status == status
+        && group.overview == overview
 }
 
 /// Whether a state is that of a row, in a volume of this format.
@@ -153,7 +161,7 @@ fn states_of_volumes_of_format_2(rt: HostRuntime) -> Result<(), Fail> {
 #[test]
 fn a_damaged_volume(rt: HostRuntime) -> Result<(), Fail> {
     let alloc = rt.alloc();
-    let mut octets = octets_after(alloc, &[Call::Add("x.a", b'y', "test")])?;
+    let mut octets = octets_after(alloc, &[Call::Add("x.a", Status::Open, "test")])?;
     if let Some(marks) = octets.first_mut() {
         *marks = 0x0f;
     }
