@@ -12,10 +12,11 @@ use Rattle.std.proofs.Math.Nat.{le-max_left, le-max_right}
 use Rattle.model.specs.Stream.{Octets}
 use Rattle.model.specs.Lawful.{IsLawful, IsLawfulAfter}
 use Rattle.model.specs.Spool.{Spool, contents, NewsGroup, articles, entries, expiries, expiries_of, filed_in, entries_from, greatest}
-use Rattle.model.specs.Spool.{group_made, group_named, groups, is_here, is_name, last_naming, last_naming_one, names_one}
+use Rattle.model.specs.Spool.{group_made, group_named, groups, is_here, is_name, last_naming, last_naming_one, names_one, news_group}
 use Rattle.model.specs.declared.change.Change.{Change}
 use Rattle.model.specs.declared.change.Change.TheVariants.{Group, Article, Expire}
-use Rattle.model.proofs.Filing.{entries_push, here_stays}
+use Rattle.model.specs.declared.change.NewGroup.{NewGroup}
+use Rattle.model.proofs.Growing.{entries_push, here_stays}
 use Rattle.model.proofs.Fronts.{passing, greatest_serial, find-filter, head_of}
 use Rattle.model.proofs.Joined.{bytes_same}
 use Rattle.model.proofs.LookUps.{last_naming_more, contents_cut}
@@ -26,21 +27,18 @@ or_some : (a b : Option NewsGroup) → is_some b ≡ true → is_some (option_or
 or_some None b some = some
 or_some (Some g) b some = refl
 
-made_here : (P : Spool) (name : Octets) (status : ℕ) (description : Octets) (moment : ℕ)
-    → is_here (P ++ Group name status description moment ∷ []) name ≡ true
+made_here : (P : Spool) (g : NewGroup) → is_here (P ++ Group g ∷ []) g.name ≡ true
 unfolding group_named groups entries
-made_here P name status description moment =
-    let made : NewsGroup = record { serial = length P + 1; name = name; status = status; description = description; moment = moment } in
-    let last : find (λ (g : NewsGroup). is_name name g.name) (made ∷ []) ≡ Some made =
-    ap (λ b. cond b (Some made) None) (bytes_same name) in
-    ap (λ es. is_some (find (λ (g : NewsGroup). is_name name g.name) (filter_map group_made es)))
-    (entries_push 1 P (Group name status description moment))
-    ∙ ap (λ gs. is_some (find (λ (g : NewsGroup). is_name name g.name) gs))
-    (filter_map-append group_made (entries_from 1 P)
-    (record { serial = length P + 1; change = Group name status description moment } ∷ []))
+made_here P g =
+    let made : NewsGroup = news_group (length P + 1) g in
+    let last : find (λ (h : NewsGroup). is_name g.name h.name) (made ∷ []) ≡ Some made =
+    ap (λ b. cond b (Some made) None) (bytes_same g.name) in
+    ap (λ es. is_some (find (λ (h : NewsGroup). is_name g.name h.name) (filter_map group_made es))) (entries_push 1 P (Group g))
+    ∙ ap (λ gs. is_some (find (λ (h : NewsGroup). is_name g.name h.name) gs))
+    (filter_map-append group_made (entries_from 1 P) (record { serial = length P + 1; change = Group g } ∷ []))
     ∙ ap (λ (o : Option NewsGroup). is_some o)
-    (find-append (λ (g : NewsGroup). is_name name g.name) (filter_map group_made (entries_from 1 P)) (made ∷ []))
-    ∙ or_some (find (λ (g : NewsGroup). is_name name g.name) (filter_map group_made (entries_from 1 P))) _
+    (find-append (λ (h : NewsGroup). is_name g.name h.name) (filter_map group_made (entries_from 1 P)) (made ∷ []))
+    ∙ or_some (find (λ (h : NewsGroup). is_name g.name h.name) (filter_map group_made (entries_from 1 P))) _
     (ap (λ (o : Option NewsGroup). is_some o) last)
 
 -- ---- a change names a group that is here
@@ -122,18 +120,17 @@ upper host test X n before (c ∷ cs) lawful bound =
     own : (d : Change) → IsLawfulAfter host before (d ∷ cs)
         → ((h : Octets) → test h ≡ true → is_here (before ++ d ∷ cs) h ≡ true → last_of (is_name h) n (d ∷ cs) ≤ X)
         → names_one test d ≡ true → n ≤ X
-    own (Group name status description moment) may all passed =
-        let here : is_here (before ++ Group name status description moment ∷ cs) name ≡ true =
-        rw append_assoc at (here_stays (before ++ Group name status description moment ∷ []) cs name
-        (made_here before name status description moment)) in
-        first_within (is_name name) n X (Group name status description moment) cs (bytes_same name) (all name passed here)
-    own (Article text gs moment) may all passed =
+    own (Group g) may all passed =
+        let here : is_here (before ++ Group g ∷ cs) g.name ≡ true =
+        rw append_assoc at (here_stays (before ++ Group g ∷ []) cs g.name (made_here before g)) in
+        first_within (is_name g.name) n X (Group g) cs (bytes_same g.name) (all g.name passed here)
+    own (Article f) may all passed =
         let one = named_one before test _ (ap (list_any test) (sym may.0.filed) ∙ passed) in
-        first_within (is_name one.name) n X (Article text gs moment) cs (ap (list_any (is_name one.name)) may.0.filed
-        ∙ one.among) (all one.name one.passes (here_stays before (Article text gs moment ∷ cs) one.name one.here))
-    own (Expire g number) may all passed =
-        first_within (is_name g) n X (Expire g number) cs (bytes_same g)
-        (all g passed (here_stays before (Expire g number ∷ cs) g may.0.here))
+        first_within (is_name one.name) n X (Article f) cs (ap (list_any (is_name one.name)) may.0.filed
+        ∙ one.among) (all one.name one.passes (here_stays before (Article f ∷ cs) one.name one.here))
+    own (Expire e) may all passed =
+        first_within (is_name e.group) n X (Expire e) cs (bytes_same e.group)
+        (all e.group passed (here_stays before (Expire e ∷ cs) e.group may.0.here))
 
 -- ---- the groups
 

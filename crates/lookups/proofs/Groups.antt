@@ -1,10 +1,10 @@
 -- What a view of a group says of the group with its name.
 use Rattle.std.proofs.Common.{◌≡◌, refl, sym, ◌∙◌, ap, true, false}
-use Rattle.std.specs.Prelude.{◌==◌, Option, Some, None, option_map}
+use Rattle.std.specs.Prelude.{Option, Some, None, option_map}
 use Rattle.model.specs.Stream.{Octets}
 use Rattle.model.specs.Answer.{is_closed}
-use Rattle.model.specs.Spool.{Spool, NewsGroup, contents, contents_if_here, group_named, high, is_here, last_naming, low}
-use Rattle.model.proofs.Filing.{group_has_name}
+use Rattle.model.specs.Spool.{Spool, NewsGroup, contents, contents_if_here, forbids_posts, group_named, high, is_here, last_naming, low}
+use Rattle.model.proofs.Growing.{group_has_name}
 use Rattle.lookups.specs.declared.GroupView.{GroupView}
 use Rattle.lookups.specs.Held.{Known, known, shown}
 
@@ -14,7 +14,7 @@ pub record IsOf (S : Spool) (name : Octets) (v : GroupView) : Type 0 where
   pub high : v.high ≡ high S name
   pub last : v.last ≡ last_naming S name
   pub here : is_here S name ≡ true
-  pub closed : is_closed S name ≡ (v.status == 110)
+  pub closed : is_closed S name ≡ forbids_posts v.status
   pub has : contents_if_here S name ≡ Some (contents S name)
 
 pub is_of : (S : Spool) (name : Octets) (v : GroupView) → Some (shown v) ≡ option_map (known S) (group_named S name) → IsOf S name v
@@ -30,8 +30,8 @@ is_of S name v says = by_found (group_named S name) refl says where
         high = ap (λ (k : Known). k.listed.high) one ∙ ap (high S) named;
         last = ap (λ (k : Known). k.last) one ∙ ap (last_naming S) named;
         here = ap (λ (o : Option NewsGroup). Rattle.std.specs.Prelude.is_some o) is;
-        closed = ap (λ (o : Option NewsGroup). Rattle.std.specs.Prelude.unwrap_or (option_map (λ (h : NewsGroup). h.status == 110) o) false)
-            is ∙ ap (λ (k : Known). k.listed.group.status == 110) (sym one);
+        closed = ap (λ (o : Option NewsGroup). Rattle.std.specs.Prelude.unwrap_or (option_map (λ (h : NewsGroup). forbids_posts h.status) o) false)
+            is ∙ ap (λ (k : Known). forbids_posts k.listed.group.status) (sym one);
         has = ap (λ (o : Option NewsGroup). option_map (λ (h : NewsGroup). contents S name) o) is;
       }
 

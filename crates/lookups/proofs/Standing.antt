@@ -3,10 +3,10 @@ use Rattle.std.proofs.Common.{◌≡◌, ℕ, zero, suc, ◌+◌, ◌-◌, List,
 use Rattle.std.specs.Prelude.{filter, filter_map, find, slice_get, Option, Some, None, option_map, option_and_then, unwrap_or}
 use Rattle.model.specs.Stream.{Octets}
 use Rattle.model.specs.Spool.{Spool, NewsArticle, article_filed, articles, by_id, by_number, entries, entries_from, filed_in, gone_at}
-use Rattle.model.specs.Spool.{is_gone, numbered, unless_gone}
+use Rattle.model.specs.Spool.{is_gone, news_article, numbered, unless_gone}
 use Rattle.model.specs.declared.change.Change.TheVariants.{Group, Article, Expire}
 use Rattle.model.specs.Reads.{id_reads}
-use Rattle.model.proofs.Wanted.{has_number}
+use Rattle.model.proofs.Found.{has_number}
 use Rattle.lookups.specs.Held.{article_of, article_with, gone_with, text_of}
 
 -- the article at this place from this serial on
@@ -22,15 +22,15 @@ one_on n S c a later = record { at = suc later.at; serial = omega (arith, later.
 found_from : (p : NewsArticle → Bool) (n : ℕ) (S : Spool) (a : NewsArticle) → find p (filter_map article_filed (entries_from n S)) ≡ Some a
     → Stands n S a
 found_from p n [] a is = absurd (cc)
-found_from p n (Group name status description moment ∷ cs) a is = one_on n cs _ a (found_from p (suc n) cs a is)
-found_from p n (Expire group number ∷ cs) a is = one_on n cs _ a (found_from p (suc n) cs a is)
-found_from p n (Article text groups moment ∷ cs) a is = by_pass (p filed) is (found_from p (suc n) cs a) where
+found_from p n (Group g ∷ cs) a is = one_on n cs _ a (found_from p (suc n) cs a is)
+found_from p n (Expire e ∷ cs) a is = one_on n cs _ a (found_from p (suc n) cs a is)
+found_from p n (Article f ∷ cs) a is = by_pass (p filed) is (found_from p (suc n) cs a) where
   filed : NewsArticle
-  filed = record { serial = n; text = text; groups = groups; moment = moment }
+  filed = news_article n f
 
   by_pass : (b : Bool) → cond b (Some filed) (find p (filter_map article_filed (entries_from (suc n) cs))) ≡ Some a
       → (find p (filter_map article_filed (entries_from (suc n) cs)) ≡ Some a → Stands (suc n) cs a)
-      → Stands n (Article text groups moment ∷ cs) a
+      → Stands n (Article f ∷ cs) a
   by_pass true same later = let one : filed ≡ a = cc in let serials : n ≡ a.serial = ap (λ (f : NewsArticle). f.serial) one in
       record { at = 0; serial = omega arith; is = same }
   by_pass false same later = one_on n cs _ a (later same)
@@ -38,17 +38,17 @@ found_from p n (Article text groups moment ∷ cs) a is = by_pass (p filed) is (
 filtered_from : (p : NewsArticle → Bool) (n : ℕ) (S : Spool) (i : ℕ) (a : NewsArticle)
     → slice_get (filter p (filter_map article_filed (entries_from n S))) i ≡ Some a → Stands n S a
 filtered_from p n [] i a is = absurd (cc)
-filtered_from p n (Group name status description moment ∷ cs) i a is = one_on n cs _ a (filtered_from p (suc n) cs i a is)
-filtered_from p n (Expire group number ∷ cs) i a is = one_on n cs _ a (filtered_from p (suc n) cs i a is)
-filtered_from p n (Article text groups moment ∷ cs) i a is = by_pass (p filed) i is (λ j. filtered_from p (suc n) cs j a) where
+filtered_from p n (Group g ∷ cs) i a is = one_on n cs _ a (filtered_from p (suc n) cs i a is)
+filtered_from p n (Expire e ∷ cs) i a is = one_on n cs _ a (filtered_from p (suc n) cs i a is)
+filtered_from p n (Article f ∷ cs) i a is = by_pass (p filed) i is (λ j. filtered_from p (suc n) cs j a) where
   filed : NewsArticle
-  filed = record { serial = n; text = text; groups = groups; moment = moment }
+  filed = news_article n f
 
   rest : List NewsArticle
   rest = filter p (filter_map article_filed (entries_from (suc n) cs))
 
   by_pass : (b : Bool) (j : ℕ) → slice_get (cond b (filed ∷ rest) rest) j ≡ Some a
-      → ((k : ℕ) → slice_get rest k ≡ Some a → Stands (suc n) cs a) → Stands n (Article text groups moment ∷ cs) a
+      → ((k : ℕ) → slice_get rest k ≡ Some a → Stands (suc n) cs a) → Stands n (Article f ∷ cs) a
   by_pass true zero same later = let one : filed ≡ a = cc in let serials : n ≡ a.serial = ap (λ (f : NewsArticle). f.serial) one in
       record { at = 0; serial = omega arith; is = same }
   by_pass true (suc k) same later = one_on n cs _ a (later k same)

@@ -1,12 +1,14 @@
 //! Look-ups as the commands need them.
 
 ghost use Rattle.std.specs.Prelude.{◌≡◌, IfSome, MatchOption, None, Some, false, is_some, option_map, unwrap_or};
-ghost use Rattle.model.specs.Spool.{by_id, by_number, contents, contents_if_here, here_by_id, high, is_here, last_naming, low};
+ghost use Rattle.model.specs.Spool.{by_id, by_number, contents, contents_if_here, forbids_posts, here_by_id, high, is_here};
+ghost use Rattle.model.specs.Spool.{last_naming, low};
 ghost use Rattle.model.specs.Answer.{is_closed};
 ghost use Rattle.model.specs.Reads.{absent_reads, id_reads, number_reads};
 ghost use Rattle.lookups.specs.Held.{IsCounts, article_of, article_with};
 
 use crate::LookUps;
+use model::Status;
 
 /// The serial of the article that is in the group under this number.
 pub fn find_number<L: LookUps>(spool: &L, group: &[u8], number: u64) -> Option<u64>
@@ -67,8 +69,15 @@ pub fn counts_of<L: LookUps>(spool: &L, group: &[u8]) -> Counts
 #[derive(Clone, Copy)]
 pub struct Found {
     pub counts: Counts,
-    /// its status is `n`
+    /// clients may not post to it
     pub closed: bool,
+}
+
+/// Whether clients may not post to a group with this status.
+fn forbids_posts(status: Status) -> bool
+    ensures { result ≡ forbids_posts status }
+{
+    status == Status::Closed
 }
 
 /// The group with this name, if it exists.
@@ -87,7 +96,7 @@ pub fn find_group<L: LookUps>(spool: &L, group: &[u8]) -> Option<Found>
             };
             Some(Found {
                 counts,
-                closed: view.status == b'n',
+                closed: forbids_posts(view.status),
             })
         }
         None => None,

@@ -19,7 +19,7 @@ pub use finding::{
     Counts, Found, Located, absent_reads, counts_of, find_group, find_id, find_number, locate_id,
     locate_number,
 };
-use model::Part;
+use model::{Part, Status};
 pub use moments::is_since;
 use std::alloc::AllocError;
 
@@ -28,8 +28,7 @@ use std::alloc::AllocError;
 pub struct GroupView<'s> {
     pub serial: u64,
     pub name: &'s [u8],
-    /// `y` or `n`
-    pub status: u8,
+    pub status: Status,
     pub description: &'s [u8],
     /// when it was made, in seconds since 1970
     pub moment: u64,

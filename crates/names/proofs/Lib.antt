@@ -1,4 +1,5 @@
 pub mod Runs
+pub mod Described
 pub mod Digits
 pub mod Hosts
 pub mod PartLaws

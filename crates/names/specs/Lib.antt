@@ -1,2 +1,4 @@
+pub mod Descriptions
 pub mod Patterns
 pub mod Ranges
+pub mod Requests

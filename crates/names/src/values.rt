@@ -1,10 +1,12 @@
-//! Group names, message-ids and wildmats as types.
+//! Group names, message-ids and wildmats as types, and the group that an operator asks for.
 
 ghost use Rattle.std.specs.Prelude.{◌≡◌, false, IfOk, IfErr, IsTrue};
 ghost use Rattle.model.specs.Names as model;
 
 use crate::checks::{GROUP_NAME_LIMIT, is_group_name, is_message_id};
+use crate::descriptions::Description;
 use crate::patterns::{is_wildmat, wildmat_matches};
+use model::{Moment, Status};
 use std::alloc::Global;
 use std::marker::Model;
 use thiserror::Error;
@@ -161,4 +163,14 @@ impl Wildmat {
     {
         wildmat_matches(self.text.as_slice(), name)
     }
+}
+
+/// A group that an operator asks for.
+#[derive(Drop)]
+pub struct GroupRequest {
+    pub name: GroupName,
+    pub status: Status,
+    pub description: Description,
+    /// when it is made
+    pub moment: Moment,
 }

@@ -1,5 +1,4 @@
-//! The texts of moments, and the moment that a text means. A moment is whole seconds since 1970 in UTC. It must be
-//! below 253,402,300,800, where the year 10000 begins.
+//! The texts of moments, and the moment that a text means. All are in UTC.
 #![tactic(auto)]
 
 ghost use Rattle.std.specs.Prelude.{◌≡◌, true, ◌+◌, ◌/◌, ◌<◌, ◌≤◌, ◌++◌, codes, length, IfOk, IfSome, OnOk, pos};
@@ -13,6 +12,7 @@ ghost use Rattle.model.specs.Calendar.{four_digits, two_digits};
 
 use jiff::ToSpan;
 use jiff::civil::{Date, date};
+use model::Moment;
 use std::alloc::{AllocError, Global};
 use thiserror::Error;
 
@@ -86,8 +86,7 @@ fn parts_at(moment: u64) -> Parts
 
 /// The fourteen digits of a moment in the answer to DATE, as `20010909014640` (RFC 3977, 7.1). Refused only for want of
 /// memory.
-pub fn date_reply(alloc: Global, moment: u64) -> Result<Vec<u8>, AllocError>
-    requires { moment < calendar.moment_limit }
+pub fn date_reply(alloc: Global, moment: Moment) -> Result<Vec<u8>, AllocError>
     ensures { IfOk result (λ text. text.items ≡ calendar.date_reply moment) }
 {
     let mut text = Vec::with_capacity(alloc, DATE_DIGITS)?;
@@ -97,18 +96,18 @@ pub fn date_reply(alloc: Global, moment: u64) -> Result<Vec<u8>, AllocError>
 
 /// Appends the digits of `date_reply`. Refused only for want of memory; then the text may hold any octets, and the
 /// caller discards it.
-pub fn push_date_reply(text: &mut Vec<u8>, moment: u64) -> Result<(), AllocError>
-    requires { moment < calendar.moment_limit }
+pub fn push_date_reply(text: &mut Vec<u8>, moment: Moment) -> Result<(), AllocError>
     ensures { OnOk result (text.new.items ≡ text.old.items ++ calendar.date_reply moment) }
 {
-    let date = parts_at(moment);
+    let seconds = moment.seconds();
+    let date = parts_at(seconds);
     push_two(text, date.year / 100)?;
     push_two(text, date.year)?;
     push_two(text, date.month)?;
     push_two(text, date.day)?;
-    push_two(text, moment % DAY / HOUR)?;
-    push_two(text, moment % HOUR / MINUTE)?;
-    push_two(text, moment % MINUTE)?;
+    push_two(text, seconds % DAY / HOUR)?;
+    push_two(text, seconds % HOUR / MINUTE)?;
+    push_two(text, seconds % MINUTE)?;
     Ok(())
 }
 
@@ -177,17 +176,17 @@ fn push_date(text: &mut Vec<u8>, date: Parts) -> Result<(), AllocError>
 
 /// A moment in the form of a Date field, as `Sun, 09 Sep 2001 01:46:40 +0000` (RFC 5536, 3.1.1). It always has 31
 /// octets (`model::date_of_a_moment`). Refused only for want of memory.
-pub fn date_header(alloc: Global, moment: u64) -> Result<Vec<u8>, AllocError>
-    requires { moment < calendar.moment_limit }
+pub fn date_header(alloc: Global, moment: Moment) -> Result<Vec<u8>, AllocError>
     ensures { IfOk result (λ text. text.items ≡ calendar.date_header moment) }
 {
-    let date = parts_at(moment);
+    let seconds = moment.seconds();
+    let date = parts_at(seconds);
     let mut text = Vec::new(alloc);
-    text.extend_from_slice(weekday_name(moment))?;
+    text.extend_from_slice(weekday_name(seconds))?;
     text.extend_from_slice(b", ")?;
     push_date(&mut text, date)?;
     text.extend_from_slice(b" ")?;
-    push_clock(&mut text, moment)?;
+    push_clock(&mut text, seconds)?;
     text.extend_from_slice(b" +0000")?;
     Ok(text)
 }
@@ -298,11 +297,10 @@ fn seconds_of_text(time: &[u8]) -> Option<u64>
 /// is negative before 1970 (RFC 3977, 7.3.2). A year of two digits is in the century of `moment` if the result is not
 /// later than the year of `moment`, else in the century before. `Bad` comes exactly if the calendar has no such date or
 /// the time of day is after 23:59:59 (this project's rule: a leap second is refused too).
-pub fn read_since(date: &[u8], time: &[u8], moment: u64) -> Result<i64, SinceError>
-    requires { moment < calendar.moment_limit }
+pub fn read_since(date: &[u8], time: &[u8], moment: Moment) -> Result<i64, SinceError>
     ensures { result_ok result ≡ calendar.since date.now time.now moment }
 {
-    let Some(days) = days_of_text(parts_at(moment).year, date) else {
+    let Some(days) = days_of_text(parts_at(moment.seconds()).year, date) else {
         return Err(SinceError::Bad);
     };
     let Some(seconds) = seconds_of_text(time) else {

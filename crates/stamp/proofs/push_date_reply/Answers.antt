@@ -1,12 +1,12 @@
 use Rattle.std.proofs.Common.{◌∙◌, ◌++◌, ◌/◌, ap, append_assoc}
-use Rattle.model.specs.Calendar.{two_digits, hour_at, minute_at, second_at, date_reply_of}
+use Rattle.model.specs.Calendar.{two_digits, hour_at, minute_at, second_at, date_reply, date_reply_of}
 use Rattle.model.specs.Stream.{Octets}
 use Rattle.stamp.proofs.push_date_reply.Goals as goal
 
 pub returns : goal.returns
 returns c =
     let date = c.parts_at-date.result in
-    let moment = c.args.moment in
+    let moment = c.seconds-seconds.result in
     let before = c.args.text.now.items in
     let to_year : Octets = two_digits (date.year / 100) ++ two_digits date.year in
     let to_month : Octets = to_year ++ two_digits date.month in
@@ -27,3 +27,4 @@ returns c =
     c.in_ok-push_two-7.ensures ∙ ap (λ l. l ++ two_digits (second_at moment)) sixth
     ∙ append_assoc before to_minute (two_digits (second_at moment))
     ∙ ap (λ d. before ++ date_reply_of d moment) c.parts_at-date.ensures.date
+    ∙ ap (λ m. before ++ date_reply m) c.seconds-seconds.ensures.value

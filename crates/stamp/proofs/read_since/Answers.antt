@@ -1,6 +1,7 @@
 use Rattle.std.proofs.Common.{arith, ◌≡◌, ◌∙◌, ap, sym, ℕ, ◌<◌, ◌^◌, ℤ, pos, ◌+ℤ◌, ◌*ℤ◌, w64, to_z, of_z, FitsSigned}
 use Rattle.std.specs.Prelude.{Some}
 use Rattle.std.proofs.lemmas.Int.{ints, to_z_pos, to_z-of_z}
+use Rattle.model.specs.Calendar.{date_at}
 use Rattle.stamp.specs.Since as halves
 use Rattle.stamp.proofs.SinceLaws.{joined, since-parts}
 use Rattle.stamp.proofs.read_since.Goals as goal
@@ -8,13 +9,13 @@ use Rattle.stamp.proofs.read_since.Goals as goal
 pub returns-in_default : goal.returns-in_default
 returns-in_default c =
     let days = sym c.in_default.is ∙ c.days_of_text.ensures.value
-    ∙ ap (λ d. halves.days_of_text d.year c.args.date.now) c.parts_at.ensures.date in
+    ∙ ap (λ d. halves.days_of_text d.year c.args.date.now) (c.parts_at.ensures.date ∙ ap date_at c.seconds.ensures.value) in
     ap (λ d. joined d (halves.seconds_of_text c.args.time.now)) days ∙ sym (since-parts c.args.date.now c.args.time.now c.args.moment)
 
 pub returns-in_default-seconds_of_text : goal.returns-in_default-seconds_of_text
 returns-in_default-seconds_of_text c =
     let days = sym c.in-Some.is ∙ c.days_of_text.ensures.value
-    ∙ ap (λ d. halves.days_of_text d.year c.args.date.now) c.parts_at.ensures.date in
+    ∙ ap (λ d. halves.days_of_text d.year c.args.date.now) (c.parts_at.ensures.date ∙ ap date_at c.seconds.ensures.value) in
     let seconds = sym c.in_default-seconds_of_text.is ∙ c.seconds_of_text.ensures.value in
     ap (joined (Some c.in-Some.days)) seconds ∙ ap (λ d. joined d (halves.seconds_of_text c.args.time.now)) days
     ∙ sym (since-parts c.args.date.now c.args.time.now c.args.moment)
@@ -35,7 +36,7 @@ returns c =
     let day = c.in-Some.days in
     let second = c.in-Some-seconds_of_text.seconds in
     let days = sym c.in-Some.is ∙ c.days_of_text.ensures.value
-    ∙ ap (λ d. halves.days_of_text d.year c.args.date.now) c.parts_at.ensures.date in
+    ∙ ap (λ d. halves.days_of_text d.year c.args.date.now) (c.parts_at.ensures.date ∙ ap date_at c.seconds.ensures.value) in
     let seconds = sym c.in-Some-seconds_of_text.is ∙ c.seconds_of_text.ensures.value in
     let range = c.in-Some.ensures.range in
     let few = c.in-Some-seconds_of_text.ensures.small in

@@ -1,6 +1,6 @@
-use Rattle.std.proofs.Common.{ap}
-use Rattle.std.specs.Prelude.{Option, option_map, unwrap_or, false, is_some, ◌==◌}
-use Rattle.model.specs.Spool.{NewsGroup, contents, contents_if_here}
+use Rattle.std.proofs.Common.{◌∙◌, ap, sym}
+use Rattle.std.specs.Prelude.{Option, option_map, unwrap_or, false, is_some}
+use Rattle.model.specs.Spool.{NewsGroup, contents, contents_if_here, forbids_posts}
 use Rattle.lookups.proofs.Groups.{is_of, none_of}
 use Rattle.lookups.proofs.finding.find_group.Goals as goal
 
@@ -16,7 +16,8 @@ returns-in-Some-clause-counts g c =
     record { low = its.low; high = its.high; last = its.last }
 
 pub returns-in-Some-clause-closed : goal.returns-in-Some-clause-closed
-returns-in-Some-clause-closed g c = (is_of _ c.args.group.now c.in-Some.view c.in-Some.ensures).closed
+returns-in-Some-clause-closed g c =
+    (is_of _ c.args.group.now c.in-Some.view c.in-Some.ensures).closed ∙ sym c.forbids_posts.ensures
 
 pub returns-in-None-clause-here : goal.returns-in-None-clause-here
 returns-in-None-clause-here g c = ap (λ (o : Option NewsGroup). is_some o) (none_of _ c.args.group.now c.in-None.ensures)
@@ -29,5 +30,5 @@ returns-in-None-clause-has g c =
 
 pub returns-in-None-clause-closed : goal.returns-in-None-clause-closed
 returns-in-None-clause-closed g c =
-    ap (λ (o : Option NewsGroup). unwrap_or (option_map (λ (h : NewsGroup). h.status == 110) o) false)
+    ap (λ (o : Option NewsGroup). unwrap_or (option_map (λ (h : NewsGroup). forbids_posts h.status) o) false)
     (none_of _ c.args.group.now c.in-None.ensures)
