@@ -1,4 +1,3 @@
 pub mod ArgumentLaws
-pub mod KeywordLaws
 pub mod WordLaws
 pub mod ReadLaws

@@ -7,35 +7,37 @@ use Rattle.model.specs.Commands as commands
 use Rattle.model.specs.Commands.{parsed_by, parsed_line, parsed_words, words, command_of}
 use Rattle.model.specs.Names.{begins, is_blank, is_visible}
 use Rattle.model.specs.declared.command.Command.{Command}
+use Rattle.model.specs.declared.command.Keyword.{Keyword}
+use Rattle.model.specs.declared.command.Keyword.TheVariants as keywords
 use Rattle.model.specs.declared.command.Parsed.TheVariants as parsed
 use Rattle.grammar.specs.declared.lines.Arguments.{Arguments}
 use Rattle.grammar.specs.declared.lines.Arguments.TheVariants as arguments
 use Rattle.grammar.specs.Words.{Says, words_of}
 
 -- too many words count as five
-five_words : (keyword : commands.Keyword) (a b c d e : List ℕ) (more : List (List ℕ)) → command_of keyword (a ∷ b ∷ c ∷ d ∷ e ∷ more) ≡ None
-five_words commands.article a b c d e more = refl
-five_words commands.body a b c d e more = refl
-five_words commands.capabilities a b c d e more = refl
-five_words commands.date a b c d e more = refl
-five_words commands.group a b c d e more = refl
-five_words commands.head a b c d e more = refl
-five_words commands.help a b c d e more = refl
-five_words commands.ihave a b c d e more = refl
-five_words commands.last a b c d e more = refl
-five_words commands.list a b c d e more = refl
-five_words commands.listgroup a b c d e more = refl
-five_words commands.mode a b c d e more = refl
-five_words commands.newgroups a b c d e more = refl
-five_words commands.newnews a b c d e more = refl
-five_words commands.next a b c d e more = refl
-five_words commands.over a b c d e more = refl
-five_words commands.post a b c d e more = refl
-five_words commands.quit a b c d e more = refl
-five_words commands.stat a b c d e more = refl
+five_words : (keyword : Keyword) (a b c d e : List ℕ) (more : List (List ℕ)) → command_of keyword (a ∷ b ∷ c ∷ d ∷ e ∷ more) ≡ None
+five_words keywords.Article a b c d e more = refl
+five_words keywords.Body a b c d e more = refl
+five_words keywords.Capabilities a b c d e more = refl
+five_words keywords.Date a b c d e more = refl
+five_words keywords.Group a b c d e more = refl
+five_words keywords.Head a b c d e more = refl
+five_words keywords.Help a b c d e more = refl
+five_words keywords.Ihave a b c d e more = refl
+five_words keywords.Last a b c d e more = refl
+five_words keywords.List a b c d e more = refl
+five_words keywords.ListGroup a b c d e more = refl
+five_words keywords.Mode a b c d e more = refl
+five_words keywords.NewGroups a b c d e more = refl
+five_words keywords.NewNews a b c d e more = refl
+five_words keywords.Next a b c d e more = refl
+five_words keywords.Over a b c d e more = refl
+five_words keywords.Post a b c d e more = refl
+five_words keywords.Quit a b c d e more = refl
+five_words keywords.Stat a b c d e more = refl
 
 -- the arguments give the command of their words
-pub command_of_words : (keyword : commands.Keyword) (given : Arguments) (ws : List (List ℕ)) → Says given ws
+pub command_of_words : (keyword : Keyword) (given : Arguments) (ws : List (List ℕ)) → Says given ws
     → command_of keyword (words_of given) ≡ command_of keyword ws
 command_of_words keyword arguments.None ws says = ap (command_of keyword) (sym says)
 command_of_words keyword (arguments.One a) ws says = ap (command_of keyword) (sym says)
@@ -72,7 +74,7 @@ module _ (line : List ℕ) where
           ap (λ o. unwrap_or (option_map (λ keyword. parsed_by clean keyword rest) o) parsed.Unknown) none
           ∙ sym (line-words plain ∙ ap (parsed_words clean) is)
 
-      module _ (keyword : commands.Keyword) (known : Some keyword ≡ commands.keyword_of word) where
+      module _ (keyword : Keyword) (known : Some keyword ≡ commands.keyword_of word) where
         line-known : parsed_by clean keyword rest ≡ parsed_line line
         line-known =
             ap (λ o. unwrap_or (option_map (λ k. parsed_by clean k rest) o) parsed.Unknown) known

@@ -3,13 +3,14 @@
 ghost use Rattle.std.specs.Prelude.{◌≡◌, IfOk, ◌&&◌};
 ghost use Rattle.model.specs.Commands as commands;
 ghost use Rattle.model.specs.Calendar as calendar;
-ghost use Rattle.grammar.specs.Keywords.{meant};
+ghost use Rattle.model.specs.Names.{numbers_from};
+ghost use Rattle.model.specs.declared.command.Keyword.TheVariants as keywords;
 ghost use Rattle.grammar.specs.Words.{words_of};
 ghost use Rattle.grammar.specs.Commands.{alone_of};
 
-use crate::keywords::{Keyword, is_word};
+use crate::keywords::{is_word, listing_of};
 use crate::lines::Arguments;
-use model::{Command, Part, Selector, Text};
+use model::{Command, Keyword, Listing, Part, Range, Selector, Text, Wanted};
 use names::{is_group_name, is_message_id, is_wildmat, number_of, range_of};
 use std::alloc::{AllocError, Global};
 
@@ -26,7 +27,7 @@ pub fn command(
     keyword: Keyword,
     arguments: Arguments,
 ) -> Result<Option<Command>, AllocError>
-    ensures { IfOk result (λ found. found ≡ commands.command_of (meant keyword) (words_of arguments.entry)) }
+    ensures { IfOk result (λ found. found ≡ commands.command_of keyword (words_of arguments.entry)) }
 {
     match keyword {
         Keyword::Article => fetch(alloc, Part::Whole, arguments),
@@ -69,7 +70,7 @@ fn alone(arguments: Arguments, command: Command) -> Option<Command>
 }
 
 fn capabilities(arguments: Arguments) -> Option<Command>
-    ensures { result ≡ commands.command_of commands.capabilities (words_of arguments.entry) }
+    ensures { result ≡ commands.command_of keywords.Capabilities (words_of arguments.entry) }
 {
     match arguments {
         Arguments::None | Arguments::One(_) => Some(Command::Capabilities),
@@ -78,7 +79,7 @@ fn capabilities(arguments: Arguments) -> Option<Command>
 }
 
 fn mode(arguments: Arguments) -> Option<Command>
-    ensures { result ≡ commands.command_of commands.mode (words_of arguments.entry) }
+    ensures { result ≡ commands.command_of keywords.Mode (words_of arguments.entry) }
 {
     match arguments {
         Arguments::One(word) if is_word(b"READER", word) => Some(Command::ModeReader),
@@ -111,7 +112,7 @@ fn fetch(alloc: Global, part: Part, arguments: Arguments) -> Result<Option<Comma
 }
 
 fn group(alloc: Global, arguments: Arguments) -> Result<Option<Command>, AllocError>
-    ensures { IfOk result (λ found. found ≡ commands.command_of commands.group (words_of arguments.entry)) }
+    ensures { IfOk result (λ found. found ≡ commands.command_of keywords.Group (words_of arguments.entry)) }
 {
     match arguments {
         Arguments::One(name) if is_group_name(name) => Ok(Some(Command::Group(text(alloc, name)?))),
@@ -119,35 +120,61 @@ fn group(alloc: Global, arguments: Arguments) -> Result<Option<Command>, AllocEr
     }
 }
 
+/// The range of all numbers.
+fn each_number() -> Range
+    ensures { result ≡ numbers_from 1 }
+{
+    Range {
+        first: 1,
+        last: None,
+    }
+}
+
 fn list_group(alloc: Global, arguments: Arguments) -> Result<Option<Command>, AllocError>
-    ensures { IfOk result (λ found. found ≡ commands.command_of commands.listgroup (words_of arguments.entry)) }
+    ensures { IfOk result (λ found. found ≡ commands.command_of keywords.ListGroup (words_of arguments.entry)) }
 {
     match arguments {
-        Arguments::None => Ok(Some(Command::ListGroupSelected)),
+        Arguments::None => Ok(Some(Command::ListGroup(None, each_number()))),
         Arguments::One(name) if is_group_name(name) => {
-            Ok(Some(Command::ListGroup(text(alloc, name)?)))
+            let name = text(alloc, name)?;
+            Ok(Some(Command::ListGroup(Some(name), each_number())))
         }
         Arguments::Two(name, range) if is_group_name(name) => match range_of(range) {
-            Some(range) => Ok(Some(Command::ListGroupRange(text(alloc, name)?, range))),
+            Some(range) => {
+                let name = text(alloc, name)?;
+                Ok(Some(Command::ListGroup(Some(name), range)))
+            }
             None => Ok(None),
         },
         _ => Ok(None),
     }
 }
 
+/// What OVER asks for by a word, a message-id or a range.
+fn wanted(alloc: Global, word: &[u8]) -> Result<Option<Wanted>, AllocError>
+    ensures { IfOk result (λ found. found ≡ commands.wanted_of word.now) }
+{
+    if is_message_id(word) {
+        return Ok(Some(Wanted::Id(text(alloc, word)?)));
+    }
+    Ok(range_of(word).map(Wanted::Range))
+}
+
 fn over(alloc: Global, arguments: Arguments) -> Result<Option<Command>, AllocError>
-    ensures { IfOk result (λ found. found ≡ commands.command_of commands.over (words_of arguments.entry)) }
+    ensures { IfOk result (λ found. found ≡ commands.command_of keywords.Over (words_of arguments.entry)) }
 {
     match arguments {
-        Arguments::None => Ok(Some(Command::OverCurrent)),
-        Arguments::One(id) if is_message_id(id) => Ok(Some(Command::OverId(text(alloc, id)?))),
-        Arguments::One(range) => Ok(range_of(range).map(Command::OverRange)),
+        Arguments::None => Ok(Some(Command::Over(Wanted::Current))),
+        Arguments::One(word) => match wanted(alloc, word)? {
+            Some(wanted) => Ok(Some(Command::Over(wanted))),
+            None => Ok(None),
+        },
         _ => Ok(None),
     }
 }
 
 fn ihave(alloc: Global, arguments: Arguments) -> Result<Option<Command>, AllocError>
-    ensures { IfOk result (λ found. found ≡ commands.command_of commands.ihave (words_of arguments.entry)) }
+    ensures { IfOk result (λ found. found ≡ commands.command_of keywords.Ihave (words_of arguments.entry)) }
 {
     match arguments {
         Arguments::One(id) if is_message_id(id) => Ok(Some(Command::Ihave(text(alloc, id)?))),
@@ -156,10 +183,10 @@ fn ihave(alloc: Global, arguments: Arguments) -> Result<Option<Command>, AllocEr
 }
 
 fn list(alloc: Global, arguments: Arguments) -> Result<Option<Command>, AllocError>
-    ensures { IfOk result (λ found. found ≡ commands.command_of commands.list (words_of arguments.entry)) }
+    ensures { IfOk result (λ found. found ≡ commands.command_of keywords.List (words_of arguments.entry)) }
 {
     match arguments {
-        Arguments::None => Ok(Some(Command::ListActive(None))),
+        Arguments::None => Ok(Some(Command::List(Listing::Active, None))),
         Arguments::One(word) => Ok(listed(word, None)),
         Arguments::Two(word, wildmat) if is_wildmat(wildmat) => {
             Ok(listed(word, Some(text(alloc, wildmat)?)))
@@ -172,19 +199,25 @@ fn list(alloc: Global, arguments: Arguments) -> Result<Option<Command>, AllocErr
 fn listed(word: &[u8], wildmat: Option<Text>) -> Option<Command>
     ensures { result ≡ commands.list_with wildmat word.now }
 {
-    if is_word(b"ACTIVE", word) {
-        return Some(Command::ListActive(wildmat));
+    match listing_of(word) {
+        Some(listing) => list_of(listing, wildmat),
+        None => None,
     }
-    if is_word(b"ACTIVE.TIMES", word) {
-        return Some(Command::ListTimes(wildmat));
+}
+
+/// LIST of this listing. The overview's format is listed without a wildmat (RFC 3977, 8.4).
+fn list_of(listing: Listing, wildmat: Option<Text>) -> Option<Command>
+    ensures { result ≡ commands.list_of listing wildmat }
+{
+    match listing {
+        Listing::Active => Some(Command::List(Listing::Active, wildmat)),
+        Listing::Times => Some(Command::List(Listing::Times, wildmat)),
+        Listing::Newsgroups => Some(Command::List(Listing::Newsgroups, wildmat)),
+        Listing::OverviewFormat => match wildmat {
+            Some(_) => None,
+            None => Some(Command::List(Listing::OverviewFormat, None)),
+        },
     }
-    if is_word(b"NEWSGROUPS", word) {
-        return Some(Command::ListNewsgroups(wildmat));
-    }
-    if is_word(b"OVERVIEW.FMT", word) && wildmat.is_none() {
-        return Some(Command::ListOverviewFormat);
-    }
-    None
 }
 
 /// Whether the word consists of this many digits.
@@ -202,7 +235,7 @@ fn is_moment(date: &[u8], time: &[u8]) -> bool
 }
 
 fn new_groups(alloc: Global, arguments: Arguments) -> Result<Option<Command>, AllocError>
-    ensures { IfOk result (λ found. found ≡ commands.command_of commands.newgroups (words_of arguments.entry)) }
+    ensures { IfOk result (λ found. found ≡ commands.command_of keywords.NewGroups (words_of arguments.entry)) }
 {
     match arguments {
         Arguments::Two(date, time) => new_groups_since(alloc, date, time),
@@ -226,7 +259,7 @@ fn new_groups_since(alloc: Global, date: &[u8], time: &[u8]) -> Result<Option<Co
 }
 
 fn new_news(alloc: Global, arguments: Arguments) -> Result<Option<Command>, AllocError>
-    ensures { IfOk result (λ found. found ≡ commands.command_of commands.newnews (words_of arguments.entry)) }
+    ensures { IfOk result (λ found. found ≡ commands.command_of keywords.NewNews (words_of arguments.entry)) }
 {
     match arguments {
         Arguments::Three(wildmat, date, time) => new_news_since(alloc, wildmat, date, time),

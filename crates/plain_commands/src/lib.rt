@@ -1,18 +1,19 @@
-//! The commands that read nothing of the spool, and the answers when there is no room or the server has stopped. Each
-//! answers as `specs/Answer.antt` of the crate `model` says, and is refused only for want of memory.
+//! The commands that read nothing of the spool, except those whose reply never changes (`replies::says_block`), and the
+//! answers when there is no room or the server has stopped. Each answers as `specs/Answer.antt` of the crate `model`
+//! says, and is refused only for want of memory.
 #![tactic(auto)]
 
-ghost use Rattle.std.specs.Prelude.{◌≡◌, ◌++◌, ◌<◌, IfOk, codes};
+ghost use Rattle.std.specs.Prelude.{◌≡◌, ◌++◌, IfOk, codes};
 ghost use Rattle.model.specs.Answer as answers;
-ghost use Rattle.model.specs.Calendar.{date_reply, moment_limit};
+ghost use Rattle.model.specs.Calendar.{date_reply};
 ghost use Rattle.model.specs.Replies.{bye, greeting, service_ends};
 ghost use Rattle.model.specs.Stream.{line};
 ghost use Rattle.model.specs.declared.session.Awaits.TheVariants as waits;
 ghost use Rattle.replies.specs.Answered.{answered, replied};
-ghost use Rattle.replies.specs.Replies.{sent, sent_block};
+ghost use Rattle.replies.specs.Replies.{sent};
 
-use model::{Awaits, Session};
-use replies::{Answered, Block, Reply, answer, awaiting, push_greeting, push_reply, says};
+use model::{Awaits, Moment, Session};
+use replies::{Answered, Reply, answer, awaiting, push_greeting, push_reply, says};
 use stamp::{DATE_DIGITS, push_date_reply};
 use std::alloc::{AllocError, Global};
 
@@ -21,13 +22,6 @@ const DATE: &[u8] = b"111 ";
 
 /// What ends a line.
 const CRLF: &[u8] = b"\r\n";
-
-/// CAPABILITIES, HELP and LIST OVERVIEW.FMT (RFC 3977, sections 5.2, 7.2 and 8.4).
-pub fn fixed(alloc: Global, session: &Session, which: Block) -> Result<Answered, AllocError>
-    ensures { IfOk result (λ said. said ≡ answered (answers.says session.now (sent_block which)) 0) }
-{
-    says(alloc, session, which.text().to_vec(alloc)?, 0)
-}
 
 /// MODE READER (RFC 3977, section 5.3).
 pub fn mode_reader(alloc: Global, session: &Session, host: &[u8]) -> Result<Answered, AllocError>
@@ -38,9 +32,8 @@ pub fn mode_reader(alloc: Global, session: &Session, host: &[u8]) -> Result<Answ
     says(alloc, session, reply, 0)
 }
 
-/// DATE (RFC 3977, section 7.1), at a moment in seconds since 1970, below 253,402,300,800.
-pub fn date(alloc: Global, session: &Session, moment: u64) -> Result<Answered, AllocError>
-    requires { moment < moment_limit }
+/// DATE (RFC 3977, section 7.1), at this moment.
+pub fn date(alloc: Global, session: &Session, moment: Moment) -> Result<Answered, AllocError>
     ensures { IfOk result (λ said. said ≡ answered (answers.says session.now (line (codes "111 " ++ date_reply moment))) 0) }
 {
     let mut reply = Vec::with_capacity(alloc, DATE.len() + DATE_DIGITS + CRLF.len())?;

@@ -2,7 +2,7 @@
 use Rattle.std.specs.Prelude.{[], ◌∷◌, map}
 use Rattle.model.specs.Stream.{Octets}
 use Rattle.model.specs.Answer.{capability_lines, overview_format, spaced}
-use Rattle.model.specs.Commands.{keywords}
+use Rattle.model.specs.Commands.{keyword_text, keywords}
 use Rattle.model.specs.Replies.{block, bye, transferred, received, send_transferred, send_posted, service_ends, no_such_group}
 use Rattle.model.specs.Replies.{no_group_selected, no_current_article, no_next_article, no_previous_article, no_such_number}
 use Rattle.model.specs.Replies.{no_such_article, not_wanted, try_later, rejected, not_accepted, unknown_command, syntax_error, help_follows}
@@ -45,5 +45,5 @@ headed heading.Groups = groups_follow
 
 abbrev pub sent_block : Block → Octets
 sent_block blocks.Capabilities = block capabilities_follow capability_lines
-sent_block blocks.Help = block help_follows (spaced (map (λ k. k.0) keywords) ∷ [])
+sent_block blocks.Help = block help_follows (spaced (map keyword_text keywords) ∷ [])
 sent_block blocks.OverviewFormat = block information_follows overview_format

@@ -1,12 +1,16 @@
 //! The texts of the replies, how they are written, and the answers made from them.
 #![tactic(auto)]
 
+mod blocks;
 mod sessions;
 mod stuffing;
 mod texts;
 mod writing;
 
-pub use sessions::{Answered, answer, at_number, awaiting, copy, says, says_line, selecting};
+pub use blocks::push_block;
+pub use sessions::{
+    Answered, answer, at_number, awaiting, copy, says, says_block, says_line, selecting,
+};
 pub use stuffing::{Stuffing, pieces_make_the_text};
 pub use texts::{Block, Heading, Reply};
 pub use writing::{

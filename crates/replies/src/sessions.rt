@@ -3,9 +3,10 @@
 ghost use Rattle.std.specs.Prelude.{◌≡◌, IfOk};
 ghost use Rattle.model.specs.Answer as answers;
 ghost use Rattle.replies.specs.Answered.{answered, replied, with_group};
-ghost use Rattle.replies.specs.Replies.{sent};
+ghost use Rattle.replies.specs.Replies.{sent, sent_block};
 
-use crate::texts::Reply;
+use crate::blocks::push_block;
+use crate::texts::{Block, Reply};
 use crate::writing::push_reply;
 use model::{Answer, Awaits, Session, Text};
 use std::alloc::{AllocError, Global};
@@ -124,4 +125,14 @@ pub fn says_line(
     let mut reply = Vec::new(alloc);
     push_reply(&mut reply, which)?;
     says(alloc, session, reply, reads)
+}
+
+/// CAPABILITIES, HELP and LIST OVERVIEW.FMT (RFC 3977, sections 5.2, 7.2 and 8.4), which leave the session as it is and
+/// read nothing.
+pub fn says_block(alloc: Global, session: &Session, which: Block) -> Result<Answered, AllocError>
+    ensures { IfOk result (λ said. said ≡ answered (answers.says session.now (sent_block which)) 0) }
+{
+    let mut reply = Vec::new(alloc);
+    push_block(&mut reply, which)?;
+    says(alloc, session, reply, 0)
 }

@@ -2,7 +2,7 @@
 
 ghost use Rattle.std.specs.Prelude.{◌≡◌};
 ghost use Rattle.model.specs.Stream.{line};
-ghost use Rattle.replies.specs.Replies.{headed, sent, sent_block};
+ghost use Rattle.replies.specs.Replies.{headed, sent};
 
 /// A one-line reply.
 #[derive(Clone, Copy)]
@@ -91,20 +91,4 @@ pub enum Block {
     Capabilities,
     Help,
     OverviewFormat,
-}
-
-impl Block {
-    /// The whole reply.
-    pub fn text(self) -> &'static [u8]
-        ensures { result.now ≡ sent_block self }
-    {
-        match self {
-            Block::Capabilities =>
-                b"101 Capabilities follow\r\nVERSION 2\r\nREADER\r\nIHAVE\r\nPOST\r\nNEWNEWS\r\nOVER MSGID\r\nLIST ACTIVE ACTIVE.TIMES NEWSGROUPS OVERVIEW.FMT\r\n.\r\n",
-            Block::Help =>
-                b"100 Help follows\r\nARTICLE BODY CAPABILITIES DATE GROUP HEAD HELP IHAVE LAST LIST LISTGROUP MODE NEWGROUPS NEWNEWS NEXT OVER POST QUIT STAT\r\n.\r\n",
-            Block::OverviewFormat =>
-                b"215 Information follows\r\nSubject:\r\nFrom:\r\nDate:\r\nMessage-ID:\r\nReferences:\r\n:bytes\r\n:lines\r\n.\r\n",
-        }
-    }
 }

@@ -2,7 +2,6 @@ use Rattle.std.proofs.Common.{◌∙◌, ap, sym}
 use Rattle.std.specs.Prelude.{option_map, unwrap_or}
 use Rattle.model.specs.Commands.{words}
 use Rattle.model.specs.declared.command.Parsed.TheVariants as parsed
-use Rattle.grammar.specs.Keywords.{meant}
 use Rattle.grammar.proofs.ReadLaws.{command_of_words, line-blank, line-empty, line-unknown, line-unclean, line-clean}
 use Rattle.grammar.proofs.read.Goals as goal
 
@@ -20,13 +19,13 @@ returns-in_default-keyword_of c =
 pub returns-then-not-is_clean : goal.returns-then-not-is_clean
 returns-then-not-is_clean c =
     line-unclean c.args.line.now c.if-begins_blank.ensures c.in-Some.word.now (words c.in-Some.rest.now) c.in-Some.ensures
-    (meant c.in-Some-keyword_of.keyword) c.in-Some-keyword_of.ensures c.if-not-is_clean.ensures
+    c.in-Some-keyword_of.keyword c.in-Some-keyword_of.ensures c.if-not-is_clean.ensures
 
 pub returns-in-Some-2 : goal.returns-in-Some-2
 returns-in-Some-2 c =
     ap (λ o. unwrap_or (option_map parsed.Command o) parsed.Bad) (sym c.in-Some-2.is)
     ∙ line-clean c.args.line.now c.if-begins_blank.ensures c.in-Some.word.now (words c.in-Some.rest.now) c.in-Some.ensures
-    (meant c.in-Some-keyword_of.keyword) c.in-Some-keyword_of.ensures c.if-not-is_clean.ensures
+    c.in-Some-keyword_of.keyword c.in-Some-keyword_of.ensures c.if-not-is_clean.ensures
     c.in_ok-command.field-0 (c.in_ok-command.ensures
     ∙ command_of_words _ c.arguments_of.result (words c.in-Some.rest.now) c.arguments_of.ensures)
 
@@ -34,6 +33,6 @@ pub returns-in-None : goal.returns-in-None
 returns-in-None c =
     ap (λ o. unwrap_or (option_map parsed.Command o) parsed.Bad) (sym c.in-None.is)
     ∙ line-clean c.args.line.now c.if-begins_blank.ensures c.in-Some.word.now (words c.in-Some.rest.now) c.in-Some.ensures
-    (meant c.in-Some-keyword_of.keyword) c.in-Some-keyword_of.ensures c.if-not-is_clean.ensures
+    c.in-Some-keyword_of.keyword c.in-Some-keyword_of.ensures c.if-not-is_clean.ensures
     c.in_ok-command.field-0 (c.in_ok-command.ensures
     ∙ command_of_words _ c.arguments_of.result (words c.in-Some.rest.now) c.arguments_of.ensures)
