@@ -12,6 +12,7 @@ use Rattle.model.specs.Lawful.{IsLawful, IsLawfulAfter}
 use Rattle.model.specs.Names.{is_message_id, is_visible, wildmat_matches}
 use Rattle.model.specs.Replies.{block}
 use Rattle.model.specs.Spool.{Spool, NewsArticle, article_filed, articles, articles_now, as_it_is, entries, entries_from}
+use Rattle.model.specs.Spool.{news_article}
 use Rattle.model.specs.Stream.{Octets, dot_line, line, stuffed_line}
 use Rattle.model.specs.declared.change.Change.TheVariants.{Group, Article, Expire}
 use Rattle.model.proofs.HoldsOne.{carried_cause}
@@ -44,13 +45,11 @@ carried_plain text carried = elim
 plain_from : (host : Octets) (n : ℕ) (before cs : Spool) → IsLawfulAfter host before cs
     → All is_plain (filter_map article_filed (entries_from n cs))
 plain_from host n before [] lawful = All-nil is_plain
-plain_from host n before (Group name status description moment ∷ cs) lawful =
-    plain_from host (suc n) (before ++ Group name status description moment ∷ []) cs lawful.1
-plain_from host n before (Expire group number ∷ cs) lawful = plain_from host (suc n) (before ++ Expire group number ∷ []) cs lawful.1
-plain_from host n before (Article text groups moment ∷ cs) lawful =
-    All-cons is_plain (record { serial = n; text = text; groups = groups; moment = moment })
-    (filter_map article_filed (entries_from (suc n) cs)) (carried_plain text lawful.0.carried)
-    (plain_from host (suc n) (before ++ Article text groups moment ∷ []) cs lawful.1)
+plain_from host n before (Group g ∷ cs) lawful = plain_from host (suc n) (before ++ Group g ∷ []) cs lawful.1
+plain_from host n before (Expire e ∷ cs) lawful = plain_from host (suc n) (before ++ Expire e ∷ []) cs lawful.1
+plain_from host n before (Article f ∷ cs) lawful =
+    All-cons is_plain (news_article n f) (filter_map article_filed (entries_from (suc n) cs)) (carried_plain f.text lawful.0.carried)
+    (plain_from host (suc n) (before ++ Article f ∷ []) cs lawful.1)
 
 -- ---- the block that has these lines
 

@@ -2,7 +2,7 @@
 use Rattle.std.specs.Prelude.{ℕ, Bool, true, IsTrue, List, [], ◌∷◌, ◌++◌, codes, decimal, filter, flat_map, map, max, if◌then◌else◌}
 use Rattle.model.specs.Answer.{active_line, is_since, newsgroups_line, times_line}
 use Rattle.model.specs.Names.{is_wildmat, wildmat_matches}
-use Rattle.model.specs.Spool.{Listed, NewsGroup, greatest}
+use Rattle.model.specs.Spool.{Listed, NewsGroup, greatest, status_octet}
 use Rattle.model.specs.Stream.{Octets, crlf, line, stuffed_line}
 use Rattle.lookups.specs.Held.{Known}
 use Rattle.listing_commands.specs.declared.groups.Pick.{Pick}
@@ -30,7 +30,7 @@ shown_as show.Newsgroups l = newsgroups_line l
 
 -- the part of the line after the name, with its CRLF
 abbrev pub rest_of : Show → Listed → Octets
-rest_of show.Active l = 32 ∷ decimal l.high ++ 32 ∷ decimal l.low ++ 32 ∷ l.group.status ∷ crlf
+rest_of show.Active l = 32 ∷ decimal l.high ++ 32 ∷ decimal l.low ++ 32 ∷ status_octet l.group.status ∷ crlf
 rest_of show.Times l = 32 ∷ decimal l.group.moment ++ codes " admin" ++ crlf
 rest_of show.Newsgroups l = 9 ∷ l.group.description ++ crlf
 

@@ -71,7 +71,7 @@ fn push_rest(reply: &mut Vec<u8>, show: Show, group: &GroupView<'_>) -> Result<(
         Show::Active => {
             push_spaced(reply, group.high)?;
             push_spaced(reply, group.low)?;
-            reply.extend_from_slice(&[b' ', group.status, b'\r', b'\n'])
+            reply.extend_from_slice(&[b' ', group.status.octet(), b'\r', b'\n'])
         }
         Show::Times => {
             push_spaced(reply, group.moment)?;

@@ -6,5 +6,5 @@ mod groups;
 mod lists;
 mod news;
 
-pub use lists::{list_active, list_newsgroups, list_times, newgroups};
+pub use lists::{list, newgroups};
 pub use news::newnews;

@@ -1,68 +1,46 @@
-//! LIST ACTIVE, LIST ACTIVE.TIMES, LIST NEWSGROUPS and NEWGROUPS.
+//! LIST and NEWGROUPS.
 
-ghost use Rattle.std.specs.Prelude.{◌≡◌, ◌<◌, IfOk, IfSome, IsTrue, None, length};
+ghost use Rattle.std.specs.Prelude.{◌≡◌, IfOk, IfSome, IsTrue, None, length};
 ghost use Rattle.model.specs.Answer as answers;
-ghost use Rattle.model.specs.Calendar.{moment_limit, since};
+ghost use Rattle.model.specs.Calendar.{since};
 ghost use Rattle.model.specs.Names.{is_wildmat};
-ghost use Rattle.model.specs.Reads.{list_reads, since_reads};
+ghost use Rattle.model.specs.Reads.{list_reads, listing_reads, since_reads};
 ghost use Rattle.model.specs.Spool.{listed};
 ghost use Rattle.listing_commands.specs.Lists.{shown_as};
 ghost use Rattle.replies.specs.Answered.{answered};
 
 use crate::groups::{Pick, Show, pick_of, push_groups};
 use lookups::LookUps;
-use model::{Session, Text};
-use replies::{Answered, Heading, Reply, push_end, push_heading, says, says_line};
+use model::{Listing, Moment, Session, Text};
+use replies::{
+    Answered, Block, Heading, Reply, push_end, push_heading, says, says_block, says_line,
+};
 use stamp::read_since;
 use std::alloc::{AllocError, Global};
 
-/// LIST ACTIVE (RFC 3977, section 7.6.3), of the groups whose names the wildmat matches, or of all.
-pub fn list_active<L: LookUps>(
+/// LIST (RFC 3977, sections 7.6.3, 7.6.4, 7.6.6 and 8.4), of the groups whose names the wildmat matches, or of all. The
+/// overview's format is the same for each wildmat.
+pub fn list<L: LookUps>(
     alloc: Global,
     spool: &L,
     session: &Session,
+    listing: Listing,
     wildmat: &Option<Text>,
 ) -> Result<Answered, AllocError>
     requires { IfSome wildmat.now (λ w. IsTrue (is_wildmat w)) }
-    ensures { IfOk result (λ r. r ≡ answered
-        (answers.list_answer session.now answers.active_line (listed (L.changes spool.now) (answers.is_listed wildmat.now)))
-        (list_reads (L.changes spool.now) wildmat.now)) }
+    ensures { IfOk result (λ r. r ≡ answered (answers.listing_answer (L.changes spool.now) session.now wildmat.now listing)
+        (listing_reads (L.changes spool.now) wildmat.now listing)) }
 {
-    list(alloc, spool, session, wildmat, Show::Active)
-}
-
-/// LIST ACTIVE.TIMES (RFC 3977, section 7.6.4), of the groups whose names the wildmat matches, or of all.
-pub fn list_times<L: LookUps>(
-    alloc: Global,
-    spool: &L,
-    session: &Session,
-    wildmat: &Option<Text>,
-) -> Result<Answered, AllocError>
-    requires { IfSome wildmat.now (λ w. IsTrue (is_wildmat w)) }
-    ensures { IfOk result (λ r. r ≡ answered
-        (answers.list_answer session.now answers.times_line (listed (L.changes spool.now) (answers.is_listed wildmat.now)))
-        (list_reads (L.changes spool.now) wildmat.now)) }
-{
-    list(alloc, spool, session, wildmat, Show::Times)
-}
-
-/// LIST NEWSGROUPS (RFC 3977, section 7.6.6), of the groups whose names the wildmat matches, or of all.
-pub fn list_newsgroups<L: LookUps>(
-    alloc: Global,
-    spool: &L,
-    session: &Session,
-    wildmat: &Option<Text>,
-) -> Result<Answered, AllocError>
-    requires { IfSome wildmat.now (λ w. IsTrue (is_wildmat w)) }
-    ensures { IfOk result (λ r. r ≡ answered
-        (answers.list_answer session.now answers.newsgroups_line (listed (L.changes spool.now) (answers.is_listed wildmat.now)))
-        (list_reads (L.changes spool.now) wildmat.now)) }
-{
-    list(alloc, spool, session, wildmat, Show::Newsgroups)
+    match listing {
+        Listing::Active => list_groups(alloc, spool, session, wildmat, Show::Active),
+        Listing::Times => list_groups(alloc, spool, session, wildmat, Show::Times),
+        Listing::Newsgroups => list_groups(alloc, spool, session, wildmat, Show::Newsgroups),
+        Listing::OverviewFormat => says_block(alloc, session, Block::OverviewFormat),
+    }
 }
 
 /// A list of groups. It reads the last serial that names one of them.
-fn list<L: LookUps>(
+fn list_groups<L: LookUps>(
     alloc: Global,
     spool: &L,
     session: &Session,
@@ -82,17 +60,16 @@ fn list<L: LookUps>(
 }
 
 /// NEWGROUPS (RFC 3977, section 7.3): the groups that were made since a date (`yymmdd` or `yyyymmdd`) and a time
-/// (`hhmmss`) in UTC. A date that the calendar does not have is a syntax error. The moment of the command is in seconds
-/// since 1970, below 253,402,300,800.
+/// (`hhmmss`) in UTC, by a command that is given at this moment. A date that the calendar does not have is a syntax
+/// error.
 pub fn newgroups<L: LookUps>(
     alloc: Global,
     spool: &L,
     session: &Session,
     date: &[u8],
     time: &[u8],
-    moment: u64,
+    moment: Moment,
 ) -> Result<Answered, AllocError>
-    requires { moment < moment_limit }
     ensures { IfOk result (λ r. r ≡ answered
         (answers.if_dated session.now (since date.now time.now moment)
         (answers.newgroups_answer session.now (listed (L.changes spool.now) (answers.is_listed None))))

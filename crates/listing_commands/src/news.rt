@@ -1,22 +1,22 @@
 //! NEWNEWS.
 
-ghost use Rattle.std.specs.Prelude.{◌≡◌, ◌<◌, IfOk, IsTrue, length};
+ghost use Rattle.std.specs.Prelude.{◌≡◌, IfOk, IsTrue, length};
 ghost use Rattle.model.specs.Answer as answers;
-ghost use Rattle.model.specs.Calendar.{moment_limit, since};
+ghost use Rattle.model.specs.Calendar.{since};
 ghost use Rattle.model.specs.Names.{is_wildmat};
 ghost use Rattle.model.specs.Reads.{since_reads};
 ghost use Rattle.model.specs.Spool.{articles_now};
 ghost use Rattle.replies.specs.Answered.{answered};
 
 use lookups::LookUps;
-use model::Session;
+use model::{Moment, Session};
 use replies::{Answered, Heading, Reply, push_end, push_heading, says, says_line};
 use stamp::read_since;
 use std::alloc::{AllocError, Global};
 
 /// NEWNEWS (RFC 3977, section 7.4): the message-ids of the articles filed since a date (`yymmdd` or `yyyymmdd`) and a
-/// time (`hhmmss`) in UTC that are in a group whose name the wildmat matches. A date that the calendar does not have is
-/// a syntax error. The moment of the command is in seconds since 1970, below 253,402,300,800.
+/// time (`hhmmss`) in UTC that are in a group whose name the wildmat matches, by a command that is given at this moment.
+/// A date that the calendar does not have is a syntax error.
 pub fn newnews<L: LookUps>(
     alloc: Global,
     spool: &L,
@@ -24,10 +24,9 @@ pub fn newnews<L: LookUps>(
     wildmat: &[u8],
     date: &[u8],
     time: &[u8],
-    moment: u64,
+    moment: Moment,
 ) -> Result<Answered, AllocError>
-    requires moment { moment < moment_limit }
-    requires wildmat { IsTrue (is_wildmat wildmat.now) }
+    requires { IsTrue (is_wildmat wildmat.now) }
     ensures { IfOk result (λ r. r ≡ answered
         (answers.if_dated session.now (since date.now time.now moment)
         (answers.newnews_answer session.now wildmat.now (articles_now (L.changes spool.now))))

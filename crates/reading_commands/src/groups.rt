@@ -2,8 +2,7 @@
 
 ghost use Rattle.std.specs.Prelude.{◌≡◌, ◌∷◌, decimal, ◌+◌, ◌-◌, ◌++◌, ◌≤◌, IfOk, OnOk};
 ghost use Rattle.model.specs.Answer as answers;
-ghost use Rattle.model.specs.Names.{numbers_from};
-ghost use Rattle.model.specs.Reads.{group_reads, selected_reads};
+ghost use Rattle.model.specs.Reads.{group_reads, numbers_reads, selected_reads};
 ghost use Rattle.model.specs.Spool.{contents, contents_if_here, last_naming};
 ghost use Rattle.lookups.specs.Held.{IsCounts};
 ghost use Rattle.replies.specs.Answered.{answered, replied, with_group};
@@ -109,8 +108,24 @@ fn selected<L: LookUps>(
     selects(alloc, session, group, counts, reply)
 }
 
-/// LISTGROUP of the named group (RFC 3977, section 6.1.2).
+/// LISTGROUP of the named group, or of the selected one where none is named (RFC 3977, section 6.1.2).
 pub fn list_group<L: LookUps>(
+    alloc: Global,
+    spool: &L,
+    session: &Session,
+    group: &Option<Text>,
+    range: &Range,
+) -> Result<Answered, AllocError>
+    ensures { IfOk result (λ r. r ≡ answered (answers.numbers_answer (L.changes spool.now) session.now range.now group.now)
+        (numbers_reads (L.changes spool.now) session.now group.now)) }
+{
+    match group {
+        Some(group) => list_named(alloc, spool, session, group.as_slice(), range),
+        None => list_selected(alloc, spool, session, range),
+    }
+}
+
+fn list_named<L: LookUps>(
     alloc: Global,
     spool: &L,
     session: &Session,
@@ -127,24 +142,20 @@ pub fn list_group<L: LookUps>(
     }
 }
 
-/// LISTGROUP of the selected group (RFC 3977, section 6.1.2).
-pub fn list_selected<L: LookUps>(
+fn list_selected<L: LookUps>(
     alloc: Global,
     spool: &L,
     session: &Session,
+    range: &Range,
 ) -> Result<Answered, AllocError>
     ensures { IfOk result (λ r. r ≡ answered
-        (answers.in_selected (L.changes spool.now) session.now session.now.group (answers.listgroup_answer session.now (numbers_from 1)))
+        (answers.in_selected (L.changes spool.now) session.now session.now.group (answers.listgroup_answer session.now range.now))
         (selected_reads (L.changes spool.now) session.now.group)) }
 {
-    let all = Range {
-        first: 1,
-        last: None,
-    };
     match &session.group {
         Some(group) => {
             let counts = counts_of(spool, group.as_slice());
-            numbered(alloc, spool, session, group.as_slice(), &all, counts)
+            numbered(alloc, spool, session, group.as_slice(), range, counts)
         }
         None => says_line(alloc, session, Reply::NoGroupSelected, 0),
     }

@@ -2,7 +2,7 @@
 //! `model` says what each answers, and `specs/Reads.antt` what it reads. Each is refused only for want of memory.
 #![tactic(auto)]
 
-mod fetch;
+mod articles;
 mod groups;
 mod moves;
 mod number_lines;
@@ -10,7 +10,7 @@ mod overviews;
 mod parts;
 mod ranges;
 
-pub use fetch::{fetch_current, fetch_id, fetch_number};
-pub use groups::{group, list_group, list_selected};
+pub use articles::fetch;
+pub use groups::{group, list_group};
 pub use moves::{last, next};
-pub use overviews::{over_current, over_id, over_range};
+pub use overviews::over;

@@ -3,7 +3,7 @@
 ghost use Rattle.std.specs.Prelude.{◌≡◌, ◌∷◌, [], IfOk, Some};
 ghost use Rattle.model.specs.Article.{overview_line};
 ghost use Rattle.model.specs.Answer as answers;
-ghost use Rattle.model.specs.Reads.{id_reads, selected_reads};
+ghost use Rattle.model.specs.Reads.{id_reads, over_reads, selected_reads};
 ghost use Rattle.model.specs.Replies.{block, overview_follows};
 ghost use Rattle.model.specs.Spool.{by_id, contents, here_by_id, last_naming};
 ghost use Rattle.lookups.specs.Held.{article_of, article_with, text_of};
@@ -11,12 +11,29 @@ ghost use Rattle.replies.specs.Answered.{answered};
 
 use crate::ranges::numbers_in;
 use lookups::{LookUps, counts_of, find_number, locate_id};
-use model::{Range, Session};
+use model::{Range, Session, Wanted};
 use replies::{Answered, Heading, Reply, push_end, push_heading, says, says_line};
 use std::alloc::{AllocError, Global};
 
+/// OVER, of the articles that it asks for (RFC 3977, section 8.3).
+pub fn over<L: LookUps>(
+    alloc: Global,
+    spool: &L,
+    session: &Session,
+    wanted: &Wanted,
+) -> Result<Answered, AllocError>
+    ensures { IfOk result (λ r. r ≡ answered (answers.over_answer (L.changes spool.now) session.now wanted.now)
+        (over_reads (L.changes spool.now) session.now wanted.now)) }
+{
+    match wanted {
+        Wanted::Current => over_current(alloc, spool, session),
+        Wanted::Range(range) => over_range(alloc, spool, session, range),
+        Wanted::Id(id) => over_id(alloc, spool, session, id.as_slice()),
+    }
+}
+
 /// OVER without an argument: the line of the current article (RFC 3977, section 8.3).
-pub fn over_current<L: LookUps>(
+fn over_current<L: LookUps>(
     alloc: Global,
     spool: &L,
     session: &Session,
@@ -51,7 +68,7 @@ fn current_in<L: LookUps>(
 }
 
 /// OVER with a range: a line for each of its articles (RFC 3977, section 8.3).
-pub fn over_range<L: LookUps>(
+fn over_range<L: LookUps>(
     alloc: Global,
     spool: &L,
     session: &Session,
@@ -90,7 +107,7 @@ fn range_in<L: LookUps>(
 }
 
 /// OVER with a message-id (RFC 3977, section 8.3).
-pub fn over_id<L: LookUps>(
+fn over_id<L: LookUps>(
     alloc: Global,
     spool: &L,
     session: &Session,

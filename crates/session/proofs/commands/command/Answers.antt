@@ -15,13 +15,13 @@ pub returns-in-Next : goal.returns-in-Next
 unfolding command_answer command_reads
 returns-in-Next g c = search rules
 
-pub returns-in-OverRange : goal.returns-in-OverRange
+pub returns-in-Over : goal.returns-in-Over
 unfolding command_answer command_reads
-returns-in-OverRange g c = search rules
+returns-in-Over g c = search rules
 
-pub returns-in-ListActive : goal.returns-in-ListActive
+pub returns-in-List : goal.returns-in-List
 unfolding command_answer command_reads
-returns-in-ListActive g c = search rules
+returns-in-List g c = search rules
 
 pub returns-in-NewGroups : goal.returns-in-NewGroups
 unfolding command_answer command_reads

@@ -1,5 +1,5 @@
 use Rattle.std.proofs.Common.{rules}
-use Rattle.reading_commands.proofs.fetch.fetch_id.Goals as goal
+use Rattle.reading_commands.proofs.articles.fetch_id.Goals as goal
 
 pub returns-in-Some : goal.returns-in-Some
 returns-in-Some c = search rules

@@ -2,19 +2,37 @@
 
 ghost use Rattle.std.specs.Prelude.{◌≡◌, IfOk, Some};
 ghost use Rattle.model.specs.Answer as answers;
-ghost use Rattle.model.specs.Reads.{current_reads, id_reads, number_reads, selected_number_reads};
+ghost use Rattle.model.specs.Reads.{current_reads, fetch_reads, id_reads, number_reads, selected_number_reads};
 ghost use Rattle.model.specs.Spool.{by_id, by_number, contents, here_by_id};
 ghost use Rattle.lookups.specs.Held.{article_of, article_with};
 ghost use Rattle.replies.specs.Answered.{answered};
 
 use crate::parts::{FOUND_ROOM, push_part};
 use lookups::{LookUps, locate_id, locate_number};
-use model::{Part, Session};
+use model::{Part, Selector, Session};
 use replies::{Answered, Reply, answer, at_number, says, says_line};
 use std::alloc::{AllocError, Global};
 
+/// ARTICLE, HEAD, BODY and STAT, of the article that they ask for (RFC 3977, sections 6.2.1 to 6.2.4).
+pub fn fetch<L: LookUps>(
+    alloc: Global,
+    spool: &L,
+    session: &Session,
+    part: &Part,
+    selector: &Selector,
+) -> Result<Answered, AllocError>
+    ensures { IfOk result (λ r. r ≡ answered (answers.fetch_answer (L.changes spool.now) session.now part.now selector.now)
+        (fetch_reads (L.changes spool.now) session.now selector.now)) }
+{
+    match selector {
+        Selector::Current => fetch_current(alloc, spool, session, part),
+        Selector::Number(number) => fetch_number(alloc, spool, session, part, *number),
+        Selector::Id(id) => fetch_id(alloc, spool, session, part, id.as_slice()),
+    }
+}
+
 /// Answers without an argument: the current article (RFC 3977, sections 6.2.1 to 6.2.4).
-pub fn fetch_current<L: LookUps>(
+fn fetch_current<L: LookUps>(
     alloc: Global,
     spool: &L,
     session: &Session,
@@ -53,7 +71,7 @@ fn current_in<L: LookUps>(
 }
 
 /// Answers by number: the article becomes the current one (RFC 3977, sections 6.2.1 to 6.2.4).
-pub fn fetch_number<L: LookUps>(
+fn fetch_number<L: LookUps>(
     alloc: Global,
     spool: &L,
     session: &Session,
@@ -93,7 +111,7 @@ fn number_in<L: LookUps>(
 }
 
 /// Answers by message-id: the number is 0, and the current article stays (RFC 3977, sections 6.2.1 to 6.2.4).
-pub fn fetch_id<L: LookUps>(
+fn fetch_id<L: LookUps>(
     alloc: Global,
     spool: &L,
     session: &Session,

@@ -1,5 +1,0 @@
-use Rattle.std.proofs.Common.{rules}
-use Rattle.listing_commands.proofs.lists.list_times.Goals as goal
-
-pub returns : goal.returns
-returns c = search rules
