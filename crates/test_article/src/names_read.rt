@@ -1,5 +1,6 @@
 //! Reading names, patterns and dates.
 
+use model::Moment;
 use names::{
     GroupName, MessageId, NameError, Wildmat, is_group_name, is_host, is_message_id, is_of_host,
     is_wildmat, number_of, range_of,
@@ -245,14 +246,16 @@ fn wildmats(rt: HostRuntime) -> Result<(), Fail> {
     Ok(())
 }
 
-/// Where the year 10000 begins.
-const MOMENT_LIMIT: u64 = 253_402_300_800;
+/// The moment so many seconds after the beginning of 1970.
+fn moment_at(seconds: u64) -> Result<Moment, Fail> {
+    let Some(moment) = Moment::at(seconds) else {
+        return Err("no moment")?;
+    };
+    Ok(moment)
+}
 
 /// The reply to DATE and the content of Date at a moment.
-fn dates(alloc: Global, moment: u64) -> Result<(Vec<u8>, Vec<u8>), Fail> {
-    if moment >= MOMENT_LIMIT {
-        return Err("no moment")?;
-    }
+fn dates(alloc: Global, moment: Moment) -> Result<(Vec<u8>, Vec<u8>), Fail> {
     Ok((date_reply(alloc, moment)?, date_header(alloc, moment)?))
 }
 
@@ -275,7 +278,7 @@ fn dates_of_moments(rt: HostRuntime) -> Result<(), Fail> {
             b"Fri, 31 Dec 9999 23:59:59 +0000",
         ),
     ] {
-        let (found_reply, found_header) = dates(rt.alloc(), moment)?;
+        let (found_reply, found_header) = dates(rt.alloc(), moment_at(moment)?)?;
         assert_eq!(rt; found_reply.as_slice(), reply, "{moment}");
         assert_eq!(rt; found_header.as_slice(), header, "{moment}");
     }
@@ -283,7 +286,8 @@ fn dates_of_moments(rt: HostRuntime) -> Result<(), Fail> {
 }
 
 #[test]
-fn moments_of_texts(rt: HostRuntime) {
+fn moments_of_texts(rt: HostRuntime) -> Result<(), Fail> {
+    let now = moment_at(1_000_000_000)?;
     for (date, time, moment) in [
         (b"991231".as_slice(), b"235959".as_slice(), Ok(946_684_799)),
         (b"20010909", b"014640", Ok(1_000_000_000)),
@@ -293,6 +297,7 @@ fn moments_of_texts(rt: HostRuntime) {
         (b"20010909", b"014660", Err(SinceError::Bad)),
         (b"2001090", b"014640", Err(SinceError::Bad)),
     ] {
-        assert_eq!(rt; read_since(date, time, 1_000_000_000), moment);
+        assert_eq!(rt; read_since(date, time, now), moment);
     }
+    Ok(())
 }

@@ -1,7 +1,7 @@
 //! What command lines are read as.
 
 use grammar::read;
-use model::{Command, Parsed, Part, Range, Selector, Text};
+use model::{Command, Listing, Parsed, Part, Range, Selector, Text, Wanted};
 use std::alloc::{AllocError, Global};
 use std::test::Fail;
 use test_support_rows::Octets;
@@ -18,8 +18,17 @@ fn joined(alloc: Global, words: &[&[u8]]) -> Result<Vec<u8>, AllocError> {
     Ok(text)
 }
 
+fn listing_name(listing: &Listing) -> &'static [u8] {
+    match listing {
+        Listing::Active => b"ACTIVE",
+        Listing::Times => b"TIMES",
+        Listing::Newsgroups => b"NEWSGROUPS",
+        Listing::OverviewFormat => b"OVERVIEW",
+    }
+}
+
 /// A listing's name, and its wildmat if it has one.
-fn listing(alloc: Global, name: &[u8], wildmat: &Option<Text>) -> Result<Vec<u8>, AllocError> {
+fn listed(alloc: Global, name: &[u8], wildmat: &Option<Text>) -> Result<Vec<u8>, AllocError> {
     match wildmat {
         Some(wildmat) => joined(alloc, &[name, wildmat.as_slice()]),
         None => joined(alloc, &[name]),
@@ -35,19 +44,15 @@ fn described(alloc: Global, command: &Command) -> Result<Vec<u8>, AllocError> {
         Command::Help => joined(alloc, &[b"HELP"]),
         Command::Date => joined(alloc, &[b"DATE"]),
         Command::Group(name) => joined(alloc, &[b"GROUP", name.as_slice()]),
-        Command::ListGroupSelected => joined(alloc, &[b"LISTGROUP"]),
-        Command::ListGroup(name) => joined(alloc, &[b"LISTGROUP", name.as_slice()]),
-        Command::ListGroupRange(name, range) => ranged(alloc, name.as_slice(), range),
+        Command::ListGroup(Some(name), range) => ranged(alloc, name.as_slice(), range),
+        Command::ListGroup(None, range) => ranged(alloc, b"LISTGROUP", range),
         Command::Next => joined(alloc, &[b"NEXT"]),
         Command::Last => joined(alloc, &[b"LAST"]),
         Command::Fetch(part, selector) => fetched(alloc, part_name(part), selector),
-        Command::OverCurrent => joined(alloc, &[b"OVER"]),
-        Command::OverRange(range) => ranged(alloc, b"OVER", range),
-        Command::OverId(id) => joined(alloc, &[b"OVER", id.as_slice()]),
-        Command::ListActive(wildmat) => listing(alloc, b"ACTIVE", wildmat),
-        Command::ListTimes(wildmat) => listing(alloc, b"TIMES", wildmat),
-        Command::ListNewsgroups(wildmat) => listing(alloc, b"NEWSGROUPS", wildmat),
-        Command::ListOverviewFormat => joined(alloc, &[b"OVERVIEW"]),
+        Command::Over(Wanted::Current) => joined(alloc, &[b"OVER"]),
+        Command::Over(Wanted::Range(range)) => ranged(alloc, b"OVER", range),
+        Command::Over(Wanted::Id(id)) => joined(alloc, &[b"OVER", id.as_slice()]),
+        Command::List(listing, wildmat) => listed(alloc, listing_name(listing), wildmat),
         Command::NewGroups { date, time } => {
             joined(alloc, &[b"NEWGROUPS", date.as_slice(), time.as_slice()])
         }
@@ -187,9 +192,9 @@ fn lines() -> &'static [(&'static str, &'static str)] {
         ("mode\treader", "MODE READER"),
         ("GROUP x.a\t", "GROUP x.a"),
         ("group \t x.a  ", "GROUP x.a"),
-        ("LISTGROUP", "LISTGROUP"),
-        ("LISTGROUP x.a", "LISTGROUP x.a"),
-        ("LISTGROUP 1-2", "LISTGROUP 1-2"),
+        ("LISTGROUP", "LISTGROUP from 1"),
+        ("LISTGROUP x.a", "x.a from 1"),
+        ("LISTGROUP 1-2", "1-2 from 1"),
         ("LISTGROUP x.a 2-", "x.a from 2"),
         ("OVER", "OVER"),
         ("OVER 3-2", "OVER from 3 to 2"),

@@ -3,8 +3,8 @@ use Rattle.std.specs.Prelude.{◌≡◌, true, false, [], ◌∷◌, length, cod
 use Rattle.model.specs.Names.{wildmat_matches}
 use Rattle.model.specs.Article.{overview_line}
 use Rattle.test_model.specs.Run.{new_seat, says, sends, is_told, is_told_lines, tabbed, told}
-use Rattle.test_model.specs.Texts.{article, article_one, folded_article, one, short_post, short_stored, start, takes_articles}
-use Rattle.test_model.specs.Texts.{takes_none, three, with_second}
+use Rattle.model.specs.declared.values.Status.TheVariants.{Open, Closed}
+use Rattle.test_model.specs.Texts.{article, article_one, folded_article, one, short_post, short_stored, start, three, with_second}
 
 abbrev pub PostThenGroup : Type 0
 PostThenGroup =
@@ -19,7 +19,7 @@ EmptyGroup =
 -- a reply about one group does not wait for an article that names only other groups
 abbrev pub OtherGroup : Type 0
 OtherGroup =
-    told (with_second takes_articles) (new_seat ∷ new_seat ∷ [])
+    told (with_second Open) (new_seat ∷ new_seat ∷ [])
     (says 0 (codes "POST") ∷ sends 0 article_one ∷ says 1 (codes "GROUP x.b") ∷ [])
     ≡ is_told (codes "340 Send article") 0 ∷ is_told (codes "240 Article received") 3 ∷ is_told (codes "211 0 1 0 x.b") 2 ∷ []
 
@@ -65,7 +65,7 @@ Overviews =
 -- a list, and a group that takes no articles
 abbrev pub ClosedGroup : Type 0
 ClosedGroup =
-    told (with_second takes_none) (new_seat ∷ new_seat ∷ [])
+    told (with_second Closed) (new_seat ∷ new_seat ∷ [])
     (says 0 (codes "POST") ∷ sends 0 article_one ∷ says 0 (codes "LIST") ∷ says 0 (codes "LIST NEWSGROUPS x.a") ∷ says 0
     (codes "LIST ACTIVE.TIMES x.b")
     ∷ says 1 (codes "POST") ∷ sends 1 (article (codes "<2@a.example>") (codes "x.b")) ∷ [])

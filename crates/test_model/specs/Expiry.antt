@@ -4,15 +4,15 @@ use Rattle.model.specs.Spool.{Spool, first}
 use Rattle.model.specs.Lawful.{MayExpire}
 use Rattle.model.specs.SpoolFiles.{files_of}
 use Rattle.test_model.specs.Run.{new_seat, made, says, sends, is_told, is_told_lines, tabbed, told}
-use Rattle.test_model.specs.Texts.{article, article_one, moment, three, takes_articles, with_second}
-use Rattle.model.specs.declared.change.Change.TheVariants.{Article, Expire}
+use Rattle.model.specs.declared.values.Status.TheVariants.{Open}
+use Rattle.test_model.specs.Texts.{article, article_one, expires, expiry, files, three, with_second}
 
 -- two of three are removed
 abbrev pub expired : Spool
-expired = three ++ Expire (codes "x.a") 2 ∷ []
+expired = three ++ expires (codes "x.a") 2 ∷ []
 
 abbrev pub all_expired : Spool
-all_expired = expired ++ Expire (codes "x.a") 3 ∷ []
+all_expired = expired ++ expires (codes "x.a") 3 ∷ []
 
 -- new sessions, each with one message
 abbrev pub EachAlone : Type 0
@@ -25,12 +25,12 @@ EachAlone =
 
 -- the same number is not removed twice; a number above the highest, or of a group that does not exist, never
 pub record MayOnlyOnce : Type 0 where
-  pub may : MayExpire three (codes "x.a") 2
-  pub twice : MayExpire expired (codes "x.a") 2 → ⊥
-  pub further : MayExpire expired (codes "x.a") 3
-  pub past : MayExpire expired (codes "x.a") 4 → ⊥
-  pub nothing : MayExpire three (codes "x.a") 0 → ⊥
-  pub elsewhere : MayExpire three (codes "x.b") 1 → ⊥
+  pub may : MayExpire three (expiry (codes "x.a") 2)
+  pub twice : MayExpire expired (expiry (codes "x.a") 2) → ⊥
+  pub further : MayExpire expired (expiry (codes "x.a") 3)
+  pub past : MayExpire expired (expiry (codes "x.a") 4) → ⊥
+  pub nothing : MayExpire three (expiry (codes "x.a") 0) → ⊥
+  pub elsewhere : MayExpire three (expiry (codes "x.b") 1) → ⊥
 
 -- where the expiry is lost, the article is in its group
 abbrev pub Lost : Type 0
@@ -84,7 +84,7 @@ abbrev pub CurrentIsTakenOut : Type 0
 CurrentIsTakenOut =
     told three (new_seat ∷ new_seat ∷ new_seat ∷ [])
     (says 0 (codes "GROUP x.a") ∷ says 1 (codes "GROUP x.a") ∷ says 2 (codes "GROUP x.a") ∷ says 2 (codes "STAT 3") ∷ made
-    (Expire (codes "x.a") 2)
+    (expires (codes "x.a") 2)
     ∷ says 0 (codes "NEXT") ∷ says 1 (codes "LAST") ∷ says 1 (codes "OVER") ∷ says 2 (codes "STAT") ∷ says 2 (codes "LAST") ∷ [])
     ≡ is_told (codes "211 3 1 3 x.a") 4 ∷ is_told (codes "211 3 1 3 x.a") 4 ∷ is_told (codes "211 3 1 3 x.a") 4 ∷ is_told
     (codes "223 3 <3@a.example>") 4
@@ -95,16 +95,16 @@ CurrentIsTakenOut =
 -- 3 is the article, 4 another one of x.b, 5 and 6 are the expiries, 7 is one more article of x.b
 abbrev pub crossposted : Spool
 crossposted =
-    with_second takes_articles
-    ++ Article (article (codes "<1@a.example>") (codes "x.a,x.b")) (codes "x.a" ∷ codes "x.b" ∷ []) moment
-    ∷ Article (article (codes "<2@a.example>") (codes "x.b")) (codes "x.b" ∷ []) moment
-    ∷ Expire (codes "x.a") 1 ∷ []
+    with_second Open
+    ++ files (article (codes "<1@a.example>") (codes "x.a,x.b")) (codes "x.a" ∷ codes "x.b" ∷ [])
+    ∷ files (article (codes "<2@a.example>") (codes "x.b")) (codes "x.b" ∷ [])
+    ∷ expires (codes "x.a") 1 ∷ []
 
 abbrev pub TwoGroups : Type 0
 TwoGroups =
     told crossposted (new_seat ∷ new_seat ∷ new_seat ∷ new_seat ∷ [])
     (says 0 (codes "STAT <1@a.example>") ∷ says 1 (codes "NEWNEWS x.a 19990101 000000") ∷ says 1 (codes "NEWNEWS x.b 19990101 000000")
-    ∷ made (Expire (codes "x.b") 1) ∷ made (Expire (codes "x.b") 2)
+    ∷ made (expires (codes "x.b") 1) ∷ made (expires (codes "x.b") 2)
     ∷ says 2 (codes "STAT <1@a.example>") ∷ says 3 (codes "STAT <2@a.example>") ∷ [])
     ≡ is_told (codes "223 0 <1@a.example>") 3 ∷ is_told_lines (codes "230 New articles follow") [] 5
     ∷ is_told_lines (codes "230 New articles follow") (codes "<1@a.example>" ∷ codes "<2@a.example>" ∷ []) 5

@@ -1,8 +1,7 @@
 -- Worked examples of articles that are asked for by number.
 use Rattle.std.specs.Prelude.{◌≡◌, [], ◌∷◌, codes}
 use Rattle.test_model.specs.Run.{new_seat, made, says, sends, is_told, told}
-use Rattle.test_model.specs.Texts.{article, one, three}
-use Rattle.model.specs.declared.change.Change.TheVariants.{Expire}
+use Rattle.test_model.specs.Texts.{article, expires, one, three}
 
 -- sessions 1 and 2 have selected the group; session 0 posts a second article, which has serial 3. A reply about an
 -- article by number waits only for that article. A reply about a number that is not yet given waits for nothing. NEXT
@@ -27,7 +26,7 @@ BelowTheLowest =
     told three (new_seat ∷ new_seat ∷ new_seat ∷ new_seat ∷ new_seat ∷ [])
     (says 0 (codes "GROUP x.a") ∷ says 1 (codes "GROUP x.a") ∷ says 2 (codes "GROUP x.a") ∷ says 3 (codes "GROUP x.a") ∷ says 4
     (codes "GROUP x.a")
-    ∷ made (Expire (codes "x.a") 1) ∷ made (Expire (codes "x.a") 2)
+    ∷ made (expires (codes "x.a") 1) ∷ made (expires (codes "x.a") 2)
     ∷ says 0 (codes "STAT 1") ∷ says 1 (codes "STAT 2") ∷ says 2 (codes "STAT 3") ∷ says 3 (codes "STAT") ∷ says 4 (codes "STAT 0") ∷ says 4
     (codes "STAT 4") ∷ [])
     ≡ is_told (codes "211 3 1 3 x.a") 4 ∷ is_told (codes "211 3 1 3 x.a") 4 ∷ is_told (codes "211 3 1 3 x.a") 4 ∷ is_told
