@@ -1,6 +1,6 @@
 -- What a view of a group says of the group with its name.
 use Rattle.std.proofs.Common.{◌≡◌, refl, sym, ◌∙◌, ap, true, false}
-use Rattle.std.specs.Prelude.{Option, Some, None, option_map}
+use Rattle.std.specs.Prelude.{Option, Some, None, is_some, option_map, unwrap_or}
 use Rattle.model.specs.Stream.{Octets}
 use Rattle.model.specs.Answer.{is_closed}
 use Rattle.model.specs.Spool.{Spool, NewsGroup, contents, contents_if_here, forbids_posts, group_named, high, is_here, last_naming, low}
@@ -29,9 +29,9 @@ is_of S name v says = by_found (group_named S name) refl says where
         low = ap (λ (k : Known). k.listed.low) one ∙ ap (low S) named;
         high = ap (λ (k : Known). k.listed.high) one ∙ ap (high S) named;
         last = ap (λ (k : Known). k.last) one ∙ ap (last_naming S) named;
-        here = ap (λ (o : Option NewsGroup). Rattle.std.specs.Prelude.is_some o) is;
-        closed = ap (λ (o : Option NewsGroup). Rattle.std.specs.Prelude.unwrap_or (option_map (λ (h : NewsGroup). forbids_posts h.status) o) false)
-            is ∙ ap (λ (k : Known). forbids_posts k.listed.group.status) (sym one);
+        here = ap (λ (o : Option NewsGroup). is_some o) is;
+        closed = ap (λ (o : Option NewsGroup). unwrap_or (option_map (λ (h : NewsGroup). forbids_posts h.status) o) false) is
+            ∙ ap (λ (k : Known). forbids_posts k.listed.group.status) (sym one);
         has = ap (λ (o : Option NewsGroup). option_map (λ (h : NewsGroup). contents S name) o) is;
       }
 

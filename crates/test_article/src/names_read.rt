@@ -2,8 +2,8 @@
 
 use model::Moment;
 use names::{
-    GroupName, MessageId, NameError, Wildmat, is_group_name, is_host, is_message_id, is_of_host,
-    is_wildmat, number_of, range_of,
+    Description, GroupName, MessageId, NameError, Wildmat, is_description, is_group_name, is_host,
+    is_message_id, is_of_host, is_wildmat, number_of, range_of,
 };
 use stamp::{SinceError, date_header, date_reply, read_since};
 use std::alloc::{AllocError, Global};
@@ -17,6 +17,7 @@ enum Kind {
     Id,
     Host,
     Wildmat,
+    Description,
 }
 
 /// A text with a run of `a` in its middle.
@@ -40,6 +41,7 @@ fn good(kind: Kind) -> &'static [Text] {
         ],
         Kind::Host => &[(b"news.example", 0, b""), (b"", 64, b"")],
         Kind::Wildmat => &[(b"a,!b,c", 0, b""), (b"x.*,!x.b*,x.bc", 0, b"")],
+        Kind::Description => &[(b"", 0, b""), (b" ~", 0, b""), (b"", 200, b"")],
     }
 }
 
@@ -89,6 +91,12 @@ fn bad(kind: Kind) -> &'static [Text] {
             (b"a b", 0, b""),
             (b"]", 0, b""),
         ],
+        Kind::Description => &[
+            (b"", 201, b""),
+            (b"a\tb", 0, b""),
+            (b"\x7f", 0, b""),
+            (b"\xc3\xbf", 0, b""),
+        ],
     }
 }
 
@@ -100,6 +108,7 @@ fn read_back(alloc: Global, kind: Kind, text: &[u8]) -> Result<Vec<u8>, NameErro
         Kind::Host if is_host(text) => text.to_vec(alloc),
         Kind::Host => return Err(NameError::Bad),
         Kind::Wildmat => Wildmat::read(alloc, text)?.as_slice().to_vec(alloc),
+        Kind::Description => Description::read(alloc, text)?.as_slice().to_vec(alloc),
     };
     read.map_err(|_| NameError::Memory)
 }
@@ -111,6 +120,7 @@ fn is_of_kind(kind: Kind, text: &[u8]) -> bool {
         Kind::Id => is_message_id(text),
         Kind::Host => is_host(text),
         Kind::Wildmat => is_wildmat(text),
+        Kind::Description => is_description(text),
     }
 }
 
@@ -143,7 +153,13 @@ fn first_read(alloc: Global, kind: Kind, texts: &[Text]) -> Result<Option<usize>
 
 #[test]
 fn names_and_patterns(rt: HostRuntime) -> Result<(), Fail> {
-    for kind in [Kind::Group, Kind::Id, Kind::Host, Kind::Wildmat] {
+    for kind in [
+        Kind::Group,
+        Kind::Id,
+        Kind::Host,
+        Kind::Wildmat,
+        Kind::Description,
+    ] {
         assert_eq!(rt;
             first_refused(rt.alloc(), kind, good(kind))?,
             None,
