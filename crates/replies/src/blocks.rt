@@ -66,7 +66,7 @@ fn push_overview_format(reply: &mut Vec<u8>) -> Result<(), AllocError>
 
 /// Appends the texts of keywords, each after a space.
 fn push_keywords(reply: &mut Vec<u8>, keywords: &[Keyword]) -> Result<(), AllocError>
-    ensures { OnOk result (reply.new.items ≡ reply.old.items ++ flat_map (λ keyword. 32 ∷ keyword_text keyword) keywords.now) }
+    ensures { OnOk result (reply.new.items ≡ reply.old.items ++ flat_map (λ k. 32 ∷ keyword_text k) keywords.now) }
 {
     for keyword in keywords {
         reply.push(b' ')?;
@@ -77,7 +77,7 @@ fn push_keywords(reply: &mut Vec<u8>, keywords: &[Keyword]) -> Result<(), AllocE
 
 /// Appends the keywords of listings, each after a space.
 fn push_listings(reply: &mut Vec<u8>, listings: &[Listing]) -> Result<(), AllocError>
-    ensures { OnOk result (reply.new.items ≡ reply.old.items ++ flat_map (λ listing. 32 ∷ listing_text listing) listings.now) }
+    ensures { OnOk result (reply.new.items ≡ reply.old.items ++ flat_map (λ k. 32 ∷ listing_text k) listings.now) }
 {
     for listing in listings {
         reply.push(b' ')?;

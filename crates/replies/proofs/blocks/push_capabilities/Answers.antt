@@ -10,13 +10,14 @@ pub returns : goal.returns
 returns c =
     let before : Octets = c.args.reply.now.items in
     let fixed : Octets = codes "VERSION 2\r\nREADER\r\nIHAVE\r\nPOST\r\nNEWNEWS\r\nOVER MSGID\r\n" in
-    let shown : Octets = flat_map (λ listing. 32 ∷ listing_text listing) listings in
+    let shown : Octets = flat_map (λ k. 32 ∷ listing_text k) listings in
     let to_fixed : Octets = line capabilities_follow ++ fixed in
     let to_list : Octets = to_fixed ++ keyword_text keyword.List in
     let to_shown : Octets = to_list ++ shown in
     let first = c.in_ok-extend_from_slice.ensures.items ∙ ap (λ os. os ++ fixed) c.in_ok-push_heading.ensures
     ∙ append_assoc before (line capabilities_follow) fixed in
-    let second = c.in_ok-extend_from_slice-2.ensures.items ∙ (λ i. first i ++ c.text.ensures i)
+    let second = c.in_ok-extend_from_slice-2.ensures.items ∙ ap (λ os. os ++ c.text.result.now) first
+    ∙ ap (λ os. (before ++ to_fixed) ++ os) c.text.ensures
     ∙ append_assoc before to_fixed (keyword_text keyword.List) in
     let third = c.in_ok-push_listings.ensures ∙ ap (λ os. os ++ shown) second ∙ append_assoc before to_list shown in
     c.in_ok-extend_from_slice-3.ensures.items ∙ ap (λ os. os ++ codes "\r\n.\r\n") third

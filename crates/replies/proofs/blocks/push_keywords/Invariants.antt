@@ -6,4 +6,4 @@ use Rattle.replies.proofs.blocks.push_keywords.Given as goal
 -- the texts so far
 abbrev pub invariant-loop-keyword : goal.invariant-loop-keyword
 invariant-loop-keyword l =
-    l.reply.items ≡ l.initial.reply.items ++ flat_map (λ keyword. 32 ∷ keyword_text keyword) (take l.keyword-index l.keywords)
+    l.reply.items ≡ l.initial.reply.items ++ flat_map (λ k. 32 ∷ keyword_text k) (take l.keyword-index l.keywords)

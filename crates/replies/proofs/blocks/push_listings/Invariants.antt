@@ -6,4 +6,4 @@ use Rattle.replies.proofs.blocks.push_listings.Given as goal
 -- the texts so far
 abbrev pub invariant-loop-listing : goal.invariant-loop-listing
 invariant-loop-listing l =
-    l.reply.items ≡ l.initial.reply.items ++ flat_map (λ listing. 32 ∷ listing_text listing) (take l.listing-index l.listings)
+    l.reply.items ≡ l.initial.reply.items ++ flat_map (λ k. 32 ∷ listing_text k) (take l.listing-index l.listings)
