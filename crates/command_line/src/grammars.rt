@@ -1,9 +1,9 @@
 //! What each word may be.
 
-use names::{is_group_name, is_host, number_of};
+use names::{is_description, is_group_name, is_host, number_of};
 use networks::{Network, read_endpoint};
 use new_volume::are_sizes;
-use script::{DESCRIPTION_LIMIT, MOMENT_LIMIT, number};
+use script::{moment, number, status};
 
 /// The least number of inodes and the largest number of blocks: either goes with every permitted number of the other.
 const FEWEST_INODES: u64 = 64;
@@ -50,8 +50,8 @@ impl Grammar {
             Grammar::Inodes => number(octets).is_some_and(|n| are_sizes(MOST_BLOCKS, n)),
             Grammar::Format => word == "1" || word == "2",
             Grammar::Group => is_group_name(octets),
-            Grammar::Status => word == "y" || word == "n",
-            Grammar::Moment => number(octets).is_some_and(|moment| moment < MOMENT_LIMIT),
+            Grammar::Status => status(octets).is_some(),
+            Grammar::Moment => moment(octets).is_some(),
             Grammar::Description => is_description(octets),
             Grammar::Article => number_of(octets).is_some(),
             Grammar::Endpoint => read_endpoint(word).is_some(),
@@ -76,9 +76,4 @@ impl Grammar {
             Grammar::Network => "is no ADDRESS or ADDRESS/LENGTH",
         }
     }
-}
-
-/// Whether a text may describe a group.
-fn is_description(text: &[u8]) -> bool {
-    text.len() <= DESCRIPTION_LIMIT && text.iter().all(|octet| 32 <= *octet && *octet <= 126)
 }

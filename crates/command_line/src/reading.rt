@@ -9,11 +9,11 @@ use crate::table::{
 };
 use clap::ArgMatches;
 use clap::error::{Error, ErrorKind};
-use names::is_host;
+use names::{GroupName, GroupRequest, is_host};
 use networks::{Network, read_endpoint};
 use new_volume::{FORMAT_1, FORMAT_2, VolumePlan, are_sizes};
 use printing::{DONE, Failure, NOT_UNDERSTOOD};
-use script::number;
+use script::{ParseError, number};
 use std::alloc::{AllocError, Global};
 use std::convert::AsStr;
 use std::io::Write;
@@ -27,8 +27,10 @@ pub enum Asked<'a> {
     /// A simulation over a device in memory, with or without a cache that collects writes until a sync.
     Simulation(VolumePlan<'a>, bool),
     Format(&'a str, VolumePlan<'a>),
-    /// The line of a change, as an operator would write it.
-    Change(&'a str, Vec<u8>),
+    /// The volume to which a group is added.
+    Group(&'a str, GroupRequest),
+    /// The volume, the group in it, and the number up to which its articles are removed.
+    Expire(&'a str, GroupName, u32),
     Serve(Service<'a>),
     Dump(&'a str),
     /// The state of a volume, for a person or as JSON.
@@ -95,8 +97,8 @@ fn read_request<'a>(alloc: Global, matches: &ArgMatches<'a>) -> Result<Asked<'a>
     match name {
         "sim" => Ok(Asked::Simulation(read_plan_of_memory(alloc, words)?, words.get_flag(CACHE))),
         "format" => Ok(Asked::Format(word(words, PATH)?, read_plan_of_file(alloc, words)?)),
-        "group" => Ok(Asked::Change(word(words, PATH)?, read_group(alloc, words)?)),
-        "expire" => Ok(Asked::Change(word(words, PATH)?, read_expiry(alloc, words)?)),
+        "group" => Ok(Asked::Group(word(words, PATH)?, read_group(alloc, words)?)),
+        "expire" => read_expiry(words),
         "serve" => Ok(Asked::Serve(read_service(alloc, words)?)),
         "dump" => Ok(Asked::Dump(word(words, PATH)?)),
         "status" => Ok(Asked::Status(word(words, PATH)?, words.get_flag(JSON))),
@@ -212,34 +214,34 @@ fn plan_of<'a>(host: &'a [u8], blocks: &[u8], inodes: &[u8], format: u32) -> Opt
     })
 }
 
-/// The line of the group that the words describe. Only the last of them, the description, may have spaces.
-fn read_group(alloc: Global, words: &ArgMatches<'_>) -> Result<Vec<u8>, Failure> {
-    let mut line = read_line(alloc, b"group", &[NAME, STATUS, MOMENT], words)?;
-    line.push(b' ')?;
-    line.extend_from_slice(word(words, DESCRIPTION)?.as_bytes())?;
-    Ok(line)
-}
-
-/// The line of the expiry that the words describe.
-fn read_expiry(alloc: Global, words: &ArgMatches<'_>) -> Result<Vec<u8>, Failure> {
-    read_line(alloc, b"expire", &[NAME, NUMBER], words)
-}
-
-/// A line that begins with this keyword, followed by the words of these names. The grammar of none of these permits
-/// spaces.
-fn read_line(
-    alloc: Global,
-    keyword: &[u8],
-    names: &[&str],
-    words: &ArgMatches<'_>,
-) -> Result<Vec<u8>, Failure> {
-    let mut line = Vec::from_slice(alloc, keyword)?;
-    for name in names {
-        let text = word(words, name)?.as_bytes();
-        line.push(b' ')?;
-        line.extend_from_slice(text)?;
+/// The group that the words describe.
+fn read_group(alloc: Global, words: &ArgMatches<'_>) -> Result<GroupRequest, Failure> {
+    let name = word(words, NAME)?;
+    let status = word(words, STATUS)?;
+    let moment = word(words, MOMENT)?;
+    let description = word(words, DESCRIPTION)?;
+    match script::read_group(
+        alloc,
+        name.as_bytes(),
+        status.as_bytes(),
+        moment.as_bytes(),
+        description.as_bytes(),
+    ) {
+        Ok(group) => Ok(group),
+        Err(ParseError::Bad) => Err(Failure::Bad),
+        Err(ParseError::Memory) => Err(Failure::Memory),
     }
-    Ok(line)
+}
+
+/// The expiry that the words describe.
+fn read_expiry<'a>(words: &ArgMatches<'a>) -> Result<Asked<'a>, Failure> {
+    let path = word(words, PATH)?;
+    let name = word(words, NAME)?;
+    let number = word(words, NUMBER)?;
+    match script::read_expiry(name.as_bytes(), number.as_bytes()) {
+        Some((name, number)) => Ok(Asked::Expire(path, name, number)),
+        None => Err(Failure::Bad),
+    }
 }
 
 /// The server that the words describe.

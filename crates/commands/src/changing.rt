@@ -1,10 +1,6 @@
 //! Adds a group, or removes articles from one, while no server runs.
 
-ghost use Rattle.std.specs.Prelude.{◌≡◌, ◌⊎◌, ◌<◌, ◌≤◌, IsTrue, length};
-ghost use Rattle.std.specs.List.{list_all};
 ghost use Rattle.journal.specs.Journal.{IsReady};
-ghost use Rattle.model.specs.Calendar.{moment_limit};
-ghost use Rattle.model.specs.Lawful.{is_description_octet};
 
 use crate::files::{VolumeDisk, open};
 use flusher::{BatchBuf, FlushError, Kern, Locked, NoGate, flush_turn};
@@ -12,7 +8,7 @@ use journal::Journal;
 use kernel::{AdminError, ExpireError};
 use lookups::LookUps;
 use mark::Mark;
-use names::GroupName;
+use names::{GroupName, GroupRequest};
 use opening::Opened;
 use printing::CommandError;
 use std::alloc::Global;
@@ -25,23 +21,15 @@ pub fn group<R: Files<File = File> + Wait>(
     rt: &R,
     alloc: Global,
     path: &str,
-    name: &GroupName,
-    status: u8,
-    description: &[u8],
-    moment: u64,
-) -> Result<u64, CommandError>
-    requires status { (status ≡ 121) ⊎ (status ≡ 110) }
-    requires short { length description.now ≤ 200 }
-    requires printable { IsTrue (list_all is_description_octet description.now) }
-    requires moment { moment < moment_limit }
-{
+    group: &GroupRequest,
+) -> Result<u64, CommandError> {
     let mut batch = BatchBuf::new(alloc)?;
     let Opened {
         mut journal,
         kernel,
     } = open(rt, alloc, path)?;
     let kern = Locked::new(kernel);
-    let serial = match kern.admin(rt, alloc, name, status, description, moment) {
+    let serial = match kern.admin(rt, alloc, group) {
         Ok(serial) => serial,
         Err(AdminError::Exists) => return Err(CommandError::Exists),
         Err(error) => return Err(CommandError::NotMade(error)),

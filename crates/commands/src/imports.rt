@@ -1,12 +1,10 @@
 //! Files the articles of a batch.
 
-ghost use Rattle.std.specs.Prelude.{◌<◌};
-ghost use Rattle.model.specs.Calendar.{moment_limit};
-
 use crate::files::find;
 use crate::refusals::refusal_of;
 use importing::{ImportCounts, ImportError, Place, Report, Store, Watcher};
-use logging::moment;
+use logging::{beginning_of_1970, moment};
+use model::Moment;
 use printing::CommandError;
 use std::alloc::Global;
 use std::fs::File;
@@ -83,12 +81,12 @@ impl<'a, R: Clock, F: Write> Teller<'a, R, F> {
 
 impl<'a, R: Clock, F: Write> Watcher for Teller<'a, R, F> {
     /// 1970 if the clock gives no time from 1970 to 9999, which is reported once.
-    fn moment(&mut self) -> u64 {
+    fn moment(&mut self) -> Moment {
         match moment(self.rt) {
             Some(moment) => moment,
             None => {
                 self.tell_of_clock();
-                0
+                beginning_of_1970()
             }
         }
     }

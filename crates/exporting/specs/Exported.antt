@@ -34,9 +34,9 @@ serials_in S g = option_map (λ group. serials_of S group.name) (group_named S g
 
 -- the text that a change files, if any
 abbrev pub text_filed : Change → Option Octets
-text_filed (Group name status description moment) = None
-text_filed (Article text groups moment) = Some text
-text_filed (Expire group number) = None
+text_filed (Group group) = None
+text_filed (Article filing) = Some filing.text
+text_filed (Expire expiry) = None
 
 -- the text that the change with this serial files
 abbrev pub text_with : Spool → ℕ → Option Octets

@@ -8,7 +8,7 @@ ghost use Rattle.rnews.specs.Batch as batch;
 use crate::serials::{all_serials, serials_of};
 use kernel::Spool;
 use lookups::LookUps;
-use model::{Change, Text};
+use model::{Change, Filing, Text};
 use names::GroupName;
 use printing::CommandError;
 use rnews::{entry, with_lf};
@@ -73,7 +73,7 @@ fn stored_text(spool: &Spool, serial: u64) -> Result<Option<Text>, AllocError>
         return Ok(None);
     }
     match spool.change(serial)? {
-        Change::Article { text, .. } => Ok(Some(text)),
+        Change::Article(Filing { text, .. }) => Ok(Some(text)),
         _ => Ok(None),
     }
 }

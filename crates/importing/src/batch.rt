@@ -1,13 +1,13 @@
 //! Files the texts of a batch, in order.
 
 ghost use Rattle.std.specs.Prelude.{◌<◌, OnOk};
-ghost use Rattle.model.specs.Calendar.{moment_limit};
 ghost use Rattle.importing.specs.Saved.{IsSaved};
 
 use crate::outcome::{CAUSES, FULL_GROUP, Lack, TextOutcome, words_at};
 use crate::store::Store;
 use disk::Disk;
 use journal::JournalError;
+use model::Moment;
 use rnews::{BatchError, BatchReader, BatchRefusal};
 use std::alloc::{AllocError, Global};
 use std::fmt::{self, Display, Formatter};
@@ -143,9 +143,8 @@ impl From<JournalError> for ImportError {
 
 /// Gives an import the time, and learns what the import does.
 pub trait Watcher {
-    /// The moment of what is filed now, in seconds since 1970.
-    fn moment(&mut self) -> u64
-        ensures { result < moment_limit };
+    /// The moment of what is filed now.
+    fn moment(&mut self) -> Moment;
 
     /// The text at this place was refused, for this cause in words.
     fn refused(&mut self, place: Place, cause: &'static str) -> io::Result<()>;

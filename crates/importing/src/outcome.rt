@@ -2,7 +2,7 @@
 
 ghost use Rattle.std.specs.Prelude.{◌<◌};
 
-use article::Cause;
+use model::Cause;
 use thiserror::Error;
 
 /// What became of a text that an import tried to file.

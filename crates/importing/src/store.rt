@@ -1,8 +1,7 @@
 //! A volume that no server serves, to which texts are added.
 
-ghost use Rattle.std.specs.Prelude.{◌≡◌, ◌≢◌, ◌+◌, ◌<◌, ◌≤◌, IfErr, IfOk, IsTrue, OnErr, OnOk, length};
+ghost use Rattle.std.specs.Prelude.{◌≡◌, ◌≢◌, ◌+◌, ◌≤◌, IfErr, IfOk, IsTrue, OnErr, OnOk, length};
 ghost use Rattle.journal.specs.Journal.{IsReady};
-ghost use Rattle.model.specs.Calendar.{moment_limit};
 ghost use Rattle.model.specs.Files.{free_blocks};
 ghost use Rattle.opening.specs.Standing as standing;
 ghost use Rattle.opening.specs.Standing.{IsDamagedVolume, IsNoNewsVolume};
@@ -19,6 +18,7 @@ use disk::Disk;
 use journal::{Journal, JournalError};
 use kernel::open_spool;
 use lookups::LookUps;
+use model::Moment;
 use opening::OpenError;
 use rnews::with_crlf;
 use spool::Spool;
@@ -118,16 +118,15 @@ impl<D: Disk> Store<D> {
         Ok(())
     }
 
-    /// Files a text, whose lines end in LF or CRLF, at a moment in seconds since 1970, as `file_text` does. It is not
-    /// durable yet. Refused only for want of memory, and then nothing changes.
+    /// Files a text, whose lines end in LF or CRLF, at a moment, as `file_text` does. It is not durable yet. Refused only
+    /// for want of memory, and then nothing changes.
     pub fn file(
         &mut self,
         alloc: Global,
         text: &[u8],
-        moment: u64,
+        moment: Moment,
     ) -> Result<TextOutcome, AllocError>
-        requires room { length self.old.spool.dirty ≤ 256 }
-        requires moment { moment < moment_limit }
+        requires { length self.old.spool.dirty ≤ 256 }
         ensures ok { IfOk result (Becomes self.old.spool self.new.spool (ends.with_crlf text.now) moment) }
         ensures journal { self.new.journal ≡ self.old.journal }
         ensures durable { self.new.durable ≡ self.old.durable }

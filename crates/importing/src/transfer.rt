@@ -1,8 +1,7 @@
 //! Files one text as a transfer would.
 
-ghost use Rattle.std.specs.Prelude.{◌≡◌, ◌<◌, filter, IfOk, OnErr, Some, None};
+ghost use Rattle.std.specs.Prelude.{◌≡◌, filter, IfOk, OnErr, Some, None};
 ghost use Rattle.model.specs.Article.{Carried, cause, id, own_id};
-ghost use Rattle.model.specs.Calendar.{moment_limit};
 ghost use Rattle.model.specs.Spool.{by_id, is_here};
 ghost use Rattle.importing.specs.Filing.{Becomes, IsOffered};
 
@@ -10,21 +9,19 @@ use crate::{TextOutcome, TextRefusal};
 use article::{Article, Origin, ReadError};
 use change_spool::FilingError;
 use lookups::{LookUps, find_group, find_id};
-use model::Text;
+use model::{Moment, Text};
 use names::is_of_host;
 use spool::Spool;
 use std::alloc::{AllocError, Global};
 
-/// Files a text at a moment in seconds since 1970, below 253,402,300,800. It becomes what it would if another server
-/// offered it by its own message-id (IHAVE; RFC 3977, section 6.3.2). Refused only for want of memory. Unless the text
-/// is filed, the spool stays as it was.
+/// Files a text at a moment. It becomes what it would if another server offered it by its own message-id (IHAVE; RFC
+/// 3977, section 6.3.2). Refused only for want of memory. Unless the text is filed, the spool stays as it was.
 pub fn file_text(
     alloc: Global,
     spool: &mut Spool,
     text: &[u8],
-    moment: u64,
+    moment: Moment,
 ) -> Result<TextOutcome, AllocError>
-    requires { moment < moment_limit }
     ensures ok { IfOk result (Becomes spool.old spool.new text.now moment) }
     ensures err { OnErr result (spool.new ≡ spool.old) }
 {
@@ -43,10 +40,9 @@ fn file_article(
     alloc: Global,
     spool: &mut Spool,
     article: &Article<'_>,
-    moment: u64,
+    moment: Moment,
 ) -> Result<TextOutcome, AllocError>
-    requires carried { cause Carried article.now ≡ None }
-    requires moment { moment < moment_limit }
+    requires { cause Carried article.now ≡ None }
     ensures ok { IfOk result (Becomes spool.old spool.new article.now moment) }
     ensures err { OnErr result (spool.new ≡ spool.old) }
 {
@@ -76,12 +72,11 @@ fn file_new(
     alloc: Global,
     spool: &mut Spool,
     article: &Article<'_>,
-    moment: u64,
+    moment: Moment,
 ) -> Result<TextOutcome, AllocError>
     requires carried { cause Carried article.now ≡ None }
     requires offered { IsOffered spool.old article.now }
     requires new { by_id spool.old.changes (id article.now) ≡ None }
-    requires moment { moment < moment_limit }
     ensures ok { IfOk result (Becomes spool.old spool.new article.now moment) }
     ensures err { OnErr result (spool.new ≡ spool.old) }
 {
@@ -90,6 +85,8 @@ fn file_new(
     if groups.is_empty() {
         return Ok(TextOutcome::NoGroup);
     }
+    // its clauses state that the moment is before its limit
+    let _seconds = moment.seconds();
     match spool.add_article(article, &groups, moment) {
         Ok(serial) => Ok(TextOutcome::Filed(serial)),
         Err(FilingError::Full) => Ok(TextOutcome::Full),

@@ -1,24 +1,29 @@
 //! The time of day.
 
-ghost use Rattle.std.specs.Prelude.{◌<◌, IfSome};
-ghost use Rattle.model.specs.Calendar.{moment_limit};
+ghost use Rattle.std.specs.Prelude.{◌≡◌};
 
 use crate::events::LogEvent;
 use crate::writing::Log;
+use model::Moment;
 use std::sync::Wait;
 use std::sync::atomic::{AtomicBool, Ordering};
 use std::time::Clock;
 
-/// The first second that is too late for a moment.
-const MOMENT_LIMIT: u64 = 253_402_300_800;
-
-/// The whole seconds since 1970. `None` if the clock cannot be read, or is before 1970 or after 9999.
-pub fn moment<R: Clock>(rt: &R) -> Option<u64>
-    ensures { IfSome result (λ moment. moment < moment_limit) }
-{
+/// The moment that the clock gives. `None` if it cannot be read, or is before 1970 or after 9999.
+pub fn moment<R: Clock>(rt: &R) -> Option<Moment> {
     match rt.since_1970() {
-        Ok(since) if since.as_secs() < MOMENT_LIMIT => Some(since.as_secs()),
-        _ => None,
+        Ok(since) => Moment::at(since.as_secs()),
+        Err(_) => None,
+    }
+}
+
+/// The beginning of 1970: the moment of all that is dated while the clock gives none.
+pub fn beginning_of_1970() -> Moment
+    ensures { result ≡ 0 }
+{
+    match Moment::at(0) {
+        Some(moment) => moment,
+        None => unreachable!(),
     }
 }
 
@@ -37,18 +42,16 @@ impl Moments {
         }
     }
 
-    /// The whole seconds since 1970. They are 0 if the clock cannot be read, or is before 1970 or after 9999; the log
-    /// says so once.
-    pub fn now<R: Wait + Clock>(&self, rt: &R, log: &Log) -> u64
-        ensures { result < moment_limit }
-    {
+    /// The moment that the clock gives. It is the beginning of 1970 if the clock cannot be read, or is before 1970 or
+    /// after 9999; the log says so once.
+    pub fn now<R: Wait + Clock>(&self, rt: &R, log: &Log) -> Moment {
         match moment(rt) {
             Some(moment) => moment,
             None => {
                 if !self.is_told.swap(true, Ordering::SeqCst) {
                     log.note(rt, LogEvent::Clock);
                 }
-                0
+                beginning_of_1970()
             }
         }
     }

@@ -7,7 +7,7 @@ mod events;
 mod lines;
 mod writing;
 
-pub use clock::{Moments, moment};
+pub use clock::{Moments, beginning_of_1970, moment};
 pub use events::{
     CountedMessage, EndedSession, Ending, LogEvent, SessionCounts, SessionRefusal, UsedPart,
 };

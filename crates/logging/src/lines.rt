@@ -1,20 +1,18 @@
 //! The line of an event.
 
-ghost use Rattle.std.specs.Prelude.{◌≡◌, ◌<◌, ◌++◌, ◌∷◌, [], OnOk, IfOk, length, map};
-ghost use Rattle.model.specs.Calendar.{moment_limit};
+ghost use Rattle.std.specs.Prelude.{◌≡◌, ◌++◌, ◌∷◌, [], OnOk, IfOk, length, map};
 ghost use Rattle.logging.specs.Line.{IsPlainLine, line_of, marked, shown, text_of, time_text};
 
 use crate::LogEvent;
+use model::Moment;
 use stamp::date_reply;
 use std::alloc::{AllocError, Global};
 
 /// An event, and when it was noted.
 #[derive(Clone, Copy)]
 pub struct LogEntry {
-    /// In whole seconds since 1970.
-    pub moment: u64,
+    pub moment: Moment,
     pub event: LogEvent,
-    ghost dated: { moment < moment_limit },
 }
 
 /// The line of an entry, with its LF: the time, the event and its fields, as docs/newsd.1 has them. A line holds octets
@@ -72,8 +70,7 @@ fn shown(octet: u8) -> u8
 }
 
 /// Appends the time of a moment, as 2026-11-26T04:22:57Z (RFC 3339, section 5.6).
-fn push_time(line: &mut Vec<u8>, alloc: Global, moment: u64) -> Result<(), AllocError>
-    requires { moment < moment_limit }
+fn push_time(line: &mut Vec<u8>, alloc: Global, moment: Moment) -> Result<(), AllocError>
     ensures { OnOk result (line.new.items ≡ line.old.items ++ time_text moment) }
 {
     let digits = date_reply(alloc, moment)?;

@@ -3,11 +3,9 @@
 //! That thread may wait forever for the reader of the log, so it is not joined. No other thread waits for it: a line
 //! that finds no room is counted, as is one that cannot be written, and the count is written before the next line.
 
-ghost use Rattle.std.specs.Prelude.{◌<◌, IfSome};
-ghost use Rattle.model.specs.Calendar.{moment_limit};
-
-use crate::{LogEntry, LogEvent, line, moment};
+use crate::{LogEntry, LogEvent, beginning_of_1970, line, moment};
 use crossbeam_channel::{Receiver, Sender, bounded};
+use model::Moment;
 use std::alloc::{AllocError, Global};
 use std::io::Write;
 use std::sync::atomic::{AtomicU64, Ordering};
@@ -101,11 +99,9 @@ impl Log {
 }
 
 /// An event and the time. Without a time it is the beginning of 1970.
-fn entry(moment: Option<u64>, event: LogEvent) -> LogEntry
-    requires { IfSome moment (λ moment. moment < moment_limit) }
-{
+fn entry(moment: Option<Moment>, event: LogEvent) -> LogEntry {
     LogEntry {
-        moment: moment.unwrap_or(0),
+        moment: moment.unwrap_or(beginning_of_1970()),
         event,
     }
 }

@@ -5,10 +5,9 @@ ghost use Rattle.script.specs.Script.{meaning};
 ghost use Rattle.operator.specs.Changes.{IsNone, asked};
 
 use crate::desk::OperatorService;
-use crate::group::NewGroup;
 use crate::writing::Refused;
 use flusher::{AdminError, Bells, ExpireError, Kern};
-use names::GroupName;
+use names::{GroupName, GroupRequest};
 use script::{Line, ParseError, parse};
 use std::alloc::Global;
 use std::sync::Wait;
@@ -16,7 +15,7 @@ use std::sync::Wait;
 /// A change that the operator asks for.
 #[derive(Drop)]
 pub(crate) enum Change {
-    Group(NewGroup),
+    Group(GroupRequest),
     /// The articles of a group up to this number are removed from it.
     Expiry { name: GroupName, number: u32 },
 }
@@ -27,31 +26,8 @@ pub(crate) fn change_of(alloc: Global, line: &[u8]) -> Result<Change, Refused>
     ensures err { IfErr result (λ error. (error ≡ Refused.Memory) ⊎ ((error ≡ Refused.Bad) × IsNone (meaning line.now))) }
 {
     match parse(alloc, line) {
-        Ok(
-            Line::Group {
-                name,
-                status,
-                moment,
-                description,
-            },
-        ) => {
-            // a line that was read names a group
-            let Ok(name) = GroupName::read(name.as_slice()) else {
-                return Err(Refused::Bad);
-            };
-            Ok(Change::Group(NewGroup {
-                name,
-                status,
-                moment,
-                description,
-            }))
-        }
-        Ok(Line::Expire { name, number }) => {
-            let Ok(name) = GroupName::read(name.as_slice()) else {
-                return Err(Refused::Bad);
-            };
-            Ok(Change::Expiry { name, number })
-        }
+        Ok(Line::Group(request)) => Ok(Change::Group(request)),
+        Ok(Line::Expire { name, number }) => Ok(Change::Expiry { name, number }),
         Ok(_) | Err(ParseError::Bad) => Err(Refused::Bad),
         Err(ParseError::Memory) => Err(Refused::Memory),
     }
@@ -65,14 +41,14 @@ pub(crate) fn make<R: Wait, K: Kern>(
     ensures { IfErr result (λ error. error ≢ Refused.Fault) }
 {
     match change {
-        Change::Group(group) => Ok(make_group(service, group)?),
+        Change::Group(request) => Ok(make_group(service, request)?),
         Change::Expiry { name, number } => Ok(expire(service, name, *number)?),
     }
 }
 
 fn make_group<R: Wait, K: Kern>(
     service: &OperatorService<'_, R, K>,
-    group: &NewGroup,
+    request: &GroupRequest,
 ) -> Result<u64, AdminError> {
     let OperatorService {
         rt,
@@ -83,15 +59,7 @@ fn make_group<R: Wait, K: Kern>(
     } = service;
     for _ in rt.forever() {
         let noted = bells.later.count();
-        let description = group.description.as_slice();
-        match kern.admin(
-            *rt,
-            *alloc,
-            &group.name,
-            group.status,
-            description,
-            group.moment,
-        ) {
+        match kern.admin(*rt, *alloc, request) {
             Err(AdminError::LaterDirty) => put_off(*rt, *bells, noted),
             answer => return answer,
         }

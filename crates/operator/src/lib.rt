@@ -5,7 +5,6 @@
 mod changes;
 mod desk;
 mod durable;
-mod group;
 mod lines;
 mod requests;
 mod status;

@@ -31,18 +31,19 @@ fn print_change<W: Write>(
     output: &mut W,
 ) -> Result<(), CommandError> {
     match change {
-        Change::Group { name, status, .. } => {
+        Change::Group(group) => {
             write!(output, "{serial} group ")?;
-            output.write_all(name.as_slice())?;
-            output.write_all(&[b' ', *status, b'\n'])?;
+            output.write_all(group.name.as_slice())?;
+            output.write_all(&[b' ', group.status.octet(), b'\n'])?;
         }
-        Change::Article { text, groups, .. } => {
-            print_article(alloc, serial, text.as_slice(), groups.as_slice(), output)?;
+        Change::Article(filing) => {
+            let (text, groups) = (filing.text.as_slice(), filing.groups.as_slice());
+            print_article(alloc, serial, text, groups, output)?;
         }
-        Change::Expire { group, number } => {
+        Change::Expire(expiry) => {
             write!(output, "{serial} expire ")?;
-            output.write_all(group.as_slice())?;
-            writeln!(output, " {number}")?;
+            output.write_all(expiry.group.as_slice())?;
+            writeln!(output, " {}", expiry.number)?;
         }
     }
     Ok(())

@@ -7,7 +7,6 @@ use command_line::{Asked, Export, Service, read_words};
 use commands::{ImportCounts, LineEnds, Offer, Streams, Verbosity};
 use names::GroupName;
 use printing::{DONE, Failure, REFUSED};
-use script::{Line, ParseError, parse};
 use simulation::simulate;
 use std::alloc::Global;
 use std::convert::AsStr;
@@ -151,7 +150,14 @@ fn carry_out<R: Files<File = File> + Wait, I: BufRead, W: Write>(
             commands::format(rt, alloc, path, &plan)?;
             Ok(())
         }
-        Asked::Change(path, line) => change(rt, alloc, path, line.as_slice(), output),
+        Asked::Group(path, group) => {
+            let serial = commands::group(rt, alloc, path, &group)?;
+            print_serial(serial, output)
+        }
+        Asked::Expire(path, name, number) => {
+            let serial = commands::expire(rt, alloc, path, &name, number)?;
+            print_serial(serial, output)
+        }
         Asked::Dump(path) => {
             commands::dump(rt, alloc, path, output)?;
             Ok(())
@@ -184,38 +190,12 @@ fn export<R: Files<File = File>, W: Write>(
     Ok(())
 }
 
-/// Makes the change of a line and prints its serial.
-fn change<R: Files<File = File> + Wait, W: Write>(
-    rt: &R,
-    alloc: Global,
-    path: &str,
-    line: &[u8],
-    output: &mut W,
-) -> Result<(), Failure> {
-    let serial = match parse(alloc, line) {
-        Ok(
-            Line::Group {
-                name,
-                status,
-                moment,
-                description,
-            },
-        ) => {
-            let name = group_name(&name)?;
-            let description = description.as_slice();
-            commands::group(rt, alloc, path, &name, status, description, moment)?
-        }
-        Ok(Line::Expire { name, number }) => {
-            let name = group_name(&name)?;
-            commands::expire(rt, alloc, path, &name, number)?
-        }
-        Ok(_) | Err(ParseError::Bad) => return Err(Failure::Bad),
-        Err(ParseError::Memory) => return Err(Failure::Memory),
-    };
+/// Prints the serial of a change.
+fn print_serial<W: Write>(serial: u64, output: &mut W) -> Result<(), Failure> {
     Ok(writeln!(output, "{serial}")?)
 }
 
-/// The group that a word names. A line that was read names a valid one.
+/// The group that a word names.
 fn group_name(name: &[u8]) -> Result<GroupName, Failure> {
     GroupName::read(name).map_err(|_| Failure::Bad)
 }

@@ -2,13 +2,10 @@
 //! is ready, so the order on the socket is that of the kernel. The lock is taken before the kernel's, and no thread
 //! holds two of these locks.
 
-ghost use Rattle.std.specs.Prelude.{◌<◌};
-ghost use Rattle.model.specs.Calendar.{moment_limit};
-
 use crate::Shared;
 use crate::outgoing::{Outgoing, Patience, Sent};
 use flusher::{Answered, ExecError, Gate, Kern};
-use model::Message;
+use model::{Message, Moment};
 use outbox::RELEASE_ENTRIES;
 use std::alloc::{AllocError, Global};
 use std::net::{Shutdown, TcpStream};
@@ -83,10 +80,8 @@ impl ReplyWriter {
         &self,
         shared: &Shared<'_, R, K, G>,
         message: &Message,
-        moment: u64,
-    ) -> Result<Answered, ExecError>
-        requires { moment < moment_limit }
-    {
+        moment: Moment,
+    ) -> Result<Answered, ExecError> {
         let mut guard = self.outgoing.lock(shared.rt);
         let outgoing = &mut *guard;
         if outgoing.is_full() {

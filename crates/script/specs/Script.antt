@@ -1,16 +1,17 @@
 -- What each line of a script means (this project's rule).
-use Rattle.std.specs.Prelude.{◌≡◌, ℕ, ◌<◌, Bool, ◌||◌, ◌&&◌, ◌==◌, ◌⊎◌, nat_le, if◌then◌else◌, [], ◌∷◌, ◌++◌, length, IsTrue, Option, Some}
-use Rattle.std.specs.Prelude.{None, option_map, option_and_then, bytes_eq, codes}
-use Rattle.std.specs.List.{list_all}
+use Rattle.std.specs.Prelude.{ℕ, ◌&&◌, nat_le, if◌then◌else◌, [], ◌∷◌, ◌++◌, length, Option, Some, None, option_map, option_and_then}
+use Rattle.std.specs.Prelude.{bytes_eq, codes}
 use Rattle.model.specs.Stream.{Octets}
 use Rattle.model.specs.Names.{is_group_name}
-use Rattle.model.specs.Lawful.{is_description_octet}
-use Rattle.model.specs.Calendar.{moment_limit}
+use Rattle.model.specs.declared.change.NewGroup.{NewGroup}
+use Rattle.model.specs.declared.values.Status.{Status}
+use Rattle.names.specs.Descriptions.{is_description}
+use Rattle.names.specs.Requests as requests
 use Rattle.disk.specs.declared.DiskCall.{DiskCall}
 use Rattle.disk.specs.declared.DiskCall.TheVariants.{Read, Write, Sync}
 use Rattle.memdisk.specs.declared.Pick.{Pick}
 use Rattle.memdisk.specs.declared.Pick.TheVariants.{Old, New, Fill}
-use Rattle.script.specs.Words.{expiry_number_of, hex_octet, hex_octets, moment_of, number_of, split_word}
+use Rattle.script.specs.Words.{expiry_number_of, hex_octet, hex_octets, moment_of, number_of, split_word, status_of}
 use Rattle.script.specs.declared.lines.Line.{Line}
 use Rattle.script.specs.declared.lines.Line.TheVariants.{Group, Expire, Join, Leave, Arrive, Exec, Take, Dev, Told, Release, Commit, Settle}
 use Rattle.script.specs.declared.lines.Line.TheVariants.{FailAt, FailKind, Crash, Spool}
@@ -18,14 +19,14 @@ use Rattle.script.specs.declared.lines.Line.TheVariants.{FailAt, FailKind, Crash
 -- what a line asks for, with its texts as lists: a group is made, articles are removed from one, octets arrive for a
 -- session, anything else
 pub data Said : Type 0 where
-  Made : (name : Octets) (status moment : ℕ) (description : Octets) → Said
+  Made : (group : NewGroup) → Said
   Expired : (name : Octets) (number : ℕ) → Said
   Came : (session : ℕ) (octets : Octets) → Said
   Asked : Line → Said
 
 abbrev pub said : Line → Said
-said (Group name status moment description) = Made name.items status moment description.items
-said (Expire name number) = Expired name.items number
+said (Group request) = Made (requests.group_of request)
+said (Expire name number) = Expired name number
 said (Arrive session octets) = Came session octets.items
 said Join = Asked Join
 said (Leave session) = Asked (Leave session)
@@ -40,31 +41,6 @@ said (FailAt call) = Asked (FailAt call)
 said (FailKind kind call) = Asked (FailKind kind call)
 said (Crash pick) = Asked (Crash pick)
 said Spool = Asked Spool
-
--- a text that may describe a group
-abbrev pub is_description : Octets → Bool
-is_description text = nat_le (length text) 200 && list_all is_description_octet text
-
--- the words of a line are in the ranges of the event that it asks for
-abbrev pub IsLawful : Line → Type 0
-IsLawful (Group name status moment description) =
-    IsTrue (is_group_name name.items) × ((status ≡ 121) ⊎ (status ≡ 110)) × IsTrue (is_description description.items)
-    × (moment < moment_limit)
-IsLawful (Expire name number) = IsTrue (is_group_name name.items)
-IsLawful (Exec session moment) = moment < moment_limit
-IsLawful (Arrive session octets) = Unit {0}
-IsLawful Join = Unit {0}
-IsLawful (Leave session) = Unit {0}
-IsLawful Take = Unit {0}
-IsLawful Dev = Unit {0}
-IsLawful Told = Unit {0}
-IsLawful Release = Unit {0}
-IsLawful Commit = Unit {0}
-IsLawful Settle = Unit {0}
-IsLawful (FailAt call) = Unit {0}
-IsLawful (FailKind kind call) = Unit {0}
-IsLawful (Crash pick) = Unit {0}
-IsLawful Spool = Unit {0}
 
 infixl 10 ◌>>=◌
 abbrev pub ◌>>=◌ : {A B : Type 0} → Option A → (A → Option B) → Option B
@@ -116,11 +92,15 @@ numbered_of keyword words =
     else (if bytes_eq keyword (codes "fail") then fail_of words
     else (if bytes_eq keyword (codes "crash") then option_map (λ pick. Asked (Crash pick)) (pick_of words) else None)))
 
--- `y` or `n`
-unfoldable pub status_of : Octets → Option ℕ
-status_of [] = None
-status_of (octet ∷ []) = if octet == 121 || octet == 110 then Some octet else None
-status_of (octet ∷ other ∷ more) = None
+abbrev pub new_group : Octets → Status → Octets → ℕ → NewGroup
+new_group name status description moment = record { name = name; status = status; description = description; moment = moment }
+
+-- the group that a name, a status, a moment and a description ask for
+unfoldable pub new_group_of : Octets → Octets → Octets → Octets → Option NewGroup
+new_group_of name status moment description = do
+  yes_or_no ← status_of status
+  seconds ← moment_of moment
+  if is_group_name name && is_description description then Some (new_group name yes_or_no description seconds) else None
 
 -- NAME STATUS MOMENT TEXT
 unfoldable pub group_of : Octets → Option Said
@@ -128,16 +108,20 @@ group_of words = do
   name ← split_word words
   status ← split_word name.1
   time ← split_word status.1
-  yes_or_no ← status_of status.0
-  moment ← moment_of time.0
-  if is_group_name name.0 && is_description time.1 then Some (Made name.0 yes_or_no moment time.1) else None
+  group ← new_group_of name.0 status.0 time.0 time.1
+  Some (Made group)
+
+-- the expiry that a name and a number ask for
+unfoldable pub expired_of : Octets → Octets → Option Said
+expired_of name number = do
+  up_to ← expiry_number_of number
+  if is_group_name name then Some (Expired name up_to) else None
 
 -- NAME N
 unfoldable pub expiry_of : Octets → Option Said
 expiry_of words = do
   parts ← split_word words
-  number ← expiry_number_of parts.1
-  if is_group_name parts.0 then Some (Expired parts.0 number) else None
+  expired_of parts.0 parts.1
 
 -- S TEXT, or S alone: the text and CRLF
 unfoldable pub arrival_of : Octets → Option Said

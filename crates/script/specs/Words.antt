@@ -1,5 +1,6 @@
 -- Words of a script's line (this project's rule).
-use Rattle.std.specs.Prelude.{ℕ, ◌+◌, ◌^◌, ◌==◌, nat_lt, if◌then◌else◌, take, drop, get_or, Option, Some, None, option_map, option_and_then}
+use Rattle.std.specs.Prelude.{ℕ, ◌+◌, ◌^◌, ◌==◌, nat_lt, if◌then◌else◌, [], ◌∷◌, take, drop, get_or, Option, Some, None, option_map}
+use Rattle.std.specs.Prelude.{option_and_then}
 use Rattle.std.specs.List.{position}
 use Rattle.std.specs.Result.{result_ok}
 use Rattle.std.specs.Char.{is_ascii_digit}
@@ -9,6 +10,8 @@ use Rattle.model.specs.Stream.{Octets}
 use Rattle.model.specs.Names as article
 use Rattle.model.specs.Names.{is_run_of}
 use Rattle.model.specs.Calendar.{moment_limit}
+use Rattle.model.specs.declared.values.Status.{Status}
+use Rattle.model.specs.declared.values.Status.TheVariants.{Open, Closed}
 
 -- the parts before and after the first SP
 abbrev pub split_word : Octets → Option (Octets × Octets)
@@ -25,6 +28,12 @@ number_of word = if is_run_of is_ascii_digit word then within_u64 word else None
 -- the moment that digits write, before the year 10000
 abbrev pub moment_of : Octets → Option ℕ
 moment_of word = option_and_then (λ n. if nat_lt n moment_limit then Some n else None) (number_of word)
+
+-- the status that `y` or `n` writes
+unfoldable pub status_of : Octets → Option Status
+status_of [] = None
+status_of (octet ∷ []) = if octet == 121 then Some Open else (if octet == 110 then Some Closed else None)
+status_of (octet ∷ other ∷ more) = None
 
 -- the number up to which an expiry removes articles, by 1 to 16 digits; it is 0 for 0 and for a number of 2^32 or more,
 -- which no article has

@@ -6,6 +6,6 @@ mod lines;
 mod printed;
 mod words;
 
-pub use lines::{DESCRIPTION_LIMIT, Line, ParseError, parse};
+pub use lines::{Line, ParseError, parse, read_expiry, read_group};
 pub use printed::escaped;
-pub use words::{MOMENT_LIMIT, number};
+pub use words::{moment, number, status};

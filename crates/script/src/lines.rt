@@ -1,55 +1,37 @@
 //! The lines of a script.
 
-ghost use Rattle.std.specs.Prelude.{◌≡◌, ◌⊎◌, ◌<◌, ◌≤◌, IsTrue, IfOk, IfErr, IfSome, Some, None, option_map};
-ghost use Rattle.model.specs.Names.{is_group_name};
-ghost use Rattle.model.specs.Calendar.{moment_limit};
+ghost use Rattle.std.specs.Prelude.{◌≡◌, IfOk, IfErr, Some, None, option_map};
+ghost use Rattle.names.specs.Requests as requests;
 ghost use Rattle.script.specs.Words.{hex_octets, hex_octet};
-ghost use Rattle.script.specs.Script.{IsLawful, Made, Expired, alone_of, arrival_of, expiry_of, fail_of, group_of, hex_of, is_description};
-ghost use Rattle.script.specs.Script.{kind_of, meaning, numbered_of, pick_of, said, status_of};
+ghost use Rattle.script.specs.Script.{Expired, alone_of, arrival_of, expired_of, expiry_of, fail_of, group_of, hex_of, kind_of, meaning};
+ghost use Rattle.script.specs.Script.{new_group_of, numbered_of, pick_of, said};
 ghost use Rattle.script.specs.declared.lines.ParseError.TheVariants.{Memory};
 
-use crate::words::{expiry_number, moment, number, split_word};
+use crate::words::{expiry_number, moment, number, split_word, status};
 use disk::DiskCall;
 use hex::FromHexError;
 use memdisk::Pick;
-use names::is_group_name;
+use model::Moment;
+use names::{Description, GroupName, GroupRequest, NameError};
 use std::alloc::{AllocError, AllocFailed, Global};
 use thiserror::Error;
 
-/// The octets of the longest description.
-pub const DESCRIPTION_LIMIT: usize = 200;
-
-/// What a line of a script asks for. Sessions are named by their numbers; a moment is in seconds since 1970.
-#[derive(Debug, Drop, PartialEq, Eq)]
+/// What a line of a script asks for. Sessions are named by their numbers.
+#[derive(Drop)]
 pub enum Line {
     /// The operator makes a group.
-    Group {
-        name: Vec<u8>,
-        /// `y` or `n`
-        status: u8,
-        moment: u64,
-        description: Vec<u8>,
-    },
+    Group(GroupRequest),
     /// The operator removes the articles of a group up to this number. 0 stands for each number that no article can
     /// have.
-    Expire {
-        name: Vec<u8>,
-        number: u32,
-    },
+    Expire { name: GroupName, number: u32 },
     /// A session begins.
     Join,
     /// A session leaves.
     Leave(u64),
     /// Octets arrive for a session.
-    Arrive {
-        session: u64,
-        octets: Vec<u8>,
-    },
+    Arrive { session: u64, octets: Vec<u8> },
     /// A session's next message is served.
-    Exec {
-        session: u64,
-        moment: u64,
-    },
+    Exec { session: u64, moment: Moment },
     /// The journal begins a batch.
     Take,
     /// The journal makes its next device call.
@@ -104,7 +86,6 @@ impl From<AllocError> for ParseError {
 #[tactic(auto, unfolding(crate::specs::Script::meaning))]
 pub fn parse(alloc: Global, line: &[u8]) -> Result<Line, ParseError>
     ensures ok { IfOk result (λ read. meaning line.now ≡ Some (said read)) }
-    ensures lawful { IfOk result IsLawful }
     ensures bad { IfErr result (λ error. error ≡ ParseError.Bad → meaning line.now ≡ None) }
 {
     let Some((keyword, words)) = split_word(line) else {
@@ -114,7 +95,7 @@ pub fn parse(alloc: Global, line: &[u8]) -> Result<Line, ParseError>
         return group(alloc, words);
     }
     if keyword == b"expire".as_slice() {
-        return expiry(alloc, words);
+        return expiry(words).ok_or(ParseError::Bad);
     }
     if keyword == b"line".as_slice() {
         return arrival(alloc, words);
@@ -128,8 +109,7 @@ pub fn parse(alloc: Global, line: &[u8]) -> Result<Line, ParseError>
 /// A line of one word.
 #[tactic(auto, unfolding(crate::specs::Script::alone_of))]
 fn alone(word: &[u8]) -> Option<Line>
-    ensures value { option_map said result ≡ alone_of word.now }
-    ensures lawful { IfSome result IsLawful }
+    ensures { option_map said result ≡ alone_of word.now }
 {
     if word == b"join".as_slice() {
         return Some(Line::Join);
@@ -161,8 +141,7 @@ fn alone(word: &[u8]) -> Option<Line>
 /// A line whose words are numbers or name a pick.
 #[tactic(auto, unfolding(crate::specs::Script::numbered_of))]
 fn numbered(keyword: &[u8], words: &[u8]) -> Option<Line>
-    ensures value { option_map said result ≡ numbered_of keyword.now words.now }
-    ensures lawful { IfSome result IsLawful }
+    ensures { option_map said result ≡ numbered_of keyword.now words.now }
 {
     if keyword == b"leave".as_slice() {
         let session = number(words)?;
@@ -187,8 +166,7 @@ fn numbered(keyword: &[u8], words: &[u8]) -> Option<Line>
 /// `fail N` or `fail KIND N`, after its first word.
 #[tactic(auto, unfolding(crate::specs::Script::fail_of))]
 fn failing(words: &[u8]) -> Option<Line>
-    ensures value { option_map said result ≡ fail_of words.now }
-    ensures lawful { IfSome result IsLawful }
+    ensures { option_map said result ≡ fail_of words.now }
 {
     let Some((kind, call)) = split_word(words) else {
         let call = number(words)?;
@@ -242,115 +220,86 @@ fn hex_octet(digits: &[u8]) -> Option<u8>
     }
 }
 
-// The words of a group's line.
-#[derive(Clone, Copy)]
-struct GroupWords<'a> {
-    name: &'a [u8],
-    status: u8,
-    moment: u64,
-    description: &'a [u8],
-}
-
-/// The words of a group's line, if each follows its grammar.
-#[tactic(auto, unfolding(crate::specs::Script::group_of))]
-fn group_words(words: &[u8]) -> Option<GroupWords<'_>>
-    ensures value { option_map (λ read. Made read.name.now read.status read.moment read.description.now) result ≡ group_of words.now }
-    ensures name { IfSome result (λ read. IsTrue (is_group_name read.name.now)) }
-    ensures status { IfSome result (λ read. (read.status ≡ 121) ⊎ (read.status ≡ 110)) }
-    ensures description { IfSome result (λ read. IsTrue (is_description read.description.now)) }
-    ensures moment { IfSome result (λ read. read.moment < moment_limit) }
+/// Reads the words of a group: its name, `y` or `n`, the moment at which it is made in seconds since 1970, and its
+/// description. `Bad` if one of them does not follow its grammar, `Memory` if an allocation was refused.
+#[tactic(auto, unfolding(crate::specs::Script::new_group_of))]
+pub fn read_group(
+    alloc: Global,
+    name: &[u8],
+    yes_or_no: &[u8],
+    time: &[u8],
+    description: &[u8],
+) -> Result<GroupRequest, ParseError>
+    ensures ok { IfOk result (λ request. new_group_of name.now yes_or_no.now time.now description.now ≡ Some (requests.group_of request)) }
+    ensures bad { IfErr result (λ error. error ≡ ParseError.Bad → new_group_of name.now yes_or_no.now time.now description.now ≡ None) }
 {
-    let (name, words) = split_word(words)?;
-    let (status, words) = split_word(words)?;
-    let (time, description) = split_word(words)?;
-    let status = status_octet(status)?;
-    let moment = moment(time)?;
-    if !is_group_name(name) || !is_description(description) {
-        return None;
-    }
-    Some(GroupWords {
-        name,
-        status,
-        moment,
-        description,
-    })
-}
-
-/// The status that `y` or `n` writes.
-#[tactic(auto, unfolding(crate::specs::Script::status_of))]
-fn status_octet(word: &[u8]) -> Option<u8>
-    ensures value { result ≡ status_of word.now }
-    ensures yes_or_no { IfSome result (λ status. (status ≡ 121) ⊎ (status ≡ 110)) }
-{
-    let [octet] = word else {
-        return None;
+    let Some(status) = status(yes_or_no) else {
+        return Err(ParseError::Bad);
     };
-    if *octet == b'y' || *octet == b'n' {
-        Some(*octet)
-    } else {
-        None
+    let Some(moment) = moment(time) else {
+        return Err(ParseError::Bad);
+    };
+    let Ok(name) = GroupName::read(name) else {
+        return Err(ParseError::Bad);
+    };
+    match Description::read(alloc, description) {
+        Ok(description) => Ok(GroupRequest {
+            name,
+            status,
+            description,
+            moment,
+        }),
+        Err(NameError::Bad) => Err(ParseError::Bad),
+        Err(NameError::Memory) => Err(ParseError::Memory),
     }
-}
-
-/// Whether a text may describe a group: 0 to 200 octets of 32 to 126.
-fn is_description(text: &[u8]) -> bool
-    ensures { result ≡ is_description text.now }
-{
-    text.len() <= DESCRIPTION_LIMIT && text.iter().all(|octet| 32 <= *octet && *octet <= 126)
 }
 
 /// `group NAME STATUS MOMENT TEXT`, after its first word.
+#[tactic(auto, unfolding(crate::specs::Script::group_of))]
 fn group(alloc: Global, words: &[u8]) -> Result<Line, ParseError>
     ensures ok { IfOk result (λ read. group_of words.now ≡ Some (said read)) }
-    ensures lawful { IfOk result IsLawful }
     ensures bad { IfErr result (λ error. error ≡ ParseError.Bad → group_of words.now ≡ None) }
 {
-    let Some(words) = group_words(words) else {
+    let Some((name, words)) = split_word(words) else {
         return Err(ParseError::Bad);
     };
-    let name = Vec::from_slice(alloc, words.name)?;
-    let description = Vec::from_slice(alloc, words.description)?;
-    Ok(Line::Group {
-        name,
-        status: words.status,
-        moment: words.moment,
-        description,
-    })
+    let Some((yes_or_no, words)) = split_word(words) else {
+        return Err(ParseError::Bad);
+    };
+    let Some((time, description)) = split_word(words) else {
+        return Err(ParseError::Bad);
+    };
+    let request = read_group(alloc, name, yes_or_no, time, description)?;
+    Ok(Line::Group(request))
 }
 
-/// The group and the number of an expiry's line, if each follows its grammar.
-#[tactic(auto, unfolding(crate::specs::Script::expiry_of))]
-fn expiry_words(words: &[u8]) -> Option<(&[u8], u32)>
-    ensures value { option_map (λ read. Expired read.0.now read.1) result ≡ expiry_of words.now }
-    ensures name { IfSome result (λ read. IsTrue (is_group_name read.0.now)) }
+/// Reads the words of an expiry: the name of a group, and the number up to which its articles are removed, as in
+/// `Line::Expire`. `None` if one of them does not follow its grammar.
+#[tactic(auto, unfolding(crate::specs::Script::expired_of))]
+pub fn read_expiry(name: &[u8], number: &[u8]) -> Option<(GroupName, u32)>
+    ensures { option_map (λ read. Expired read.0 read.1) result ≡ expired_of name.now number.now }
 {
-    let (name, number) = split_word(words)?;
     let number = expiry_number(number)?;
-    if is_group_name(name) {
-        Some((name, number))
-    } else {
-        None
+    match GroupName::read(name) {
+        Ok(name) => Some((name, number)),
+        Err(_) => None,
     }
 }
 
 /// `expire NAME N`, after its first word.
-fn expiry(alloc: Global, words: &[u8]) -> Result<Line, ParseError>
-    ensures ok { IfOk result (λ read. expiry_of words.now ≡ Some (said read)) }
-    ensures lawful { IfOk result IsLawful }
-    ensures bad { IfErr result (λ error. error ≡ ParseError.Bad → expiry_of words.now ≡ None) }
+#[tactic(auto, unfolding(crate::specs::Script::expiry_of))]
+fn expiry(words: &[u8]) -> Option<Line>
+    ensures { option_map said result ≡ expiry_of words.now }
 {
-    let Some((name, number)) = expiry_words(words) else {
-        return Err(ParseError::Bad);
-    };
-    let name = Vec::from_slice(alloc, name)?;
-    Ok(Line::Expire { name, number })
+    let (name, number) = split_word(words)?;
+    let (name, number) = read_expiry(name, number)?;
+    Some(Line::Expire { name, number })
 }
 
 /// `line S TEXT`, after its first word: the text and CRLF arrive, or only CRLF without a text.
 #[tactic(auto, unfolding(crate::specs::Script::arrival_of))]
 fn arrival(alloc: Global, words: &[u8]) -> Result<Line, ParseError>
     ensures ok { IfOk result (λ read. arrival_of words.now ≡ Some (said read)) }
-    ensures lawful { IfOk result IsLawful }
     ensures bad { IfErr result (λ error. error ≡ ParseError.Bad → arrival_of words.now ≡ None) }
 {
     let (session, text) = match split_word(words) {
@@ -369,7 +318,6 @@ fn arrival(alloc: Global, words: &[u8]) -> Result<Line, ParseError>
 #[tactic(auto, unfolding(crate::specs::Script::hex_of))]
 fn hex_arrival(alloc: Global, words: &[u8]) -> Result<Line, ParseError>
     ensures ok { IfOk result (λ read. hex_of words.now ≡ Some (said read)) }
-    ensures lawful { IfOk result IsLawful }
     ensures bad { IfErr result (λ error. error ≡ ParseError.Bad → hex_of words.now ≡ None) }
 {
     let Some((session, digits)) = split_word(words) else {

@@ -1,16 +1,13 @@
 //! The words of a line: how they are separated, and the numbers that they write.
 
-ghost use Rattle.std.specs.Prelude.{◌≡◌, ◌<◌, IfSome, option_map, true};
+ghost use Rattle.std.specs.Prelude.{◌≡◌, option_map, true};
 ghost use Rattle.std.specs.Char.{is_ascii_digit};
 ghost use Rattle.std.specs.List.{list_all};
-ghost use Rattle.model.specs.Calendar.{moment_limit};
 ghost use Rattle.model.specs.Names.{is_run_of};
-ghost use Rattle.script.specs.Words.{expiry_number_of, moment_of, number_of, split_word, within_u64};
+ghost use Rattle.script.specs.Words.{expiry_number_of, moment_of, number_of, split_word, status_of, within_u64};
 
+use model::{Moment, Status};
 use names::number_of;
-
-/// The first moment of the year 10000, in seconds since 1970. Each moment must be before it.
-pub const MOMENT_LIMIT: u64 = 253_402_300_800;
 
 /// The parts before and after the first space.
 pub(crate) fn split_word(text: &[u8]) -> Option<(&[u8], &[u8])>
@@ -52,16 +49,31 @@ fn value_of(digits: &[u8]) -> Option<u64>
 }
 
 /// The moment that digits write: seconds since 1970, before the year 10000.
-pub(crate) fn moment(word: &[u8]) -> Option<u64>
-    ensures value { result ≡ moment_of word.now }
-    ensures in_time { IfSome result (λ moment. moment < moment_limit) }
+pub fn moment(word: &[u8]) -> Option<Moment>
+    ensures { result ≡ moment_of word.now }
 {
-    let value = number(word)?;
-    if value < MOMENT_LIMIT {
-        Some(value)
-    } else {
-        None
+    let seconds = number(word)?;
+    let moment = Moment::at(seconds)?;
+    // its clauses state that the moment is before its limit
+    let _seconds = moment.seconds();
+    Some(moment)
+}
+
+/// The status that `y` or `n` writes.
+#[tactic(auto, unfolding(crate::specs::Words::status_of))]
+pub fn status(word: &[u8]) -> Option<Status>
+    ensures { result ≡ status_of word.now }
+{
+    let [octet] = word else {
+        return None;
+    };
+    if *octet == b'y' {
+        return Some(Status::Open);
     }
+    if *octet == b'n' {
+        return Some(Status::Closed);
+    }
+    None
 }
 
 /// The number up to which an expiry removes articles, by 1 to 16 digits. It is 0 for 0 and for each number above

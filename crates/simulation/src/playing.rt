@@ -1,16 +1,11 @@
 //! A script of events, played over a device in memory.
 
-ghost use Rattle.std.specs.Prelude.{IfSome};
-ghost use Rattle.script.specs.Script.{IsLawful};
-ghost use Rattle.world.specs.Events.{MayHappen};
-
 use crate::devices::Device;
 use crate::new_device::formatted;
 use crate::sim::{Closed, Sim};
 use crate::stage::Stage;
 use journal::Progress;
 use memdisk::{MemDisk, Pick};
-use names::GroupName;
 use new_volume::VolumePlan;
 use printing::{Failure, print_refusal, print_released, print_spool};
 use script::{Line, ParseError, parse};
@@ -106,9 +101,7 @@ fn play<D: Device, W: Write>(
     stage: &mut Stage<D>,
     line: Line,
     output: &mut W,
-) -> Result<(), Failure>
-    requires { IsLawful line }
-{
+) -> Result<(), Failure> {
     match line {
         Line::Crash(pick) => reopen(alloc, stage, pick, output),
         Line::FailAt(call) => {
@@ -145,9 +138,7 @@ fn act<D: Device, W: Write>(
     sim: &mut Sim<D>,
     line: Line,
     output: &mut W,
-) -> Result<(), Failure>
-    requires { IsLawful line }
-{
+) -> Result<(), Failure> {
     match line {
         Line::Join => join(alloc, sim, output),
         Line::Release => release(alloc, sim, output),
@@ -163,26 +154,10 @@ fn act<D: Device, W: Write>(
 }
 
 /// The event of a line that prints nothing but its refusal.
-fn event_of(line: Line) -> Option<Event>
-    requires { IsLawful line }
-    ensures { IfSome result MayHappen }
-{
+fn event_of(line: Line) -> Option<Event> {
     match line {
-        Line::Group {
-            name,
-            status,
-            moment,
-            description,
-        } => Some(Event::Admin {
-            name: GroupName::read(name.as_slice()).ok()?,
-            status,
-            description,
-            moment,
-        }),
-        Line::Expire { name, number } => Some(Event::Expire {
-            name: GroupName::read(name.as_slice()).ok()?,
-            number,
-        }),
+        Line::Group(request) => Some(Event::Admin(request)),
+        Line::Expire { name, number } => Some(Event::Expire { name, number }),
         Line::Leave(session) => Some(Event::Leave(session)),
         Line::Arrive { session, octets } => Some(Event::Arrive(session, octets)),
         Line::Exec { session, moment } => Some(Event::Exec(session, moment)),
@@ -199,9 +174,7 @@ fn step<D: Device, W: Write>(
     sim: &mut Sim<D>,
     event: Event,
     output: &mut W,
-) -> Result<(), Failure>
-    requires { MayHappen event }
-{
+) -> Result<(), Failure> {
     match sim.step(alloc, &event) {
         Ok(_) => Ok(()),
         Err(error) => Ok(print_refusal(&error, output)?),

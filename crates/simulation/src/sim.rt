@@ -1,7 +1,5 @@
 //! The simulated system, sealed: a proof learns nothing about it except what `World` promises.
 
-ghost use Rattle.world.specs.Events.{MayHappen};
-
 use crate::devices::Device;
 use disk::DiskCall;
 use memdisk::Pick;
@@ -65,9 +63,7 @@ impl<D: Device> Closed<D> {
 
 impl<D: Device> Sim<D> {
     /// Makes one event happen.
-    pub(crate) fn step(&mut self, alloc: Global, event: &Event) -> Result<Answer, StepError>
-        requires { MayHappen event.now }
-    {
+    pub(crate) fn step(&mut self, alloc: Global, event: &Event) -> Result<Answer, StepError> {
         self.world.step(alloc, event)
     }
 

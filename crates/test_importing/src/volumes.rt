@@ -4,7 +4,8 @@ use flusher::{BatchBuf, Kern, Locked, NoGate, flush_turn};
 use importing::Store;
 use mark::Mark;
 use memdisk::MemDisk;
-use names::{GroupName, is_host};
+use model::{Moment, Status};
+use names::{Description, GroupName, GroupRequest, is_host};
 use new_volume::{FORMAT_1, FORMAT_2, VolumePlan, are_sizes, device_octets};
 use opening::Opened;
 use rnews::entry;
@@ -53,6 +54,16 @@ pub(crate) fn device<R: Wait>(rt: &R, alloc: Global, blocks: u64, inodes: u64) -
     }
 }
 
+/// A group with this name and status.
+fn request(alloc: Global, name: &[u8], status: Status) -> Option<GroupRequest> {
+    Some(GroupRequest {
+        name: GroupName::read(name).ok()?,
+        status,
+        description: Description::read(alloc, b"test").ok()?,
+        moment: Moment::at(MOMENT)?,
+    })
+}
+
 /// Makes the groups in a volume.
 fn with_groups<R: Wait>(rt: &R, alloc: Global, disk: MemDisk) -> Option<MemDisk> {
     let Ok(
@@ -65,9 +76,10 @@ fn with_groups<R: Wait>(rt: &R, alloc: Global, disk: MemDisk) -> Option<MemDisk>
         return None;
     };
     let kern = Locked::new(kernel);
-    let (open, closed) = (GroupName::read(OPEN).ok()?, GroupName::read(CLOSED).ok()?);
-    kern.admin(rt, alloc, &open, b'y', b"test", MOMENT).ok()?;
-    kern.admin(rt, alloc, &closed, b'n', b"test", MOMENT).ok()?;
+    let open = request(alloc, OPEN, Status::Open)?;
+    kern.admin(rt, alloc, &open).ok()?;
+    let closed = request(alloc, CLOSED, Status::Closed)?;
+    kern.admin(rt, alloc, &closed).ok()?;
     let mut batch = BatchBuf::new(alloc).ok()?;
     let Ok((mark, mut seat, _)) = Mark::new(alloc) else {
         return None;

@@ -1,16 +1,19 @@
 //! A watcher that writes down what it is told.
 
-ghost use Rattle.std.specs.Prelude.{◌<◌};
-ghost use Rattle.model.specs.Calendar.{moment_limit};
-
 use disk::Disk;
 use importing::{ImportCounts, ImportError, Place, Report, Store, Watcher, import};
+use model::Moment;
 use std::alloc::Global;
 use std::io::{self, ErrorKind, Read};
 use std::test::Fail;
 
-/// The moment of all texts, in seconds since 1970.
-const MOMENT: u64 = 1_000_000_000;
+/// The moment of all texts.
+fn moment() -> Moment {
+    match Moment::at(1_000_000_000) {
+        Some(moment) => moment,
+        None => unreachable!(),
+    }
+}
 
 /// What an import reported.
 #[derive(Drop)]
@@ -57,8 +60,8 @@ impl Log {
 }
 
 impl Watcher for Log {
-    fn moment(&mut self) -> u64 {
-        MOMENT
+    fn moment(&mut self) -> Moment {
+        moment()
     }
 
     fn refused(&mut self, place: Place, cause: &'static str) -> io::Result<()> {

@@ -3,11 +3,9 @@
 use logging::{
     EndedSession, Ending, LogEntry, LogEvent, SessionCounts, SessionRefusal, UsedPart, line,
 };
+use model::{MOMENT_LIMIT, Moment};
 use std::alloc::Global;
 use std::net::SocketAddr;
-
-/// The first moment that a line cannot have.
-const MOMENT_LIMIT: u64 = 253_402_300_800;
 
 /// An event of a caller at some address, or another event.
 #[derive(Clone, Copy)]
@@ -20,6 +18,7 @@ pub(crate) enum What {
 /// An event, when it is noted, and its line.
 #[derive(Clone, Copy)]
 pub(crate) struct Row {
+    /// In seconds since 1970.
     pub(crate) moment: u64,
     pub(crate) peer: &'static str,
     pub(crate) what: What,
@@ -171,10 +170,8 @@ pub(crate) fn has_its_line(alloc: Global, row: &Row) -> bool {
     }
 }
 
-/// The line of an event, if it is noted at a moment that a line can have.
-fn line_of(alloc: Global, moment: u64, event: LogEvent) -> Option<Vec<u8>> {
-    if moment >= MOMENT_LIMIT {
-        return None;
-    }
+/// The line of an event that is noted so many seconds after the beginning of 1970, if that is a moment.
+fn line_of(alloc: Global, seconds: u64, event: LogEvent) -> Option<Vec<u8>> {
+    let moment = Moment::at(seconds)?;
     line(alloc, &LogEntry { moment, event }).ok()
 }

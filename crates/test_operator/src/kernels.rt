@@ -4,8 +4,8 @@ use flusher::{
     AdminError, Answered, BatchBuf, ExecError, ExpireError, JoinError, Kern, KernelCounts, Stale,
     Ticket,
 };
-use model::{Message, Mode};
-use names::GroupName;
+use model::{Message, Mode, Moment};
+use names::{GroupName, GroupRequest};
 use outbox::ReadyBuf;
 use std::alloc::Global;
 use std::sync::Wait;
@@ -46,7 +46,7 @@ impl Kern for Counting {
         _alloc: Global,
         _sid: u64,
         _message: &Message,
-        _moment: u64,
+        _moment: Moment,
         _into: &mut ReadyBuf,
     ) -> Result<Answered, ExecError> {
         Err(ExecError::NoSession)
@@ -60,10 +60,7 @@ impl Kern for Counting {
         &self,
         _rt: &R,
         _alloc: Global,
-        _name: &GroupName,
-        _status: u8,
-        _description: &[u8],
-        _moment: u64,
+        _group: &GroupRequest,
     ) -> Result<u64, AdminError> {
         if self.is_halted.load(Ordering::SeqCst) {
             return Err(AdminError::Halted);

@@ -5,8 +5,8 @@ use flusher::{
     AdminError, Answered, BatchBuf, ExecError, ExpireError, JoinError, Kern, KernelCounts, Locked,
     Stale, Ticket,
 };
-use model::{Message, Mode};
-use names::GroupName;
+use model::{Message, Mode, Moment};
+use names::{GroupName, GroupRequest};
 use outbox::ReadyBuf;
 use std::alloc::Global;
 use std::sync::Wait;
@@ -33,7 +33,7 @@ impl<'a> Kern for Side<'a> {
         alloc: Global,
         sid: u64,
         message: &Message,
-        moment: u64,
+        moment: Moment,
         into: &mut ReadyBuf,
     ) -> Result<Answered, ExecError> {
         let answered = self.inner.answer(rt, alloc, sid, message, moment, into);
@@ -52,13 +52,9 @@ impl<'a> Kern for Side<'a> {
         &self,
         rt: &R,
         alloc: Global,
-        name: &GroupName,
-        status: u8,
-        description: &[u8],
-        moment: u64,
+        group: &GroupRequest,
     ) -> Result<u64, AdminError> {
-        self.inner
-            .admin(rt, alloc, name, status, description, moment)
+        self.inner.admin(rt, alloc, group)
     }
 
     fn expire<R: Wait>(&self, rt: &R, name: &GroupName, number: u32) -> Result<u64, ExpireError> {

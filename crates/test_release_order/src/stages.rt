@@ -4,8 +4,8 @@ use crate::callers::Caller;
 use flusher::{BatchBuf, Bells, Gate, Kern, Kernel, Locked, Ticket};
 use journal::Journal;
 use memdisk::MemDisk;
-use model::{Message, Text};
-use names::{GroupName, is_host};
+use model::{Message, Moment, Status, Text};
+use names::{Description, GroupName, GroupRequest, is_host};
 use new_volume::{FORMAT_2, VolumePlan, are_sizes, device_octets, format};
 use releasing::{Closing, Limits, ReplyWriter, Shared, give_short_writes};
 use std::alloc::{AllocError, Global};
@@ -13,10 +13,13 @@ use std::net::{Net, TcpListener, TcpStream};
 use std::slice::from_ref;
 use std::sync::{Arc, Wait};
 
-/// The host of the volumes, and the moment of all messages.
+/// The host of the volumes.
 const HOST: &[u8] = b"news.example";
 
-pub(crate) const MOMENT: u64 = 1_000_000_000;
+/// The moment of all messages.
+pub(crate) fn moment() -> Option<Moment> {
+    Moment::at(1_000_000_000)
+}
 
 /// One session, whose caller has connected, and its writer.
 #[derive(Drop)]
@@ -106,8 +109,13 @@ fn new_kernel(alloc: Global, blocks: u64, inodes: u64) -> Option<Kernel> {
 
 /// Makes a group that takes posts, whose change is durable.
 fn add_group<R: Wait>(rt: &R, alloc: Global, kern: &Locked) -> Option<()> {
-    let name = GroupName::read(b"x.a").ok()?;
-    kern.admin(rt, alloc, &name, b'y', b"test", MOMENT).ok()?;
+    let group = GroupRequest {
+        name: GroupName::read(b"x.a").ok()?,
+        status: Status::Open,
+        description: Description::read(alloc, b"test").ok()?,
+        moment: moment()?,
+    };
+    kern.admin(rt, alloc, &group).ok()?;
     let mut batch = BatchBuf::new(alloc).ok()?;
     let ticket = kern.take_batch(rt, &mut batch)?;
     kern.committed(rt, ticket).ok()
@@ -150,7 +158,8 @@ impl<'a, R: Wait, K: Kern, G: Gate> Session<'a, R, K, G> {
     }
 
     fn has_answered(&self, message: &Message) -> Option<()> {
-        self.writer().answer(self.shared, message, MOMENT).ok()?;
+        let answered = self.writer().answer(self.shared, message, moment()?);
+        answered.ok()?;
         Some(())
     }
 

@@ -2,7 +2,7 @@
 
 use crate::callers::{Caller, fill};
 use crate::plays::GREETING;
-use crate::stages::{MOMENT, Session, Stage, make_kernel};
+use crate::stages::{Session, Stage, make_kernel, moment};
 use crate::stops::{Point, Stop, pause, wait_for};
 use flusher::{Gate, Kern, NoGate};
 use model::{Message, Text};
@@ -138,7 +138,7 @@ fn reply_octets<R: Wait, K: Kern, G: Gate>(session: &Session<'_, R, K, G>) -> Op
     let message = Message::Line(Text::new(ASKED.to_vec(*alloc).ok()?));
     let mut ready = ReadyBuf::new(*alloc).ok()?;
     let sid = session.stage.sid;
-    kern.answer(*rt, *alloc, sid, &message, MOMENT, &mut ready)
+    kern.answer(*rt, *alloc, sid, &message, moment()?, &mut ready)
         .ok()?;
     Some(ready.octets().len() as u64)
 }

@@ -1,10 +1,11 @@
 //! How the lines of a script are read, and octets printed.
 
+use model::Status;
 use script::{Line, ParseError, escaped, number, parse};
 use std::alloc::Global;
 use std::test::Fail;
 
-/// Lines without text, each with its debug form.
+/// Lines without text, each with what it asks for.
 fn without_text() -> &'static [(&'static str, &'static str)] {
     &[
         ("join", "Join"),
@@ -16,10 +17,7 @@ fn without_text() -> &'static [(&'static str, &'static str)] {
         ("settle", "Settle"),
         ("spool", "Spool"),
         ("leave 7", "Leave(7)"),
-        (
-            "exec 2 253402300799",
-            "Exec { session: 2, moment: 253402300799 }",
-        ),
+        ("exec 2 253402300799", "Exec(2, 253402300799)"),
         ("fail 18446744073709551615", "FailAt(18446744073709551615)"),
         ("fail 007", "FailAt(7)"),
         ("fail read 2", "FailKind(Read, 2)"),
@@ -71,32 +69,33 @@ fn lines_with_octets(rt: HostRuntime) {
 }
 
 /// Lines that make the group x.a, with its status, moment and description.
-fn groups() -> &'static [(&'static str, u8, u64, &'static [u8])] {
+fn groups() -> &'static [(&'static str, Status, u64, &'static [u8])] {
     &[
         (
             "group x.a n 1000000000 a b  c",
-            b'n',
+            Status::Closed,
             1_000_000_000,
             b"a b  c",
         ),
-        ("group x.a y 0 ", b'y', 0, b""),
-        ("group x.a y 253402300799 ~", b'y', 253_402_300_799, b"~"),
+        ("group x.a y 0 ", Status::Open, 0, b""),
+        (
+            "group x.a y 253402300799 ~",
+            Status::Open,
+            253_402_300_799,
+            b"~",
+        ),
     ]
 }
 
 /// Whether the group x.a is made so.
-fn is_group(alloc: Global, line: &str, wanted: (u8, u64, &[u8])) -> bool {
+fn is_group(alloc: Global, line: &str, wanted: (Status, u64, &[u8])) -> bool {
     match parse(alloc, line.as_bytes()) {
-        Ok(
-            Line::Group {
-                name,
-                status,
-                moment,
-                description,
-            },
-        ) => {
-            name.as_slice() == b"x.a".as_slice()
-                && (status, moment, description.as_slice()) == wanted
+        Ok(Line::Group(request)) => {
+            let (status, seconds, description) = wanted;
+            request.name.as_slice() == b"x.a".as_slice()
+                && request.status == status
+                && request.moment.seconds() == seconds
+                && request.description.as_slice() == description
         }
         _ => false,
     }
@@ -205,11 +204,34 @@ fn bad() -> &'static [&'static [u8]] {
     ]
 }
 
-/// A line as it is read, in its debug form, or why it is not.
+/// What a line without text asks for, or why it is not read.
 fn shown(alloc: Global, line: &[u8]) -> Result<String, Fail> {
     match parse(alloc, line) {
-        Ok(read) => Ok(format!(in alloc; "{read:?}")?),
+        Ok(Line::Leave(session)) => Ok(format!(in alloc; "Leave({session})")?),
+        Ok(Line::Exec { session, moment }) => {
+            let seconds = moment.seconds();
+            Ok(format!(in alloc; "Exec({session}, {seconds})")?)
+        }
+        Ok(Line::FailAt(call)) => Ok(format!(in alloc; "FailAt({call})")?),
+        Ok(Line::FailKind(kind, call)) => Ok(format!(in alloc; "FailKind({kind:?}, {call})")?),
+        Ok(Line::Crash(pick)) => Ok(format!(in alloc; "Crash({pick:?})")?),
+        Ok(line) => Ok(String::from_str(alloc, word_of(&line))?),
         Err(error) => Ok(format!(in alloc; "{error}")?),
+    }
+}
+
+/// What a line of one word asks for.
+fn word_of(line: &Line) -> &'static str {
+    match line {
+        Line::Join => "Join",
+        Line::Take => "Take",
+        Line::Dev => "Dev",
+        Line::Told => "Told",
+        Line::Release => "Release",
+        Line::Commit => "Commit",
+        Line::Settle => "Settle",
+        Line::Spool => "Spool",
+        _ => "a line of more words",
     }
 }
 
@@ -238,11 +260,11 @@ fn group_line(alloc: Global, name: usize, description: usize) -> Result<Vec<u8>,
 fn ranges_of_a_group(rt: HostRuntime) -> Result<(), Fail> {
     for (name, description, good) in [(40, 200, true), (41, 0, false), (1, 201, false)] {
         let line = group_line(rt.alloc(), name, description)?;
-        let read = parse(rt.alloc(), &line);
-        assert!(rt;
-            read.is_ok() == good && (good || read == Err(ParseError::Bad)),
-            "{name} and {description}"
-        );
+        let is_so = match parse(rt.alloc(), &line) {
+            Ok(_) => good,
+            Err(error) => !good && error == ParseError::Bad,
+        };
+        assert!(rt; is_so, "{name} and {description}");
     }
     Ok(())
 }

@@ -4,8 +4,8 @@ use flusher::{
     AdminError, Answered, BatchBuf, ExecError, ExpireError, JoinError, Kern, Kernel, KernelCounts,
     Locked, Stale, Ticket,
 };
-use model::{Message, Mode};
-use names::GroupName;
+use model::{Message, Mode, Moment};
+use names::{GroupName, GroupRequest};
 use outbox::ReadyBuf;
 use std::alloc::Global;
 use std::sync::Wait;
@@ -54,7 +54,7 @@ impl<H: Hooks> Kern for Hooked<H> {
         alloc: Global,
         sid: u64,
         message: &Message,
-        moment: u64,
+        moment: Moment,
         into: &mut ReadyBuf,
     ) -> Result<Answered, ExecError> {
         match self.hooks.refusal_of(message) {
@@ -71,13 +71,9 @@ impl<H: Hooks> Kern for Hooked<H> {
         &self,
         rt: &R,
         alloc: Global,
-        name: &GroupName,
-        status: u8,
-        description: &[u8],
-        moment: u64,
+        group: &GroupRequest,
     ) -> Result<u64, AdminError> {
-        self.inner
-            .admin(rt, alloc, name, status, description, moment)
+        self.inner.admin(rt, alloc, group)
     }
 
     fn expire<R: Wait>(&self, rt: &R, name: &GroupName, number: u32) -> Result<u64, ExpireError> {

@@ -7,7 +7,8 @@ use disk::Disk;
 use flusher::{Kern, Kernel};
 use journal::Journal;
 use memdisk::MemDisk;
-use names::{GroupName, is_host};
+use model::{Moment, Status};
+use names::{Description, GroupName, GroupRequest, is_host};
 use new_volume::{FORMAT_2, VolumePlan, are_sizes, device_octets, format};
 use std::alloc::Global;
 use std::sync::Wait;
@@ -62,7 +63,12 @@ pub fn open<D: Disk + Drop>(alloc: Global, disk: D) -> Option<(Journal<D>, Kerne
 
 /// Makes a group that takes posts.
 pub fn add_group<K: Kern, R: Wait>(rt: &R, alloc: Global, kern: &K, name: &[u8]) -> Option<()> {
-    let name = GroupName::read(name).ok()?;
-    kern.admin(rt, alloc, &name, b'y', b"test", MOMENT).ok()?;
+    let group = GroupRequest {
+        name: GroupName::read(name).ok()?,
+        status: Status::Open,
+        description: Description::read(alloc, b"test").ok()?,
+        moment: Moment::at(MOMENT)?,
+    };
+    kern.admin(rt, alloc, &group).ok()?;
     Some(())
 }

@@ -12,7 +12,7 @@ returns-in-Some-clause-ok c =
       (
         article_of S c.in-Some.field-0,
         is_here_by S c.args.article.now c.id_of-id.result.now
-            (article_of S c.in-Some.field-0) c.requires.carried c.id_of-id.ensures c.in-Some.ensures.is,
+            (article_of S c.in-Some.field-0) c.requires c.id_of-id.ensures c.in-Some.ensures.is,
       ),
       refl,
     )

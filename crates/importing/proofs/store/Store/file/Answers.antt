@@ -5,6 +5,6 @@ use Rattle.importing.proofs.store.Store.file.Goals as goal
 
 pub invariant_of-self : goal.invariant_of-self
 invariant_of-self g c =
-    let room = subst (λ (s : StoreView g.row.D.Denot). length s.spool.dirty ≤ 256) (sym c.self.view_is) c.requires.room in
+    let room = subst (λ (s : StoreView g.row.D.Denot). length s.spool.dirty ≤ 256) (sym c.self.view_is) c.requires in
     files g.D.Disk.device c.self.inside.journal c.self.inside.spool c.file_text.new.spool c.self.inside.durable c.self.invariant room
     _ _ c.file_text.result c.file_text.ensures.ok c.file_text.ensures.err
