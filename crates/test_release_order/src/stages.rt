@@ -158,8 +158,8 @@ impl<'a, R: Wait, K: Kern, G: Gate> Session<'a, R, K, G> {
     }
 
     fn has_answered(&self, message: &Message) -> Option<()> {
-        let answered = self.writer().answer(self.shared, message, moment()?);
-        answered.ok()?;
+        let moment = moment()?;
+        self.writer().answer(self.shared, message, moment).ok()?;
         Some(())
     }
 

@@ -138,7 +138,8 @@ fn reply_octets<R: Wait, K: Kern, G: Gate>(session: &Session<'_, R, K, G>) -> Op
     let message = Message::Line(Text::new(ASKED.to_vec(*alloc).ok()?));
     let mut ready = ReadyBuf::new(*alloc).ok()?;
     let sid = session.stage.sid;
-    kern.answer(*rt, *alloc, sid, &message, moment()?, &mut ready)
+    let moment = moment()?;
+    kern.answer(*rt, *alloc, sid, &message, moment, &mut ready)
         .ok()?;
     Some(ready.octets().len() as u64)
 }
