@@ -25,6 +25,9 @@ const DAY: u64 = 86_400;
 /// The digits of a moment in the answer to DATE.
 pub const DATE_DIGITS: usize = 14;
 
+/// The octets of a moment in a Date field.
+pub const HEADER_OCTETS: usize = 31;
+
 /// Why a date and a time of day are refused.
 #[derive(Clone, Copy, Debug, PartialEq, Eq, Error)]
 pub enum SinceError {
@@ -179,16 +182,25 @@ fn push_date(text: &mut Vec<u8>, date: Parts) -> Result<(), AllocError>
 pub fn date_header(alloc: Global, moment: Moment) -> Result<Vec<u8>, AllocError>
     ensures { IfOk result (λ text. text.items ≡ calendar.date_header moment) }
 {
+    let mut text = Vec::with_capacity(alloc, HEADER_OCTETS)?;
+    push_date_header(&mut text, moment)?;
+    Ok(text)
+}
+
+/// Appends the octets of `date_header`. Refused only for want of memory; then the text may hold any octets, and the
+/// caller discards it.
+pub fn push_date_header(text: &mut Vec<u8>, moment: Moment) -> Result<(), AllocError>
+    ensures { OnOk result (text.new.items ≡ text.old.items ++ calendar.date_header moment) }
+{
     let seconds = moment.seconds();
     let date = parts_at(seconds);
-    let mut text = Vec::new(alloc);
     text.extend_from_slice(weekday_name(seconds))?;
     text.extend_from_slice(b", ")?;
-    push_date(&mut text, date)?;
+    push_date(text, date)?;
     text.extend_from_slice(b" ")?;
-    push_clock(&mut text, seconds)?;
+    push_clock(text, seconds)?;
     text.extend_from_slice(b" +0000")?;
-    Ok(text)
+    Ok(())
 }
 
 /// Whether a text consists of this many digits.
