@@ -3,6 +3,8 @@ pub mod SplitLaws
 pub mod ContentLaws
 pub mod Borrowed
 pub mod CauseLaws
+pub mod FaultLaws
 pub mod ReadLaws
+pub mod StoredLaws
 pub mod NameLaws
 pub mod InjectedLaws

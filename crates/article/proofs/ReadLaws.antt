@@ -1,5 +1,5 @@
 -- The cause of a text, by its lines and then by its fields.
-use Rattle.std.specs.Prelude.{◌≡◌, ℕ, ◌+◌, Bool, true, false, not, ◌&&◌, nat_le, cond, List, [], ◌∷◌, ◌++◌, length, codes, Option, Some}
+use Rattle.std.specs.Prelude.{◌≡◌, ℕ, ◌+◌, Bool, true, false, not, ◌&&◌, nat_le, cond, [], ◌∷◌, ◌++◌, length, codes, Option, Some}
 use Rattle.std.specs.Prelude.{None, IsTrue}
 use Rattle.std.specs.Option.{option_or}
 use Rattle.std.proofs.Common.{sym, ◌∙◌, ap, refl}
@@ -11,8 +11,10 @@ use Rattle.model.specs.Article.{has_lines_alone, has_fields_alone, header_lines}
 use Rattle.model.proofs.Stored.{header_stored}
 use Rattle.header_fields.specs.Header.{IsHeader}
 use Rattle.article.specs.Origins.{HasSmallSerial, names_host}
-use Rattle.article.specs.Causes.{content_in, field_cause, front_for, has_good_groups, has_good_id, has_twice, is_short, lacks_field}
+use Rattle.article.specs.Causes.{field_cause, front_for, has_good_groups, has_good_id, has_twice, is_short, lacks_field}
 use Rattle.article.specs.Causes.{shape_cause}
+use Rattle.article.specs.Parts.{ArePartsOf}
+use Rattle.article.specs.declared.parts.Parts.{Parts}
 
 -- the text as it would be stored, by what is put before it
 stored_header : (origin : Origin) (text : Octets) → IsTrue (names_host origin) → HasSmallSerial origin
@@ -71,25 +73,31 @@ cause-lines origin text x is =
     (is_short_text (as_stored origin text)) x is
 
 -- then those of the fields follow
-pub cause-fields : (origin : Origin) (text : Octets) (all : List Octets) (newsgroups : Octets) (n added : ℕ) (short : Bool)
+pub cause-fields : (origin : Origin) (text : Octets) (n added : ℕ) (short : Bool)
     → IsTrue (names_host origin) → HasSmallSerial origin → shape_cause text ≡ None
-    → all ≡ fields text → newsgroups ≡ content_in (codes "Newsgroups") all → IsHeader text n → added ≡ length (front_for origin all)
-    → short ≡ is_short n (length text) added
-    → field_cause origin all newsgroups short ≡ cause origin text
+    → IsHeader text n → added ≡ length (front_for origin (fields text)) → short ≡ is_short n (length text) added
+    → field_cause origin (fields text) (has_good_groups (content (codes "Newsgroups") text)) short ≡ cause origin text
 unfolding cause cause_but_long
-cause-fields origin text all newsgroups n added short good small none same said at size is =
+cause-fields origin text n added short good small none at size is =
     let length_header : length (header text) ≡ n = ap length at.header ∙ length-take-le n text at.within in
     let brief : short ≡ is_short_text (as_stored origin text) =
-    is ∙ ap (is_short n (length text)) (size ∙ ap (λ fs. length (front_for origin fs)) same)
+    is ∙ ap (is_short n (length text)) size
     ∙ ap (λ k. is_short k (length text) (length (front_for origin (fields text)))) (sym length_header)
     ∙ sym (short_same origin text good small) in
-    ap (λ s. field_cause origin all newsgroups s) brief
-    ∙ ap (λ g. field_cause origin all g (is_short_text (as_stored origin text))) (said ∙ ap (content_in (codes "Newsgroups")) same)
-    ∙ ap (λ fs. field_cause origin fs (content (codes "Newsgroups") text) (is_short_text (as_stored origin text))) same
+    ap (λ s. field_cause origin (fields text) (has_good_groups (content (codes "Newsgroups") text)) s) brief
     ∙ sym (fields_then (not (has_lines_alone text)) (not (has_empty_line text)) (not (has_fields_alone (header_lines text)))
     (has_twice (fields text)) (lacks_field origin (fields text))
     (not (has_good_id origin (fields text))) (not (has_good_groups (content (codes "Newsgroups") text)))
     (is_short_text (as_stored origin text)) none)
+
+-- the cause of a text whose lines have none, from its parts
+pub cause-parts : (origin : Origin) (text : Octets) (parts : Parts) (n added : ℕ) (short : Bool)
+    → IsTrue (names_host origin) → HasSmallSerial origin → ArePartsOf text parts
+    → IsHeader text n → added ≡ length (front_for origin (fields text)) → short ≡ is_short n (length text) added
+    → field_cause origin (fields text) parts.faults.good_groups short ≡ cause origin text
+cause-parts origin text parts n added short good small said at size is =
+    ap (λ g. field_cause origin (fields text) g short) said.groups
+    ∙ cause-fields origin text n added short good small said.shape at size is
 
 -- a text whose lines have no cause has an empty line
 pub shape-ends : (text : Octets) → shape_cause text ≡ None → has_empty_line text ≡ true

@@ -1,10 +1,10 @@
 -- The causes of refusal, stated over the fields of a text.
-use Rattle.std.specs.Prelude.{ℕ, ◌+◌, Bool, not, ◌||◌, ◌&&◌, ◌==◌, nat_le, nat_lt, List, [], ◌∷◌, ◌++◌, length, find, map, count_by, codes}
+use Rattle.std.specs.Prelude.{ℕ, ◌+◌, Bool, false, not, ◌||◌, ◌&&◌, ◌==◌, nat_le, nat_lt, List, [], ◌∷◌, ◌++◌, length, find, map, count_by, codes}
 use Rattle.std.specs.Prelude.{Option, option_map, unwrap_or}
 use Rattle.std.specs.List.{list_all, list_any}
 use Rattle.model.specs.Stream.{Octets}
 use Rattle.article.specs.Stored.{front}
-use Rattle.model.specs.Names.{is_blank, is_group_name, parts}
+use Rattle.model.specs.Names.{is_blank, is_group_name, is_of_host, parts}
 use Rattle.model.specs.Article.{Origin, Posted, Carried, Cause, WrongOctets, NoEnd, Field, Twice, Missing, Id, Groups, Long, added_fields}
 use Rattle.model.specs.Article.{allows_id, are_distinct, content_of, first_cause, has_empty_line, has_fields_alone, has_lines_alone}
 use Rattle.model.specs.Article.{header_lines, id_in_field, is_named, needed_fields, single_fields, trimmed, written_fields}
@@ -17,17 +17,38 @@ is_blank_in fields name = list_any (λ field. is_named name field && list_all is
 abbrev pub has_twice : List Octets → Bool
 has_twice fields = list_any (λ name. nat_lt 1 (count_by (is_named name) fields)) single_fields
 
+-- none of the fields has one of the names
+abbrev pub lacks_any : List Octets → List Octets → Bool
+lacks_any names fields = list_any (λ name. count_by (is_named name) fields == 0) names
+
+-- a mandatory field is blank
+abbrev pub has_blank : List Octets → Bool
+has_blank fields = list_any (is_blank_in fields) (written_fields ++ added_fields)
+
 -- a required field is missing, or a mandatory one is blank
 abbrev pub lacks_field : Origin → List Octets → Bool
-lacks_field origin fields =
-    list_any (λ name. count_by (is_named name) fields == 0) (needed_fields origin)
-    || list_any (is_blank_in fields) (written_fields ++ added_fields)
+lacks_field origin fields = lacks_any (needed_fields origin) fields || has_blank fields
+
+-- the same, by whether a written field is missing, one that a server adds, and whether a mandatory one is blank
+abbrev pub lacks_by : Origin → Bool → Bool → Bool → Bool
+lacks_by (Posted host serial) written added blank = written || blank
+lacks_by Carried written added blank = (written || added) || blank
 
 -- there is no message-id, or one that is allowed
 abbrev pub has_good_id : Origin → List Octets → Bool
 has_good_id origin fields =
     count_by (is_named (codes "Message-ID")) fields == 0
     || allows_id origin (unwrap_or (option_map id_in_field (find (is_named (codes "Message-ID")) fields)) [])
+
+-- there is a message-id with the host as its right side
+abbrev pub has_id_of : Octets → List Octets → Bool
+has_id_of host fields =
+    unwrap_or (option_map (λ field. is_of_host host (id_in_field field)) (find (is_named (codes "Message-ID")) fields)) false
+
+-- there is no message-id, or one that is allowed, by whether there is none or a valid one
+abbrev pub good_id_by : Origin → Bool → List Octets → Bool
+good_id_by (Posted host serial) valid fields = valid && not (has_id_of host fields)
+good_id_by Carried valid fields = valid
 
 -- a content of Newsgroups lists 1 to 16 distinct group names
 abbrev pub has_good_groups : Octets → Bool
@@ -56,12 +77,17 @@ shape_cause text = first_cause (
     ∷ (not (has_fields_alone (header_lines text)), Field)
     ∷ [])
 
--- the causes in the fields of a text, given whether it is short enough
-abbrev pub field_cause : Origin → List Octets → Octets → Bool → Option Cause
-field_cause origin fields newsgroups short = first_cause (
-    (has_twice fields, Twice)
-    ∷ (lacks_field origin fields, Missing)
-    ∷ (not (has_good_id origin fields), Id)
-    ∷ (not (has_good_groups newsgroups), Groups)
+-- the first cause in the fields, by the tests
+abbrev pub first_of : Bool → Bool → Bool → Bool → Bool → Option Cause
+first_of twice lacks good_id good_groups short = first_cause (
+    (twice, Twice)
+    ∷ (lacks, Missing)
+    ∷ (not good_id, Id)
+    ∷ (not good_groups, Groups)
     ∷ (not short, Long)
     ∷ [])
+
+-- the causes in the fields of a text, given whether its groups are good and whether it is short enough
+abbrev pub field_cause : Origin → List Octets → Bool → Bool → Option Cause
+field_cause origin fields good_groups short =
+    first_of (has_twice fields) (lacks_field origin fields) (has_good_id origin fields) good_groups short

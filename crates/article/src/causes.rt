@@ -1,16 +1,18 @@
 //! The causes for which a text is not an article.
 
-ghost use Rattle.std.specs.Prelude.{◌≡◌, ◌==◌, nat_lt, length, map, codes, count_by, bytes_eq, option_map, IfOk, OnOk};
+ghost use Rattle.std.specs.Prelude.{◌≡◌, ◌==◌, nat_lt, length, map, codes, count_by, bytes_eq, option_map, IfOk, IsTrue};
 ghost use Rattle.std.specs.List.{list_all, list_any};
 ghost use Rattle.model.specs.Article as article;
 ghost use Rattle.model.specs.Names as model_names;
 ghost use Rattle.article.specs.Causes as causes;
 ghost use Rattle.header_fields.specs.Header.{IsHeader};
-ghost use Rattle.article.specs.Origins.{HasSmallSerial, cause_of, origin_of};
+ghost use Rattle.article.specs.Origins.{HasSmallSerial, cause_of, names_host, origin_of};
+ghost use Rattle.article.specs.Parts.{AreFaults};
 
 use crate::contents::{count, find_field, id_in_field, is_blank_field, trim, unfold, value_of};
 use crate::origin::{Cause, Origin};
-use crate::stored::front;
+use crate::parts::Faults;
+use crate::stored::added_length;
 use header_fields::{has_fields_alone, has_lines_alone};
 use memchr::memchr;
 use names::{is_group_name, is_message_id, is_of_host};
@@ -38,6 +40,9 @@ const SINGLE_FIELDS: [&[u8]; 7] = [
 
 /// The fields that a client writes.
 const WRITTEN_FIELDS: [&[u8]; 3] = [b"From", b"Newsgroups", b"Subject"];
+
+/// The fields that a server adds where they are missing (RFC 5537, 3.5).
+const ADDED_FIELDS: [&[u8]; 3] = [b"Date", b"Message-ID", b"Path"];
 
 /// The fields that each article must have (RFC 5536, 3.1).
 const MANDATORY_FIELDS: [&[u8]; 6] = [
@@ -72,41 +77,58 @@ fn any_blank(fields: &[&[u8]], names: &[&[u8]]) -> bool
     names.iter().any(|name| is_blank_field(fields, name))
 }
 
-/// Whether a field occurs twice that may occur at most once.
-fn has_twice(fields: &[&[u8]]) -> bool
-    ensures { result ≡ causes.has_twice (map (λ field. field.now) fields.now) }
+/// What of the causes in the fields does not depend on the origin, given whether the groups are good.
+pub(crate) fn faults_of(fields: &[&[u8]], has_good_groups: bool) -> Faults
+    ensures faults { AreFaults result (map (λ field. field.now) fields.now) }
+    ensures groups { result.good_groups ≡ has_good_groups }
 {
-    any_twice(fields, &SINGLE_FIELDS)
-}
-
-/// Whether a required field is missing, or a mandatory one is blank.
-fn lacks_field(origin: Origin<'_>, fields: &[&[u8]]) -> bool
-    ensures { result ≡ causes.lacks_field (origin_of origin.entry) (map (λ field. field.now) fields.now) }
-{
-    let missing = match origin {
-        Origin::Posted { .. } => any_missing(fields, &WRITTEN_FIELDS),
-        Origin::Carried => any_missing(fields, &MANDATORY_FIELDS),
-    };
-    missing || any_blank(fields, &MANDATORY_FIELDS)
-}
-
-/// Whether the text is a message-id that this origin allows.
-fn allows_id(origin: Origin<'_>, id: &[u8]) -> bool
-    ensures { result ≡ article.allows_id (origin_of origin.entry) id.now }
-{
-    match origin {
-        Origin::Posted { host, .. } => is_message_id(id) && !is_of_host(host, id),
-        Origin::Carried => is_message_id(id),
+    Faults {
+        twice: any_twice(fields, &SINGLE_FIELDS),
+        lacks_written: any_missing(fields, &WRITTEN_FIELDS),
+        lacks_added: any_missing(fields, &ADDED_FIELDS),
+        blank: any_blank(fields, &MANDATORY_FIELDS),
+        valid_id: has_valid_id(fields),
+        good_groups: has_good_groups,
     }
 }
 
-/// Whether there is no message-id, or one that this origin allows.
-fn has_good_id(origin: Origin<'_>, fields: &[&[u8]]) -> bool
-    ensures { result ≡ causes.has_good_id (origin_of origin.entry) (map (λ field. field.now) fields.now) }
+/// Whether a required field is missing, or a mandatory one is blank.
+fn lacks_field(origin: Origin<'_>, faults: Faults) -> bool
+    ensures { result ≡ causes.lacks_by (origin_of origin.entry) faults.lacks_written faults.lacks_added faults.blank }
+{
+    match origin {
+        Origin::Posted { .. } => faults.lacks_written || faults.blank,
+        Origin::Carried => faults.lacks_written || faults.lacks_added || faults.blank,
+    }
+}
+
+/// Whether there is no message-id, or a valid one.
+fn has_valid_id(fields: &[&[u8]]) -> bool
+    ensures { result ≡ causes.has_good_id article.Carried (map (λ field. field.now) fields.now) }
 {
     match find_field(fields, b"Message-ID") {
-        Some(field) => allows_id(origin, id_in_field(field)),
+        Some(field) => is_message_id(id_in_field(field)),
         None => true,
+    }
+}
+
+/// Whether there is a message-id with the host as its right side.
+fn has_id_of(host: &[u8], fields: &[&[u8]]) -> bool
+    ensures { result ≡ causes.has_id_of host.now (map (λ field. field.now) fields.now) }
+{
+    match find_field(fields, b"Message-ID") {
+        Some(field) => is_of_host(host, id_in_field(field)),
+        None => false,
+    }
+}
+
+/// Whether there is no message-id, or one that this origin allows, given whether there is none or a valid one.
+fn has_good_id(origin: Origin<'_>, fields: &[&[u8]], has_valid_id: bool) -> bool
+    ensures { result ≡ causes.good_id_by (origin_of origin.entry) has_valid_id (map (λ field. field.now) fields.now) }
+{
+    match origin {
+        Origin::Posted { host, .. } => has_valid_id && !has_id_of(host, fields),
+        Origin::Carried => has_valid_id,
     }
 }
 
@@ -153,8 +175,8 @@ fn are_group_names(names: &[&[u8]]) -> bool
     names.iter().all(|name| is_group_name(name))
 }
 
-/// Whether a content lists 1 to 16 distinct group names.
-fn has_good_groups(alloc: Global, content: &[u8]) -> Result<bool, AllocError>
+/// Whether a content lists 1 to 16 distinct group names. Refused only for want of memory.
+pub(crate) fn has_good_groups(alloc: Global, content: &[u8]) -> Result<bool, AllocError>
     ensures { IfOk result (λ good. good ≡ causes.has_good_groups content.now) }
 {
     let groups = groups_in(alloc, content)?;
@@ -171,19 +193,15 @@ pub(crate) fn newsgroups_in(alloc: Global, fields: &[&[u8]]) -> Result<Vec<u8>, 
     }
 }
 
-/// The number of octets that would be put before a text.
-pub(crate) fn front_length(
-    alloc: Global,
-    origin: Origin<'_>,
-    fields: &[&[u8]],
-) -> Result<usize, AllocError>
-    ensures length { IfOk result (λ added. added
-        ≡ length (causes.front_for (origin_of origin.entry) (map (λ field. field.now) fields.now))) }
-    ensures small { OnOk result (HasSmallSerial (origin_of origin.entry)) }
+/// The number of octets that would be put before a text. The host of a posted text must be a valid host.
+pub(crate) fn front_length(origin: Origin<'_>, fields: &[&[u8]]) -> usize
+    requires { IsTrue (names_host (origin_of origin)) }
+    ensures length { result ≡ length (causes.front_for (origin_of origin.entry) (map (λ field. field.now) fields.now)) }
+    ensures small { HasSmallSerial (origin_of origin.entry) }
 {
     match origin {
-        Origin::Posted { host, serial } => Ok(front(alloc, fields, serial, host, 0)?.len()),
-        Origin::Carried => Ok(0),
+        Origin::Posted { host, serial } => added_length(fields, serial, host),
+        Origin::Carried => 0,
     }
 }
 
@@ -214,31 +232,46 @@ pub(crate) fn shape_cause(text: &[u8], header: usize) -> Option<Cause>
     None
 }
 
-/// The first cause in the fields of a text, given whether the text is short enough.
-pub(crate) fn field_cause(
-    alloc: Global,
-    origin: Origin<'_>,
-    fields: &[&[u8]],
-    newsgroups: &[u8],
+/// The first cause in the fields of a text that holds.
+fn first_cause(
+    faults: Faults,
+    lacks_field: bool,
+    has_good_id: bool,
     is_short: bool,
-) -> Result<Option<Cause>, AllocError>
-    ensures { IfOk result (λ found. option_map cause_of found ≡ causes.field_cause (origin_of origin.entry)
-        (map (λ field. field.now) fields.now) newsgroups.now is_short) }
+) -> Option<Cause>
+    ensures { option_map cause_of result
+        ≡ causes.first_of faults.twice lacks_field has_good_id faults.good_groups is_short }
 {
-    if has_twice(fields) {
-        return Ok(Some(Cause::Twice));
+    if faults.twice {
+        return Some(Cause::Twice);
     }
-    if lacks_field(origin, fields) {
-        return Ok(Some(Cause::Missing));
+    if lacks_field {
+        return Some(Cause::Missing);
     }
-    if !has_good_id(origin, fields) {
-        return Ok(Some(Cause::Id));
+    if !has_good_id {
+        return Some(Cause::Id);
     }
-    if !has_good_groups(alloc, newsgroups)? {
-        return Ok(Some(Cause::Groups));
+    if !faults.good_groups {
+        return Some(Cause::Groups);
     }
     if !is_short {
-        return Ok(Some(Cause::Long));
+        return Some(Cause::Long);
     }
-    Ok(None)
+    None
+}
+
+/// The first cause in the fields of a text of this origin, given whether the text is short enough.
+pub(crate) fn field_cause(
+    origin: Origin<'_>,
+    fields: &[&[u8]],
+    faults: Faults,
+    is_short: bool,
+) -> Option<Cause>
+    requires { AreFaults faults (map (λ field. field.now) fields.now) }
+    ensures { option_map cause_of result ≡ causes.field_cause (origin_of origin.entry)
+        (map (λ field. field.now) fields.now) faults.good_groups is_short }
+{
+    let lacking = lacks_field(origin, faults);
+    let good_id = has_good_id(origin, fields, faults.valid_id);
+    first_cause(faults, lacking, good_id, is_short)
 }

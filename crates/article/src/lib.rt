@@ -6,7 +6,9 @@ ghost use Rattle.std.specs.Prelude.{◌≡◌, ◌<◌, IfOk, IfErr, OnOk, IsTru
 ghost use Rattle.model.specs.Calendar.{moment_limit};
 ghost use Rattle.model.specs.Article as model_article;
 ghost use Rattle.model.specs.Names.{is_host};
+ghost use Rattle.header_fields.specs.Header.{IsHeader};
 ghost use Rattle.article.specs.Origins.{cause_of, names_host, origin_of};
+ghost use Rattle.article.specs.Parts.{ArePartsOf};
 ghost use Rattle.article.specs.declared.origin.Cause.{Cause as Told};
 
 mod causes;
@@ -14,16 +16,20 @@ mod contents;
 mod header;
 mod injected;
 mod origin;
+mod parts;
+mod reading;
 mod stored;
 
-use causes::{field_cause, front_length, groups_in, is_short, newsgroups_in, shape_cause};
+use causes::{field_cause, front_length, groups_in, is_short};
 pub use causes::{HEADER_LIMIT, TEXT_LIMIT};
 use contents::{find_field, id_in_field, unfold, value_of};
 pub use header::{Header, body_line_count};
-use header_fields::{fields_of, header_length, line_count};
+use header_fields::line_count;
 pub use injected::Injected;
 use model::Text;
 pub use origin::{Cause, Origin, ReadError};
+use parts::Parts;
+pub use reading::Reading;
 use std::alloc::{AllocError, Global};
 use std::marker::Model;
 pub use stored::made_id;
@@ -60,24 +66,27 @@ impl<'t> Article<'t> {
         ensures bad { IfErr result (λ error. (cause : Told) → error ≡ ReadError.Bad cause
             → model_article.cause (origin_of origin.entry) text.now ≡ Some (cause_of cause)) }
     {
-        let header = header_length(text);
-        if let Some(cause) = shape_cause(text, header) {
-            return Err(ReadError::Bad(cause));
+        let reading = Reading::of(alloc, text)?;
+        match Article::of(reading, origin) {
+            Ok(article) => Ok(article),
+            Err(cause) => Err(ReadError::Bad(cause)),
         }
-        let fields = fields_of(alloc, text)?;
-        let newsgroups = newsgroups_in(alloc, &fields)?;
-        let added = front_length(alloc, origin, &fields)?;
-        let short = is_short(header, text.len(), added);
-        let found = field_cause(alloc, origin, &fields, &newsgroups, short)?;
-        if let Some(cause) = found {
-            return Err(ReadError::Bad(cause));
+    }
+
+    /// The article of this origin that a text which was read is, or the first cause for which it is none. Nothing is
+    /// allocated. The host of a posted text must be a valid host.
+    pub fn of(reading: Reading<'t>, origin: Origin<'_>) -> Result<Article<'t>, Cause>
+        requires { IsTrue (names_host (origin_of origin)) }
+        ensures ok { IfOk result (λ article. article ≡ reading.entry) }
+        ensures no_cause { OnOk result (model_article.cause (origin_of origin.entry) reading.entry ≡ None) }
+        ensures bad { IfErr result (λ cause. model_article.cause (origin_of origin.entry) reading.entry ≡ Some (cause_of cause)) }
+    {
+        let text = reading.text;
+        let header = reading.header;
+        match reading.parts {
+            Ok(parts) => article_of(origin, text, header, parts),
+            Err(cause) => Err(cause),
         }
-        Ok(Article {
-            text,
-            header,
-            fields,
-            newsgroups,
-        })
     }
 
     /// The text.
@@ -182,6 +191,34 @@ impl<'t> Article<'t> {
             newsgroups: self.newsgroups,
         })
     }
+}
+
+/// The article of this origin that a text is whose header ends at `header` and whose lines have no cause, or the first
+/// cause in its fields.
+fn article_of<'t>(
+    origin: Origin<'_>,
+    text: &'t [u8],
+    header: usize,
+    parts: Parts<'t>,
+) -> Result<Article<'t>, Cause>
+    requires host { IsTrue (names_host (origin_of origin)) }
+    requires header { IsHeader text.now header }
+    requires parts { ArePartsOf text.now parts }
+    ensures ok { IfOk result (λ article. article ≡ text.now) }
+    ensures no_cause { OnOk result (model_article.cause (origin_of origin.entry) text.now ≡ None) }
+    ensures bad { IfErr result (λ cause. model_article.cause (origin_of origin.entry) text.now ≡ Some (cause_of cause)) }
+{
+    let added = front_length(origin, &parts.fields);
+    let short = is_short(header, text.len(), added);
+    if let Some(cause) = field_cause(origin, &parts.fields, parts.faults, short) {
+        return Err(cause);
+    }
+    Ok(Article {
+        text,
+        header,
+        fields: parts.fields,
+        newsgroups: parts.newsgroups,
+    })
 }
 
 /// Copies of the texts on the heap.

@@ -1,19 +1,59 @@
 //! The fields that the server adds to a posted text.
 
-ghost use Rattle.std.specs.Prelude.{◌≡◌, ◌++◌, ◌==◌, ◌<◌, count_by, map, IfOk, OnOk};
+ghost use Rattle.std.specs.Prelude.{◌≡◌, ◌+◌, ◌++◌, ◌==◌, ◌<◌, ◌≤◌, ◌^◌, count_by, length, map, IfOk, IsTrue, OnOk};
 ghost use Rattle.std.specs.List.{concat};
 ghost use Rattle.model.specs.Article.{is_named};
 ghost use Rattle.model.specs.Calendar.{moment_limit};
+ghost use Rattle.model.specs.Names.{is_host};
 ghost use Rattle.article.specs.Stored as stored;
 
 use crate::contents::count;
 use itoa::Buffer;
 use model::Text;
-use stamp::date_header;
+use stamp::{HEADER_OCTETS, date_header};
 use std::alloc::{AllocError, Global};
 
 /// The number of octets of a made message-id besides its serial and its host: `<`, `@` and `>`.
 const ID_MARKS: usize = 3;
+
+/// The number of octets of a field of one line besides its name and its content: a colon, SP and CRLF.
+const FIELD_MARKS: usize = 4;
+
+/// What follows the host in Path.
+const PATH_TAIL: &[u8] = b"!not-for-mail";
+
+/// The number of octets of a field of one line that is added if none of the posted fields has its name. It is exact
+/// where it is below 2^64.
+fn missing_length(fields: &[&[u8]], name: &[u8], content: usize) -> usize
+    ensures exact { length name.now + content + FIELD_MARKS < 2 ^ 64
+        → result ≡ stored.missing_length (map (λ field. field.now) fields.now) name.now content }
+    ensures high { result ≤ length name.now + content + FIELD_MARKS }
+{
+    if count(fields, name) == 0 {
+        name.len()
+            .saturating_add(content)
+            .saturating_add(FIELD_MARKS)
+    } else {
+        0
+    }
+}
+
+/// The number of octets of the fields that are put before a posted text, at any moment, since dates have a fixed size.
+/// It is exact for a valid host.
+pub(crate) fn added_length(fields: &[&[u8]], serial: u64, host: &[u8]) -> usize
+    ensures { IsTrue (is_host host.now) → result ≡ length (stored.front host.now serial 0 (map (λ field. field.now) fields.now)) }
+{
+    let mut buffer = Buffer::new();
+    let digits = buffer.format(serial).len();
+    let path = missing_length(fields, b"Path", host.len().saturating_add(PATH_TAIL.len()));
+    let date = missing_length(fields, b"Date", HEADER_OCTETS);
+    let id = missing_length(
+        fields,
+        b"Message-ID",
+        host.len().saturating_add(ID_MARKS + digits),
+    );
+    path.saturating_add(date).saturating_add(id)
+}
 
 /// A field of one line.
 fn field_line(alloc: Global, name: &[u8], content: &[u8]) -> Result<Vec<u8>, AllocError>
@@ -51,7 +91,7 @@ fn path(alloc: Global, host: &[u8]) -> Result<Vec<u8>, AllocError>
 {
     let mut path = Vec::new(alloc);
     path.extend_from_slice(host)?;
-    path.extend_from_slice(b"!not-for-mail")?;
+    path.extend_from_slice(PATH_TAIL)?;
     Ok(path)
 }
 
