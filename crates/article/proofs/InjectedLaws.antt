@@ -1,23 +1,55 @@
 -- What is put before a posted text leaves its lines, its fields and its groups as they are.
-use Rattle.std.specs.Prelude.{◌≡◌, ℕ, ◌+◌, ◌<◌, ◌≤◌, ◌^◌, Bool, true, false, ◌||◌, ◌==◌, if◌then◌else◌, List, [], ◌∷◌, ◌++◌, length}
-use Rattle.std.specs.Prelude.{take, drop, find, codes, bytes_eq, count_by, nat_lt, Option, Some, None, option_map, unwrap_or, IsTrue}
-use Rattle.std.specs.List.{concat, list_all, list_any}
+use Rattle.std.specs.Prelude.{◌≡◌, ℕ, ◌+◌, ◌<◌, ◌≤◌, ◌^◌, Bool, true, false, not, ◌||◌, ◌==◌, if◌then◌else◌, List, [], ◌∷◌, ◌++◌}
+use Rattle.std.specs.Prelude.{length, take, drop, find, codes, bytes_eq, count_by, nat_lt, Option, Some, None, option_map, unwrap_or, IsTrue}
+use Rattle.std.specs.List.{concat, list_all, list_any, take_while}
 use Rattle.std.proofs.Common.{sym, ◌∙◌, ap, refl, subst, arith}
 use Rattle.std.proofs.lemmas.Bool.{cond-false, lt-ltb}
 use Rattle.std.proofs.lemmas.List.{append_assoc, append-nil, length-append}
 use Rattle.std.proofs.lemmas.List.Folds.{concat-append, list_any-append}
 use Rattle.std.proofs.Math.Seq.{drop-append-add, take-append-add}
 use Rattle.model.specs.Stream.{Octets, crlf, line, lines}
-use Rattle.model.specs.Names.{is_host}
+use Rattle.model.specs.Names.{begins, is_blank, is_host}
 use Rattle.model.specs.Calendar.{date_header}
 use Rattle.model.specs.Article.{Posted, body, body_lines, cause, cause_but_long, content, content_of, fields, has_empty_line, header}
-use Rattle.model.specs.Article.{header_lines, injected, is_named, made_id}
+use Rattle.model.specs.Article.{continues, fields_of_lines, header_lines, injected, is_named, made_id}
 use Rattle.model.proofs.Ids.{no_cause}
 use Rattle.model.proofs.Ids.{HasNoCause}
-use Rattle.model.proofs.Stored.{date_plain, grouped, header_front, is_no_lf, lines_front, made_plain, no_lf, path_plain, stored}
+use Rattle.model.proofs.Stored.{date_plain, fields_front, grouped, header_front, is_no_lf, lines_front, made_plain, no_lf, path_plain, stored}
+use Rattle.model.proofs.LineLaws.{lines-empty}
 use Rattle.std.specs.Option.{option_or}
 use Rattle.header_fields.specs.Header.{IsHeader}
-use Rattle.article.specs.Stored.{added_to, field_line, front, front_fields, path_of, perhaps}
+use Rattle.article.specs.Stored.{added_to, field_line, front, path_of}
+
+-- a field where it is missing
+abbrev perhaps : Bool → Octets → List Octets
+perhaps b field = if b then field ∷ [] else []
+
+-- the fields that make up `front`
+abbrev front_fields : Octets → ℕ → ℕ → List Octets → List Octets
+front_fields host serial moment fields =
+    perhaps (count_by (is_named (codes "Path")) fields == 0) (field_line (codes "Path") (path_of host))
+    ++ perhaps (count_by (is_named (codes "Date")) fields == 0) (field_line (codes "Date") (date_header moment))
+    ++ perhaps (count_by (is_named (codes "Message-ID")) fields == 0) (field_line (codes "Message-ID") (made_id host serial))
+
+-- the fields of a text, none of which continues another
+record Begun (more : List Octets) (whole : Octets) : Type 0 where
+  pub starts : continues (header_lines whole) ≡ false
+  pub fields_are : fields whole ≡ more
+
+begun_none : Begun [] []
+unfolding fields_of_lines
+begun_none = record {
+  starts = ap (λ ls. continues (take_while (λ l. not (bytes_eq l crlf)) ls)) lines-empty;
+  fields_are = ap (λ ls. fields_of_lines (take_while (λ l. not (bytes_eq l crlf)) ls)) lines-empty;
+}
+
+begun_more : (b : Bool) (body whole : Octets) (more : List Octets) → list_all is_no_lf body ≡ true → bytes_eq (line body) crlf ≡ false
+    → begins is_blank (line body) ≡ false → Begun more whole → Begun (perhaps b (line body) ++ more) ((if b then line body else []) ++ whole)
+begun_more true body whole more plain some unblank old = record {
+  starts = ap continues (header_front body whole plain some) ∙ unblank;
+  fields_are = fields_front body whole plain some old.starts ∙ ap (λ fs. line body ∷ fs) old.fields_are;
+}
+begun_more false body whole more plain some unblank old = old
 
 -- lines before a text
 pub record Behind (text : Octets) (more : List Octets) (whole : Octets) : Type 0 where
@@ -101,7 +133,7 @@ concat_one true field = append-nil field
 concat_one false field = refl
 
 -- the added fields are what is put before the text
-pub concat_front : (host : Octets) (serial moment : ℕ) (all : List Octets)
+concat_front : (host : Octets) (serial moment : ℕ) (all : List Octets)
     → concat (front_fields host serial moment all) ≡ front host serial moment all
 concat_front host serial moment all =
     concat-append (path ++ date) id ∙ (λ i. concat-append path date i ++ concat_one lacks_id id_line i)
@@ -186,8 +218,23 @@ module _ (host text : Octets) (serial moment : ℕ) (good : IsTrue (is_host host
   fields_are : fields whole ≡ all ++ fields text
   fields_are = (stored host text serial moment good small sound).fields_are
 
-  pub injected_fields : front_fields host serial moment (fields text) ++ fields text ≡ fields whole
-  injected_fields = ap (λ fs. fs ++ fields text) all_are ∙ sym fields_are
+  begun : Begun all ((if lacks (codes "Path") then line path_body else []) ++ ((if lacks (codes "Date") then line date_body else [])
+      ++ ((if lacks (codes "Message-ID") then line id_body else []) ++ [])))
+  begun =
+      begun_more (lacks (codes "Path")) path_body _ _ (no_lf path_body (path_plain host good)) refl refl
+      (begun_more (lacks (codes "Date")) date_body _ _ (no_lf date_body (date_plain moment)) refl refl
+      (begun_more (lacks (codes "Message-ID")) id_body [] [] (no_lf id_body (made_plain host serial good small)) refl refl begun_none))
+
+  front_whole : (if lacks (codes "Path") then line path_body else []) ++ ((if lacks (codes "Date") then line date_body else [])
+      ++ ((if lacks (codes "Message-ID") then line id_body else []) ++ [])) ≡ front host serial moment (fields text)
+  front_whole =
+      let path = if lacks (codes "Path") then line path_body else [] in
+      let date = if lacks (codes "Date") then line date_body else [] in
+      let id = if lacks (codes "Message-ID") then line id_body else [] in
+      ap (λ l. path ++ (date ++ l)) (append-nil id) ∙ sym (append_assoc path date id)
+
+  pub injected_fields : fields (front host serial moment (fields text)) ++ fields text ≡ fields whole
+  injected_fields = ap (λ fs. fs ++ fields text) (ap fields (sym front_whole) ∙ begun.fields_are) ∙ sym fields_are
 
   pub injected_newsgroups : content (codes "Newsgroups") whole ≡ content (codes "Newsgroups") text
   injected_newsgroups =

@@ -1,7 +1,7 @@
--- The number of octets that are put before a posted text.
+-- What is put before a posted text, and the number of its octets.
 use Rattle.std.specs.Prelude.{◌≡◌, ℕ, ◌+◌, Bool, true, false, ◌==◌, if◌then◌else◌, List, [], ◌++◌, codes, count_by, decimal, length}
 use Rattle.std.proofs.Common.{sym, ◌∙◌, ap, refl, arith}
-use Rattle.std.proofs.lemmas.List.{length-append}
+use Rattle.std.proofs.lemmas.List.{append-nil, append_assoc, length-append}
 use Rattle.model.specs.Stream.{Octets, crlf}
 use Rattle.model.specs.Calendar.{date_header}
 use Rattle.model.specs.Article.{is_named, made_id}
@@ -50,3 +50,23 @@ front-size host serial all path date id one two three =
     ∙ sym (added-size all (codes "Message-ID") (made_id host serial)) in
     (λ i. first i + second i + third i)
     ∙ sym (length-append (path_line ++ date_line) id_line ∙ ap (λ n. n + length id_line) (length-append path_line date_line))
+
+-- ---- one octet sequence after the other
+
+pub regroup-five : (a b c d e f : Octets) → a ++ b ++ c ++ d ++ e ++ f ≡ a ++ (b ++ c ++ d ++ e ++ f)
+regroup-five a b c d e f = simp append_assoc
+
+pub regroup-line : (a b c d e : Octets) → a ++ b ++ c ++ d ++ e ≡ a ++ (b ++ (c ++ d) ++ e)
+regroup-line a b c d e = simp append_assoc
+
+pub regroup-field : (a b c d : Octets) → a ++ b ++ c ++ d ≡ a ++ (b ++ c ++ d)
+regroup-field a b c d = simp append_assoc
+
+pub added-one : (all : List Octets) (name content old new : Octets) → (count_by (is_named name) all == 0) ≡ true
+    → new ≡ old ++ field_line name content → new ≡ old ++ added_to all name content
+added-one all name content old new lacks is = is ∙ ap (λ b. old ++ (if b then field_line name content else [])) (sym lacks)
+
+pub added-none : (all : List Octets) (name content old : Octets) → (count_by (is_named name) all == 0) ≡ false
+    → old ≡ old ++ added_to all name content
+added-none all name content old has =
+    sym (append-nil old) ∙ ap (λ b. old ++ (if b then field_line name content else [])) (sym has)

@@ -1,6 +1,6 @@
 -- The causes of refusal, stated over the fields of a text.
-use Rattle.std.specs.Prelude.{ℕ, ◌+◌, Bool, false, not, ◌||◌, ◌&&◌, ◌==◌, nat_le, nat_lt, List, [], ◌∷◌, ◌++◌, length, find, map, count_by, codes}
-use Rattle.std.specs.Prelude.{Option, option_map, unwrap_or}
+use Rattle.std.specs.Prelude.{ℕ, ◌+◌, Bool, false, not, ◌||◌, ◌&&◌, ◌==◌, nat_le, nat_lt, List, [], ◌∷◌, ◌++◌, length, find, map, count_by}
+use Rattle.std.specs.Prelude.{codes, Option, option_map, unwrap_or}
 use Rattle.std.specs.List.{list_all, list_any}
 use Rattle.model.specs.Stream.{Octets}
 use Rattle.article.specs.Stored.{front}

@@ -1,5 +1,5 @@
 -- What is put before a posted text, stated over its fields.
-use Rattle.std.specs.Prelude.{ℕ, ◌+◌, Bool, ◌==◌, if◌then◌else◌, List, [], ◌∷◌, ◌++◌, codes, count_by, length}
+use Rattle.std.specs.Prelude.{ℕ, ◌+◌, ◌==◌, if◌then◌else◌, List, [], ◌++◌, codes, count_by, length}
 use Rattle.model.specs.Stream.{Octets, crlf}
 use Rattle.model.specs.Calendar.{date_header}
 use Rattle.model.specs.Article.{is_named}
@@ -22,17 +22,6 @@ abbrev pub front : Octets → ℕ → ℕ → List Octets → Octets
 front host serial moment fields =
     added_to fields (codes "Path") (path_of host) ++ added_to fields (codes "Date") (date_header moment)
     ++ added_to fields (codes "Message-ID") (made_id host serial)
-
--- a field where it is missing
-abbrev pub perhaps : Bool → Octets → List Octets
-perhaps b field = if b then field ∷ [] else []
-
--- the fields that make up `front`
-abbrev pub front_fields : Octets → ℕ → ℕ → List Octets → List Octets
-front_fields host serial moment fields =
-    perhaps (count_by (is_named (codes "Path")) fields == 0) (field_line (codes "Path") (path_of host))
-    ++ perhaps (count_by (is_named (codes "Date")) fields == 0) (field_line (codes "Date") (date_header moment))
-    ++ perhaps (count_by (is_named (codes "Message-ID")) fields == 0) (field_line (codes "Message-ID") (made_id host serial))
 
 -- the number of octets of a field of one line that is put before a text, with a content of this many
 abbrev pub missing_length : List Octets → Octets → ℕ → ℕ

@@ -15,6 +15,7 @@ use crate::parts::Faults;
 use crate::stored::added_length;
 use header_fields::{has_fields_alone, has_lines_alone};
 use memchr::memchr;
+use model::Text;
 use names::{is_group_name, is_message_id, is_of_host};
 use std::alloc::{AllocError, Global};
 
@@ -133,7 +134,7 @@ fn has_good_id(origin: Origin<'_>, fields: &[&[u8]], has_valid_id: bool) -> bool
 }
 
 /// The groups that a content lists, separated by commas.
-pub(crate) fn groups_in(alloc: Global, content: &[u8]) -> Result<Vec<&[u8]>, AllocError>
+fn groups_in(alloc: Global, content: &[u8]) -> Result<Vec<&[u8]>, AllocError>
     ensures { IfOk result (λ groups. map (λ group. group.now) groups.items ≡ map article.trimmed (model_names.parts 44 content.now)) }
 {
     let mut groups = Vec::new(alloc);
@@ -144,6 +145,28 @@ pub(crate) fn groups_in(alloc: Global, content: &[u8]) -> Result<Vec<&[u8]>, All
         rest = &later[1..];
     }
     groups.push(trim(rest))?;
+    Ok(groups)
+}
+
+/// A copy of a text without leading and trailing SP and TAB.
+fn trimmed_copy(alloc: Global, text: &[u8]) -> Result<Text, AllocError>
+    ensures { IfOk result (λ copy. copy ≡ article.trimmed text.now) }
+{
+    Ok(Text::new(trim(text).to_vec(alloc)?))
+}
+
+/// Copies of the groups that a content lists, separated by commas.
+pub(crate) fn copied_groups(alloc: Global, content: &[u8]) -> Result<Vec<Text>, AllocError>
+    ensures { IfOk result (λ groups. groups.items ≡ map article.trimmed (model_names.parts 44 content.now)) }
+{
+    let mut groups = Vec::new(alloc);
+    let mut rest = content;
+    while let Some(end) = memchr(b',', rest) {
+        let (group, later) = rest.split_at(end);
+        groups.push(trimmed_copy(alloc, group)?)?;
+        rest = &later[1..];
+    }
+    groups.push(trimmed_copy(alloc, rest)?)?;
     Ok(groups)
 }
 

@@ -1,20 +1,24 @@
 //! A posted article as it is stored.
 
 ghost use Rattle.std.specs.Prelude.{◌≡◌, ◌++◌, map, IfOk};
+ghost use Rattle.model.specs.Article as article;
 
 use crate::Article;
-use model::Text;
+use header_fields::fields_of;
 use std::alloc::{AllocError, Global};
+use std::borrow::CowSlice;
 use std::marker::Model;
 
 /// A posted article as it is stored: the fields that this server adds, and then the posted text. Contracts see its octets.
 #[derive(Drop)]
 pub struct Injected<'t> {
     pub(crate) text: Vec<u8>,
+    /// where the posted text begins
+    pub(crate) front: usize,
     pub(crate) header: usize,
-    pub(crate) added: Vec<Text>,
+    /// the posted fields
     pub(crate) fields: Vec<&'t [u8]>,
-    pub(crate) newsgroups: Vec<u8>,
+    pub(crate) newsgroups: CowSlice<'t, u8>,
 }
 
 impl<'t> Model for Injected<'t> {
@@ -29,31 +33,25 @@ impl<'t> Model for Injected<'t> {
 }
 
 impl<'t> Injected<'t> {
-    /// The article that is stored. Its text is not read again. Refused only for want of memory.
+    /// The article that is stored. Of its text only the fields that were added are read again. Refused only for want of
+    /// memory.
     pub fn article(&self, alloc: Global) -> Result<Article<'_>, AllocError>
         ensures { IfOk result (λ article. article ≡ self.now) }
     {
         Ok(Article {
             text: &self.text,
             header: self.header,
-            fields: both(alloc, &self.added, &self.fields)?,
-            newsgroups: self.newsgroups.to_vec(alloc)?,
+            fields: both(alloc, &self.text[..self.front], &self.fields)?,
+            newsgroups: CowSlice::Borrowed(self.newsgroups.as_slice()),
         })
     }
 }
 
-/// The texts, and then the fields.
-fn both<'a>(
-    alloc: Global,
-    texts: &'a [Text],
-    fields: &[&'a [u8]],
-) -> Result<Vec<&'a [u8]>, AllocError>
-    ensures { IfOk result (λ all. map (λ field. field.now) all.items ≡ texts.now ++ map (λ field. field.now) fields.now) }
+/// The fields of a text, and then these.
+fn both<'a>(alloc: Global, text: &'a [u8], fields: &[&'a [u8]]) -> Result<Vec<&'a [u8]>, AllocError>
+    ensures { IfOk result (λ all. map (λ field. field.now) all.items ≡ article.fields text.now ++ map (λ field. field.now) fields.now) }
 {
-    let mut all = Vec::new(alloc);
-    for text in texts {
-        all.push(text.as_slice())?;
-    }
+    let mut all = fields_of(alloc, text)?;
     all.extend_from_slice(fields)?;
     Ok(all)
 }

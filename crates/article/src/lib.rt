@@ -2,7 +2,7 @@
 //! posted one. `specs/Article.antt` of the crate `model` defines each word.
 #![tactic(auto)]
 
-ghost use Rattle.std.specs.Prelude.{◌≡◌, ◌<◌, IfOk, IfErr, OnOk, IsTrue, Some, None, length, map, option_map};
+ghost use Rattle.std.specs.Prelude.{◌≡◌, ◌<◌, IfOk, IfErr, OnOk, IsTrue, Some, None, length, option_map};
 ghost use Rattle.model.specs.Calendar.{moment_limit};
 ghost use Rattle.model.specs.Article as model_article;
 ghost use Rattle.model.specs.Names.{is_host};
@@ -20,7 +20,7 @@ mod parts;
 mod reading;
 mod stored;
 
-use causes::{field_cause, front_length, groups_in, is_short};
+use causes::{copied_groups, field_cause, front_length, is_short};
 pub use causes::{HEADER_LIMIT, TEXT_LIMIT};
 use contents::{find_field, id_in_field, unfold, value_of};
 pub use header::{Header, body_line_count};
@@ -31,9 +31,10 @@ pub use origin::{Cause, Origin, ReadError};
 use parts::Parts;
 pub use reading::Reading;
 use std::alloc::{AllocError, Global};
+use std::borrow::CowSlice;
 use std::marker::Model;
 pub use stored::made_id;
-use stored::{added_fields, front, joined};
+use stored::{added_length, push_front};
 
 /// A text that is an article, seen by contracts as its octets.
 #[derive(Drop)]
@@ -41,7 +42,7 @@ pub struct Article<'t> {
     text: &'t [u8],
     header: usize,
     fields: Vec<&'t [u8]>,
-    newsgroups: Vec<u8>,
+    newsgroups: CowSlice<'t, u8>,
 }
 
 impl<'t> Model for Article<'t> {
@@ -142,8 +143,7 @@ impl<'t> Article<'t> {
     pub fn groups(&self, alloc: Global) -> Result<Vec<Text>, AllocError>
         ensures { IfOk result (λ groups. groups.items ≡ model_article.groups_of self.now) }
     {
-        let groups = groups_in(alloc, &self.newsgroups)?;
-        copies(alloc, &groups)
+        copied_groups(alloc, self.newsgroups.as_slice())
     }
 
     /// The text that is stored of it when it is posted to this host at this moment and gets this serial. Path, Date and
@@ -159,7 +159,9 @@ impl<'t> Article<'t> {
         requires { moment < moment_limit }
         ensures { IfOk result (λ stored. stored.items ≡ model_article.injected host.now serial moment self.now) }
     {
-        let mut stored = front(alloc, &self.fields, serial, host, moment)?;
+        let room = added_length(&self.fields, serial, host).saturating_add(self.text.len());
+        let mut stored = Vec::with_capacity(alloc, room)?;
+        push_front(&mut stored, &self.fields, serial, host, moment)?;
         stored.extend_from_slice(self.text)?;
         Ok(stored)
     }
@@ -179,14 +181,13 @@ impl<'t> Article<'t> {
         requires cause { model_article.cause (model_article.Posted host.now serial) self ≡ None }
         ensures { IfOk result (λ stored. stored ≡ model_article.injected host.now serial moment self.entry) }
     {
-        let added = added_fields(alloc, &self.fields, serial, host, moment)?;
-        let mut text = joined(alloc, &added)?;
-        let header = text.len() + self.header;
-        text.extend_from_slice(self.text)?;
+        let text = self.inject(alloc, serial, host, moment)?;
+        let front = text.len() - self.text.len();
+        let header = front + self.header;
         Ok(Injected {
             text,
+            front,
             header,
-            added,
             fields: self.fields,
             newsgroups: self.newsgroups,
         })
@@ -217,17 +218,6 @@ fn article_of<'t>(
         text,
         header,
         fields: parts.fields,
-        newsgroups: parts.newsgroups,
+        newsgroups: CowSlice::Owned(parts.newsgroups),
     })
-}
-
-/// Copies of the texts on the heap.
-fn copies(alloc: Global, texts: &[&[u8]]) -> Result<Vec<Text>, AllocError>
-    ensures { IfOk result (λ copies. copies.items ≡ map (λ text. text.now) texts.now) }
-{
-    let mut copies = Vec::new(alloc);
-    for text in texts {
-        copies.push(Text::new(text.to_vec(alloc)?))?;
-    }
-    Ok(copies)
 }

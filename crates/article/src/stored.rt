@@ -1,16 +1,14 @@
 //! The fields that the server adds to a posted text.
 
-ghost use Rattle.std.specs.Prelude.{◌≡◌, ◌+◌, ◌++◌, ◌==◌, ◌<◌, ◌≤◌, ◌^◌, count_by, length, map, IfOk, IsTrue, OnOk};
-ghost use Rattle.std.specs.List.{concat};
+ghost use Rattle.std.specs.Prelude.{◌≡◌, ◌+◌, ◌++◌, ◌==◌, ◌<◌, ◌≤◌, ◌^◌, codes, count_by, length, map, IfOk, IsTrue, OnOk};
 ghost use Rattle.model.specs.Article.{is_named};
-ghost use Rattle.model.specs.Calendar.{moment_limit};
+ghost use Rattle.model.specs.Calendar.{date_header, moment_limit};
 ghost use Rattle.model.specs.Names.{is_host};
 ghost use Rattle.article.specs.Stored as stored;
 
 use crate::contents::count;
 use itoa::Buffer;
-use model::Text;
-use stamp::{HEADER_OCTETS, date_header};
+use stamp::{HEADER_OCTETS, push_date_header};
 use std::alloc::{AllocError, Global};
 
 /// The number of octets of a made message-id besides its serial and its host: `<`, `@` and `>`.
@@ -22,6 +20,13 @@ const FIELD_MARKS: usize = 4;
 /// What follows the host in Path.
 const PATH_TAIL: &[u8] = b"!not-for-mail";
 
+/// Whether none of the posted fields has this name.
+fn lacks(fields: &[&[u8]], name: &[u8]) -> bool
+    ensures { result ≡ (count_by (is_named name.now) (map (λ field. field.now) fields.now) == 0) }
+{
+    count(fields, name) == 0
+}
+
 /// The number of octets of a field of one line that is added if none of the posted fields has its name. It is exact
 /// where it is below 2^64.
 fn missing_length(fields: &[&[u8]], name: &[u8], content: usize) -> usize
@@ -29,7 +34,7 @@ fn missing_length(fields: &[&[u8]], name: &[u8], content: usize) -> usize
         → result ≡ stored.missing_length (map (λ field. field.now) fields.now) name.now content }
     ensures high { result ≤ length name.now + content + FIELD_MARKS }
 {
-    if count(fields, name) == 0 {
+    if lacks(fields, name) {
         name.len()
             .saturating_add(content)
             .saturating_add(FIELD_MARKS)
@@ -55,44 +60,17 @@ pub(crate) fn added_length(fields: &[&[u8]], serial: u64, host: &[u8]) -> usize
     path.saturating_add(date).saturating_add(id)
 }
 
-/// A field of one line.
-fn field_line(alloc: Global, name: &[u8], content: &[u8]) -> Result<Vec<u8>, AllocError>
-    ensures { IfOk result (λ line. line.items ≡ stored.field_line name.now content.now) }
+/// Appends a message-id that a host makes, of these digits.
+fn push_made_id(octets: &mut Vec<u8>, host: &[u8], number: &[u8]) -> Result<(), AllocError>
+    ensures { OnOk result (octets.new.items ≡ octets.old.items
+        ++ (codes "<" ++ number.now ++ codes "@" ++ host.now ++ codes ">")) }
 {
-    let mut line = Vec::new(alloc);
-    line.extend_from_slice(name)?;
-    line.extend_from_slice(b": ")?;
-    line.extend_from_slice(content)?;
-    line.extend_from_slice(b"\r\n")?;
-    Ok(line)
-}
-
-/// Appends a field to those that are added if none of the posted fields has its name.
-fn push_missing(
-    alloc: Global,
-    added: &mut Vec<Text>,
-    fields: &[&[u8]],
-    name: &[u8],
-    content: &[u8],
-) -> Result<(), AllocError>
-    ensures { OnOk result (added.new.items ≡ added.old.items
-        ++ stored.perhaps (count_by (is_named name.now) (map (λ field. field.now) fields.now) == 0)
-        (stored.field_line name.now content.now)) }
-{
-    if count(fields, name) == 0 {
-        added.push(Text::new(field_line(alloc, name, content)?))?;
-    }
+    octets.extend_from_slice(b"<")?;
+    octets.extend_from_slice(number)?;
+    octets.extend_from_slice(b"@")?;
+    octets.extend_from_slice(host)?;
+    octets.extend_from_slice(b">")?;
     Ok(())
-}
-
-/// The content of Path for an article that this host injects.
-fn path(alloc: Global, host: &[u8]) -> Result<Vec<u8>, AllocError>
-    ensures { IfOk result (λ path. path.items ≡ stored.path_of host.now) }
-{
-    let mut path = Vec::new(alloc);
-    path.extend_from_slice(host)?;
-    path.extend_from_slice(PATH_TAIL)?;
-    Ok(path)
 }
 
 /// The message-id that a host makes for a serial: `<`, the serial in decimal digits, `@`, the host and `>`. Refused only
@@ -103,57 +81,75 @@ pub fn made_id(alloc: Global, host: &[u8], serial: u64) -> Result<Vec<u8>, Alloc
     let mut buffer = Buffer::new();
     let number = buffer.format(serial).as_bytes();
     let mut id = Vec::with_capacity(alloc, host.len().saturating_add(ID_MARKS + number.len()))?;
-    id.extend_from_slice(b"<")?;
-    id.extend_from_slice(number)?;
-    id.extend_from_slice(b"@")?;
-    id.extend_from_slice(host)?;
-    id.extend_from_slice(b">")?;
+    push_made_id(&mut id, host, number)?;
     Ok(id)
 }
 
-/// The fields that are put before a posted text: Path, Date and Message-ID, where they are missing.
-pub(crate) fn added_fields(
-    alloc: Global,
-    fields: &[&[u8]],
-    serial: u64,
-    host: &[u8],
-    moment: u64,
-) -> Result<Vec<Text>, AllocError>
-    requires { moment < moment_limit }
-    ensures { IfOk result (λ added. added.items ≡ stored.front_fields host.now serial moment (map (λ field. field.now) fields.now)) }
+/// Appends Path, if none of the posted fields has its name.
+fn push_path(octets: &mut Vec<u8>, fields: &[&[u8]], host: &[u8]) -> Result<(), AllocError>
+    ensures { OnOk result (octets.new.items ≡ octets.old.items
+        ++ stored.added_to (map (λ field. field.now) fields.now) (codes "Path") (stored.path_of host.now)) }
 {
-    let mut added = Vec::new(alloc);
-    let path = path(alloc, host)?;
-    push_missing(alloc, &mut added, fields, b"Path", &path)?;
-    let date = date_header(alloc, moment)?;
-    push_missing(alloc, &mut added, fields, b"Date", &date)?;
-    let id = made_id(alloc, host, serial)?;
-    push_missing(alloc, &mut added, fields, b"Message-ID", &id)?;
-    Ok(added)
-}
-
-/// The octets of the texts, one after the other.
-pub(crate) fn joined(alloc: Global, texts: &[Text]) -> Result<Vec<u8>, AllocError>
-    ensures { IfOk result (λ octets. octets.items ≡ concat texts.now) }
-{
-    let mut octets = Vec::new(alloc);
-    for text in texts {
-        octets.extend_from_slice(text.as_slice())?;
+    if !lacks(fields, b"Path") {
+        return Ok(());
     }
-    Ok(octets)
+    octets.extend_from_slice(b"Path: ")?;
+    octets.extend_from_slice(host)?;
+    octets.extend_from_slice(PATH_TAIL)?;
+    octets.extend_from_slice(b"\r\n")?;
+    Ok(())
 }
 
-/// The octets that are put before a posted text.
-pub(crate) fn front(
-    alloc: Global,
+/// Appends Date, if none of the posted fields has its name.
+fn push_date(octets: &mut Vec<u8>, fields: &[&[u8]], moment: u64) -> Result<(), AllocError>
+    requires { moment < moment_limit }
+    ensures { OnOk result (octets.new.items ≡ octets.old.items
+        ++ stored.added_to (map (λ field. field.now) fields.now) (codes "Date") (date_header moment)) }
+{
+    if !lacks(fields, b"Date") {
+        return Ok(());
+    }
+    octets.extend_from_slice(b"Date: ")?;
+    push_date_header(octets, moment)?;
+    octets.extend_from_slice(b"\r\n")?;
+    Ok(())
+}
+
+/// Appends Message-ID, if none of the posted fields has its name.
+fn push_id(
+    octets: &mut Vec<u8>,
+    fields: &[&[u8]],
+    serial: u64,
+    host: &[u8],
+) -> Result<(), AllocError>
+    ensures { OnOk result (octets.new.items ≡ octets.old.items
+        ++ stored.added_to (map (λ field. field.now) fields.now) (codes "Message-ID") (stored.made_id host.now serial)) }
+{
+    if !lacks(fields, b"Message-ID") {
+        return Ok(());
+    }
+    let mut buffer = Buffer::new();
+    octets.extend_from_slice(b"Message-ID: ")?;
+    push_made_id(octets, host, buffer.format(serial).as_bytes())?;
+    octets.extend_from_slice(b"\r\n")?;
+    Ok(())
+}
+
+/// Appends the fields that are put before a posted text: Path, Date and Message-ID, where they are missing. Refused only
+/// for want of memory; then any octets may follow those that were already there.
+pub(crate) fn push_front(
+    octets: &mut Vec<u8>,
     fields: &[&[u8]],
     serial: u64,
     host: &[u8],
     moment: u64,
-) -> Result<Vec<u8>, AllocError>
+) -> Result<(), AllocError>
     requires { moment < moment_limit }
-    ensures { IfOk result (λ front. front.items ≡ stored.front host.now serial moment (map (λ field. field.now) fields.now)) }
+    ensures { OnOk result (octets.new.items ≡ octets.old.items
+        ++ stored.front host.now serial moment (map (λ field. field.now) fields.now)) }
 {
-    let added = added_fields(alloc, fields, serial, host, moment)?;
-    joined(alloc, &added)
+    push_path(octets, fields, host)?;
+    push_date(octets, fields, moment)?;
+    push_id(octets, fields, serial, host)?;
+    Ok(())
 }

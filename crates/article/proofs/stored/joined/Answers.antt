@@ -1,7 +1,0 @@
-use Rattle.std.proofs.Common.{arith}
-use Rattle.std.proofs.lemmas.Grind.{common_steps}
-use Rattle.std.proofs.lemmas.List.Folds.{concat-append}
-use Rattle.article.proofs.stored.joined.Goals as goal
-
-pub loop-text-preserved : goal.loop-text-preserved
-loop-text-preserved c = grind (arith, common_steps, concat-append)
