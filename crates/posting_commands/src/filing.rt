@@ -37,21 +37,18 @@ fn same_id<L: LookUps>(spool: &L, article: &Article<'_>) -> Option<u64>
     }
 }
 
-/// Those of the groups that exist.
-fn groups_here<L: LookUps>(
-    alloc: Global,
-    spool: &L,
-    names: &[Text],
-) -> Result<Vec<Text>, AllocError>
-    ensures { IfOk result (λ here. here.items ≡ filter (is_here (L.changes spool.now)) names.now) }
+/// Whether a group exists.
+fn group_exists<L: LookUps>(spool: &L, name: &Text) -> bool
+    ensures { result ≡ is_here (L.changes spool.now) name.now }
 {
-    let mut here = Vec::new(alloc);
-    for name in names {
-        if find_group(spool, name.as_slice()).is_some() {
-            here.push(name.copy(alloc)?)?;
-        }
-    }
-    Ok(here)
+    find_group(spool, name.as_slice()).is_some()
+}
+
+/// Leaves those of the groups that exist.
+fn keep_existing<L: LookUps>(spool: &L, names: &mut Vec<Text>)
+    ensures { names.new.items ≡ filter (is_here (L.changes spool.now)) names.old.items }
+{
+    names.retain(|name| group_exists(spool, name));
 }
 
 /// Whether the group exists and takes no articles.
@@ -115,10 +112,10 @@ fn by_groups<L: LookUps>(
         (spool_outcome None (groups_here (L.changes spool.now) article.now)
         (closed_among closed (L.changes spool.now) (groups_of article.now)))) }
 {
-    let names = article.groups(alloc)?;
+    let mut names = article.groups(alloc)?;
     let in_the_way = last_of_closed(spool, closed, &names);
-    let here = groups_here(alloc, spool, &names)?;
-    Ok(made_outcome(here, in_the_way))
+    keep_existing(spool, &mut names);
+    Ok(made_outcome(names, in_the_way))
 }
 
 /// The outcome, by the groups that exist and the last serial that names one that prevents the filing.
