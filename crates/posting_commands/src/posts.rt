@@ -11,7 +11,7 @@ ghost use Rattle.posting_commands.specs.Outcomes.{mark_by, post_said, posted_by,
 
 use crate::accepted::{Accepted, Stored};
 use crate::filing::{Closed, Outcome, filing};
-use article::{Article, Origin, ReadError};
+use article::{Article, Origin, Reading};
 use lookups::LookUps;
 use model::{Awaits, Cause, Mark, Moment, Session, Text};
 use replies::{Reply, awaiting, push_reply};
@@ -52,30 +52,30 @@ fn answer<'t>(
     })
 }
 
-/// Answers the article that follows POST, at the given moment. It is refused if it is not an article, or if an article
-/// with its id was filed. It is also refused if none of its groups exists, or one of them takes no articles. Its mark
-/// is `Long` if it is refused because it would be too long as it is stored.
+/// Answers the message that follows POST, which was read, at the given moment. It is refused if it is not an article, or
+/// if an article with its id was filed. It is also refused if none of its groups exists, or one of them takes no
+/// articles. Its mark is `Long` if it is refused because it would be too long as it is stored.
 pub fn post_block<'t, L: LookUps>(
     alloc: Global,
     spool: &L,
     session: &Session,
-    text: &'t [u8],
+    reading: Reading<'t>,
     moment: Moment,
 ) -> Result<Posted<'t>, AllocError>
-    ensures { IfOk result (λ posted. said posted ≡ post_said (L.host_of spool.now) (L.changes spool.now) session.now moment text.now) }
+    ensures { IfOk result (λ posted. said posted
+        ≡ post_said (L.host_of spool.now) (L.changes spool.now) session.now moment reading.entry) }
 {
     let host = spool.host();
     let serial = spool.len() + 1;
-    match Article::read(alloc, text, Origin::Posted { host, serial }) {
+    match Article::of(reading, Origin::Posted { host, serial }) {
         Ok(article) => taken(alloc, spool, session, article, serial, moment),
-        Err(ReadError::Bad(cause)) => {
+        Err(cause) => {
             let refusal = answer(alloc, session, Reply::NotAccepted, None, 0)?;
             Ok(Posted {
                 mark: mark_of(cause),
                 ..refusal
             })
         }
-        Err(ReadError::Memory) => Err(AllocError),
     }
 }
 
@@ -117,24 +117,24 @@ fn taken<'t, L: LookUps>(
     }
 }
 
-/// Answers the article that follows IHAVE with this message-id, at the given moment. It is refused if it is not an
-/// article or has another id. It is also refused if an article with its id was filed, or if none of its groups exists.
+/// Answers the message that follows IHAVE with this message-id, which was read, at the given moment. It is refused if it
+/// is not an article or has another id. It is also refused if an article with its id was filed, or if none of its groups
+/// exists.
 pub fn ihave_block<'t, L: LookUps>(
     alloc: Global,
     spool: &L,
     session: &Session,
     id: &[u8],
-    text: &'t [u8],
+    reading: Reading<'t>,
     moment: Moment,
 ) -> Result<Posted<'t>, AllocError>
     ensures { IfOk result (λ posted. said posted
-        ≡ said_served (answered (answers.transfer_answer (L.changes spool.now) session.now moment id.now text.now)
-        (outcome_reads (L.changes spool.now) (answers.transfer_outcome (L.changes spool.now) id.now text.now)))) }
+        ≡ said_served (answered (answers.transfer_answer (L.changes spool.now) session.now moment id.now reading.entry)
+        (outcome_reads (L.changes spool.now) (answers.transfer_outcome (L.changes spool.now) id.now reading.entry)))) }
 {
-    match Article::read(alloc, text, Origin::Carried) {
+    match Article::of(reading, Origin::Carried) {
         Ok(article) => given(alloc, spool, session, id, article, moment),
-        Err(ReadError::Bad(_)) => answer(alloc, session, Reply::Rejected, None, 0),
-        Err(ReadError::Memory) => Err(AllocError),
+        Err(_) => answer(alloc, session, Reply::Rejected, None, 0),
     }
 }
 

@@ -3,6 +3,7 @@ use Rattle.std.proofs.Common.{◌≡◌, ℕ, Bool, true, false, refl, sym, subs
 use Rattle.std.specs.Prelude.{None, if◌then◌else◌}
 use Rattle.model.specs.Stream.{Octets}
 use Rattle.model.specs.Answer.{answer, awaiting, is_long, is_long_as_stored, is_long_by, post_answer, post_outcome, says, served}
+use Rattle.model.specs.Answer.{transfer_answer, transfer_outcome}
 use Rattle.model.specs.Reads.{outcome_reads, reads, served_reads}
 use Rattle.model.specs.Replies.{not_accepted}
 use Rattle.model.specs.Spool.{Spool}
@@ -11,7 +12,7 @@ use Rattle.model.specs.declared.message.Message.{Message}
 use Rattle.model.specs.declared.message.Message.TheVariants as message
 use Rattle.model.specs.declared.session.Awaits.TheVariants as awaits
 use Rattle.model.specs.declared.session.Session.{Session}
-use Rattle.posting_commands.specs.Outcomes.{Said, post_said, then_line}
+use Rattle.posting_commands.specs.Outcomes.{Said, post_said, said_served, then_line}
 use Rattle.replies.specs.Answered.{answered}
 use Rattle.session.specs.Steps.{Taken, posted_step, step_of}
 
@@ -74,3 +75,10 @@ module _ (host : Octets) (S : Spool) (x : Session) (t : ℕ) (text : Octets) whe
 
   pub post_step : posted_step (post_said host S x t text) ≡ step_of host S x t awaits.PostBlock (message.Block text)
   post_step = posted_by (is_long_as_stored host S text)
+
+-- What is said of a carried article is its step.
+pub transfer_step : (host : Octets) (S : Spool) (x : Session) (t : ℕ) (id text : Octets)
+    → posted_step (said_served (answered (transfer_answer S x t id text) (outcome_reads S (transfer_outcome S id text))))
+    ≡ step_of host S x t (awaits.IhaveBlock id) (message.Block text)
+unfolding served served_reads
+transfer_step host S x t id text = refl

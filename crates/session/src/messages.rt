@@ -12,6 +12,7 @@ ghost use Rattle.posting_commands.specs.Outcomes.{said};
 ghost use Rattle.session.specs.Steps.{posted_step, served_step, step_of, taken};
 
 use crate::commands::command;
+use article::Reading;
 use grammar::arguments_are_in_grammar;
 use lookups::LookUps;
 use model::{Answer, Awaits, Mark, Message, Moment, Parsed, Session, Text};
@@ -133,7 +134,8 @@ pub(crate) fn at_post<'m, L: LookUps>(
 {
     match message {
         Message::Block(text) => {
-            let said = post_block(alloc, spool, session, text.as_slice(), moment)?;
+            let reading = Reading::of(alloc, text.as_slice())?;
+            let said = post_block(alloc, spool, session, reading, moment)?;
             Ok(posted(said))
         }
         Message::TooLong => refused(alloc, session, Reply::NotAccepted),
@@ -156,7 +158,8 @@ pub(crate) fn at_ihave<'m, L: LookUps>(
 {
     match message {
         Message::Block(text) => {
-            let said = ihave_block(alloc, spool, session, id, text.as_slice(), moment)?;
+            let reading = Reading::of(alloc, text.as_slice())?;
+            let said = ihave_block(alloc, spool, session, id, reading, moment)?;
             Ok(posted(said))
         }
         Message::TooLong => refused(alloc, session, Reply::Rejected),

@@ -7,12 +7,11 @@ use Rattle.posting_commands.specs.Outcomes.{said, said_served, told}
 use Rattle.posting_commands.proofs.Telling.{refused_said, transfer_bad}
 use Rattle.posting_commands.proofs.posts.ihave_block.Goals as goal
 
-pub returns-in-Err-Bad : goal.returns-in-Err-Bad
-returns-in-Err-Bad g c =
+pub returns-in-Err : goal.returns-in-Err
+returns-in-Err g c =
     let S = g.L.LookUps.changes c.args.spool.now in
-    let text = c.args.text.now in
-    let nothing = transfer_bad S c.args.id.now text c.in-Err-Bad.field-0-0
-    (c.in-Err-Bad.ensures.bad c.in-Err-Bad.field-0-0 c.in-Err-Bad.field-0-is) in
+    let text = c.args.reading in
+    let nothing = transfer_bad S c.args.id.now text c.in-Err.field-0 c.in-Err.ensures.bad in
     subst (λ (a : Answered). IfOk c.answer.result (λ posted. said posted ≡ said_served a))
     (refused_said S c.args.session.now transferred rejected text c.args.moment 0 (transfer_outcome S c.args.id.now text)
     (ap (told S) (sym nothing)))

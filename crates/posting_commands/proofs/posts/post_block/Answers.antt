@@ -10,21 +10,21 @@ returns-in-Ok g c =
     let host = g.L.LookUps.host_of c.args.spool.now in
     let S = g.L.LookUps.changes c.args.spool.now in
     let x = c.args.session.now in
-    let text = c.args.text.now in
+    let text = c.args.reading in
     let none = (λ i. cause (Posted (sym c.host-host.ensures i) (sym c.len-serial.ensures i + 1)) text) ∙ c.in-Ok.ensures.no_cause in
     let same = ap (λ t. said_served (posted_by host S x c.args.moment t)) c.in-Ok.ensures.ok
     ∙ sym (said_ok host S x c.args.moment text none) in
     subst (λ (s : Said). IfOk c.taken.result (λ posted. said posted ≡ s)) same c.taken.ensures
 
-pub returns-in_ok-refusal-in-Err-Bad : goal.returns-in_ok-refusal-in-Err-Bad
-returns-in_ok-refusal-in-Err-Bad g c =
+pub returns-in_ok-refusal-in-Err : goal.returns-in_ok-refusal-in-Err
+returns-in_ok-refusal-in-Err g c =
     let host = g.L.LookUps.host_of c.args.spool.now in
     let S = g.L.LookUps.changes c.args.spool.now in
-    let text = c.args.text.now in
+    let text = c.args.reading in
     let bad = (λ i. cause (Posted (sym c.host-host.ensures i) (sym c.len-serial.ensures i + 1)) text)
-    ∙ c.in-Err-Bad.ensures.bad c.in-Err-Bad.cause c.in-Err-Bad.field-0-is in
-    (λ i. record { answered = (c.in_ok-refusal-in-Err-Bad.ensures i).answered; mark = c.mark_of.ensures i })
-    ∙ sym (said_refused host S c.args.session.now c.args.moment text c.in-Err-Bad.cause bad)
+    ∙ c.in-Err.ensures.bad in
+    (λ i. record { answered = (c.in_ok-refusal-in-Err.ensures i).answered; mark = c.mark_of.ensures i })
+    ∙ sym (said_refused host S c.args.session.now c.args.moment text c.in-Err.cause bad)
 
 pub taken-requires-clause-cause : goal.taken-requires-clause-cause
 taken-requires-clause-cause g c =
