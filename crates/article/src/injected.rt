@@ -4,7 +4,8 @@ ghost use Rattle.std.specs.Prelude.{◌≡◌, ◌++◌, map, IfOk};
 ghost use Rattle.model.specs.Article as article;
 
 use crate::Article;
-use header_fields::fields_of;
+use crate::stored::ADDED_AT_MOST;
+use header_fields::push_fields;
 use std::alloc::{AllocError, Global};
 use std::borrow::CowSlice;
 use std::marker::Model;
@@ -47,11 +48,16 @@ impl<'t> Injected<'t> {
     }
 }
 
-/// The fields of a text, and then these.
-fn both<'a>(alloc: Global, text: &'a [u8], fields: &[&'a [u8]]) -> Result<Vec<&'a [u8]>, AllocError>
-    ensures { IfOk result (λ all. map (λ field. field.now) all.items ≡ article.fields text.now ++ map (λ field. field.now) fields.now) }
+/// The fields that were added, and then these.
+fn both<'a>(
+    alloc: Global,
+    added: &'a [u8],
+    fields: &[&'a [u8]],
+) -> Result<Vec<&'a [u8]>, AllocError>
+    ensures { IfOk result (λ all. map (λ field. field.now) all.items ≡ article.fields added.now ++ map (λ field. field.now) fields.now) }
 {
-    let mut all = fields_of(alloc, text)?;
+    let mut all = Vec::with_capacity(alloc, fields.len().saturating_add(ADDED_AT_MOST))?;
+    push_fields(&mut all, added)?;
     all.extend_from_slice(fields)?;
     Ok(all)
 }

@@ -74,8 +74,8 @@ impl<'t> Article<'t> {
         }
     }
 
-    /// The article of this origin that a text which was read is, or the first cause for which it is none. Nothing is
-    /// allocated. The host of a posted text must be a valid host.
+    /// Makes the article of this origin from a text that was read, or names the first cause for which the text is none.
+    /// Nothing is allocated. The host of a posted text must be a valid host.
     pub fn of(reading: Reading<'t>, origin: Origin<'_>) -> Result<Article<'t>, Cause>
         requires { IsTrue (names_host (origin_of origin)) }
         ensures ok { IfOk result (λ article. article ≡ reading.entry) }
@@ -194,8 +194,8 @@ impl<'t> Article<'t> {
     }
 }
 
-/// The article of this origin that a text is whose header ends at `header` and whose lines have no cause, or the first
-/// cause in its fields.
+/// Makes the article of this origin from a text whose header ends at `header` and whose lines have no cause, or names the
+/// first cause in its fields, or `Long`.
 fn article_of<'t>(
     origin: Origin<'_>,
     text: &'t [u8],

@@ -17,6 +17,9 @@ const ID_MARKS: usize = 3;
 /// The number of octets of a field of one line besides its name and its content: a colon, SP and CRLF.
 const FIELD_MARKS: usize = 4;
 
+/// At most this many fields are added: Path, Date and Message-ID.
+pub(crate) const ADDED_AT_MOST: usize = 3;
+
 /// What follows the host in Path.
 const PATH_TAIL: &[u8] = b"!not-for-mail";
 

@@ -4,7 +4,7 @@ use Rattle.std.specs.Prelude.{[], ◌∷◌, length, take, drop, get_or, bytes_e
 use Rattle.std.specs.List.{ends_with, list_all}
 use Rattle.std.proofs.Common.{sym, ◌∙◌, ap, refl, arith, inl, inr, subst}
 use Rattle.std.proofs.Math.Seq.{drop-cons}
-use Rattle.std.proofs.lemmas.List.{drop_all, get_or-drop, get_or-take, get_or_past, length-drop, length-take-le, nil_from_length, take-take}
+use Rattle.std.proofs.lemmas.List.{drop_all, get_or-drop, get_or-take, length-drop, length-take-le, nil_from_length, take-take}
 use Rattle.std.proofs.lemmas.List.{take_all}
 use Rattle.std.proofs.lemmas.List.Folds.{list_all_at}
 use Rattle.std.proofs.Math.Bool.{and-false}

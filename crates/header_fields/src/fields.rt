@@ -1,6 +1,6 @@
 //! The fields of a header.
 
-ghost use Rattle.std.specs.Prelude.{◌≡◌, ◌≤◌, ◌||◌, length, map, IfOk};
+ghost use Rattle.std.specs.Prelude.{◌≡◌, ◌++◌, ◌≤◌, ◌||◌, length, map, IfOk, OnOk};
 ghost use Rattle.std.specs.List.{list_all};
 ghost use Rattle.model.specs.Article as article;
 ghost use Rattle.model.specs.Names as names;
@@ -128,15 +128,24 @@ pub fn fields_of<'t>(alloc: Global, text: &'t [u8]) -> Result<Vec<&'t [u8]>, All
     ensures { IfOk result (λ fields. map (λ field. field.now) fields.items ≡ article.fields text.now) }
 {
     let mut fields = Vec::with_capacity(alloc, USUAL_FIELDS)?;
+    push_fields(&mut fields, text)?;
+    Ok(fields)
+}
+
+/// Appends the fields that `fields_of` gives. Refused only for want of memory; then some of them may have been appended.
+pub fn push_fields<'t>(fields: &mut Vec<&'t [u8]>, text: &'t [u8]) -> Result<(), AllocError>
+    ensures { OnOk result (map (λ field. field.now) fields.new.items
+        ≡ map (λ field. field.now) fields.old.items ++ article.fields text.now) }
+{
     let mut rest = text;
     while !rest.is_empty() {
         let first = line_length(rest);
         if is_empty_line(&rest[..first]) {
-            return Ok(fields);
+            return Ok(());
         }
         let (field, later) = rest.split_at(field_end(rest, first));
         fields.push(field)?;
         rest = later;
     }
-    Ok(fields)
+    Ok(())
 }

@@ -5,5 +5,5 @@
 mod fields;
 mod lines;
 
-pub use fields::{fields_of, has_fields_alone, name_of};
+pub use fields::{fields_of, has_fields_alone, name_of, push_fields};
 pub use lines::{has_lines_alone, header_length, line_count, line_length};
