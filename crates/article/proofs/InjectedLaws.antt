@@ -1,6 +1,7 @@
 -- What is put before a posted text leaves its lines, its fields and its groups as they are.
 use Rattle.std.specs.Prelude.{◌≡◌, ℕ, ◌+◌, ◌<◌, ◌≤◌, ◌^◌, Bool, true, false, not, ◌||◌, ◌==◌, if◌then◌else◌, List, [], ◌∷◌, ◌++◌}
-use Rattle.std.specs.Prelude.{length, take, drop, find, codes, bytes_eq, count_by, nat_lt, Option, Some, None, option_map, unwrap_or, IsTrue}
+use Rattle.std.specs.Prelude.{length, take, drop, find, codes, bytes_eq, count_by, nat_lt, Option, Some, None, option_map, unwrap_or}
+use Rattle.std.specs.Prelude.{IsTrue}
 use Rattle.std.specs.List.{concat, list_all, list_any, take_while}
 use Rattle.std.proofs.Common.{sym, ◌∙◌, ap, refl, subst, arith}
 use Rattle.std.proofs.lemmas.Bool.{cond-false, lt-ltb}
@@ -14,7 +15,8 @@ use Rattle.model.specs.Article.{Posted, body, body_lines, cause, cause_but_long,
 use Rattle.model.specs.Article.{continues, fields_of_lines, header_lines, injected, is_named, made_id}
 use Rattle.model.proofs.Ids.{no_cause}
 use Rattle.model.proofs.Ids.{HasNoCause}
-use Rattle.model.proofs.Stored.{date_plain, fields_front, grouped, header_front, is_no_lf, lines_front, made_plain, no_lf, path_plain, stored}
+use Rattle.model.proofs.Stored.{date_plain, fields_front, grouped, header_front, is_no_lf, lines_front, made_plain, no_lf, path_plain}
+use Rattle.model.proofs.Stored.{stored}
 use Rattle.model.proofs.LineLaws.{lines-empty}
 use Rattle.std.specs.Option.{option_or}
 use Rattle.header_fields.specs.Header.{IsHeader}
@@ -44,7 +46,8 @@ begun_none = record {
 }
 
 begun_more : (b : Bool) (body whole : Octets) (more : List Octets) → list_all is_no_lf body ≡ true → bytes_eq (line body) crlf ≡ false
-    → begins is_blank (line body) ≡ false → Begun more whole → Begun (perhaps b (line body) ++ more) ((if b then line body else []) ++ whole)
+    → begins is_blank (line body) ≡ false → Begun more whole
+    → Begun (perhaps b (line body) ++ more) ((if b then line body else []) ++ whole)
 begun_more true body whole more plain some unblank old = record {
   starts = ap continues (header_front body whole plain some) ∙ unblank;
   fields_are = fields_front body whole plain some old.starts ∙ ap (λ fs. line body ∷ fs) old.fields_are;
