@@ -1,10 +1,9 @@
 -- The tests of a change decide whether it may follow.
-use Rattle.std.proofs.Common.{◌≡◌, ◌⊎◌, inl, inr, ◌<◌, ◌≤◌, ◌↔◌, ℕ, ◌+◌, Bool, true, false, List, [], length, get_or, map, refl, sym, ◌∙◌}
-use Rattle.std.proofs.Common.{ap, arith, Option, Some, None}
-use Rattle.std.specs.Prelude.{bytes_eq, ◌==◌, ◌&&◌, ◌||◌, not, nat_le, nat_lt, filter, option_map, is_some, IsTrue}
+use Rattle.std.proofs.Common.{◌≡◌, ◌<◌, ◌≤◌, ◌↔◌, ℕ, ◌+◌, Bool, true, false, List, [], length, get_or, map, refl, sym, ◌∙◌, ap, arith}
+use Rattle.std.proofs.Common.{Option, Some, None}
+use Rattle.std.specs.Prelude.{bytes_eq, ◌&&◌, not, nat_le, filter, option_map, is_some, IsTrue}
 use Rattle.std.specs.List.{list_all}
-use Rattle.std.proofs.lemmas.Bool.{true≢false, or_cases, or_left, or_right, and_parts, eq-eqb, eqb-true, le-leb, leb-true, lt-ltb, ltb-true}
-use Rattle.std.proofs.lemmas.Bool.{not-true, and_from}
+use Rattle.std.proofs.lemmas.Bool.{true≢false, and_parts, le-leb, leb-true, not-true, and_from}
 use Rattle.std.proofs.lemmas.List.{get_or-map, get_or_read, length-map}
 use Rattle.std.proofs.lemmas.Slice.Eq.{bytes_eq-Decides}
 use Rattle.model.specs.Stream.{Octets}
@@ -14,8 +13,12 @@ use Rattle.model.specs.Calendar.{moment_limit}
 use Rattle.model.specs.Indexed.{GroupIndex, group_index}
 use Rattle.model.specs.Lawful.{MayExpire, MayFile, MayMake, is_description_octet}
 use Rattle.model.specs.Spool.{Spool, NewsArticle, NewsGroup, filed_in, group_named, high, is_here, low}
+use Rattle.model.specs.declared.change.Expiry.{Expiry}
+use Rattle.model.specs.declared.change.Filing.{Filing}
+use Rattle.model.specs.declared.change.NewGroup.{NewGroup}
+use Rattle.names.specs.Descriptions.{is_description}
 use Rattle.index.proofs.LookUps.{group_is, not_here}
-use Rattle.admission.specs.Fields.{MayHaveId, are_group_fields}
+use Rattle.admission.specs.Fields.{MayHaveId}
 
 -- ---- groups
 
@@ -26,66 +29,52 @@ same_some f h None (Some y) is = absurd (cc)
 same_some f h (Some x) None is = absurd (cc)
 same_some f h (Some x) (Some y) is = refl
 
-fields_from : (S : Spool) (name : Octets) (status : ℕ) (description : Octets) (moment : ℕ) → MayMake S name status description moment
-    → are_group_fields name status description moment ≡ true
-fields_from S name status description moment may =
-    let y_or_n : (status == 121 || status == 110) ≡ true =
-    elim may.yes_or_no [
-      | inl y ↦ or_left (status == 121) (status == 110) (eq-eqb status 121 y)
-      | inr n ↦ or_right (status == 121) (status == 110) (eq-eqb status 110 n)
-    ] in
-    and_from (is_group_name name) _ may.is_name
-    (and_from (status == 121 || status == 110) _ y_or_n
-    (and_from (nat_le (length description) 200) _ (le-leb (length description) 200 may.short)
-    (and_from (list_all is_description_octet description) (nat_lt moment moment_limit) may.printable
-    (lt-ltb moment moment_limit may.in_time))))
+fields_from : (S : Spool) (g : NewGroup) → MayMake S g → (is_group_name g.name && is_description g.description) ≡ true
+fields_from S g may =
+    and_from (is_group_name g.name) (is_description g.description) may.is_name
+    (and_from (nat_le (length g.description) 200) (list_all is_description_octet g.description)
+    (le-leb (length g.description) 200 may.short) may.printable)
 
-may_from : (S : Spool) (name : Octets) (status : ℕ) (description : Octets) (moment : ℕ)
-    → are_group_fields name status description moment ≡ true → is_here S name ≡ false → MayMake S name status description moment
-may_from S name status description moment are absent =
-    let one = and_parts (is_group_name name) _ are in
-    let two = and_parts (status == 121 || status == 110) _ one.1 in
-    let three = and_parts (nat_le (length description) 200) _ two.1 in
-    let four = and_parts (list_all is_description_octet description) (nat_lt moment moment_limit) three.1 in
+may_from : (S : Spool) (g : NewGroup) → (is_group_name g.name && is_description g.description) ≡ true → is_here S g.name ≡ false
+    → g.moment < moment_limit → MayMake S g
+may_from S g are absent early =
+    let one = and_parts (is_group_name g.name) (is_description g.description) are in
+    let two = and_parts (nat_le (length g.description) 200) (list_all is_description_octet g.description) one.1 in
     record {
       is_name = one.0;
-      new = by_group (group_named S name) refl;
-      yes_or_no = yes_or_no two.0;
-      short = leb-true (length description) 200 three.0;
-      printable = four.0;
-      in_time = ltb-true moment moment_limit four.1;
+      new = by_group (group_named S g.name) refl;
+      short = leb-true (length g.description) 200 two.0;
+      printable = two.1;
+      in_time = early;
     }
   where
-    yes_or_no : (status == 121 || status == 110) ≡ true → (status ≡ 121) ⊎ (status ≡ 110)
-    yes_or_no is = elim (or_cases (status == 121) (status == 110) is) [
-      | inl y ↦ inl (eqb-true status 121 y)
-      | inr n ↦ inr (eqb-true status 110 n)
-    ]
-
-    by_group : (o : Option NewsGroup) → group_named S name ≡ o → group_named S name ≡ None
+    by_group : (o : Option NewsGroup) → group_named S g.name ≡ o → group_named S g.name ≡ None
     by_group None is = is
-    by_group (Some g) is = absurd (true≢false (sym (ap (λ (o : Option NewsGroup). is_some o) is) ∙ absent))
+    by_group (Some h) is = absurd (true≢false (sym (ap (λ (o : Option NewsGroup). is_some o) is) ∙ absent))
 
-pub made_by_test : (S : Spool) (name : Octets) (status : ℕ) (description : Octets) (moment : ℕ) (fields here : Bool)
-    → fields ≡ are_group_fields name status description moment → here ≡ is_here S name
-    → IsTrue (fields && not here) ↔ MayMake S name status description moment
-made_by_test S name status description moment fields here fields_are here_is = (
-  λ is. let parts = and_parts fields (not here) is in
-      may_from S name status description moment (sym fields_are ∙ parts.0) (sym here_is ∙ not-true here parts.1),
-  λ may. and_from fields (not here) (fields_are ∙ fields_from S name status description moment may)
+-- the tests of the name and of the description, and whether the group is here
+pub made_by_test : (S : Spool) (g : NewGroup) (named described here : Bool) → g.moment < moment_limit → named ≡ is_group_name g.name
+    → described ≡ is_description g.description → here ≡ is_here S g.name → IsTrue ((named && described) && not here) ↔ MayMake S g
+made_by_test S g named described here early named_is described_is here_is = (
+  λ is. let parts = and_parts (named && described) (not here) is in
+      may_from S g (sym fields_are ∙ parts.0) (sym here_is ∙ not-true here parts.1) early,
+  λ may. and_from (named && described) (not here) (fields_are ∙ fields_from S g may)
       (ap not (here_is ∙ ap (λ (o : Option NewsGroup). is_some o) may.new)),
 )
+  where
+    fields_are : (named && described) ≡ (is_group_name g.name && is_description g.description)
+    fields_are = λ i. named_is i && described_is i
 
 -- ---- expiries
 
-pub expired_by_test : (S : Spool) (name : Octets) (i : GroupIndex) (number : ℕ) → Some i ≡ option_map (group_index S) (group_named S name)
-    → i.low ≤ number → number ≤ length i.filed → MayExpire S name number
-expired_by_test S name i number is from to =
-    let its = group_is S name i is in
-    let here : is_some (Some i) ≡ is_some (group_named S name) = ap (λ (o : Option GroupIndex). is_some o) is
-    ∙ mapped (group_named S name) in
-    let lowest : i.low ≡ low S name = ap (λ (j : GroupIndex). j.low) its.its_index ∙ ap (low S) its.its_name in
-    let highest : length i.filed ≡ high S name = ap (λ (j : GroupIndex). length j.filed) its.its_index
+pub expired_by_test : (S : Spool) (e : Expiry) (i : GroupIndex) → Some i ≡ option_map (group_index S) (group_named S e.group)
+    → i.low ≤ e.number → e.number ≤ length i.filed → MayExpire S e
+expired_by_test S e i is from to =
+    let its = group_is S e.group i is in
+    let here : is_some (Some i) ≡ is_some (group_named S e.group) = ap (λ (o : Option GroupIndex). is_some o) is
+    ∙ mapped (group_named S e.group) in
+    let lowest : i.low ≡ low S e.group = ap (λ (j : GroupIndex). j.low) its.its_index ∙ ap (low S) its.its_name in
+    let highest : length i.filed ≡ high S e.group = ap (λ (j : GroupIndex). length j.filed) its.its_index
     ∙ length-map (filed_in S its.group.name) (λ (a : NewsArticle). a.serial) ∙ ap (high S) its.its_name in
     record {
       here = sym here;
@@ -97,18 +86,17 @@ expired_by_test S name i number is from to =
     mapped None = refl
     mapped (Some g) = refl
 
-pub expiry_bounds : (S : Spool) (name : Octets) (i : GroupIndex) (number : ℕ) → Some i ≡ option_map (group_index S) (group_named S name)
-    → MayExpire S name number → (i.low ≤ number) × (number ≤ length i.filed)
-expiry_bounds S name i number is may =
-    let its = group_is S name i is in
-    let lowest : i.low ≡ low S name = ap (λ (j : GroupIndex). j.low) its.its_index ∙ ap (low S) its.its_name in
-    let highest : length i.filed ≡ high S name = ap (λ (j : GroupIndex). length j.filed) its.its_index
+pub expiry_bounds : (S : Spool) (e : Expiry) (i : GroupIndex) → Some i ≡ option_map (group_index S) (group_named S e.group)
+    → MayExpire S e → (i.low ≤ e.number) × (e.number ≤ length i.filed)
+expiry_bounds S e i is may =
+    let its = group_is S e.group i is in
+    let lowest : i.low ≡ low S e.group = ap (λ (j : GroupIndex). j.low) its.its_index ∙ ap (low S) its.its_name in
+    let highest : length i.filed ≡ high S e.group = ap (λ (j : GroupIndex). length j.filed) its.its_index
     ∙ length-map (filed_in S its.group.name) (λ (a : NewsArticle). a.serial) ∙ ap (high S) its.its_name in
     (omega (arith, lowest, may.from_low), omega (arith, highest, may.to_high))
 
-pub no_expiry_elsewhere : (S : Spool) (name : Octets) (number : ℕ) → None ≡ option_map (group_index S) (group_named S name)
-    → MayExpire S name number → ⊥
-no_expiry_elsewhere S name number is may = true≢false (sym may.here ∙ ap (λ (o : Option NewsGroup). is_some o) (not_here S name is))
+pub no_expiry_elsewhere : (S : Spool) (e : Expiry) → None ≡ option_map (group_index S) (group_named S e.group) → MayExpire S e → ⊥
+no_expiry_elsewhere S e is may = true≢false (sym may.here ∙ ap (λ (o : Option NewsGroup). is_some o) (not_here S e.group is))
 
 -- ---- articles
 
@@ -116,10 +104,10 @@ pub some_by : (o : Option NewsArticle) (n : ℕ) → Some n ≡ option_map (λ (
 some_by None n is none = absurd (cc)
 some_by (Some a) n is none = absurd (cc)
 
-pub filed_by_test : (host : Octets) (S : Spool) (text : Octets) (here filed : List Octets) (moment serial : ℕ) → cause Carried text ≡ None
-    → here ≡ filter (is_here S) (groups_of text) → serial ≡ length S + 1
-    → here ≡ filed → 0 < length filed → moment < moment_limit → MayHaveId host S serial (id text) → MayFile host S text filed moment
-filed_by_test host S text here filed moment serial carried here_are count same some early may = record {
+pub filed_by_test : (host : Octets) (S : Spool) (f : Filing) (here : List Octets) (serial : ℕ) → cause Carried f.text ≡ None
+    → here ≡ filter (is_here S) (groups_of f.text) → serial ≡ length S + 1
+    → here ≡ f.groups → 0 < length f.groups → f.moment < moment_limit → MayHaveId host S serial (id f.text) → MayFile host S f
+filed_by_test host S f here serial carried here_are count same some early may = record {
   carried = carried;
   filed = sym same ∙ here_are;
   somewhere = some;
@@ -128,9 +116,9 @@ filed_by_test host S text here filed moment serial carried here_are count same s
   in_time = early;
 }
 
-pub id_of_filed : (host : Octets) (S : Spool) (text : Octets) (filed : List Octets) (moment serial : ℕ) → serial ≡ length S + 1
-    → MayFile host S text filed moment → MayHaveId host S serial (id text)
-id_of_filed host S text filed moment serial count may = record { new = may.new; own = λ own. may.own own ∙ ap (made_id host) (sym count) }
+pub id_of_filed : (host : Octets) (S : Spool) (f : Filing) (serial : ℕ) → serial ≡ length S + 1 → MayFile host S f
+    → MayHaveId host S serial (id f.text)
+id_of_filed host S f serial count may = record { new = may.new; own = λ own. may.own own ∙ ap (made_id host) (sym count) }
 
 -- ---- names in the same order
 

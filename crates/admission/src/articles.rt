@@ -9,10 +9,9 @@ ghost use Rattle.model.specs.Spool as spool;
 ghost use Rattle.index.specs.View.{Indexes};
 ghost use Rattle.admission.specs.Fields.{MayHaveId};
 
-use crate::groups::MOMENT_LIMIT;
 use article::{Article, made_id};
 use index::Index;
-use model::Text;
+use model::{Moment, Text};
 use names::is_of_host;
 use std::alloc::{AllocError, Global};
 
@@ -71,17 +70,15 @@ pub fn may_file(
     article: &Article<'_>,
     here: &[Text],
     groups: &[&[u8]],
-    moment: u64,
+    moment: Moment,
 ) -> Result<bool, AllocError>
     requires { cause Carried article.now ≡ None }
     ensures { IfOk result (λ may. (S : Spool) → Indexes S index.now
         → here.now ≡ filter (spool.is_here S) (model_article.groups_of article.now) → serial ≡ length S + 1
-        → (IsTrue may ↔ MayFile host.now S article.now (map (λ g. g.now) groups.now) moment)) }
+        → (IsTrue may ↔ MayFile host.now S (record { text = article.now; groups = map (λ g. g.now) groups.now; moment = moment }))) }
 {
+    let _seconds = moment.seconds();
     if groups.is_empty() {
-        return Ok(false);
-    }
-    if moment >= MOMENT_LIMIT {
         return Ok(false);
     }
     if !are_same(here, groups) {

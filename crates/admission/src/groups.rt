@@ -1,26 +1,18 @@
 //! Groups: finding one by name, whether one may be made, and whether articles may be removed from one.
 
-ghost use Rattle.std.specs.Prelude.{◌≡◌, ◌↔◌, IsTrue, filter, length, option_map, IfOk};
-ghost use Rattle.std.specs.List.{list_all};
+ghost use Rattle.std.specs.Prelude.{◌≡◌, ◌↔◌, IsTrue, filter, option_map, IfOk};
 ghost use Rattle.model.specs.Indexed.{group_index};
-ghost use Rattle.model.specs.Lawful.{MayExpire, MayMake, is_description_octet};
+ghost use Rattle.model.specs.Lawful.{MayExpire, MayMake};
 ghost use Rattle.model.specs.Spool.{Spool, group_named};
 ghost use Rattle.model.specs.Spool as spool;
 ghost use Rattle.index_groups.specs.Shown.{shown};
 ghost use Rattle.index.specs.View.{Indexes};
-ghost use Rattle.admission.specs.Fields.{are_group_fields};
 
 use index::Index;
 use index_groups::Group;
-use model::Text;
-use names::is_group_name;
+use model::{Moment, Status, Text};
+use names::{is_description, is_group_name};
 use std::alloc::{AllocError, Global};
-
-/// The octets of the longest description.
-const DESCRIPTION_LIMIT: usize = 200;
-
-/// The first moment of the year 10000.
-pub(crate) const MOMENT_LIMIT: u64 = 253_402_300_800;
 
 /// The group with this name.
 pub fn find_group<'i>(index: &'i Index, name: &[u8]) -> Option<&'i Group>
@@ -37,28 +29,22 @@ fn is_here(index: &Index, name: &[u8]) -> bool
     find_group(index, name).is_some()
 }
 
-/// Whether a group with these fields may be made if no other has its name.
-fn are_group_fields(name: &[u8], status: u8, description: &[u8], moment: u64) -> bool
-    ensures { result ≡ are_group_fields name.now status description.now moment }
+/// Whether a group with these fields may be made. Each status and each moment is allowed.
+pub fn may_make(
+    index: &Index,
+    name: &[u8],
+    status: Status,
+    description: &[u8],
+    moment: Moment,
+) -> bool
+    ensures { (S : Spool) → Indexes S index.now → (IsTrue result
+        ↔ MayMake S (record { name = name.now; status = status; description = description.now; moment = moment })) }
 {
-    is_group_name(name)
-        && ((status == b'y' || status == b'n')
-            && (description.len() <= DESCRIPTION_LIMIT
-                && (is_printable(description) && moment < MOMENT_LIMIT)))
-}
-
-/// Whether each octet is SP or visible.
-fn is_printable(description: &[u8]) -> bool
-    ensures { result ≡ list_all is_description_octet description.now }
-{
-    description.iter().all(|x| 32 <= *x && *x <= 126)
-}
-
-/// Whether a group with these fields may be made.
-pub fn may_make(index: &Index, name: &[u8], status: u8, description: &[u8], moment: u64) -> bool
-    ensures { (S : Spool) → Indexes S index.now → (IsTrue result ↔ MayMake S name.now status description.now moment) }
-{
-    if !are_group_fields(name, status, description, moment) {
+    let _seconds = moment.seconds();
+    if !is_group_name(name) {
+        return false;
+    }
+    if !is_description(description) {
         return false;
     }
     !is_here(index, name)
@@ -66,7 +52,7 @@ pub fn may_make(index: &Index, name: &[u8], status: u8, description: &[u8], mome
 
 /// Whether the articles of a group up to a number may be removed from it.
 pub fn may_expire(index: &Index, group: &[u8], number: u64) -> bool
-    ensures { (S : Spool) → Indexes S index.now → (IsTrue result ↔ MayExpire S group.now number) }
+    ensures { (S : Spool) → Indexes S index.now → (IsTrue result ↔ MayExpire S (record { group = group.now; number = number })) }
 {
     let Some(found) = find_group(index, group) else {
         return false;

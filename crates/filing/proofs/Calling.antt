@@ -12,7 +12,7 @@ use Rattle.model.specs.SpoolFiles.{FileCall, Create, Append, after_call, after_c
 use Rattle.model.proofs.Asking.{files_grow_by_blocks}
 use Rattle.model.proofs.Inodes.{appends_to_one, creates_one}
 use Rattle.model.proofs.Owning.{content_size}
-use Rattle.model.proofs.Filing.{calls_after}
+use Rattle.model.proofs.Growing.{calls_after}
 use Rattle.fs.specs.Calls.{Creates, HasNoFreeInode, IsFileAt}
 use Rattle.fs.specs.Changes.{SameMarks}
 use Rattle.fs.specs.Growing.{GrowsBy, HasRoomFor}

@@ -18,6 +18,7 @@ use Rattle.model.specs.Lawful.{MayFile}
 use Rattle.model.specs.Names.{is_group_name}
 use Rattle.model.specs.Spool.{Spool, NewsGroup, articles, expiries, group_named, groups, is_here, is_name}
 use Rattle.model.specs.SpoolFiles.{article_file, expiry_file, files_by_kind, files_of, group_files, overview_file, overview_name}
+use Rattle.model.specs.declared.change.Filing.{Filing}
 use Rattle.model.proofs.ByKind.{files_kinds}
 use Rattle.model.proofs.HoldsOne.{carried_cause}
 use Rattle.model.proofs.Ids.{no_cause}
@@ -60,16 +61,15 @@ fewer p (n ∷ names) = by_test (p n) (fewer p names) where
   by_test false rest = omega arith
 
 -- what `push_article` asks for, by `MayFile`
-pub few_groups : (host : Octets) (S : Spool) (text : Octets) (filed : List Octets) (moment : ℕ) → MayFile host S text filed moment
-    → length filed ≤ 16
-few_groups host S text filed moment may =
-    let good = and_parts (nat_le (length (groups_of text)) 16 && list_all is_group_name (groups_of text)) (are_distinct (groups_of text))
-    (no_cause Carried text (carried_cause text may.carried)).good_groups in
-    let few : length (groups_of text) ≤ 16 =
-    leb-true (length (groups_of text)) 16
-    (and_parts (nat_le (length (groups_of text)) 16) (list_all is_group_name (groups_of text)) good.0).0 in
-    let count : length filed ≡ length (filter (is_here S) (groups_of text)) = ap (λ (names : List Octets). length names) may.filed in
-    omega (arith, few, count, fewer (is_here S) (groups_of text))
+pub few_groups : (host : Octets) (S : Spool) (f : Filing) → MayFile host S f → length f.groups ≤ 16
+few_groups host S f may =
+    let names = groups_of f.text in
+    let good = and_parts (nat_le (length names) 16 && list_all is_group_name names) (are_distinct names)
+    (no_cause Carried f.text (carried_cause f.text may.carried)).good_groups in
+    let few : length names ≤ 16 =
+    leb-true (length names) 16 (and_parts (nat_le (length names) 16) (list_all is_group_name names) good.0).0 in
+    let count : length f.groups ≡ length (filter (is_here S) names) = ap (λ (l : List Octets). length l) may.filed in
+    omega (arith, few, count, fewer (is_here S) names)
 
 -- ---- overviews that blocks hold
 

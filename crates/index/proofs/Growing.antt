@@ -15,11 +15,14 @@ use Rattle.model.specs.Names.{is_group_name}
 use Rattle.model.specs.Indexed.{GroupIndex, ends_from, group_index, line_start, new_index, value_of, with_article, with_expiry}
 use Rattle.model.specs.Lawful.{IsLawful, MayExpire, MayFile, MayMake}
 use Rattle.model.specs.Spool.{Spool, Entry, entries_from, entries, NewsArticle, NewsGroup, article_filed, articles, by_id, filed_in}
-use Rattle.model.specs.Spool.{group_made, group_named, groups, has_id, is_here, is_name}
+use Rattle.model.specs.Spool.{group_made, group_named, groups, has_id, is_here, is_name, news_article, news_group}
 use Rattle.model.specs.SpoolFiles.{next_line, overview_file, overview_lines, overview_of}
 use Rattle.model.specs.declared.change.Change.{Change}
 use Rattle.model.specs.declared.change.Change.TheVariants.{Group, Article, Expire}
-use Rattle.model.proofs.Filing.{entries_push}
+use Rattle.model.specs.declared.change.Expiry.{Expiry}
+use Rattle.model.specs.declared.change.Filing.{Filing}
+use Rattle.model.specs.declared.change.NewGroup.{NewGroup}
+use Rattle.model.proofs.Growing.{entries_push}
 use Rattle.model.proofs.HoldsOne.{carried_cause}
 use Rattle.model.proofs.Ids.{no_cause}
 use Rattle.model.proofs.Indexing.{articles_grow, empty_index, expiries_grow, groups_grow}
@@ -91,11 +94,11 @@ unfolding by_id
 ids_same S c wanted none = ap (find (has_id wanted)) (articles_of_more S c ∙ ap (λ (as' : List NewsArticle). articles S ++ as') none
     ∙ append-nil (articles S))
 
-ids_more : (S : Spool) (text : Octets) (filed : List Octets) (moment : ℕ) (wanted : Octets) →
-    by_id (S ++ Article text filed moment ∷ []) wanted ≡ option_or (by_id S wanted)
-    (cond (bytes_eq (id text) wanted) (Some (record { serial = length S + 1; text = text; groups = filed; moment = moment })) None)
+ids_more : (S : Spool) (filing : Filing) (wanted : Octets) →
+    by_id (S ++ Article filing ∷ []) wanted ≡ option_or (by_id S wanted)
+    (cond (bytes_eq (id filing.text) wanted) (Some (news_article (length S + 1) filing)) None)
 unfolding by_id
-ids_more S text filed moment wanted = ap (find (has_id wanted)) (articles_of_more S (Article text filed moment))
+ids_more S filing wanted = ap (find (has_id wanted)) (articles_of_more S (Article filing))
     ∙ find-append (has_id wanted) (articles S) _
 
 map_same : {X Y : Type 0} (f h : X → Y) (xs : List X) → ((x : X) → f x ≡ h x) → map f xs ≡ map h xs
@@ -114,65 +117,64 @@ map_apart f h name (g ∷ gs) same none = by_test (bytes_eq g.name name) refl no
   by_test true at found rest = absurd (cc)
   by_test false at found rest = λ i. same g (bytes_swap g.name name at) i ∷ rest found i
 
-groups_apart : (host : Octets) (S : Spool) (name : Octets) (status : ℕ) (description : Octets) (moment : ℕ) → group_named S name ≡ None
-    → map (group_index (S ++ Group name status description moment ∷ [])) (groups S) ≡ map (group_index S) (groups S)
+groups_apart : (S : Spool) (created : NewGroup) → group_named S created.name ≡ None
+    → map (group_index (S ++ Group created ∷ [])) (groups S) ≡ map (group_index S) (groups S)
 unfolding group_named
-groups_apart host S name status description moment none =
-    map_apart (group_index (S ++ Group name status description moment ∷ [])) (group_index S) name (groups S)
-    (λ g apart. groups_grow.others S name status description moment g apart) none
+groups_apart S created none =
+    map_apart (group_index (S ++ Group created ∷ [])) (group_index S) created.name (groups S)
+    (λ g apart. groups_grow.others S created g apart) none
 
-pub group_indexed : (host : Octets) (S : Spool) (x y : IndexView) (name : Octets) (status : ℕ) (description : Octets) (moment : ℕ)
-    (new : GroupIndex) (note : Note) → IsLawful host S → MayMake S name status description moment → Indexes S x
-    → y.notes ≡ x.notes ++ note ∷ []
-    → note ≡ kept (record { serial = length S + 1; change = Group name status description moment })
+pub group_indexed : (host : Octets) (S : Spool) (x y : IndexView) (created : NewGroup) (new : GroupIndex) (note : Note) → IsLawful host S
+    → MayMake S created → Indexes S x → y.notes ≡ x.notes ++ note ∷ []
+    → note ≡ kept (record { serial = length S + 1; change = Group created })
     → y.groups ≡ x.groups ++ new ∷ []
-    → new ≡ new_index S (record { serial = length S + 1; name = name; status = status; description = description; moment = moment })
-    → y.ids ≡ x.ids → Indexes (S ++ Group name status description moment ∷ []) y
-group_indexed host S x y name status description moment new note lawful may is notes note_is groups' new_is ids = record {
+    → new ≡ new_index S (news_group (length S + 1) created)
+    → y.ids ≡ x.ids → Indexes (S ++ Group created ∷ []) y
+group_indexed host S x y created new note lawful may is notes note_is groups' new_is ids = record {
   notes_are = notes ∙ ap (λ (n : Note). x.notes ++ n ∷ []) note_is ∙ notes_more S x c is;
   groups_are =
       groups' ∙ ap (λ (i : GroupIndex). x.groups ++ i ∷ []) (new_is
-      ∙ sym (groups_grow.its_own host S name status description moment g lawful may refl))
+      ∙ sym (groups_grow.its_own host S created g lawful may refl))
       ∙ ap (λ (gs : List GroupIndex). gs ++ group_index R g ∷ []) (is.groups_are
-      ∙ sym (groups_apart host S name status description moment may.new))
+      ∙ sym (groups_apart S created may.new))
       ∙ sym (map_push (group_index R) (groups S) g) ∙ ap (map (group_index R)) (sym (groups_of_more S c));
   ids_are = λ wanted.
       ap (λ (es : List (Octets × ℕ)). value_of es wanted) ids ∙ is.ids_are wanted
       ∙ ap (option_map (λ (a : NewsArticle). a.serial)) (sym (ids_same S c wanted refl));
 } where
   c : Change
-  c = Group name status description moment
+  c = Group created
 
   R : Spool
-  R = S ++ Group name status description moment ∷ []
+  R = S ++ Group created ∷ []
 
   g : NewsGroup
-  g = record { serial = length S + 1; name = name; status = status; description = description; moment = moment }
+  g = news_group (length S + 1) created
 
 -- ---- an expiry more
 
-pub expiry_indexed : (host : Octets) (S : Spool) (x y : IndexView) (name : Octets) (number : ℕ) (note : Note) → MayExpire S name number
-    → Indexes S x
-    → y.notes ≡ x.notes ++ note ∷ [] → note ≡ kept (record { serial = length S + 1; change = Expire name number })
-    → y.groups ≡ map (λ i. cond (bytes_eq name i.group.name) (with_expiry S number i) i) x.groups
-    → y.ids ≡ x.ids → Indexes (S ++ Expire name number ∷ []) y
-expiry_indexed host S x y name number note may is notes note_is groups' ids = record {
+pub expiry_indexed : (host : Octets) (S : Spool) (x y : IndexView) (expiry : Expiry) (note : Note) → MayExpire S expiry → Indexes S x
+    → y.notes ≡ x.notes ++ note ∷ [] → note ≡ kept (record { serial = length S + 1; change = Expire expiry })
+    → y.groups ≡ map (λ i. cond (bytes_eq expiry.group i.group.name) (with_expiry S expiry.number i) i) x.groups
+    → y.ids ≡ x.ids → Indexes (S ++ Expire expiry ∷ []) y
+expiry_indexed host S x y expiry note may is notes note_is groups' ids = record {
   notes_are = notes ∙ ap (λ (n : Note). x.notes ++ n ∷ []) note_is ∙ notes_more S x c is;
   groups_are =
-      groups' ∙ ap (map (λ (i : GroupIndex). cond (bytes_eq name i.group.name) (with_expiry S number i) i)) is.groups_are
-      ∙ map_twice (λ (i : GroupIndex). cond (bytes_eq name i.group.name) (with_expiry S number i) i) (group_index S) (groups S)
-      ∙ map_same (λ (g : NewsGroup). cond (bytes_eq name g.name) (with_expiry S number (group_index S g)) (group_index S g)) (group_index R)
-      (groups S) (λ g. sym (expiries_grow host S name number g may))
+      groups' ∙ ap (map (λ (i : GroupIndex). cond (bytes_eq expiry.group i.group.name) (with_expiry S expiry.number i) i)) is.groups_are
+      ∙ map_twice (λ (i : GroupIndex). cond (bytes_eq expiry.group i.group.name) (with_expiry S expiry.number i) i) (group_index S)
+      (groups S)
+      ∙ map_same (λ (g : NewsGroup). cond (bytes_eq expiry.group g.name) (with_expiry S expiry.number (group_index S g)) (group_index S g))
+      (group_index R) (groups S) (λ g. sym (expiries_grow host S expiry g may))
       ∙ ap (map (group_index R)) (sym (groups_of_more S c ∙ append-nil (groups S)));
   ids_are = λ wanted.
       ap (λ (es : List (Octets × ℕ)). value_of es wanted) ids ∙ is.ids_are wanted
       ∙ ap (option_map (λ (a : NewsArticle). a.serial)) (sym (ids_same S c wanted refl));
 } where
   c : Change
-  c = Expire name number
+  c = Expire expiry
 
   R : Spool
-  R = S ++ Expire name number ∷ []
+  R = S ++ Expire expiry ∷ []
 
 -- ---- an article more
 
@@ -200,13 +202,13 @@ filter_distinct p (x ∷ names) distinct =
     by_test true none rest = ap (λ (t : Bool). not t && are_distinct (filter p names)) none ∙ rest
     by_test false none rest = rest
 
-pub filed_distinct : (host : Octets) (S : Spool) (text : Octets) (filed : List Octets) (moment : ℕ) → MayFile host S text filed moment
-    → are_distinct filed ≡ true
-filed_distinct host S text filed moment may =
+pub filed_distinct : (host : Octets) (S : Spool) (filing : Filing) → MayFile host S filing → are_distinct filing.groups ≡ true
+filed_distinct host S filing may =
+    let names = groups_of filing.text in
     ap are_distinct may.filed
-    ∙ filter_distinct (is_here S) (groups_of text)
-    (and_parts (nat_le (length (groups_of text)) 16 && list_all is_group_name (groups_of text)) (are_distinct (groups_of text))
-    (no_cause Carried text (carried_cause text may.carried)).good_groups).1
+    ∙ filter_distinct (is_here S) names
+    (and_parts (nat_le (length names) 16 && list_all is_group_name names) (are_distinct names)
+    (no_cause Carried filing.text (carried_cause filing.text may.carried)).good_groups).1
 
 -- a name differs from all before it
 lacks_front : (x h : Octets) (names : List Octets) (k : ℕ) → k < length names → list_any (bytes_eq x) names ≡ false
@@ -256,54 +258,57 @@ overview_size S g =
     let ls : List Octets = overview_lines (filed_in S g.name) in
     end_is (ends_from 0 ls) ∙ ends_total 0 ls ∙ zero-add (length (flat_map (λ l. l) ls))
 
-module _ (S : Spool) (text : Octets) (filed : List Octets) (sizes : List ℕ) (distinct : are_distinct filed ≡ true)
-    (sized : AreLineSizes S text filed sizes) (g : NewsGroup) where
+module _ (S : Spool) (filing : Filing) (sizes : List ℕ) (distinct : are_distinct filing.groups ≡ true)
+    (sized : AreLineSizes S filing.text filing.groups sizes) (g : NewsGroup) where
   its : GroupIndex
   its = group_index S g
 
-  line_is : (name : Octets) (size : ℕ) → bytes_eq name g.name ≡ true → size ≡ length (next_line S text name)
-      → with_line (length S + 1) size (group_index S g) ≡ with_article S text (group_index S g)
+  line_is : (name : Octets) (size : ℕ) → bytes_eq name g.name ≡ true → size ≡ length (next_line S filing.text name)
+      → with_line (length S + 1) size (group_index S g) ≡ with_article S filing.text (group_index S g)
   line_is name size at is =
-      let ends : end_of (group_index S g) + size ≡ length (overview_file S g.name) + length (next_line S text g.name) =
-      (λ i. overview_size S g i + (is ∙ ap (λ (n : Octets). length (next_line S text n)) ((bytes_eq-Decides name g.name).0 at)) i) in
+      let ends : end_of (group_index S g) + size ≡ length (overview_file S g.name) + length (next_line S filing.text g.name) =
+      (λ i. overview_size S g i + (is ∙ ap (λ (n : Octets). length (next_line S filing.text n)) ((bytes_eq-Decides name g.name).0 at)) i) in
       ap (λ (n : ℕ). record (group_index S g) {
         filed = (group_index S g).filed ++ (length S + 1) ∷ [];
         ends = (group_index S g).ends ++ n ∷ [];
         last = length S + 1;
       }) ends
 
-  step : (b t : Bool) (name : Octets) (size : ℕ) → bytes_eq name g.name ≡ t → (t ≡ true → b ≡ false) → size ≡ length (next_line S text name)
-      → filed_once (length S + 1) name size (cond b (with_article S text (group_index S g)) (group_index S g))
-      ≡ cond (b || t) (with_article S text (group_index S g)) (group_index S g)
+  step : (b t : Bool) (name : Octets) (size : ℕ) → bytes_eq name g.name ≡ t → (t ≡ true → b ≡ false)
+      → size ≡ length (next_line S filing.text name)
+      → filed_once (length S + 1) name size (cond b (with_article S filing.text (group_index S g)) (group_index S g))
+      ≡ cond (b || t) (with_article S filing.text (group_index S g)) (group_index S g)
   step true true name size at apart is = absurd (let clash : true ≡ false = apart refl in cc)
   step true false name size at apart is =
-      ap (λ (z : Bool). cond z (with_line (length S + 1) size (with_article S text (group_index S g)))
-      (with_article S text (group_index S g))) at
+      ap (λ (z : Bool). cond z (with_line (length S + 1) size (with_article S filing.text (group_index S g)))
+      (with_article S filing.text (group_index S g))) at
   step false true name size at apart is = ap (λ (z : Bool). cond z (with_line (length S + 1) size (group_index S g)) (group_index S g)) at
       ∙ line_is name size at is
   step false false name size at apart is = ap (λ (z : Bool). cond z (with_line (length S + 1) size (group_index S g)) (group_index S g)) at
 
-  filed_front : (k : ℕ) → k ≤ length filed
-      → filed_by (length S + 1) filed sizes k (group_index S g) ≡ cond (list_any (is_name g.name) (take k filed))
-      (with_article S text (group_index S g)) (group_index S g)
+  filed_front : (k : ℕ) → k ≤ length filing.groups
+      → filed_by (length S + 1) filing.groups sizes k (group_index S g) ≡ cond (list_any (is_name g.name) (take k filing.groups))
+      (with_article S filing.text (group_index S g)) (group_index S g)
   filed_front zero low = refl
   filed_front (suc k) low =
-      let name : Octets = get_or filed k [] in
+      let name : Octets = get_or filing.groups k [] in
       let next : suc k ≡ k + 1 = omega arith in
-      let more : list_any (is_name g.name) (take (suc k) filed) ≡ (list_any (is_name g.name) (take k filed) || bytes_eq name g.name) =
-      ap (λ (n : ℕ). list_any (is_name g.name) (take n filed)) next ∙ list_any_more (is_name g.name) filed k [] (omega arith) in
+      let more : list_any (is_name g.name) (take (suc k) filing.groups)
+      ≡ (list_any (is_name g.name) (take k filing.groups) || bytes_eq name g.name) =
+      ap (λ (n : ℕ). list_any (is_name g.name) (take n filing.groups)) next
+      ∙ list_any_more (is_name g.name) filing.groups k [] (omega arith) in
       ap (filed_once (length S + 1) name (get_or sizes k 0)) (filed_front k (omega arith))
-      ∙ step (list_any (is_name g.name) (take k filed)) (bytes_eq name g.name) name (get_or sizes k 0) refl
-      (λ at. once filed k g.name distinct (omega arith) at) (sized k (omega arith))
-      ∙ ap (λ (b : Bool). cond b (with_article S text (group_index S g)) (group_index S g)) (sym more)
+      ∙ step (list_any (is_name g.name) (take k filing.groups)) (bytes_eq name g.name) name (get_or sizes k 0) refl
+      (λ at. once filing.groups k g.name distinct (omega arith) at) (sized k (omega arith))
+      ∙ ap (λ (b : Bool). cond b (with_article S filing.text (group_index S g)) (group_index S g)) (sym more)
 
-  filed_all : (text' : Octets) (moment : ℕ) → text' ≡ text
-      → filed_by (length S + 1) filed sizes (length filed) (group_index S g) ≡ group_index (S ++ Article text filed moment ∷ []) g
-  filed_all text' moment same =
-      filed_front (length filed) (omega arith)
-      ∙ ap (λ (names : List Octets). cond (list_any (is_name g.name) names) (with_article S text (group_index S g)) (group_index S g))
-      (take_all (length filed) filed (omega arith))
-      ∙ sym (articles_grow S text filed moment g)
+  filed_all : filed_by (length S + 1) filing.groups sizes (length filing.groups) (group_index S g)
+      ≡ group_index (S ++ Article filing ∷ []) g
+  filed_all =
+      filed_front (length filing.groups) (omega arith)
+      ∙ ap (λ (names : List Octets). cond (list_any (is_name g.name) names) (with_article S filing.text (group_index S g))
+      (group_index S g)) (take_all (length filing.groups) filing.groups (omega arith))
+      ∙ sym (articles_grow S filing g)
 
 -- the id that is new
 found : {X : Type 0} (serial : X → ℕ) (old : Option X) (new : X) (b d : Bool) → (b ≡ true → d ≡ true) → (d ≡ true → b ≡ true)
@@ -320,32 +325,34 @@ found serial old new false true one two none = absurd (let clash : false ≡ tru
 same_key : (q key : Octets) → bytes_eq q key ≡ true → bytes_eq key q ≡ true
 same_key q key is = (bytes_eq-Decides key q).1 (sym ((bytes_eq-Decides q key).0 is))
 
-pub article_indexed : (host : Octets) (S : Spool) (x y : IndexView) (text key : Octets) (filed : List Octets) (moment : ℕ) (sizes : List ℕ)
-    (note : Note) (serial : ℕ) → MayFile host S text filed moment → Indexes S x
-    → y.notes ≡ x.notes ++ note ∷ [] → note ≡ kept (record { serial = length S + 1; change = Article text filed moment })
-    → AreLineSizes S text filed sizes → serial ≡ length S + 1 → y.groups ≡ map (filed_by serial filed sizes (length filed)) x.groups
-    → key ≡ id text → ((q : Octets) → value_of y.ids q ≡ cond (bytes_eq q key) (Some serial) (value_of x.ids q))
-    → Indexes (S ++ Article text filed moment ∷ []) y
-article_indexed host S x y text key filed moment sizes note serial may is notes note_is sized serial_is groups' key_is ids = record {
+pub article_indexed : (host : Octets) (S : Spool) (x y : IndexView) (filing : Filing) (key : Octets) (sizes : List ℕ) (note : Note)
+    (serial : ℕ) → MayFile host S filing → Indexes S x
+    → y.notes ≡ x.notes ++ note ∷ [] → note ≡ kept (record { serial = length S + 1; change = Article filing })
+    → AreLineSizes S filing.text filing.groups sizes → serial ≡ length S + 1
+    → y.groups ≡ map (filed_by serial filing.groups sizes (length filing.groups)) x.groups
+    → key ≡ id filing.text → ((q : Octets) → value_of y.ids q ≡ cond (bytes_eq q key) (Some serial) (value_of x.ids q))
+    → Indexes (S ++ Article filing ∷ []) y
+article_indexed host S x y filing key sizes note serial may is notes note_is sized serial_is groups' key_is ids = record {
   notes_are = notes ∙ ap (λ (n : Note). x.notes ++ n ∷ []) note_is ∙ notes_more S x c is;
   groups_are =
-      groups' ∙ ap (λ (n : ℕ). map (filed_by n filed sizes (length filed)) x.groups) serial_is
-      ∙ ap (map (filed_by (length S + 1) filed sizes (length filed))) is.groups_are
-      ∙ map_twice (filed_by (length S + 1) filed sizes (length filed)) (group_index S) (groups S)
-      ∙ map_same (λ (g : NewsGroup). filed_by (length S + 1) filed sizes (length filed) (group_index S g)) (group_index R) (groups S)
-      (λ g. filed_all S text filed sizes (filed_distinct host S text filed moment may) sized g text moment refl)
+      groups' ∙ ap (λ (n : ℕ). map (filed_by n filing.groups sizes (length filing.groups)) x.groups) serial_is
+      ∙ ap (map (filed_by (length S + 1) filing.groups sizes (length filing.groups))) is.groups_are
+      ∙ map_twice (filed_by (length S + 1) filing.groups sizes (length filing.groups)) (group_index S) (groups S)
+      ∙ map_same (λ (g : NewsGroup). filed_by (length S + 1) filing.groups sizes (length filing.groups) (group_index S g)) (group_index R)
+      (groups S) (λ g. filed_all S filing sizes (filed_distinct host S filing may) sized g)
       ∙ ap (map (group_index R)) (sym (groups_of_more S c ∙ append-nil (groups S)));
   ids_are = λ q.
       ids q ∙ ap (λ (k : Octets). cond (bytes_eq q k) (Some serial) (value_of x.ids q)) key_is
-      ∙ ap (λ (n : ℕ). cond (bytes_eq q (id text)) (Some n) (value_of x.ids q)) serial_is
-      ∙ ap (λ (o : Option ℕ). cond (bytes_eq q (id text)) (Some (length S + 1)) o) (is.ids_are q)
-      ∙ found (λ (a : NewsArticle). a.serial) (by_id S q) (record { serial = length S + 1; text = text; groups = filed; moment = moment })
-      (bytes_eq q (id text)) (bytes_eq (id text) q)
-      (same_key q (id text)) (same_key (id text) q) (λ at. ap (by_id S) ((bytes_eq-Decides q (id text)).0 at) ∙ may.new)
-      ∙ ap (option_map (λ (a : NewsArticle). a.serial)) (sym (ids_more S text filed moment q));
+      ∙ ap (λ (n : ℕ). cond (bytes_eq q (id filing.text)) (Some n) (value_of x.ids q)) serial_is
+      ∙ ap (λ (o : Option ℕ). cond (bytes_eq q (id filing.text)) (Some (length S + 1)) o) (is.ids_are q)
+      ∙ found (λ (a : NewsArticle). a.serial) (by_id S q) (news_article (length S + 1) filing)
+      (bytes_eq q (id filing.text)) (bytes_eq (id filing.text) q)
+      (same_key q (id filing.text)) (same_key (id filing.text) q)
+      (λ at. ap (by_id S) ((bytes_eq-Decides q (id filing.text)).0 at) ∙ may.new)
+      ∙ ap (option_map (λ (a : NewsArticle). a.serial)) (sym (ids_more S filing q));
 } where
   c : Change
-  c = Article text filed moment
+  c = Article filing
 
   R : Spool
-  R = S ++ Article text filed moment ∷ []
+  R = S ++ Article filing ∷ []

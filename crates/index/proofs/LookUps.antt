@@ -9,10 +9,10 @@ use Rattle.std.proofs.lemmas.Slice.Eq.{bytes_eq-Decides}
 use Rattle.model.specs.Stream.{Octets}
 use Rattle.model.specs.Indexed.{GroupIndex, group_index, value_of}
 use Rattle.model.specs.Lawful.{IsLawful, IsLawfulAfter}
-use Rattle.model.specs.Spool.{Spool, entries_from, entries, Expiry, NewsArticle, NewsGroup, by_number, expired_at, expiries, expiries_of}
-use Rattle.model.specs.Spool.{expiry_made, filed_in, group_named, groups, is_here, is_name, low, numbered, serial_of}
+use Rattle.model.specs.Spool.{Spool, entries_from, entries, NewsExpiry, NewsArticle, NewsGroup, by_number, expired_at, expiries}
+use Rattle.model.specs.Spool.{expiries_of, expiry_made, filed_in, group_named, groups, is_here, is_name, low, numbered, serial_of}
 use Rattle.model.specs.declared.change.Change.TheVariants.{Group, Article, Expire}
-use Rattle.model.proofs.Filing.{named_front, new_has_nothing}
+use Rattle.model.proofs.Growing.{named_front, new_has_nothing}
 use Rattle.model.proofs.Joined.{bytes_differ}
 use Rattle.model.proofs.Rising.{expiries_rise}
 use Rattle.index_groups.specs.Finding.{Rise, filed_at}
@@ -152,19 +152,19 @@ number_not_found host S name n lawful is =
 
 nothing_expired : (host : Octets) (before cs : Spool) (n : ℕ) (name : Octets) → IsLawfulAfter host before cs
     → group_named (before ++ cs) name ≡ None
-    → filter (λ (e : Expiry). is_name name e.group) (filter_map expiry_made (entries_from n cs)) ≡ []
+    → filter (λ (e : NewsExpiry). is_name name e.group) (filter_map expiry_made (entries_from n cs)) ≡ []
 nothing_expired host before [] n name lawful none = refl
-nothing_expired host before (Group g status description moment ∷ cs) n name lawful none =
-    nothing_expired host (before ++ Group g status description moment ∷ []) cs (suc n) name lawful.1 (rw append_assoc none)
-nothing_expired host before (Article text gs moment ∷ cs) n name lawful none =
-    nothing_expired host (before ++ Article text gs moment ∷ []) cs (suc n) name lawful.1 (rw append_assoc none)
-nothing_expired host before (Expire h number ∷ cs) n name lawful none =
+nothing_expired host before (Group created ∷ cs) n name lawful none =
+    nothing_expired host (before ++ Group created ∷ []) cs (suc n) name lawful.1 (rw append_assoc none)
+nothing_expired host before (Article filing ∷ cs) n name lawful none =
+    nothing_expired host (before ++ Article filing ∷ []) cs (suc n) name lawful.1 (rw append_assoc none)
+nothing_expired host before (Expire expiry ∷ cs) n name lawful none =
     let absent : is_here before name ≡ false =
-    ap (λ (o : Option NewsGroup). is_some o) (named_front before (Expire h number ∷ cs) name none) in
-    let other : bytes_eq h name ≡ false =
-    bytes_differ h name (λ same. true≢false (sym lawful.0.here ∙ ap (is_here before) same ∙ absent)) in
-    let rest = nothing_expired host (before ++ Expire h number ∷ []) cs (suc n) name lawful.1 (rw append_assoc none) in
-    cond-false (bytes_eq h name) _ _ other ∙ rest
+    ap (λ (o : Option NewsGroup). is_some o) (named_front before (Expire expiry ∷ cs) name none) in
+    let other : bytes_eq expiry.group name ≡ false =
+    bytes_differ expiry.group name (λ same. true≢false (sym lawful.0.here ∙ ap (is_here before) same ∙ absent)) in
+    let rest = nothing_expired host (before ++ Expire expiry ∷ []) cs (suc n) name lawful.1 (rw append_assoc none) in
+    cond-false (bytes_eq expiry.group name) _ _ other ∙ rest
 
 none_expired : (host : Octets) (S : Spool) (name : Octets) → IsLawful host S → group_named S name ≡ None → expiries_of S name ≡ []
 unfolding expiries_of expiries entries
@@ -174,19 +174,20 @@ pub expiry_not_found : (host : Octets) (S : Spool) (name : Octets) (n : ℕ) →
     → None ≡ option_map (group_index S) (group_named S name) → 0 ≡ expired_at S name n
 unfolding expired_at
 expiry_not_found host S name n lawful is =
-    ap (λ (es : List Expiry). serial_of (find (λ (e : Expiry). nat_le n e.number) es))
+    ap (λ (es : List NewsExpiry). serial_of (find (λ (e : NewsExpiry). nat_le n e.number) es))
     (sym (none_expired host S name lawful (not_here S name is)))
 
 pub expiry_found : (host : Octets) (S : Spool) (name : Octets) (i : GroupIndex) (n serial : ℕ) → IsLawful host S
     → Some i ≡ option_map (group_index S) (group_named S name)
-    → (Rise (map (λ (e : Expiry). e.number) i.expired) → serial ≡ serial_of (find (λ (e : Expiry). nat_le n e.number) i.expired))
+    → (Rise (map (λ (e : NewsExpiry). e.number) i.expired) → serial ≡ serial_of (find (λ (e : NewsExpiry). nat_le n e.number) i.expired))
     → serial ≡ expired_at S name n
 unfolding expired_at
 expiry_found host S name i n serial lawful is at =
     let its = group_is S name i is in
     let all : i.expired ≡ expiries_of S name = ap (λ (j : GroupIndex). j.expired) its.its_index ∙ ap (expiries_of S) its.its_name in
-    let numbers : Rise (map (λ (e : Expiry). e.number) i.expired) =
-    subst (λ (es : List Expiry). Rise (map (λ (e : Expiry). e.number) es)) (sym all)
-    (λ j k less low. expiries_rise host S name j k lawful less (omega (arith, length-map (expiries_of S name) (λ (e : Expiry). e.number))))
+    let numbers : Rise (map (λ (e : NewsExpiry). e.number) i.expired) =
+    subst (λ (es : List NewsExpiry). Rise (map (λ (e : NewsExpiry). e.number) es)) (sym all)
+    (λ j k less low. expiries_rise host S name j k lawful less
+    (omega (arith, length-map (expiries_of S name) (λ (e : NewsExpiry). e.number))))
     in
-    at numbers ∙ ap (λ (es : List Expiry). serial_of (find (λ (e : Expiry). nat_le n e.number) es)) all
+    at numbers ∙ ap (λ (es : List NewsExpiry). serial_of (find (λ (e : NewsExpiry). nat_le n e.number) es)) all

@@ -20,7 +20,7 @@ use Rattle.model.specs.Indexed.{GroupIndex, group_index}
 use Rattle.model.specs.Lawful.{IsLawful}
 use Rattle.model.specs.Names.{wildmat_matches}
 use Rattle.model.specs.Spool.{Spool, NewsArticle, NewsGroup, article_filed, articles, as_it_is, entries, entries_from, filed_in}
-use Rattle.model.specs.Spool.{group_named, groups, is_name, low}
+use Rattle.model.specs.Spool.{group_named, groups, is_name, low, news_article}
 use Rattle.model.specs.Stream.{Octets, line}
 use Rattle.model.specs.declared.change.Change.TheVariants.{Group, Article, Expire}
 use Rattle.model.proofs.Rising.{filed_rise}
@@ -150,17 +150,17 @@ serials_from p n cs = map (λ (a : NewsArticle). a.serial) (filter p (filter_map
 
 no_earlier : (p : NewsArticle → Bool) (s n : ℕ) (cs : Spool) → s < n → among s (serials_from p n cs) ≡ false
 no_earlier p s n [] low = refl
-no_earlier p s n (Group name status description moment ∷ cs) low = no_earlier p s (suc n) cs (omega arith)
-no_earlier p s n (Expire group number ∷ cs) low = no_earlier p s (suc n) cs (omega arith)
-no_earlier p s n (Article text filed moment ∷ cs) low =
-    by_test (p (record { serial = n; text = text; groups = filed; moment = moment })) (no_earlier p s (suc n) cs (omega arith))
+no_earlier p s n (Group created ∷ cs) low = no_earlier p s (suc n) cs (omega arith)
+no_earlier p s n (Expire expiry ∷ cs) low = no_earlier p s (suc n) cs (omega arith)
+no_earlier p s n (Article filing ∷ cs) low =
+    by_test (p (news_article n filing)) (no_earlier p s (suc n) cs (omega arith))
   where
     rest : List NewsArticle
     rest = filter p (filter_map article_filed (entries_from (suc n) cs))
 
     by_test : (b : Bool) → list_any (λ m. m == s) (map (λ (a : NewsArticle). a.serial) rest) ≡ false
         → list_any (λ m. m == s) (map (λ (a : NewsArticle). a.serial)
-        (cond b (record { serial = n; text = text; groups = filed; moment = moment } ∷ rest) rest)) ≡ false
+        (cond b (news_article n filing ∷ rest) rest)) ≡ false
     by_test true none = ap (λ (b : Bool). b || list_any (λ m. m == s) (map (λ (a : NewsArticle). a.serial) rest))
         (ne_eqb n s (λ same. absurd (omega (arith, same, low)))) ∙ none
     by_test false none = none
@@ -168,31 +168,31 @@ no_earlier p s n (Article text filed moment ∷ cs) low =
 serial_there : (p : NewsArticle → Bool) (s n k : ℕ) (cs : Spool) → s ≡ n + k
     → among s (serials_from p n cs) ≡ passes p (option_and_then article_filed (slice_get (entries_from n cs) k))
 serial_there p s n k [] is = refl
-serial_there p s n zero (Group name status description moment ∷ cs) is = no_earlier p s (suc n) cs (omega (arith, is))
-serial_there p s n (suc k) (Group name status description moment ∷ cs) is = serial_there p s (suc n) k cs (omega (arith, is))
-serial_there p s n zero (Expire group number ∷ cs) is = no_earlier p s (suc n) cs (omega (arith, is))
-serial_there p s n (suc k) (Expire group number ∷ cs) is = serial_there p s (suc n) k cs (omega (arith, is))
-serial_there p s n zero (Article text filed moment ∷ cs) is =
-    by_test (p (record { serial = n; text = text; groups = filed; moment = moment })) (no_earlier p s (suc n) cs (omega (arith, is)))
+serial_there p s n zero (Group created ∷ cs) is = no_earlier p s (suc n) cs (omega (arith, is))
+serial_there p s n (suc k) (Group created ∷ cs) is = serial_there p s (suc n) k cs (omega (arith, is))
+serial_there p s n zero (Expire expiry ∷ cs) is = no_earlier p s (suc n) cs (omega (arith, is))
+serial_there p s n (suc k) (Expire expiry ∷ cs) is = serial_there p s (suc n) k cs (omega (arith, is))
+serial_there p s n zero (Article filing ∷ cs) is =
+    by_test (p (news_article n filing)) (no_earlier p s (suc n) cs (omega (arith, is)))
   where
     rest : List NewsArticle
     rest = filter p (filter_map article_filed (entries_from (suc n) cs))
 
     by_test : (b : Bool) → list_any (λ m. m == s) (map (λ (a : NewsArticle). a.serial) rest) ≡ false
         → list_any (λ m. m == s) (map (λ (a : NewsArticle). a.serial)
-        (cond b (record { serial = n; text = text; groups = filed; moment = moment } ∷ rest) rest)) ≡ b
+        (cond b (news_article n filing ∷ rest) rest)) ≡ b
     by_test true none = ap (λ (b : Bool). b || list_any (λ m. m == s) (map (λ (a : NewsArticle). a.serial) rest))
         (eq-eqb n s (omega (arith, is)))
     by_test false none = none
-serial_there p s n (suc k) (Article text filed moment ∷ cs) is =
-    by_test (p (record { serial = n; text = text; groups = filed; moment = moment }))
+serial_there p s n (suc k) (Article filing ∷ cs) is =
+    by_test (p (news_article n filing))
     ∙ serial_there p s (suc n) k cs (omega (arith, is))
   where
     rest : List NewsArticle
     rest = filter p (filter_map article_filed (entries_from (suc n) cs))
 
     by_test : (b : Bool) → list_any (λ m. m == s) (map (λ (a : NewsArticle). a.serial)
-        (cond b (record { serial = n; text = text; groups = filed; moment = moment } ∷ rest) rest))
+        (cond b (news_article n filing ∷ rest) rest))
         ≡ list_any (λ m. m == s) (map (λ (a : NewsArticle). a.serial) rest)
     by_test true = ap (λ (b : Bool). b || list_any (λ m. m == s) (map (λ (a : NewsArticle). a.serial) rest))
         (ne_eqb n s (λ same. absurd (omega (arith, same, is))))

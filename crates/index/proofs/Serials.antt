@@ -11,10 +11,10 @@ use Rattle.model.specs.Article.{id}
 use Rattle.model.specs.Indexed.{GroupIndex, group_index}
 use Rattle.model.specs.Lawful.{IsLawful}
 use Rattle.model.specs.Spool.{Spool, Entry, NewsArticle, article_filed, as_it_is, entries, entries_from, expired_at, filed_in, gone_at}
-use Rattle.model.specs.Spool.{greatest, group_named, is_gone, is_in, low}
+use Rattle.model.specs.Spool.{greatest, group_named, is_gone, is_in, low, news_article}
 use Rattle.model.specs.declared.change.Change.{Change}
 use Rattle.model.specs.declared.change.Change.TheVariants.{Group, Article, Expire}
-use Rattle.model.proofs.Filing.{new_has_nothing}
+use Rattle.model.proofs.Growing.{new_has_nothing}
 use Rattle.model.proofs.Rising.{filed_rise}
 use Rattle.lookups.specs.Held.{article_with, gone_with, groups_now}
 use Rattle.index_groups.specs.Finding.{Rise}
@@ -61,36 +61,36 @@ each_id e = by_change e.serial e.change where
   by_change : (n : ℕ) (c : Change)
       → id_in (kept (record { serial = n; change = c })) ≡ option_map (λ (a : NewsArticle). id a.text)
       (article_filed (record { serial = n; change = c }))
-  by_change n (Group name status description moment) = refl
-  by_change n (Article text filed moment) = refl
-  by_change n (Expire group number) = refl
+  by_change n (Group created) = refl
+  by_change n (Article filing) = refl
+  by_change n (Expire expiry) = refl
 
 pub each_size : (e : Entry) → size_in (kept e) ≡ option_map (λ (a : NewsArticle). length a.text) (article_filed e)
 each_size e = by_change e.serial e.change where
   by_change : (n : ℕ) (c : Change)
       → size_in (kept (record { serial = n; change = c })) ≡ option_map (λ (a : NewsArticle). length a.text)
       (article_filed (record { serial = n; change = c }))
-  by_change n (Group name status description moment) = refl
-  by_change n (Article text filed moment) = refl
-  by_change n (Expire group number) = refl
+  by_change n (Group created) = refl
+  by_change n (Article filing) = refl
+  by_change n (Expire expiry) = refl
 
 pub each_moment : (e : Entry) → moment_in (kept e) ≡ option_map (λ (a : NewsArticle). a.moment) (article_filed e)
 each_moment e = by_change e.serial e.change where
   by_change : (n : ℕ) (c : Change)
       → moment_in (kept (record { serial = n; change = c })) ≡ option_map (λ (a : NewsArticle). a.moment)
       (article_filed (record { serial = n; change = c }))
-  by_change n (Group name status description moment) = refl
-  by_change n (Article text filed moment) = refl
-  by_change n (Expire group number) = refl
+  by_change n (Group created) = refl
+  by_change n (Article filing) = refl
+  by_change n (Expire expiry) = refl
 
 pub each_groups : (e : Entry) → groups_in (kept e) ≡ option_map (λ (a : NewsArticle). a.groups) (article_filed e)
 each_groups e = by_change e.serial e.change where
   by_change : (n : ℕ) (c : Change)
       → groups_in (kept (record { serial = n; change = c })) ≡ option_map (λ (a : NewsArticle). a.groups)
       (article_filed (record { serial = n; change = c }))
-  by_change n (Group name status description moment) = refl
-  by_change n (Article text filed moment) = refl
-  by_change n (Expire group number) = refl
+  by_change n (Group created) = refl
+  by_change n (Article filing) = refl
+  by_change n (Expire expiry) = refl
 
 -- ---- numbers
 
@@ -140,10 +140,10 @@ entry_serial n (c ∷ S) (suc k) e is = let rest = entry_serial (suc n) S k e is
 filed_serial : (e : Entry) (a : NewsArticle) → article_filed e ≡ Some a → a.serial ≡ e.serial
 filed_serial e a is = by_change e.serial e.change is where
   by_change : (n : ℕ) (c : Change) → article_filed (record { serial = n; change = c }) ≡ Some a → a.serial ≡ n
-  by_change n (Group name status description moment) same = absurd (cc)
-  by_change n (Article text filed moment) same = let one : record { serial = n; text = text; groups = filed; moment = moment } ≡ a = cc in
+  by_change n (Group created) same = absurd (cc)
+  by_change n (Article filing) same = let one : news_article n filing ≡ a = cc in
       ap (λ (b : NewsArticle). b.serial) (sym one)
-  by_change n (Expire group number) same = absurd (cc)
+  by_change n (Expire expiry) same = absurd (cc)
 
 with_serial : (S : Spool) (n : ℕ) (a : NewsArticle) → article_with S n ≡ Some a → a.serial ≡ n
 unfolding entries

@@ -11,6 +11,6 @@ use Rattle.index.specs.declared.note.Note.TheVariants as note
 abbrev pub kept : Entry → Note
 kept e = kept_of e.change where
   kept_of : Change → Note
-  kept_of (Group name status description moment) = note.Group
-  kept_of (Article text groups moment) = note.Article (id text) (length text) groups moment
-  kept_of (Expire group number) = note.Expiry group number
+  kept_of (Group g) = note.Group
+  kept_of (Article f) = note.Article (id f.text) (length f.text) f.groups f.moment
+  kept_of (Expire e) = note.Expiry e.group e.number

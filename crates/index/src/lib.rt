@@ -23,7 +23,7 @@ mod views;
 
 use index_groups::{Group, Keys, expire_one, place_of, push_lines, reserve_lines};
 use latest::push_latest;
-use model::{Names, Text};
+use model::{Moment, Names, Status, Text};
 pub use note::Note;
 use std::alloc::{AllocError, Global};
 use std::marker::Model;
@@ -141,14 +141,16 @@ impl Index {
     pub fn push_group(
         &mut self,
         name: &[u8],
-        status: u8,
+        status: Status,
         description: &[u8],
-        moment: u64,
+        moment: Moment,
     ) -> Result<(), AllocError>
         requires { list_any (bytes_eq name.now) (heads self.old.groups) ≡ false }
-        ensures ok { OnOk result ((host : Octets) (S : Spool) → IsLawful host S → MayMake S name.now status description.now moment
+        ensures ok { OnOk result ((host : Octets) (S : Spool) → IsLawful host S
+            → MayMake S (record { name = name.now; status = status; description = description.now; moment = moment })
             → Indexes S self.old
-            → Indexes (S ++ Change.Group name.now status description.now moment ∷ []) self.new) }
+            → Indexes (S ++ Change.Group (record { name = name.now; status = status; description = description.now; moment = moment }) ∷ [])
+            self.new) }
         ensures err { OnErr result (self.new ≡ self.old) }
     {
         let serial = self.notes.len() as u64 + 1;
@@ -174,16 +176,17 @@ impl Index {
         id: &[u8],
         size: u64,
         filed: Names,
-        moment: u64,
+        moment: Moment,
         sizes: &[u64],
     ) -> Result<(), AllocError>
         requires few { length filed ≤ 16 }
         requires sizes { length sizes.now ≡ length filed }
         requires small { All (λ n. n < 2 ^ 32) sizes.now }
         requires fits { EndBelow (2 ^ 32) self.old.groups }
-        ensures ok { OnOk result ((host : Octets) (S : Spool) (text : Octets) → MayFile host S text filed moment → id.now ≡ article.id text
-            → size ≡ length text
-            → AreLineSizes S text filed sizes.now → Indexes S self.old → Indexes (S ++ Change.Article text filed moment ∷ []) self.new) }
+        ensures ok { OnOk result ((host : Octets) (S : Spool) (text : Octets)
+            → MayFile host S (record { text = text; groups = filed; moment = moment }) → id.now ≡ article.id text → size ≡ length text
+            → AreLineSizes S text filed sizes.now → Indexes S self.old
+            → Indexes (S ++ Change.Article (record { text = text; groups = filed; moment = moment }) ∷ []) self.new) }
         ensures err { OnErr result (self.new ≡ self.old) }
     {
         let serial = self.notes.len() as u64 + 1;
@@ -215,8 +218,8 @@ impl Index {
     /// Adds an expiry of an existing group. Refused only for want of memory, and then nothing changes.
     pub fn push_expiry(&mut self, name: &[u8], number: u64) -> Result<(), AllocError>
         requires { number < 2 ^ 63 }
-        ensures ok { OnOk result ((host : Octets) (S : Spool) → MayExpire S name.now number → Indexes S self.old
-            → Indexes (S ++ Change.Expire name.now number ∷ []) self.new) }
+        ensures ok { OnOk result ((host : Octets) (S : Spool) → MayExpire S (record { group = name.now; number = number })
+            → Indexes S self.old → Indexes (S ++ Change.Expire (record { group = name.now; number = number }) ∷ []) self.new) }
         ensures err { OnErr result (self.new ≡ self.old) }
     {
         let serial = self.notes.len() as u64 + 1;

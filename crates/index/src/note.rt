@@ -2,7 +2,7 @@
 
 ghost use Rattle.std.specs.Prelude.{◌≡◌, option_map};
 
-use model::{Names, Text};
+use model::{Moment, Names, Text};
 
 /// What is kept of a change, by its serial.
 #[derive(Drop)]
@@ -15,8 +15,8 @@ pub enum Note {
         /// the number of octets in its text
         size: u64,
         groups: Names,
-        /// seconds since 1970
-        moment: u64,
+        /// when it was filed
+        moment: Moment,
     },
     /// Articles were removed from a group.
     Expiry {
@@ -67,7 +67,7 @@ impl Note {
     {
         match self {
             Note::Group => None,
-            Note::Article { moment, .. } => Some(*moment),
+            Note::Article { moment, .. } => Some(moment.seconds()),
             Note::Expiry { .. } => None,
         }
     }

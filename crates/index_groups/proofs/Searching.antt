@@ -5,7 +5,7 @@ use Rattle.std.specs.Prelude.{Some, None, find, filter, nat_le, nat_lt}
 use Rattle.std.proofs.lemmas.Bool.{cases_lt, leb-true, leb-false, le-leb, lt-leb, ltb-true}
 use Rattle.std.proofs.lemmas.List.{length-map, get_or-map}
 use Rattle.model.specs.Indexed.{line_start}
-use Rattle.model.specs.Spool.{Expiry}
+use Rattle.model.specs.Spool.{NewsExpiry}
 use Rattle.index_groups.specs.Finding.{Rise}
 
 -- ---- the first that passes
@@ -71,18 +71,18 @@ below_parts number n xs rise i j d order low at =
     (omega (arith, rising_parts number xs rise i j d order low, ltb-true (number (get_or xs j d)) n at))
 
 -- the first that reaches the number
-pub first_reaching : (E : List Expiry) (n k : ℕ) (d : Expiry) → k < length E → nat_lt (get_or E k d).number n ≡ false
-    → ((j : ℕ) → j < k → nat_lt (get_or E j d).number n ≡ true) → find (λ (e : Expiry). nat_le n e.number) E ≡ Some (get_or E k d)
+pub first_reaching : (E : List NewsExpiry) (n k : ℕ) (d : NewsExpiry) → k < length E → nat_lt (get_or E k d).number n ≡ false
+    → ((j : ℕ) → j < k → nat_lt (get_or E j d).number n ≡ true) → find (λ (e : NewsExpiry). nat_le n e.number) E ≡ Some (get_or E k d)
 first_reaching E n k d low at before =
-    first_at (λ (e : Expiry). nat_le n e.number) E k d low
+    first_at (λ (e : NewsExpiry). nat_le n e.number) E k d low
     (le-leb n (get_or E k d).number (omega (arith, leb-false (suc (get_or E k d).number) n at)))
     (λ j small. lt-leb n (get_or E j d).number (ltb-true (get_or E j d).number n (before j small)))
 
-pub none_reaching : (E : List Expiry) (n : ℕ) → ((j : ℕ) (d : Expiry) → j < length E → nat_lt (get_or E j d).number n ≡ true)
-    → find (λ (e : Expiry). nat_le n e.number) E ≡ None
+pub none_reaching : (E : List NewsExpiry) (n : ℕ) → ((j : ℕ) (d : NewsExpiry) → j < length E → nat_lt (get_or E j d).number n ≡ true)
+    → find (λ (e : NewsExpiry). nat_le n e.number) E ≡ None
 none_reaching [] n before = refl
 none_reaching (e ∷ E) n before =
-    none_first (λ (x : Expiry). nat_le n x.number) (e ∷ E) e
+    none_first (λ (x : NewsExpiry). nat_le n x.number) (e ∷ E) e
     (λ j low. lt-leb n (get_or (e ∷ E) j e).number (ltb-true (get_or (e ∷ E) j e).number n (before j e low)))
 
 -- an element of a mapped list

@@ -9,7 +9,7 @@ ghost use Rattle.index_groups.specs.Shown.{shown};
 ghost use Rattle.index_groups.specs.Filing.{end_of, with_line};
 ghost use Rattle.index_groups.specs.Finding.{Rise, filed_at};
 
-use model::Text;
+use model::{Moment, Status, Text};
 use std::alloc::{AllocError, Global};
 
 /// What is kept of an article filed in a group: its serial, and where its overview line ends.
@@ -31,9 +31,9 @@ pub(crate) struct Expired {
 pub struct Group {
     pub(crate) serial: u64,
     pub(crate) name: Text,
-    pub(crate) status: u8,
+    pub(crate) status: Status,
     pub(crate) description: Text,
-    pub(crate) moment: u64,
+    pub(crate) moment: Moment,
     pub(crate) lines: Vec<Line>,
     pub(crate) expired: Vec<Expired>,
     pub(crate) low: u64,
@@ -41,15 +41,14 @@ pub struct Group {
 }
 
 impl Group {
-    /// A group with no articles, made by the change with this serial at a moment in seconds since 1970. Refused only for
-    /// want of memory.
+    /// A group with no articles, made by the change with this serial. Refused only for want of memory.
     pub fn new(
         alloc: Global,
         serial: u64,
         name: &[u8],
-        status: u8,
+        status: Status,
         description: &[u8],
-        moment: u64,
+        moment: Moment,
     ) -> Result<Group, AllocError>
         ensures { IfOk result (λ g. shown g ≡ record {
           group = record { serial = serial; name = name.now; status = status; description = description.now; moment = moment };
@@ -87,8 +86,8 @@ impl Group {
         self.name.as_slice()
     }
 
-    /// `y`, or `n` if it takes no articles.
-    pub fn status(&self) -> u8
+    /// Whether clients may post to it.
+    pub fn status(&self) -> Status
         ensures { result ≡ (shown self.now).group.status }
     {
         self.status
@@ -101,8 +100,8 @@ impl Group {
         self.description.as_slice()
     }
 
-    /// When it was made, in seconds since 1970.
-    pub fn moment(&self) -> u64
+    /// When it was made.
+    pub fn moment(&self) -> Moment
         ensures { result ≡ (shown self.now).group.moment }
     {
         self.moment

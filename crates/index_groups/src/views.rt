@@ -19,7 +19,7 @@ impl Group {
             name: self.name(),
             status: self.status(),
             description: self.description(),
-            moment: self.moment(),
+            moment: self.moment().seconds(),
             low: self.low(),
             high: self.high(),
             last: self.last(),

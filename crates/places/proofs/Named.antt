@@ -9,11 +9,11 @@ use Rattle.std.proofs.lemmas.List.Sorted.{IsPermutation-sym, Contains-permutatio
 use Rattle.model.specs.Stream.{Octets}
 use Rattle.model.specs.Files.{File, table}
 use Rattle.model.specs.Layout.{Holds}
-use Rattle.model.specs.Spool.{Spool, Entry, NewsGroup, entries, entries_from, group_made, groups}
+use Rattle.model.specs.Spool.{Spool, Entry, NewsGroup, entries, entries_from, group_made, groups, news_group}
 use Rattle.model.specs.SpoolFiles.{change_file, entry_files, files_of, numbers_file, numbers_name, overview_file, overview_name}
 use Rattle.model.specs.declared.change.Change.{Change}
 use Rattle.model.specs.declared.change.Change.TheVariants.{Group, Article, Expire}
-use Rattle.model.proofs.Filing.{entries_push}
+use Rattle.model.proofs.Growing.{entries_push}
 use Rattle.model.proofs.Inodes.{names_once}
 use Rattle.model.proofs.Joined.{joined_has, map_twice}
 use Rattle.model.proofs.Opening.{where_is}
@@ -104,18 +104,18 @@ later S n c R g made = record {
 
 made_by : (S : Spool) (n : ℕ) (R : Spool) (g : NewsGroup) → Contains (filter_map group_made (entries_from n R)) g → IsMadeBy S n R g
 made_by S n [] g (k, low, is) = absurd (omega arith)
-made_by S n (Group name status description moment ∷ R) g (zero, low, is) =
-    let named : name ≡ g.name = ap (λ (h : NewsGroup). h.name) is in
+made_by S n (Group created ∷ R) g (zero, low, is) =
+    let named : created.name ≡ g.name = ap (λ (h : NewsGroup). h.name) is in
     record {
-      entry = record { serial = n; change = Group name status description moment };
+      entry = record { serial = n; change = Group created };
       here = (0, omega arith, refl);
       numbers = (1, omega arith, ap (λ (q : Octets). record { name = numbers_name q; content = numbers_file S q }) named);
       overview = (2, omega arith, ap (λ (q : Octets). record { name = overview_name q; content = overview_file S q }) named);
     }
-made_by S n (Group name status description moment ∷ R) g (suc k, low, is) =
-    later S n (Group name status description moment) R g (made_by S (suc n) R g (k, omega arith, is))
-made_by S n (Article text filed moment ∷ R) g has = later S n (Article text filed moment) R g (made_by S (suc n) R g has)
-made_by S n (Expire group number ∷ R) g has = later S n (Expire group number) R g (made_by S (suc n) R g has)
+made_by S n (Group created ∷ R) g (suc k, low, is) =
+    later S n (Group created) R g (made_by S (suc n) R g (k, omega arith, is))
+made_by S n (Article filing ∷ R) g has = later S n (Article filing) R g (made_by S (suc n) R g has)
+made_by S n (Expire expiry ∷ R) g has = later S n (Expire expiry) R g (made_by S (suc n) R g has)
 
 has_change : (S : Spool) (e : Entry) → Contains (entries S) e → Contains (files_of S) (change_file e)
 unfolding files_of
@@ -214,9 +214,9 @@ grow_by_change old new S c places at none named keeps here =
     }
 
 pub grow_by_group : PlacesGrowByGroup
-grow_by_group old new S name status description moment places at numbers overview named keeps here second third =
-    let c : Change = Group name status description moment in
-    let g : NewsGroup = record { serial = length S + 1; name = name; status = status; description = description; moment = moment } in
+grow_by_group old new S created places at numbers overview named keeps here second third =
+    let c : Change = Group created in
+    let g : NewsGroup = news_group (length S + 1) created in
     record {
       changes_are = one_more old new (λ (e : Entry). (change_file e).name) places.changes (entries S) at
           (record { serial = length S + 1; change = c }) keeps named.changes_are here

@@ -8,6 +8,7 @@ use Rattle.model.specs.Spool.{Spool, group_made}
 use Rattle.model.specs.SpoolFiles.{change_file, group_name, numbers_name, overview_name}
 use Rattle.model.specs.declared.change.Change.{Change}
 use Rattle.model.specs.declared.change.Change.TheVariants.{Group}
+use Rattle.model.specs.declared.change.NewGroup.{NewGroup}
 use Rattle.places.specs.Places.{AreNamed, KeepsNames, name_of, with_change, with_group}
 
 -- The places of the spool's files are inodes whose files have those names.
@@ -30,9 +31,8 @@ PlacesGrowByChange = (old new : List (Option File)) (S : Spool) (c : Change) (pl
 
 -- One more group adds the places of its three files.
 abbrev pub PlacesGrowByGroup : Type 0
-PlacesGrowByGroup = (old new : List (Option File)) (S : Spool) (name : Octets) (status : ℕ) (description : Octets) (moment : ℕ)
-    (places : FilePlaces) (at numbers overview : ℕ) →
+PlacesGrowByGroup = (old new : List (Option File)) (S : Spool) (g : NewGroup) (places : FilePlaces) (at numbers overview : ℕ) →
     AreNamed old S places → KeepsNames old new →
-    name_of new at ≡ Some (group_name name) → name_of new numbers ≡ Some (numbers_name name)
-    → name_of new overview ≡ Some (overview_name name) →
-    AreNamed new (S ++ Group name status description moment ∷ []) (with_group at numbers overview places)
+    name_of new at ≡ Some (group_name g.name) → name_of new numbers ≡ Some (numbers_name g.name)
+    → name_of new overview ≡ Some (overview_name g.name) →
+    AreNamed new (S ++ Group g ∷ []) (with_group at numbers overview places)

@@ -4,8 +4,8 @@ use Rattle.std.specs.Prelude.{flat_map}
 use Rattle.std.proofs.lemmas.List.{append_assoc}
 use Rattle.byteorder.specs.Endian.{little_bytes}
 use Rattle.model.specs.Stream.{Octets}
-use Rattle.model.specs.Spool.{Expiry, NewsArticle}
-use Rattle.model.specs.Records.{article_record, expiry_record}
+use Rattle.model.specs.Spool.{NewsArticle, NewsExpiry, NewsGroup, status_octet}
+use Rattle.model.specs.Records.{article_record, expiry_record, group_record}
 use Rattle.model.proofs.Strings.{append_split, counted_lists, counted_split, little_split, length-little}
 
 -- whatever the number, the rest is the same
@@ -13,9 +13,21 @@ behind : (size n m : ℕ) (front back : Octets) → little_bytes size n ++ front
 behind size n m front back is =
     (append_split (little_bytes size n) (little_bytes size m) front back (length-little size n ∙ sym (length-little size m)) is).1
 
+-- ---- a group
+
+-- put together from its parts
+pub group_joined : (g : NewsGroup) (s m : Octets) (octet : ℕ) → s ≡ little_bytes 8 g.serial → m ≡ little_bytes 8 g.moment
+    → octet ≡ status_octet g.status → ((s ++ m) ++ (octet ∷ [])) ++ g.description ≡ group_record g
+group_joined g s m octet serial_is moment_is octet_is =
+    append_assoc (s ++ m) (octet ∷ []) g.description
+    ∙ ap (λ (o : Octets). (o ++ m) ++ (octet ∷ g.description)) serial_is
+    ∙ ap (λ (o : Octets). (little_bytes 8 g.serial ++ o) ++ (octet ∷ g.description)) moment_is
+    ∙ ap (λ (n : ℕ). (little_bytes 8 g.serial ++ little_bytes 8 g.moment) ++ (n ∷ g.description)) octet_is
+
 -- ---- an expiry
 
-pub expiry_behind : (octets numbered behind_number : Octets) (serial number : ℕ) (e : Expiry) → octets ≡ little_bytes 8 serial ++ numbered
+pub expiry_behind : (octets numbered behind_number : Octets) (serial number : ℕ) (e : NewsExpiry)
+    → octets ≡ little_bytes 8 serial ++ numbered
     → numbered ≡ little_bytes 4 number ++ behind_number → octets ≡ expiry_record e
     → behind_number ≡ length e.group ∷ e.group
 expiry_behind octets numbered behind_number serial number e first second is =

@@ -2,7 +2,7 @@
 
 ghost use Rattle.std.specs.Prelude.{◌≡◌, ◌^◌, ◌<◌, ◌∷◌, ◌++◌, ℕ, List, map, flat_map, length, IfOk, MatchOption};
 ghost use Rattle.byteorder.specs.Endian.{little_bytes};
-ghost use Rattle.model.specs.Spool.{Expiry, NewsArticle, NewsGroup};
+ghost use Rattle.model.specs.Spool.{NewsArticle, NewsExpiry, NewsGroup};
 ghost use Rattle.model.specs.Records.{article_record, expiry_record, group_record};
 
 use crate::cutting::{cut_name, cut8, cut32, cut64};
@@ -14,6 +14,7 @@ pub struct GroupRecord<'a> {
     pub serial: u64,
     /// seconds since 1970
     pub moment: u64,
+    /// the octet that stands for its status
     pub status: u8,
     pub description: &'a [u8],
 }
@@ -37,17 +38,11 @@ pub struct ExpiryRecord<'a> {
     pub number: u32,
 }
 
-/// Reads a group's record; `None` if the octets are not the record of a group.
+/// Reads a group's record, whatever octet stands for its status; `None` if the octets are not the record of a group.
 pub fn read_group(octets: &[u8]) -> Option<GroupRecord<'_>>
     ensures { MatchOption result
         ((g : NewsGroup) → octets.now ≡ group_record g → ⊥)
-        (λ r. (name : List ℕ) → octets.now ≡ group_record (record {
-          serial = r.serial;
-          name = name;
-          status = r.status;
-          description = r.description.now;
-          moment = r.moment;
-        })) }
+        (λ r. octets.now ≡ little_bytes 8 r.serial ++ little_bytes 8 r.moment ++ r.status ∷ r.description.now) }
 {
     let (serial, rest) = cut64(octets)?;
     let (moment, rest) = cut64(rest)?;
@@ -63,7 +58,7 @@ pub fn read_group(octets: &[u8]) -> Option<GroupRecord<'_>>
 /// Reads an expiry's record; `None` if the octets are not the record of an expiry.
 pub fn read_expiry(octets: &[u8]) -> Option<ExpiryRecord<'_>>
     ensures { MatchOption result
-        ((e : Expiry) → octets.now ≡ expiry_record e → ⊥)
+        ((e : NewsExpiry) → octets.now ≡ expiry_record e → ⊥)
         (λ r. octets.now ≡ expiry_record (record { serial = r.serial; group = r.group.now; number = r.number })) }
 {
     let (serial, rest) = cut64(octets)?;

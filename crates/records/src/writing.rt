@@ -5,6 +5,7 @@ ghost use Rattle.std.specs.List.{All};
 ghost use Rattle.model.specs.Records as model_records;
 ghost use Rattle.model.specs.SpoolFiles as model_files;
 
+use model::{Moment, Status};
 use std::alloc::{AllocError, Global};
 
 /// The octets of a group's record before its description.
@@ -23,8 +24,8 @@ const NAME_SIZE: usize = 256;
 pub fn group_record(
     alloc: Global,
     serial: u64,
-    moment: u64,
-    status: u8,
+    moment: Moment,
+    status: Status,
     description: &[u8],
 ) -> Result<Vec<u8>, AllocError>
     ensures { IfOk result (λ octets. (name : List ℕ)
@@ -39,8 +40,8 @@ pub fn group_record(
     let size = GROUP_HEAD.saturating_add(description.len());
     let mut octets = Vec::with_capacity(alloc, size)?;
     octets.extend_from_slice(&serial.to_le_bytes())?;
-    octets.extend_from_slice(&moment.to_le_bytes())?;
-    octets.push(status)?;
+    octets.extend_from_slice(&moment.seconds().to_le_bytes())?;
+    octets.push(status.octet())?;
     octets.extend_from_slice(description)?;
     Ok(octets)
 }
@@ -50,7 +51,7 @@ pub fn group_record(
 pub fn article_record(
     alloc: Global,
     serial: u64,
-    moment: u64,
+    moment: Moment,
     groups: &[&[u8]],
     text: &[u8],
 ) -> Result<Vec<u8>, AllocError>
@@ -63,7 +64,7 @@ pub fn article_record(
     let size = ARTICLE_HEAD + NAME_SIZE * groups.len() + text.len();
     let mut octets = Vec::with_capacity(alloc, size)?;
     octets.extend_from_slice(&serial.to_le_bytes())?;
-    octets.extend_from_slice(&moment.to_le_bytes())?;
+    octets.extend_from_slice(&moment.seconds().to_le_bytes())?;
     octets.extend_from_slice(&(text.len() as u32).to_le_bytes())?;
     octets.push(groups.len() as u8)?;
     push_names(&mut octets, groups)?;

@@ -12,6 +12,7 @@ use Rattle.model.specs.declared.change.Change.{Change}
 use Rattle.model.proofs.HoldsOne.{changes_few, fits_lawful, holds_one, no_change, same_change}
 use Rattle.fs_layout.proofs.Tables.{length-table}
 use Rattle.spool_reading.specs.Said.{IsFileOf}
+use Rattle.spool_reading.proofs.Saying.{all_in_time}
 use Rattle.spool_changes.specs.Stored.{HasChange}
 
 -- where the files of some changes stand, that of each stands
@@ -87,7 +88,11 @@ module _ (inodes : ℕ) (blocks : List Octets) (few : inodes ≤ 32768) (p : Fil
   -- what was read there is the file of that change
   pub is_its_file : (at : ℕ) (name content : Octets) → at ≡ get_or places (serial - 1) 0
       → get_or (table inodes blocks) at None ≡ Some (record { name = name; content = content }) → IsFileOf serial its name content
-  is_its_file at name content is read = record { room = fits; file = same_Some _ _ (sym (there_file at is) ∙ read) }
+  is_its_file at name content is read = record {
+    room = fits;
+    in_time = all_in_time there.host [] there.changes there.held.lawful (serial - 1) within;
+    file = same_Some _ _ (sym (there_file at is) ∙ read);
+  }
 
   -- and of no other
   pub is_change : (at : ℕ) (name content : Octets) (c : Change) → at ≡ get_or places (serial - 1) 0

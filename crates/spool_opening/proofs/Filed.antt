@@ -7,13 +7,15 @@ use Rattle.std.proofs.lemmas.List.{length-take}
 use Rattle.std.proofs.lemmas.Option.{slice_get-map}
 use Rattle.std.proofs.lemmas.Slice.Eq.{bytes_eq-Decides}
 use Rattle.model.specs.Stream.{Octets}
-use Rattle.model.specs.Article.{Cause, groups_of}
+use Rattle.model.specs.Article.{groups_of}
 use Rattle.model.specs.Files.{File, HasRoom, IsFileSystem, table}
 use Rattle.model.specs.Indexed.{FilePlaces, GroupIndex, group_index}
 use Rattle.model.specs.Lawful.{MayFile}
 use Rattle.model.specs.Spool.{Spool, NewsGroup, group_named, groups, is_here, is_name}
 use Rattle.model.specs.SpoolFiles.{overview_file, overview_name}
+use Rattle.model.specs.declared.cause.Cause.{Cause}
 use Rattle.model.specs.declared.change.Change.TheVariants.{Article}
+use Rattle.model.specs.declared.change.Filing.{Filing}
 use Rattle.index_groups.specs.Filing.{AreLineSizes, EndBelow, end_of}
 use Rattle.index.specs.View.{IndexView, Indexes}
 use Rattle.index.proofs.Growing.{overview_size}
@@ -92,18 +94,18 @@ pieces_by_names inodes S text gs all w g filed =
     subst (λ (h : Octets). HasPiece inodes (name_for w h) (length (file_for w S h)) (piece_for w S text h)) at.1.1 (all at.0 w at.1.0)
 
 pub article_replayed : (host : Octets) (inodes : ℕ) (blocks : List Octets) (R : Spool) (x y : IndexView) (p q : FilePlaces) (at : ℕ)
-    (text : Octets) (gs : List Octets) (moment : ℕ) → IsFileSystem inodes blocks → IsReplayed host inodes blocks x p R
-    → IsItsFile inodes blocks at (length R + 1) (Article text gs moment) → MayFile host R text gs moment
-    → AllGoOn (table inodes blocks) R text gs → Indexes (R ++ Article text gs moment ∷ []) y → q ≡ with_change at p
-    → IsReplayed host inodes blocks y q (R ++ Article text gs moment ∷ [])
-article_replayed host inodes blocks R x y p q at text gs moment rule replayed its may all indexed placed = record {
-  read = article_is_read host inodes blocks R replayed.read text gs moment rule may its.is.room
-      (its_file_there inodes blocks at (length R + 1) (Article text gs moment) its) (pieces_by_names (table inodes blocks) R text gs all);
+    (f : Filing) → IsFileSystem inodes blocks → IsReplayed host inodes blocks x p R
+    → IsItsFile inodes blocks at (length R + 1) (Article f) → MayFile host R f
+    → AllGoOn (table inodes blocks) R f.text f.groups → Indexes (R ++ Article f ∷ []) y → q ≡ with_change at p
+    → IsReplayed host inodes blocks y q (R ++ Article f ∷ [])
+article_replayed host inodes blocks R x y p q at f rule replayed its may all indexed placed = record {
+  read = article_is_read host inodes blocks R replayed.read f rule may its.is.room
+      (its_file_there inodes blocks at (length R + 1) (Article f) its) (pieces_by_names (table inodes blocks) R f.text f.groups all);
   indexed = indexed;
   placed =
-      subst (AreNamed (table inodes blocks) (R ++ Article text gs moment ∷ [])) (sym placed)
-      (grow_by_change (table inodes blocks) (table inodes blocks) R (Article text gs moment) p at refl replayed.placed (λ k name is. is)
-      (its_name inodes blocks at (length R + 1) (Article text gs moment) its));
+      subst (AreNamed (table inodes blocks) (R ++ Article f ∷ [])) (sym placed)
+      (grow_by_change (table inodes blocks) (table inodes blocks) R (Article f) p at refl replayed.placed (λ k name is. is)
+      (its_name inodes blocks at (length R + 1) (Article f) its));
 }
 
 -- ---- what the code has
@@ -121,12 +123,14 @@ pub filed_here : (S : Spool) (article : Octets) (filed : List Octets) → filed 
 filed_here S article filed are = subst (AreHere S) (sym are) (are_here S (groups_of article))
 
 pub may_of_text : (host : Octets) (S : Spool) (article text : Octets) (gs : List Octets) (moment : ℕ) → article ≡ text
-    → MayFile host S article gs moment → MayFile host S text gs moment
-may_of_text host S article text gs moment same may = subst (λ (t : Octets). MayFile host S t gs moment) same may
+    → MayFile host S (record { text = article; groups = gs; moment = moment })
+    → MayFile host S (record { text = text; groups = gs; moment = moment })
+may_of_text host S article text gs moment same may =
+    subst (λ (t : Octets). MayFile host S (record { text = t; groups = gs; moment = moment })) same may
 
-pub same_groups : (host : Octets) (S : Spool) (article : Octets) (gs filed : List Octets) (moment : ℕ)
-    → filed ≡ filter (is_here S) (groups_of article) → MayFile host S article gs moment → filed ≡ gs
-same_groups host S article gs filed moment are may = are ∙ sym may.filed
+pub same_groups : (host : Octets) (S : Spool) (f : Filing) (filed : List Octets) → filed ≡ filter (is_here S) (groups_of f.text)
+    → MayFile host S f → filed ≡ f.groups
+same_groups host S f filed are may = are ∙ sym may.filed
 
 pub all_of_text : (inodes : List (Option File)) (S : Spool) (article text : Octets) (filed gs : List Octets) → article ≡ text → filed ≡ gs
     → AllGoOn inodes S article filed → AllGoOn inodes S text gs

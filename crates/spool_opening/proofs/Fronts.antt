@@ -10,11 +10,12 @@ use Rattle.model.specs.Stream.{Octets}
 use Rattle.model.specs.Files.{IsFileSystem, table}
 use Rattle.model.specs.Layout.{Holds}
 use Rattle.model.specs.Lawful.{IsLawfulAfter, MayFollow}
-use Rattle.model.specs.Spool.{Spool, article_filed, filed_in, first, is_here, is_name}
+use Rattle.model.specs.Spool.{Spool, article_filed, filed_in, first, is_here, is_name, news_article}
 use Rattle.model.specs.SpoolFiles.{HasRoomInFile, next_line, next_record, numbers_file, numbers_of, overview_file, overview_of}
 use Rattle.model.specs.declared.change.Change.{Change}
 use Rattle.model.specs.declared.change.Change.TheVariants.{Group, Article, Expire}
-use Rattle.model.proofs.Filing.{filed_article, filed_no_more, numbers_push, overview_push, here_stays}
+use Rattle.model.specs.declared.change.Filing.{Filing}
+use Rattle.model.proofs.Growing.{filed_article, filed_no_more, numbers_push, overview_push, here_stays}
 use Rattle.model.proofs.HoldsOne.{changes_few, fits_lawful, no_change}
 use Rattle.fs_layout.proofs.Tables.{there_once}
 use Rattle.model.proofs.Opening.{fronts_read, where_is, is_among}
@@ -65,27 +66,24 @@ pub other_grows : (w : Which) (S : Spool) (c : Change) (g : Octets)
 other_grows Numbers S c g none = ap numbers_of (filed_no_more S g c none)
 other_grows Overview S c g none = ap overview_of (filed_no_more S g c none)
 
-pub article_grows : (w : Which) (S : Spool) (text : Octets) (gs : List Octets) (moment : ℕ) (g : Octets)
-    → file_for w (S ++ Article text gs moment ∷ []) g ≡ file_for w S g ++ cond (list_any (is_name g) gs) (piece_for w S text g) []
-article_grows Numbers S text gs moment g = ap numbers_of (filed_article S g text gs moment) ∙ by_test (list_any (is_name g) gs) where
-  by_test : (b : Bool) → numbers_of
-      (filed_in S g ++ cond b (record { serial = length S + 1; text = text; groups = gs; moment = moment } ∷ []) [])
-      ≡ numbers_file S g ++ cond b (next_record S text g) []
-  by_test true = numbers_push (filed_in S g) (record { serial = length S + 1; text = text; groups = gs; moment = moment })
+pub article_grows : (w : Which) (S : Spool) (f : Filing) (g : Octets)
+    → file_for w (S ++ Article f ∷ []) g ≡ file_for w S g ++ cond (list_any (is_name g) f.groups) (piece_for w S f.text g) []
+article_grows Numbers S f g = ap numbers_of (filed_article S g f) ∙ by_test (list_any (is_name g) f.groups) where
+  by_test : (b : Bool) → numbers_of (filed_in S g ++ cond b (news_article (length S + 1) f ∷ []) [])
+      ≡ numbers_file S g ++ cond b (next_record S f.text g) []
+  by_test true = numbers_push (filed_in S g) (news_article (length S + 1) f)
   by_test false = ap numbers_of (append-nil (filed_in S g)) ∙ sym (append-nil (numbers_file S g))
-article_grows Overview S text gs moment g = ap overview_of (filed_article S g text gs moment) ∙ by_test (list_any (is_name g) gs) where
-  by_test : (b : Bool) → overview_of
-      (filed_in S g ++ cond b (record { serial = length S + 1; text = text; groups = gs; moment = moment } ∷ []) [])
-      ≡ overview_file S g ++ cond b (next_line S text g) []
-  by_test true = overview_push (filed_in S g) (record { serial = length S + 1; text = text; groups = gs; moment = moment })
+article_grows Overview S f g = ap overview_of (filed_article S g f) ∙ by_test (list_any (is_name g) f.groups) where
+  by_test : (b : Bool) → overview_of (filed_in S g ++ cond b (news_article (length S + 1) f ∷ []) [])
+      ≡ overview_file S g ++ cond b (next_line S f.text g) []
+  by_test true = overview_push (filed_in S g) (news_article (length S + 1) f)
   by_test false = ap overview_of (append-nil (filed_in S g)) ∙ sym (append-nil (overview_file S g))
 
 -- some octets more, or none
 grows : (w : Which) (S : Spool) (c : Change) (g : Octets) → (rest : Octets) × (file_for w (S ++ c ∷ []) g ≡ file_for w S g ++ rest)
-grows w S (Group name status description moment) g =
-    ([], other_grows w S (Group name status description moment) g refl ∙ sym (append-nil (file_for w S g)))
-grows w S (Expire group number) g = ([], other_grows w S (Expire group number) g refl ∙ sym (append-nil (file_for w S g)))
-grows w S (Article text gs moment) g = (cond (list_any (is_name g) gs) (piece_for w S text g) [], article_grows w S text gs moment g)
+grows w S (Group created) g = ([], other_grows w S (Group created) g refl ∙ sym (append-nil (file_for w S g)))
+grows w S (Expire expiry) g = ([], other_grows w S (Expire expiry) g refl ∙ sym (append-nil (file_for w S g)))
+grows w S (Article filing) g = (cond (list_any (is_name g) filing.groups) (piece_for w S filing.text g) [], article_grows w S filing g)
 
 pub front_for : (w : Which) (S T : Spool) (g : Octets) → (rest : Octets) × (file_for w (S ++ T) g ≡ file_for w S g ++ rest)
 front_for w S [] g = ([], ap (λ (R : Spool). file_for w R g) (append-nil S) ∙ sym (append-nil (file_for w S g)))
@@ -121,12 +119,12 @@ seam front piece rest =
     ∙ ap (take (length piece)) (drop-append_seam front (piece ++ rest)) ∙ take-append_seam piece rest
 
 -- so an article's piece stands behind those before it
-pub piece_stands : (host : Octets) (inodes : ℕ) (blocks : List Octets) (R S : Spool) (w : Which) (text : Octets) (gs : List Octets)
-    (moment : ℕ) (g : Octets) → Holds host inodes blocks S
-    → R ++ Article text gs moment ∷ [] ≡ first S (length R + 1) → list_any (is_name g) gs ≡ true → is_here R g ≡ true
-    → HasPiece (table inodes blocks) (name_for w g) (length (file_for w R g)) (piece_for w R text g)
-piece_stands host inodes blocks R S w text gs moment g held front filed here =
-    let c = Article text gs moment in
+pub piece_stands : (host : Octets) (inodes : ℕ) (blocks : List Octets) (R S : Spool) (w : Which) (f : Filing) (g : Octets)
+    → Holds host inodes blocks S
+    → R ++ Article f ∷ [] ≡ first S (length R + 1) → list_any (is_name g) f.groups ≡ true → is_here R g ≡ true
+    → HasPiece (table inodes blocks) (name_for w g) (length (file_for w R g)) (piece_for w R f.text g)
+piece_stands host inodes blocks R S w f g held front filed here =
+    let c = Article f in
     let whole : (R ++ c ∷ []) ++ drop (length R + 1) S ≡ S = ap (λ (T : Spool). T ++ drop (length R + 1) S) front
     ∙ take-append-drop (length R + 1) S in
     let more = front_for w (R ++ c ∷ []) (drop (length R + 1) S) g in
@@ -134,16 +132,16 @@ piece_stands host inodes blocks R S w text gs moment g held front filed here =
     ap (λ (T : Spool). is_here T g) (sym (sym (append_assoc R (c ∷ []) (drop (length R + 1) S)) ∙ whole))
     ∙ here_stays R ((c ∷ []) ++ drop (length R + 1) S) g here in
     let its = its_file host inodes blocks S w g held here_all in
-    let content : file_for w S g ≡ (file_for w R g ++ piece_for w R text g) ++ more.0 =
+    let content : file_for w S g ≡ (file_for w R g ++ piece_for w R f.text g) ++ more.0 =
     ap (λ (T : Spool). file_for w T g) (sym whole) ∙ more.1
-    ∙ ap (λ (o : Octets). o ++ more.0) (article_grows w R text gs moment g
-    ∙ ap (λ (b : Bool). file_for w R g ++ cond b (piece_for w R text g) []) filed) in
+    ∙ ap (λ (o : Octets). o ++ more.0) (article_grows w R f g
+    ∙ ap (λ (b : Bool). file_for w R g ++ cond b (piece_for w R f.text g) []) filed) in
     record {
       place = its.0;
       content = file_for w S g;
       there = its.1;
-      piece_is = ap (λ (o : Octets). take (length (piece_for w R text g)) (drop (length (file_for w R g)) o)) content
-          ∙ seam (file_for w R g) (piece_for w R text g) more.0;
+      piece_is = ap (λ (o : Octets). take (length (piece_for w R f.text g)) (drop (length (file_for w R g)) o)) content
+          ∙ seam (file_for w R g) (piece_for w R f.text g) more.0;
     }
 
 -- ---- one change more is read

@@ -12,11 +12,14 @@ use Rattle.std.proofs.lemmas.Slice.Eq.{bytes_eq-Decides}
 use Rattle.model.specs.Stream.{Octets}
 use Rattle.model.specs.Files.{IsFileSystem, files_in, table}
 use Rattle.model.specs.Lawful.{IsLawful, MayFollow}
-use Rattle.model.specs.Spool.{Spool, NewsGroup, entries, group_made, group_named, groups, is_here, is_name}
+use Rattle.model.specs.Spool.{Spool, NewsGroup, entries, group_made, group_named, groups, is_here, is_name, news_group}
 use Rattle.model.specs.SpoolFiles.{HasRoomInFile, change_file, numbers_of, overview_of}
 use Rattle.model.specs.declared.change.Change.{Change}
 use Rattle.model.specs.declared.change.Change.TheVariants.{Group, Article, Expire}
-use Rattle.model.proofs.Filing.{new_has_nothing}
+use Rattle.model.specs.declared.change.Expiry.{Expiry}
+use Rattle.model.specs.declared.change.Filing.{Filing}
+use Rattle.model.specs.declared.change.NewGroup.{NewGroup}
+use Rattle.model.proofs.Growing.{new_has_nothing}
 use Rattle.model.proofs.LawfulLaws.{lawful_more}
 use Rattle.places.proofs.Named.{groups_more}
 use Rattle.spool_opening.specs.Stored.{AreRead, HasFront, HasPiece, IsFileAt, Numbers, Overview, Which, file_for, name_for, piece_for}
@@ -66,65 +69,65 @@ nothing host R name lawful new Numbers = ap numbers_of (new_has_nothing host R n
 nothing host R name lawful new Overview = ap overview_of (new_has_nothing host R name lawful new)
 
 module _ (host : Octets) (inodes : ℕ) (blocks : List Octets) (R : Spool) (read : AreRead host inodes blocks R) where
-  pub expiry_is_read : (group : Octets) (number : ℕ) → let c = Expire group number in MayFollow host R c → HasRoomInFile (length R + 1) c
+  pub expiry_is_read : (e : Expiry) → let c = Expire e in MayFollow host R c → HasRoomInFile (length R + 1) c
       → Contains (files_in (table inodes blocks)) (change_file (record { serial = length R + 1; change = c }))
       → AreRead host inodes blocks (R ++ c ∷ [])
-  expiry_is_read group number may room there = record {
-    lawful = lawful_more host [] R (Expire group number) read.lawful may;
+  expiry_is_read e may room there = record {
+    lawful = lawful_more host [] R (Expire e) read.lawful may;
     changes = changes_more (λ n c. HasRoomInFile (n + 1) c
         × Contains (files_in (table inodes blocks)) (change_file (record { serial = n + 1; change = c }))) R
-        (Expire group number) read.changes (room, there);
-    fronts = λ w g here. named_same inodes blocks w g _ _ (other_grows w R (Expire group number) g refl)
-        (read.fronts w g (here_before R (Expire group number) g refl here));
+        (Expire e) read.changes (room, there);
+    fronts = λ w g here. named_same inodes blocks w g _ _ (other_grows w R (Expire e) g refl)
+        (read.fronts w g (here_before R (Expire e) g refl here));
   }
 
-  pub article_is_read : (text : Octets) (gs : List Octets) (moment : ℕ) → let c = Article text gs moment in IsFileSystem inodes blocks
+  pub article_is_read : (f : Filing) → let c = Article f in IsFileSystem inodes blocks
       → MayFollow host R c → HasRoomInFile (length R + 1) c
       → Contains (files_in (table inodes blocks)) (change_file (record { serial = length R + 1; change = c }))
-      → ((w : Which) (g : Octets) → list_any (is_name g) gs ≡ true
-      → HasPiece (table inodes blocks) (name_for w g) (length (file_for w R g)) (piece_for w R text g))
+      → ((w : Which) (g : Octets) → list_any (is_name g) f.groups ≡ true
+      → HasPiece (table inodes blocks) (name_for w g) (length (file_for w R g)) (piece_for w R f.text g))
       → AreRead host inodes blocks (R ++ c ∷ [])
-  article_is_read text gs moment rule may room there pieces = record {
-    lawful = lawful_more host [] R (Article text gs moment) read.lawful may;
+  article_is_read f rule may room there pieces = record {
+    lawful = lawful_more host [] R (Article f) read.lawful may;
     changes = changes_more (λ n c. HasRoomInFile (n + 1) c
         × Contains (files_in (table inodes blocks)) (change_file (record { serial = n + 1; change = c }))) R
-        (Article text gs moment) read.changes (room, there);
-    fronts = λ w g here. by_test w g (read.fronts w g (here_before R (Article text gs moment) g refl here)) (list_any (is_name g) gs) refl;
+        (Article f) read.changes (room, there);
+    fronts = λ w g here. by_test w g (read.fronts w g (here_before R (Article f) g refl here)) (list_any (is_name g) f.groups) refl;
   } where
     by_test : (w : Which) (g : Octets) → HasFront (table inodes blocks) (name_for w g) (file_for w R g) → (b : Bool)
-        → list_any (is_name g) gs ≡ b → HasFront (table inodes blocks) (name_for w g) (file_for w (R ++ Article text gs moment ∷ []) g)
+        → list_any (is_name g) f.groups ≡ b → HasFront (table inodes blocks) (name_for w g) (file_for w (R ++ Article f ∷ []) g)
     by_test w g has true filed =
-        named_same inodes blocks w g _ _ (article_grows w R text gs moment g
-        ∙ ap (λ (b : Bool). file_for w R g ++ cond b (piece_for w R text g) []) filed)
-        (front_grows inodes blocks (name_for w g) (file_for w R g) (piece_for w R text g) rule has (pieces w g filed))
+        named_same inodes blocks w g _ _ (article_grows w R f g
+        ∙ ap (λ (b : Bool). file_for w R g ++ cond b (piece_for w R f.text g) []) filed)
+        (front_grows inodes blocks (name_for w g) (file_for w R g) (piece_for w R f.text g) rule has (pieces w g filed))
     by_test w g has false filed =
-        named_same inodes blocks w g _ _ (article_grows w R text gs moment g
-        ∙ ap (λ (b : Bool). file_for w R g ++ cond b (piece_for w R text g) []) filed ∙ append-nil (file_for w R g)) has
+        named_same inodes blocks w g _ _ (article_grows w R f g
+        ∙ ap (λ (b : Bool). file_for w R g ++ cond b (piece_for w R f.text g) []) filed ∙ append-nil (file_for w R g)) has
 
-  pub group_is_read : (name : Octets) (status : ℕ) (description : Octets) (moment : ℕ) → let c = Group name status description moment in
+  pub group_is_read : (created : NewGroup) → let c = Group created in
       MayFollow host R c → HasRoomInFile (length R + 1) c
       → Contains (files_in (table inodes blocks)) (change_file (record { serial = length R + 1; change = c }))
-      → ((w : Which) → (k : ℕ) × ((content : Octets) × IsFileAt (table inodes blocks) k (name_for w name) content))
+      → ((w : Which) → (k : ℕ) × ((content : Octets) × IsFileAt (table inodes blocks) k (name_for w created.name) content))
       → AreRead host inodes blocks (R ++ c ∷ [])
-  group_is_read name status description moment may room there files = record {
-    lawful = lawful_more host [] R (Group name status description moment) read.lawful may;
+  group_is_read created may room there files = record {
+    lawful = lawful_more host [] R (Group created) read.lawful may;
     changes = changes_more (λ n c. HasRoomInFile (n + 1) c
         × Contains (files_in (table inodes blocks)) (change_file (record { serial = n + 1; change = c }))) R
-        (Group name status description moment) read.changes (room, there);
-    fronts = λ w g here. by_test w g (bytes_eq name g) refl here;
+        (Group created) read.changes (room, there);
+    fronts = λ w g here. by_test w g (bytes_eq created.name g) refl here;
   } where
     or_other : (o : Option NewsGroup) → is_some (option_or o None) ≡ true → is_some o ≡ true
     or_other None some = some
     or_other (Some h) some = refl
 
-    by_test : (w : Which) (g : Octets) (b : Bool) → bytes_eq name g ≡ b → is_here (R ++ Group name status description moment ∷ []) g ≡ true
-        → HasFront (table inodes blocks) (name_for w g) (file_for w (R ++ Group name status description moment ∷ []) g)
+    by_test : (w : Which) (g : Octets) (b : Bool) → bytes_eq created.name g ≡ b → is_here (R ++ Group created ∷ []) g ≡ true
+        → HasFront (table inodes blocks) (name_for w g) (file_for w (R ++ Group created ∷ []) g)
     by_test w g true same here =
-        let one : name ≡ g = (bytes_eq-Decides name g).0 same in
+        let one : created.name ≡ g = (bytes_eq-Decides created.name g).0 same in
         let file = files w in
-        let none : file_for w (R ++ Group name status description moment ∷ []) g ≡ [] =
-        other_grows w R (Group name status description moment) g refl ∙ ap (file_for w R) (sym one)
-        ∙ nothing host R name read.lawful may.new w in
+        let none : file_for w (R ++ Group created ∷ []) g ≡ [] =
+        other_grows w R (Group created) g refl ∙ ap (file_for w R) (sym one)
+        ∙ nothing host R created.name read.lawful may.new w in
         record {
           place = file.0;
           content = file.1.0;
@@ -132,11 +135,11 @@ module _ (host : Octets) (inodes : ℕ) (blocks : List Octets) (R : Spool) (read
           front = ap (λ (o : Octets). take (length o) file.1.0) none ∙ sym none;
         }
     by_test w g false same here =
-        let its : NewsGroup = record { serial = length R + 1; name = name; status = status; description = description; moment = moment } in
+        let its : NewsGroup = news_group (length R + 1) created in
         let before : is_here R g ≡ true =
-        or_other (group_named R g) (sym (ap (λ (o : Option NewsGroup). is_some o) (here_more R (Group name status description moment) g
+        or_other (group_named R g) (sym (ap (λ (o : Option NewsGroup). is_some o) (here_more R (Group created) g
         ∙ ap (λ (b : Bool). option_or (group_named R g) (cond b (Some its) None)) same)) ∙ here) in
-        named_same inodes blocks w g _ _ (other_grows w R (Group name status description moment) g refl) (read.fronts w g before)
+        named_same inodes blocks w g _ _ (other_grows w R (Group created) g refl) (read.fronts w g before)
 
 -- no change was read yet
 pub none_is_read : (host : Octets) (inodes : ℕ) (blocks : List Octets) → AreRead host inodes blocks []

@@ -9,17 +9,20 @@ use Rattle.model.specs.Stream.{Octets}
 use Rattle.model.specs.Files.{File, table}
 use Rattle.model.specs.Indexed.{FilePlaces, value_of}
 use Rattle.model.specs.Layout.{Holds}
-use Rattle.model.specs.Spool.{Spool, NewsGroup, group_made, is_here, is_name}
+use Rattle.model.specs.Spool.{Spool, NewsGroup, group_made, is_here, is_name, news_group}
 use Rattle.model.specs.SpoolFiles.{change_file, is_of_change}
 use Rattle.model.specs.declared.change.Change.{Change}
 use Rattle.model.specs.declared.change.Change.TheVariants.{Group, Article}
+use Rattle.model.specs.declared.change.Filing.{Filing}
+use Rattle.model.specs.declared.change.NewGroup.{NewGroup}
 use Rattle.model.proofs.HoldsOne.{same_change}
 use Rattle.model.proofs.Joined.{bytes_same}
-use Rattle.model.proofs.Filing.{here_stays}
+use Rattle.model.proofs.Growing.{here_stays}
 use Rattle.fs_layout.proofs.Tables.{length-table}
 use Rattle.index.specs.View.{IndexView}
 use Rattle.spool_reading.specs.Said.{IsFileOf}
 use Rattle.spool_reading.specs.Sorted.{AreSorted, free}
+use Rattle.spool_reading.proofs.Saying.{may_in_time}
 use Rattle.spool_reading.proofs.Slots.{its_slot}
 use Rattle.spool_opening.specs.Replayed.{AllGoOn, AreReplayedTo, IsReplayed}
 use Rattle.spool_opening.specs.Stored.{AreRead, IsFileAt, IsNext, Numbers, Overview, Which, name_for}
@@ -52,7 +55,7 @@ next_file host inodes blocks R S slots named at name content few held read sorte
     record {
       change = next.change;
       next = record { may = next.may; front = next.front };
-      is = record { room = next.room; file = file };
+      is = record { room = next.room; in_time = may_in_time host R next.change next.may; file = file };
     }
 
 -- what was read from it is that change
@@ -69,11 +72,11 @@ other : (w : Which) (name content : Octets) → is_of_change (record { name = na
 other Numbers name content = refl
 other Overview name content = refl
 
-group_here : (host : Octets) (R S : Spool) (name : Octets) (status : ℕ) (description : Octets) (moment : ℕ)
-    → IsNext host R S (Group name status description moment) → is_here S name ≡ true
-group_here host R S name status description moment next =
-    let c = Group name status description moment in
-    let its : NewsGroup = record { serial = length R + 1; name = name; status = status; description = description; moment = moment } in
+group_here : (host : Octets) (R S : Spool) (created : NewGroup) → IsNext host R S (Group created) → is_here S created.name ≡ true
+group_here host R S created next =
+    let c = Group created in
+    let name = created.name in
+    let its : NewsGroup = news_group (length R + 1) created in
     let whole : (R ++ c ∷ []) ++ drop (length R + 1) S ≡ S = ap (λ (T : Spool). T ++ drop (length R + 1) S) next.front
     ∙ take-append-drop (length R + 1) S in
     let here : is_here (R ++ c ∷ []) name ≡ true = ap (λ (o : Option NewsGroup). is_some o) (here_more R c name)
@@ -84,14 +87,14 @@ group_here host R S name status description moment next =
     ap (λ (T : Spool). is_here T name) (sym whole) ∙ here_stays (R ++ c ∷ []) (drop (length R + 1) S) name here
 
 pub group_named_there : (host : Octets) (inodes : ℕ) (blocks : List Octets) (R S : Spool) (slots : List ℕ) (named : List (Octets × ℕ))
-    (w : Which) (name file : Octets) (status : ℕ) (description : Octets) (moment : ℕ)
+    (w : Which) (created : NewGroup) (file : Octets)
     → AreSorted (table inodes blocks) (length (table inodes blocks)) slots named
-    → Holds host inodes blocks S → IsNext host R S (Group name status description moment) → file ≡ name_for w name
+    → Holds host inodes blocks S → IsNext host R S (Group created) → file ≡ name_for w created.name
     → None ≡ value_of named file → ⊥
-group_named_there host inodes blocks R S slots named w name file status description moment sorted held next is none =
-    let its = its_file host inodes blocks S w name held (group_here host R S name status description moment next) in
-    no_piece (table inodes blocks) slots named (name_for w name) [] 0 sorted (λ content. other w name content) (ap (value_of named) (sym is)
-    ∙ sym none) (record { place = its.0; content = _; there = its.1; piece_is = refl })
+group_named_there host inodes blocks R S slots named w created file sorted held next is none =
+    let its = its_file host inodes blocks S w created.name held (group_here host R S created next) in
+    no_piece (table inodes blocks) slots named (name_for w created.name) [] 0 sorted (λ content. other w created.name content)
+    (ap (value_of named) (sym is) ∙ sym none) (record { place = its.0; content = _; there = its.1; piece_is = refl })
 
 -- ---- an article
 
@@ -103,11 +106,11 @@ any_of (g ∷ gs) (suc k) low = over (is_name (get_or gs k []) g) (any_of gs k (
   over true rest = refl
   over false rest = rest
 
-pub all_go_on : (host : Octets) (inodes : ℕ) (blocks : List Octets) (R S : Spool) (text : Octets) (gs : List Octets) (moment : ℕ)
-    → Holds host inodes blocks S → IsNext host R S (Article text gs moment) → AllGoOn (table inodes blocks) R text gs
-all_go_on host inodes blocks R S text gs moment held next k w low =
-    piece_stands host inodes blocks R S w text gs moment (get_or gs k []) held next.front (any_of gs k low)
-    (filed_here R text gs next.may.filed k low)
+pub all_go_on : (host : Octets) (inodes : ℕ) (blocks : List Octets) (R S : Spool) (f : Filing) → Holds host inodes blocks S
+    → IsNext host R S (Article f) → AllGoOn (table inodes blocks) R f.text f.groups
+all_go_on host inodes blocks R S f held next k w low =
+    piece_stands host inodes blocks R S w f (get_or f.groups k []) held next.front (any_of f.groups k low)
+    (filed_here R f.text f.groups next.may.filed k low)
 
 -- ---- one more
 

@@ -10,6 +10,8 @@ use Rattle.model.specs.Spool.{Spool}
 use Rattle.model.specs.SpoolFiles.{change_file, numbers_name, overview_name}
 use Rattle.model.specs.declared.change.Change.{Change}
 use Rattle.model.specs.declared.change.Change.TheVariants.{Group, Expire}
+use Rattle.model.specs.declared.change.Expiry.{Expiry}
+use Rattle.model.specs.declared.change.NewGroup.{NewGroup}
 use Rattle.model.proofs.Opening.{is_among}
 use Rattle.index.specs.View.{IndexView, Indexes}
 use Rattle.places.specs.Places.{AreNamed, name_of, with_change, with_group}
@@ -29,17 +31,17 @@ pub its_name : (inodes : ℕ) (blocks : List Octets) (at serial : ℕ) (c : Chan
 its_name inodes blocks at serial c its = ap (option_map (λ (f : File). f.name)) its.there ∙ ap (λ (f : File). Some f.name) (sym its.is.file)
 
 pub expiry_replayed : (host : Octets) (inodes : ℕ) (blocks : List Octets) (R : Spool) (x y : IndexView) (p q : FilePlaces) (at : ℕ)
-    (group : Octets) (number : ℕ) → IsReplayed host inodes blocks x p R
-    → IsItsFile inodes blocks at (length R + 1) (Expire group number) → MayExpire R group number → Indexes (R ++ Expire group number ∷ []) y
-    → q ≡ with_change at p → IsReplayed host inodes blocks y q (R ++ Expire group number ∷ [])
-expiry_replayed host inodes blocks R x y p q at group number replayed its may indexed placed = record {
-  read = expiry_is_read host inodes blocks R replayed.read group number may its.is.room
-      (its_file_there inodes blocks at (length R + 1) (Expire group number) its);
+    (e : Expiry) → IsReplayed host inodes blocks x p R
+    → IsItsFile inodes blocks at (length R + 1) (Expire e) → MayExpire R e → Indexes (R ++ Expire e ∷ []) y
+    → q ≡ with_change at p → IsReplayed host inodes blocks y q (R ++ Expire e ∷ [])
+expiry_replayed host inodes blocks R x y p q at e replayed its may indexed placed = record {
+  read = expiry_is_read host inodes blocks R replayed.read e may its.is.room
+      (its_file_there inodes blocks at (length R + 1) (Expire e) its);
   indexed = indexed;
   placed =
-      subst (AreNamed (table inodes blocks) (R ++ Expire group number ∷ [])) (sym placed)
-      (grow_by_change (table inodes blocks) (table inodes blocks) R (Expire group number) p at refl replayed.placed (λ k name is. is)
-      (its_name inodes blocks at (length R + 1) (Expire group number) its));
+      subst (AreNamed (table inodes blocks) (R ++ Expire e ∷ [])) (sym placed)
+      (grow_by_change (table inodes blocks) (table inodes blocks) R (Expire e) p at refl replayed.placed (λ k name is. is)
+      (its_name inodes blocks at (length R + 1) (Expire e) its));
 }
 
 named_there : (inodes : ℕ) (blocks : List Octets) (at : ℕ) (name content : Octets) → IsFileAt (table inodes blocks) at name content
@@ -47,27 +49,26 @@ named_there : (inodes : ℕ) (blocks : List Octets) (at : ℕ) (name content : O
 named_there inodes blocks at name content there = ap (option_map (λ (f : File). f.name)) there
 
 pub group_replayed : (host : Octets) (inodes : ℕ) (blocks : List Octets) (R : Spool) (x y : IndexView) (p q : FilePlaces)
-    (at numbers overview : ℕ) (name : Octets) (status : ℕ) (description : Octets) (moment : ℕ) → IsReplayed host inodes blocks x p R
-    → IsItsFile inodes blocks at (length R + 1) (Group name status description moment) → MayMake R name status description moment
-    → ((content : Octets) × IsFileAt (table inodes blocks) numbers (numbers_name name) content)
-    → ((content : Octets) × IsFileAt (table inodes blocks) overview (overview_name name) content)
-    → Indexes (R ++ Group name status description moment ∷ []) y → q ≡ with_group at numbers overview p
-    → IsReplayed host inodes blocks y q (R ++ Group name status description moment ∷ [])
-group_replayed host inodes blocks R x y p q at numbers overview name status description moment replayed its may numbered shown indexed
-    placed = record {
-      read = group_is_read host inodes blocks R replayed.read name status description moment may its.is.room
-          (its_file_there inodes blocks at (length R + 1) c its) files;
-      indexed = indexed;
-      placed =
-          subst (AreNamed (table inodes blocks) (R ++ c ∷ [])) (sym placed)
-          (grow_by_group (table inodes blocks) (table inodes blocks) R name status description moment p at numbers overview replayed.placed
-          (λ k n is. is) (its_name inodes blocks at (length R + 1) c its)
-          (named_there inodes blocks numbers (numbers_name name) numbered.0 numbered.1)
-          (named_there inodes blocks overview (overview_name name) shown.0 shown.1));
-    } where
-      c : Change
-      c = Group name status description moment
+    (at numbers overview : ℕ) (created : NewGroup) → IsReplayed host inodes blocks x p R
+    → IsItsFile inodes blocks at (length R + 1) (Group created) → MayMake R created
+    → ((content : Octets) × IsFileAt (table inodes blocks) numbers (numbers_name created.name) content)
+    → ((content : Octets) × IsFileAt (table inodes blocks) overview (overview_name created.name) content)
+    → Indexes (R ++ Group created ∷ []) y → q ≡ with_group at numbers overview p
+    → IsReplayed host inodes blocks y q (R ++ Group created ∷ [])
+group_replayed host inodes blocks R x y p q at numbers overview created replayed its may numbered shown indexed placed = record {
+  read = group_is_read host inodes blocks R replayed.read created may its.is.room
+      (its_file_there inodes blocks at (length R + 1) c its) files;
+  indexed = indexed;
+  placed =
+      subst (AreNamed (table inodes blocks) (R ++ c ∷ [])) (sym placed)
+      (grow_by_group (table inodes blocks) (table inodes blocks) R created p at numbers overview replayed.placed
+      (λ k n is. is) (its_name inodes blocks at (length R + 1) c its)
+      (named_there inodes blocks numbers (numbers_name created.name) numbered.0 numbered.1)
+      (named_there inodes blocks overview (overview_name created.name) shown.0 shown.1));
+} where
+  c : Change
+  c = Group created
 
-      files : (w : Which) → (k : ℕ) × ((content : Octets) × IsFileAt (table inodes blocks) k (name_for w name) content)
-      files Numbers = (numbers, numbered)
-      files Overview = (overview, shown)
+  files : (w : Which) → (k : ℕ) × ((content : Octets) × IsFileAt (table inodes blocks) k (name_for w created.name) content)
+  files Numbers = (numbers, numbered)
+  files Overview = (overview, shown)

@@ -157,9 +157,9 @@ named_whole inodes S at f name there named not whole = subst (λ (o : Octets). I
 
 groups_from : (n : ℕ) (S : Spool) → length (filter_map group_made (entries_from n S)) ≤ length S
 groups_from n [] = omega arith
-groups_from n (Group name status description moment ∷ S) = omega (arith, groups_from (suc n) S)
-groups_from n (Article text gs moment ∷ S) = omega (arith, groups_from (suc n) S)
-groups_from n (Expire group number ∷ S) = omega (arith, groups_from (suc n) S)
+groups_from n (Group created ∷ S) = omega (arith, groups_from (suc n) S)
+groups_from n (Article filing ∷ S) = omega (arith, groups_from (suc n) S)
+groups_from n (Expire expiry ∷ S) = omega (arith, groups_from (suc n) S)
 
 pub groups_few : (S : Spool) → length (groups S) ≤ length S
 unfolding groups entries

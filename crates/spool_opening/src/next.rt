@@ -11,6 +11,7 @@ ghost use Rattle.spool_reading.specs.Said.{change_of};
 ghost use Rattle.spool_reading.specs.Sorted.{AreSorted, free};
 
 use crate::replay::{Replay, replay_article, replay_expiry, replay_group};
+use model::{Moment, Status};
 use records::{FileKind, file_name};
 use spool_reading::{Files, ReadSpoolError, Said, file_at, read_change};
 use std::alloc::Global;
@@ -24,21 +25,23 @@ fn replay_named(
     replay: &mut Replay,
     at: u32,
     name: &[u8],
-    status: u8,
+    status: Status,
     description: &[u8],
-    moment: u64,
+    moment: Moment,
 ) -> Result<(), ReadSpoolError>
     requires { AreReplayed replay.old.index replay.old.places }
     ensures ok { OnOk result ((host : List ℕ) (inodes : ℕ) (blocks : List (List ℕ)) (R : Spool)
         → AreSorted (table inodes blocks) (length (table inodes blocks)) files.now.slots.items files.now.named
         → IsReplayed host inodes blocks replay.old.index replay.old.places R
-        → IsItsFile inodes blocks at (length R + 1) (Change.Group name.now status description.now moment)
+        → IsItsFile inodes blocks at (length R + 1)
+        (Change.Group (record { name = name.now; status = status; description = description.now; moment = moment }))
         → IsReplayed host inodes blocks replay.new.index replay.new.places
-        (R ++ Change.Group name.now status description.now moment ∷ [])) }
+        (R ++ Change.Group (record { name = name.now; status = status; description = description.now; moment = moment }) ∷ [])) }
     ensures damaged { IfErr result (λ e. e ≡ ReadSpoolError.Damaged → (host : List ℕ) (inodes : ℕ) (blocks : List (List ℕ)) (R S : Spool)
         → AreSorted (table inodes blocks) (length (table inodes blocks)) files.now.slots.items files.now.named
         → IsReplayed host inodes blocks replay.old.index replay.old.places R → Holds host inodes blocks S
-        → IsNext host R S (Change.Group name.now status description.now moment) → ⊥) }
+        → IsNext host R S
+        (Change.Group (record { name = name.now; status = status; description = description.now; moment = moment })) → ⊥) }
 {
     let numbers = file_name(alloc, FileKind::Numbers, name)?;
     let overview = file_name(alloc, FileKind::Overview, name)?;
@@ -127,7 +130,11 @@ pub fn replay_next<B: Blocks>(
     let at = files.slots[done];
     let file = file_at(alloc, blocks, inodes, at)?;
     let serial = done as u64 + 1;
-    let Some(said) = read_change(alloc, &file.name, &file.content, serial)? else {
+    let read = match read_change(alloc, &file.name, &file.content, serial) {
+        Ok(read) => read,
+        Err(_) => return Err(ReadSpoolError::Memory),
+    };
+    let Some(said) = read else {
         return Err(ReadSpoolError::Damaged);
     };
     replay_said(alloc, blocks, inodes, host, files, replay, at, said)

@@ -15,7 +15,7 @@ use crate::lines::line_sizes;
 use admission::{groups_here, id_of, may_expire, may_file, may_make};
 use article::{Article, Origin, ReadError};
 use index::Index;
-use model::Names;
+use model::{Moment, Names, Status};
 use places::Places;
 use spool_reading::{Files, ReadSpoolError};
 use std::alloc::Global;
@@ -37,10 +37,11 @@ pub fn replay_expiry(
 ) -> Result<(), ReadSpoolError>
     ensures ok { OnOk result ((host : List ℕ) (inodes : ℕ) (blocks : List (List ℕ)) (R : Spool)
         → IsReplayed host inodes blocks replay.old.index replay.old.places R
-        → IsItsFile inodes blocks at (length R + 1) (Change.Expire group.now number)
-        → IsReplayed host inodes blocks replay.new.index replay.new.places (R ++ Change.Expire group.now number ∷ [])) }
+        → IsItsFile inodes blocks at (length R + 1) (Change.Expire (record { group = group.now; number = number }))
+        → IsReplayed host inodes blocks replay.new.index replay.new.places
+        (R ++ Change.Expire (record { group = group.now; number = number }) ∷ [])) }
     ensures damaged { IfErr result (λ e. e ≡ ReadSpoolError.Damaged → (S : Spool) → Indexes S replay.old.index
-        → MayExpire S group.now number → ⊥) }
+        → MayExpire S (record { group = group.now; number = number }) → ⊥) }
 {
     if !may_expire(&replay.index, group, number as u64) {
         return Err(ReadSpoolError::Damaged);
@@ -57,20 +58,21 @@ pub fn replay_group(
     numbers: u32,
     overview: u32,
     name: &[u8],
-    status: u8,
+    status: Status,
     description: &[u8],
-    moment: u64,
+    moment: Moment,
 ) -> Result<(), ReadSpoolError>
     requires { AreReplayed replay.old.index replay.old.places }
     ensures ok { OnOk result ((host : List ℕ) (inodes : ℕ) (blocks : List (List ℕ)) (R : Spool)
         → IsReplayed host inodes blocks replay.old.index replay.old.places R
-        → IsItsFile inodes blocks at (length R + 1) (Change.Group name.now status description.now moment)
+        → IsItsFile inodes blocks at (length R + 1)
+        (Change.Group (record { name = name.now; status = status; description = description.now; moment = moment }))
         → ((content : List ℕ) × IsFileAt (table inodes blocks) numbers (numbers_name name.now) content)
         → ((content : List ℕ) × IsFileAt (table inodes blocks) overview (overview_name name.now) content)
         → IsReplayed host inodes blocks replay.new.index replay.new.places
-        (R ++ Change.Group name.now status description.now moment ∷ [])) }
+        (R ++ Change.Group (record { name = name.now; status = status; description = description.now; moment = moment }) ∷ [])) }
     ensures damaged { IfErr result (λ e. e ≡ ReadSpoolError.Damaged → (S : Spool) → Indexes S replay.old.index
-        → MayMake S name.now status description.now moment → ⊥) }
+        → MayMake S (record { name = name.now; status = status; description = description.now; moment = moment }) → ⊥) }
 {
     if !may_make(&replay.index, name, status, description, moment) {
         return Err(ReadSpoolError::Damaged);
@@ -92,7 +94,7 @@ pub fn replay_article<B: Blocks>(
     at: u32,
     text: &[u8],
     groups: &[&[u8]],
-    moment: u64,
+    moment: Moment,
 ) -> Result<(), ReadSpoolError>
     requires room { HasRoom inodes (B.blocks blocks.now) }
     requires rule { IsFileSystem inodes (B.blocks blocks.now) }
@@ -100,11 +102,12 @@ pub fn replay_article<B: Blocks>(
         files.now.slots.items files.now.named }
     requires replayed { CanReplay host.now inodes (B.blocks blocks.now) replay.old.index replay.old.places }
     ensures ok { OnOk result ((R : Spool) → IsReplayed host.now inodes (B.blocks blocks.now) replay.old.index replay.old.places R
-        → IsItsFile inodes (B.blocks blocks.now) at (length R + 1) (Change.Article text.now (map (λ g. g.now) groups.now) moment)
+        → IsItsFile inodes (B.blocks blocks.now) at (length R + 1)
+        (Change.Article (record { text = text.now; groups = map (λ g. g.now) groups.now; moment = moment }))
         → IsReplayed host.now inodes (B.blocks blocks.now) replay.new.index replay.new.places
-        (R ++ Change.Article text.now (map (λ g. g.now) groups.now) moment ∷ [])) }
+        (R ++ Change.Article (record { text = text.now; groups = map (λ g. g.now) groups.now; moment = moment }) ∷ [])) }
     ensures damaged { IfErr result (λ e. e ≡ ReadSpoolError.Damaged → (S : Spool) → Indexes S replay.old.index
-        → MayFile host.now S text.now (map (λ g. g.now) groups.now) moment
+        → MayFile host.now S (record { text = text.now; groups = map (λ g. g.now) groups.now; moment = moment })
         → AllGoOn (table inodes (B.blocks blocks.now)) S text.now (map (λ g. g.now) groups.now) → ⊥) }
 {
     let article = match Article::read(alloc, text, Origin::Carried) {

@@ -6,6 +6,7 @@ ghost use Rattle.model.specs.SpoolFiles.{group_name};
 ghost use Rattle.model.specs.declared.change.Change.{Change};
 ghost use Rattle.spool_reading.specs.Said.{IsFileOf, change_of};
 
+use model::{Moment, Status};
 use records::{FileKind, kind_of, read_article, read_expiry, read_group, serial_digits};
 use std::alloc::{AllocError, Global};
 
@@ -14,15 +15,14 @@ use std::alloc::{AllocError, Global};
 pub enum Said<'a> {
     Group {
         name: &'a [u8],
-        status: u8,
+        status: Status,
         description: &'a [u8],
-        /// seconds since 1970
-        moment: u64,
+        moment: Moment,
     },
     Article {
         text: &'a [u8],
         groups: Vec<&'a [u8]>,
-        moment: u64,
+        moment: Moment,
     },
     Expiry {
         group: &'a [u8],
@@ -64,11 +64,17 @@ fn group_said<'a>(group: &'a [u8], content: &'a [u8], serial: u64) -> Option<Sai
     if said.serial != serial {
         return None;
     }
+    let Some(status) = Status::of(said.status) else {
+        return None;
+    };
+    let Some(moment) = Moment::at(said.moment) else {
+        return None;
+    };
     Some(Said::Group {
         name: group,
-        status: said.status,
+        status,
         description: said.description,
-        moment: said.moment,
+        moment,
     })
 }
 
@@ -93,10 +99,13 @@ fn article_said<'a>(
     if said.serial != serial {
         return Ok(None);
     }
+    let Some(moment) = Moment::at(said.moment) else {
+        return Ok(None);
+    };
     Ok(Some(Said::Article {
         text: said.text,
         groups: said.groups,
-        moment: said.moment,
+        moment,
     }))
 }
 

@@ -7,11 +7,11 @@ ghost use Rattle.index_groups.specs.Shown.{shown};
 
 use index::{Index, Note};
 use index_groups::Group;
-use model::{Names, Text};
+use model::{Moment, Names, Status, Text};
 use names::is_wildmat;
 use std::alloc::{AllocError, Global};
 
-/// When all groups and articles of the rows were made.
+/// When all groups and articles of the rows were made, in seconds since 1970.
 const MOMENT: u64 = 1_000_000_000;
 
 /// An overview with this many octets takes no further line.
@@ -25,7 +25,8 @@ pub enum Call {
     /// Files an article with this id, this size, these groups and the sizes of its lines there, and answers the number
     /// of changes.
     File(&'static str, u64, &'static [&'static str], &'static [u64]),
-    /// Files an article with this id and this moment in the group `x.a`, and answers the number of changes.
+    /// Files an article with this id in the group `x.a`, this many seconds after the beginning of 1970, and answers the
+    /// number of changes.
     FileAt(&'static str, u64),
     /// Removes the articles up to a number from a group, and answers the number of changes.
     Expire(&'static str, u64),
@@ -78,7 +79,7 @@ pub fn answer(alloc: Global, index: &mut Index, call: Call) -> Result<Option<u64
             groups,
             sizes,
         ),
-        Call::FileAt(id, moment) => file_at(alloc, index, id.as_bytes(), moment),
+        Call::FileAt(id, seconds) => file_at(alloc, index, id.as_bytes(), seconds),
         Call::Expire(name, number) => expire(index, name.as_bytes(), number),
         Call::AreNew(wildmat, from, lines) => are_new(
             alloc,
@@ -95,7 +96,10 @@ fn make(index: &mut Index, name: &[u8]) -> Result<Option<u64>, AllocError> {
     if index.place(name).is_some() {
         return Ok(None);
     }
-    index.push_group(name, b'y', b"a group", MOMENT)?;
+    let Some(moment) = Moment::at(MOMENT) else {
+        return Ok(None);
+    };
+    index.push_group(name, Status::Open, b"a group", moment)?;
     Ok(Some(index.len()))
 }
 
@@ -113,7 +117,10 @@ fn file(
     if count > 16 || count != sizes.len() || !small || !overviews_fit(index.groups()) {
         return Ok(None);
     }
-    index.push_article(id, size, filed, MOMENT, sizes)?;
+    let Some(moment) = Moment::at(MOMENT) else {
+        return Ok(None);
+    };
+    index.push_article(id, size, filed, moment, sizes)?;
     Ok(Some(index.len()))
 }
 
@@ -133,8 +140,11 @@ fn file_at(
     alloc: Global,
     index: &mut Index,
     id: &[u8],
-    moment: u64,
+    seconds: u64,
 ) -> Result<Option<u64>, AllocError> {
+    let Some(moment) = Moment::at(seconds) else {
+        return Ok(None);
+    };
     let filed = names_of(alloc, &["x.a"])?;
     if filed.as_slice().len() != 1 || !overviews_fit(index.groups()) {
         return Ok(None);
@@ -180,7 +190,7 @@ fn find_in_group(index: &Index, call: Call) -> Option<u64> {
     match call {
         Call::Place(name) => Some(index.place(name.as_bytes())? as u64),
         Call::Serial(name) => Some(index.view(name.as_bytes())?.serial),
-        Call::Status(name) => Some(u64::from(index.view(name.as_bytes())?.status)),
+        Call::Status(name) => Some(u64::from(index.view(name.as_bytes())?.status.octet())),
         Call::Low(name) => Some(index.view(name.as_bytes())?.low),
         Call::High(name) => Some(index.view(name.as_bytes())?.high),
         Call::Last(name) => Some(index.view(name.as_bytes())?.last),

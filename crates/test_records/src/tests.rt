@@ -1,11 +1,17 @@
 //! Tests of records: written, read back, and damaged.
 
+use model::{Moment, Status};
 use records::{
     FileKind, article_record, expiry_record, file_name, group_record, kind_of, number_record,
     read_article, read_expiry, read_group, serial_digits, serial_of,
 };
-use std::alloc::{AllocError, Global};
+use std::alloc::Global;
 use std::test::Fail;
+
+/// 1,000,000,000 seconds after the beginning of 1970.
+fn moment() -> Result<Moment, Fail> {
+    Ok(Moment::at(1_000_000_000).ok_or("no moment")?)
+}
 
 /// The record of an article with these groups; `None` if a length does not fit into it.
 fn article(
@@ -13,14 +19,14 @@ fn article(
     serial: u64,
     groups: &[&[u8]],
     text: &[u8],
-) -> Result<Option<Vec<u8>>, AllocError> {
+) -> Result<Option<Vec<u8>>, Fail> {
     if u32::MAX as usize <= text.len() || 255 < groups.len() {
         return Ok(None);
     }
     if !groups.iter().all(|group| group.len() < 256) {
         return Ok(None);
     }
-    Ok(Some(article_record(alloc, serial, 1_000_000_000, groups, text)?))
+    Ok(Some(article_record(alloc, serial, moment()?, groups, text)?))
 }
 
 #[test]
@@ -61,7 +67,7 @@ fn serials_in_ten_digits(rt: HostRuntime) {
 
 #[test]
 fn the_record_of_a_group(rt: HostRuntime) -> Result<(), Fail> {
-    let octets = group_record(rt.alloc(), 1, 1_000_000_000, b'y', b"a group")?;
+    let octets = group_record(rt.alloc(), 1, moment()?, Status::Open, b"a group")?;
     let wanted = b"\x01\0\0\0\0\0\0\0\0\xca\x9a\x3b\0\0\0\0ya group".as_slice();
     assert!(rt; octets.as_slice() == wanted);
     let read = read_group(wanted).ok_or("no group")?;

@@ -7,7 +7,7 @@ use Rattle.admission.proofs.groups.may_expire.Goals as goal
 pub returns-in_default : goal.returns-in_default
 returns-in_default c = λ S is. (
   λ yes. absurd (true≢false (sym yes)),
-  λ may. absurd (no_expiry_elsewhere S c.args.group.now c.args.number (c.in_default.ensures S is) may),
+  λ may. absurd (no_expiry_elsewhere S (record { group = c.args.group.now; number = c.args.number }) (c.in_default.ensures S is) may),
 )
 
 pub returns-then-number-low : goal.returns-then-number-low
@@ -15,19 +15,21 @@ returns-then-number-low c = λ S is. (
   λ yes. absurd (true≢false (sym yes)),
   λ may. absurd (omega (
     arith,
-    (expiry_bounds S c.args.group.now (shown c.in-Some.found.now) c.args.number
+    (expiry_bounds S (record { group = c.args.group.now; number = c.args.number }) (shown c.in-Some.found.now)
         (c.in-Some.ensures S is) may).0,
   )),
 )
 
 pub returns : goal.returns
 returns c = λ S is. (
-  λ yes. expired_by_test S c.args.group.now (shown c.in-Some.found.now) c.args.number (c.in-Some.ensures S is) (omega arith)
+  λ yes. expired_by_test S (record { group = c.args.group.now; number = c.args.number }) (shown c.in-Some.found.now)
+      (c.in-Some.ensures S is) (omega arith)
       (omega (arith, c.high.ensures, leb-true c.args.number c.high.result yes)),
   λ may. le-leb c.args.number c.high.result
       (omega (
         arith,
-        (expiry_bounds S c.args.group.now (shown c.in-Some.found.now) c.args.number (c.in-Some.ensures S is) may).1,
+        (expiry_bounds S (record { group = c.args.group.now; number = c.args.number }) (shown c.in-Some.found.now)
+            (c.in-Some.ensures S is) may).1,
         c.high.ensures,
       )),
 )

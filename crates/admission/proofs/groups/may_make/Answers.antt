@@ -1,14 +1,43 @@
-use Rattle.std.proofs.Common.{refl, sym, ◌∙◌, true, false}
+use Rattle.std.proofs.Common.{◌<◌, rules, refl, sym, ◌∙◌, true, false}
+use Rattle.model.specs.Calendar.{moment_limit}
 use Rattle.model.specs.Spool.{is_here}
+use Rattle.model.specs.declared.change.NewGroup.{NewGroup}
+use Rattle.names.specs.Descriptions.{is_description}
 use Rattle.admission.proofs.Testing.{made_by_test}
 use Rattle.admission.proofs.groups.may_make.Goals as goal
 
-pub returns-then-not-are_group_fields : goal.returns-then-not-are_group_fields
-returns-then-not-are_group_fields c = λ S is.
-    made_by_test S c.args.name.now c.args.status c.args.description.now c.args.moment false (is_here S c.args.name.now)
-    (sym c.if-not-are_group_fields.true ∙ c.are_group_fields.ensures) refl
+pub returns-then-not-is_group_name : goal.returns-then-not-is_group_name
+returns-then-not-is_group_name c = λ S is.
+    let g : NewGroup = record {
+      name = c.args.name.now;
+      status = c.args.status;
+      description = c.args.description.now;
+      moment = c.args.moment;
+    } in
+    let early : c.args.moment < moment_limit = search rules in
+    made_by_test S g false (is_description c.args.description.now) (is_here S c.args.name.now) early
+    (sym c.if-not-is_group_name.true ∙ c.is_group_name.ensures) refl refl
+
+pub returns-then-not-is_description : goal.returns-then-not-is_description
+returns-then-not-is_description c = λ S is.
+    let g : NewGroup = record {
+      name = c.args.name.now;
+      status = c.args.status;
+      description = c.args.description.now;
+      moment = c.args.moment;
+    } in
+    let early : c.args.moment < moment_limit = search rules in
+    made_by_test S g true false (is_here S c.args.name.now) early (sym c.if-not-is_group_name.false ∙ c.is_group_name.ensures)
+    (sym c.if-not-is_description.true ∙ c.is_description.ensures) refl
 
 pub returns : goal.returns
 returns c = λ S is.
-    made_by_test S c.args.name.now c.args.status c.args.description.now c.args.moment true c.is_here.result
-    (sym c.if-not-are_group_fields.false ∙ c.are_group_fields.ensures) (c.is_here.ensures S is)
+    let g : NewGroup = record {
+      name = c.args.name.now;
+      status = c.args.status;
+      description = c.args.description.now;
+      moment = c.args.moment;
+    } in
+    let early : c.args.moment < moment_limit = search rules in
+    made_by_test S g true true c.is_here.result early (sym c.if-not-is_group_name.false ∙ c.is_group_name.ensures)
+    (sym c.if-not-is_description.false ∙ c.is_description.ensures) (c.is_here.ensures S is)

@@ -38,7 +38,8 @@ returns-clause-ok c = λ host S text may key size sized is.
     let next : c.len.result + 1 ≡ length S + 1 =
     new_serial S c.args.self.now c.self.inside.notes.items c.len.result (ap (λ (x : IndexView). x.notes) c.self.view_is) is
     (omega (arith, c.len.ensures, c.self.inside.notes.ok)) in
-    article_indexed host S c.args.self.now _ text c.args.id.now c.args.filed c.args.moment c.args.sizes.now
+    article_indexed host S c.args.self.now _ (record { text = text; groups = c.args.filed; moment = c.args.moment }) c.args.id.now
+    c.args.sizes.now
     (note.Article c.new-own_id.result c.args.size c.args.filed c.args.moment) (c.len.result + 1) may is
     (c.in-Ok.ensures.items ∙ ap (λ (ns : List Note). ns ++ note.Article c.new-own_id.result c.args.size c.args.filed c.args.moment ∷ [])
     (c.in_ok-reserve.ensures.items ∙ ap (λ (x : IndexView). x.notes) c.self.view_is))

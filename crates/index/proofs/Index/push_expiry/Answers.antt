@@ -47,7 +47,8 @@ returns-clause-ok c = λ host S may is.
     let next : serial ≡ length S + 1 =
     new_serial S c.args.self.now c.self.inside.notes.items c.len.result (ap (λ (x : IndexView). x.notes) c.self.view_is) is
     (omega (arith, c.len.ensures, c.self.inside.notes.ok)) in
-    expiry_indexed host S c.args.self.now _ c.args.name.now c.args.number (note.Expiry c.new-group.result c.args.number) may is
+    expiry_indexed host S c.args.self.now _ (record { group = c.args.name.now; number = c.args.number })
+    (note.Expiry c.new-group.result c.args.number) may is
     (c.in-Ok.ensures.items ∙ ap (λ (ns : List Note). ns ++ note.Expiry c.new-group.result c.args.number ∷ []) (c.in_ok-reserve.ensures.items
     ∙ ap (λ (x : IndexView). x.notes) c.self.view_is))
     (ap (λ (g : Octets). note.Expiry g c.args.number) (c.new-group.ensures ∙ c.in_ok-from_slice.ensures.items))

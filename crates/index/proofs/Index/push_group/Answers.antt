@@ -38,8 +38,12 @@ returns-clause-ok c = λ host S lawful may is.
     let serial : c.len.result + 1 ≡ length S + 1 =
     new_serial S c.args.self.now c.self.inside.notes.items c.len.result (ap (λ (x : IndexView). x.notes) c.self.view_is) is
     (omega (arith, c.len.ensures, c.self.inside.notes.ok)) in
-    group_indexed host S c.args.self.now _ c.args.name.now c.args.status c.args.description.now c.args.moment
-    (shown c.in_ok-group.group) note.Group lawful may is
+    group_indexed host S c.args.self.now _ (record {
+      name = c.args.name.now;
+      status = c.args.status;
+      description = c.args.description.now;
+      moment = c.args.moment;
+    }) (shown c.in_ok-group.group) note.Group lawful may is
     (c.in-Ok-push.ensures.items ∙ ap (λ (ns : List Note). ns ++ note.Group ∷ []) (c.in_ok-reserve.ensures.items
     ∙ ap (λ (x : IndexView). x.notes) c.self.view_is)) refl
     (ap (map shown) (c.in-Ok.ensures.items ∙ ap (λ (gs : List Group). gs ++ c.in_ok-group.group ∷ []) c.in_ok-reserve-3.ensures.items)

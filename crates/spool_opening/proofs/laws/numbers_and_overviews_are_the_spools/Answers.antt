@@ -7,6 +7,6 @@ pub returns : goal.returns
 returns c = record {
   content = its_content;
   there = its_file;
-  pieces = λ host inodes blocks R S w text gs moment g held next is filed here.
-      piece_stands host inodes blocks R S w text gs moment g held (ap (λ (d : Change). R ++ d ∷ []) (sym is) ∙ next.front) filed here;
+  pieces = λ host inodes blocks R S w f g held next is filed here.
+      piece_stands host inodes blocks R S w f g held (ap (λ (d : Change). R ++ d ∷ []) (sym is) ∙ next.front) filed here;
 }

@@ -6,14 +6,22 @@ use Rattle.spool_opening.proofs.next.replay_named.Goals as goal
 
 pub returns-in_default-clause-damaged : goal.returns-in_default-clause-damaged
 returns-in_default-clause-damaged c = λ e host inodes blocks R S sorted replayed held next.
-    group_named_there host inodes blocks R S c.args.files.now.slots.items c.args.files.now.named Numbers c.args.name.now c.deref.result.now
-    c.args.status c.args.description.now c.args.moment sorted held next
+    group_named_there host inodes blocks R S c.args.files.now.slots.items c.args.files.now.named Numbers (record {
+      name = c.args.name.now;
+      status = c.args.status;
+      description = c.args.description.now;
+      moment = c.args.moment;
+    }) c.deref.result.now sorted held next
     (c.deref.ensures.value ∙ c.in_ok-numbers.ensures) c.in_default.ensures
 
 pub returns-in_default-get-clause-damaged : goal.returns-in_default-get-clause-damaged
 returns-in_default-get-clause-damaged c = λ e host inodes blocks R S sorted replayed held next.
-    group_named_there host inodes blocks R S c.args.files.now.slots.items c.args.files.now.named Overview c.args.name.now
-    c.deref-2.result.now c.args.status c.args.description.now c.args.moment sorted held next
+    group_named_there host inodes blocks R S c.args.files.now.slots.items c.args.files.now.named Overview (record {
+      name = c.args.name.now;
+      status = c.args.status;
+      description = c.args.description.now;
+      moment = c.args.moment;
+    }) c.deref-2.result.now sorted held next
     (c.deref-2.ensures.value ∙ c.in_ok-overview.ensures) c.in_default-get.ensures
 
 pub returns-clause-ok : goal.returns-clause-ok

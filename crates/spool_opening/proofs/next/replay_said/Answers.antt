@@ -26,11 +26,12 @@ returns-in-Article-clause-damaged g c =
     rw c.in-Article.is
     (IfErr-weaker c.replay_article.result _ _
     (λ e none is R S replayed held next.
-    none is R replayed.indexed (subst (λ (l : List (List ℕ)). MayFile c.args.host.now R c.in-Article.text.now l c.in-Article.moment)
-    (sym names) next.may)
+    none is R replayed.indexed
+    (subst (λ (l : List (List ℕ)). MayFile c.args.host.now R
+    (record { text = c.in-Article.text.now; groups = l; moment = c.in-Article.moment })) (sym names) next.may)
     (subst (λ (l : List (List ℕ)). AllGoOn (table c.args.inodes (g.B.Blocks.blocks c.args.blocks.now)) R c.in-Article.text.now l)
-    (sym names) (all_go_on c.args.host.now c.args.inodes (g.B.Blocks.blocks c.args.blocks.now) R S c.in-Article.text.now gs
-    c.in-Article.moment held next)))
+    (sym names) (all_go_on c.args.host.now c.args.inodes (g.B.Blocks.blocks c.args.blocks.now) R S
+    (record { text = c.in-Article.text.now; groups = gs; moment = c.in-Article.moment }) held next)))
     c.replay_article.ensures.damaged)
 
 pub returns-in-Expiry-clause-ok : goal.returns-in-Expiry-clause-ok

@@ -1,4 +1,5 @@
 use Rattle.model.specs.Lawful.{MayMake}
+use Rattle.model.specs.declared.change.NewGroup.{NewGroup}
 use Rattle.index.proofs.Callers.{no_head}
 use Rattle.spool_opening.proofs.Replaying.{group_replayed}
 use Rattle.spool_opening.proofs.replay.replay_group.Goals as goal
@@ -11,8 +12,12 @@ push_group-requires c =
 
 pub returns-clause-ok : goal.returns-clause-ok
 returns-clause-ok c = λ host inodes blocks R replayed its numbered shown.
-    let may : MayMake R c.args.name.now c.args.status c.args.description.now c.args.moment =
-    (c.may_make.ensures R replayed.indexed).0 c.if-not-may_make.false in
-    group_replayed host inodes blocks R _ _ _ _ c.args.at c.args.numbers c.args.overview c.args.name.now c.args.status
-    c.args.description.now c.args.moment replayed its may numbered shown
+    let created : NewGroup = record {
+      name = c.args.name.now;
+      status = c.args.status;
+      description = c.args.description.now;
+      moment = c.args.moment;
+    } in
+    let may : MayMake R created = (c.may_make.ensures R replayed.indexed).0 c.if-not-may_make.false in
+    group_replayed host inodes blocks R _ _ _ _ c.args.at c.args.numbers c.args.overview created replayed its may numbered shown
     (c.in_ok-push_group.ensures.ok host R replayed.read.lawful may replayed.indexed) c.in_ok-push_group-2.ensures.ok

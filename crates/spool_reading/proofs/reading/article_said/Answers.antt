@@ -1,14 +1,36 @@
-use Rattle.std.proofs.Common.{map, rules}
-use Rattle.spool_reading.proofs.Saying.{article_is, no_article}
+use Rattle.std.proofs.Common.{map, refl, rules, sym, ◌∙◌}
+use Rattle.std.proofs.lemmas.Bool.{true≢false}
+use Rattle.spool_reading.proofs.Saying.{article_is, article_serial, is_moment, late_article, no_article, other_article}
 use Rattle.spool_reading.proofs.reading.article_said.Goals as goal
+
+pub returns-then-not-is_serial : goal.returns-then-not-is_serial
+returns-then-not-is_serial c =
+    other_article c.args.digits.now c.args.content.now c.args.serial
+    (λ same. true≢false (sym (c.is_serial.ensures.1 same) ∙ c.if-not-is_serial.true))
 
 pub returns-in_default : goal.returns-in_default
 returns-in_default c = λ d is. no_article c.args.digits.now c.args.content.now (rw c.in_default.is at c.in_ok-said.ensures) c.args.serial d
     is
 
+pub returns-then-said-serial : goal.returns-then-said-serial
+returns-then-said-serial c =
+    let said = c.in-Some.said in
+    λ d is. c.if-said-serial.true (sym
+    (article_serial c.args.serial said.serial said.moment said.text.now (map (λ g. g.now) said.groups.items) _ c.args.content.now d
+    (search rules) (rw c.in-Some.is at c.in_ok-said.ensures) is))
+
+pub returns-in_default-at : goal.returns-in_default-at
+returns-in_default-at c =
+    let said = c.in-Some.said in
+    late_article c.args.serial said.serial said.moment said.text.now (map (λ g. g.now) said.groups.items) c.args.digits.now
+    c.args.content.now (search rules) (search rules) c.requires
+    (c.is_serial.ensures.0 (search rules)) c.if-said-serial.false (c.in_default-at.ensures.none.0 refl)
+    (rw c.in-Some.is at c.in_ok-said.ensures)
+
 pub returns : goal.returns
 returns c =
     let said = c.in-Some.said in
-    article_is c.args.serial said.serial said.moment said.text.now (map (λ g. g.now) said.groups.items) c.args.digits.now c.args.content.now
-    (search rules) (search rules) c.requires
-    (c.is_serial.ensures.0 (search rules)) c.if-said-serial.false (rw c.in-Some.is at c.in_ok-said.ensures)
+    article_is c.args.serial said.serial c.in-Some-at.moment said.moment said.text.now (map (λ g. g.now) said.groups.items)
+    c.args.digits.now c.args.content.now (search rules) (search rules) c.requires
+    (c.is_serial.ensures.0 (search rules)) c.if-said-serial.false c.in-Some-at.ensures.some
+    (is_moment c.in-Some-at.moment said.moment c.in-Some-at.ensures.none) (rw c.in-Some.is at c.in_ok-said.ensures)

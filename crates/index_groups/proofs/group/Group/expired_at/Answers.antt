@@ -1,7 +1,7 @@
 use Rattle.std.proofs.Common.{◌≡◌, ◌<◌, ◌∙◌, sym, ap, subst, List, ℕ, length, map, get_or, arith, true, false}
 use Rattle.std.specs.Prelude.{nat_lt}
 use Rattle.std.proofs.lemmas.List.{length-map, get_or-map}
-use Rattle.model.specs.Spool.{Expiry, serial_of}
+use Rattle.model.specs.Spool.{NewsExpiry, serial_of}
 use Rattle.model.proofs.Joined.{map_twice}
 use Rattle.index_groups.specs.Finding.{Rise}
 use Rattle.index_groups.specs.declared.group.Expired.{Expired}
@@ -12,10 +12,10 @@ pub returns-then-place-len : goal.returns-then-place-len
 returns-then-place-len c = λ rise.
     let xs : List Expired = c.deref.result.now in
     let same : xs ≡ c.args.self.now.expired.items = c.deref.ensures.value in
-    let named : Expired → Expiry = λ e. record { serial = e.serial; group = c.args.self.now.name; number = e.number } in
+    let named : Expired → NewsExpiry = λ e. record { serial = e.serial; group = c.args.self.now.name; number = e.number } in
     let rises : Rise (map (λ (e : Expired). e.number) xs) =
     subst (λ (es : List Expired). Rise (map (λ (e : Expired). e.number) es)) (sym same)
-    (subst Rise (map_twice (λ (e : Expiry). e.number) named c.args.self.now.expired.items) rise) in
+    (subst Rise (map_twice (λ (e : NewsExpiry). e.number) named c.args.self.now.expired.items) rise) in
     let at = c.expiries_below-place.ensures.partitioned
     (λ i j d order low passed. below_parts (λ (e : Expired). e.number) c.args.number xs rises i j d order low passed) in
     let size : length xs ≡ length c.args.self.now.expired.items = ap (λ (es : List Expired). length es) same in
@@ -29,10 +29,10 @@ returns c = λ rise.
     let xs : List Expired = c.deref.result.now in
     let items : List Expired = c.args.self.now.expired.items in
     let same : xs ≡ items = c.deref.ensures.value in
-    let named : Expired → Expiry = λ e. record { serial = e.serial; group = c.args.self.now.name; number = e.number } in
+    let named : Expired → NewsExpiry = λ e. record { serial = e.serial; group = c.args.self.now.name; number = e.number } in
     let rises : Rise (map (λ (e : Expired). e.number) xs) =
     subst (λ (es : List Expired). Rise (map (λ (e : Expired). e.number) es)) (sym same)
-    (subst Rise (map_twice (λ (e : Expiry). e.number) named items) rise) in
+    (subst Rise (map_twice (λ (e : NewsExpiry). e.number) named items) rise) in
     let at = c.expiries_below-place.ensures.partitioned
     (λ i j d order low passed. below_parts (λ (e : Expired). e.number) c.args.number xs rises i j d order low passed) in
     let size : length xs ≡ length items = ap (λ (es : List Expired). length es) same in
@@ -50,5 +50,5 @@ returns c = λ rise.
     (λ j before. mapped_get named (λ e. nat_lt e.number c.args.number ≡ true) items j (named r) (omega arith)
     (λ small e. subst (λ (es : List Expired). nat_lt (get_or es j e).number c.args.number ≡ true) same (at.0 j e (omega arith) before))) in
     ap (λ (e : Expired). e.serial) c.index.ensures
-    ∙ ap (λ (e : Expiry). e.serial) (sym (get_or-map named items place r (named r) within))
+    ∙ ap (λ (e : NewsExpiry). e.serial) (sym (get_or-map named items place r (named r) within))
     ∙ sym (ap serial_of first)
