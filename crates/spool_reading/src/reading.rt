@@ -30,7 +30,8 @@ pub enum Said<'a> {
     },
 }
 
-/// The contents of the file with this name, if it is that of the change with this serial.
+/// The contents of the file with this name, if it is that of the change with this serial and the change's moment is
+/// before the year 10000. Refused only for want of memory.
 pub fn read_change<'a>(
     alloc: Global,
     name: &'a [u8],
