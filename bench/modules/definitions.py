@@ -62,13 +62,21 @@ class Tree:
         return self.specs(again.split(".")) if again else (None, None)
 
     def declared(self, crate, path, name):
-        """A type of src/ as specs/ have it, one of its variants, or what it has within."""
+        """A type of src/ as specs/ have it, one of its variants, what it has within, or a constant."""
+        if path[-1] == "TheConstants":
+            return self.constant(crate, path[:-1], name)
         *modules, owner = path[:-1] if path[-1] in ("TheVariants", "TheInside") else path
         source = self.source(crate, modules)
         found = source and source.owners.get(owner)
         if found and path[-1] == "TheVariants":
             return found if name in found.constructors else None
         return found if name == ("Inside" if path[-1] == "TheInside" else owner) else None
+
+    def constant(self, crate, modules, name):
+        """`KIT` where src/ has a constant of this name: its value is a literal, so nothing hangs on it."""
+        source = self.source(crate, modules)
+        const = re.compile(r"(?:pub(?:\(crate\))? )?const %s:" % re.escape(name))
+        return KIT if source and any(const.match(line) for line in source.lines) else None
 
     def source(self, crate, modules):
         """The file of a module of Rust, or none."""
