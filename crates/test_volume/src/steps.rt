@@ -14,6 +14,8 @@ pub enum Step<'a> {
     Stage,
     /// Fills a block with an octet.
     Fill(u32, u8),
+    /// Puts octets into a block from a place on.
+    Put(u32, usize, &'a [u8]),
     Drop,
     Apply,
     /// The number of blocks is this one.
@@ -22,6 +24,8 @@ pub enum Step<'a> {
     HasDirty(usize),
     /// Each octet of the block is this one.
     Filled(u32, u8),
+    /// The octets of the block from a place on begin with these.
+    Shows(u32, usize, &'a [u8]),
     /// The numbers of a batch, and the octets that fill its blocks.
     Batch(&'a [u32], &'a [u8]),
 }
@@ -78,6 +82,34 @@ fn fill(volume: &mut Volume, number: u32, octet: u8) -> Result<bool, AllocError>
     Ok(true)
 }
 
+/// Puts octets into a block from a place on, if they lie in one that exists.
+fn put_octets(
+    volume: &mut Volume,
+    number: u32,
+    place: usize,
+    octets: &[u8],
+) -> Result<bool, AllocError> {
+    if number >= volume.len() || octets.len() > BLOCK_SIZE {
+        return Ok(false);
+    }
+    if place > BLOCK_SIZE - octets.len() {
+        return Ok(false);
+    }
+    volume.put_at(number, place, octets)?;
+    Ok(true)
+}
+
+/// Whether the octets of a block from a place on begin with these.
+fn shows(volume: &Volume, number: u32, place: usize, octets: &[u8]) -> bool {
+    if number >= volume.len() || octets.len() > BLOCK_SIZE {
+        return false;
+    }
+    if place > BLOCK_SIZE - octets.len() {
+        return false;
+    }
+    &volume.block(number)[place..place + octets.len()] == octets
+}
+
 /// Whether the batch has these blocks, each filled with its octet.
 fn is_batch(
     alloc: Global,
@@ -111,11 +143,13 @@ pub fn answers(
     match step {
         Step::Stage => volume.stage(),
         Step::Fill(number, octet) => return fill(volume, number, octet),
+        Step::Put(number, place, octets) => return put_octets(volume, number, place, octets),
         Step::Drop => volume.drop_stage(),
         Step::Apply => volume.apply(),
         Step::Has(count) => return Ok(volume.len() == count),
         Step::HasDirty(count) => return Ok(volume.dirty_len() == count),
         Step::Filled(number, octet) => return Ok(is_filled(volume, number, octet)),
+        Step::Shows(number, place, octets) => return Ok(shows(volume, number, place, octets)),
         Step::Batch(numbers, octets) => {
             return Ok(copied(volume, batch) && is_batch(alloc, batch, numbers, octets)?);
         }

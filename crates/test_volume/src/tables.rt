@@ -47,6 +47,19 @@ const STEPS: &[(&str, &[Step<'static>])] = &[
         ],
     ),
     (
+        "octets that are put into a block leave its others",
+        &[
+            Step::Fill(3, 1),
+            Step::Apply,
+            Step::Put(3, 2, &[7, 8]),
+            Step::Shows(3, 0, &[1, 1, 7, 8, 1]),
+            Step::Put(3, 3, &[9]),
+            Step::Shows(3, 0, &[1, 1, 7, 9, 1]),
+            Step::Drop,
+            Step::Filled(3, 1),
+        ],
+    ),
+    (
         "a batch has the blocks in the order in which they became dirty",
         &[
             Step::Fill(6, 1),

@@ -4,4 +4,5 @@ pub mod Index
 pub mod Laid
 pub mod Loading
 pub mod Octets
+pub mod Parts
 pub mod Seen

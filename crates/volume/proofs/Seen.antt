@@ -1,5 +1,5 @@
 -- What reads see: the stage over the cache.
-use Rattle.std.proofs.Common.{◌≡◌, ◌≢◌, ◌<◌, ℕ, ◌*◌, List, [], ◌∷◌, ◌++◌, length, get_or, set, sym, ◌∙◌, ap, arith}
+use Rattle.std.proofs.Common.{◌≡◌, ◌≢◌, ◌<◌, ℕ, ◌*◌, List, [], ◌∷◌, ◌++◌, length, get_or, set, sym, ◌∙◌, ap, subst, arith}
 use Rattle.std.specs.List.{All, Contains}
 use Rattle.std.proofs.lemmas.List.{get_or_default, length_push}
 use Rattle.std.proofs.lemmas.List.Elements.{All-set, All-head, All-tail}
@@ -38,6 +38,11 @@ module _ (cache images : List ℕ) (staged dirty : Numbers) (v : IsVolume cache 
       laid_over_whole (blocks_from 0 staged.bound cache) staged.members (blocks_from 0 (length staged.members) images)
       (blocks_whole staged.bound cache v.cache_size)
       (blocks_whole (length staged.members) images v.images_size)
+
+  -- a block of those that are seen
+  pub seen_whole_at : (seen : List (List ℕ)) (n : ℕ) → seen_over staged.bound cache staged.members images ≡ seen → n < length seen
+      → length (get_or seen n []) ≡ 4096
+  seen_whole_at seen n is there = subst (λ (l : List (List ℕ)). All (λ b. length b ≡ 4096) l) is seen_whole n [] there
 
   pub seen_staged : (i n : ℕ) → i < length staged.members → get_or staged.members i 0 ≡ n
       → get_or (seen_over staged.bound cache staged.members images) n [] ≡ block i images

@@ -45,6 +45,17 @@ pub trait Blocks {
         ensures put { blocks self.new
             ≡ (if is_ok result then slice_set (blocks self.old) number from.now else blocks self.old) }
         ensures kept { applied self.new ≡ applied self.old };
+
+    /// Replaces the octets of a block from a place on, and leaves its others. If memory is refused, nothing changes.
+    fn put_at(&mut self, number: u32, at: usize, part: &[u8]) -> Result<(), AllocError>
+        requires there { number < length (blocks self.old) }
+        requires fits { at + length part.now ≤ 4096 }
+        ensures put { blocks self.new
+            ≡ (if is_ok result
+            then slice_set (blocks self.old) number (overwritten at part.now (slice_index_or (blocks self.old) number []))
+            else blocks self.old) }
+        ensures whole { length (slice_index_or (blocks self.old) number []) ≡ 4096 }
+        ensures kept { applied self.new ≡ applied self.old };
 }
 
 /// The octets of the block with this number.
@@ -65,4 +76,22 @@ pub fn put_block(octets: &mut [u8], number: usize, from: &[u8])
 {
     let start = number * BLOCK_SIZE;
     octets[start..start + BLOCK_SIZE].copy_from_slice(from);
+}
+
+/// Replaces the octets from a place on.
+pub fn put_part(octets: &mut [u8], at: usize, part: &[u8])
+    requires { at + length part.now ≤ length octets.old }
+    ensures { octets.new ≡ overwritten at part.now octets.old }
+{
+    let end = at + part.len();
+    octets[at..end].copy_from_slice(part);
+}
+
+/// Replaces octets of the block with this number, from a place in the block on.
+pub fn put_in_block(octets: &mut [u8], number: usize, at: usize, part: &[u8])
+    requires there { 4096 * number + 4096 ≤ length octets.old }
+    requires fits { at + length part.now ≤ 4096 }
+    ensures { octets.new ≡ overwritten (4096 * number) (overwritten at part.now (block number octets.old)) octets.old }
+{
+    put_part(octets, number * BLOCK_SIZE + at, part);
 }

@@ -8,7 +8,7 @@ mod numbers;
 mod volume;
 
 pub use batch::BatchBuf;
-pub use blocks::{BLOCK_SIZE, Blocks};
+pub use blocks::{BLOCK_SIZE, Blocks, put_part};
 pub use errors::LoadError;
 pub use volume::Volume;
 

@@ -1,7 +1,7 @@
 //! A stage over a cache.
 
 ghost use Rattle.std.specs.Prelude.{◌≡◌, ◌≢◌, ◌⊎◌, ◌↔◌, ℕ, ◌+◌, ◌*◌, ◌<◌, ◌≤◌, List, [], length, slice_index_or, IfOk, IfErr, OnOk, OnErr};
-ghost use Rattle.std.specs.Prelude.{IsTrue, true, false};
+ghost use Rattle.std.specs.Prelude.{◌∷◌, ◌++◌, IsTrue, true, false, is_ok, if◌then◌else◌};
 ghost use Rattle.std.specs.List.{All, Contains, flat_map};
 ghost use Rattle.model.specs.Volume.{AreDistinct, blocks_from, laid_over};
 ghost use Rattle.disk.specs.Image.{overwritten};
@@ -11,7 +11,7 @@ ghost use Rattle.volume.specs.Numbers.{IsNumbers};
 ghost use Rattle.volume.specs.Volume.{VolumeView, Differs, AgreeOutside, IsVolume, seen_over};
 
 use crate::batch::BatchBuf;
-use crate::blocks::{BLOCK_SIZE, Blocks, block_of, put_block};
+use crate::blocks::{BLOCK_SIZE, Blocks, block_of, put_block, put_in_block, put_part};
 use crate::errors::LoadError;
 use crate::numbers::NumberSet;
 use disk::Disk;
@@ -227,6 +227,26 @@ fn mark(dirty: &mut NumberSet, number: u32)
     }
 }
 
+// Adds a block to the stage. If memory is refused, nothing changes.
+fn stage_block(
+    staged: &mut NumberSet,
+    images: &mut Vec<u8>,
+    number: u32,
+    from: &[u8],
+) -> Result<(), AllocError>
+    requires below { number < staged.old.bound }
+    requires other { ¬ (Contains staged.old.members number) }
+    requires valid { IsNumbers staged.old }
+    ensures staged { staged.new ≡ (if is_ok result
+        then record { bound = staged.old.bound; members = staged.old.members ++ number ∷ [] } else staged.old) }
+    ensures valid { IsNumbers staged.new }
+    ensures images { images.new.items ≡ (if is_ok result then images.old.items ++ from.now else images.old.items) }
+{
+    images.extend_from_slice(from)?;
+    staged.insert(number);
+    Ok(())
+}
+
 impl Blocks for Volume {
     ghost blocks = { λ v. v.seen };
 
@@ -246,9 +266,19 @@ impl Blocks for Volume {
     fn put(&mut self, number: u32, from: &[u8]) -> Result<(), AllocError> {
         match self.staged.place(number) {
             Some(place) => put_block(&mut self.images, place, from),
+            None => stage_block(&mut self.staged, &mut self.images, number, from)?,
+        }
+        Ok(())
+    }
+
+    fn put_at(&mut self, number: u32, at: usize, part: &[u8]) -> Result<(), AllocError> {
+        match self.staged.place(number) {
+            Some(place) => put_in_block(&mut self.images, place, at, part),
             None => {
-                self.images.extend_from_slice(from)?;
-                self.staged.insert(number);
+                let end = self.images.len();
+                let cached = block_of(&self.cache, number as usize);
+                stage_block(&mut self.staged, &mut self.images, number, cached)?;
+                put_part(&mut self.images, end + at, part);
             }
         }
         Ok(())

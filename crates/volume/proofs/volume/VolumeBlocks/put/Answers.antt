@@ -1,4 +1,4 @@
-use Rattle.std.proofs.Common.{rules, ◌≡◌, ℕ, ◌*◌, List, [], ◌∷◌, ◌++◌, length, set, ◌∙◌, ap, arith}
+use Rattle.std.proofs.Common.{◌≡◌, ℕ, ◌*◌, List, [], ◌∷◌, ◌++◌, length, set, ◌∙◌, ap, arith}
 use Rattle.std.proofs.lemmas.List.{with_items_is}
 use Rattle.disk.specs.Image.{overwritten}
 use Rattle.volume.specs.Numbers.{Numbers}
@@ -13,8 +13,8 @@ place-requires c =
     let same = ap (λ (v : VolumeView). length v.seen) c.self.view_is in
     omega (arith, c.requires.there)
 
-pub insert-requires-clause-below : goal.insert-requires-clause-below
-insert-requires-clause-below c =
+pub stage_block-requires-clause-below : goal.stage_block-requires-clause-below
+stage_block-requires-clause-below c =
     let count = length-seen c.self.inside.cache.items c.self.inside.images.items c.self.inside.staged c.self.inside.dirty c.self.invariant
     in
     let same = ap (λ (v : VolumeView). length v.seen) c.self.view_is in
@@ -32,15 +32,12 @@ returns-in-Some-clause-put c =
     c.in-Some.place c.args.number c.in-Some.ensures.0 c.in-Some.ensures.1
     ∙ ap (λ (v : VolumeView). set v.seen c.args.number c.args.from.now) c.self.view_is
 
-pub returns-in_ok-extend_from_slice-in-None-clause-put : goal.returns-in_ok-extend_from_slice-in-None-clause-put
-returns-in_ok-extend_from_slice-in-None-clause-put c =
+pub returns-in_ok-stage_block-in-None-clause-put : goal.returns-in_ok-stage_block-in-None-clause-put
+returns-in_ok-stage_block-in-None-clause-put c =
     let inside = c.self.inside in
-    ap (λ (s : Numbers). seen_over s.bound inside.cache.items s.members c.extend_from_slice.new.self.items) c.insert.ensures.added
-    ∙ ap (λ (l : List ℕ). seen_over inside.staged.bound inside.cache.items (inside.staged.members ++ c.args.number ∷ []) l)
-    c.in_ok-extend_from_slice-in-None.ensures.items
+    let stage = c.in_ok-stage_block-in-None.ensures in
+    ap (λ (s : Numbers). seen_over s.bound inside.cache.items s.members c.stage_block.new.images.items) stage.staged
+    ∙ ap (λ (l : List ℕ). seen_over inside.staged.bound inside.cache.items (inside.staged.members ++ c.args.number ∷ []) l) stage.images
     ∙ put_first inside.cache.items inside.images.items inside.staged inside.dirty c.self.invariant c.args.from.now c.requires.whole
     c.args.number
     ∙ ap (λ (v : VolumeView). set v.seen c.args.number c.args.from.now) c.self.view_is
-
-pub returns-in_ok-extend_from_slice-in-None-clause-kept : goal.returns-in_ok-extend_from_slice-in-None-clause-kept
-returns-in_ok-extend_from_slice-in-None-clause-kept c = search rules
