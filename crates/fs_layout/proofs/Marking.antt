@@ -1,10 +1,12 @@
 -- Marks that change, and how many are left.
-use Rattle.std.proofs.Common.{◌≡◌, ◌≢◌, inl, inr, ◌<◌, ◌≤◌, ℕ, zero, suc, ◌+◌, ◌-◌, ◌*◌, ◌/◌, ◌%◌, cond, not, Bool, true, false, count_by}
-use Rattle.std.proofs.Common.{List, [], length, get_or, set, refl, sym, ◌∙◌, ap, arith, length-set}
+use Rattle.std.proofs.Common.{◌≡◌, ◌≢◌, inl, inr, ◌<◌, ◌≤◌, ℕ, zero, suc, ◌+◌, ◌-◌, ◌*◌, ◌/◌, ◌%◌, ◌^◌, cond, eqb, not, Bool, true, false}
+use Rattle.std.proofs.Common.{count_by, List, [], ◌∷◌, length, get_or, set, refl, sym, ◌∙◌, ap, arith, length-set}
 use Rattle.std.specs.List.{range_with_len}
 use Rattle.std.proofs.lemmas.List.{get_or-set_same, get_or-set_other}
 use Rattle.std.proofs.lemmas.List.Elements.{All-set}
 use Rattle.std.proofs.lemmas.Bool.{cases_lt, cases_eq}
+use Rattle.disk.specs.Image.{overwritten}
+use Rattle.disk.proofs.Images.{length-overwritten, overwritten_above, overwritten_below, overwritten_inside}
 use Rattle.model.specs.Stream.{Octets}
 use Rattle.model.specs.Files.{is_marked_used, free_blocks}
 use Rattle.fs_layout.specs.Bits.{bit_of, SetsBit}
@@ -25,6 +27,46 @@ mark_in blocks n b bitmap is low high =
     let bit : b % 32768 ≡ b - 32768 * n = omega arith in
     mark_at blocks b ∙ ap (λ (k : ℕ). bit_of (get_or blocks k []) (b % 32768)) block ∙ ap (λ (o : Octets). bit_of o (b % 32768)) (sym is)
     ∙ ap (λ (k : ℕ). bit_of bitmap k) bit
+
+-- a bit of one octet is changed
+module _ (bit : ℕ) (value : Bool) (block octet : Octets) (low : bit / 8 < length block)
+    (sets : SetsBit (bit % 8) value (get_or block (bit / 8) 0 ∷ []) octet) where
+  fits : bit / 8 + length octet ≤ length block
+  fits = omega (arith, sets.size)
+
+  -- the bits of that octet, and what they were
+  bits_now : (b : ℕ) → b / 8 ≡ bit / 8 → bit_of (overwritten (bit / 8) octet block) b ≡ bit_of octet (b % 8)
+  bits_now b same =
+      let front : bit / 8 - bit / 8 ≡ b % 8 / 8 = omega arith in
+      let within : b % 8 ≡ b % 8 % 8 = omega arith in
+      ap (λ (k : ℕ). eqb (get_or (overwritten (bit / 8) octet block) k 0 / 2 ^ (b % 8) % 2) 1) same
+      ∙ ap (λ (n : ℕ). eqb (n / 2 ^ (b % 8) % 2) 1)
+      (overwritten_inside (bit / 8) octet block fits (bit / 8) 0 (omega arith) (omega (arith, sets.size)))
+      ∙ ap (λ (k : ℕ). eqb (get_or octet k 0 / 2 ^ (b % 8) % 2) 1) front
+      ∙ ap (λ (m : ℕ). eqb (get_or octet (b % 8 / 8) 0 / 2 ^ m % 2) 1) within
+
+  bits_before : (b : ℕ) → b / 8 ≡ bit / 8 → bit_of (get_or block (bit / 8) 0 ∷ []) (b % 8) ≡ bit_of block b
+  bits_before b same =
+      let front : b % 8 / 8 ≡ 0 = omega arith in
+      let within : b % 8 % 8 ≡ b % 8 = omega arith in
+      ap (λ (k : ℕ). eqb (get_or (get_or block (bit / 8) 0 ∷ []) k 0 / 2 ^ (b % 8 % 8) % 2) 1) front
+      ∙ ap (λ (m : ℕ). eqb (get_or block (bit / 8) 0 / 2 ^ m % 2) 1) within
+      ∙ ap (λ (k : ℕ). eqb (get_or block k 0 / 2 ^ (b % 8) % 2) 1) (sym same)
+
+  pub sets_in_octet : SetsBit bit value block (overwritten (bit / 8) octet block)
+  sets_in_octet = record {
+    size = length-overwritten (bit / 8) octet block fits;
+    here = bits_now bit refl ∙ sets.here;
+    other = λ b apart. elim (cases_eq (b / 8) (bit / 8)) [
+      | inl same ↦
+          let differs : b % 8 ≢ bit % 8 = omega arith in
+          bits_now b same ∙ sets.other (b % 8) differs ∙ bits_before b same
+      | inr elsewhere ↦ ap (λ (n : ℕ). eqb (n / 2 ^ (b % 8) % 2) 1) (elim (cases_lt (b / 8) (bit / 8)) [
+        | inl below ↦ overwritten_below (bit / 8) octet block fits (b / 8) 0 below
+        | inr above ↦ overwritten_above (bit / 8) octet block fits (b / 8) 0 (omega (arith, sets.size))
+      ])
+    ];
+  }
 
 -- a bit of a block of the bitmap is changed
 pub sets_mark : (block n : ℕ) (value : Bool) (bitmap : Octets) (old : List Octets) → block / 32768 ≡ n → n < 2 → n < length old

@@ -43,10 +43,10 @@ fn mark<B: Blocks>(blocks: &mut B, number: u32) -> Result<(), AllocError>
     ensures kept { B.applied blocks.new ≡ B.applied blocks.old }
 {
     let table = number / BLOCK_BITS as u32;
-    let mut bitmap = [0; BLOCK_SIZE];
-    blocks.get(table, &mut bitmap);
-    set(&mut bitmap, number as usize % BLOCK_BITS);
-    blocks.put(table, &bitmap)
+    let bit = number as usize % BLOCK_BITS;
+    let mut octet = [blocks.block(table)[bit / 8]];
+    set(&mut octet, bit % 8);
+    blocks.put_at(table, bit / 8, &octet)
 }
 
 /// Marks the lowest free block, and answers it. A block must be free, and none below `from` may be. Refused only for
@@ -75,10 +75,10 @@ pub fn unmark<B: Blocks>(blocks: &mut B, number: u32) -> Result<(), AllocError>
     ensures kept { B.applied blocks.new ≡ B.applied blocks.old }
 {
     let table = number / BLOCK_BITS as u32;
-    let mut bitmap = [0; BLOCK_SIZE];
-    blocks.get(table, &mut bitmap);
-    unset(&mut bitmap, number as usize % BLOCK_BITS);
-    blocks.put(table, &bitmap)
+    let bit = number as usize % BLOCK_BITS;
+    let mut octet = [blocks.block(table)[bit / 8]];
+    unset(&mut octet, bit % 8);
+    blocks.put_at(table, bit / 8, &octet)
 }
 
 /// The number of free blocks.

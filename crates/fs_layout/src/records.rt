@@ -1,12 +1,12 @@
 //! Records of 64 octets, 64 to a block: inodes, and slots of the directory.
 
 ghost use Rattle.std.specs.Prelude.{◌≡◌, ◌≢◌, ℕ, ◌+◌, ◌*◌, ◌/◌, ◌%◌, ◌<◌, ◌≤◌, [], length, slice_index_or, MatchOption, OnOk};
-ghost use Rattle.disk.specs.Image.{part, overwritten};
+ghost use Rattle.disk.specs.Image.{part};
 ghost use Rattle.model.specs.Files.{HasRoom, slot_of};
 ghost use Rattle.fs_layout.specs.Blocks.{PutsRecord, IsFoundIn, IsFound};
 
 use std::alloc::AllocError;
-use volume::{BLOCK_SIZE, Blocks};
+use volume::Blocks;
 
 /// The number of octets in a record.
 pub const RECORD_SIZE: usize = 64;
@@ -37,19 +37,8 @@ pub fn put_record<B: Blocks>(
     ensures done { OnOk result (PutsRecord first at octets.now (B.blocks blocks.old) (B.blocks blocks.new)) }
     ensures kept { B.applied blocks.new ≡ B.applied blocks.old }
 {
-    let mut block = [0; BLOCK_SIZE];
-    blocks.get(first + at / 64, &mut block);
-    put_part(&mut block, (at % 64) as usize * RECORD_SIZE, octets);
-    blocks.put(first + at / 64, &block)
-}
-
-/// Replaces the octets from a place on.
-pub fn put_part(block: &mut [u8], at: usize, octets: &[u8])
-    requires { at + length octets.now ≤ length block.old }
-    ensures { block.new ≡ overwritten at octets.now block.old }
-{
-    let end = at + octets.len();
-    block[at..end].copy_from_slice(octets);
+    let start = (at % 64) as usize * RECORD_SIZE;
+    blocks.put_at(first + at / 64, start, octets)
 }
 
 /// The lowest inode whose slot has these octets.

@@ -4,8 +4,9 @@ ghost use Rattle.std.specs.Prelude.{◌≡◌, ◌≤◌, length, slice_index, I
 ghost use Rattle.model.specs.Files.{slot_octets, name_in};
 ghost use Rattle.fs_layout.specs.Table.{IsName};
 
-use crate::records::{RECORD_SIZE, put_part};
+use crate::records::RECORD_SIZE;
 use std::alloc::{AllocError, Global};
+use volume::put_part;
 
 /// The most octets that a name may have.
 pub const NAME_MAX: usize = 63;
