@@ -9,6 +9,11 @@ overwritten_none at octets content =
     let none : at + 0 ≡ at = omega arith in
     ap (λ (n : ℕ). take at content ++ drop n content) none ∙ take-append-drop at content
 
+-- a write over all octets
+pub overwritten_all : (octets content : Octets) → length content ≤ length octets → overwritten 0 octets content ≡ octets
+overwritten_all octets content few =
+    ap (λ (l : Octets). octets ++ l) (drop_all (0 + length octets) content (omega (arith, few))) ∙ append-nil octets
+
 pub overwritten_more : (at n : ℕ) (front more content : Octets) → length front ≡ n → at + n ≤ length content
     → overwritten (at + n) more (overwritten at front content) ≡ overwritten at (front ++ more) content
 overwritten_more at n front more content size fits =

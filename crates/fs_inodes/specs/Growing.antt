@@ -1,7 +1,8 @@
 -- Files that grow.
 use Rattle.std.specs.Prelude.{◌≡◌, ◌≢◌, ◌⊎◌, ◌<◌, ◌≤◌, ℕ, ◌+◌, ◌-◌, ◌/◌, ◌==◌, true, false, nat_lt, if◌then◌else◌, Some, List, [], ◌∷◌}
-use Rattle.std.specs.Prelude.{◌++◌, map, replicate, length, slice_index_or, slice_set}
+use Rattle.std.specs.Prelude.{◌++◌, map, replicate, length, take, slice_index_or, slice_set}
 use Rattle.std.specs.List.{All, Contains, range_with_len}
+use Rattle.disk.specs.Image.{overwritten}
 use Rattle.model.specs.Stream.{Octets}
 use Rattle.model.specs.Volume.{number_at, AreDistinct}
 use Rattle.model.specs.Files.{Entry, double_blocks, double_pointer, entry_of, indirect_for, indirect_pointer, pointer, table}
@@ -177,6 +178,13 @@ pub record AddsBlock (i number : ℕ) (inode inode' : Octets) (old new : List Oc
       → slice_index_or new b [] ≡ slice_index_or old b []
 
 -- ---- the file grows
+
+-- a piece is put into this block from a place on, and what was before that place stays
+pub record PutsPiece (number within : ℕ) (piece : Octets) (old new : List Octets) : Type 0 where
+  pub block : Octets
+  pub whole : length block ≡ 4096
+  pub front : take within block ≡ take within (slice_index_or old number [])
+  pub puts : new ≡ slice_set old number (overwritten within piece block)
 
 -- no block is freed
 abbrev pub KeepsMarks : List Octets → List Octets → Type 0

@@ -11,6 +11,7 @@ ghost use Rattle.fs_layout.specs.Touches.{Touches, TouchesData, touched_by_growt
 ghost use Rattle.fs_inodes.specs.Growing.{IsApart, PutsIndirect, PutsPointer, TakesZeros, AddsDouble, AddsTable, AddsBlock, NamesBlocks};
 ghost use Rattle.fs_inodes.specs.Growing.{inode_entry, with_double, with_indirect, GrowsBy, HasRoomFor};
 
+use crate::pieces::{put_number, put_piece};
 use crate::room::blocks_more;
 use fs_layout::inodes::{
     BLOCK_POINTERS, DIRECT_POINTERS, DOUBLE_AT, INDIRECT_AT, INODES_AT, POINTERS_AT, SIZE_AT,
@@ -18,7 +19,7 @@ use fs_layout::inodes::{
 };
 use fs_layout::marks::take_block;
 use fs_layout::numbers::{number32, number64, put32, put64};
-use fs_layout::records::{RECORD_SIZE, get_record, put_part, put_record};
+use fs_layout::records::{RECORD_SIZE, get_record, put_record};
 use std::alloc::AllocError;
 use volume::{BLOCK_SIZE, Blocks};
 
@@ -44,10 +45,8 @@ pub(crate) fn put_pointer<B: Blocks>(
     }
     let place = i - DIRECT_POINTERS;
     let indirect = indirect_at(blocks, inode, place / BLOCK_POINTERS);
-    let mut pointers = [0; BLOCK_SIZE];
-    blocks.get(indirect, &mut pointers);
-    put32(&mut pointers, 4 * (place % BLOCK_POINTERS) as usize, number);
-    blocks.put(indirect, &pointers)
+    let at = 4 * (place % BLOCK_POINTERS) as usize;
+    put_number(blocks, indirect, at, number)
 }
 
 // Puts the number of a file's p-th block of pointers into its inode, or into its double-indirect block.
@@ -69,10 +68,7 @@ pub(crate) fn put_indirect<B: Blocks>(
         return Ok(());
     }
     let double = number32(inode, DOUBLE_AT);
-    let mut pointers = [0; BLOCK_SIZE];
-    blocks.get(double, &mut pointers);
-    put32(&mut pointers, 4 * (p - 1) as usize, number);
-    blocks.put(double, &pointers)
+    put_number(blocks, double, 4 * (p - 1) as usize, number)
 }
 
 // Takes a free block, and fills it with zeros. No block below `from` is free.
@@ -198,16 +194,12 @@ fn add_piece<B: Blocks>(
     let size = number64(&inode, SIZE_AT);
     let i = (size / BLOCK_SIZE as u64) as u32;
     let within = (size % BLOCK_SIZE as u64) as usize;
-    let mut block = [0; BLOCK_SIZE];
     let number = if within == 0 {
         add_block(blocks, from, &mut inode, i)?
     } else {
-        let last = pointer_at(blocks, &inode, i);
-        blocks.get(last, &mut block);
-        last
+        pointer_at(blocks, &inode, i)
     };
-    put_part(&mut block, within, piece);
-    blocks.put(number, &block)?;
+    put_piece(blocks, number, within, piece)?;
     put64(&mut inode, SIZE_AT, size + piece.len() as u64);
     put_record(blocks, INODES_AT, at, &inode)
 }

@@ -2,6 +2,7 @@
 #![tactic(auto)]
 
 mod growing;
+mod pieces;
 mod reading;
 mod room;
 mod shrinking;

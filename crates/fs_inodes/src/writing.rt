@@ -7,7 +7,7 @@ ghost use Rattle.fs_layout.specs.Touches.{SameBut, Touches, blocks_reached};
 ghost use Rattle.fs_inodes.specs.Changes.{ReplacesContent, SameMarks};
 
 use fs_layout::inodes::{INODES_AT, pointer_at};
-use fs_layout::records::{RECORD_SIZE, get_record, put_part};
+use fs_layout::records::{RECORD_SIZE, get_record};
 use std::alloc::AllocError;
 use volume::{BLOCK_SIZE, Blocks};
 
@@ -68,8 +68,6 @@ fn overwrite_part<B: Blocks>(
     let mut inode = [0; RECORD_SIZE];
     get_record(blocks, INODES_AT, at, &mut inode);
     let number = pointer_at(blocks, &inode, (place / BLOCK_SIZE as u64) as u32);
-    let mut block = [0; BLOCK_SIZE];
-    blocks.get(number, &mut block);
-    put_part(&mut block, (place % BLOCK_SIZE as u64) as usize, octets);
-    blocks.put(number, &block)
+    let within = (place % BLOCK_SIZE as u64) as usize;
+    blocks.put_at(number, within, octets)
 }

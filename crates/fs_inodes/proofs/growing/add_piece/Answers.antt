@@ -1,7 +1,5 @@
-use Rattle.std.proofs.Common.{◌≡◌, ◌≢◌, ℕ, ◌+◌, ◌-◌, ◌*◌, ◌/◌, ◌%◌, ◌<◌, ◌≤◌, List, [], ◌∷◌, ◌++◌, length, get_or, take, set, sym, ◌∙◌, ap}
-use Rattle.std.proofs.Common.{subst, arith, length-set, ◌⊎◌, inl, inr}
-use Rattle.std.proofs.lemmas.Bool.{cases_eq}
-use Rattle.std.proofs.lemmas.List.{length-replicate}
+use Rattle.std.proofs.Common.{◌≡◌, ℕ, ◌+◌, ◌-◌, ◌*◌, ◌/◌, ◌%◌, ◌<◌, ◌≤◌, List, [], ◌∷◌, ◌++◌, length, get_or, take, set, sym, ◌∙◌, ap}
+use Rattle.std.proofs.Common.{subst, arith, length-set}
 use Rattle.std.proofs.lemmas.List.Elements.{Contains-append_right, Contains-push}
 use Rattle.std.proofs.lemmas.Result.{on_ok_weaker}
 use Rattle.byteorder.specs.Endian.{little_bytes}
@@ -41,8 +39,8 @@ add_block-requires-clause-free g c =
     subst (λ (m : ℕ). with_indirect (c.number64-size.result / 4096 + 1) ≤ free_blocks blocks + with_indirect m) was
     (subst (λ (m : ℕ). with_indirect m ≤ free_blocks blocks + with_indirect (block_count e)) now c.requires.enough.1)
 
-pub pointer_at-last-requires-clause-double : goal.pointer_at-last-requires-clause-double
-pointer_at-last-requires-clause-double g c =
+pub pointer_at-number-requires-clause-double : goal.pointer_at-number-requires-clause-double
+pointer_at-number-requires-clause-double g c =
     let blocks = g.B.Blocks.blocks c.args.blocks.now in
     let e : Entry = entry c.args.inodes blocks c.args.at in
     let sized : c.number64-size.result ≡ size e = c.number64-size.ensures ∙ ap (λ (o : List ℕ). number_at 4 8 o) c.get_record.ensures in
@@ -50,8 +48,8 @@ pointer_at-last-requires-clause-double g c =
     (double_is_there c.args.inodes c.args.at blocks c.requires.room c.requires.rule c.requires.below c.requires.file
     (c.number64-size.result / 4096) (omega (arith, c.if-within-eq0.false)))
 
-pub pointer_at-last-requires-clause-indirect : goal.pointer_at-last-requires-clause-indirect
-pointer_at-last-requires-clause-indirect g c =
+pub pointer_at-number-requires-clause-indirect : goal.pointer_at-number-requires-clause-indirect
+pointer_at-number-requires-clause-indirect g c =
     let blocks = g.B.Blocks.blocks c.args.blocks.now in
     let e : Entry = entry c.args.inodes blocks c.args.at in
     let sized : c.number64-size.result ≡ size e = c.number64-size.ensures ∙ ap (λ (o : List ℕ). number_at 4 8 o) c.get_record.ensures in
@@ -60,20 +58,8 @@ pointer_at-last-requires-clause-indirect g c =
     (table_is_there c.args.inodes c.args.at blocks c.requires.room c.requires.rule c.requires.below c.requires.file
     (c.number64-size.result / 4096) (omega (arith, c.if-within-eq0.false)))
 
-pub get-requires-clause-there : goal.get-requires-clause-there
-get-requires-clause-there g c =
-    let blocks = g.B.Blocks.blocks c.args.blocks.now in
-    let e : Entry = entry c.args.inodes blocks c.args.at in
-    let i = c.number64-size.result / 4096 in
-    let sized : c.number64-size.result ≡ size e = c.number64-size.ensures ∙ ap (λ (o : List ℕ). number_at 4 8 o) c.get_record.ensures in
-    let low : i < block_count e = omega (arith, c.if-within-eq0.false) in
-    let is : c.pointer_at-last.result ≡ pointer e i = c.pointer_at-last.ensures
-    ∙ ap (λ (o : List ℕ). pointer (entry_of blocks o []) i) c.get_record.ensures in
-    subst (λ (n : ℕ). n < length blocks) (sym is)
-    ((c.requires.rule.within c.args.at (pointer e i) c.requires.below (owns_pointer e i low)).1)
-
-pub put-requires-clause-there : goal.put-requires-clause-there
-put-requires-clause-there g c =
+pub put_piece-requires-clause-there : goal.put_piece-requires-clause-there
+put_piece-requires-clause-there g c =
     let blocks = g.B.Blocks.blocks c.args.blocks.now in
     let e : Entry = entry c.args.inodes blocks c.args.at in
     let i = c.number64-size.result / 4096 in
@@ -88,7 +74,7 @@ put-requires-clause-there g c =
           omega (arith, count, low, w.number-is)
       | else-within-eq0 w ↦
           let low : i < block_count e = omega (arith, w.if-within-eq0.false) in
-          let is : w.pointer_at-last.result ≡ pointer e i = w.pointer_at-last.ensures
+          let is : w.pointer_at-number.result ≡ pointer e i = w.pointer_at-number.ensures
           ∙ ap (λ (o : List ℕ). pointer (entry_of blocks o []) i) c.get_record.ensures in
           let count = ap (λ (b : g.row.B.Denot). length (g.B.Blocks.blocks b)) w.blocks-is in
           let inside = (c.requires.rule.within c.args.at (pointer e i) c.requires.below (owns_pointer e i low)).1 in
@@ -106,13 +92,13 @@ returns-clause-grown g c =
     let r = c.number64-size.result % 4096 in
     let inode = c.if-within-eq0.inode in
     let number = c.if-within-eq0.number in
-    let block = c.if-within-eq0.block in
+    let puts = c.in_ok-put_piece.ensures.done in
     let piece = c.args.piece.now in
     let sized : c.number64-size.result ≡ size e = c.number64-size.ensures ∙ ap (λ (o : List ℕ). number_at 4 8 o) c.get_record.ensures in
     let parts : size e ≡ 4096 * n + r = omega arith in
     let few : n < 65536 = omega (arith, sized, c.requires.enough.0, c.requires.some) in
-    let ready : Extends (first_data c.args.inodes) n number e (inode_entry mid inode) old mid × (length block ≡ 4096)
-    × (take r block ≡ take r (get_or old (pointer e n) [])) = (elim c.if-within-eq0.branch [
+    let ready : Extends (first_data c.args.inodes) n number e (inode_entry mid inode) old mid
+    × (take r (get_or mid number []) ≡ take r (get_or old (pointer e n) [])) = (elim c.if-within-eq0.branch [
       | then-within-eq0+in_ok-number w ↦
           let none : r ≡ 0 = w.if-within-eq0.true in
           let blocks_are = ap (λ (b : g.row.B.Denot). g.B.Blocks.blocks b) w.blocks-is in
@@ -125,35 +111,30 @@ returns-clause-grown g c =
           c.get_record.ensures w.in_ok-number.ensures.done))) in (
             extends_new c.args.inodes at n old c.requires.room c.requires.rule c.requires.below c.requires.file few number inode mid
                 (omega arith) adds,
-            ap (λ (b : List ℕ). length b) w.block-is ∙ length-replicate {A = ℕ} 4096 0,
-            ap (λ (m : ℕ). take m block) none ∙ sym (ap (λ (m : ℕ). take m (get_or old (pointer e n) [])) none),
+            ap (λ (m : ℕ). take m (get_or mid number [])) none ∙ sym (ap (λ (m : ℕ). take m (get_or old (pointer e n) [])) none),
           )
       | else-within-eq0 w ↦
           let low : n < block_count e = omega (arith, w.if-within-eq0.false) in
-          let is : w.pointer_at-last.result ≡ pointer e n = w.pointer_at-last.ensures
+          let is : w.pointer_at-number.result ≡ pointer e n = w.pointer_at-number.ensures
           ∙ ap (λ (o : List ℕ). pointer (entry_of old o []) n) c.get_record.ensures in
-          let block_is : block ≡ get_or old (pointer e n) [] = w.block-is ∙ w.get.ensures ∙ ap (λ (m : ℕ). get_or old m []) is in
-          let blocks_are : mid ≡ old = ap (λ (b : g.row.B.Denot). g.B.Blocks.blocks b) w.blocks-is in
-          let inside = (c.requires.rule.within at (pointer e n) c.requires.below (owns_pointer e n low)).1 in (
+          let blocks_are : mid ≡ old = ap (λ (b : g.row.B.Denot). g.B.Blocks.blocks b) w.blocks-is in (
             subst (λ (bs : List (List ℕ)). Extends (first_data c.args.inodes) n number e (inode_entry bs inode) old bs) (sym blocks_are)
                 (subst (λ (o : List ℕ). Extends (first_data c.args.inodes) n number e (inode_entry old o) old old)
                 (sym (w.inode-is ∙ c.get_record.ensures))
                 (extends_last c.args.inodes at n old c.requires.room c.requires.rule c.requires.below c.requires.file few r number parts
                 (omega (arith, w.if-within-eq0.false)) (omega arith) (w.number-is ∙ is))),
-            ap (λ (b : List ℕ). length b) block_is ∙ c.requires.room.blocks_whole (pointer e n) [] inside,
-            ap (λ (b : List ℕ). take r b) block_is,
+            ap (λ (bs : List (List ℕ)). take r (get_or bs number [])) blocks_are
+                ∙ ap (λ (m : ℕ). take r (get_or old m [])) (w.number-is ∙ is),
           )
     ]) in
     let inside : r + length piece ≤ 4096 = omega (arith, c.requires.within) in
     let octets_are : c.put64.new.octets ≡ overwritten 4 (little_bytes 8 (size e + length piece)) inode = c.put64.ensures
     ∙ ap (λ (m : ℕ). overwritten 4 (little_bytes 8 (m + length piece)) inode) sized in
-    let blocks_are : g.B.Blocks.blocks c.put.new.self ≡ set mid number (overwritten r piece block) = c.in_ok-put.ensures.put
-    ∙ ap (λ (b : List ℕ). set mid number b) c.put_part.ensures in
     on_ok_weaker c.put_record.result
-    (λ done. grows c.args.inodes at n r number piece block inode old mid new c.requires.room c.requires.rule c.requires.below
-    c.requires.file parts inside c.requires.some c.requires.enough.0 ready.0 ready.1 ready.2
-    (subst (λ (o : List ℕ). PutsRecord 2 at o (set mid number (overwritten r piece block)) new) octets_are
-    (subst (λ (bs : List (List ℕ)). PutsRecord 2 at c.put64.new.octets bs new) blocks_are done)))
+    (λ done. grows c.args.inodes at n r number piece puts.block inode old mid new c.requires.room c.requires.rule c.requires.below
+    c.requires.file parts inside c.requires.some c.requires.enough.0 ready.0 puts.whole (puts.front ∙ ready.1)
+    (subst (λ (o : List ℕ). PutsRecord 2 at o (set mid number (overwritten r piece puts.block)) new) octets_are
+    (subst (λ (bs : List (List ℕ)). PutsRecord 2 at c.put64.new.octets bs new) puts.puts done)))
     c.put_record.ensures.done
 
 pub returns-clause-touches : goal.returns-clause-touches
@@ -167,13 +148,13 @@ returns-clause-touches g c =
     let r = c.number64-size.result % 4096 in
     let inode = c.if-within-eq0.inode in
     let number = c.if-within-eq0.number in
-    let block = c.if-within-eq0.block in
+    let puts = c.in_ok-put_piece.ensures.done in
     let piece = c.args.piece.now in
     let sized : c.number64-size.result ≡ size e = c.number64-size.ensures ∙ ap (λ (o : List ℕ). number_at 4 8 o) c.get_record.ensures in
     let parts : size e ≡ 4096 * n + r = omega arith in
     let few : n < 65536 = omega (arith, sized, c.requires.enough.0, c.requires.some) in
-    let ready : Extends (first_data c.args.inodes) n number e (inode_entry mid inode) old mid × (length block ≡ 4096)
-    × (take r block ≡ take r (get_or old (pointer e n) [])) = (elim c.if-within-eq0.branch [
+    let ready : Extends (first_data c.args.inodes) n number e (inode_entry mid inode) old mid
+    × (take r (get_or mid number []) ≡ take r (get_or old (pointer e n) [])) = (elim c.if-within-eq0.branch [
       | then-within-eq0+in_ok-number w ↦
           let none : r ≡ 0 = w.if-within-eq0.true in
           let blocks_are = ap (λ (b : g.row.B.Denot). g.B.Blocks.blocks b) w.blocks-is in
@@ -186,45 +167,42 @@ returns-clause-touches g c =
           c.get_record.ensures w.in_ok-number.ensures.done))) in (
             extends_new c.args.inodes at n old c.requires.room c.requires.rule c.requires.below c.requires.file few number inode mid
                 (omega arith) adds,
-            ap (λ (b : List ℕ). length b) w.block-is ∙ length-replicate {A = ℕ} 4096 0,
-            ap (λ (m : ℕ). take m block) none ∙ sym (ap (λ (m : ℕ). take m (get_or old (pointer e n) [])) none),
+            ap (λ (m : ℕ). take m (get_or mid number [])) none ∙ sym (ap (λ (m : ℕ). take m (get_or old (pointer e n) [])) none),
           )
       | else-within-eq0 w ↦
           let low : n < block_count e = omega (arith, w.if-within-eq0.false) in
-          let is : w.pointer_at-last.result ≡ pointer e n = w.pointer_at-last.ensures
+          let is : w.pointer_at-number.result ≡ pointer e n = w.pointer_at-number.ensures
           ∙ ap (λ (o : List ℕ). pointer (entry_of old o []) n) c.get_record.ensures in
-          let block_is : block ≡ get_or old (pointer e n) [] = w.block-is ∙ w.get.ensures ∙ ap (λ (m : ℕ). get_or old m []) is in
-          let blocks_are : mid ≡ old = ap (λ (b : g.row.B.Denot). g.B.Blocks.blocks b) w.blocks-is in
-          let inside = (c.requires.rule.within at (pointer e n) c.requires.below (owns_pointer e n low)).1 in (
+          let blocks_are : mid ≡ old = ap (λ (b : g.row.B.Denot). g.B.Blocks.blocks b) w.blocks-is in (
             subst (λ (bs : List (List ℕ)). Extends (first_data c.args.inodes) n number e (inode_entry bs inode) old bs) (sym blocks_are)
                 (subst (λ (o : List ℕ). Extends (first_data c.args.inodes) n number e (inode_entry old o) old old)
                 (sym (w.inode-is ∙ c.get_record.ensures))
                 (extends_last c.args.inodes at n old c.requires.room c.requires.rule c.requires.below c.requires.file few r number parts
                 (omega (arith, w.if-within-eq0.false)) (omega arith) (w.number-is ∙ is))),
-            ap (λ (b : List ℕ). length b) block_is ∙ c.requires.room.blocks_whole (pointer e n) [] inside,
-            ap (λ (b : List ℕ). take r b) block_is,
+            ap (λ (bs : List (List ℕ)). take r (get_or bs number [])) blocks_are
+                ∙ ap (λ (m : ℕ). take r (get_or old m [])) (w.number-is ∙ is),
           )
     ]) in
     let inside : r + length piece ≤ 4096 = omega (arith, c.requires.within) in
     let octets_are : c.put64.new.octets ≡ overwritten 4 (little_bytes 8 (size e + length piece)) inode = c.put64.ensures
     ∙ ap (λ (m : ℕ). overwritten 4 (little_bytes 8 (m + length piece)) inode) sized in
-    let blocks_are : g.B.Blocks.blocks c.put.new.self ≡ set mid number (overwritten r piece block) = c.in_ok-put.ensures.put
-    ∙ ap (λ (b : List ℕ). set mid number b) c.put_part.ensures in
     on_ok_weaker c.put_record.result
     (λ done. (
       number,
-      touches c.args.inodes at n r number piece block inode old mid new c.requires.room c.requires.rule c.requires.below c.requires.file
-          parts inside c.requires.some c.requires.enough.0 ready.0 ready.1 ready.2
-          (subst (λ (o : List ℕ). PutsRecord 2 at o (set mid number (overwritten r piece block)) new) octets_are
-          (subst (λ (bs : List (List ℕ)). PutsRecord 2 at c.put64.new.octets bs new) blocks_are done)),
+      touches c.args.inodes at n r number piece puts.block inode old mid new c.requires.room c.requires.rule c.requires.below
+          c.requires.file parts inside c.requires.some c.requires.enough.0 ready.0 puts.whole (puts.front ∙ ready.1)
+          (subst (λ (o : List ℕ). PutsRecord 2 at o (set mid number (overwritten r piece puts.block)) new) octets_are
+          (subst (λ (bs : List (List ℕ)). PutsRecord 2 at c.put64.new.octets bs new) puts.puts done)),
     ))
     c.put_record.ensures.done
 
 pub put_record-requires-clause-there : goal.put_record-requires-clause-there
 put_record-requires-clause-there g c =
-    let count : length (g.B.Blocks.blocks c.put.new.self) ≡ length (g.B.Blocks.blocks c.args.blocks.now) =
-    ap (λ (bs : List (List ℕ)). length bs) c.in_ok-put.ensures.put
-    ∙ length-set (g.B.Blocks.blocks c.if-within-eq0.blocks) c.if-within-eq0.number c.put_part.new.block
+    let puts = c.in_ok-put_piece.ensures.done in
+    let count : length (g.B.Blocks.blocks c.put_piece.new.blocks) ≡ length (g.B.Blocks.blocks c.args.blocks.now) =
+    ap (λ (bs : List (List ℕ)). length bs) puts.puts
+    ∙ length-set (g.B.Blocks.blocks c.if-within-eq0.blocks) c.if-within-eq0.number
+    (overwritten (c.number64-size.result % 4096) c.args.piece.now puts.block)
     ∙ elim c.if-within-eq0.branch [
       | then-within-eq0+in_ok-number w ↦ ap (λ (b : g.row.B.Denot). length (g.B.Blocks.blocks b)) w.blocks-is
           ∙ w.in_ok-number.ensures.done.count
@@ -234,9 +212,11 @@ put_record-requires-clause-there g c =
 
 pub put_record-requires-clause-few : goal.put_record-requires-clause-few
 put_record-requires-clause-few g c =
-    let count : length (g.B.Blocks.blocks c.put.new.self) ≡ length (g.B.Blocks.blocks c.args.blocks.now) =
-    ap (λ (bs : List (List ℕ)). length bs) c.in_ok-put.ensures.put
-    ∙ length-set (g.B.Blocks.blocks c.if-within-eq0.blocks) c.if-within-eq0.number c.put_part.new.block
+    let puts = c.in_ok-put_piece.ensures.done in
+    let count : length (g.B.Blocks.blocks c.put_piece.new.blocks) ≡ length (g.B.Blocks.blocks c.args.blocks.now) =
+    ap (λ (bs : List (List ℕ)). length bs) puts.puts
+    ∙ length-set (g.B.Blocks.blocks c.if-within-eq0.blocks) c.if-within-eq0.number
+    (overwritten (c.number64-size.result % 4096) c.args.piece.now puts.block)
     ∙ elim c.if-within-eq0.branch [
       | then-within-eq0+in_ok-number w ↦ ap (λ (b : g.row.B.Denot). length (g.B.Blocks.blocks b)) w.blocks-is
           ∙ w.in_ok-number.ensures.done.count
@@ -246,7 +226,7 @@ put_record-requires-clause-few g c =
 
 pub returns-clause-kept : goal.returns-clause-kept
 returns-clause-kept g c =
-    c.put_record.ensures.kept ∙ c.put.ensures.kept ∙ elim c.if-within-eq0.branch [
+    c.put_record.ensures.kept ∙ c.put_piece.ensures.kept ∙ elim c.if-within-eq0.branch [
       | then-within-eq0+in_ok-number w ↦ ap (λ (b : g.row.B.Denot). g.B.Blocks.applied b) w.blocks-is ∙ w.in_ok-number.ensures.kept
       | else-within-eq0 w ↦ ap (λ (b : g.row.B.Denot). g.B.Blocks.applied b) w.blocks-is
     ]

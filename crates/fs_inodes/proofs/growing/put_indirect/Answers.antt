@@ -1,7 +1,9 @@
-use Rattle.std.proofs.Common.{◌≡◌, ℕ, List, [], get_or, set, sym, ◌∙◌, ap, subst, arith}
+use Rattle.std.proofs.Common.{◌≡◌, ℕ, ◌-◌, ◌*◌, List, [], get_or, set, refl, sym, subst, arith}
+use Rattle.std.proofs.lemmas.Result.{on_ok_weaker}
+use Rattle.byteorder.specs.Endian.{little_bytes}
+use Rattle.disk.specs.Image.{overwritten}
 use Rattle.fs_inodes.specs.Growing.{PutsIndirect}
 use Rattle.fs_inodes.proofs.Putting.{puts_first, puts_later}
-use Rattle.fs_layout.proofs.Puts.{on_put}
 use Rattle.fs_inodes.proofs.growing.put_indirect.Goals as goal
 
 pub returns-then-p-eq0-clause-done : goal.returns-then-p-eq0-clause-done
@@ -14,16 +16,19 @@ returns-then-p-eq0-clause-done g c =
 pub returns-clause-done : goal.returns-clause-done
 returns-clause-done g c =
     let old = g.B.Blocks.blocks c.args.blocks.now in
+    let new = g.B.Blocks.blocks c.put_number.new.blocks in
     let inode = c.args.inode.now in
     let p = c.args.p in
+    let double = c.number32-double.result in
     let at = c.number32-double.ensures in
-    on_put c.put.result (PutsIndirect p c.args.number inode inode old (g.B.Blocks.blocks c.put.new.self))
-    (g.B.Blocks.blocks c.put.new.self) old
-    (set old c.number32-double.result c.put32-2.new.octets) c.put.ensures.put
-    (λ is. subst (λ (bs : List (List ℕ)). PutsIndirect p c.args.number inode inode old bs)
-    (sym (is ∙ ap (λ (b : List ℕ). set old c.number32-double.result b) c.put32-2.ensures))
-    (puts_later c.args.number inode c.requires.whole (omega arith) p old c.get.new.into
-    (omega (arith, c.if-p-eq0.false)) c.requires.few c.number32-double.result at
+    let block : List ℕ = get_or old double [] in
+    on_ok_weaker
+    {P = new ≡ set old double (overwritten (4 * (p - 1)) (little_bytes 4 c.args.number) block)}
+    {Q = PutsIndirect p c.args.number inode inode old new} c.put_number.result
+    (λ is. subst (λ (bs : List (List ℕ)). PutsIndirect p c.args.number inode inode old bs) (sym is)
+    (puts_later c.args.number inode c.requires.whole (omega arith) p old block
+    (omega (arith, c.if-p-eq0.false)) c.requires.few double at
     (omega (arith, at, (c.requires.double (omega (arith, c.if-p-eq0.false))).0))
     (omega (arith, at, (c.requires.double (omega (arith, c.if-p-eq0.false))).1)) (c.requires.apart (omega (arith, c.if-p-eq0.false)))
-    c.get.ensures (omega arith)))
+    refl c.put_number.ensures.whole))
+    c.put_number.ensures.done

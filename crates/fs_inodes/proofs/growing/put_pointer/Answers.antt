@@ -1,7 +1,9 @@
-use Rattle.std.proofs.Common.{ℕ, List, [], ◌-◌, ◌/◌, get_or, set, sym, ◌∙◌, ap, subst, arith}
+use Rattle.std.proofs.Common.{◌≡◌, ℕ, List, [], ◌-◌, ◌*◌, ◌%◌, get_or, set, refl, sym, subst, arith}
+use Rattle.std.proofs.lemmas.Result.{on_ok_weaker}
+use Rattle.byteorder.specs.Endian.{little_bytes}
+use Rattle.disk.specs.Image.{overwritten}
 use Rattle.fs_inodes.specs.Growing.{PutsPointer}
 use Rattle.fs_inodes.proofs.Putting.{puts_direct, puts_indirect}
-use Rattle.fs_layout.proofs.Puts.{on_put}
 use Rattle.fs_inodes.proofs.growing.put_pointer.Goals as goal
 
 pub returns-then-i-lt-DIRECT_POINTERS-clause-done : goal.returns-then-i-lt-DIRECT_POINTERS-clause-done
@@ -13,15 +15,18 @@ returns-then-i-lt-DIRECT_POINTERS-clause-done g c =
 pub returns-clause-done : goal.returns-clause-done
 returns-clause-done g c =
     let old = g.B.Blocks.blocks c.args.blocks.now in
+    let new = g.B.Blocks.blocks c.put_number.new.blocks in
     let inode = c.args.inode.now in
     let i = c.args.i in
     let high = c.if-i-lt-DIRECT_POINTERS.false in
+    let indirect = c.indirect_at-indirect.result in
     let at = c.indirect_at-indirect.ensures in
-    on_put c.put.result (PutsPointer i c.args.number inode inode old (g.B.Blocks.blocks c.put.new.self))
-    (g.B.Blocks.blocks c.put.new.self) old
-    (set old c.indirect_at-indirect.result c.put32-2.new.octets) c.put.ensures.put
-    (λ is. subst (λ (bs : List (List ℕ)). PutsPointer i c.args.number inode inode old bs)
-    (sym (is ∙ ap (λ (b : List ℕ). set old c.indirect_at-indirect.result b) c.put32-2.ensures))
-    (puts_indirect i c.args.number inode c.requires.whole (omega arith) old c.get.new.into high c.indirect_at-indirect.result at
+    let block : List ℕ = get_or old indirect [] in
+    on_ok_weaker
+    {P = new ≡ set old indirect (overwritten (4 * ((i - 10) % 1024)) (little_bytes 4 c.args.number) block)}
+    {Q = PutsPointer i c.args.number inode inode old new} c.put_number.result
+    (λ is. subst (λ (bs : List (List ℕ)). PutsPointer i c.args.number inode inode old bs) (sym is)
+    (puts_indirect i c.args.number inode c.requires.whole (omega arith) old block high indirect at
     (omega (arith, at, (c.requires.indirect high).0)) (omega (arith, at, (c.requires.indirect high).1))
-    (c.requires.apart high) c.get.ensures (omega arith)))
+    (c.requires.apart high) refl c.put_number.ensures.whole))
+    c.put_number.ensures.done

@@ -1,4 +1,4 @@
-use Rattle.std.proofs.Common.{◌≡◌, ◌≢◌, ℕ, ◌-◌, ◌/◌, ◌%◌, ◌<◌, ◌≤◌, List, [], length, get_or, set, sym, ◌∙◌, ap, subst, arith, ◌∷◌}
+use Rattle.std.proofs.Common.{◌≡◌, ℕ, ◌-◌, ◌/◌, ◌%◌, ◌<◌, ◌≤◌, List, [], length, get_or, set, sym, ◌∙◌, ap, subst, arith, ◌∷◌}
 use Rattle.disk.specs.Image.{overwritten}
 use Rattle.model.specs.Volume.{number_at}
 use Rattle.model.specs.Files.{Entry, entry, entry_of, pointer, content_of, indirect_pointer, block_count}
@@ -27,8 +27,8 @@ pointer_at-number-requires-clause-indirect g c =
     (table_is_there c.args.inodes c.args.at blocks c.requires.room c.requires.rule c.requires.below c.requires.file (c.args.place / 4096)
     (omega arith))
 
-pub get-requires-clause-there : goal.get-requires-clause-there
-get-requires-clause-there g c =
+pub put_at-requires-clause-there : goal.put_at-requires-clause-there
+put_at-requires-clause-there g c =
     let blocks = g.B.Blocks.blocks c.args.blocks.now in
     let e : Entry = entry c.args.inodes blocks c.args.at in
     let i = c.args.place / 4096 in
@@ -38,48 +38,53 @@ get-requires-clause-there g c =
     subst (λ (n : ℕ). n < length blocks) (sym is)
     ((c.requires.rule.within c.args.at (pointer e i) c.requires.below (owns_pointer e i low)).1)
 
+-- the octets that the block of the file gets
+put_block : (old new : List (List ℕ)) (number pointer at : ℕ) (octets : List ℕ) → number ≡ pointer
+    → new ≡ set old number (overwritten at octets (get_or old number []))
+    → new ≡ set old pointer (overwritten at octets (get_or old pointer []))
+put_block old new number pointer at octets is put = put ∙ ap (λ (n : ℕ). set old n (overwritten at octets (get_or old n []))) is
+
 pub returns-clause-done : goal.returns-clause-done
 returns-clause-done g c =
     let old = g.B.Blocks.blocks c.args.blocks.now in
-    let new = g.B.Blocks.blocks c.put.new.self in
+    let new = g.B.Blocks.blocks c.put_at.new.self in
     let e : Entry = entry c.args.inodes old c.args.at in
     let i = c.args.place / 4096 in
     let octets = c.args.octets.now in
+    let number = c.pointer_at-number.result in
     let is : c.pointer_at-number.result ≡ pointer e i = c.pointer_at-number.ensures
     ∙ ap (λ (o : List ℕ). pointer (entry_of old o []) i) c.get_record.ensures in
-    let block : c.put_part.new.block ≡ overwritten (c.args.place % 4096) octets (get_or old (pointer e i) []) = c.put_part.ensures
-    ∙ ap (λ (b : List ℕ). overwritten (c.args.place % 4096) octets b) (c.get.ensures ∙ ap (λ (n : ℕ). get_or old n []) is) in
-    on_put c.put.result (ReplacesContent c.args.inodes c.args.at (overwritten c.args.place octets (content_of old e)) old new) new old
-    (set old c.pointer_at-number.result c.put_part.new.block) c.put.ensures.put
+    on_put c.put_at.result (ReplacesContent c.args.inodes c.args.at (overwritten c.args.place octets (content_of old e)) old new) new old
+    (set old number (overwritten (c.args.place % 4096) octets (get_or old number []))) c.put_at.ensures.put
     (λ put. subst (λ (bs : List (List ℕ)). ReplacesContent c.args.inodes c.args.at (overwritten c.args.place octets (content_of old e)) old
     bs)
-    (sym (put ∙ ap (λ (n : ℕ). set old n c.put_part.new.block) is ∙ ap (λ (b : List ℕ). set old (pointer e i) b) block))
+    (sym (put_block old new number (pointer e i) (c.args.place % 4096) octets is put))
     (overwrites c.args.inodes c.args.at c.args.place octets old c.requires.room c.requires.rule c.requires.below c.requires.file
     c.requires.some c.requires.fits c.requires.one_block))
 
 pub returns-clause-marks : goal.returns-clause-marks
 returns-clause-marks g c =
     let old = g.B.Blocks.blocks c.args.blocks.now in
-    let new = g.B.Blocks.blocks c.put.new.self in
+    let new = g.B.Blocks.blocks c.put_at.new.self in
     let e : Entry = entry c.args.inodes old c.args.at in
     let i = c.args.place / 4096 in
     let octets = c.args.octets.now in
+    let number = c.pointer_at-number.result in
     let is : c.pointer_at-number.result ≡ pointer e i = c.pointer_at-number.ensures
     ∙ ap (λ (o : List ℕ). pointer (entry_of old o []) i) c.get_record.ensures in
-    let block : c.put_part.new.block ≡ overwritten (c.args.place % 4096) octets (get_or old (pointer e i) []) = c.put_part.ensures
-    ∙ ap (λ (b : List ℕ). overwritten (c.args.place % 4096) octets b) (c.get.ensures ∙ ap (λ (n : ℕ). get_or old n []) is) in
-    on_put c.put.result (SameMarks old new) new old
-    (set old c.pointer_at-number.result c.put_part.new.block) c.put.ensures.put
+    on_put c.put_at.result (SameMarks old new) new old
+    (set old number (overwritten (c.args.place % 4096) octets (get_or old number []))) c.put_at.ensures.put
     (λ put. subst (λ (bs : List (List ℕ)). SameMarks old bs)
-    (sym (put ∙ ap (λ (n : ℕ). set old n c.put_part.new.block) is ∙ ap (λ (b : List ℕ). set old (pointer e i) b) block))
+    (sym (put_block old new number (pointer e i) (c.args.place % 4096) octets is put))
     (overwrites_marks c.args.inodes c.args.at c.args.place octets old c.requires.room c.requires.rule c.requires.below c.requires.file
     c.requires.some c.requires.fits c.requires.one_block))
 
 pub returns-clause-touches : goal.returns-clause-touches
 returns-clause-touches g c =
     let old = g.B.Blocks.blocks c.args.blocks.now in
-    let new = g.B.Blocks.blocks c.put.new.self in
+    let new = g.B.Blocks.blocks c.put_at.new.self in
     let number = c.pointer_at-number.result in
-    on_put c.put.result ((block : ℕ) × SameBut (block ∷ []) old new) new old
-    (set old number c.put_part.new.block) c.put.ensures.put
-    (λ put. (number, subst (λ (bs : List (List ℕ)). SameBut (number ∷ []) old bs) (sym put) (same_put number c.put_part.new.block old)))
+    let written : List ℕ = overwritten (c.args.place % 4096) c.args.octets.now (get_or old number []) in
+    on_put c.put_at.result ((block : ℕ) × SameBut (block ∷ []) old new) new old
+    (set old number written) c.put_at.ensures.put
+    (λ put. (number, subst (λ (bs : List (List ℕ)). SameBut (number ∷ []) old bs) (sym put) (same_put number written old)))
