@@ -1,4 +1,4 @@
-use Rattle.std.proofs.Common.{◌≡◌, ℕ, ◌*◌, List, [], ◌∷◌, ◌++◌, length, set, ◌∙◌, ap, arith}
+use Rattle.std.proofs.Common.{rules, ◌≡◌, ℕ, ◌*◌, List, [], ◌∷◌, ◌++◌, length, set, ◌∙◌, ap, arith}
 use Rattle.std.proofs.lemmas.List.{with_items_is}
 use Rattle.disk.specs.Image.{overwritten}
 use Rattle.volume.specs.Numbers.{Numbers}
@@ -41,3 +41,6 @@ returns-in_ok-stage_block-in-None-clause-put c =
     ∙ put_first inside.cache.items inside.images.items inside.staged inside.dirty c.self.invariant c.args.from.now c.requires.whole
     c.args.number
     ∙ ap (λ (v : VolumeView). set v.seen c.args.number c.args.from.now) c.self.view_is
+
+pub returns-in_ok-stage_block-in-None-clause-kept : goal.returns-in_ok-stage_block-in-None-clause-kept
+returns-in_ok-stage_block-in-None-clause-kept c = search rules
