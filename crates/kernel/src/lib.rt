@@ -26,6 +26,7 @@ use names::{GroupName, GroupRequest};
 pub use opening::{OpenError, open_spool};
 use outbox::ReadyBuf;
 use seats::{Seat, position, release, release_of};
+use session::Received;
 use spool::AddError;
 pub use spool::Spool;
 use std::alloc::Global;
@@ -163,7 +164,8 @@ impl Kernel {
     /// Answers a message at once: its reply is held with its dependency, and its change is accepted at the given moment.
     /// The result is what the session sends next, which is `None` if it sends nothing more, and the mark of the message.
     /// Refused as `NoSession` (E10), `LaterOut` (E9), `LaterDirty` (E8, only while the kernel is not halted) or `Memory`
-    /// (E2), tested in that order; a refusal changes nothing.
+    /// (E2), tested in that order; a refusal changes nothing. This reads the text of the message and then makes the call
+    /// of `exec_received`.
     pub fn exec(
         &mut self,
         alloc: Global,
@@ -174,6 +176,23 @@ impl Kernel {
         requires { FitsMode (mode_at self.old sid) message.now }
         ensures { Tested of_exec ExecError.Memory (exec_refusal self.old sid message.now) self.old self.new result
             (Execs self.old self.new sid message.now moment) }
+    {
+        let received = Received::of(alloc, message);
+        self.exec_received(alloc, sid, received, moment)
+    }
+
+    /// Answers a message as `exec` does. Its text was read before, and is not read again. If an allocation was refused
+    /// as it was read, the call is refused as `Memory` (E2) where no other refusal is due, unless the kernel is halted.
+    pub fn exec_received(
+        &mut self,
+        alloc: Global,
+        sid: u64,
+        received: Received<'_>,
+        moment: Moment,
+    ) -> Result<(Option<Mode>, Mark), ExecError>
+        requires { FitsMode (mode_at self.old sid) received }
+        ensures { Tested of_exec ExecError.Memory (exec_refusal self.old sid received.entry) self.old self.new result
+            (Execs self.old self.new sid received.entry moment) }
     {
         let Some(at) = position(&self.seats, sid) else {
             return Err(ExecError::NoSession);
@@ -191,10 +210,10 @@ impl Kernel {
             };
             return Ok((None, Mark::Stopped));
         }
-        if is_late(message, self.spool.dirty_len()) {
+        if is_late(received.message(), self.spool.dirty_len()) {
             return Err(ExecError::LaterDirty);
         }
-        let Ok(done) = seat.serve(alloc, &mut self.spool, message, moment) else {
+        let Ok(done) = seat.serve(alloc, &mut self.spool, received, moment) else {
             return Err(ExecError::Memory);
         };
         self.spool.kept();

@@ -15,11 +15,11 @@ ghost use Rattle.model.specs.declared.message.Message.{Message as MessageView};
 ghost use Rattle.outbox.specs.Queue.{buffered, entry_of, last_dependency};
 
 use change_spool::ChangeSpool;
-use model::{Answer, Awaits, Mark, Message, Mode, Moment, Session};
+use model::{Answer, Awaits, Mark, Mode, Moment, Session};
 use outbox::{Queue, ReadyBuf};
 use plain_commands::stopped;
 use replies::{Answered, push_greeting};
-use session::{Served, serve};
+use session::{Received, Served, serve};
 use std::alloc::{AllocError, Global};
 use std::marker::Model;
 
@@ -92,19 +92,19 @@ impl Seat {
     }
 
     /// Serves a message at the given moment over a spool that takes changes, and holds its reply. Answers what the
-    /// session sends next, and the mark of the message. Refused only for want of memory; then neither session nor spool
-    /// changes.
+    /// session sends next, and the mark of the message. Refused only for want of memory, also if an allocation was
+    /// refused as the text of the message was read; then neither session nor spool changes.
     pub fn serve<S: ChangeSpool>(
         &mut self,
         alloc: Global,
         spool: &mut S,
-        message: &Message,
+        received: Received<'_>,
         moment: Moment,
     ) -> Result<(Option<Mode>, Mark), AllocError>
         requires session { IsLawfulSession (S.host_of spool.old) self.old.session }
         requires room { buffered self.old.held < 1_048_576 }
         ensures ok { IfOk result (SeatServed (S.host_of spool.old) (S.changes spool.old) (S.lacks_room spool.old)
-            (S.adds spool.old spool.new) (spool.new ≡ spool.old) self.old self.new message.now moment) }
+            (S.adds spool.old spool.new) (spool.new ≡ spool.old) self.old self.new received.entry moment) }
         ensures seat { OnErr result (self.new ≡ self.old) }
         ensures spool { OnErr result (spool.new ≡ spool.old) }
     {
@@ -114,7 +114,7 @@ impl Seat {
             next,
             mark,
             reads,
-        } = serve(alloc, spool, &self.session, message, moment)?;
+        } = serve(alloc, spool, &self.session, received, moment)?;
         self.session = next;
         let mode = mode_of(&self.session.awaits);
         hold(&mut self.queue, reply.into_octets(), reads, mode.is_none());

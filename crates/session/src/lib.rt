@@ -9,13 +9,15 @@ ghost use Rattle.session.specs.Served.{IsFiled, IsServed};
 
 mod commands;
 mod messages;
+mod received;
 mod steps;
 
 use change_spool::{ChangeSpool, FilingError};
 use messages::Step;
-use model::{Answer, Mark, Message, Moment, Session, Text, lawful_stays};
+use model::{Answer, Mark, Moment, Session, Text, lawful_stays};
 use plain_commands::full;
 use posting_commands::{Accepted, Stored};
+pub use received::Received;
 use replies::Answered;
 use std::alloc::{AllocError, Global};
 use steps::step;
@@ -31,19 +33,20 @@ pub struct Served {
     pub reads: u64,
 }
 
-/// Answers a message and files the change that it accepts, at the given moment. The mark is `Long` if a posted article
-/// is refused because it would be too long as it is stored. It is `Full` if there is no room for the change, and
-/// otherwise `Served`. Refused only for want of memory, with nothing changed.
+/// Answers a message and files the change that it accepts, at the given moment. The text of the message was read before,
+/// and is not read again. The mark is `Long` if a posted article is refused because it would be too long as it is stored.
+/// It is `Full` if there is no room for the change, and otherwise `Served`. Refused only for want of memory, also if an
+/// allocation was refused as the text was read; then nothing has changed.
 pub fn serve<S: ChangeSpool>(
     alloc: Global,
     spool: &mut S,
     session: &Session,
-    message: &Message,
+    received: Received<'_>,
     moment: Moment,
 ) -> Result<Served, AllocError>
     requires { IsLawfulSession (S.host_of spool.old) session.now }
     ensures ok { IfOk result (IsServed (S.host_of spool.old) (S.changes spool.old) (S.lacks_room spool.old) (S.adds spool.old spool.new)
-        (spool.new ≡ spool.old) session.now message.now moment) }
+        (spool.new ≡ spool.old) session.now received.entry moment) }
     ensures err { OnErr result (spool.new ≡ spool.old) }
 {
     lawful_stays();
@@ -55,7 +58,7 @@ pub fn serve<S: ChangeSpool>(
         accepted,
         mark,
         reads,
-    } = step(alloc, spool, session, message, moment)?;
+    } = step(alloc, spool, session, received, moment)?;
     let served = Served {
         reply,
         next,

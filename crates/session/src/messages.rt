@@ -11,8 +11,8 @@ ghost use Rattle.replies.specs.Replies.{sent};
 ghost use Rattle.posting_commands.specs.Outcomes.{said};
 ghost use Rattle.session.specs.Steps.{posted_step, served_step, step_of, taken};
 
+use crate::Received;
 use crate::commands::command;
-use article::Reading;
 use grammar::arguments_are_in_grammar;
 use lookups::LookUps;
 use model::{Answer, Awaits, Mark, Message, Moment, Parsed, Session, Text};
@@ -126,15 +126,15 @@ pub(crate) fn at_post<'m, L: LookUps>(
     alloc: Global,
     spool: &L,
     session: &Session,
-    message: &'m Message,
+    received: Received<'m>,
     moment: Moment,
 ) -> Result<Step<'m>, AllocError>
     ensures { IfOk result (λ step. taken step ≡ step_of (L.host_of spool.now) (L.changes spool.now) session.now moment waits.PostBlock
-        message.now) }
+        received.entry) }
 {
-    match message {
-        Message::Block(text) => {
-            let reading = Reading::of(alloc, text.as_slice())?;
+    match received.message() {
+        Message::Block(_) => {
+            let reading = received.into_reading()?;
             let said = post_block(alloc, spool, session, reading, moment)?;
             Ok(posted(said))
         }
@@ -150,15 +150,15 @@ pub(crate) fn at_ihave<'m, L: LookUps>(
     spool: &L,
     session: &Session,
     id: &[u8],
-    message: &'m Message,
+    received: Received<'m>,
     moment: Moment,
 ) -> Result<Step<'m>, AllocError>
     ensures { IfOk result (λ step. taken step ≡ step_of (L.host_of spool.now) (L.changes spool.now) session.now moment
-        (waits.IhaveBlock id.now) message.now) }
+        (waits.IhaveBlock id.now) received.entry) }
 {
-    match message {
-        Message::Block(text) => {
-            let reading = Reading::of(alloc, text.as_slice())?;
+    match received.message() {
+        Message::Block(_) => {
+            let reading = received.into_reading()?;
             let said = ihave_block(alloc, spool, session, id, reading, moment)?;
             Ok(posted(said))
         }

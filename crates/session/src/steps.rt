@@ -7,9 +7,10 @@ ghost use Rattle.model.specs.Reads.{reads};
 ghost use Rattle.model.specs.declared.message.Mark.TheVariants as mark;
 ghost use Rattle.session.specs.Steps.{step_of, taken};
 
+use crate::Received;
 use crate::messages::{Step, at_ihave, at_line, at_nothing, at_post};
 use lookups::LookUps;
-use model::{Awaits, Message, Moment, Session};
+use model::{Awaits, Moment, Session};
 use std::alloc::{AllocError, Global};
 
 /// Answers a message at the given moment. A line is a command (RFC 3977, section 3.1), and a block is the article that
@@ -20,17 +21,17 @@ pub(crate) fn step<'m, L: LookUps>(
     alloc: Global,
     spool: &L,
     session: &Session,
-    message: &'m Message,
+    received: Received<'m>,
     moment: Moment,
 ) -> Result<Step<'m>, AllocError>
     ensures answer { IfOk result (λ step. (taken step).answer ≡ answers.answer (L.host_of spool.now)
-        (L.changes spool.now) session.now message.now moment step.mark) }
-    ensures reads { IfOk result (λ step. step.reads ≡ reads (L.host_of spool.now) (L.changes spool.now) session.now message.now moment
+        (L.changes spool.now) session.now received.entry moment step.mark) }
+    ensures reads { IfOk result (λ step. step.reads ≡ reads (L.host_of spool.now) (L.changes spool.now) session.now received.entry moment
         step.mark) }
     ensures mark { IfOk result (λ step. step.mark ≡ if answers.is_long (L.host_of spool.now)
-        (L.changes spool.now) session.now message.now then mark.Long else mark.Served) }
+        (L.changes spool.now) session.now received.entry then mark.Long else mark.Served) }
 {
-    Ok(by_kind(alloc, spool, session, message, moment)?)
+    Ok(by_kind(alloc, spool, session, received, moment)?)
 }
 
 /// The step by what the session awaits.
@@ -38,17 +39,18 @@ fn by_kind<'m, L: LookUps>(
     alloc: Global,
     spool: &L,
     session: &Session,
-    message: &'m Message,
+    received: Received<'m>,
     moment: Moment,
 ) -> Result<Step<'m>, AllocError>
     ensures { IfOk result (λ step. taken step ≡ step_of (L.host_of spool.now) (L.changes spool.now) session.now moment session.now.awaits
-        message.now) }
+        received.entry) }
 {
+    let message = received.message();
     match &session.awaits {
         Awaits::Line => at_line(alloc, spool, session, message, moment),
-        Awaits::PostBlock => at_post(alloc, spool, session, message, moment),
+        Awaits::PostBlock => at_post(alloc, spool, session, received, moment),
         Awaits::IhaveBlock(id) => {
-            at_ihave(alloc, spool, session, id.as_slice(), message, moment)
+            at_ihave(alloc, spool, session, id.as_slice(), received, moment)
         }
         Awaits::Nothing => at_nothing(alloc, spool, session, message, moment),
     }

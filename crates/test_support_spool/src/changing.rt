@@ -6,7 +6,7 @@ use crate::sent::Sent;
 use lookups::LookUps;
 use model::{Awaits, Mark, Message, Moment, Session, Status, Text};
 use names::{Description, GroupName, GroupRequest, NameError, is_of_host, number_of};
-use session::{Served, serve};
+use session::{Received, Served, serve};
 use spool::{AddError, ExpireError, Spool};
 use std::alloc::Global;
 
@@ -108,7 +108,8 @@ fn deliver(alloc: Global, spool: &mut Spool, sent: &Sent, awaits: Awaits) -> Fil
     let Some(moment) = Moment::at(MOMENT) else {
         return Filed::NotCalled;
     };
-    match serve(alloc, spool, &session, &message, moment) {
+    let received = Received::of(alloc, &message);
+    match serve(alloc, spool, &session, received, moment) {
         Ok(served) => said(&served),
         Err(_) => Filed::Memory,
     }

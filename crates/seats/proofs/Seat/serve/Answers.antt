@@ -30,7 +30,7 @@ returns-clause-ok g c =
     } in
     let depends : max (last_dependency c.reserve.new.self.given c.reserve.new.self.held) c.in_ok-reply.field-0.reads
     ≡ max (last_dependency before.given before.held)
-    (reads host S before.session c.args.message.now c.args.moment c.in_ok-reply.field-0.mark) =
+    (reads host S before.session c.args.received c.args.moment c.in_ok-reply.field-0.mark) =
     (λ i. max (last_dependency (c.reserve.ensures.given i) (c.reserve.ensures.held i)) (said.reads i)) in
     let ends : c.is_none.result ≡ is_none (mode_of after.session.awaits) = none_by _ _ (sym c.is_none.ensures)
     ∙ ap is_none c.mode_of-mode.ensures in
@@ -46,10 +46,10 @@ returns-clause-ok g c =
       ends = ends i;
     } in
     c.reserve.ensures.held i ++ h ∷ []) in
-    let now : after ≡ answered_by host S c.args.message.now c.args.moment c.in_ok-reply.field-0.mark before =
-    answered_is host S c.args.message.now c.args.moment c.in_ok-reply.field-0.mark before after _ _ refl (c.hold.ensures.given
+    let now : after ≡ answered_by host S c.args.received c.args.moment c.in_ok-reply.field-0.mark before =
+    answered_is host S c.args.received c.args.moment c.in_ok-reply.field-0.mark before after _ _ refl (c.hold.ensures.given
     ∙ c.reserve.ensures.given) said.next (c.into_octets.ensures ∙ said.reply) depends held in
     subst (λ (was : Seat). SeatServed host S (g.S.ChangeSpool.lacks_room s) (g.S.ChangeSpool.adds s c.serve.new.spool)
-    (c.serve.new.spool ≡ s) was after c.args.message.now c.args.moment (c.mode_of-mode.result, c.in_ok-reply.field-0.mark))
+    (c.serve.new.spool ≡ s) was after c.args.received c.args.moment (c.mode_of-mode.result, c.in_ok-reply.field-0.mark))
     c.self.view_is
     (record { mark = said.mark; seat = now; spool = said.spool; reads_next = c.mode_of-mode.ensures })

@@ -1,8 +1,10 @@
-use Rattle.std.proofs.Common.{◌≡◌, ◌∙◌, ap}
-use Rattle.model.specs.declared.message.Message.TheVariants as message
+use Rattle.std.proofs.Common.{◌≡◌, ◌∙◌, ap, subst, sym}
+use Rattle.std.specs.Prelude.{IfOk}
+use Rattle.model.specs.Answer.{served}
+use Rattle.model.specs.Reads.{served_reads}
+use Rattle.model.specs.declared.message.Message.{Message}
 use Rattle.model.specs.declared.session.Awaits.TheVariants as awaits
-use Rattle.posting_commands.specs.Outcomes.{post_said}
-use Rattle.session.specs.Steps.{posted_step, step_of}
+use Rattle.session.specs.Steps.{posted_step, step_of, taken}
 use Rattle.session.proofs.Stepping.{post_step}
 use Rattle.session.proofs.messages.at_post.Goals as goal
 
@@ -11,8 +13,24 @@ returns-in_ok-said-in-Block g c =
     let host = g.L.LookUps.host_of c.args.spool.now in
     let S = g.L.LookUps.changes c.args.spool.now in
     let x = c.args.session.now in
-    let same : message.Block c.as_slice.result.now ≡ c.args.message.now = cc in
+    let t = c.args.moment in
     c.posted.ensures
-    ∙ ap posted_step (c.in_ok-said-in-Block.ensures ∙ ap (post_said host S x c.args.moment) c.in_ok-reading-in-Block.ensures)
-    ∙ post_step host S x c.args.moment c.as_slice.result.now
-    ∙ ap (step_of host S x c.args.moment awaits.PostBlock) same
+    ∙ ap posted_step c.in_ok-said-in-Block.ensures
+    ∙ post_step host S x t c.in_ok-reading-in-Block.reading
+    ∙ ap (step_of host S x t awaits.PostBlock) c.in_ok-reading-in-Block.ensures
+
+pub returns-in-TooLong : goal.returns-in-TooLong
+unfolding served served_reads
+returns-in-TooLong g c =
+    let host = g.L.LookUps.host_of c.args.spool.now in
+    let S = g.L.LookUps.changes c.args.spool.now in
+    subst (λ (m : Message). IfOk c.refused.result (λ step. taken step ≡ step_of host S c.args.session.now c.args.moment awaits.PostBlock m))
+    (sym c.in-TooLong.is ∙ c.message.ensures) c.refused.ensures
+
+pub returns-in-Line : goal.returns-in-Line
+unfolding served served_reads
+returns-in-Line g c =
+    let host = g.L.LookUps.host_of c.args.spool.now in
+    let S = g.L.LookUps.changes c.args.spool.now in
+    subst (λ (m : Message). IfOk c.bad.result (λ step. taken step ≡ step_of host S c.args.session.now c.args.moment awaits.PostBlock m))
+    (sym c.in-Line.is ∙ c.message.ensures) c.bad.ensures
