@@ -5,9 +5,10 @@ use Rattle.std.specs.Option.{option_or}
 use Rattle.std.proofs.Common.{sym, ◌∙◌, ap, refl}
 use Rattle.std.proofs.lemmas.List.{length-append, length-take-le}
 use Rattle.model.specs.Stream.{Octets}
-use Rattle.model.specs.Article.{Origin, Posted, Carried, Cause, WrongOctets, NoEnd, Field, Twice, Missing, Id, Groups, Long, as_stored}
-use Rattle.model.specs.Article.{cause, cause_but_long, content, fields, has_empty_line, header, is_short as is_short_text, first_cause}
-use Rattle.model.specs.Article.{has_lines_alone, has_fields_alone, header_lines}
+use Rattle.model.specs.declared.cause.Cause.{Cause}
+use Rattle.model.specs.declared.cause.Cause.TheVariants.{Octets as NotLines, NoEnd, Field, Twice, Missing, Id, Groups, Long}
+use Rattle.model.specs.Article.{Origin, Posted, Carried, as_stored, cause, cause_but_long, content, fields, first_cause, has_empty_line}
+use Rattle.model.specs.Article.{has_fields_alone, has_lines_alone, header, header_lines, is_short as is_short_text}
 use Rattle.model.proofs.Stored.{header_stored}
 use Rattle.header_fields.specs.Header.{IsHeader}
 use Rattle.article.specs.Origins.{HasSmallSerial, names_host}
@@ -38,11 +39,11 @@ short_same origin text good small =
     (length-append (front_for origin (fields text)) text)
 
 abbrev first_three : Bool → Bool → Bool → Option Cause
-first_three a b c = first_cause ((a, WrongOctets) ∷ (b, NoEnd) ∷ (c, Field) ∷ [])
+first_three a b c = first_cause ((a, NotLines) ∷ (b, NoEnd) ∷ (c, Field) ∷ [])
 
 abbrev all_eight : Bool → Bool → Bool → Bool → Bool → Bool → Bool → Bool → Option Cause
 all_eight a b c d e f g h = option_or
-    (first_cause ((a, WrongOctets) ∷ (b, NoEnd) ∷ (c, Field) ∷ (d, Twice) ∷ (e, Missing) ∷ (f, Id) ∷ (g, Groups) ∷ []))
+    (first_cause ((a, NotLines) ∷ (b, NoEnd) ∷ (c, Field) ∷ (d, Twice) ∷ (e, Missing) ∷ (f, Id) ∷ (g, Groups) ∷ []))
     (cond h None (Some Long))
 
 lines_first : (a b c d e f g h : Bool) (x : Cause) → first_three a b c ≡ Some x → all_eight a b c d e f g h ≡ Some x

@@ -5,9 +5,11 @@ use Rattle.std.specs.List.{list_all, list_any}
 use Rattle.model.specs.Stream.{Octets}
 use Rattle.article.specs.Stored.{front}
 use Rattle.model.specs.Names.{is_blank, is_group_name, is_of_host, parts}
-use Rattle.model.specs.Article.{Origin, Posted, Carried, Cause, WrongOctets, NoEnd, Field, Twice, Missing, Id, Groups, Long, added_fields}
-use Rattle.model.specs.Article.{allows_id, are_distinct, content_of, first_cause, has_empty_line, has_fields_alone, has_lines_alone}
-use Rattle.model.specs.Article.{header_lines, id_in_field, is_named, needed_fields, single_fields, trimmed, written_fields}
+use Rattle.model.specs.declared.cause.Cause.{Cause}
+use Rattle.model.specs.declared.cause.Cause.TheVariants as causes
+use Rattle.model.specs.Article.{Origin, Posted, Carried, added_fields, allows_id, are_distinct, content_of, first_cause, has_empty_line}
+use Rattle.model.specs.Article.{has_fields_alone, has_lines_alone, header_lines, id_in_field, is_named, needed_fields, single_fields}
+use Rattle.model.specs.Article.{trimmed, written_fields}
 
 -- one of the fields has this name and holds only SP and TAB
 abbrev pub is_blank_in : List Octets → Octets → Bool
@@ -72,19 +74,19 @@ is_short header text added = nat_le (added + header) 8_192 && nat_le (added + te
 -- the causes in the lines
 abbrev pub shape_cause : Octets → Option Cause
 shape_cause text = first_cause (
-    (not (has_lines_alone text), WrongOctets)
-    ∷ (not (has_empty_line text), NoEnd)
-    ∷ (not (has_fields_alone (header_lines text)), Field)
+    (not (has_lines_alone text), causes.Octets)
+    ∷ (not (has_empty_line text), causes.NoEnd)
+    ∷ (not (has_fields_alone (header_lines text)), causes.Field)
     ∷ [])
 
 -- the first cause in the fields, by the tests
 abbrev pub first_of : Bool → Bool → Bool → Bool → Bool → Option Cause
 first_of twice lacks good_id good_groups short = first_cause (
-    (twice, Twice)
-    ∷ (lacks, Missing)
-    ∷ (not good_id, Id)
-    ∷ (not good_groups, Groups)
-    ∷ (not short, Long)
+    (twice, causes.Twice)
+    ∷ (lacks, causes.Missing)
+    ∷ (not good_id, causes.Id)
+    ∷ (not good_groups, causes.Groups)
+    ∷ (not short, causes.Long)
     ∷ [])
 
 -- the causes in the fields of a text, given whether its groups are good and whether it is short enough

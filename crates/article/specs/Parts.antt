@@ -1,10 +1,9 @@
 -- What is read of a text whose lines have no cause.
 use Rattle.std.specs.Prelude.{◌≡◌, List, codes, map, Some, None, Result, Ok, Err}
 use Rattle.model.specs.Stream.{Octets}
+use Rattle.model.specs.declared.cause.Cause.{Cause}
 use Rattle.model.specs.Article.{Carried, added_fields, content, fields as text_fields, written_fields}
 use Rattle.article.specs.Causes.{has_blank, has_good_groups, has_good_id, has_twice, lacks_any, shape_cause}
-use Rattle.article.specs.Origins.{cause_of}
-use Rattle.article.specs.declared.origin.Cause.{Cause as Told}
 use Rattle.article.specs.declared.parts.Faults.{Faults}
 use Rattle.article.specs.declared.parts.Parts.{Parts}
 
@@ -25,6 +24,6 @@ pub record ArePartsOf (text : Octets) (parts : Parts) : Type 0 where
   pub groups : parts.faults.good_groups ≡ has_good_groups (content (codes "Newsgroups") text)
 
 -- the parts of a text, or the first cause in its lines
-abbrev pub AreParts : Octets → Result Parts Told → Type 0
+abbrev pub AreParts : Octets → Result Parts Cause → Type 0
 AreParts text (Ok parts) = ArePartsOf text parts
-AreParts text (Err cause) = shape_cause text ≡ Some (cause_of cause)
+AreParts text (Err cause) = shape_cause text ≡ Some cause

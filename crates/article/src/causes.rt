@@ -1,21 +1,21 @@
 //! The causes for which a text is not an article.
 
-ghost use Rattle.std.specs.Prelude.{◌≡◌, ◌==◌, nat_lt, length, map, codes, count_by, bytes_eq, option_map, IfOk, IsTrue};
+ghost use Rattle.std.specs.Prelude.{◌≡◌, ◌==◌, nat_lt, length, map, codes, count_by, bytes_eq, IfOk, IsTrue};
 ghost use Rattle.std.specs.List.{list_all, list_any};
 ghost use Rattle.model.specs.Article as article;
 ghost use Rattle.model.specs.Names as model_names;
 ghost use Rattle.article.specs.Causes as causes;
 ghost use Rattle.header_fields.specs.Header.{IsHeader};
-ghost use Rattle.article.specs.Origins.{HasSmallSerial, cause_of, names_host, origin_of};
+ghost use Rattle.article.specs.Origins.{HasSmallSerial, names_host, origin_of};
 ghost use Rattle.article.specs.Parts.{AreFaults};
 
 use crate::contents::{count, find_field, id_in_field, is_blank_field, trim, unfold, value_of};
-use crate::origin::{Cause, Origin};
+use crate::origin::Origin;
 use crate::parts::Faults;
 use crate::stored::added_length;
 use header_fields::{has_fields_alone, has_lines_alone};
 use memchr::memchr;
-use model::Text;
+use model::{Cause, Text};
 use names::{is_group_name, is_message_id, is_of_host};
 use std::alloc::{AllocError, Global};
 
@@ -241,7 +241,7 @@ pub(crate) fn is_short(header: usize, text: usize, added: usize) -> bool
 /// The first cause in the lines of a text, whose header ends at `header`.
 pub(crate) fn shape_cause(text: &[u8], header: usize) -> Option<Cause>
     requires { IsHeader text.now header }
-    ensures { option_map cause_of result ≡ causes.shape_cause text.now }
+    ensures { result ≡ causes.shape_cause text.now }
 {
     if !has_lines_alone(text) {
         return Some(Cause::Octets);
@@ -262,8 +262,7 @@ fn first_cause(
     has_good_id: bool,
     is_short: bool,
 ) -> Option<Cause>
-    ensures { option_map cause_of result
-        ≡ causes.first_of faults.twice lacks_field has_good_id faults.good_groups is_short }
+    ensures { result ≡ causes.first_of faults.twice lacks_field has_good_id faults.good_groups is_short }
 {
     if faults.twice {
         return Some(Cause::Twice);
@@ -291,7 +290,7 @@ pub(crate) fn field_cause(
     is_short: bool,
 ) -> Option<Cause>
     requires { AreFaults faults (map (λ field. field.now) fields.now) }
-    ensures { option_map cause_of result ≡ causes.field_cause (origin_of origin.entry)
+    ensures { result ≡ causes.field_cause (origin_of origin.entry)
         (map (λ field. field.now) fields.now) faults.good_groups is_short }
 {
     let lacking = lacks_field(origin, faults);

@@ -7,9 +7,9 @@ ghost use Rattle.model.specs.Calendar.{moment_limit};
 ghost use Rattle.model.specs.Article as model_article;
 ghost use Rattle.model.specs.Names.{is_host};
 ghost use Rattle.header_fields.specs.Header.{IsHeader};
-ghost use Rattle.article.specs.Origins.{cause_of, names_host, origin_of};
+ghost use Rattle.article.specs.Origins.{names_host, origin_of};
 ghost use Rattle.article.specs.Parts.{ArePartsOf};
-ghost use Rattle.article.specs.declared.origin.Cause.{Cause as Told};
+ghost use Rattle.model.specs.declared.cause.Cause.{Cause as CauseView};
 
 mod causes;
 mod contents;
@@ -26,8 +26,8 @@ use contents::{find_field, id_in_field, unfold, value_of};
 pub use header::{Header, body_line_count};
 use header_fields::line_count;
 pub use injected::Injected;
-use model::Text;
-pub use origin::{Cause, Origin, ReadError};
+use model::{Cause, Text};
+pub use origin::{Origin, ReadError};
 use parts::Parts;
 pub use reading::Reading;
 use std::alloc::{AllocError, Global};
@@ -64,8 +64,8 @@ impl<'t> Article<'t> {
         requires { IsTrue (names_host (origin_of origin)) }
         ensures ok { IfOk result (λ article. article ≡ text.now) }
         ensures no_cause { OnOk result (model_article.cause (origin_of origin.entry) text.now ≡ None) }
-        ensures bad { IfErr result (λ error. (cause : Told) → error ≡ ReadError.Bad cause
-            → model_article.cause (origin_of origin.entry) text.now ≡ Some (cause_of cause)) }
+        ensures bad { IfErr result (λ error. (cause : CauseView) → error ≡ ReadError.Bad cause
+            → model_article.cause (origin_of origin.entry) text.now ≡ Some cause) }
     {
         let reading = Reading::of(alloc, text)?;
         match Article::of(reading, origin) {
@@ -80,7 +80,7 @@ impl<'t> Article<'t> {
         requires { IsTrue (names_host (origin_of origin)) }
         ensures ok { IfOk result (λ article. article ≡ reading.entry) }
         ensures no_cause { OnOk result (model_article.cause (origin_of origin.entry) reading.entry ≡ None) }
-        ensures bad { IfErr result (λ cause. model_article.cause (origin_of origin.entry) reading.entry ≡ Some (cause_of cause)) }
+        ensures bad { IfErr result (λ cause. model_article.cause (origin_of origin.entry) reading.entry ≡ Some cause) }
     {
         let text = reading.text;
         let header = reading.header;
@@ -207,7 +207,7 @@ fn article_of<'t>(
     requires parts { ArePartsOf text.now parts }
     ensures ok { IfOk result (λ article. article ≡ text.now) }
     ensures no_cause { OnOk result (model_article.cause (origin_of origin.entry) text.now ≡ None) }
-    ensures bad { IfErr result (λ cause. model_article.cause (origin_of origin.entry) text.now ≡ Some (cause_of cause)) }
+    ensures bad { IfErr result (λ cause. model_article.cause (origin_of origin.entry) text.now ≡ Some cause) }
 {
     let added = front_length(origin, &parts.fields);
     let short = is_short(header, text.len(), added);

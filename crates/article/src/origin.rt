@@ -1,8 +1,9 @@
-//! The origin of a text, and the causes for which it is refused.
+//! The origin of a text, and why it was not read.
 
 ghost use Rattle.std.specs.Prelude.{◌≡◌};
 ghost use Rattle.article.specs.declared.origin.ReadError.TheVariants.{Memory};
 
+use model::Cause;
 use std::alloc::AllocError;
 use thiserror::Error;
 
@@ -13,27 +14,6 @@ pub enum Origin<'h> {
     Posted { host: &'h [u8], serial: u64 },
     /// Another server.
     Carried,
-}
-
-/// Why a text is not an article, in the order of the tests.
-#[derive(Clone, Copy, Debug, PartialEq, Eq)]
-pub enum Cause {
-    /// It is not made of lines: it has NUL, or CR and LF other than as a pair, or no CRLF at its end.
-    Octets,
-    /// It has no empty line after its header.
-    NoEnd,
-    /// A header line neither begins a field nor continues one.
-    Field,
-    /// A field occurs twice that may occur at most once.
-    Twice,
-    /// A required field is missing, or a mandatory one is blank.
-    Missing,
-    /// Its message-id is not valid, or it is posted with an id of the host's own.
-    Id,
-    /// Its groups are not 1 to 16 distinct group names.
-    Groups,
-    /// It is too long. A posted text is measured as it would be stored.
-    Long,
 }
 
 /// Why a text was not read.

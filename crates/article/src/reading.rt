@@ -5,9 +5,9 @@ ghost use Rattle.header_fields.specs.Header.{IsHeader};
 ghost use Rattle.article.specs.Parts.{AreParts};
 
 use crate::causes::{faults_of, has_good_groups, newsgroups_in, shape_cause};
-use crate::origin::Cause;
 use crate::parts::Parts;
 use header_fields::{fields_of, header_length};
+use model::Cause;
 use std::alloc::{AllocError, Global};
 use std::marker::Model;
 

@@ -1,6 +1,7 @@
 //! Articles: why a text is not one, its parts, what is stored of it, and its overview line.
 
-use article::{Article, Cause, Origin, ReadError};
+use article::{Article, Origin, ReadError};
+use model::Cause;
 use names::is_host;
 use overview::line;
 use std::alloc::{AllocError, Global};

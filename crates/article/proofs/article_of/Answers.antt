@@ -1,7 +1,7 @@
-use Rattle.std.proofs.Common.{sym, ◌∙◌, ap, subst, option_map, map, length, Bor, List, ℕ}
+use Rattle.std.proofs.Common.{sym, ◌∙◌, ap, subst, map, length, Bor, List, ℕ}
 use Rattle.std.proofs.lemmas.Bool.{ltb-true}
 use Rattle.article.specs.Causes.{field_cause, front_for}
-use Rattle.article.specs.Origins.{cause_of, origin_of}
+use Rattle.article.specs.Origins.{origin_of}
 use Rattle.article.specs.Parts.{AreFaults}
 use Rattle.article.proofs.ReadLaws.{cause-parts, shape-ends}
 use Rattle.article.proofs.article_of.Goals as goal
@@ -23,8 +23,7 @@ returns-in-Some-clause-bad c =
     let found = c.field_cause.ensures
     ∙ ap (λ fs. field_cause origin fs parts.faults.good_groups short) (ap all c.deref-2.ensures.value ∙ c.requires.parts.fields) in
     sym (found ∙ cause-parts origin text parts c.args.header c.front_length-added.result short c.requires.host
-    c.front_length-added.ensures.small c.requires.parts c.requires.header size c.is_short-short.ensures)
-    ∙ ap (option_map cause_of) c.in-Some.is
+    c.front_length-added.ensures.small c.requires.parts c.requires.header size c.is_short-short.ensures) ∙ c.in-Some.is
 
 pub returns-clause-no_cause : goal.returns-clause-no_cause
 returns-clause-no_cause c =
@@ -38,8 +37,7 @@ returns-clause-no_cause c =
     let found = c.field_cause.ensures
     ∙ ap (λ fs. field_cause origin fs parts.faults.good_groups short) (ap all c.deref-2.ensures.value ∙ c.requires.parts.fields) in
     sym (found ∙ cause-parts origin text parts c.args.header c.front_length-added.result short c.requires.host
-    c.front_length-added.ensures.small c.requires.parts c.requires.header size c.is_short-short.ensures)
-    ∙ ap (option_map cause_of) c.in_default.is
+    c.front_length-added.ensures.small c.requires.parts c.requires.header size c.is_short-short.ensures) ∙ c.in_default.is
 
 pub invariant_of-result : goal.invariant_of-result
 invariant_of-result c =

@@ -1,6 +1,6 @@
 use Rattle.std.proofs.Common.{sym, ◌∙◌, ap, subst}
 use Rattle.model.specs.Article.{cause}
-use Rattle.article.specs.Origins.{cause_of, origin_of}
+use Rattle.article.specs.Origins.{origin_of}
 use Rattle.article.specs.Parts.{AreParts, ArePartsOf}
 use Rattle.article.proofs.ReadLaws.{cause-lines}
 use Rattle.article.proofs.Article.of.Goals as goal
@@ -16,4 +16,4 @@ returns-in-Err-clause-bad c =
     let origin = origin_of c.args.origin in
     let text = c.reading.inside.text.now in
     ap (cause origin) (sym c.reading.view_is)
-    ∙ cause-lines origin text (cause_of c.in-Err.cause) (subst (AreParts text) c.in-Err.is c.reading.invariant.parts)
+    ∙ cause-lines origin text c.in-Err.cause (subst (AreParts text) c.in-Err.is c.reading.invariant.parts)

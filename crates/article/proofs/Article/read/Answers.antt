@@ -1,11 +1,10 @@
 use Rattle.std.proofs.Common.{sym, ◌∙◌, ap, Some, ◌≡◌}
 use Rattle.model.specs.Article.{cause as text_cause}
-use Rattle.article.specs.Origins.{cause_of, origin_of}
-use Rattle.article.specs.declared.origin.Cause.{Cause as Told}
+use Rattle.article.specs.Origins.{origin_of}
 use Rattle.article.proofs.Article.read.Goals as goal
 
 pub returns-in-Err-clause-bad : goal.returns-in-Err-clause-bad
 returns-in-Err-clause-bad c cause same =
     let told : c.in-Err.cause ≡ cause = cc in
     ap (text_cause (origin_of c.args.origin)) (sym c.in_ok-reading.ensures) ∙ c.in-Err.ensures.bad
-    ∙ ap (λ (t : Told). Some (cause_of t)) told
+    ∙ ap Some told

@@ -1,11 +1,10 @@
-use Rattle.std.proofs.Common.{sym, ◌∙◌, ap, subst, option_map, codes, map, Bor, List, ℕ}
+use Rattle.std.proofs.Common.{sym, ◌∙◌, ap, subst, codes, map, Bor, List, ℕ}
 use Rattle.article.specs.Causes.{content_in, has_good_groups}
-use Rattle.article.specs.Origins.{cause_of}
 use Rattle.article.specs.Parts.{AreFaults}
 use Rattle.article.proofs.reading.parts_of.Goals as goal
 
 pub returns-in-Some : goal.returns-in-Some
-returns-in-Some c = sym c.shape_cause.ensures ∙ ap (option_map cause_of) c.in-Some.is
+returns-in-Some c = sym c.shape_cause.ensures ∙ c.in-Some.is
 
 pub returns : goal.returns
 returns c =
@@ -13,7 +12,7 @@ returns c =
     let newsgroups = c.in_ok-newsgroups.ensures ∙ ap (λ (fs : List (Bor (List ℕ))). content_in (codes "Newsgroups") (all fs))
     c.deref.ensures.value ∙ ap (content_in (codes "Newsgroups")) c.in_ok-fields.ensures in
     record {
-      shape = sym c.shape_cause.ensures ∙ ap (option_map cause_of) c.in_default.is;
+      shape = sym c.shape_cause.ensures ∙ c.in_default.is;
       fields = c.in_ok-fields.ensures;
       newsgroups = newsgroups;
       faults =
