@@ -2,8 +2,7 @@
 //! posted one. `specs/Article.antt` of the crate `model` defines each word.
 #![tactic(auto)]
 
-ghost use Rattle.std.specs.Prelude.{◌≡◌, ◌<◌, IfOk, IfErr, OnOk, IsTrue, Some, None, length, option_map};
-ghost use Rattle.model.specs.Calendar.{moment_limit};
+ghost use Rattle.std.specs.Prelude.{◌≡◌, IfOk, IfErr, OnOk, IsTrue, Some, None, length, option_map};
 ghost use Rattle.model.specs.Article as model_article;
 ghost use Rattle.model.specs.Names.{is_host};
 ghost use Rattle.header_fields.specs.Header.{IsHeader};
@@ -26,7 +25,7 @@ use contents::{find_field, id_in_field, unfold, value_of};
 pub use header::{Header, body_line_count};
 use header_fields::line_count;
 pub use injected::Injected;
-use model::{Cause, Text};
+use model::{Cause, Moment, Text};
 pub use origin::{Origin, ReadError};
 use parts::Parts;
 pub use reading::Reading;
@@ -147,16 +146,14 @@ impl<'t> Article<'t> {
     }
 
     /// The text that is stored of it when it is posted to this host at this moment and gets this serial. Path, Date and
-    /// Message-ID are put at its start where they are missing. The moment is whole seconds since 1970 and must be below
-    /// 253,402,300,800. Refused only for want of memory.
+    /// Message-ID are put at its start where they are missing. Refused only for want of memory.
     pub fn inject(
         &self,
         alloc: Global,
         serial: u64,
         host: &[u8],
-        moment: u64,
+        moment: Moment,
     ) -> Result<Vec<u8>, AllocError>
-        requires { moment < moment_limit }
         ensures { IfOk result (λ stored. stored.items ≡ model_article.injected host.now serial moment self.now) }
     {
         let room = added_length(&self.fields, serial, host).saturating_add(self.text.len());
@@ -167,16 +164,15 @@ impl<'t> Article<'t> {
     }
 
     /// The text that `inject` gives, with what was read of the posted one, so that the stored text isn't read again. The
-    /// host must be valid, the moment as for `inject`, and the article one that this host may inject under this serial.
-    /// Refused only for want of memory; then the article is gone.
+    /// host must be valid, and the article one that this host may inject under this serial. Refused only for want of
+    /// memory; then the article is gone.
     pub fn injected(
         self,
         alloc: Global,
         serial: u64,
         host: &[u8],
-        moment: u64,
+        moment: Moment,
     ) -> Result<Injected<'t>, AllocError>
-        requires moment { moment < moment_limit }
         requires host { IsTrue (is_host host.now) }
         requires cause { model_article.cause (model_article.Posted host.now serial) self ≡ None }
         ensures { IfOk result (λ stored. stored ≡ model_article.injected host.now serial moment self.entry) }

@@ -2,12 +2,13 @@
 
 ghost use Rattle.std.specs.Prelude.{◌≡◌, ◌+◌, ◌++◌, ◌==◌, ◌<◌, ◌≤◌, ◌^◌, codes, count_by, length, map, IfOk, IsTrue, OnOk};
 ghost use Rattle.model.specs.Article.{is_named};
-ghost use Rattle.model.specs.Calendar.{date_header, moment_limit};
+ghost use Rattle.model.specs.Calendar.{date_header};
 ghost use Rattle.model.specs.Names.{is_host};
 ghost use Rattle.article.specs.Stored as stored;
 
 use crate::contents::count;
 use itoa::Buffer;
+use model::Moment;
 use stamp::{HEADER_OCTETS, push_date_header};
 use std::alloc::{AllocError, Global};
 
@@ -104,8 +105,7 @@ fn push_path(octets: &mut Vec<u8>, fields: &[&[u8]], host: &[u8]) -> Result<(), 
 }
 
 /// Appends Date, if none of the posted fields has its name.
-fn push_date(octets: &mut Vec<u8>, fields: &[&[u8]], moment: u64) -> Result<(), AllocError>
-    requires { moment < moment_limit }
+fn push_date(octets: &mut Vec<u8>, fields: &[&[u8]], moment: Moment) -> Result<(), AllocError>
     ensures { OnOk result (octets.new.items ≡ octets.old.items
         ++ stored.added_to (map (λ field. field.now) fields.now) (codes "Date") (date_header moment)) }
 {
@@ -145,9 +145,8 @@ pub(crate) fn push_front(
     fields: &[&[u8]],
     serial: u64,
     host: &[u8],
-    moment: u64,
+    moment: Moment,
 ) -> Result<(), AllocError>
-    requires { moment < moment_limit }
     ensures { OnOk result (octets.new.items ≡ octets.old.items
         ++ stored.front host.now serial moment (map (λ field. field.now) fields.now)) }
 {

@@ -1,5 +1,6 @@
 //! Articles: why a text is not one, its parts, what is stored of it, and its overview line.
 
+use crate::moments::moment_at;
 use article::{Article, Origin, ReadError};
 use model::Cause;
 use names::is_host;
@@ -10,6 +11,7 @@ use test_support_rows::Octets;
 
 const HOST: &[u8] = b"news.example";
 
+/// When the posted texts are stored, in seconds since 1970.
 const NOW: u64 = 1_000_000_000;
 
 /// A client of the host, which would give the text this serial.
@@ -360,22 +362,18 @@ fn groups(alloc: Global, article: &Article<'_>) -> Result<Vec<u8>, AllocError> {
 }
 
 /// What is stored of an article.
-fn stored(alloc: Global, article: &Article<'_>, serial: u64) -> Result<Vec<u8>, AllocError> {
-    article.inject(alloc, serial, HOST, NOW)
+fn stored(alloc: Global, article: &Article<'_>, serial: u64) -> Result<Vec<u8>, Fail> {
+    Ok(article.inject(alloc, serial, HOST, moment_at(NOW)?)?)
 }
 
 /// What an article answers.
-fn answered(
-    alloc: Global,
-    article: &Article<'_>,
-    asked: Ask<'_>,
-) -> Result<Option<Vec<u8>>, AllocError> {
+fn answered(alloc: Global, article: &Article<'_>, asked: Ask<'_>) -> Result<Option<Vec<u8>>, Fail> {
     match asked {
         Ask::Text => Ok(Some(article.text().to_vec(alloc)?)),
         Ask::Header => Ok(Some(article.header().to_vec(alloc)?)),
         Ask::Body => Ok(Some(article.body().to_vec(alloc)?)),
         Ask::LineCount => Ok(Some(digits(alloc, article.line_count() as u64)?)),
-        Ask::Field(name) => article.field(alloc, name),
+        Ask::Field(name) => Ok(article.field(alloc, name)?),
         Ask::Id => match article.id() {
             Some(id) => Ok(Some(id.to_vec(alloc)?)),
             None => Ok(None),

@@ -5,4 +5,6 @@
 #[cfg(test)]
 mod articles;
 #[cfg(test)]
+mod moments;
+#[cfg(test)]
 mod names_read;

@@ -1,5 +1,6 @@
 //! Reading names, patterns and dates.
 
+use crate::moments::moment_at;
 use model::Moment;
 use names::{
     Description, GroupName, MessageId, NameError, Wildmat, is_description, is_group_name, is_host,
@@ -260,14 +261,6 @@ fn wildmats(rt: HostRuntime) -> Result<(), Fail> {
         );
     }
     Ok(())
-}
-
-/// The moment so many seconds after the beginning of 1970.
-fn moment_at(seconds: u64) -> Result<Moment, Fail> {
-    let Some(moment) = Moment::at(seconds) else {
-        return Err("no moment")?;
-    };
-    Ok(moment)
 }
 
 /// The reply to DATE and the content of Date at a moment.
