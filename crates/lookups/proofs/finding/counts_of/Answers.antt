@@ -1,5 +1,5 @@
 use Rattle.std.proofs.Common.{ap, sym}
-use Rattle.std.specs.Prelude.{length, None}
+use Rattle.std.specs.Prelude.{length}
 use Rattle.model.specs.Spool.{Contents}
 use Rattle.lookups.proofs.Absent.{absent_contents, absent_last}
 use Rattle.lookups.proofs.Groups.{is_of, none_of}
