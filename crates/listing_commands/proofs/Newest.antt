@@ -1,5 +1,5 @@
 -- The lines of the articles that are new.
-use Rattle.std.proofs.Common.{◌≡◌, ℕ, suc, ◌+◌, List, [], ◌∷◌, ◌++◌, map, refl, sym, ◌∙◌, ap, append_assoc}
+use Rattle.std.proofs.Common.{◌≡◌, ℕ, suc, List, [], ◌∷◌, ◌++◌, map, refl, sym, ◌∙◌, ap, append_assoc}
 use Rattle.std.proofs.Common.{inl, inr, Bool, true, false, cond, length}
 use Rattle.std.specs.Prelude.{◌==◌, ◌&&◌, All, codes, filter, filter_map, flat_map, nat_le, Option, None, ℤ}
 use Rattle.std.specs.Prelude.{option_map, unwrap_or}
