@@ -130,11 +130,7 @@ pub fn replay_next<B: Blocks>(
     let at = files.slots[done];
     let file = file_at(alloc, blocks, inodes, at)?;
     let serial = done as u64 + 1;
-    let read = match read_change(alloc, &file.name, &file.content, serial) {
-        Ok(read) => read,
-        Err(_) => return Err(ReadSpoolError::Memory),
-    };
-    let Some(said) = read else {
+    let Some(said) = read_change(alloc, &file.name, &file.content, serial)? else {
         return Err(ReadSpoolError::Damaged);
     };
     replay_said(alloc, blocks, inodes, host, files, replay, at, said)

@@ -39,7 +39,7 @@ returns-in_default-clause-damaged g c = λ e S held low.
     c.index-at.result.now c.in_ok-file.file.name.items c.in_ok-file.file.content.items c.requires.room.few held its.replayed.read
     c.requires.sorted
     (omega (arith, its.count_is, low)) (read ∙ ap (λ (n : ℕ). get_or slots n 0) (sym its.count_is)) c.in_ok-file.ensures.is in
-    let none = rw c.in_default.is at c.in-Ok.ensures in
+    let none = rw c.in_default.is at c.in_ok-said.ensures in
     none next.change (same_file (length its.changes + 1) (c.args.done + 1) next.change _ c.deref.result.now _ c.deref-2.result.now
     (ap (λ (n : ℕ). n + 1) its.count_is) (sym c.deref.ensures.value) (sym c.deref-2.ensures.value) next.is)
 
@@ -47,7 +47,7 @@ pub returns-clause-ok : goal.returns-clause-ok
 returns-clause-ok g c =
     let its = c.requires.replayed in
     let slots = c.args.files.now.slots.items in
-    let said = rw c.in-Some.is at c.in-Ok.ensures in
+    let said = rw c.in-Some.is at c.in_ok-said.ensures in
     ok_map c.replay_said.result
     (λ goes.
     one_replayed c.args.host.now c.args.inodes (g.B.Blocks.blocks c.args.blocks.now) c.replay_said.new.replay.index
@@ -66,7 +66,7 @@ returns-clause-damaged g c =
     let its = c.requires.replayed in
     let slots = c.args.files.now.slots.items in
     let read = get_or_read slots c.args.done c.index-at.result.now c.requires.below c.index-at.ensures 0 in
-    let said = rw c.in-Some.is at c.in-Ok.ensures in
+    let said = rw c.in-Some.is at c.in_ok-said.ensures in
     IfErr-weaker c.replay_said.result _ _
     (λ e none is S held low.
     let next = next_file c.args.host.now c.args.inodes (g.B.Blocks.blocks c.args.blocks.now) its.changes S slots c.args.files.now.named
