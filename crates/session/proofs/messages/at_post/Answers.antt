@@ -8,8 +8,8 @@ use Rattle.session.specs.Steps.{posted_step, step_of, taken}
 use Rattle.session.proofs.Stepping.{post_step}
 use Rattle.session.proofs.messages.at_post.Goals as goal
 
-pub returns-in_ok-said-in-Block : goal.returns-in_ok-said-in-Block
-returns-in_ok-said-in-Block g c =
+pub returns-in-Block : goal.returns-in-Block
+returns-in-Block g c =
     let host = g.L.LookUps.host_of c.args.spool.now in
     let S = g.L.LookUps.changes c.args.spool.now in
     let x = c.args.session.now in
@@ -27,9 +27,9 @@ returns-in-TooLong g c =
     subst (λ (m : Message). IfOk c.refused.result (λ step. taken step ≡ step_of host S c.args.session.now c.args.moment awaits.PostBlock m))
     (sym c.in-TooLong.is ∙ c.message.ensures) c.refused.ensures
 
-pub returns-in-Line : goal.returns-in-Line
+pub returns : goal.returns
 unfolding served served_reads
-returns-in-Line g c =
+returns g c =
     let host = g.L.LookUps.host_of c.args.spool.now in
     let S = g.L.LookUps.changes c.args.spool.now in
     subst (λ (m : Message). IfOk c.bad.result (λ step. taken step ≡ step_of host S c.args.session.now c.args.moment awaits.PostBlock m))

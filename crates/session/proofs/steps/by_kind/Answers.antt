@@ -13,8 +13,8 @@ returns-in-Line g c =
     ≡ step_of host S c.args.session.now c.args.moment p.0 p.1))
     (λ i. (sym c.in-Line.is i, c.message-message.ensures i)) c.at_line.ensures
 
-pub returns-in-Nothing : goal.returns-in-Nothing
-returns-in-Nothing g c =
+pub returns : goal.returns
+returns g c =
     let host = g.L.LookUps.host_of c.args.spool.now in
     let S = g.L.LookUps.changes c.args.spool.now in
     subst (λ (p : Awaits × Message). IfOk c.at_nothing.result (λ step. taken step

@@ -7,4 +7,4 @@ pub returns-in-Some : goal.returns-in-Some
 returns-in-Some c =
     let is : Block c.in-Some.reading ≡ c.self.inside.message.now =
     subst (λ (o : Option (List ℕ)). IfSome o (λ text. Block text ≡ c.self.inside.message.now)) c.in-Some.is c.self.invariant in
-    is ∙ c.self.view_is
+    rw c.in-Some.is (is ∙ c.self.view_is)
