@@ -19,7 +19,7 @@ use Rattle.replies.specs.declared.sessions.Answered.{Answered}
 use Rattle.posting_commands.specs.Accepted.{change_of}
 use Rattle.posting_commands.specs.declared.filing.Closed.{Closed}
 use Rattle.posting_commands.specs.declared.filing.Closed.TheVariants as closed
-use Rattle.posting_commands.specs.declared.posts.Posted.{Posted}
+use Rattle.posting_commands.specs.declared.posts.Step.{Step}
 use Rattle.posting_commands.specs.declared.filing.Outcome.{Outcome}
 use Rattle.posting_commands.specs.declared.filing.Outcome.TheVariants as outcome
 
@@ -40,15 +40,17 @@ closed_among closed.Take S names = None
 abbrev pub then_line : Session → Octets → Option Change → Answer
 then_line x reply c = record { reply = reply; next = answers.awaiting x awaits.Line; change = c }
 
--- an answer with what it reads, and its mark
+-- what a message is answered, with what the answer reads and the change that it makes, and its mark
 pub record Said : Type 0 where
   pub answered : Answered
   pub mark : Mark
 
-abbrev pub said : Posted → Said
-said p = record {
-  answered = answered (record { reply = p.reply; next = p.next; change = option_map change_of p.accepted }) p.reads;
-  mark = p.mark;
+-- a step, with the change that files its article
+abbrev pub said : Step → Said
+said s = record {
+  answered = answered
+      (record { reply = s.answered.answer.reply; next = s.answered.answer.next; change = option_map change_of s.accepted }) s.answered.reads;
+  mark = s.mark;
 }
 
 -- an answer that is served

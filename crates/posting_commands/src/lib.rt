@@ -9,4 +9,4 @@ mod posts;
 
 pub use accepted::{Accepted, Stored};
 pub use offers::{ihave, post};
-pub use posts::{Posted, ihave_block, post_block};
+pub use posts::{Step, ihave_block, post_block};

@@ -13,21 +13,20 @@ use crate::accepted::{Accepted, Stored};
 use crate::filing::{Closed, Outcome, filing};
 use article::{Article, Origin, Reading};
 use lookups::LookUps;
-use model::{Awaits, Cause, Mark, Moment, Session, Text};
-use replies::{Reply, awaiting, push_reply};
+use model::{Awaits, Cause, Mark, Moment, Session};
+use plain_commands::ends;
+use replies::{Answered, Reply};
 use std::alloc::{AllocError, Global};
 
-/// The answer to the article that follows POST or IHAVE, and its mark.
+/// What a message is answered, and the article that is to be filed for it.
 #[derive(Drop)]
-pub struct Posted<'t> {
-    pub reply: Text,
-    /// the session afterwards
-    pub next: Session,
-    /// the article, if it is accepted
+pub struct Step<'t> {
+    /// counts its own change among those that it reads
+    pub answered: Answered,
+    /// the article, if one is accepted
     pub accepted: Option<Accepted<'t>>,
+    /// `Long` if a posted article is refused because it would be too long as it is stored, else `Served`
     pub mark: Mark,
-    /// the greatest serial that the answer reads, counting its own change
-    pub reads: u64,
 }
 
 /// A reply after which a line is awaited, and the article that it accepts.
@@ -37,18 +36,15 @@ fn answer<'t>(
     which: Reply,
     accepted: Option<Accepted<'t>>,
     reads: u64,
-) -> Result<Posted<'t>, AllocError>
-    ensures { IfOk result (λ posted. said posted
+) -> Result<Step<'t>, AllocError>
+    ensures { IfOk result (λ step. said step
         ≡ said_served (answered (then_line session.now (sent which) (option_map change_of accepted.entry)) reads)) }
 {
-    let mut reply = Vec::new(alloc);
-    push_reply(&mut reply, which)?;
-    Ok(Posted {
-        reply: Text::new(reply),
-        next: awaiting(alloc, session, Awaits::Line)?,
+    let Answered { answer, .. } = ends(alloc, session, which, Awaits::Line)?;
+    Ok(Step {
+        answered: Answered { answer, reads },
         accepted,
         mark: Mark::Served,
-        reads,
     })
 }
 
@@ -61,8 +57,8 @@ pub fn post_block<'t, L: LookUps>(
     session: &Session,
     reading: Reading<'t>,
     moment: Moment,
-) -> Result<Posted<'t>, AllocError>
-    ensures { IfOk result (λ posted. said posted
+) -> Result<Step<'t>, AllocError>
+    ensures { IfOk result (λ step. said step
         ≡ post_said (L.host_of spool.now) (L.changes spool.now) session.now moment reading.entry) }
 {
     let host = spool.host();
@@ -71,7 +67,7 @@ pub fn post_block<'t, L: LookUps>(
         Ok(article) => taken(alloc, spool, session, article, serial, moment),
         Err(cause) => {
             let refusal = answer(alloc, session, Reply::NotAccepted, None, 0)?;
-            Ok(Posted {
+            Ok(Step {
                 mark: mark_of(cause),
                 ..refusal
             })
@@ -97,10 +93,10 @@ fn taken<'t, L: LookUps>(
     article: Article<'t>,
     serial: u64,
     moment: Moment,
-) -> Result<Posted<'t>, AllocError>
+) -> Result<Step<'t>, AllocError>
     requires serial { serial ≡ length (L.changes spool.now) + 1 }
     requires cause { cause (PostedTo (L.host_of spool.now) serial) article ≡ None }
-    ensures { IfOk result (λ posted. said posted
+    ensures { IfOk result (λ step. said step
         ≡ said_served (posted_by (L.host_of spool.now) (L.changes spool.now) session.now moment article.entry)) }
 {
     match filing(alloc, spool, &article, Closed::Refuse)? {
@@ -127,8 +123,8 @@ pub fn ihave_block<'t, L: LookUps>(
     id: &[u8],
     reading: Reading<'t>,
     moment: Moment,
-) -> Result<Posted<'t>, AllocError>
-    ensures { IfOk result (λ posted. said posted
+) -> Result<Step<'t>, AllocError>
+    ensures { IfOk result (λ step. said step
         ≡ said_served (answered (answers.transfer_answer (L.changes spool.now) session.now moment id.now reading.entry)
         (outcome_reads (L.changes spool.now) (answers.transfer_outcome (L.changes spool.now) id.now reading.entry)))) }
 {
@@ -146,9 +142,9 @@ fn given<'t, L: LookUps>(
     id: &[u8],
     article: Article<'t>,
     moment: Moment,
-) -> Result<Posted<'t>, AllocError>
+) -> Result<Step<'t>, AllocError>
     requires { cause Carried article ≡ None }
-    ensures { IfOk result (λ posted. said posted
+    ensures { IfOk result (λ step. said step
         ≡ said_served (answered (answers.transfer_answer (L.changes spool.now) session.now moment id.now article.entry)
         (outcome_reads (L.changes spool.now) (answers.transfer_outcome (L.changes spool.now) id.now article.entry)))) }
 {

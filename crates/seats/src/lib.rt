@@ -2,7 +2,7 @@
 //! `specs/Kept.antt` what the invariant of the sessions is.
 #![tactic(auto)]
 
-ghost use Rattle.std.specs.Prelude.{Some, IfSome, IsNone, None, ℕ, find, not, slice_get, ◌==◌, ◌≡◌, ◌<◌, ◌≤◌, ◌+◌, ◌^◌, ◌++◌, ◌∷◌, [], max};
+ghost use Rattle.std.specs.Prelude.{Some, IfSome, IsNone, None, is_none, ℕ, find, not, slice_get, ◌==◌, ◌≡◌, ◌<◌, ◌≤◌, ◌+◌, ◌^◌, ◌++◌, ◌∷◌, [], max};
 ghost use Rattle.std.specs.Prelude.{IfOk, OnErr, OnOk, length};
 ghost use Rattle.seats.specs.Seats.{Seat as SeatView, answered_by, given_of, holds, new_seat, ready, ready_of, seat_given};
 ghost use Rattle.seats.specs.Kept.{RiseFrom};
@@ -109,15 +109,8 @@ impl Seat {
         ensures spool { OnErr result (spool.new ≡ spool.old) }
     {
         self.queue.reserve(1)?;
-        let Served {
-            reply,
-            next,
-            mark,
-            reads,
-        } = serve(alloc, spool, &self.session, received, moment)?;
-        self.session = next;
-        let mode = mode_of(&self.session.awaits);
-        hold(&mut self.queue, reply.into_octets(), reads, mode.is_none());
+        let Served { answered, mark } = serve(alloc, spool, &self.session, received, moment)?;
+        let mode = adopt(&mut self.session, &mut self.queue, answered);
         Ok((mode, mark))
     }
 
@@ -148,28 +141,33 @@ impl Seat {
         ensures seat { OnErr result (self.new ≡ self.old) }
     {
         self.queue.reserve(1)?;
-        let Answered { answer, reads } = stopped(alloc, &self.session)?;
-        let Answer { reply, next, .. } = answer;
-        self.session = next;
-        hold(&mut self.queue, reply.into_octets(), reads, true);
+        let answered = stopped(alloc, &self.session)?;
+        adopt(&mut self.session, &mut self.queue, answered);
         Ok(())
     }
 }
 
-/// Holds a reply after the others. Its dependency is the greater of what it reads and the dependency of the reply
-/// before it.
-fn hold(queue: &mut Queue, octets: Vec<u8>, reads: u64, ends: bool)
+/// Lets a session go on as it was answered, and holds the reply after the others. Its dependency is the greater of what
+/// the answer reads and the dependency of the reply before it. Answers what the session sends next.
+fn adopt(session: &mut Session, queue: &mut Queue, answered: Answered) -> Option<Mode>
     requires room { 1 ≤ queue.old.room }
-    requires countable { buffered queue.old.held + length octets.items < 2 ^ 64 }
+    requires countable { buffered queue.old.held + length answered.answer.reply < 2 ^ 64 }
+    ensures mode { result ≡ mode_of answered.answer.next.awaits }
+    ensures session { session.new ≡ answered.answer.next }
     ensures given { queue.new.given ≡ queue.old.given }
     ensures held { queue.new.held ≡ queue.old.held ++ record {
-      octets = octets.items;
-      dependency = max (last_dependency queue.old.given queue.old.held) reads;
-      ends = ends;
+      octets = answered.answer.reply;
+      dependency = max (last_dependency queue.old.given queue.old.held) answered.reads;
+      ends = is_none (mode_of answered.answer.next.awaits);
     } ∷ [] }
 {
+    let Answered { answer, reads } = answered;
+    let Answer { reply, next, .. } = answer;
+    let mode = mode_of(&next.awaits);
     let dependency = queue.last_dependency().max(reads);
-    queue.push(octets, dependency, ends);
+    queue.push(reply.into_octets(), dependency, mode.is_none());
+    *session = next;
+    mode
 }
 
 /// What is read next from a session's stream.

@@ -77,7 +77,7 @@ module _ (host : Octets) (S : Spool) (x : Session) (m : Message) (t : ℕ) where
 
 -- the answer where there is no room
 abbrev pub full_served : Answered → Served
-full_served said = record { reply = said.answer.reply; next = said.answer.next; mark = mark.Full; reads = said.reads }
+full_served answered = record { answered = answered; mark = mark.Full }
 
 pub is_full_served : (host : Octets) (S : Spool) (lacks : Change → Bool) (adds : Change → Type 0) (stays : Type 0) (x : Session)
     (m : Message) (t : ℕ) (k : Mark) (c : Change)

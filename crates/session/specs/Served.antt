@@ -38,7 +38,7 @@ IsFiled lacks adds stays c result = MatchResult result (λ done. (lacks c ≡ fa
 pub record IsServed (host : Octets) (S : Spool) (lacks : Change → Bool) (adds : Change → Type 0) (stays : Type 0) (x : Session)
     (m : Message) (t : ℕ) (served : Served) : Type 0 where
   pub mark : served.mark ≡ mark_in host S lacks x m t
-  pub reply : served.reply ≡ (answer host S x m t served.mark).reply
-  pub next : served.next ≡ (answer host S x m t served.mark).next
-  pub reads : served.reads ≡ reads host S x m t served.mark
+  pub reply : served.answered.answer.reply ≡ (answer host S x m t served.mark).reply
+  pub next : served.answered.answer.next ≡ (answer host S x m t served.mark).next
+  pub reads : served.answered.reads ≡ reads host S x m t served.mark
   pub spool : Grows adds stays (answer host S x m t served.mark).change

@@ -13,24 +13,20 @@ mod received;
 mod steps;
 
 use change_spool::{ChangeSpool, FilingError};
-use messages::Step;
-use model::{Answer, Mark, Moment, Session, Text, lawful_stays};
+use model::{Mark, Moment, Session, lawful_stays};
 use plain_commands::full;
-use posting_commands::{Accepted, Stored};
+use posting_commands::{Accepted, Step, Stored};
 pub use received::Received;
 use replies::Answered;
 use std::alloc::{AllocError, Global};
 use steps::step;
 
-/// The outcome of a message that was served.
+/// What a message was answered, after what it accepts was filed.
 #[derive(Drop)]
 pub struct Served {
-    pub reply: Text,
-    /// the session afterwards
-    pub next: Session,
+    /// counts its own change among those that it reads
+    pub answered: Answered,
     pub mark: Mark,
-    /// the greatest serial that the answer reads, counting its own change
-    pub reads: u64,
 }
 
 /// Answers a message and files the change that it accepts, at the given moment. The text of the message was read before,
@@ -53,24 +49,20 @@ pub fn serve<S: ChangeSpool>(
     // its clauses state that the moment is before the year 10000
     let _seconds = moment.seconds();
     let Step {
-        reply,
-        next,
+        answered,
         accepted,
         mark,
-        reads,
     } = step(alloc, spool, session, received, moment)?;
-    let served = Served {
-        reply,
-        next,
-        mark,
-        reads,
-    };
+    let served = Served { answered, mark };
     let Some(accepted) = accepted else {
         return Ok(served);
     };
     match file(alloc, spool, &accepted) {
         Ok(()) => Ok(served),
-        Err(FilingError::Full) => Ok(turned_away(full(alloc, session)?)),
+        Err(FilingError::Full) => Ok(Served {
+            answered: full(alloc, session)?,
+            mark: Mark::Full,
+        }),
         Err(FilingError::Memory) => Err(AllocError),
     }
 }
@@ -92,19 +84,5 @@ fn file<S: ChangeSpool>(
             Ok(article) => spool.file(&article, groups, accepted.moment),
             Err(_) => Err(FilingError::Memory),
         },
-    }
-}
-
-/// The answer if there is no room.
-fn turned_away(said: Answered) -> Served
-    ensures { result ≡ record { reply = said.answer.reply; next = said.answer.next; mark = Mark.Full; reads = said.reads } }
-{
-    let Answered { answer, reads } = said;
-    let Answer { reply, next, .. } = answer;
-    Served {
-        reply,
-        next,
-        mark: Mark::Full,
-        reads,
     }
 }

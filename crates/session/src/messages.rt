@@ -8,72 +8,34 @@ ghost use Rattle.model.specs.declared.session.Awaits.TheVariants as waits;
 ghost use Rattle.replies.specs.Answered.{answered};
 ghost use Rattle.model.specs.Replies.{syntax_error};
 ghost use Rattle.replies.specs.Replies.{sent};
-ghost use Rattle.posting_commands.specs.Outcomes.{said};
-ghost use Rattle.session.specs.Steps.{posted_step, served_step, step_of, taken};
+ghost use Rattle.posting_commands.specs.Outcomes.{said, said_served};
+ghost use Rattle.session.specs.Steps.{step_of};
 
 use crate::Received;
 use crate::commands::command;
 use grammar::arguments_are_in_grammar;
 use lookups::LookUps;
-use model::{Answer, Awaits, Mark, Message, Moment, Parsed, Session, Text};
+use model::{Awaits, Mark, Message, Moment, Parsed, Session};
 use plain_commands::ends;
-use posting_commands::{Accepted, Posted, ihave_block, post_block};
+use posting_commands::{Step, ihave_block, post_block};
 use replies::{Answered, Reply, says_line};
 use std::alloc::{AllocError, Global};
 
-/// The outcome of a message.
-#[derive(Drop)]
-pub(crate) struct Step<'m> {
-    pub reply: Text,
-    /// the session afterwards
-    pub next: Session,
-    /// the article that is to be filed
-    pub accepted: Option<Accepted<'m>>,
-    /// `Long` if a posted article is refused because it would be too long as it is stored, else `Served`
-    pub mark: Mark,
-    /// the greatest serial that the answer reads, counting its own change
-    pub reads: u64,
-}
-
-/// An answer that is served and changes nothing.
-fn served<'m>(said: Answered) -> Step<'m>
-    requires { said.answer.change ≡ None }
-    ensures { taken result ≡ served_step said }
+/// An answer that is served and files nothing.
+fn served<'m>(answered: Answered) -> Step<'m>
+    requires { answered.answer.change ≡ None }
+    ensures { said result ≡ said_served answered }
 {
-    let Answered { answer, reads } = said;
-    let Answer { reply, next, .. } = answer;
     Step {
-        reply,
-        next,
+        answered,
         accepted: None,
         mark: Mark::Served,
-        reads,
-    }
-}
-
-/// The answer to the article that follows POST or IHAVE, with its mark.
-fn posted(post: Posted<'_>) -> Step<'_>
-    ensures { taken result ≡ posted_step (said post.entry) }
-{
-    let Posted {
-        reply,
-        next,
-        accepted,
-        mark,
-        reads,
-    } = post;
-    Step {
-        reply,
-        next,
-        accepted,
-        mark,
-        reads,
     }
 }
 
 /// The answer to a message that is not a line where one is awaited (RFC 3977, section 3.2.1).
 fn bad<'m>(alloc: Global, session: &Session) -> Result<Step<'m>, AllocError>
-    ensures { IfOk result (λ step. taken step ≡ served_step (answered (says session.now syntax_error) 0)) }
+    ensures { IfOk result (λ step. said step ≡ said_served (answered (says session.now syntax_error) 0)) }
 {
     Ok(served(says_line(alloc, session, Reply::SyntaxError, 0)?))
 }
@@ -107,13 +69,13 @@ pub(crate) fn at_line<'m, L: LookUps>(
     message: &'m Message,
     moment: Moment,
 ) -> Result<Step<'m>, AllocError>
-    ensures { IfOk result (λ step. taken step
+    ensures { IfOk result (λ step. said step
         ≡ step_of (L.host_of spool.now) (L.changes spool.now) session.now moment waits.Line message.now) }
 {
     match message {
         Message::Line(text) => {
-            let said = line(alloc, spool, session, text.as_slice(), moment)?;
-            Ok(served(said))
+            let answered = line(alloc, spool, session, text.as_slice(), moment)?;
+            Ok(served(answered))
         }
         Message::Block(_) => bad(alloc, session),
         Message::TooLong => bad(alloc, session),
@@ -129,14 +91,13 @@ pub(crate) fn at_post<'m, L: LookUps>(
     received: Received<'m>,
     moment: Moment,
 ) -> Result<Step<'m>, AllocError>
-    ensures { IfOk result (λ step. taken step ≡ step_of (L.host_of spool.now) (L.changes spool.now) session.now moment waits.PostBlock
+    ensures { IfOk result (λ step. said step ≡ step_of (L.host_of spool.now) (L.changes spool.now) session.now moment waits.PostBlock
         received.entry) }
 {
     match received.message() {
         Message::Block(_) => {
             let reading = received.into_reading()?;
-            let said = post_block(alloc, spool, session, reading, moment)?;
-            Ok(posted(said))
+            post_block(alloc, spool, session, reading, moment)
         }
         Message::TooLong => refused(alloc, session, Reply::NotAccepted),
         Message::Line(_) => bad(alloc, session),
@@ -153,14 +114,13 @@ pub(crate) fn at_ihave<'m, L: LookUps>(
     received: Received<'m>,
     moment: Moment,
 ) -> Result<Step<'m>, AllocError>
-    ensures { IfOk result (λ step. taken step ≡ step_of (L.host_of spool.now) (L.changes spool.now) session.now moment
+    ensures { IfOk result (λ step. said step ≡ step_of (L.host_of spool.now) (L.changes spool.now) session.now moment
         (waits.IhaveBlock id.now) received.entry) }
 {
     match received.message() {
         Message::Block(_) => {
             let reading = received.into_reading()?;
-            let said = ihave_block(alloc, spool, session, id, reading, moment)?;
-            Ok(posted(said))
+            ihave_block(alloc, spool, session, id, reading, moment)
         }
         Message::TooLong => refused(alloc, session, Reply::Rejected),
         Message::Line(_) => bad(alloc, session),
@@ -169,7 +129,7 @@ pub(crate) fn at_ihave<'m, L: LookUps>(
 
 /// The answer to an article that is too long to be read.
 fn refused<'m>(alloc: Global, session: &Session, which: Reply) -> Result<Step<'m>, AllocError>
-    ensures { IfOk result (λ step. taken step ≡ served_step (answered (says (awaiting session.now waits.Line) (sent which)) 0)) }
+    ensures { IfOk result (λ step. said step ≡ said_served (answered (says (awaiting session.now waits.Line) (sent which)) 0)) }
 {
     Ok(served(ends(alloc, session, which, Awaits::Line)?))
 }
@@ -183,7 +143,7 @@ pub(crate) fn at_nothing<'m, L: LookUps>(
     message: &'m Message,
     moment: Moment,
 ) -> Result<Step<'m>, AllocError>
-    ensures { IfOk result (λ step. taken step
+    ensures { IfOk result (λ step. said step
         ≡ step_of (L.host_of spool.now) (L.changes spool.now) session.now moment waits.Nothing message.now) }
 {
     bad(alloc, session)

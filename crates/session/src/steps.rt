@@ -5,12 +5,14 @@ ghost use Rattle.std.specs.Prelude.{◌≡◌, IfOk, if◌then◌else◌};
 ghost use Rattle.model.specs.Answer as answers;
 ghost use Rattle.model.specs.Reads.{reads};
 ghost use Rattle.model.specs.declared.message.Mark.TheVariants as mark;
-ghost use Rattle.session.specs.Steps.{step_of, taken};
+ghost use Rattle.posting_commands.specs.Outcomes.{said};
+ghost use Rattle.session.specs.Steps.{step_of};
 
 use crate::Received;
-use crate::messages::{Step, at_ihave, at_line, at_nothing, at_post};
+use crate::messages::{at_ihave, at_line, at_nothing, at_post};
 use lookups::LookUps;
 use model::{Awaits, Moment, Session};
+use posting_commands::Step;
 use std::alloc::{AllocError, Global};
 
 /// Answers a message at the given moment. A line is a command (RFC 3977, section 3.1), and a block is the article that
@@ -24,9 +26,9 @@ pub(crate) fn step<'m, L: LookUps>(
     received: Received<'m>,
     moment: Moment,
 ) -> Result<Step<'m>, AllocError>
-    ensures answer { IfOk result (λ step. (taken step).answer ≡ answers.answer (L.host_of spool.now)
+    ensures answer { IfOk result (λ step. (said step).answered.answer ≡ answers.answer (L.host_of spool.now)
         (L.changes spool.now) session.now received.entry moment step.mark) }
-    ensures reads { IfOk result (λ step. step.reads ≡ reads (L.host_of spool.now) (L.changes spool.now) session.now received.entry moment
+    ensures reads { IfOk result (λ step. step.answered.reads ≡ reads (L.host_of spool.now) (L.changes spool.now) session.now received.entry moment
         step.mark) }
     ensures mark { IfOk result (λ step. step.mark ≡ if answers.is_long (L.host_of spool.now)
         (L.changes spool.now) session.now received.entry then mark.Long else mark.Served) }
@@ -42,7 +44,7 @@ fn by_kind<'m, L: LookUps>(
     received: Received<'m>,
     moment: Moment,
 ) -> Result<Step<'m>, AllocError>
-    ensures { IfOk result (λ step. taken step ≡ step_of (L.host_of spool.now) (L.changes spool.now) session.now moment session.now.awaits
+    ensures { IfOk result (λ step. said step ≡ step_of (L.host_of spool.now) (L.changes spool.now) session.now moment session.now.awaits
         received.entry) }
 {
     let message = received.message();

@@ -117,11 +117,11 @@ fn deliver(alloc: Global, spool: &mut Spool, sent: &Sent, awaits: Awaits) -> Fil
 
 // The answer to an article.
 fn said(served: &Served) -> Filed {
-    let Some(code) = code_of(served.reply.as_slice()) else {
+    let Some(code) = code_of(served.answered.answer.reply.as_slice()) else {
         return Filed::NotCalled;
     };
     match served.mark {
-        Mark::Served => Filed::Reply(code, served.reads),
+        Mark::Served => Filed::Reply(code, served.answered.reads),
         Mark::Full => Filed::Full(code),
         Mark::Long => Filed::Long(code),
         Mark::Stopped => Filed::NotCalled,

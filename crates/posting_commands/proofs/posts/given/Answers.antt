@@ -14,7 +14,7 @@ returns-then-not-has_id g c =
     let S = g.L.LookUps.changes c.args.spool.now in
     let text = c.args.article in
     let nothing = transfer_other S c.args.id.now text c.requires (c.has_id.ensures ∙ ap not c.if-not-has_id.true) in
-    subst (λ (a : Answered). IfOk c.answer.result (λ posted. said posted ≡ said_served a))
+    subst (λ (a : Answered). IfOk c.answer.result (λ step. said step ≡ said_served a))
     (refused_said S c.args.session.now transferred rejected text c.args.moment 0 (transfer_outcome S c.args.id.now text)
     (ap (told S) (sym nothing)))
     c.answer.ensures
@@ -24,7 +24,7 @@ returns-in-Refused g c =
     let S = g.L.LookUps.changes c.args.spool.now in
     let text = c.args.article in
     let what = transfer_filed S c.args.id.now text c.requires (c.has_id.ensures ∙ ap not c.if-not-has_id.false) in
-    subst (λ (a : Answered). IfOk c.answer-in-Refused.result (λ posted. said posted ≡ said_served a))
+    subst (λ (a : Answered). IfOk c.answer-in-Refused.result (λ step. said step ≡ said_served a))
     (refused_said S c.args.session.now transferred rejected text c.args.moment c.in-Refused.reads (transfer_outcome S c.args.id.now text)
     (sym c.in-Refused.is ∙ c.in_ok-reads.ensures ∙ ap (told S) (sym what)))
     c.answer-in-Refused.ensures
@@ -36,7 +36,7 @@ returns g c =
     let x = c.args.session.now in
     let t = c.args.moment in
     let what = transfer_filed S c.args.id.now text c.requires (c.has_id.ensures ∙ ap not c.if-not-has_id.false) in
-    subst (λ (a : Answered). IfOk c.answer-in-Accepted.result (λ posted. said posted ≡ said_served a))
+    subst (λ (a : Answered). IfOk c.answer-in-Accepted.result (λ step. said step ≡ said_served a))
     (ap (λ n. answered (then_line x transferred (Some (Article (record { text = text; groups = c.in-Accepted.groups; moment = t }))))
     (n + 1)) c.len-serial.ensures
     ∙ accepted_said S x transferred rejected text t c.in-Accepted.groups (transfer_outcome S c.args.id.now text) (sym c.in-Accepted.is

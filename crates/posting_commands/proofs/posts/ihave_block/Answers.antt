@@ -12,7 +12,7 @@ returns-in-Err g c =
     let S = g.L.LookUps.changes c.args.spool.now in
     let text = c.args.reading in
     let nothing = transfer_bad S c.args.id.now text c.in-Err.field-0 c.in-Err.ensures.bad in
-    subst (λ (a : Answered). IfOk c.answer.result (λ posted. said posted ≡ said_served a))
+    subst (λ (a : Answered). IfOk c.answer.result (λ step. said step ≡ said_served a))
     (refused_said S c.args.session.now transferred rejected text c.args.moment 0 (transfer_outcome S c.args.id.now text)
     (ap (told S) (sym nothing)))
     c.answer.ensures

@@ -14,7 +14,7 @@ returns-in-Ok g c =
     let none = (λ i. cause (Posted (sym c.host-host.ensures i) (sym c.len-serial.ensures i + 1)) text) ∙ c.in-Ok.ensures.no_cause in
     let same = ap (λ t. said_served (posted_by host S x c.args.moment t)) c.in-Ok.ensures.ok
     ∙ sym (said_ok host S x c.args.moment text none) in
-    subst (λ (s : Said). IfOk c.taken.result (λ posted. said posted ≡ s)) same c.taken.ensures
+    subst (λ (s : Said). IfOk c.taken.result (λ step. said step ≡ s)) same c.taken.ensures
 
 pub returns-in_ok-refusal-in-Err : goal.returns-in_ok-refusal-in-Err
 returns-in_ok-refusal-in-Err g c =

@@ -18,7 +18,7 @@ returns-in-Refused g c =
     let text = c.args.article in
     let what = spool_outcome (same_id S text) (groups_here S text) (closed_among closed.Refuse S (groups_of text)) in
     let stored = injected (g.L.LookUps.host_of c.args.spool.now) (length S + 1) c.args.moment text in
-    subst (λ (a : Answered). IfOk c.answer.result (λ posted. said posted ≡ said_served a))
+    subst (λ (a : Answered). IfOk c.answer.result (λ step. said step ≡ said_served a))
     (refused_said S c.args.session.now received not_accepted stored c.args.moment c.in-Refused.reads what (sym c.in-Refused.is
     ∙ c.in_ok-reads.ensures))
     c.answer.ensures
@@ -32,7 +32,7 @@ returns g c =
     let what = spool_outcome (same_id S text) (groups_here S text) (closed_among closed.Refuse S (groups_of text)) in
     let stored = injected (g.L.LookUps.host_of c.args.spool.now) (length S + 1) t text in
     let octets = c.in_ok-stored-in-Accepted.ensures ∙ (λ i. injected (c.host.ensures i) (c.requires.serial i) t text) in
-    subst (λ (a : Answered). IfOk c.answer-in-Accepted.result (λ posted. said posted ≡ said_served a))
+    subst (λ (a : Answered). IfOk c.answer-in-Accepted.result (λ step. said step ≡ said_served a))
     ((λ i. answered (then_line x received (Some (Article (record { text = octets i; groups = c.in-Accepted.groups; moment = t }))))
     (c.requires.serial i))
     ∙ accepted_said S x received not_accepted stored t c.in-Accepted.groups what (sym c.in-Accepted.is ∙ c.in_ok-reads.ensures))
