@@ -1,5 +1,5 @@
 use Rattle.std.proofs.Common.{◌≡◌, ◌+◌, ◌<◌, ◌^◌, ap, sym, ◌∙◌, subst, arith, length}
-use Rattle.std.specs.Prelude.{Some, false, true, option_map}
+use Rattle.std.specs.Prelude.{Some, true, option_map}
 use Rattle.model.specs.Answer.{answer}
 use Rattle.model.specs.declared.session.Answer.{Answer}
 use Rattle.posting_commands.specs.Accepted.{change_of}
@@ -40,7 +40,7 @@ returns-in-Err-Full-clause-ok g c =
     let makes : (answer host S x m t k).change ≡ Some its = ap (λ (a : Answer). a.change) (sym c.in_ok-answered.ensures.answer)
     ∙ ap (option_map change_of) c.in-Some.is in
     let room : lacks its ≡ true = c.in-Err-Full.ensures.0 c.in-Err-Full.field-0-is in
-    let said = c.turned_away.ensures ∙ ap full_served c.in_ok-full-in-Err-Full.ensures in
+    let said = ap full_served c.in_ok-full-in-Err-Full.ensures in
     subst (λ (v : Served). IsServed host S lacks adds (c.file.new.spool ≡ s) x m t v) (sym said)
     (is_full_served host S lacks adds (c.file.new.spool ≡ s) x m t k its c.in_ok-answered.ensures.mark makes room
     c.in-Err-Full.ensures.1)
