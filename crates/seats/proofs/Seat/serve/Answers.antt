@@ -1,14 +1,11 @@
-use Rattle.std.proofs.Common.{◌≡◌, ◌++◌, ◌∷◌, [], ap, refl, sym, subst, ◌∙◌}
-use Rattle.std.specs.Prelude.{max, is_none}
-use Rattle.outbox.specs.Queue.{Held, last_dependency}
-use Rattle.model.specs.Reads.{reads}
+use Rattle.std.proofs.Common.{◌≡◌, ap, refl, sym, subst, ◌∙◌}
 use Rattle.model.specs.Service.{mode_of}
 use Rattle.model.specs.Spool.{Spool}
 use Rattle.model.specs.Stream.{Octets}
 use Rattle.model.specs.declared.session.Session.{Session}
 use Rattle.seats.specs.Seats.{Seat, answered_by}
 use Rattle.seats.specs.Serving.{SeatServed}
-use Rattle.seats.proofs.SeatLaws.{adopted, answered_is}
+use Rattle.seats.proofs.SeatLaws.{adopted}
 use Rattle.seats.proofs.Seat.serve.Goals as goal
 
 pub returns-clause-ok : goal.returns-clause-ok

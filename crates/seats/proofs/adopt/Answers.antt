@@ -1,2 +1,0 @@
-use Rattle.std.proofs.Common.{◌∙◌, ap, sym, rules}
-use Rattle.seats.proofs.adopt.Goals as goal
