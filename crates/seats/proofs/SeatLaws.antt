@@ -1,6 +1,6 @@
 -- A session after its reply.
-use Rattle.std.proofs.Common.{◌≡◌, ℕ, List, [], ◌∷◌, ◌++◌, refl, ap, sym, ◌∙◌}
-use Rattle.std.specs.Prelude.{Bool, true, false, not, max, Option, Some, None, is_none, is_some}
+use Rattle.std.proofs.Common.{◌≡◌, ℕ, List, [], ◌∷◌, ◌++◌, refl, ◌∙◌}
+use Rattle.std.specs.Prelude.{max, is_none}
 use Rattle.model.specs.Stream.{Octets}
 use Rattle.model.specs.Spool.{Spool}
 use Rattle.model.specs.Answer.{answer}
@@ -19,22 +19,6 @@ pub stopped_reads : (host : Octets) (S : Spool) (x : Session) (m : Message) (t :
 unfolding reads
 stopped_reads host S x m t = refl
 
--- a session with one output more, as the answer leaves it
-pub answered_is : (host : Octets) (S : Spool) (m : Message) (t : ℕ) (mark : Mark) (before after : Seat) (octets : List ℕ) (dependency : ℕ)
-    → after.number ≡ before.number → after.given ≡ before.given
-    → after.session ≡ (answer host S before.session m t mark).next → octets ≡ (answer host S before.session m t mark).reply
-    → dependency ≡ max (last_dependency before.given before.held) (reads host S before.session m t mark)
-    → after.held ≡ before.held ++ record { octets = octets; dependency = dependency; ends = is_none (mode_of after.session.awaits) } ∷ []
-    → after ≡ answered_by host S m t mark before
-answered_is host S m t mark before after octets dependency number given session reply depends held =
-    λ i. record {
-      number = number i;
-      session = session i;
-      given = given i;
-      held = (held ∙ (λ j. let h : Held =
-          record { octets = reply j; dependency = depends j; ends = is_none (mode_of (session j).awaits) } in before.held ++ h ∷ [])) i;
-    }
-
 -- a session that goes on as it was answered, over a queue in which room was made first
 pub adopted : (host : Octets) (S : Spool) (m : Message) (t : ℕ) (mark : Mark) (before after : Seat) (a : Answered) {given : ℕ}
     {held : List Held}
@@ -48,17 +32,13 @@ pub adopted : (host : Octets) (S : Spool) (m : Message) (t : ℕ) (mark : Mark) 
     → a.reads ≡ reads host S before.session m t mark
     → after ≡ answered_by host S m t mark before
 adopted host S m t mark before after a number session was_given was_held now_given now_held reply next depends =
-    answered_is host S m t mark before after a.answer.reply (max (last_dependency before.given before.held) a.reads) number
-    (now_given ∙ was_given) (session ∙ next) reply (ap (max (last_dependency before.given before.held)) depends)
-    (now_held ∙ (λ i. let h : Held = record {
-      octets = a.answer.reply;
-      dependency = max (last_dependency (was_given i) (was_held i)) a.reads;
-      ends = is_none (mode_of (sym session i).awaits);
-    } in was_held i ++ h ∷ []))
-
--- the answer of `is_none`
-pub none_by : {T : Type 0} (b : Bool) (o : Option T) → not b ≡ is_some o → b ≡ is_none o
-none_by true None is = refl
-none_by false None is = absurd (cc is)
-none_by true (Some x) is = absurd (cc is)
-none_by false (Some x) is = refl
+    λ i. record {
+      number = number i;
+      session = (session ∙ next) i;
+      given = (now_given ∙ was_given) i;
+      held = (now_held ∙ (λ j. let h : Held = record {
+        octets = reply j;
+        dependency = max (last_dependency (was_given j) (was_held j)) (depends j);
+        ends = is_none (mode_of (next j).awaits);
+      } in was_held j ++ h ∷ [])) i;
+    }
