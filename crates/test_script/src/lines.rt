@@ -112,10 +112,10 @@ fn lines_with_a_group(rt: HostRuntime) {
 }
 
 /// Whether the articles of the group x.a up to this number are removed.
-fn is_expiry(alloc: Global, line: &str, wanted: u32) -> bool {
-    match parse(alloc, line.as_bytes()) {
-        Ok(Line::Expire { name, number }) => {
-            name.as_slice() == b"x.a".as_slice() && number == wanted
+fn is_expiry(line: &Line, wanted: u32) -> bool {
+    match line {
+        Line::Expire { name, number } => {
+            name.as_slice() == b"x.a".as_slice() && *number == wanted
         }
         _ => false,
     }
@@ -133,7 +133,11 @@ fn lines_with_an_expiry(rt: HostRuntime) {
         ("expire x.a 4294967297", 0),
         ("expire x.a 9999999999999999", 0),
     ] {
-        assert!(rt; is_expiry(rt.alloc(), line, number), "{line}");
+        let is_so = match parse(rt.alloc(), line.as_bytes()) {
+            Ok(read) => is_expiry(&read, number),
+            Err(_) => false,
+        };
+        assert!(rt; is_so, "{line}");
     }
 }
 
@@ -207,16 +211,23 @@ fn bad() -> &'static [&'static [u8]] {
 /// What a line without text asks for, or why it is not read.
 fn shown(alloc: Global, line: &[u8]) -> Result<String, Fail> {
     match parse(alloc, line) {
-        Ok(Line::Leave(session)) => Ok(format!(in alloc; "Leave({session})")?),
-        Ok(Line::Exec { session, moment }) => {
+        Ok(read) => asked(alloc, &read),
+        Err(error) => Ok(format!(in alloc; "{error}")?),
+    }
+}
+
+/// What a line without text asks for.
+fn asked(alloc: Global, line: &Line) -> Result<String, Fail> {
+    match line {
+        Line::Leave(session) => Ok(format!(in alloc; "Leave({session})")?),
+        Line::Exec { session, moment } => {
             let seconds = moment.seconds();
             Ok(format!(in alloc; "Exec({session}, {seconds})")?)
         }
-        Ok(Line::FailAt(call)) => Ok(format!(in alloc; "FailAt({call})")?),
-        Ok(Line::FailKind(kind, call)) => Ok(format!(in alloc; "FailKind({kind:?}, {call})")?),
-        Ok(Line::Crash(pick)) => Ok(format!(in alloc; "Crash({pick:?})")?),
-        Ok(line) => Ok(String::from_str(alloc, word_of(&line))?),
-        Err(error) => Ok(format!(in alloc; "{error}")?),
+        Line::FailAt(call) => Ok(format!(in alloc; "FailAt({call})")?),
+        Line::FailKind(kind, call) => Ok(format!(in alloc; "FailKind({kind:?}, {call})")?),
+        Line::Crash(pick) => Ok(format!(in alloc; "Crash({pick:?})")?),
+        line => Ok(String::from_str(alloc, word_of(line))?),
     }
 }
 
