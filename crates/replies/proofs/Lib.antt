@@ -1,1 +1,2 @@
+mod Dots
 pub mod Pieced

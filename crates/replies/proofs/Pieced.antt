@@ -1,10 +1,9 @@
 -- A text that is stuffed octet by octet is stuffed by lines.
-use Rattle.std.proofs.Common.{◌≡◌, ℕ, ◌+◌, ◌-◌, ◌<◌, ◌≤◌, List, [], ◌∷◌, ◌++◌, length, get_or, take, drop, refl, sym, ◌∙◌, ap, arith, Bool}
-use Rattle.std.proofs.Common.{true, false, cond, append_assoc, length-drop}
+use Rattle.std.proofs.Common.{◌≡◌, ℕ, List, [], ◌∷◌, ◌++◌, refl, sym, ◌∙◌, ap, Bool}
+use Rattle.std.proofs.Common.{true, false, cond, append_assoc}
 use Rattle.std.specs.Prelude.{bytes_eq, flat_map, ◌&&◌, ◌==◌}
 use Rattle.std.specs.List.{onto_first}
 use Rattle.std.proofs.lemmas.Bool.{and_parts, eq-eqb, eqb-true}
-use Rattle.std.proofs.lemmas.List.{append-nil, get_or-drop, take_more}
 use Rattle.std.proofs.lemmas.Slice.Eq.{bytes_eq-Decides}
 use Rattle.model.specs.Stream.{Octets, crlf, dot_line, lines_after, stuffed_line}
 use Rattle.replies.specs.Pieces.{PiecesFollow, PiecesMakeTheText}
@@ -26,64 +25,6 @@ state_cut s (x ∷ piece) later = state_cut (step s x) piece later
 
 pub pieces_follow : PiecesFollow
 pieces_follow = record { sent = sent_cut; state = state_cut }
-
--- ---- one octet more
-
-more_sent : (s : Stuffing) (piece : Octets) (i : ℕ) → i < length piece
-    → stuffed_from s (take (i + 1) piece) ≡ stuffed_from s (take i piece) ++ dotted (after s (take i piece)) (get_or piece i 0)
-more_sent s piece i low =
-    ap (stuffed_from s) (take_more piece i 0 low) ∙ sent_cut s (take i piece) (get_or piece i 0 ∷ [])
-    ∙ ap (λ (os : Octets). stuffed_from s (take i piece) ++ os) (append-nil (dotted (after s (take i piece)) (get_or piece i 0)))
-
-pub more_state : (s : Stuffing) (piece : Octets) (i : ℕ) (t : Stuffing) → i < length piece → t ≡ after s (take i piece)
-    → step t (get_or piece i 0) ≡ after s (take (i + 1) piece)
-more_state s piece i t low is =
-    ap (λ (u : Stuffing). step u (get_or piece i 0)) is
-    ∙ sym (ap (after s) (take_more piece i 0 low) ∙ state_cut s (take i piece) (get_or piece i 0 ∷ []))
-
--- what waits to be appended grows
-waits_more : (piece : Octets) (start i : ℕ) → start ≤ i → i < length piece
-    → take (i + 1 - start) (drop start piece) ≡ take (i - start) (drop start piece) ++ get_or piece i 0 ∷ []
-waits_more piece start i order low =
-    let size : i + 1 - start ≡ i - start + 1 = omega arith in
-    let place : start + (i - start) ≡ i = omega arith in
-    ap (λ (n : ℕ). take n (drop start piece)) size
-    ∙ take_more (drop start piece) (i - start) 0 (omega (arith, length-drop start piece))
-    ∙ ap (λ (x : ℕ). take (i - start) (drop start piece) ++ x ∷ []) (get_or-drop start piece (i - start) 0
-    ∙ ap (λ (n : ℕ). get_or piece n 0) place)
-
-module _ (s t : Stuffing) (piece old reply : Octets) (start i : ℕ) (low : i < length piece) (order : start ≤ i)
-    (sent : reply ++ take (i - start) (drop start piece) ≡ old ++ stuffed_from s (take i piece))
-    (state_is : t ≡ after s (take i piece)) where
-  on : old ++ stuffed_from s (take (i + 1) piece) ≡ (reply ++ take (i - start) (drop start piece)) ++ dotted t (get_or piece i 0)
-  on =
-      ap (λ (os : Octets). old ++ os) (more_sent s piece i low)
-      ∙ sym (append_assoc old (stuffed_from s (take i piece)) (dotted (after s (take i piece)) (get_or piece i 0)))
-      ∙ ap (λ (os : Octets). os ++ dotted (after s (take i piece)) (get_or piece i 0)) (sym sent)
-      ∙ ap (λ (u : Stuffing). (reply ++ take (i - start) (drop start piece)) ++ dotted u (get_or piece i 0)) (sym state_is)
-
-  pub plain_more : (t.fresh && (get_or piece i 0 == 46)) ≡ false
-      → reply ++ take (i + 1 - start) (drop start piece) ≡ old ++ stuffed_from s (take (i + 1) piece)
-  plain_more plain =
-      ap (λ (os : Octets). reply ++ os) (waits_more piece start i order low)
-      ∙ sym (append_assoc reply (take (i - start) (drop start piece)) (get_or piece i 0 ∷ []))
-      ∙ ap (λ (b : Bool). (reply ++ take (i - start) (drop start piece)) ++ cond b (46 ∷ get_or piece i 0 ∷ []) (get_or piece i 0 ∷ []))
-      (sym plain)
-      ∙ sym on
-
-  pub dot_more : (new : Octets) → (t.fresh && (get_or piece i 0 == 46)) ≡ true
-      → new ≡ reply ++ (take (i - start) (drop start piece) ++ 46 ∷ [])
-      → new ++ take (i + 1 - i) (drop i piece) ≡ old ++ stuffed_from s (take (i + 1) piece)
-  dot_more new doubled is =
-      let none : i - i ≡ 0 = omega arith in
-      let waits : take (i + 1 - i) (drop i piece) ≡ get_or piece i 0 ∷ [] = waits_more piece i i (omega arith) low
-      ∙ ap (λ (n : ℕ). take n (drop i piece) ++ get_or piece i 0 ∷ []) none in
-      (λ j. is j ++ waits j)
-      ∙ ap (λ (os : Octets). os ++ get_or piece i 0 ∷ []) (sym (append_assoc reply (take (i - start) (drop start piece)) (46 ∷ [])))
-      ∙ append_assoc (reply ++ take (i - start) (drop start piece)) (46 ∷ []) (get_or piece i 0 ∷ [])
-      ∙ ap (λ (b : Bool). (reply ++ take (i - start) (drop start piece)) ++ cond b (46 ∷ get_or piece i 0 ∷ []) (get_or piece i 0 ∷ []))
-      (sym doubled)
-      ∙ sym on
 
 -- ---- by lines
 

@@ -1,8 +1,10 @@
 //! Dot-stuffing of a text that arrives in pieces (RFC 3977, section 3.1.1).
 
-ghost use Rattle.std.specs.Prelude.{◌≡◌, ◌++◌, ◌∷◌, [], ◌&&◌, ◌==◌, true, false, OnOk};
+ghost use Rattle.std.specs.Prelude.{◌≡◌, ◌++◌, true, false, OnOk};
 ghost use Rattle.replies.specs.Pieces.{PiecesFollow, PiecesMakeTheText};
+ghost use Rattle.replies.specs.Stuffing.{dotted};
 
+use memchr::memchr;
 use std::alloc::AllocError;
 
 /// The state of the stuffing after the pieces so far.
@@ -33,26 +35,29 @@ impl Stuffing {
         ensures sent { OnOk result (reply.new.items ≡ reply.old.items ++ stuffed_from self.old piece.now) }
         ensures state { OnOk result (self.new ≡ after self.old piece.now) }
     {
-        let mut start = 0;
         let mut state = *self;
-        for i in 0..piece.len() {
-            let octet = piece[i];
-            if state.doubles(octet) {
-                push_with_dot(reply, &piece[start..i])?;
-                start = i;
-            }
-            state = state.next(octet);
+        let mut rest = piece;
+        while let Some(place) = memchr(b'.', rest) {
+            let (plain, dot) = rest.split_at(place);
+            let before = state.past(plain);
+            push_to_dot(reply, plain, before)?;
+            state = before.next(b'.');
+            rest = &dot[1..];
         }
-        reply.extend_from_slice(&piece[start..])?;
-        *self = state;
+        reply.extend_from_slice(rest)?;
+        *self = state.past(rest);
         Ok(())
     }
 
-    /// Whether the next octet is a dot that begins a line.
-    fn doubles(self, octet: u8) -> bool
-        ensures { result ≡ (self.fresh && (octet == 46)) }
+    /// The state after some more octets. The last two decide it, so the others are not looked at.
+    fn past(self, octets: &[u8]) -> Stuffing
+        ensures { result ≡ after self octets.now }
     {
-        self.fresh && octet == b'.'
+        match octets {
+            [] => self,
+            [octet] => self.next(*octet),
+            [.., before, last] => self.next(*before).next(*last),
+        }
     }
 
     /// The state after one more octet.
@@ -66,11 +71,14 @@ impl Stuffing {
     }
 }
 
-/// Appends octets, and a dot after them.
-fn push_with_dot(reply: &mut Vec<u8>, octets: &[u8]) -> Result<(), AllocError>
-    ensures { OnOk result (reply.new.items ≡ reply.old.items ++ (octets.now ++ 46 ∷ [])) }
+/// Appends octets, and the dot after them, before which the state is this one.
+fn push_to_dot(reply: &mut Vec<u8>, octets: &[u8], before: Stuffing) -> Result<(), AllocError>
+    ensures { OnOk result (reply.new.items ≡ reply.old.items ++ (octets.now ++ dotted before 46)) }
 {
     reply.extend_from_slice(octets)?;
+    if before.fresh {
+        reply.push(b'.')?;
+    }
     reply.push(b'.')?;
     Ok(())
 }

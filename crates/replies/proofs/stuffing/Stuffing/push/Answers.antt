@@ -1,33 +1,25 @@
-use Rattle.std.proofs.lemmas.Grind.{common_steps}
-use Rattle.std.proofs.Common.{◌<◌, ◌+◌, ◌-◌, ◌++◌, ◌∙◌, sym, arith, length, take, drop}
-use Rattle.replies.proofs.Pieced.{dot_more, more_state, plain_more}
+use Rattle.std.proofs.Common.{◌∙◌, ◌++◌, ap, sym}
+use Rattle.std.proofs.lemmas.List.{take_rest}
+use Rattle.replies.specs.Stuffing.{after}
+use Rattle.replies.proofs.Dots.{dot_more, dot_past, no_dot}
 use Rattle.replies.proofs.stuffing.Stuffing.push.Goals as goal
-use Rattle.replies.proofs.stuffing.Stuffing.push.Goals.{then-doubles+in_ok-push_with_dot, else-doubles}
 
-pub loop-i-preserved : goal.loop-i-preserved
-loop-i-preserved c =
-    let i = c.loop-i.i in
-    let piece = c.args.piece.now in
-    let low : i < length piece = omega arith in
+pub loop-place-preserved : goal.loop-place-preserved
+loop-place-preserved c =
+    let rest = c.loop-place.rest.now in
+    let found = c.in-Some.ensures in
+    let back = c.split_at.result.1.now in
     record {
-      order = elim c.if-doubles.branch [
-        | then-doubles+in_ok-push_with_dot w ↦ let at = w.start-is in omega (arith, at)
-        | else-doubles w ↦ let at = w.start-is in omega (arith, at, c.loop-i.invariant.order)
-      ];
-      sent = elim c.if-doubles.branch [
-        | then-doubles+in_ok-push_with_dot w ↦
-            (λ j. (w.reply-is j).items ++ take (i + 1 - w.start-is j) (drop (w.start-is j) piece))
-            ∙ dot_more c.args.self.now c.loop-i.state piece c.args.reply.now.items c.loop-i.reply.items c.loop-i.start i low
-            c.loop-i.invariant.order c.loop-i.invariant.sent c.loop-i.invariant.state
-            w.push_with_dot.new.reply.items (sym c.doubles.ensures ∙ w.if-doubles.true) w.in_ok-push_with_dot.ensures
-        | else-doubles w ↦
-            (λ j. (w.reply-is j).items ++ take (i + 1 - w.start-is j) (drop (w.start-is j) piece))
-            ∙ plain_more c.args.self.now c.loop-i.state piece c.args.reply.now.items c.loop-i.reply.items c.loop-i.start i low
-            c.loop-i.invariant.order c.loop-i.invariant.sent c.loop-i.invariant.state
-            (sym c.doubles.ensures ∙ w.if-doubles.false)
-      ];
-      state = c.next-state.ensures ∙ more_state c.args.self.now piece i c.loop-i.state low c.loop-i.invariant.state;
+      sent = dot_more c.loop-place.state c.past-before.result c.next-state.result rest c.split_at.result.0.now back _ c.in-Some.place found.0
+          found.1 c.split_at.ensures.front c.split_at.ensures.back (take_rest back 1) c.past-before.ensures c.next-state.ensures
+          c.loop-place.reply.items c.push_to_dot.new.reply.items _ c.in_ok-push_to_dot.ensures c.loop-place.invariant.sent;
+      state = dot_past c.loop-place.state c.past-before.result c.next-state.result rest c.split_at.result.0.now back _ c.in-Some.place
+          found.0 found.1 c.split_at.ensures.front c.split_at.ensures.back (take_rest back 1) c.past-before.ensures c.next-state.ensures
+          (after c.args.self.now c.args.piece.now) c.loop-place.invariant.state;
     }
 
-pub returns-clause-state : goal.returns-clause-state
-returns-clause-state c = grind (arith, common_steps)
+pub returns-clause-sent : goal.returns-clause-sent
+returns-clause-sent c =
+    c.in_ok-extend_from_slice.ensures.items
+    ∙ ap (λ os. c.loop-place.reply.items ++ os) (sym (no_dot c.loop-place.state c.loop-place.rest.now c.in_default.ensures))
+    ∙ c.loop-place.invariant.sent

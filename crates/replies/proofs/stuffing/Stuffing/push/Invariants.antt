@@ -1,10 +1,13 @@
-use Rattle.std.proofs.Common.{◌≡◌, ◌≤◌, ◌-◌, ◌++◌, take, drop}
+use Rattle.std.proofs.Common.{◌≡◌, ◌++◌, length}
 use Rattle.replies.specs.Stuffing.{after, stuffed_from}
 use Rattle.replies.proofs.stuffing.Stuffing.push.Given as goal
 
-abbrev pub invariant-loop-i : goal.invariant-loop-i
-invariant-loop-i l = record {
-  order : l.start ≤ l.i;
-  sent : l.reply.items ++ take (l.i - l.start) (drop l.start l.piece) ≡ l.initial.reply.items ++ stuffed_from l.self (take l.i l.piece);
-  state : l.state ≡ after l.self (take l.i l.piece);
+-- what was sent, and what the rest sends
+abbrev pub invariant-loop-place : goal.invariant-loop-place
+invariant-loop-place l = record {
+  sent : l.reply.items ++ stuffed_from l.state l.rest ≡ l.initial.reply.items ++ stuffed_from l.self l.piece;
+  state : after l.state l.rest ≡ after l.self l.piece;
 }
+
+abbrev pub decreases-loop-place : goal.decreases-loop-place
+decreases-loop-place l = length l.rest
