@@ -1,5 +1,5 @@
 -- Dot-stuffing octet by octet: what is sent for an octet depends on the two octets before it.
-use Rattle.std.specs.Prelude.{ℕ, ◌&&◌, ◌==◌, if◌then◌else◌, [], ◌∷◌, ◌++◌}
+use Rattle.std.specs.Prelude.{◌≡◌, ℕ, ◌+◌, ◌<◌, ◌&&◌, ◌==◌, false, if◌then◌else◌, [], ◌∷◌, ◌++◌, length, take, drop}
 use Rattle.model.specs.Stream.{Octets}
 use Rattle.replies.specs.declared.stuffing.Stuffing.{Stuffing}
 
@@ -20,3 +20,13 @@ dotted s x = if s.fresh && (x == 46) then 46 ∷ x ∷ [] else x ∷ []
 abbrev pub stuffed_from : Stuffing → Octets → Octets
 stuffed_from s [] = []
 stuffed_from s (x ∷ rest) = dotted s x ++ stuffed_from (step s x) rest
+
+-- the state after an octet inside a line that is no CR
+abbrev pub inside : Stuffing
+inside = record { fresh = false; after_cr = false }
+
+-- the first dot that begins a line: the octets up to it are sent as they are, and so is it, and then another dot
+pub record IsFirstDoubled (s : Stuffing) (octets : Octets) (at : ℕ) : Type 0 where
+  pub within : at < length octets
+  pub sent : stuffed_from s octets ≡ take (at + 1) octets ++ (46 ∷ stuffed_from inside (drop (at + 1) octets))
+  pub state : after s octets ≡ after inside (drop (at + 1) octets)

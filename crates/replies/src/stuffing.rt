@@ -1,11 +1,14 @@
 //! Dot-stuffing of a text that arrives in pieces (RFC 3977, section 3.1.1).
 
-ghost use Rattle.std.specs.Prelude.{◌≡◌, ◌++◌, true, false, OnOk};
+ghost use Rattle.std.specs.Prelude.{◌≡◌, ◌++◌, true, false, MatchOption, OnOk};
+ghost use Rattle.memchr.specs.Find.{IsFirstByte, is_byte};
 ghost use Rattle.replies.specs.Pieces.{PiecesFollow, PiecesMakeTheText};
-ghost use Rattle.replies.specs.Stuffing.{dotted};
 
 use memchr::memchr;
 use std::alloc::AllocError;
+
+/// The number of octets that are looked at one by one before a search by vectors, which takes as long as these.
+const NEAR: usize = 8;
 
 /// The state of the stuffing after the pieces so far.
 #[derive(Clone, Copy)]
@@ -17,7 +20,7 @@ pub struct Stuffing {
 }
 
 impl Stuffing {
-    ghost use Rattle.replies.specs.Stuffing.{after, step, stuffed_from};
+    ghost use Rattle.replies.specs.Stuffing.{IsFirstDoubled, after, step, stuffed_from};
 
     /// The state before the first piece of a text.
     pub fn new() -> Stuffing
@@ -37,16 +40,36 @@ impl Stuffing {
     {
         let mut state = *self;
         let mut rest = piece;
-        while let Some(place) = memchr(b'.', rest) {
-            let (plain, dot) = rest.split_at(place);
-            let before = state.past(plain);
-            push_to_dot(reply, plain, before)?;
-            state = before.next(b'.');
-            rest = &dot[1..];
+        while let Some(place) = state.line_dot(rest) {
+            let (sent, later) = rest.split_at(place + 1);
+            reply.extend_from_slice(sent)?;
+            reply.push(b'.')?;
+            state = Stuffing {
+                fresh: false,
+                after_cr: false,
+            };
+            rest = later;
         }
         reply.extend_from_slice(rest)?;
         *self = state.past(rest);
         Ok(())
+    }
+
+    /// The place of the first dot that begins a line. It looks for a dot, and goes on at the next line where that one
+    /// stands inside a line: so a line takes three searches at most, however many dots it has.
+    fn line_dot(self, octets: &[u8]) -> Option<usize>
+        ensures { MatchOption result (stuffed_from self octets.now ≡ octets.now) (λ at. IsFirstDoubled self octets.now at) }
+    {
+        let mut at = 0;
+        while let Some(ahead) = first_place(b'.', &octets[at..]) {
+            let dot = at + ahead;
+            if self.past(&octets[..dot]).fresh {
+                return Some(dot);
+            }
+            let ending = first_place(b'\n', &octets[dot..])?;
+            at = dot + ending + 1;
+        }
+        None
     }
 
     /// The state after some more octets. The last two decide it, so the others are not looked at.
@@ -71,16 +94,18 @@ impl Stuffing {
     }
 }
 
-/// Appends octets, and the dot after them, before which the state is this one.
-fn push_to_dot(reply: &mut Vec<u8>, octets: &[u8], before: Stuffing) -> Result<(), AllocError>
-    ensures { OnOk result (reply.new.items ≡ reply.old.items ++ (octets.now ++ dotted before 46)) }
+/// The place of the first such octet. It is often near.
+fn first_place(octet: u8, octets: &[u8]) -> Option<usize>
+    ensures { IsFirstByte (is_byte octet) octets.now result }
 {
-    reply.extend_from_slice(octets)?;
-    if before.fresh {
-        reply.push(b'.')?;
+    let near = octets.len().min(NEAR);
+    for place in 0..near {
+        if octets[place] == octet {
+            return Some(place);
+        }
     }
-    reply.push(b'.')?;
-    Ok(())
+    let far = memchr(octet, &octets[near..])?;
+    Some(near + far)
 }
 
 /// Pieces that are pushed one after the other give the block that sends their text, except the line that ends it.

@@ -1,4 +1,4 @@
-use Rattle.std.proofs.Common.{◌≡◌, ◌++◌, length}
+use Rattle.std.proofs.Common.{◌≡◌, ◌++◌, ◌≤◌, length}
 use Rattle.replies.specs.Stuffing.{after, stuffed_from}
 use Rattle.replies.proofs.stuffing.Stuffing.push.Given as goal
 
@@ -7,6 +7,7 @@ abbrev pub invariant-loop-place : goal.invariant-loop-place
 invariant-loop-place l = record {
   sent : l.reply.items ++ stuffed_from l.state l.rest ≡ l.initial.reply.items ++ stuffed_from l.self l.piece;
   state : after l.state l.rest ≡ after l.self l.piece;
+  short : length l.rest ≤ length l.piece;
 }
 
 abbrev pub decreases-loop-place : goal.decreases-loop-place
