@@ -1,6 +1,6 @@
 //! The groups in a list, and their lines.
 
-ghost use Rattle.std.specs.Prelude.{◌≡◌, ◌++◌, ◌∷◌, IfOk, IfSome, IsTrue, OnOk, decimal};
+ghost use Rattle.std.specs.Prelude.{◌≡◌, ◌++◌, IfOk, IfSome, IsTrue, OnOk};
 ghost use Rattle.model.specs.Answer.{is_listed};
 ghost use Rattle.model.specs.Names.{is_wildmat};
 ghost use Rattle.model.specs.Spool.{NewsGroup};
@@ -11,7 +11,7 @@ ghost use Rattle.listing_commands.specs.Lists.{IsPick, is_picked, last_of, later
 use lookups::{GroupView, LookUps, is_since};
 use model::Text;
 use names::wildmat_matches;
-use replies::push_number;
+use replies::push_spaced;
 use std::alloc::AllocError;
 
 /// Which groups are in a list.
@@ -53,14 +53,6 @@ fn is_picked(pick: &Pick<'_>, group: &GroupView<'_>) -> bool
         Pick::Matching(wildmat) => wildmat_matches(wildmat, group.name),
         Pick::Since(from) => is_since(*from, group.moment),
     }
-}
-
-/// Appends a space and a number.
-fn push_spaced(reply: &mut Vec<u8>, number: u64) -> Result<(), AllocError>
-    ensures { OnOk result (reply.new.items ≡ reply.old.items ++ 32 ∷ decimal number) }
-{
-    reply.push(b' ')?;
-    push_number(reply, number)
 }
 
 /// Appends the rest of a group's line after its name, with CRLF.

@@ -1,6 +1,6 @@
 //! GROUP and LISTGROUP.
 
-ghost use Rattle.std.specs.Prelude.{◌≡◌, ◌∷◌, decimal, ◌+◌, ◌-◌, ◌++◌, ◌≤◌, IfOk, OnOk};
+ghost use Rattle.std.specs.Prelude.{◌≡◌, ◌+◌, ◌-◌, ◌++◌, ◌≤◌, IfOk, OnOk};
 ghost use Rattle.model.specs.Answer as answers;
 ghost use Rattle.model.specs.Reads.{group_reads, numbers_reads, selected_reads};
 ghost use Rattle.model.specs.Spool.{contents, contents_if_here, last_naming};
@@ -11,7 +11,7 @@ ghost use Rattle.reading_commands.specs.Words.{counted};
 use crate::ranges::{lines_bound, numbers_in, push_numbers};
 use lookups::{Counts, LookUps, counts_of, find_group};
 use model::{Range, Session, Text};
-use replies::{Answered, Reply, answer, push_end, push_line, push_number, says_line, selecting};
+use replies::{Answered, Reply, answer, push_end, push_line, push_spaced, says_line, selecting};
 use std::alloc::{AllocError, Global};
 
 /// The most octets that a reply has besides the group's name and the lines of numbers: `211`, three numbers, ` list
@@ -34,14 +34,6 @@ fn copied(alloc: Global, name: &[u8]) -> Result<Text, AllocError>
     ensures { IfOk result (λ copy. copy ≡ name.now) }
 {
     Ok(Text::new(name.to_vec(alloc)?))
-}
-
-/// Appends a space and a number.
-fn push_spaced(reply: &mut Vec<u8>, number: u64) -> Result<(), AllocError>
-    ensures { OnOk result (reply.new.items ≡ reply.old.items ++ 32 ∷ decimal number) }
-{
-    reply.extend_from_slice(b" ")?;
-    push_number(reply, number)
 }
 
 /// Appends `211`, the count, the lowest and the highest number, and the name.

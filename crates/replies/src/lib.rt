@@ -14,5 +14,6 @@ pub use sessions::{
 pub use stuffing::{Stuffing, pieces_make_the_text};
 pub use texts::{Block, Heading, Reply};
 pub use writing::{
-    push_end, push_greeting, push_heading, push_line, push_number, push_reply, push_stuffed,
+    push_end, push_greeting, push_heading, push_line, push_number, push_reply, push_spaced,
+    push_stuffed,
 };

@@ -1,7 +1,7 @@
 //! Functions that append to a reply. Each is refused only for want of memory; then the reply may hold any octets, and
 //! the caller discards it.
 
-ghost use Rattle.std.specs.Prelude.{◌≡◌, ◌++◌, OnOk, decimal};
+ghost use Rattle.std.specs.Prelude.{◌≡◌, ◌∷◌, ◌++◌, OnOk, decimal};
 ghost use Rattle.model.specs.Stream.{dot_line, line, stuffed_line};
 ghost use Rattle.model.specs.Replies.{greeting};
 ghost use Rattle.replies.specs.Replies.{headed, sent};
@@ -45,6 +45,14 @@ pub fn push_number(reply: &mut Vec<u8>, number: u64) -> Result<(), AllocError>
 {
     let mut buffer = Buffer::new();
     reply.extend_from_slice(buffer.format(number).as_bytes())
+}
+
+/// Appends a space and a number.
+pub fn push_spaced(reply: &mut Vec<u8>, number: u64) -> Result<(), AllocError>
+    ensures { OnOk result (reply.new.items ≡ reply.old.items ++ 32 ∷ decimal number) }
+{
+    reply.push(b' ')?;
+    push_number(reply, number)
 }
 
 /// Appends a one-line reply.
