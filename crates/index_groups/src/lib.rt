@@ -11,4 +11,4 @@ mod views;
 pub use filing::{expire_one, place_of, push_lines, reserve_lines};
 pub use group::Group;
 pub use keys::Keys;
-pub use marking::mark_groups;
+pub use marking::{mark_groups, matching_from};

@@ -1,4 +1,5 @@
-//! Marks the articles that are in groups whose names a wildmat matches. The name of each group is matched once.
+//! Marks the articles that are in groups whose names a wildmat matches. The name of each group is matched once, and that
+//! of the first one that the wildmat matches twice.
 
 ghost use Rattle.std.specs.Prelude.{◌≡◌, ◌+◌, ◌<◌, ◌==◌, ◌||◌, ℕ, IsTrue, false, length, map, slice_index_or};
 ghost use Rattle.std.specs.List.{list_any};
@@ -8,6 +9,33 @@ ghost use Rattle.index_groups.specs.Shown.{shown};
 
 use crate::group::{Group, Line, lines_up_to};
 use names::wildmat_matches;
+
+/// The groups from the first one on whose name the wildmat matches and that has an article after the first ones; none if
+/// there is no such group. Then no article is to be marked, and a caller needs no memory for marks.
+pub fn matching_from<'a>(groups: &'a [Group], wildmat: &[u8], older: u64) -> &'a [Group]
+    requires { IsTrue (model.is_wildmat wildmat.now) }
+    ensures rise { EachRises (map shown groups.now) → EachRises (map shown result.now) }
+    ensures same { EachRises (map shown groups.now) → (serial : ℕ) → older < serial
+        → list_any (is_matching wildmat.now serial) (map shown result.now)
+        ≡ list_any (is_matching wildmat.now serial) (map shown groups.now) }
+{
+    for place in 0..groups.len() {
+        if has_match(&groups[place], wildmat, older) {
+            return &groups[place..];
+        }
+    }
+    &groups[groups.len()..]
+}
+
+/// Whether the wildmat matches the name of the group, and it has an article after the first ones. A group with no such
+/// article is not matched.
+fn has_match(group: &Group, wildmat: &[u8], older: u64) -> bool
+    requires { IsTrue (model.is_wildmat wildmat.now) }
+    ensures { Rise (shown group.now).filed → result ≡ false → (serial : ℕ) → older < serial
+        → is_matching wildmat.now serial (shown group.now) ≡ false }
+{
+    !lines_after(group, older).is_empty() && wildmat_matches(wildmat, group.name())
+}
 
 /// Marks each article that is in a group whose name the wildmat matches. The first mark is of the change after the first
 /// `older` ones, the next one of the change after that, and so on. The other marks stay as they were.

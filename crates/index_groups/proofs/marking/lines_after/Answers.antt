@@ -1,6 +1,6 @@
-use Rattle.std.proofs.Common.{◌≡◌, ◌∙◌, ◌+◌, ◌-◌, ◌<◌, ℕ, List, sym, ap, subst, map, arith, Bool, drop, false, get_or, length, length-drop}
+use Rattle.std.proofs.Common.{◌≡◌, ◌∙◌, ◌-◌, ◌<◌, ℕ, List, sym, ap, subst, map, arith, drop, get_or, length, length-drop}
 use Rattle.std.proofs.Common.{take}
-use Rattle.std.specs.Prelude.{◌==◌, ◌||◌, max, min, nat_le, slice_index_or, true}
+use Rattle.std.specs.Prelude.{◌==◌, max, min, nat_le, true}
 use Rattle.std.specs.List.{list_any}
 use Rattle.std.proofs.lemmas.List.{take_all}
 use Rattle.index_groups.specs.Finding.{Rise, contains}
