@@ -7,7 +7,7 @@ use Rattle.std.specs.List.{cons_option, list_any}
 use Rattle.std.specs.Option.{option_to_list}
 use Rattle.std.proofs.Math.Seq.{drop-nil}
 use Rattle.std.proofs.lemmas.Bool.{and_from, and_parts, and_right, eq-eqb, eqb-true, le-leb, leb-false, leb-true, lt-leb, ne_eqb}
-use Rattle.std.proofs.lemmas.Bool.{or_cases}
+use Rattle.std.proofs.lemmas.Bool.{cases_lt, or_cases}
 use Rattle.std.proofs.lemmas.List.{length-map, take_all}
 use Rattle.std.proofs.lemmas.List.Concat.{flat_map-append}
 use Rattle.std.proofs.lemmas.List.Elements.{filter-append}
@@ -368,20 +368,29 @@ lines_more S w from n =
     rw add-one (ap (new_lines S w from) (filter_map_more article_filed (entries S) n)
     ∙ new_lines-append S w from (filter_map article_filed (take n (entries S))) (option_to_list (article_with S (suc n))))
 
+-- no lines, if no article has one
+no_lines : (S : Spool) (w : Octets) (from : ℤ) (n : ℕ)
+    → ((serial : ℕ) → serial ≤ n → new_lines S w from (option_to_list (article_with S serial)) ≡ []) → lines_up_to S w from n ≡ []
+no_lines S w from zero each = refl
+no_lines S w from (suc n) each =
+    ap (lines_up_to S w from) (sym (add-one n)) ∙ lines_more S w from n
+    ∙ ap (λ os. os ++ new_lines S w from (option_to_list (article_with S (n + 1))))
+    (no_lines S w from n (λ serial low. each serial (omega arith)))
+    ∙ each (n + 1) (omega arith)
+
+-- an article that is older has no line
+old_line : (S : Spool) (w : Octets) (from : ℤ) (n : ℕ) → IfSome (article_with S n) (λ a. is_since from a.moment ≡ false)
+    → new_lines S w from (option_to_list (article_with S n)) ≡ []
+old_line S w from n = by_article (article_with S n) where
+  by_article : (o : Option NewsArticle) → IfSome o (λ a. is_since from a.moment ≡ false) → new_lines S w from (option_to_list o) ≡ []
+  by_article None old = refl
+  by_article (Some a) old = no_line S w from (Some a) a.moment refl
+      (ap (λ b. b && list_any (wildmat_matches w) (as_it_is S a).groups) old)
+
 -- none of what is older
 pub old_lines : (S : Spool) (w : Octets) (from : ℤ) (n : ℕ)
     → ((serial : ℕ) → serial ≤ n → IfSome (article_with S serial) (λ a. is_since from a.moment ≡ false)) → lines_up_to S w from n ≡ []
-old_lines S w from zero older = refl
-old_lines S w from (suc n) older =
-    ap (lines_up_to S w from) (sym (add-one n)) ∙ lines_more S w from n
-    ∙ ap (λ os. os ++ new_lines S w from (option_to_list (article_with S (n + 1))))
-    (old_lines S w from n (λ serial low. older serial (omega arith)))
-    ∙ by_article (article_with S (n + 1)) (older (n + 1) (omega arith))
-  where
-    by_article : (o : Option NewsArticle) → IfSome o (λ a. is_since from a.moment ≡ false) → new_lines S w from (option_to_list o) ≡ []
-    by_article None old = refl
-    by_article (Some a) old = no_line S w from (Some a) a.moment refl
-        (ap (λ b. b && list_any (wildmat_matches w) (as_it_is S a).groups) old)
+old_lines S w from n older = no_lines S w from n (λ serial low. old_line S w from serial (older serial low))
 
 entries_size : (n : ℕ) (S : Spool) → length (entries_from n S) ≡ length S
 entries_size n [] = refl
@@ -402,3 +411,22 @@ left_out S w from n out = by_article (article_with S n) out where
   by_article None none = refl
   by_article (Some a) none = no_line S w from (Some a) a.moment refl (and_right (is_since from a.moment)
       (list_any (wildmat_matches w) (as_it_is S a).groups) none)
+
+-- no lines, if the wildmat matches no group of what is not older
+pub no_match : (S : Spool) (w : Octets) (from : ℤ) (n older : ℕ)
+    → ((serial : ℕ) → serial ≤ older → IfSome (article_with S serial) (λ a. is_since from a.moment ≡ false))
+    → ((serial : ℕ) → older < serial → list_any (wildmat_matches w) (groups_now S serial) ≡ false) → lines_up_to S w from n ≡ []
+no_match S w from n older old out = no_lines S w from n (λ serial low. elim (cases_lt older serial) [
+  | inl above ↦ left_out S w from serial (out serial above)
+  | inr within ↦ old_line S w from serial (old serial within)
+])
+
+-- the groups from the first one on that matches stand for all
+pub matching_rest : (host : Octets) (S : Spool) (x : IndexView) (w : Octets) (older : ℕ) (all rest : List GroupIndex) → IsLawful host S
+    → Indexes S x → all ≡ x.groups
+    → (EachRises all → (serial : ℕ) → older < serial → list_any (is_matching w serial) rest ≡ list_any (is_matching w serial) all)
+    → (serial : ℕ) → older < serial → list_any (is_matching w serial) rest ≡ list_any (wildmat_matches w) (groups_now S serial)
+matching_rest host S x w older all rest lawful is all_is same serial above =
+    same (subst EachRises (sym all_is) (groups_rise S x is)) serial above
+    ∙ ap (list_any (is_matching w serial)) all_is
+    ∙ matching host S x w serial lawful is

@@ -1,8 +1,8 @@
-//! The articles that are new (RFC 3977, section 7.4). The wildmat is matched with the name of each group once, and no
-//! text is read.
+//! The articles that are new (RFC 3977, section 7.4). The wildmat is matched with the name of each group once, and with
+//! that of the first one that it matches twice. No text is read.
 
-ghost use Rattle.std.specs.Prelude.{◌≡◌, ◌+◌, ◌-◌, ◌<◌, ◌++◌, ℕ, IfOk, IsSome, IsTrue, OnOk, false, length, option_map, slice_index_or};
-ghost use Rattle.std.specs.Prelude.{true};
+ghost use Rattle.std.specs.Prelude.{◌≡◌, ◌+◌, ◌-◌, ◌<◌, ◌++◌, ℕ, IfOk, IsSome, IsTrue, OnOk, false, length, map, option_map};
+ghost use Rattle.std.specs.Prelude.{slice_index_or, true};
 ghost use Rattle.std.specs.List.{list_any};
 ghost use Rattle.std.specs.Option.{option_to_list};
 ghost use Rattle.model.specs.Stream.{Octets};
@@ -12,9 +12,11 @@ ghost use Rattle.model.specs.Names as model;
 ghost use Rattle.model.specs.Spool.{Spool, articles};
 ghost use Rattle.lookups.specs.Held.{article_with, groups_now, text_of};
 ghost use Rattle.lookups.specs.News.{new_lines};
+ghost use Rattle.index_groups.specs.Finding.{EachRises, is_matching};
+ghost use Rattle.index_groups.specs.Shown.{shown};
 
 use crate::Index;
-use index_groups::mark_groups;
+use index_groups::{Group, mark_groups, matching_from};
 use lookups::is_since;
 use std::alloc::AllocError;
 
@@ -46,8 +48,8 @@ impl Index {
 
     /// Appends a line for each article that was filed at `from` or later, in seconds since 1970, and that is in a group
     /// whose name the wildmat matches: its message-id and CRLF, in rising serial. Refused only for want of memory; then
-    /// the reply may hold any octets, and the caller discards it. The time it takes grows with the number of groups and
-    /// with the number of changes since `from`.
+    /// the reply may hold any octets, and the caller discards it. The time it takes grows with the number of groups and,
+    /// if the wildmat matches one of them that has such an article, with the number of changes since `from`.
     pub fn push_new_ids(
         &self,
         wildmat: &[u8],
@@ -59,7 +61,11 @@ impl Index {
             → reply.new.items ≡ reply.old.items ++ new_lines S wildmat.now from (articles S)) }
     {
         let older = self.older_than(from);
-        let marks = self.marks(wildmat, older)?;
+        let groups = matching_from(&self.groups, wildmat, older);
+        if groups.is_empty() {
+            return Ok(());
+        }
+        let marks = self.marks(groups, wildmat, older)?;
         for place in older..self.notes.len() as u64 {
             if marks[(place - older) as usize] {
                 self.push_if_since(place + 1, from, reply)?;
@@ -68,18 +74,17 @@ impl Index {
         Ok(())
     }
 
-    /// For each change after the first ones, whether it filed an article that is in a group whose name the wildmat
-    /// matches.
-    fn marks(&self, wildmat: &[u8], older: u64) -> Result<Vec<bool>, AllocError>
+    /// For each change after the first ones, whether it filed an article that is in one of these groups, if the wildmat
+    /// matches the name of the group.
+    fn marks(&self, groups: &[Group], wildmat: &[u8], older: u64) -> Result<Vec<bool>, AllocError>
         requires { IsTrue (model.is_wildmat wildmat.now) }
         ensures size { IfOk result (λ marks. length marks.items ≡ length self.now.notes - older) }
-        ensures marked { IfOk result (λ marks. (host : Octets) (S : Spool) → IsLawful host S → Indexes S self.now → (k : ℕ)
-            → k < length marks.items
-            → slice_index_or marks.items k false ≡ list_any (model.wildmat_matches wildmat.now) (groups_now S (older + 1 + k))) }
+        ensures marked { IfOk result (λ marks. EachRises (map shown groups.now) → (k : ℕ) → k < length marks.items
+            → slice_index_or marks.items k false ≡ list_any (is_matching wildmat.now (older + 1 + k)) (map shown groups.now)) }
     {
         let size = (self.notes.len() as u64).saturating_sub(older) as usize;
         let mut marks = vec![in self.alloc; false; size]?;
-        mark_groups(&self.groups, wildmat, older, &mut marks);
+        mark_groups(groups, wildmat, older, &mut marks);
         Ok(marks)
     }
 

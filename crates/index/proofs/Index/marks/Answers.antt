@@ -1,17 +1,14 @@
-use Rattle.std.proofs.Common.{◌≡◌, ◌∙◌, ◌+◌, ◌++◌, ◌<◌, List, Bool, ap, arith, drop, false, length, map, replicate, subst, sym, take}
+use Rattle.std.proofs.Common.{◌≡◌, ◌∙◌, ◌+◌, ◌++◌, ◌<◌, List, Bool, ap, arith, drop, false, length, map, replicate, subst, take}
 use Rattle.std.specs.Prelude.{◌||◌, slice_index_or}
 use Rattle.std.specs.List.{list_any}
 use Rattle.std.proofs.lemmas.List.{get_or-replicate}
-use Rattle.index_groups.specs.Finding.{EachRises, is_matching}
+use Rattle.index_groups.specs.Finding.{is_matching}
 use Rattle.index_groups.specs.Shown.{shown}
 use Rattle.index_groups.proofs.Steps.{written}
-use Rattle.index.specs.View.{IndexView}
-use Rattle.index.proofs.Newest.{groups_rise, matching}
 use Rattle.index.proofs.Index.marks.Goals as goal
 
 pub returns-clause-marked : goal.returns-clause-marked
-returns-clause-marked c = λ host S lawful is k low.
-    let x : IndexView = c.args.self.now in
+returns-clause-marked c = λ rises k low.
     let made : List Bool = c.in_ok-marks.marks.items in
     let marked : List Bool = c.mark_groups.new.marks in
     let size = c.saturating_sub-size.result in
@@ -21,14 +18,9 @@ returns-clause-marked c = λ host S lawful is k low.
     let back : take c.in_ok-marks.marks.len (marked ++ drop (length marked) made) ≡ marked =
     written made marked c.in_ok-marks.marks.len count in
     let within : k < length marked = subst (λ (ms : List Bool). k < length ms) back low in
-    let groups_are : map shown c.deref.result.now ≡ x.groups =
-    ap (map shown) c.deref.ensures.value ∙ ap (λ (y : IndexView). y.groups) c.self.view_is in
     let none : slice_index_or c.deref_mut.result.now k false ≡ false =
     ap (λ (ms : List Bool). slice_index_or ms k false) (lent ∙ unmarked)
     ∙ get_or-replicate size k false false (omega (arith, within, count, c.in_ok-marks.ensures.len)) in
     ap (λ (ms : List Bool). slice_index_or ms k false) back
-    ∙ c.mark_groups.ensures (subst EachRises (sym groups_are) (groups_rise S x is)) k
-    (omega (arith, within, c.mark_groups.auto.marks))
-    ∙ ap (λ (b : Bool). b || list_any (is_matching c.args.wildmat.now (c.args.older + 1 + k)) (map shown c.deref.result.now)) none
-    ∙ ap (list_any (is_matching c.args.wildmat.now (c.args.older + 1 + k))) groups_are
-    ∙ matching host S x c.args.wildmat.now (c.args.older + 1 + k) lawful is
+    ∙ c.mark_groups.ensures rises k (omega (arith, within, c.mark_groups.auto.marks))
+    ∙ ap (λ (b : Bool). b || list_any (is_matching c.args.wildmat.now (c.args.older + 1 + k)) (map shown c.args.groups.now)) none
