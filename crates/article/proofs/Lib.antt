@@ -1,10 +1,5 @@
-pub mod BlankLaws
-pub mod SplitLaws
-pub mod ContentLaws
-pub mod Borrowed
 pub mod CauseLaws
 pub mod FaultLaws
 pub mod ReadLaws
 pub mod StoredLaws
-pub mod NameLaws
 pub mod InjectedLaws

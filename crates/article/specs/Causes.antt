@@ -3,17 +3,14 @@ use Rattle.std.specs.Prelude.{ℕ, ◌+◌, Bool, false, not, ◌||◌, ◌&&◌
 use Rattle.std.specs.Prelude.{codes, Option, option_map, unwrap_or}
 use Rattle.std.specs.List.{list_all, list_any}
 use Rattle.model.specs.Stream.{Octets}
+pub use Rattle.header_fields.specs.Contents.{content_in, is_blank_in}
 use Rattle.article.specs.Stored.{front}
-use Rattle.model.specs.Names.{is_blank, is_group_name, is_of_host, parts}
+use Rattle.model.specs.Names.{is_group_name, is_of_host, parts}
 use Rattle.model.specs.declared.cause.Cause.{Cause}
 use Rattle.model.specs.declared.cause.Cause.TheVariants as causes
-use Rattle.model.specs.Article.{Origin, Posted, Carried, added_fields, allows_id, are_distinct, content_of, first_cause, has_empty_line}
+use Rattle.model.specs.Article.{Origin, Posted, Carried, added_fields, allows_id, are_distinct, first_cause, has_empty_line}
 use Rattle.model.specs.Article.{has_fields_alone, has_lines_alone, header_lines, id_in_field, is_named, needed_fields, single_fields}
 use Rattle.model.specs.Article.{trimmed, written_fields}
-
--- one of the fields has this name and holds only SP and TAB
-abbrev pub is_blank_in : List Octets → Octets → Bool
-is_blank_in fields name = list_any (λ field. is_named name field && list_all is_blank (content_of field)) fields
 
 -- a field occurs twice that may occur at most once
 abbrev pub has_twice : List Octets → Bool
@@ -57,10 +54,6 @@ abbrev pub has_good_groups : Octets → Bool
 has_good_groups content =
     let groups = map trimmed (parts 44 content) in
     (nat_le (length groups) 16 && list_all is_group_name groups) && are_distinct groups
-
--- the content of a field, empty where it is missing
-abbrev pub content_in : Octets → List Octets → Octets
-content_in name fields = unwrap_or (option_map content_of (find (is_named name) fields)) []
 
 -- the fields that are put before a text; dates have a fixed size
 abbrev pub front_for : Origin → List Octets → Octets

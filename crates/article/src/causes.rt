@@ -9,11 +9,13 @@ ghost use Rattle.header_fields.specs.Header.{IsHeader};
 ghost use Rattle.article.specs.Origins.{HasSmallSerial, names_host, origin_of};
 ghost use Rattle.article.specs.Parts.{AreFaults};
 
-use crate::contents::{count, find_field, id_in_field, is_blank_field, trim, unfold, value_of};
 use crate::origin::Origin;
 use crate::parts::Faults;
 use crate::stored::added_length;
-use header_fields::{has_fields_alone, has_lines_alone};
+use header_fields::{
+    count, find_field, has_fields_alone, has_lines_alone, id_in_field, is_blank_field, trim,
+    unfold, value_of,
+};
 use memchr::memchr;
 use model::{Cause, Text};
 use names::{is_group_name, is_message_id, is_of_host};

@@ -5,8 +5,9 @@ ghost use Rattle.model.specs.Article as article;
 ghost use Rattle.article.specs.Causes.{content_in};
 
 use crate::Article;
-use crate::contents::{find_field, id_in_field, push_content, unfold, value_of};
-use header_fields::{fields_of, header_length, line_count};
+use header_fields::{
+    fields_of, find_field, header_length, id_in_field, line_count, push_content, unfold, value_of,
+};
 use std::alloc::{AllocError, Global};
 use std::marker::Model;
 

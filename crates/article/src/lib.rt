@@ -1,5 +1,5 @@
-//! News articles (RFC 5536): reading a text as an article, the contents of its fields, and the text that is stored of a
-//! posted one. `specs/Article.antt` of the crate `model` defines each word.
+//! News articles (RFC 5536): reading a text as an article, and the text that is stored of a posted one.
+//! `specs/Article.antt` of the crate `model` defines each word.
 #![tactic(auto)]
 
 ghost use Rattle.std.specs.Prelude.{◌≡◌, IfOk, IfErr, OnOk, IsTrue, Some, None, length, option_map};
@@ -11,7 +11,6 @@ ghost use Rattle.article.specs.Parts.{ArePartsOf};
 ghost use Rattle.model.specs.declared.cause.Cause.{Cause as CauseView};
 
 mod causes;
-mod contents;
 mod header;
 mod injected;
 mod origin;
@@ -21,9 +20,8 @@ mod stored;
 
 use causes::{copied_groups, field_cause, front_length, is_short};
 pub use causes::{HEADER_LIMIT, TEXT_LIMIT};
-use contents::{find_field, id_in_field, unfold, value_of};
 pub use header::{Header, body_line_count};
-use header_fields::line_count;
+use header_fields::{find_field, id_in_field, line_count, unfold, value_of};
 pub use injected::Injected;
 use model::{Cause, Moment, Text};
 pub use origin::{Origin, ReadError};

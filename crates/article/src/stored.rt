@@ -6,7 +6,7 @@ ghost use Rattle.model.specs.Calendar.{date_header};
 ghost use Rattle.model.specs.Names.{is_host};
 ghost use Rattle.article.specs.Stored as stored;
 
-use crate::contents::count;
+use header_fields::count;
 use itoa::Buffer;
 use model::Moment;
 use stamp::{HEADER_OCTETS, push_date_header};

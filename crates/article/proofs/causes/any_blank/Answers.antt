@@ -2,7 +2,7 @@ use Rattle.std.proofs.Common.{rules, tests, ◌∙◌, map, Bor, List, ℕ}
 use Rattle.std.proofs.lemmas.Iterator.{YieldsList-from_slice}
 use Rattle.std.proofs.lemmas.Iterator.Search.{any_from_yields_List}
 use Rattle.article.specs.Causes.{is_blank_in}
-use Rattle.article.proofs.Borrowed.{any-borrowed}
+use Rattle.header_fields.proofs.Borrowed.{any-borrowed}
 use Rattle.article.proofs.causes.any_blank.Goals as goal
 
 pub returns : goal.returns

@@ -3,7 +3,7 @@ use Rattle.std.specs.Prelude.{count_by}
 use Rattle.std.proofs.lemmas.Iterator.{YieldsList-from_slice}
 use Rattle.std.proofs.lemmas.Iterator.Search.{any_from_yields_List}
 use Rattle.model.specs.Article.{is_named}
-use Rattle.article.proofs.Borrowed.{any-borrowed}
+use Rattle.header_fields.proofs.Borrowed.{any-borrowed}
 use Rattle.article.proofs.causes.any_missing.Goals as goal
 
 pub returns : goal.returns

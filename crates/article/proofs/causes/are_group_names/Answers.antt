@@ -2,7 +2,7 @@ use Rattle.std.proofs.Common.{rules, tests, ◌∙◌, Bor, List, ℕ}
 use Rattle.std.proofs.lemmas.Iterator.{YieldsList-from_slice}
 use Rattle.std.proofs.lemmas.Iterator.Search.{all_from_yields_List}
 use Rattle.model.specs.Names.{is_group_name}
-use Rattle.article.proofs.Borrowed.{all-borrowed}
+use Rattle.header_fields.proofs.Borrowed.{all-borrowed}
 use Rattle.article.proofs.causes.are_group_names.Goals as goal
 
 pub returns : goal.returns

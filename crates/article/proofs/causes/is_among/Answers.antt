@@ -2,7 +2,7 @@ use Rattle.std.proofs.Common.{rules, tests, ◌∙◌, Bor, List, ℕ}
 use Rattle.std.specs.Prelude.{bytes_eq}
 use Rattle.std.proofs.lemmas.Iterator.{YieldsList-from_slice}
 use Rattle.std.proofs.lemmas.Iterator.Search.{any_from_yields_List}
-use Rattle.article.proofs.Borrowed.{any-borrowed}
+use Rattle.header_fields.proofs.Borrowed.{any-borrowed}
 use Rattle.article.proofs.causes.is_among.Goals as goal
 
 pub returns : goal.returns

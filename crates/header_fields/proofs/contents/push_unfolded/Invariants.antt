@@ -1,6 +1,6 @@
 use Rattle.std.proofs.Common.{◌≡◌, ◌++◌, length}
 use Rattle.model.specs.Article.{unfolded}
-use Rattle.article.proofs.contents.push_unfolded.Given as goal
+use Rattle.header_fields.proofs.contents.push_unfolded.Given as goal
 
 -- what was appended so far, and the rest
 abbrev pub invariant-loop-rest : goal.invariant-loop-rest

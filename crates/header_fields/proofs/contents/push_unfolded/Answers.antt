@@ -1,8 +1,8 @@
 use Rattle.std.proofs.Common.{sym, ◌∙◌, ap, ◌++◌}
 use Rattle.std.proofs.lemmas.List.{append-nil}
 use Rattle.model.specs.Article.{unfolded}
-use Rattle.article.proofs.ContentLaws.{unfolded-more, unfolded-none}
-use Rattle.article.proofs.contents.push_unfolded.Goals as goal
+use Rattle.header_fields.proofs.ContentLaws.{unfolded-more, unfolded-none}
+use Rattle.header_fields.proofs.contents.push_unfolded.Goals as goal
 
 pub loop-rest-preserved : goal.loop-rest-preserved
 loop-rest-preserved c =

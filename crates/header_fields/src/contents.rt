@@ -5,10 +5,11 @@ ghost use Rattle.std.specs.Prelude.{OnOk};
 ghost use Rattle.std.specs.List.{list_all};
 ghost use Rattle.model.specs.Article as article;
 ghost use Rattle.model.specs.Names as names;
-ghost use Rattle.article.specs.Causes.{content_in, is_blank_in};
+ghost use Rattle.header_fields.specs.Contents.{content_in, is_blank_in};
 
+use crate::fields::name_of;
+use crate::lines::line_length;
 use bstr::ByteSlice;
-use header_fields::{line_length, name_of};
 use std::alloc::{AllocError, Global};
 
 /// SP and TAB (RFC 5322, 2.2.2).
@@ -26,21 +27,21 @@ fn is_named(name: &[u8], field: &[u8]) -> bool
 }
 
 /// The number of fields with this name.
-pub(crate) fn count(fields: &[&[u8]], name: &[u8]) -> usize
+pub fn count(fields: &[&[u8]], name: &[u8]) -> usize
     ensures { result ≡ count_by (article.is_named name.now) (map (λ field. field.now) fields.now) }
 {
     fields.iter().filter(|field| is_named(name, field)).count()
 }
 
 /// The first field with this name.
-pub(crate) fn find_field<'t>(fields: &[&'t [u8]], name: &[u8]) -> Option<&'t [u8]>
+pub fn find_field<'t>(fields: &[&'t [u8]], name: &[u8]) -> Option<&'t [u8]>
     ensures { option_map (λ field. field.now) result ≡ find (article.is_named name.now) (map (λ field. field.now) fields.now) }
 {
     fields.iter().find(|field| is_named(name, field)).copied()
 }
 
 /// The part of a field after its name, the colon and one SP. It is empty if the field is shorter.
-pub(crate) fn value_of(field: &[u8]) -> &[u8]
+pub fn value_of(field: &[u8]) -> &[u8]
     ensures { result.now ≡ drop (length (article.name_of field.now) + 2) field.now }
 {
     let start = name_of(field).len() + 2;
@@ -85,14 +86,14 @@ fn is_blank_text(text: &[u8]) -> bool
 }
 
 /// Whether one of the fields has this name and holds only SP, TAB and line ends.
-pub(crate) fn is_blank_field(fields: &[&[u8]], name: &[u8]) -> bool
+pub fn is_blank_field(fields: &[&[u8]], name: &[u8]) -> bool
     ensures { result ≡ is_blank_in (map (λ field. field.now) fields.now) name.now }
 {
     fields.iter().any(|field| is_named(name, field) && is_blank_text(value_of(field)))
 }
 
 /// A text without its line ends (RFC 5322, 2.2.3).
-pub(crate) fn unfold(alloc: Global, text: &[u8]) -> Result<Vec<u8>, AllocError>
+pub fn unfold(alloc: Global, text: &[u8]) -> Result<Vec<u8>, AllocError>
     ensures { IfOk result (λ unfolded. unfolded.items ≡ article.unfolded text.now) }
 {
     text.replace(alloc, b"\r\n", b"")
@@ -114,11 +115,7 @@ fn push_unfolded(octets: &mut Vec<u8>, text: &[u8]) -> Result<(), AllocError>
 
 /// Appends the content of the first field of this name, or nothing if there is none. Refused only for want of memory;
 /// then any octets may follow those that were already there.
-pub(crate) fn push_content(
-    octets: &mut Vec<u8>,
-    fields: &[&[u8]],
-    name: &[u8],
-) -> Result<(), AllocError>
+pub fn push_content(octets: &mut Vec<u8>, fields: &[&[u8]], name: &[u8]) -> Result<(), AllocError>
     ensures { OnOk result (octets.new.items ≡ octets.old.items ++ content_in name.now (map (λ field. field.now) fields.now)) }
 {
     match find_field(fields, name) {
@@ -148,14 +145,14 @@ fn trim_end(text: &[u8]) -> &[u8]
 }
 
 /// A text without leading and trailing SP and TAB.
-pub(crate) fn trim(text: &[u8]) -> &[u8]
+pub fn trim(text: &[u8]) -> &[u8]
     ensures { result.now ≡ article.trimmed text.now }
 {
     trim_end(trim_start(text))
 }
 
 /// The message-id that a field holds. It is never folded (RFC 5536, 3.1.3), so no line end is removed from it.
-pub(crate) fn id_in_field(field: &[u8]) -> &[u8]
+pub fn id_in_field(field: &[u8]) -> &[u8]
     ensures { result.now ≡ article.id_in_field field.now }
 {
     trim(line_text(value_of(field)))

@@ -3,8 +3,8 @@ use Rattle.std.specs.Prelude.{option_map}
 use Rattle.std.proofs.lemmas.Iterator.{YieldsList-from_slice}
 use Rattle.std.proofs.lemmas.Iterator.Search.{find_from_yields_List}
 use Rattle.model.specs.Article.{is_named}
-use Rattle.article.proofs.Borrowed.{find-borrowed}
-use Rattle.article.proofs.contents.find_field.Goals as goal
+use Rattle.header_fields.proofs.Borrowed.{find-borrowed}
+use Rattle.header_fields.proofs.contents.find_field.Goals as goal
 
 pub returns : goal.returns
 returns c =

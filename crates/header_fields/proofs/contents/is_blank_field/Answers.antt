@@ -4,8 +4,8 @@ use Rattle.std.proofs.lemmas.Iterator.{YieldsList-from_slice}
 use Rattle.std.proofs.lemmas.Iterator.Search.{any_from_yields_List}
 use Rattle.model.specs.Names.{is_blank}
 use Rattle.model.specs.Article.{content_of, is_named}
-use Rattle.article.proofs.Borrowed.{any-borrowed}
-use Rattle.article.proofs.contents.is_blank_field.Goals as goal
+use Rattle.header_fields.proofs.Borrowed.{any-borrowed}
+use Rattle.header_fields.proofs.contents.is_blank_field.Goals as goal
 
 pub returns : goal.returns
 returns c =

@@ -1,7 +1,7 @@
 use Rattle.std.proofs.Common.{◌∙◌}
 use Rattle.std.proofs.lemmas.List.{take_rest}
-use Rattle.article.proofs.BlankLaws.{start-found, start-none}
-use Rattle.article.proofs.contents.trim_start.Goals as goal
+use Rattle.header_fields.proofs.BlankLaws.{start-found, start-none}
+use Rattle.header_fields.proofs.contents.trim_start.Goals as goal
 
 pub returns-in-Some : goal.returns-in-Some
 returns-in-Some c =

@@ -1,6 +1,6 @@
 use Rattle.std.proofs.Common.{rules}
-use Rattle.article.proofs.NameLaws.{other-name}
-use Rattle.article.proofs.contents.is_named.Goals as goal
+use Rattle.header_fields.proofs.NameLaws.{other-name}
+use Rattle.header_fields.proofs.contents.is_named.Goals as goal
 
 pub returns : goal.returns
 returns c = search rules

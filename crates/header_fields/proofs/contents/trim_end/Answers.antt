@@ -1,5 +1,5 @@
-use Rattle.article.proofs.BlankLaws.{end-found, end-none}
-use Rattle.article.proofs.contents.trim_end.Goals as goal
+use Rattle.header_fields.proofs.BlankLaws.{end-found, end-none}
+use Rattle.header_fields.proofs.contents.trim_end.Goals as goal
 
 pub returns-in-Some : goal.returns-in-Some
 returns-in-Some c =

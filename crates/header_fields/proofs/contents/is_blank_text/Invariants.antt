@@ -2,7 +2,7 @@ use Rattle.std.proofs.Common.{◌≡◌, length}
 use Rattle.std.specs.List.{list_all}
 use Rattle.model.specs.Names.{is_blank}
 use Rattle.model.specs.Article.{unfolded}
-use Rattle.article.proofs.contents.is_blank_text.Given as goal
+use Rattle.header_fields.proofs.contents.is_blank_text.Given as goal
 
 -- the lines so far are blank
 abbrev pub invariant-loop-rest : goal.invariant-loop-rest
