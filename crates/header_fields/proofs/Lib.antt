@@ -1,4 +1,5 @@
 pub mod LineLaws
+pub mod WholeLaws
 pub mod HeaderLaws
 pub mod FieldLaws
 pub mod BlankLaws

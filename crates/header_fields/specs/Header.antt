@@ -1,11 +1,7 @@
 -- Where the header of a text ends.
-use Rattle.std.specs.Prelude.{◌≡◌, ℕ, Bool, true, not, ◌||◌, ◌==◌, ◌+◌, ◌<◌, ◌≤◌, nat_lt, ◌∷◌, length, take, drop}
-use Rattle.model.specs.Stream.{Octets, lines}
-use Rattle.model.specs.Article.{body, fields, fields_of_lines, has_empty_line, header, header_lines, is_whole_line}
-
--- an octet that may occur in a line before its CRLF: any but NUL, LF and CR (RFC 3977, section 3.6)
-abbrev pub is_plain : ℕ → Bool
-is_plain x = not (x == 0 || (x == 10 || x == 13))
+use Rattle.std.specs.Prelude.{◌≡◌, ℕ, ◌+◌, ◌<◌, ◌≤◌, nat_lt, ◌∷◌, length, take, drop}
+use Rattle.model.specs.Stream.{Octets}
+use Rattle.model.specs.Article.{body, fields, fields_of_lines, has_empty_line, header, header_lines}
 
 -- the first n octets are the header; an empty line and the body follow, or nothing
 pub record IsHeader (text : Octets) (n : ℕ) : Type 0 where
@@ -19,10 +15,3 @@ pub record IsHeader (text : Octets) (n : ℕ) : Type 0 where
 abbrev pub EndsField : Octets → ℕ → ℕ → Type 0
 EndsField text first n =
     fields_of_lines (take first text ∷ header_lines (drop first text)) ≡ take n text ∷ fields (drop n text)
-
--- the first n octets of a text are its first line, which is whole
-pub record IsFirstWhole (text : Octets) (n : ℕ) : Type 0 where
-  pub some : 0 < n
-  pub within : n ≤ length text
-  pub whole : is_whole_line (take n text) ≡ true
-  pub first : lines text ≡ take n text ∷ lines (drop n text)

@@ -1,2 +1,3 @@
 pub mod Header
 pub mod Contents
+pub mod Whole

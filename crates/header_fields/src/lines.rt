@@ -4,10 +4,10 @@ ghost use Rattle.std.specs.Prelude.{◌≡◌, ◌<◌, ◌≤◌, ◌↔◌, �
 ghost use Rattle.std.specs.List.{list_all};
 ghost use Rattle.model.specs.Stream.{crlf, lines};
 ghost use Rattle.model.specs.Article as article;
-ghost use Rattle.header_fields.specs.Header.{IsFirstWhole, IsHeader};
+ghost use Rattle.header_fields.specs.Header.{IsHeader};
 ghost use Rattle.memchr.specs.Find.{FindsNeedle, OccursAt};
 
-use memchr::{memchr, memchr3};
+use memchr::memchr;
 
 /// The number of octets of a text's first line, with its CRLF if it has one: 1 or more. The text must not be empty.
 pub fn line_length(text: &[u8]) -> usize
@@ -44,40 +44,20 @@ pub(crate) fn is_empty_line(line: &[u8]) -> bool
     line == b"\r\n".as_slice()
 }
 
-/// Whether CRLF stands at a place of a text.
-fn has_crlf(text: &[u8], at: usize) -> bool
-    requires { at < length text.now }
-    ensures { IsTrue result ↔ OccursAt text.now crlf at }
-{
-    at + 1 < text.len() && text[at] == b'\r' && text[at + 1] == b'\n'
-}
-
-/// The number of octets of a text's first line with its CRLF. `None` if it has no CRLF, or NUL, CR or LF before it.
-fn whole_line_length(text: &[u8]) -> Option<usize>
-    requires { 0 < length text.now }
-    ensures { MatchOption result (list_all article.is_whole_line (lines text.now) ≡ false) (IsFirstWhole text.now) }
-{
-    let Some(at) = memchr3(0, b'\r', b'\n', text) else {
-        return None;
-    };
-    if !has_crlf(text, at) {
-        return None;
-    }
-    Some(at + 2)
-}
-
-/// Whether a text consists of whole lines, at least one. A whole line ends in CRLF, and has no NUL, CR or LF before it.
+/// Whether a text consists of whole lines, at least one. A whole line ends in CRLF, and has no NUL, CR or LF before it. So
+/// no octet is NUL, one is LF exactly if it follows a CR, and the last one is LF. Each octet is tested, also after a wrong
+/// one, since a loop without a branch is compiled to vectors.
 pub fn has_lines_alone(text: &[u8]) -> bool
     ensures { result ≡ article.has_lines_alone text.now }
 {
-    let mut rest = text;
-    while !rest.is_empty() {
-        let Some(line) = whole_line_length(rest) else {
-            return false;
-        };
-        rest = &rest[line..];
+    let mut is_whole = true;
+    let mut before = 0;
+    for octet in text {
+        is_whole &= *octet != 0;
+        is_whole &= (before == b'\r') == (*octet == b'\n');
+        before = *octet;
     }
-    !text.is_empty()
+    is_whole && before == b'\n'
 }
 
 /// The number of octets of a text's header: the lines before the first empty one, or all lines if none is empty.

@@ -1,12 +1,7 @@
-use Rattle.std.proofs.Common.{◌≡◌, length}
-use Rattle.std.specs.List.{list_all}
-use Rattle.model.specs.Stream.{lines}
-use Rattle.model.specs.Article.{is_whole_line}
+use Rattle.std.proofs.Common.{◌≡◌, ◌&&◌, drop}
+use Rattle.header_fields.specs.Whole.{ends_whole}
 use Rattle.header_fields.proofs.lines.has_lines_alone.Given as goal
 
--- the lines so far are whole
-abbrev pub invariant-loop-rest : goal.invariant-loop-rest
-invariant-loop-rest l = list_all is_whole_line (lines l.rest) ≡ list_all is_whole_line (lines l.text)
-
-abbrev pub decreases-loop-rest : goal.decreases-loop-rest
-decreases-loop-rest l = length l.rest
+-- the octets so far, and those left
+abbrev pub invariant-loop-octet : goal.invariant-loop-octet
+invariant-loop-octet l = (l.is_whole && ends_whole l.before (drop l.octet-index l.text)) ≡ ends_whole 0 l.text
