@@ -3,7 +3,7 @@ use Rattle.std.specs.Prelude.{◌≡◌, ℕ, suc, ◌+◌, ◌-◌, ◌<◌, �
 use Rattle.std.specs.Prelude.{drop, map, find, count_by, codes, Option, Some, None, option_map, unwrap_or, bytes_eq, slice_index_or}
 use Rattle.std.specs.List.{list_any}
 use Rattle.std.proofs.Common.{sym, ◌∙◌, ap, refl, arith, Bor}
-use Rattle.std.proofs.lemmas.Bool.{eqb-true, eq-eqb}
+use Rattle.std.proofs.lemmas.Bool.{eq-eqb, eqb-true, false_from_ne_true}
 use Rattle.std.proofs.lemmas.List.{append_assoc, drop-drop, nil_from_length, take_all}
 use Rattle.std.proofs.lemmas.List.Sums.{length-filter}
 use Rattle.memchr.specs.Find.{Nowhere, NoneBefore, Passes, is_byte}
@@ -13,7 +13,6 @@ use Rattle.model.specs.Article.{Origin, allows_id, are_distinct, id_in_field, is
 use Rattle.model.proofs.Ids.{none_kept, none_found}
 use Rattle.article.specs.Causes.{has_good_id}
 use Rattle.names.proofs.PartLaws.{cut_at, uncut}
-use Rattle.header_fields.proofs.LineLaws.{is_false}
 
 abbrev is_id_field : Octets → Bool
 is_id_field = is_named (codes "Message-ID")
@@ -30,7 +29,7 @@ pub good_id-some : (origin : Origin) (fields : List Octets) (field : Octets) (go
 good_id-some origin fields field good some is =
     is ∙ ap (λ (o : Option Octets). allows_id origin (unwrap_or (option_map id_in_field o) [])) (sym some)
     ∙ sym (ap (λ b. b || allows_id origin (unwrap_or (option_map id_in_field (find is_id_field fields)) []))
-    (is_false (count_by is_id_field fields == 0) (λ none.
+    (false_from_ne_true (count_by is_id_field fields == 0) (λ none.
     let nothing : find is_id_field fields ≡ None = none_kept is_id_field fields (length-filter is_id_field fields ∙ eqb-true _ _ none) in
     cc)))
 
@@ -45,13 +44,15 @@ groups-more rest group later after end before all first found front back next so
     ∙ ap (λ l. before ++ l) (ap (λ g. trimmed g ∷ map trimmed (parts 44 after)) front
     ∙ ap (λ l. trimmed (take end rest) ∷ map trimmed (parts 44 l)) (next ∙ ap (drop 1) back ∙ drop-drop 1 end rest
     ∙ ap (λ n. drop n rest) (let e : end + 1 ≡ suc end = omega arith in e))
-    ∙ ap (map trimmed) (sym (cut_at (λ x. x == 44) rest end first.high found (λ k below. is_false _ (first.before k (omega arith) below)))))
+    ∙ ap (map trimmed) (sym (cut_at (λ x. x == 44) rest end first.high found
+    (λ k below. false_from_ne_true _ (first.before k (omega arith) below)))))
     ∙ so_far
 
 pub groups-last : (rest : Octets) (before all : List Octets) → Nowhere (Passes (is_byte 44) rest) 0 (length rest)
     → before ++ map trimmed (parts 44 rest) ≡ all → before ++ trimmed rest ∷ [] ≡ all
 groups-last rest before all none so_far =
-    ap (λ l. before ++ map trimmed l) (sym (uncut (λ x. x == 44) rest (λ k below. is_false _ (none k (omega arith) below)))) ∙ so_far
+    ap (λ l. before ++ map trimmed l) (sym (uncut (λ x. x == 44) rest (λ k below. false_from_ne_true _ (none k (omega arith) below))))
+    ∙ so_far
 
 -- ---- distinct names
 

@@ -6,14 +6,13 @@ use Rattle.std.proofs.Common.{sym, ◌∙◌, ap, refl, arith}
 use Rattle.std.proofs.lemmas.List.{append_assoc, append-nil, drop-drop, length-drop, nil_from_length, take_all}
 use Rattle.std.proofs.Math.Seq.{take-add}
 use Rattle.std.proofs.lemmas.Slice.Eq.{bytes_eq-Decides}
-use Rattle.std.proofs.lemmas.Bool.{true≢false, eqb-true, not_from_false, cond-true, cond-false}
+use Rattle.std.proofs.lemmas.Bool.{cond-false, cond-true, eqb-true, false_from_ne_true, not_from_false, true≢false}
 use Rattle.std.proofs.lemmas.List.Sums.{prefix_len_is}
 use Rattle.memchr.specs.Find.{Nowhere, Passes, is_byte}
 use Rattle.model.specs.Stream.{Octets, crlf, lines}
 use Rattle.model.specs.Names.{begins, is_blank}
 use Rattle.model.specs.Article.{begins_field, continues, fields, fields_of_lines, has_fields_alone, header_lines, name_of, onto_field}
 use Rattle.header_fields.specs.Header.{EndsField}
-use Rattle.header_fields.proofs.LineLaws.{is_false}
 use Rattle.header_fields.proofs.HeaderLaws.{header_lines-empty, header_lines-end, header_lines-line, least_line}
 
 -- a line that continues the field before it is a part of that field
@@ -108,13 +107,13 @@ pub name_of-found : (field : Octets) (end : ℕ) → end < length field → Nowh
     → Passes (is_byte 58) field end → take end field ≡ name_of field
 name_of-found field end within before found =
     ap (λ n. take n field) (sym (prefix_len_is (λ x. not (x == 58)) field end 0 (omega arith)
-    (λ k below. not_from_false _ (is_false _ (before k (omega arith) below))) (λ below. ap not found)))
+    (λ k below. not_from_false _ (false_from_ne_true _ (before k (omega arith) below))) (λ below. ap not found)))
 
 pub name_of-none : (field : Octets) → Nowhere (Passes (is_byte 58) field) 0 (length field) → field ≡ name_of field
 name_of-none field none =
     sym (take_all (length field) field (omega arith))
     ∙ ap (λ n. take n field) (sym (prefix_len_is (λ x. not (x == 58)) field (length field) 0 (omega arith)
-    (λ k below. not_from_false _ (is_false _ (none k (omega arith) below))) (λ below. absurd (omega arith))))
+    (λ k below. not_from_false _ (false_from_ne_true _ (none k (omega arith) below))) (λ below. absurd (omega arith))))
 
 -- ---- each header line
 

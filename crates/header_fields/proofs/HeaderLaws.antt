@@ -11,13 +11,9 @@ use Rattle.model.specs.Stream.{Octets, crlf, lines, lines_after, EndsAt}
 use Rattle.model.specs.Article.{body, has_empty_line, header, header_lines}
 use Rattle.model.specs.declared.message.Mode.TheVariants as mode
 use Rattle.model.proofs.LineLaws.{lines-empty, lines-line, lines-rest}
+use Rattle.model.proofs.Stored.{taken}
 use Rattle.model.proofs.StreamLaws.{end_cases}
 use Rattle.header_fields.specs.Header.{IsHeader}
-
-taken : (q : Octets → Bool) (x : Octets) (xs : List Octets) → q x ≡ true → take_while q (x ∷ xs) ≡ x ∷ take_while q xs
-taken q x xs is =
-    let next : 1 + prefix_len q xs ≡ suc (prefix_len q xs) = omega arith in
-    ap (λ b. take (cond b (1 + prefix_len q xs) 0) (x ∷ xs)) is ∙ ap (λ n. take n (x ∷ xs)) next
 
 not_taken : (q : Octets → Bool) (x : Octets) (xs : List Octets) → q x ≡ false → take_while q (x ∷ xs) ≡ []
 not_taken q x xs is = ap (λ b. take (cond b (1 + prefix_len q xs) 0) (x ∷ xs)) is

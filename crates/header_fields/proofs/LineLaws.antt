@@ -74,11 +74,6 @@ each_passes p [] each = refl
 each_passes p (x ∷ xs) each = and_from (p x) (list_all p xs) (each 0 (omega arith))
     (each_passes p xs (λ k below. each (suc k) (omega arith)))
 
--- what isn't true is false
-pub is_false : (b : Bool) → ¬ (b ≡ true) → b ≡ false
-is_false false never = refl
-is_false true never = absurd (never refl)
-
 -- ---- the first CRLF of a text, by LF
 
 -- no CRLF ends before this place

@@ -6,12 +6,11 @@ use Rattle.std.proofs.Common.{sym, ◌∙◌, ap, refl, arith, eqb, subst}
 use Rattle.std.proofs.Math.Bool.{beq}
 use Rattle.std.proofs.Math.ListN.{drop_of_length-le}
 use Rattle.std.proofs.Math.Seq.{drop-cons}
-use Rattle.std.proofs.lemmas.Bool.{and_right, cond-false, eq-eqb, eqb-true, lt-ltb, true≢false}
+use Rattle.std.proofs.lemmas.Bool.{and_right, cond-false, eq-eqb, eqb-true, false_from_ne_true, lt-ltb, true≢false}
 use Rattle.model.specs.Stream.{Octets, crlf, lines_after}
 use Rattle.model.specs.Article.{has_lines_alone, is_whole_line}
 use Rattle.model.proofs.Ends.{ends_with-append, ends_with-length}
 use Rattle.header_fields.specs.Whole.{ends_whole, may_follow}
-use Rattle.header_fields.proofs.LineLaws.{is_false}
 
 -- an octet that may stand in a line before its CRLF
 abbrev is_plain : ℕ → Bool
@@ -21,7 +20,7 @@ is_plain x = not (x == 0 || (x == 10 || x == 13))
 
 whole-short : (l : Octets) → length l < 2 → is_whole_line l ≡ false
 whole-short l short = ap (λ b. b && list_all is_plain (take (length l - 2) l))
-    (is_false (ends_with nat_eq l crlf) (λ yes. absurd (omega (arith, short, ends_with-length l crlf yes))))
+    (false_from_ne_true (ends_with nat_eq l crlf) (λ yes. absurd (omega (arith, short, ends_with-length l crlf yes))))
 
 whole-pair : (x y : ℕ) → is_whole_line (x ∷ y ∷ []) ≡ bytes_eq crlf (x ∷ y ∷ [])
 whole-pair x y =
@@ -47,7 +46,7 @@ whole-more x l long =
 -- an octet that is not CR begins no CRLF
 no_end : (x : ℕ) (l : Octets) → (x == 13) ≡ false → bytes_eq crlf (x ∷ l) ≡ false
 no_end x l other = ap (λ b. b && bytes_eq (10 ∷ []) l)
-    (is_false (eqb 13 x) (λ yes. true≢false (sym (eq-eqb x 13 (sym (eqb-true 13 x yes))) ∙ other)))
+    (false_from_ne_true (eqb 13 x) (λ yes. true≢false (sym (eq-eqb x 13 (sym (eqb-true 13 x yes))) ∙ other)))
 
 -- a line by its first octet, if that is not CR
 whole-first : (x y : ℕ) (l : Octets) → (x == 13) ≡ false → is_whole_line (x ∷ y ∷ l) ≡ (is_plain x && is_whole_line (y ∷ l))
@@ -58,7 +57,7 @@ whole-first x y (z ∷ l) other = whole-more x (y ∷ z ∷ l) (omega arith)
 -- a line that begins with CR, and does not go on with LF
 whole-cr : (y : ℕ) (l : Octets) → (y == 10) ≡ false → is_whole_line (13 ∷ y ∷ l) ≡ false
 whole-cr y [] other = whole-pair 13 y ∙ ap (λ b. b && true)
-    (is_false (eqb 10 y) (λ yes. true≢false (sym (eq-eqb y 10 (sym (eqb-true 10 y yes))) ∙ other)))
+    (false_from_ne_true (eqb 10 y) (λ yes. true≢false (sym (eq-eqb y 10 (sym (eqb-true 10 y yes))) ∙ other)))
 whole-cr y (z ∷ l) other = whole-more 13 (y ∷ z ∷ l) (omega arith)
 
 -- ---- the lines of the octets that follow another

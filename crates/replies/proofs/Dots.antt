@@ -2,7 +2,7 @@
 use Rattle.std.proofs.Common.{◌≡◌, ℕ, zero, suc, ◌+◌, ◌-◌, ◌<◌, ◌≤◌, [], ◌∷◌, ◌++◌, length, get_or, take, drop, refl, sym, ◌∙◌, ap, arith}
 use Rattle.std.proofs.Common.{Bool, true, false, cond, below_more, length-drop}
 use Rattle.std.specs.Prelude.{◌&&◌, ◌==◌}
-use Rattle.std.proofs.lemmas.Bool.{eqb-true}
+use Rattle.std.proofs.lemmas.Bool.{eqb-true, false_from_ne_true}
 use Rattle.std.proofs.lemmas.List.{get_or-drop}
 use Rattle.memchr.specs.Find.{NoneBefore, Nowhere, Passes, is_byte}
 use Rattle.model.specs.Stream.{Octets}
@@ -66,17 +66,12 @@ first_doubled s xs at low is fresh none =
 
 -- ---- the search
 
--- what isn't true is false
-is_false : (b : Bool) → ¬ (b ≡ true) → b ≡ false
-is_false false never = refl
-is_false true never = absurd (never refl)
-
 -- an octet that the search did not find
 missed : (octet : ℕ) (xs part : Octets) (at n k : ℕ) → part ≡ drop at xs → Nowhere (Passes (is_byte octet) part) 0 n → k < n
     → (get_or xs (at + k) 0 == octet) ≡ false
 missed octet xs part at n k is none below =
     ap (λ (o : ℕ). o == octet) (sym (get_or-drop at xs k 0) ∙ ap (λ (os : Octets). get_or os k 0) (sym is))
-    ∙ is_false _ (none k (omega arith) below)
+    ∙ false_from_ne_true _ (none k (omega arith) below)
 
 -- no octet up to the next dot is doubled
 pub until_dot : (s : Stuffing) (xs part : Octets) (at n m : ℕ) → part ≡ drop at xs → NoneDoubled s xs at
